@@ -1,0 +1,74 @@
+//! What a handler is told.
+ghost use Rattle.std.specs.Prelude.{◌≡◌, IfOk, IfErr, None};
+ghost use Rattle.rk_names.specs.Rules.{callout_fault, IsRefusedFor};
+
+use crate::errors::NameFault;
+use crate::text::text_fault;
+use std::alloc::{AllocError, Global};
+use std::marker::Model;
+
+/// What the requester tells the handler: 0 to 4,095 bytes of UTF-8 without a zero byte
+/// (request_key(2), `callout_info`).
+#[derive(Debug, Drop)]
+pub struct Callout {
+    bytes: Vec<u8>,
+}
+
+impl Model for Callout {
+    ghost use Rattle.std.specs.Prelude.{◌≡◌, List, ℕ, None};
+    ghost use Rattle.rk_names.specs.Rules.{callout_fault};
+
+    ghost Value = { List ℕ };
+
+    ghost view = { λ n. n.bytes.items };
+
+    ghost invariant = { λ n. callout_fault n.bytes.items ≡ None };
+}
+
+impl Callout {
+    /// The most bytes that it has.
+    pub const MAX_LEN: usize = 4_095;
+
+    /// The first rule that the bytes break; `None` where `new` would make them a name. It takes no
+    /// memory.
+    pub fn fault(bytes: &[u8]) -> Option<NameFault>
+        ensures { result ≡ callout_fault bytes.now }
+    {
+        if bytes.len() > Callout::MAX_LEN {
+            return Some(NameFault::TooLong);
+        }
+        text_fault(bytes)
+    }
+
+    /// A copy of the bytes. Refusals in this order: `TooLong` past 4,095 bytes, `Byte`, `NoMemory`.
+    pub fn new(alloc: Global, bytes: &[u8]) -> Result<Callout, NameFault>
+        ensures ok { IfOk result (λ n. (n ≡ bytes.now) × (callout_fault bytes.now ≡ None)) }
+        ensures err { IfErr result (λ f. IsRefusedFor f (callout_fault bytes.now)) }
+    {
+        if let Some(fault) = Callout::fault(bytes) {
+            return Err(fault);
+        }
+        match Vec::from_slice(alloc, bytes) {
+            Ok(bytes) => Ok(Callout { bytes }),
+            Err(AllocError) => Err(NameFault::NoMemory),
+        }
+    }
+
+    /// The bytes that it was made of.
+    pub fn as_bytes(&self) -> &[u8]
+        ensures bytes { result.now ≡ self.now }
+        ensures rule { callout_fault self.now ≡ None }
+    {
+        &self.bytes
+    }
+}
+
+impl Clone for Callout {
+    ghost is_clone = { λ name copy. copy ≡ name };
+
+    fn clone(&self) -> Result<Callout, AllocError> {
+        Ok(Callout {
+            bytes: self.bytes.clone()?,
+        })
+    }
+}

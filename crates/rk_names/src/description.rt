@@ -1,0 +1,78 @@
+//! What a key is called.
+ghost use Rattle.std.specs.Prelude.{◌≡◌, IfOk, IfErr, None};
+ghost use Rattle.rk_names.specs.Rules.{description_fault, IsRefusedFor};
+
+use crate::errors::NameFault;
+use crate::text::text_fault;
+use std::alloc::{AllocError, Global};
+use std::marker::Model;
+
+/// What a key is called among those of its type: 1 to 4,095 bytes of UTF-8 without a zero byte
+/// (request_key(2), "DESCRIPTION").
+#[derive(Debug, Drop)]
+pub struct Description {
+    bytes: Vec<u8>,
+}
+
+impl Model for Description {
+    ghost use Rattle.std.specs.Prelude.{◌≡◌, List, ℕ, None};
+    ghost use Rattle.rk_names.specs.Rules.{description_fault};
+
+    ghost Value = { List ℕ };
+
+    ghost view = { λ n. n.bytes.items };
+
+    ghost invariant = { λ n. description_fault n.bytes.items ≡ None };
+}
+
+impl Description {
+    /// The most bytes that it has.
+    pub const MAX_LEN: usize = 4_095;
+
+    /// The first rule that the bytes break; `None` where `new` would make them a name. It takes no
+    /// memory.
+    pub fn fault(bytes: &[u8]) -> Option<NameFault>
+        ensures { result ≡ description_fault bytes.now }
+    {
+        if bytes.is_empty() {
+            return Some(NameFault::Empty);
+        }
+        if bytes.len() > Description::MAX_LEN {
+            return Some(NameFault::TooLong);
+        }
+        text_fault(bytes)
+    }
+
+    /// A copy of the bytes. Refusals in this order: `Empty`, `TooLong` past 4,095 bytes, `Byte`,
+    /// `NoMemory`.
+    pub fn new(alloc: Global, bytes: &[u8]) -> Result<Description, NameFault>
+        ensures ok { IfOk result (λ n. (n ≡ bytes.now) × (description_fault bytes.now ≡ None)) }
+        ensures err { IfErr result (λ f. IsRefusedFor f (description_fault bytes.now)) }
+    {
+        if let Some(fault) = Description::fault(bytes) {
+            return Err(fault);
+        }
+        match Vec::from_slice(alloc, bytes) {
+            Ok(bytes) => Ok(Description { bytes }),
+            Err(AllocError) => Err(NameFault::NoMemory),
+        }
+    }
+
+    /// The bytes that it was made of.
+    pub fn as_bytes(&self) -> &[u8]
+        ensures bytes { result.now ≡ self.now }
+        ensures rule { description_fault self.now ≡ None }
+    {
+        &self.bytes
+    }
+}
+
+impl Clone for Description {
+    ghost is_clone = { λ name copy. copy ≡ name };
+
+    fn clone(&self) -> Result<Description, AllocError> {
+        Ok(Description {
+            bytes: self.bytes.clone()?,
+        })
+    }
+}

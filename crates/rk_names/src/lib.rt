@@ -1,0 +1,43 @@
+//! The values that a request_key daemon speaks of, each of which keeps its rule.
+//!
+//! # Purpose
+//!
+//! A key has a [`TypeName`] and a [`Description`], a handler is told a [`Callout`], a key holds a
+//! [`Payload`]. Keys and rings are numbered by a [`Serial`], a step happens at a [`Moment`], a
+//! refusal is an [`Errno`]; who acts, and in whose rings, is a [`Context`]. Whoever holds one of these values holds its rule with it: a `TypeName`
+//! has 1 to 31 bytes of text and no leading dot, wherever it came from.
+//!
+//! # Making them
+//!
+//! A maker tests its rule and refuses by name, in one order: `Empty`, `TooLong`, `Dot`, `Byte`, and
+//! want of memory last. So `TypeName::new(alloc, b"user")` is made, `TypeName::new(alloc, b".x")` is
+//! refused with `Dot`. Where bytes are still borrowed, as in a message that is being read,
+//! `TypeName::fault(bytes)` applies the same rule and takes no memory. [`Payload::new`] moves the
+//! bytes that it is handed and takes none either.
+//!
+//! # How it is built
+//!
+//! A file for each name (`type_name`, `description`, `callout`) and for `payload`; `numbers` has what
+//! is a number, `errors` the refusals. The rules stand once, in `specs/Rules.antt`, as functions from bytes to the first fault;
+//! a maker, its test on borrowed bytes and its reader all cite them.
+#![tactic(auto)]
+
+mod callout;
+mod context;
+mod description;
+mod errors;
+mod numbers;
+mod payload;
+mod text;
+mod type_name;
+
+pub use callout::Callout;
+pub use context::{Context, Setting};
+pub use description::Description;
+pub use errors::{Errno, KeyError, NameFault};
+pub use numbers::{Moment, NameNo, Serial, SessionId};
+pub use payload::Payload;
+pub use type_name::TypeName;
+
+#[cfg(test)]
+mod tests;
