@@ -1,0 +1,123 @@
+-- An ask can be told from its message.
+use Rattle.std.proofs.Common.{◌≡◌, ℕ, ℤ, zero, suc, true, false, List, [], ◌∷◌, Option, Some, None, Result, Ok, Err, refl, sym, ap, ◌∙◌, arith}
+use Rattle.std.specs.Prelude.{◌||◌, ◌==◌, pos, unwrap_or, IfOk, MatchResult, if◌then◌else◌}
+use Rattle.rk_names.specs.declared.errors.KeyError.{KeyError}
+use Rattle.rk_names.specs.declared.errors.KeyError.TheVariants as error
+use Rattle.rk_names.specs.Numbers.{key_error_named}
+use Rattle.rk_message.specs.declared.ask.Ask.{Ask}
+use Rattle.rk_message.specs.declared.ask.Ask.TheVariants as ask
+use Rattle.rk_message.specs.declared.fault.ReadError.{ReadError}
+use Rattle.rk_message.specs.declared.fault.ReadError.TheVariants.{NoMemory}
+use Rattle.rk_message.specs.Wire.{Value, U8, U32, I32, Blob, Maybe, Message, spelling}
+use Rattle.rk_message.specs.Table.{asks}
+use Rattle.rk_message.specs.Reading.{message_at}
+use Rattle.rk_message.specs.Asks.{ask_message, JoinsASerial, IsAsk, GivesAsk}
+use Rattle.rk_message.proofs.Numbers.{IsBytes}
+use Rattle.rk_message.proofs.Messages.{message_again}
+use Rattle.rk_message.proofs.Readers.{is_found, is_only}
+
+-- the field at a place, whatever stands there where there is none
+abbrev pub at : List Value → ℕ → Value
+at [] i = U8 0
+at (v ∷ vs) zero = v
+at (v ∷ vs) (suc i) = at vs i
+
+abbrev pub number : Value → ℕ
+number (U8 n) = n
+number (U32 n) = n
+number _ = 0
+
+abbrev signed : Value → ℤ
+signed (I32 z) = z
+signed _ = pos 0
+
+abbrev pub bytes : Value → List ℕ
+bytes (Blob b) = b
+bytes _ = []
+
+abbrev optional : Value → Option (List ℕ)
+optional (Maybe b) = b
+optional _ = None
+
+abbrev pub serial : ℕ → Option ℕ
+serial zero = None
+serial (suc n) = Some (suc n)
+
+abbrev named : ℕ → KeyError
+named n = unwrap_or (key_error_named n) error.NoKey
+
+-- the ask of a message
+abbrev ask_of : Message → Ask
+ask_of m =
+    let a = at m.values 0 in
+    let b = at m.values 1 in
+    let c = at m.values 2 in
+    let d = at m.values 3 in
+    if m.op == 1 then ask.Hello (number a) (number b) (number c == 1 || number c == 3) (number c == 2 || number c == 3) (serial (number d))
+    else (if m.op == 2 then ask.Request (bytes a) (bytes b) (optional c) (signed d)
+    else (if m.op == 3 then ask.Assume (signed a)
+    else (if m.op == 4 then ask.Instantiate (signed a) (bytes b) (signed c)
+    else (if m.op == 5 then ask.Negate (signed a) (number b) (signed c)
+    else (if m.op == 6 then ask.Reject (signed a) (number b) (named (number c)) (signed d)
+    else (if m.op == 7 then ask.Read (signed a)
+    else (if m.op == 8 then ask.Describe (signed a)
+    else (if m.op == 9 then ask.Revoke (signed a)
+    else (if m.op == 10 then ask.Timeout (signed a) (number b)
+    else (if m.op == 11 then ask.Link (signed a) (signed b)
+    else (if m.op == 12 then ask.Unlink (signed a) (signed b)
+    else (if m.op == 13 then ask.Clear (signed a)
+    else (if m.op == 14 then ask.Default (signed a)
+    else (if m.op == 15 then ask.Add (bytes a) (bytes b) (bytes c) (signed d)
+    else ask.Callout))))))))))))))
+
+ask_of-message : (a : Ask) → JoinsASerial a → ask_of (ask_message a) ≡ a
+ask_of-message (ask.Hello uid gid true true None) joins = refl
+ask_of-message (ask.Hello uid gid true false None) joins = refl
+ask_of-message (ask.Hello uid gid false true None) joins = refl
+ask_of-message (ask.Hello uid gid false false None) joins = refl
+ask_of-message (ask.Hello uid gid thread process (Some zero)) joins = absurd (omega arith)
+ask_of-message (ask.Hello uid gid true true (Some (suc n))) joins = refl
+ask_of-message (ask.Hello uid gid true false (Some (suc n))) joins = refl
+ask_of-message (ask.Hello uid gid false true (Some (suc n))) joins = refl
+ask_of-message (ask.Hello uid gid false false (Some (suc n))) joins = refl
+ask_of-message (ask.Request typ description callout destination) joins = refl
+ask_of-message (ask.Assume key) joins = refl
+ask_of-message (ask.Instantiate key payload ring) joins = refl
+ask_of-message (ask.Negate key timeout ring) joins = refl
+ask_of-message (ask.Reject key timeout error.Revoked ring) joins = refl
+ask_of-message (ask.Reject key timeout error.Expired ring) joins = refl
+ask_of-message (ask.Reject key timeout error.Rejected ring) joins = refl
+ask_of-message (ask.Reject key timeout error.NoKey ring) joins = refl
+ask_of-message (ask.Read key) joins = refl
+ask_of-message (ask.Describe key) joins = refl
+ask_of-message (ask.Revoke key) joins = refl
+ask_of-message (ask.Timeout key seconds) joins = refl
+ask_of-message (ask.Link key ring) joins = refl
+ask_of-message (ask.Unlink key ring) joins = refl
+ask_of-message (ask.Clear ring) joins = refl
+ask_of-message (ask.Default setting) joins = refl
+ask_of-message (ask.Add typ description payload ring) joins = refl
+ask_of-message ask.Callout joins = refl
+
+-- asks of the same message are the same ask
+pub same_ask : (a b : Ask) → JoinsASerial a → JoinsASerial b → ask_message a ≡ ask_message b → a ≡ b
+same_ask a b here there e = sym (ask_of-message a here) ∙ ap ask_of e ∙ ask_of-message b there
+
+-- what was read is an ask, spelled by the body
+pub ask_is_found : (body : List ℕ) (r : Result Ask ReadError) → IsBytes body → GivesAsk r (message_at asks body) → IfOk r (λ a. IsAsk a × (body ≡ spelling (ask_message a)))
+ask_is_found body (Ok a) fits given = let t = is_found ask_message asks body (Ok a) fits given.0 in ((t.0, given.1), t.1)
+ask_is_found body (Err e) fits given = tt
+
+-- an ask that the body spells is what was read, unless memory ran out
+pub ask_is_only : (body : List ℕ) (r : Result Ask ReadError) (a : Ask) → IsAsk a → body ≡ spelling (ask_message a) → GivesAsk r (message_at asks body)
+    → MatchResult r (λ b. b ≡ a) (λ e. e ≡ NoMemory)
+ask_is_only body (Ok b) a is e given = same_ask b a given.1 is.1 (is_only ask_message asks body (Ok b) (ask_message a) is.0 e given.0)
+ask_is_only body (Err f) a is e given = is_only ask_message asks body (Err f) (ask_message a) is.0 e given.0
+
+-- asks with the same spelling are the same ask
+pub asks_are_told : (a b : Ask) → IsAsk a → IsAsk b → spelling (ask_message a) ≡ spelling (ask_message b) → a ≡ b
+asks_are_told a b here there e =
+    let one = message_again asks (ask_message a) here.0 in
+    let other = message_again asks (ask_message b) there.0 in
+    let same : ask_message a ≡ ask_message b = let joined = ap (message_at asks) e in cc in
+    same_ask a b here.1 there.1 same

@@ -1,0 +1,127 @@
+-- Lengths of spellings, and what several writes at the end come to.
+use Rattle.std.proofs.Common.{◌≡◌, ℕ, suc, ◌+◌, ◌≤◌, Bool, true, false, cond, ltb, eqb, List, [], ◌∷◌, ◌++◌, length, Option, Some, None, refl, sym, ap, ◌∙◌, append_assoc, length-append, arith}
+use Rattle.std.specs.List.{flat_map}
+use Rattle.std.proofs.lemmas.List.{append-nil}
+use Rattle.std.proofs.lemmas.Bool.{ltb-false}
+use Rattle.std.proofs.lemmas.List.Concat.{flat_map-cons}
+use Rattle.rk_names.specs.declared.errors.NameFault.{NameFault}
+use Rattle.rk_names.specs.Rules.{type_fault, description_fault, callout_fault, payload_fault}
+use Rattle.rk_message.specs.declared.ask.Ask.{Ask}
+use Rattle.rk_message.specs.declared.ask.Ask.TheVariants as ask
+use Rattle.rk_message.specs.declared.reply.Reply.{Reply}
+use Rattle.rk_message.specs.declared.reply.Reply.TheVariants as reply
+use Rattle.rk_message.specs.Wire.{Value, U8, U32, I32, Blob, Maybe, spelled, spelling}
+use Rattle.rk_message.specs.Table.{refusal, type_rule, description_rule, callout_rule, payload_rule, reply_rule}
+use Rattle.rk_message.specs.Asks.{ask_values, ask_message, IsAsk}
+use Rattle.rk_message.specs.Replies.{reply_message, IsReply}
+
+join2 : (o p q a b : List ℕ) → p ≡ o ++ a → q ≡ p ++ b → q ≡ o ++ (a ++ b)
+join2 o p q a b e f = f ∙ ap (λ (x : List ℕ). x ++ b) e ∙ append_assoc o a b
+
+join4 : (o p q r s a b c d : List ℕ) → p ≡ o ++ a → q ≡ p ++ b → r ≡ q ++ c → s ≡ r ++ d → s ≡ o ++ (a ++ (b ++ (c ++ d)))
+join4 o p q r s a b c d e f g h = join2 o p s a (b ++ (c ++ d)) e (join2 p q s b (c ++ d) f (join2 q r s c d g h))
+
+-- five writes, one after another
+pub join5 : (o p q r s t a b c d x : List ℕ) → p ≡ o ++ a → q ≡ p ++ b → r ≡ q ++ c → s ≡ r ++ d → t ≡ s ++ x → t ≡ o ++ (a ++ (b ++ (c ++ (d ++ (x ++ [])))))
+join5 o p q r s t a b c d x e f g h i =
+    join2 o p t a (b ++ (c ++ (d ++ (x ++ [])))) e (join4 p q r s t b c d (x ++ []) f g h (i ∙ ap (λ (y : List ℕ). s ++ y) (sym (append-nil x))))
+
+-- how many bytes a field has
+abbrev width : Value → ℕ
+width (U8 n) = 1
+width (U32 n) = 4
+width (I32 z) = 4
+width (Blob bytes) = 2 + length bytes
+width (Maybe None) = 1
+width (Maybe (Some bytes)) = 3 + length bytes
+
+length-spelled : (v : Value) → length (spelled v) ≡ width v
+unfolding spelled
+length-spelled (U8 n) = refl
+length-spelled (U32 n) = refl
+length-spelled (I32 z) = refl
+length-spelled (Blob bytes) = omega arith
+length-spelled (Maybe None) = refl
+length-spelled (Maybe (Some bytes)) = omega arith
+
+abbrev widths : List Value → ℕ
+widths [] = 0
+widths (v ∷ vs) = width v + widths vs
+
+length-values : (vs : List Value) → length (flat_map spelled vs) ≡ widths vs
+length-values [] = refl
+length-values (v ∷ vs) = rw (flat_map-cons, length-append) (omega (arith, length-spelled v, length-values vs))
+
+under : (vs : List Value) (limit : ℕ) → widths vs ≤ limit → suc (length (flat_map spelled vs)) ≤ suc limit
+under vs limit le = omega (arith, length-values vs)
+
+refusal_none : (o : Option NameFault) → refusal o ≡ None → o ≡ None
+refusal_none None e = refl
+refusal_none (Some f) e = absurd cc
+
+-- a test that did not refuse
+passed : {E : Type 0} (b : Bool) (e : E) (others : Option E) → cond b (Some e) others ≡ None → (b ≡ false) × (others ≡ None)
+passed true e others is = absurd cc
+passed false e others is = (refl, is)
+
+type_len : (bytes : List ℕ) → type_rule bytes ≡ None → length bytes ≤ 31
+type_len bytes is =
+    let first = passed (eqb (length bytes) 0) _ _ (refusal_none (type_fault bytes) is) in
+    let second = passed (ltb 31 (length bytes)) _ _ first.1 in
+    ltb-false 31 (length bytes) second.0
+
+description_len : (bytes : List ℕ) → description_rule bytes ≡ None → length bytes ≤ 4095
+description_len bytes is =
+    let first = passed (eqb (length bytes) 0) _ _ (refusal_none (description_fault bytes) is) in
+    let second = passed (ltb 4095 (length bytes)) _ _ first.1 in
+    ltb-false 4095 (length bytes) second.0
+
+payload_len : (bytes : List ℕ) → payload_rule bytes ≡ None → length bytes ≤ 32767
+payload_len bytes is =
+    let first = passed (eqb (length bytes) 0) _ _ (refusal_none (payload_fault bytes) is) in
+    let second = passed (ltb 32767 (length bytes)) _ _ first.1 in
+    ltb-false 32767 (length bytes) second.0
+
+callout_len : (bytes : List ℕ) → callout_rule bytes ≡ None → length bytes ≤ 4095
+callout_len bytes is =
+    let first = passed (ltb 4095 (length bytes)) _ _ (refusal_none (callout_fault bytes) is) in
+    ltb-false 4095 (length bytes) first.0
+
+reply_len : (bytes : List ℕ) → reply_rule bytes ≡ None → length bytes ≤ 65533
+reply_len bytes is = let first = passed (ltb 65533 (length bytes)) _ _ is in ltb-false 65533 (length bytes) first.0
+
+ask_width : (a : Ask) → IsAsk a → widths (ask_values a) ≤ 65535
+ask_width (ask.Hello uid gid thread process join) is = omega arith
+ask_width (ask.Request typ description None destination) is =
+    omega (arith, type_len typ is.0.0.1, description_len description is.0.1.0.1)
+ask_width (ask.Request typ description (Some callout) destination) is =
+    omega (arith, type_len typ is.0.0.1, description_len description is.0.1.0.1, callout_len callout is.0.1.1.0.1)
+ask_width (ask.Assume key) is = omega arith
+ask_width (ask.Instantiate key payload ring) is = omega (arith, payload_len payload is.0.1.0.1)
+ask_width (ask.Negate key timeout ring) is = omega arith
+ask_width (ask.Reject key timeout error ring) is = omega arith
+ask_width (ask.Read key) is = omega arith
+ask_width (ask.Describe key) is = omega arith
+ask_width (ask.Revoke key) is = omega arith
+ask_width (ask.Timeout key seconds) is = omega arith
+ask_width (ask.Link key ring) is = omega arith
+ask_width (ask.Unlink key ring) is = omega arith
+ask_width (ask.Clear ring) is = omega arith
+ask_width (ask.Default setting) is = omega arith
+ask_width (ask.Add typ description payload ring) is =
+    omega (arith, type_len typ is.0.0.1, description_len description is.0.1.0.1, payload_len payload is.0.1.1.0.1)
+ask_width ask.Callout is = omega arith
+
+-- an ask fits a frame
+pub ask_fits : (a : Ask) → IsAsk a → length (spelling (ask_message a)) ≤ 65536
+ask_fits a is = under (ask_values a) 65535 (ask_width a is)
+
+reply_width : (a : Reply) → IsReply a → widths ((reply_message a).values) ≤ 65535
+reply_width (reply.Number n) is = omega arith
+reply_width (reply.Bytes bytes) is = omega (arith, reply_len bytes is.0.1)
+reply_width (reply.Rings thread process session user) is = omega arith
+reply_width (reply.Refused e) is = omega arith
+
+-- a reply fits a frame
+pub reply_fits : (a : Reply) → IsReply a → length (spelling (reply_message a)) ≤ 65536
+reply_fits a is = under ((reply_message a).values) 65535 (reply_width a is)

@@ -1,0 +1,178 @@
+-- Each message of the table is an ask's, or a reply's.
+use Rattle.std.proofs.Common.{◌≡◌, ℕ, ℤ, zero, suc, ◌^◌, ◌<◌, Bool, true, false, cond, eqb, ltb, List, [], ◌∷◌, Option, Some, None, refl, sym, subst, ◌∙◌, arith}
+use Rattle.std.specs.Prelude.{FitsSigned, IsSomeAnd, is_some}
+use Rattle.std.specs.Int.{w32}
+use Rattle.std.proofs.lemmas.Bool.{eqb-true, ltb-true}
+use Rattle.rk_names.specs.declared.errors.Errno.{Errno}
+use Rattle.rk_names.specs.declared.errors.Errno.TheVariants as errno
+use Rattle.rk_names.specs.declared.errors.KeyError.{KeyError}
+use Rattle.rk_names.specs.declared.errors.KeyError.TheVariants as error
+use Rattle.rk_names.specs.Numbers.{errno_number, errno_named, key_error_named}
+use Rattle.rk_message.specs.declared.ask.Ask.{Ask}
+use Rattle.rk_message.specs.declared.ask.Ask.TheVariants as ask
+use Rattle.rk_message.specs.declared.reply.Reply.{Reply}
+use Rattle.rk_message.specs.declared.reply.Reply.TheVariants as reply
+use Rattle.rk_message.specs.Wire.{Value, U8, U32, I32, Blob, Maybe, Kind, Byte, Word, Signed, Block, Optional, Message, Fields, kinds_of, IsBlock, IsValue, AreValues, IsMessage}
+use Rattle.rk_message.specs.Table.{asks, replies}
+use Rattle.rk_message.specs.Asks.{ask_message, flag_bits, error_number, IsAsk}
+use Rattle.rk_message.specs.Replies.{reply_message, IsReply}
+
+-- P of any fields of the kinds
+abbrev pub ForFields : List Kind → (List Value → Type 0) → Type 0
+ForFields [] P = P []
+ForFields (Byte passes ∷ ks) P = (n : ℕ) → (n < 2 ^ 8) × (passes n ≡ true) → ForFields ks (λ vs. P (U8 n ∷ vs))
+ForFields (Word passes ∷ ks) P = (n : ℕ) → (n < 2 ^ 32) × (passes n ≡ true) → ForFields ks (λ vs. P (U32 n ∷ vs))
+ForFields (Signed ∷ ks) P = (z : ℤ) → FitsSigned w32 z → ForFields ks (λ vs. P (I32 z ∷ vs))
+ForFields (Block rule ∷ ks) P = (bytes : List ℕ) → IsBlock rule bytes → ForFields ks (λ vs. P (Blob bytes ∷ vs))
+ForFields (Optional rule ∷ ks) P = (bytes : Option (List ℕ)) → IsValue (Optional rule) (Maybe bytes) → ForFields ks (λ vs. P (Maybe bytes ∷ vs))
+
+-- fields that are of the kinds are such fields
+pub for_fields : (ks : List Kind) (P : List Value → Type 0) → ForFields ks P → (vs : List Value) → AreValues ks vs → P vs
+for_fields [] P all [] fits = all
+for_fields [] P all (v ∷ vs) fits = absurd fits
+for_fields (k ∷ ks) P all [] fits = absurd fits
+for_fields (Byte passes ∷ ks) P all (U8 n ∷ vs) fits = for_fields ks (λ vs. P (U8 n ∷ vs)) (all n fits.0) vs fits.1
+for_fields (Word passes ∷ ks) P all (U32 n ∷ vs) fits = for_fields ks (λ vs. P (U32 n ∷ vs)) (all n fits.0) vs fits.1
+for_fields (Signed ∷ ks) P all (I32 z ∷ vs) fits = for_fields ks (λ vs. P (I32 z ∷ vs)) (all z fits.0) vs fits.1
+for_fields (Block rule ∷ ks) P all (Blob bytes ∷ vs) fits = for_fields ks (λ vs. P (Blob bytes ∷ vs)) (all bytes fits.0) vs fits.1
+for_fields (Optional rule ∷ ks) P all (Maybe bytes ∷ vs) fits = for_fields ks (λ vs. P (Maybe bytes ∷ vs)) (all bytes fits.0) vs fits.1
+for_fields (Byte passes ∷ ks) P all (v ∷ vs) fits = absurd fits.0
+for_fields (Word passes ∷ ks) P all (v ∷ vs) fits = absurd fits.0
+for_fields (Signed ∷ ks) P all (v ∷ vs) fits = absurd fits.0
+for_fields (Block rule ∷ ks) P all (v ∷ vs) fits = absurd fits.0
+for_fields (Optional rule ∷ ks) P all (v ∷ vs) fits = absurd fits.0
+
+-- P of each message of the table
+abbrev pub ForLines : Fields → (Message → Type 0) → Type 0
+ForLines [] P = Unit {0}
+ForLines (line ∷ lines) P = ForFields line.1 (λ vs. P (record { op = line.0; values = vs })) × ForLines lines P
+
+in_line : (P : Message → Type 0) (k : ℕ) (ks : List Kind) (m : Message) (b : Bool) (others : Option (List Kind)) → (b ≡ true → m.op ≡ k) → ForFields ks (λ vs. P (record { op = k; values = vs }))
+    → (IsSomeAnd others (λ ks. AreValues ks m.values) → P m) → IsSomeAnd (cond b (Some ks) others) (λ ks. AreValues ks m.values) → P m
+in_line P k ks m true others same here later is =
+    subst (λ (n : ℕ). P (record { op = n; values = m.values })) (sym (same refl)) (for_fields ks (λ vs. P (record { op = k; values = vs })) here m.values is)
+in_line P k ks m false others same here later is = later is
+
+-- a message of the table is one of its lines'
+pub for_lines : (lines : Fields) (P : Message → Type 0) → ForLines lines P → (m : Message) → IsMessage lines m → P m
+for_lines [] P all m is = absurd is
+for_lines (line ∷ lines) P all m is =
+    in_line P line.0 line.1 m (eqb m.op line.0) (kinds_of lines m.op) (λ e. eqb-true m.op line.0 e) all.0 (for_lines lines P all.1 m) is
+
+-- the message is an ask's
+abbrev pub ToldAsk : Message → Type 0
+ToldAsk m = (a : Ask) × IsAsk a × (ask_message a ≡ m)
+
+-- two bits are two answers
+bits : (n : ℕ) → ltb n 4 ≡ true → (thread : Bool) × (process : Bool) × (flag_bits thread process ≡ n)
+bits zero lt = (false, false, refl)
+bits (suc zero) lt = (true, false, refl)
+bits (suc (suc zero)) lt = (false, true, refl)
+bits (suc (suc (suc zero))) lt = (true, true, refl)
+bits (suc (suc (suc (suc n)))) lt = absurd (let below : suc (suc (suc (suc n))) < 4 = ltb-true (suc (suc (suc (suc n)))) 4 lt in omega arith)
+
+-- an error with the number, where a table has one
+error_step : (n k : ℕ) (e : KeyError) (b : Bool) (others : Option KeyError) → (b ≡ true → n ≡ k) → error_number e ≡ k → (is_some others ≡ true → (d : KeyError) × (error_number d ≡ n))
+    → is_some (cond b (Some e) others) ≡ true → (d : KeyError) × (error_number d ≡ n)
+error_step n k e true others same is later some = (e, is ∙ sym (same refl))
+error_step n k e false others same is later some = later some
+
+errors : (n : ℕ) → is_some (key_error_named n) ≡ true → (e : KeyError) × (error_number e ≡ n)
+errors n some =
+    error_step n 126 error.NoKey (eqb n 126) _ (λ e. eqb-true n 126 e) refl
+    (error_step n 127 error.Expired (eqb n 127) _ (λ e. eqb-true n 127 e) refl
+    (error_step n 128 error.Revoked (eqb n 128) _ (λ e. eqb-true n 128 e) refl
+    (error_step n 129 error.Rejected (eqb n 129) None (λ e. eqb-true n 129 e) refl (λ none. absurd cc)))) some
+
+hello : (uid gid few number : ℕ) (thread process : Bool) → uid < 2 ^ 32 → gid < 2 ^ 32 → flag_bits thread process ≡ few → few < 2 ^ 8 → ltb few 4 ≡ true
+    → (number < 2 ^ 32) × (ltb number 2147483648 ≡ true) → ToldAsk (record { op = 1; values = U32 uid ∷ U32 gid ∷ U8 few ∷ U32 number ∷ [] })
+hello uid gid few zero thread process u g same byte below j =
+    (ask.Hello uid gid thread process None, (((u, refl), ((g, refl), ((rw same byte, rw same below), (j, tt)))), tt), rw same refl)
+hello uid gid few (suc number) thread process u g same byte below j =
+    (ask.Hello uid gid thread process (Some (suc number)), (((u, refl), ((g, refl), ((rw same byte, rw same below), (j, tt)))), omega arith), rw same refl)
+
+-- each message of the table is an ask's
+pub asks_are_all : (m : Message) → IsMessage asks m → ToldAsk m
+asks_are_all = for_lines asks ToldAsk (
+  (λ uid u gid g n f join j. let b = bits n f.1 in hello uid gid n join b.0 b.1 u.0 g.0 b.2 f.0 f.1 j),
+  (
+    (λ typ t description d callout c destination z. (ask.Request typ description callout destination, ((t, (d, (c, (z, tt)))), tt), refl)),
+    (
+      (λ key k. (ask.Assume key, ((k, tt), tt), refl)),
+      (
+        (λ key k payload p ring r. (ask.Instantiate key payload ring, ((k, (p, (r, tt))), tt), refl)),
+        (
+          (λ key k timeout t ring r. (ask.Negate key timeout ring, ((k, (t, (r, tt))), tt), refl)),
+          (
+            (λ key k timeout t n e ring r. let named = errors n e.1 in (ask.Reject key timeout named.0 ring, ((k, (t, (rw named.1 e, (r, tt)))), tt), rw named.1 refl)),
+            (
+              (λ key k. (ask.Read key, ((k, tt), tt), refl)),
+              (
+                (λ key k. (ask.Describe key, ((k, tt), tt), refl)),
+                (
+                  (λ key k. (ask.Revoke key, ((k, tt), tt), refl)),
+                  (
+                    (λ key k seconds s. (ask.Timeout key seconds, ((k, (s, tt)), tt), refl)),
+                    (
+                      (λ key k ring r. (ask.Link key ring, ((k, (r, tt)), tt), refl)),
+                      (
+                        (λ key k ring r. (ask.Unlink key ring, ((k, (r, tt)), tt), refl)),
+                        (
+                          (λ ring r. (ask.Clear ring, ((r, tt), tt), refl)),
+                          (
+                            (λ setting s. (ask.Default setting, ((s, tt), tt), refl)),
+                            (
+                              (λ typ t description d payload p ring r. (ask.Add typ description payload ring, ((t, (d, (p, (r, tt)))), tt), refl)),
+                              ((ask.Callout, (tt, tt), refl), tt),
+                            ),
+                          ),
+                        ),
+                      ),
+                    ),
+                  ),
+                ),
+              ),
+            ),
+          ),
+        ),
+      ),
+    ),
+  ),
+)
+
+-- the message is a reply's
+abbrev pub ToldReply : Message → Type 0
+ToldReply m = (r : Reply) × IsReply r × (reply_message r ≡ m)
+
+errno_step : (n k : ℕ) (e : Errno) (b : Bool) (others : Option Errno) → (b ≡ true → n ≡ k) → errno_number e ≡ k → (is_some others ≡ true → (d : Errno) × (errno_number d ≡ n))
+    → is_some (cond b (Some e) others) ≡ true → (d : Errno) × (errno_number d ≡ n)
+errno_step n k e true others same is later some = (e, is ∙ sym (same refl))
+errno_step n k e false others same is later some = later some
+
+errnos : (n : ℕ) → is_some (errno_named n) ≡ true → (e : Errno) × (errno_number e ≡ n)
+errnos n some =
+    errno_step n 1 errno.Eperm (eqb n 1) _ (λ e. eqb-true n 1 e) refl
+    (errno_step n 2 errno.Enoent (eqb n 2) _ (λ e. eqb-true n 2 e) refl
+    (errno_step n 12 errno.Enomem (eqb n 12) _ (λ e. eqb-true n 12 e) refl
+    (errno_step n 13 errno.Eacces (eqb n 13) _ (λ e. eqb-true n 13 e) refl
+    (errno_step n 16 errno.Ebusy (eqb n 16) _ (λ e. eqb-true n 16 e) refl
+    (errno_step n 22 errno.Einval (eqb n 22) _ (λ e. eqb-true n 22 e) refl
+    (errno_step n 35 errno.Edeadlk (eqb n 35) _ (λ e. eqb-true n 35 e) refl
+    (errno_step n 122 errno.Edquot (eqb n 122) _ (λ e. eqb-true n 122 e) refl
+    (errno_step n 126 errno.Enokey (eqb n 126) _ (λ e. eqb-true n 126 e) refl
+    (errno_step n 127 errno.Ekeyexpired (eqb n 127) _ (λ e. eqb-true n 127 e) refl
+    (errno_step n 128 errno.Ekeyrevoked (eqb n 128) _ (λ e. eqb-true n 128 e) refl
+    (errno_step n 129 errno.Ekeyrejected (eqb n 129) None (λ e. eqb-true n 129 e) refl (λ none. absurd cc)))))))))))) some
+
+-- each message of the table is a reply's
+pub replies_are_all : (m : Message) → IsMessage replies m → ToldReply m
+replies_are_all = for_lines replies ToldReply (
+  (λ n f. (reply.Number n, (f, tt), refl)),
+  (
+    (λ bytes b. (reply.Bytes bytes, (b, tt), refl)),
+    (
+      (λ thread t process p session s user u. (reply.Rings thread process session user, (t, (p, (s, (u, tt)))), refl)),
+      ((λ n e. let named = errnos n e.1 in (reply.Refused named.0, (rw named.1 e, tt), rw named.1 refl)), tt),
+    ),
+  ),
+)

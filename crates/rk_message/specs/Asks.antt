@@ -1,0 +1,83 @@
+-- What an ask is on the wire.
+use Rattle.std.specs.Prelude.{ℕ, List, [], ◌∷◌, ◌+◌, ◌≤◌, Bool, Option, Some, None, Result, IfOk, if◌then◌else◌}
+use Rattle.rk_names.specs.declared.errors.KeyError.{KeyError}
+use Rattle.rk_names.specs.Numbers.{errno_number, key_errno}
+use Rattle.rk_message.specs.declared.ask.Ask.{Ask}
+use Rattle.rk_message.specs.declared.ask.Ask.TheVariants as ask
+use Rattle.rk_message.specs.declared.fault.Fault.{Fault}
+use Rattle.rk_message.specs.declared.fault.ReadError.{ReadError}
+use Rattle.rk_message.specs.Wire.{Value, U8, U32, I32, Blob, Maybe, Message, IsMessage}
+use Rattle.rk_message.specs.Table.{asks}
+use Rattle.rk_message.specs.Reading.{Reads, Gives}
+
+-- bit 0: a thread ring, bit 1: a process ring
+abbrev pub flag_bits : Bool → Bool → ℕ
+flag_bits thread process = (if thread then 1 else 0) + (if process then 2 else 0)
+
+-- the serial to join, 0 for none
+abbrev pub join_number : Option ℕ → ℕ
+join_number None = 0
+join_number (Some n) = n
+
+-- a key's error, as its errno's number
+abbrev pub error_number : KeyError → ℕ
+error_number e = errno_number (key_errno e)
+
+-- the fields of an ask
+abbrev pub ask_values : Ask → List Value
+ask_values (ask.Hello uid gid thread process join) = U32 uid ∷ U32 gid ∷ U8 (flag_bits thread process) ∷ U32 (join_number join) ∷ []
+ask_values (ask.Request typ description callout destination) = Blob typ ∷ Blob description ∷ Maybe callout ∷ I32 destination ∷ []
+ask_values (ask.Assume key) = I32 key ∷ []
+ask_values (ask.Instantiate key payload ring) = I32 key ∷ Blob payload ∷ I32 ring ∷ []
+ask_values (ask.Negate key timeout ring) = I32 key ∷ U32 timeout ∷ I32 ring ∷ []
+ask_values (ask.Reject key timeout error ring) = I32 key ∷ U32 timeout ∷ U32 (error_number error) ∷ I32 ring ∷ []
+ask_values (ask.Read key) = I32 key ∷ []
+ask_values (ask.Describe key) = I32 key ∷ []
+ask_values (ask.Revoke key) = I32 key ∷ []
+ask_values (ask.Timeout key seconds) = I32 key ∷ U32 seconds ∷ []
+ask_values (ask.Link key ring) = I32 key ∷ I32 ring ∷ []
+ask_values (ask.Unlink key ring) = I32 key ∷ I32 ring ∷ []
+ask_values (ask.Clear ring) = I32 ring ∷ []
+ask_values (ask.Default setting) = I32 setting ∷ []
+ask_values (ask.Add typ description payload ring) = Blob typ ∷ Blob description ∷ Blob payload ∷ I32 ring ∷ []
+ask_values ask.Callout = []
+
+-- the op byte of an ask
+abbrev pub ask_op : Ask → ℕ
+ask_op (ask.Hello _ _ _ _ _) = 1
+ask_op (ask.Request _ _ _ _) = 2
+ask_op (ask.Assume _) = 3
+ask_op (ask.Instantiate _ _ _) = 4
+ask_op (ask.Negate _ _ _) = 5
+ask_op (ask.Reject _ _ _ _) = 6
+ask_op (ask.Read _) = 7
+ask_op (ask.Describe _) = 8
+ask_op (ask.Revoke _) = 9
+ask_op (ask.Timeout _ _) = 10
+ask_op (ask.Link _ _) = 11
+ask_op (ask.Unlink _ _) = 12
+ask_op (ask.Clear _) = 13
+ask_op (ask.Default _) = 14
+ask_op (ask.Add _ _ _ _) = 15
+ask_op ask.Callout = 16
+
+-- the message that an ask is
+abbrev pub ask_message : Ask → Message
+ask_message a = record { op = ask_op a; values = ask_values a }
+
+-- a ring to join has a serial, and no serial is 0
+abbrev pub JoinsASerial : Ask → Type 0
+JoinsASerial (ask.Hello _ _ _ _ (Some n)) = 1 ≤ n
+JoinsASerial _ = Unit {0}
+
+-- the fields keep what their types promise
+abbrev pub IsAsk : Ask → Type 0
+IsAsk a = IsMessage asks (ask_message a) × JoinsASerial a
+
+-- the ask that was returned is what reading gives
+abbrev pub ReadsAsk : Result Ask Fault → Result Message Fault → Type 0
+ReadsAsk r read = Reads ask_message r read × IfOk r JoinsASerial
+
+-- the same, where memory may run out
+abbrev pub GivesAsk : Result Ask ReadError → Result Message Fault → Type 0
+GivesAsk r read = Gives ask_message r read × IfOk r JoinsASerial

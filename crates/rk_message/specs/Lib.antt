@@ -1,0 +1,10 @@
+pub mod Wire
+pub mod Table
+pub mod Reading
+pub mod Leftmost
+pub mod Faults
+pub mod Asks
+pub mod Names
+pub mod Replies
+pub mod Spellings
+pub mod Laws

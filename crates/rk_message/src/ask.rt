@@ -1,0 +1,126 @@
+//! What a session may ask.
+
+ghost use Rattle.std.specs.Prelude.{◌≡◌};
+
+use rk_names::{Callout, Description, KeyError, Payload, Serial, TypeName};
+
+/// What a session asks. Rings and keys are numbers as on the wire: positive ones are serials, others
+/// name a ring or a key by its role, as -3 the session ring (keyctl(2), "Special key IDs"). What a
+/// number means, and whether it is refused, is for whoever carries the ask out.
+#[derive(Debug, Drop)]
+pub enum Ask {
+    /// Makes the session's context: who asks, which of its own rings it has, and the session ring
+    /// that it joins; `None` makes a new one (keyctl_join_session_keyring(3)).
+    Hello {
+        uid: u32,
+        gid: u32,
+        thread: bool,
+        process: bool,
+        join: Option<Serial>,
+    },
+    /// Finds a key, or has it made by a handler that is told the callout, and links it into the
+    /// destination. For 0 a key that is found is linked nowhere, and one that is made into the
+    /// session's default ring (request_key(2)).
+    Request {
+        typ: TypeName,
+        description: Description,
+        callout: Option<Callout>,
+        destination: i32,
+    },
+    /// Takes on the authority to make a key; 0 lays it down (keyctl_assume_authority(3)).
+    Assume {
+        key: i32,
+    },
+    /// Gives the key its payload and links it; 0 links it nowhere (keyctl_instantiate(3)).
+    Instantiate {
+        key: i32,
+        payload: Payload,
+        ring: i32,
+    },
+    /// Makes the key negative for so many seconds, with ENOKEY (keyctl_negate(3)).
+    Negate {
+        key: i32,
+        timeout: u32,
+        ring: i32,
+    },
+    /// Makes the key negative for so many seconds, with the error (keyctl_reject(3)).
+    Reject {
+        key: i32,
+        timeout: u32,
+        error: KeyError,
+        ring: i32,
+    },
+    /// The key's payload; -7 is the authority, whose payload is the callout (keyctl_read(3)).
+    Read {
+        key: i32,
+    },
+    /// The key's type, owner, state and description (keyctl_describe(3)).
+    Describe {
+        key: i32,
+    },
+    /// Marks the key as revoked (keyctl_revoke(3)).
+    Revoke {
+        key: i32,
+    },
+    /// Has the key expire so many seconds on; 0 takes the expiry away (keyctl_set_timeout(3)).
+    Timeout {
+        key: i32,
+        seconds: u32,
+    },
+    /// Links the key into the ring (keyctl_link(3)).
+    Link {
+        key: i32,
+        ring: i32,
+    },
+    /// Takes the key's link out of the ring (keyctl_unlink(3)).
+    Unlink {
+        key: i32,
+        ring: i32,
+    },
+    /// Takes every link out of the ring (keyctl_clear(3)).
+    Clear {
+        ring: i32,
+    },
+    /// Sets which ring a made key is linked into by default; -1 only tells the setting
+    /// (keyctl_set_reqkey_keyring(3)).
+    Default {
+        setting: i32,
+    },
+    /// Makes a key with its payload and links it (add_key(2)).
+    Add {
+        typ: TypeName,
+        description: Description,
+        payload: Payload,
+        ring: i32,
+    },
+    /// What the requester told the handler whose authority is assumed (request_key(2), `callout_info`).
+    Callout,
+}
+
+impl Ask {
+    ghost use Rattle.rk_message.specs.Names.{ask_name};
+
+    /// What the format calls the ask, as `REQUEST`.
+    pub fn name(&self) -> &'static str
+        ensures { result.now ≡ ask_name self.now }
+    {
+        match self {
+            Ask::Hello { .. } => "HELLO",
+            Ask::Request { .. } => "REQUEST",
+            Ask::Assume { .. } => "ASSUME",
+            Ask::Instantiate { .. } => "INSTANTIATE",
+            Ask::Negate { .. } => "NEGATE",
+            Ask::Reject { .. } => "REJECT",
+            Ask::Read { .. } => "READ",
+            Ask::Describe { .. } => "DESCRIBE",
+            Ask::Revoke { .. } => "REVOKE",
+            Ask::Timeout { .. } => "TIMEOUT",
+            Ask::Link { .. } => "LINK",
+            Ask::Unlink { .. } => "UNLINK",
+            Ask::Clear { .. } => "CLEAR",
+            Ask::Default { .. } => "DEFAULT",
+            Ask::Add { .. } => "ADD",
+            Ask::Callout => "CALLOUT",
+        }
+    }
+}

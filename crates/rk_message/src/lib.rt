@@ -1,0 +1,49 @@
+//! What a session asks of a request_key daemon and what it is answered, as bytes.
+//!
+//! # Purpose
+//!
+//! A session sends an [`Ask`] as the body of a frame and gets a [`Reply`] as the body of another. A
+//! body is a first byte, which says what the message is, and then fields: numbers of one or four
+//! bytes with the highest first, `i32` in two's complement, texts and payloads behind their length
+//! of two bytes, a callout behind a byte 0 (none) or 1. Each ask and each reply has one spelling, and
+//! each body has at most one reading.
+//!
+//! # Reading and writing
+//!
+//! `Ask::read(alloc, body)` on the bytes `03 00000003` is `Ask::Assume { key: 3 }`, and
+//! `Ask::Assume { key: 3 }.write(alloc)` is those bytes again. A body that spells nothing has one
+//! [`Fault`], its leftmost: `03 0000` is short, `03 00000003 00` has trailing bytes, `ff` is an unknown
+//! op, and a field that breaks its rule is bad and carries its errno. `Fault::errno` says what
+//! the session is answered. Want of memory comes only for a body that has a reading.
+//!
+//! To write a reply behind its length into one buffer, ask `body_len` for the length and call `write_into`, which
+//! reserves once and then appends. `Reply::refusal(errno)` is the body of a refusal and takes no
+//! memory, so that ENOMEM can always be answered.
+//!
+//! # How it is built
+//!
+//! The format stands once, as a table of first bytes and kinds of fields, in `specs/Table.antt`. `field` reads one
+//! field from the front of the bytes; `ask_reading` and `reply_reading` have a function for each line of
+//! the table. `spelling` writes fields; `ask_writing` and `reply_writing` name the fields of each
+//! message. What the table says of every body stands as laws in `laws`.
+#![tactic(auto)]
+
+mod ask;
+mod ask_reading;
+mod ask_writing;
+mod fault;
+mod field;
+mod laws;
+mod reply;
+mod reply_reading;
+mod reply_writing;
+mod spelling;
+
+pub use ask::Ask;
+pub use fault::{Fault, ReadError};
+pub use laws::{asks_have_one_reading, replies_have_one_reading};
+pub use reply::{Reply, ReplyBytes};
+pub use rk_names::KeyError;
+
+#[cfg(test)]
+mod tests;

@@ -1,0 +1,69 @@
+//! What a session may be answered.
+
+ghost use Rattle.std.specs.Prelude.{◌≡◌, ◌≤◌, Some, None, length, nat_lt, if◌then◌else◌};
+
+use rk_names::Errno;
+use std::marker::Model;
+
+/// The bytes of a reply: at most 65,533, so that with their length and the kind byte they fit the
+/// 65,536 bytes of a frame's body.
+#[derive(Debug, Drop)]
+pub struct ReplyBytes {
+    bytes: Vec<u8>,
+}
+
+impl Model for ReplyBytes {
+    ghost use Rattle.std.specs.Prelude.{◌≤◌, List, ℕ, length};
+
+    ghost Value = { List ℕ };
+
+    ghost view = { λ r. r.bytes.items };
+
+    ghost invariant = { λ r. length r.bytes.items ≤ 65533 };
+}
+
+impl ReplyBytes {
+    /// Moves the bytes, and takes no memory; `None` past 65,533 of them.
+    pub fn new(bytes: Vec<u8>) -> Option<ReplyBytes>
+        ensures { result ≡ (if nat_lt 65533 (length bytes.items) then None else Some bytes.items) }
+    {
+        if bytes.len() > 65_533 {
+            None
+        } else {
+            Some(ReplyBytes { bytes })
+        }
+    }
+
+    /// The bytes that it was made of.
+    pub fn as_bytes(&self) -> &[u8]
+        ensures bytes { result.now ≡ self.now }
+        ensures rule { length self.now ≤ 65533 }
+    {
+        &self.bytes
+    }
+
+    /// Gives the bytes back, and takes no memory.
+    pub fn into_vec(self) -> Vec<u8>
+        ensures { result.items ≡ self }
+    {
+        self.bytes
+    }
+}
+
+/// What a session is answered.
+#[derive(Debug, Drop)]
+pub enum Reply {
+    /// The serial of a key, the setting before, or 0 where there is nothing to tell.
+    Number(u32),
+    /// A payload, a description or a callout.
+    Bytes(ReplyBytes),
+    /// The serials of the context's rings, 0 for one that is absent.
+    Rings {
+        thread: u32,
+        process: u32,
+        session: u32,
+        user: u32,
+    },
+    /// The ask was refused and changed nothing, or the key that it waited for can't be used.
+    Refused(Errno),
+}

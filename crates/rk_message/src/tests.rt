@@ -1,0 +1,458 @@
+//! Bodies that were spelled by hand from the format, both ways, and the faults of others.
+
+use super::*;
+use rk_names::{Callout, Description, Errno, Payload, Serial, TypeName};
+use std::alloc::{AllocError, Global};
+use std::process::Abort;
+use std::test::Fail;
+
+const INVALID: Fault = Fault::Bad(Errno::Einval);
+
+fn bytes_of(alloc: Global, hex: &str) -> Result<Vec<u8>, Fail> {
+    let mut bytes = Vec::new(alloc);
+    for pair in hex.as_bytes().chunks(2) {
+        bytes.push(u8::from_str_radix(str::from_utf8(pair)?, 16)?)?;
+    }
+    Ok(bytes)
+}
+
+/// Asks of numbers alone.
+fn plain_asks(alloc: Global) -> Result<Vec<(&'static str, Ask)>, Fail> {
+    let asks = vec![in alloc;
+        (
+            "01000003e8000003e80000000000",
+            hello(1000, 1000, false, false, 0)
+        ),
+        (
+            "0100000000ffffffff037fffffff",
+            hello(0, u32::MAX, true, true, 2_147_483_647)
+        ),
+        ("0100000001000000020100000003", hello(1, 2, true, false, 3)),
+        ("0100000001000000020200000003", hello(1, 2, false, true, 3)),
+        ("0300000003", Ask::Assume { key: 3 }),
+        (
+            "05000000030000003cffffffff",
+            Ask::Negate {
+                key: 3,
+                timeout: 60,
+                ring: -1
+            }
+        ),
+        (
+            "0600000003000000010000007e00000000",
+            reject(KeyError::NoKey)
+        ),
+        (
+            "0600000003000000010000007f00000000",
+            reject(KeyError::Expired)
+        ),
+        (
+            "0600000003000000010000008000000000",
+            reject(KeyError::Revoked)
+        ),
+        (
+            "0600000003000000010000008100000000",
+            reject(KeyError::Rejected)
+        ),
+        ("07fffffff9", Ask::Read { key: -7 }),
+        ("0800000003", Ask::Describe { key: 3 }),
+        ("097fffffff", Ask::Revoke { key: 2_147_483_647 }),
+        (
+            "0a00000003ffffffff",
+            Ask::Timeout {
+                key: 3,
+                seconds: u32::MAX
+            }
+        ),
+        ("0b00000003fffffffe", Ask::Link { key: 3, ring: -2 }),
+        ("0c00000003fffffffd", Ask::Unlink { key: 3, ring: -3 }),
+        (
+            "0d80000000",
+            Ask::Clear {
+                ring: -2_147_483_648
+            }
+        ),
+        ("0effffffff", Ask::Default { setting: -1 }),
+        ("10", Ask::Callout),
+    ]?;
+    Ok(asks)
+}
+
+fn hello(uid: u32, gid: u32, thread: bool, process: bool, join: u32) -> Ask {
+    Ask::Hello {
+        uid,
+        gid,
+        thread,
+        process,
+        join: Serial::new(join),
+    }
+}
+
+fn reject(error: KeyError) -> Ask {
+    Ask::Reject {
+        key: 3,
+        timeout: 1,
+        error,
+        ring: 0,
+    }
+}
+
+fn request(alloc: Global, callout: Option<Callout>, destination: i32) -> Result<Ask, Fail> {
+    Ok(Ask::Request {
+        typ: TypeName::new(alloc, b"user")?,
+        description: Description::new(alloc, b"a")?,
+        callout,
+        destination,
+    })
+}
+
+/// Asks that hold names.
+fn named_asks(alloc: Global) -> Result<Vec<(&'static str, Ask)>, Fail> {
+    let told = Callout::new(alloc, b"x")?;
+    let empty = Callout::new(alloc, b"")?;
+    let instantiate = Ask::Instantiate {
+        key: 3,
+        payload: Payload::new(b"hi".to_vec(alloc)?)?,
+        ring: 0,
+    };
+    let add = Ask::Add {
+        typ: TypeName::new(alloc, b"user")?,
+        description: Description::new(alloc, b"a")?,
+        payload: Payload::new(b"hi".to_vec(alloc)?)?,
+        ring: 4,
+    };
+    let asks = vec![in alloc;
+        (
+            "020004757365720001610100017800000000",
+            request(alloc, Some(told), 0)?
+        ),
+        ("0200047573657200016100fffffffc", request(alloc, None, -4)?),
+        (
+            "02000475736572000161010000fffffff8",
+            request(alloc, Some(empty), -8)?
+        ),
+        ("04000000030002686900000000", instantiate),
+        ("0f0004757365720001610002686900000004", add),
+    ]?;
+    Ok(asks)
+}
+
+/// Reads and writes the body as the ask, and finds that no shorter and no longer one is read.
+fn goes_both_ways(rt: &impl Abort, alloc: Global, hex: &str, ask: &Ask) -> Result<(), Fail> {
+    let body = bytes_of(alloc, hex)?;
+    let read = Ask::read(alloc, &body)?;
+    assert_eq!(rt;
+        format!(in alloc; "{read:?}")?,
+        format!(in alloc; "{ask:?}")?,
+        "{hex} is read"
+    );
+    assert_eq!(rt; ask.write(alloc)?, body, "{hex} is written");
+    assert_eq!(rt; ask.body_len(), body.len(), "{hex} has its length");
+    let mut longer = bytes_of(alloc, hex)?;
+    ask.write_into(&mut longer)?;
+    assert_eq!(rt;
+        longer,
+        bytes_of(alloc, &format!(in alloc; "{hex}{hex}")?)?,
+        "{hex} is appended"
+    );
+    for len in 0..body.len() {
+        assert_eq!(rt;
+            Ask::read(alloc, &body[..len]).err(),
+            Some(ReadError::Fault(Fault::Short)),
+            "{hex} cut at {len}"
+        );
+    }
+    longer.truncate(body.len() + 1);
+    assert_eq!(rt;
+        Ask::read(alloc, &longer).err(),
+        Some(ReadError::Fault(Fault::Trailing)),
+        "{hex} and a byte"
+    );
+    Ok(())
+}
+
+#[test]
+fn asks_go_both_ways(rt: HostRuntime) -> Result<(), Fail> {
+    asks_have_one_reading();
+    for (hex, ask) in &plain_asks(rt.alloc())? {
+        goes_both_ways(&rt, rt.alloc(), hex, ask)?;
+    }
+    for (hex, ask) in &named_asks(rt.alloc())? {
+        goes_both_ways(&rt, rt.alloc(), hex, ask)?;
+    }
+    Ok(())
+}
+
+fn reply_of(alloc: Global, bytes: &[u8]) -> Result<Reply, Fail> {
+    Ok(Reply::Bytes(ReplyBytes::new(bytes.to_vec(alloc)?).ok_or("too many bytes")?))
+}
+
+fn replies(alloc: Global) -> Result<Vec<(&'static str, Reply)>, Fail> {
+    let rings = Reply::Rings {
+        thread: 0,
+        process: 0,
+        session: 1,
+        user: 2,
+    };
+    let replies = vec![in alloc;
+        ("0000000003", Reply::Number(3)),
+        ("00ffffffff", Reply::Number(u32::MAX)),
+        ("0100026869", reply_of(alloc, b"hi")?),
+        ("010000", reply_of(alloc, b"")?),
+        ("0200000000000000000000000100000002", rings),
+        ("0316", Reply::Refused(Errno::Einval)),
+        ("037e", Reply::Refused(Errno::Enokey)),
+    ]?;
+    Ok(replies)
+}
+
+#[test]
+fn replies_go_both_ways(rt: HostRuntime) -> Result<(), Fail> {
+    replies_have_one_reading();
+    let alloc = rt.alloc();
+    for (hex, reply) in &replies(alloc)? {
+        let body = bytes_of(alloc, hex)?;
+        let read = Reply::read(alloc, &body)?;
+        assert_eq!(rt;
+            format!(in alloc; "{read:?}")?,
+            format!(in alloc; "{reply:?}")?,
+            "{hex} is read"
+        );
+        assert_eq!(rt; reply.write(alloc)?, body, "{hex} is written");
+        assert_eq!(rt; reply.body_len(), body.len(), "{hex} has its length");
+        let mut longer = bytes_of(alloc, hex)?;
+        reply.write_into(&mut longer)?;
+        assert_eq!(rt;
+            longer,
+            bytes_of(alloc, &format!(in alloc; "{hex}{hex}")?)?,
+            "{hex} is appended"
+        );
+        for len in 0..body.len() {
+            assert_eq!(rt;
+                Reply::read(alloc, &body[..len]).err(),
+                Some(ReadError::Fault(Fault::Short)),
+                "{hex} cut at {len}"
+            );
+        }
+        longer.truncate(body.len() + 1);
+        assert_eq!(rt;
+            Reply::read(alloc, &longer).err(),
+            Some(ReadError::Fault(Fault::Trailing)),
+            "{hex} and a byte"
+        );
+    }
+    Ok(())
+}
+
+#[test]
+fn refusals_take_no_memory(rt: HostRuntime) -> Result<(), Fail> {
+    let numbers = [
+        (Errno::Eperm, 1),
+        (Errno::Enoent, 2),
+        (Errno::Enomem, 12),
+        (Errno::Eacces, 13),
+        (Errno::Ebusy, 16),
+        (Errno::Einval, 22),
+        (Errno::Edeadlk, 35),
+        (Errno::Edquot, 122),
+        (Errno::Enokey, 126),
+        (Errno::Ekeyexpired, 127),
+        (Errno::Ekeyrevoked, 128),
+        (Errno::Ekeyrejected, 129),
+    ];
+    for (errno, number) in numbers {
+        assert_eq!(rt; Reply::refusal(errno), [3, number]);
+        assert!(rt;
+            matches!(Reply::read(rt.alloc(), &[3, number])?, Reply::Refused(read) if read == errno)
+        );
+    }
+    Ok(())
+}
+
+#[test]
+fn bodies_have_a_leftmost_fault(rt: HostRuntime) -> Result<(), Fail> {
+    let asks = [
+        ("", Fault::Short),
+        ("00", Fault::UnknownOp),
+        ("11", Fault::UnknownOp),
+        ("ff", Fault::UnknownOp),
+        ("07", Fault::Short),
+        ("070000000300", Fault::Trailing),
+        ("1000", Fault::Trailing),
+        // a context that can't be: flags above 3, then a ring above the greatest serial
+        ("01000003e8000003e804", INVALID),
+        ("01000003e8000003e80080000000", INVALID),
+        // types: empty, a dot, a dot and no text, a zero byte, no UTF-8, cut short
+        ("020000", INVALID),
+        ("0200022e61", Fault::Bad(Errno::Eperm)),
+        ("0200022eff", Fault::Bad(Errno::Eperm)),
+        ("02000100", INVALID),
+        ("020001ff", INVALID),
+        ("0200047573", Fault::Short),
+        // an empty description, a zero byte in one, no callout and none absent, a zero byte in one
+        ("0200047573657200000200", INVALID),
+        ("02000475736572000100", INVALID),
+        ("0200047573657200016102", INVALID),
+        ("0200047573657200016101000100", INVALID),
+        // an empty payload, errors below and above those of keys
+        ("04000000030000", INVALID),
+        ("0600000003000000010000007d", INVALID),
+        ("06000000030000000100000082", INVALID),
+    ];
+    for (hex, fault) in asks {
+        let body = bytes_of(rt.alloc(), hex)?;
+        assert_eq!(rt;
+            Ask::read(rt.alloc(), &body).err(),
+            Some(ReadError::Fault(fault)),
+            "{hex}"
+        );
+    }
+    let replies = [
+        ("", Fault::Short),
+        ("04", Fault::UnknownOp),
+        ("0300", INVALID),
+        ("0303", INVALID),
+        ("01fffe", Fault::Short),
+    ];
+    for (hex, fault) in replies {
+        let body = bytes_of(rt.alloc(), hex)?;
+        assert_eq!(rt;
+            Reply::read(rt.alloc(), &body).err(),
+            Some(ReadError::Fault(fault)),
+            "{hex}"
+        );
+    }
+    Ok(())
+}
+
+/// The body that begins so and goes on with so many letters.
+fn lettered(alloc: Global, front: &str, count: usize) -> Result<Vec<u8>, Fail> {
+    let mut body = bytes_of(alloc, front)?;
+    let letters = vec![in alloc; b'a'; count]?;
+    body.extend_from_slice(&letters)?;
+    Ok(body)
+}
+
+#[test]
+fn lengths_have_limits(rt: HostRuntime) -> Result<(), Fail> {
+    let alloc = rt.alloc();
+    let cases = [
+        // a type of 31 and of 32 letters, a dot and 31 letters
+        ("02001f", 31, Fault::Short),
+        ("020020", 32, INVALID),
+        ("0200202e", 31, INVALID),
+        // a description of 4,095 and of 4,096, a callout of 4,095 and of 4,096
+        ("020004757365720fff", 4095, Fault::Short),
+        ("020004757365721000", 4096, INVALID),
+        ("02000475736572000161010fff", 4095, Fault::Short),
+        ("02000475736572000161011000", 4096, INVALID),
+        // a payload of 32,767 and of 32,768
+        ("04000000037fff", 32_767, Fault::Short),
+        ("04000000038000", 32_768, INVALID),
+    ];
+    for (front, count, fault) in cases {
+        let body = lettered(alloc, front, count)?;
+        assert_eq!(rt;
+            Ask::read(alloc, &body).err(),
+            Some(ReadError::Fault(fault)),
+            "{front} and {count} letters"
+        );
+    }
+    let longest = lettered(alloc, "01fffd", 65_533)?;
+    assert_eq!(rt; longest.len(), 65_536);
+    assert_eq!(rt; Reply::read(alloc, &longest)?.write(alloc)?, longest);
+    let longer = lettered(alloc, "01fffe", 65_534)?;
+    assert_eq!(rt;
+        Reply::read(alloc, &longer).err(),
+        Some(ReadError::Fault(INVALID))
+    );
+    Ok(())
+}
+
+#[test]
+fn bytes_are_moved(rt: HostRuntime) -> Result<(), Fail> {
+    let bytes = ReplyBytes::new(lettered(rt.alloc(), "", 65_533)?).ok_or("too many bytes")?;
+    assert_eq!(rt; bytes.as_bytes().len(), 65_533);
+    assert_eq!(rt; bytes.into_vec(), lettered(rt.alloc(), "", 65_533)?);
+    assert!(rt; ReplyBytes::new(lettered(rt.alloc(), "", 65_534)?).is_none());
+    Ok(())
+}
+
+#[test]
+fn asks_have_names(rt: HostRuntime) -> Result<(), Fail> {
+    let mut names = String::new(rt.alloc());
+    for (_, ask) in &plain_asks(rt.alloc())? {
+        names.push_str(ask.name())?;
+        names.push(' ')?;
+    }
+    let plain =
+        "HELLO HELLO HELLO HELLO ASSUME NEGATE REJECT REJECT REJECT REJECT READ DESCRIBE REVOKE TIMEOUT LINK UNLINK CLEAR DEFAULT CALLOUT ";
+    assert_eq!(rt; names.as_str(), plain);
+    Ok(())
+}
+
+#[test]
+fn faults_are_answered(rt: HostRuntime) -> Result<(), Fail> {
+    let cases = [
+        (
+            ReadError::Fault(Fault::UnknownOp),
+            Errno::Einval,
+            "the first byte names no message",
+        ),
+        (
+            ReadError::Fault(Fault::Short),
+            Errno::Einval,
+            "the body is too short",
+        ),
+        (
+            ReadError::Fault(Fault::Trailing),
+            Errno::Einval,
+            "bytes are left after the last field",
+        ),
+        (
+            ReadError::Fault(Fault::Bad(Errno::Eperm)),
+            Errno::Eperm,
+            "a field is bad: EPERM",
+        ),
+        (ReadError::NoMemory, Errno::Enomem, "out of memory"),
+    ];
+    for (error, errno, text) in cases {
+        assert_eq!(rt; error.errno(), errno);
+        assert_eq!(rt; format!(in rt.alloc(); "{error}")?.as_str(), text);
+    }
+    assert_eq!(rt; Fault::Bad(Errno::Eperm).errno(), Errno::Eperm);
+    Ok(())
+}
+
+/// Whichever allocation is refused, a body is read as what it spells or wants memory, and nothing is written by halves.
+#[test]
+fn memory_may_be_refused(rt: HostRuntime) -> Result<(), Fail> {
+    let alloc = rt.alloc();
+    for body in [
+        b"\x02\0\x04user\0\x01a\x01\0\x01x\0\0\0\0".as_slice(),
+        b"\x0f\0\x04user\0\x01a\0\x02hi\0\0\0\x04",
+    ] {
+        match Ask::read(alloc, body) {
+            Ok(ask) => {
+                let mut out = Vec::new(alloc);
+                match ask.write_into(&mut out) {
+                    Ok(()) => assert_eq!(rt; out.as_slice(), body),
+                    Err(AllocError) => assert!(rt; out.is_empty()),
+                }
+            }
+            Err(error) => assert_eq!(rt; error, ReadError::NoMemory),
+        }
+    }
+    let body = b"\x01\0\x02hi".as_slice();
+    match Reply::read(alloc, body) {
+        Ok(reply) => {
+            if let Ok(bytes) = reply.write(alloc) {
+                assert_eq!(rt; bytes.as_slice(), body);
+            }
+        }
+        Err(error) => assert_eq!(rt; error, ReadError::NoMemory),
+    }
+    let bad = Ask::read(alloc, b"\x02\0\x04user\0\x01a\x01\0\x01x\0\0\0\0\0");
+    assert_eq!(rt; bad.err(), Some(ReadError::Fault(Fault::Trailing)));
+    Ok(())
+}
