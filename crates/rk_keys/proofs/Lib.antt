@@ -1,0 +1,6 @@
+pub mod Drawing
+pub mod Drawn
+pub mod Names
+pub mod Held
+pub mod Refused
+pub mod Counts

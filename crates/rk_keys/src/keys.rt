@@ -1,0 +1,223 @@
+//! The keys by their serials.
+ghost use Rattle.std.specs.Prelude.{◌≡◌, ◌≤◌, ◌+◌, ◌↔◌, ◌⊎◌, ℕ, true, false, Some, None, Ok, Err, IsOk, OnOk, OnErr, IfOk, IfErr, IfSome, MatchOption, MatchResult, option_map, is_some};
+ghost use Rattle.std.specs.Bool.{MatchBool};
+ghost use Rattle.std.specs.Option.{option_copied};
+ghost use Rattle.std.specs.FinMap as map;
+ghost use Rattle.std.specs.FinSet as set;
+ghost use Rattle.rk_table.specs.Says.{Says};
+ghost use Rattle.rk_keys.specs.Key.{standing_of, is_revoked, has_name, key_passes};
+ghost use Rattle.rk_keys.specs.Serials.{HasSerials, IsFresh, IsNext, Extends, with_drawn};
+ghost use Rattle.rk_keys.specs.Known.{Known, IsNaming, IsRefused, Makes, has_all_keys, new_key, concluded, marked, timed, with_key_changed, without_key};
+ghost use Rattle.rk_keys.specs.Names.{IsNumberFor};
+ghost use Rattle.rk_keys.specs.Faults.{use_fault, change_fault};
+
+use crate::changes::{Conclude, Mark, Time};
+use crate::fault::KeyFault;
+use crate::key::{Condition, Key, Standing};
+use crate::naming::number_of;
+use crate::serials::Serials;
+use crate::sought::OwnedBy;
+use rk_names::{Description, KeyError, Moment, NameNo, Payload, Serial, TypeName};
+use rk_table::Table;
+use std::alloc::{AllocError, Global};
+use std::marker::Model;
+
+/// All keys, and the serials of keys and rings. None but `new` and `make` takes memory. What asks for a key,
+/// a name or a user looks through the keys held, so it takes time in proportion to them; `left`,
+/// `draw`, `serials` and `set_serials` take the same time always.
+#[derive(Drop)]
+pub struct Keys {
+    facts: Table<Key>,
+    /// The number of each key's name.
+    numbers: Table<NameNo>,
+    serials: Serials,
+}
+
+impl Model for Keys {
+    ghost use Rattle.rk_keys.specs.Known.{Known, known_code, IsHeld};
+
+    ghost Value = { Known };
+
+    ghost coded = { known_code };
+
+    ghost view = { λ a. record { keys = a.facts.facts; numbers = a.numbers.facts; serials = a.serials } };
+
+    ghost invariant = { λ a. IsHeld (record { keys = a.facts.facts; numbers = a.numbers.facts; serials = a.serials }) };
+}
+
+impl Keys {
+    /// The most keys of one user (keyrings(7), `/proc/sys/kernel/keys/maxkeys`).
+    pub const MAX_PER_USER: usize = 200;
+
+    /// No key, and the serials `first`, `first + stride`, `first + 2 * stride` .., none of them drawn.
+    /// Room is made for the keys of one user.
+    pub fn new(alloc: Global, first: Serial, stride: u32) -> Result<Keys, AllocError>
+        requires { 1 ≤ stride }
+        ensures { IfOk result (λ keys. keys ≡ record { keys = map.empty; numbers = map.empty; serials = record { first = first; stride = stride; used = set.empty } }) }
+    {
+        Ok(Keys {
+            facts: Table::with_room(alloc, Keys::MAX_PER_USER)?,
+            numbers: Table::with_room(alloc, Keys::MAX_PER_USER)?,
+            serials: Serials::new(first, stride),
+        })
+    }
+
+    /// What is known of a key; `None` where there is none of that serial.
+    pub fn fact(&self, key: Serial) -> Option<&Key>
+        ensures { option_copied result ≡ map.get self.now.keys key }
+    {
+        self.facts.get(key.get())
+    }
+
+    /// What the key is at this moment; `None` where there is none of that serial.
+    pub fn state_at(&self, key: Serial, now: Moment) -> Option<Standing>
+        ensures { result ≡ option_map (λ k. standing_of k now) (map.get self.now.keys key) }
+    {
+        Some(self.fact(key)?.standing(now))
+    }
+
+    /// The payload of a key that stands Positive. `Busy` where it stands Building; `Own` with its
+    /// error where it stands Revoked, Expired or Negative (request_key(2), "ERRORS").
+    pub fn payload(&self, key: Serial, now: Moment) -> Result<&Payload, KeyFault>
+        requires { map.contains_key self.now.keys key ≡ true }
+        ensures { IfSome (map.get self.now.keys key) (λ k. MatchResult result (λ payload. (k.condition ≡ Condition.Positive payload.now) × (use_fault k now ≡ None)) (λ fault. use_fault k now ≡ Some fault)) }
+    {
+        match self.fact(key) {
+            Some(fact) => fact.payload(now),
+            None => unreachable!(),
+        }
+    }
+
+    /// The number of the name: live keys share one exactly where their type and description are
+    /// equal. `None` where no live key has that name.
+    pub fn name(&self, typ: &TypeName, description: &Description) -> Option<NameNo>
+        ensures naming { IsNaming self.now.keys self.now.numbers }
+        ensures none { result ≡ None → (k : ℕ) → has_name self.now.keys k typ.now description.now ≡ false }
+        ensures some { IfSome result (λ n. (k : ℕ) × (has_name self.now.keys k typ.now description.now ≡ true) × (map.get self.now.numbers k ≡ Some n)) }
+    {
+        number_of(&self.facts, &self.numbers, typ, description)
+    }
+
+    /// The number of the key's name; `None` where there is no key of that serial.
+    pub fn number(&self, key: Serial) -> Option<NameNo>
+        ensures naming { IsNaming self.now.keys self.now.numbers }
+        ensures number { result ≡ map.get self.now.numbers key }
+    {
+        self.numbers.get(key.get()).copied()
+    }
+
+    /// Whether this user has its 200 keys.
+    pub fn is_full(&self, owner: u32) -> bool
+        ensures { result ≡ has_all_keys self.now.keys owner }
+    {
+        self.facts.count(&OwnedBy { owner }) >= Keys::MAX_PER_USER
+    }
+
+    /// Whether so many serials are left.
+    pub fn left(&self, count: u32) -> bool
+        ensures { Says result (HasSerials self.now.serials count) }
+    {
+        self.serials.left(count)
+    }
+
+    /// Draws the least unused serial, for a ring. `None` exactly where none is left, and then nothing
+    /// changes.
+    pub fn draw(&mut self) -> Option<Serial>
+        ensures cases { MatchOption result (¬ (HasSerials self.old.serials 1) × (self.new ≡ self.old)) (λ k. IsNext self.old.serials k × (self.new ≡ record self.old { serials = with_drawn k self.old.serials })) }
+        ensures fresh { IfSome result (IsFresh self.old.serials) }
+        ensures left { (n : ℕ) → HasSerials self.old.serials (n + 1) → HasSerials self.new.serials n }
+    {
+        self.serials.draw()
+    }
+
+    /// The serials as they stand, to draw from beside these.
+    pub fn serials(&self) -> Serials
+        ensures { result ≡ self.now.serials }
+    {
+        self.serials
+    }
+
+    /// Goes on with serials that were drawn from beside these.
+    pub fn set_serials(&mut self, serials: Serials)
+        requires { Extends self.old.serials serials }
+        ensures { self.new ≡ record self.old { serials = serials } }
+    {
+        self.serials = serials;
+    }
+
+    /// Makes a key of this user under the least unused serial, without expiry: under construction, or
+    /// with a payload. Its name has the number of the live keys of that name, else its own serial.
+    /// Refusals: `Quota` exactly where the user has 200 keys or no serial is left (add_key(2), EDQUOT); else
+    /// `NoMemory`. A refusal changes nothing, and draws no serial.
+    pub fn make(
+        &mut self,
+        typ: TypeName,
+        description: Description,
+        owner: u32,
+        payload: Option<Payload>,
+    ) -> Result<Serial, KeyFault>
+        ensures ok { IfOk result (λ k. IsNext self.old.serials k × Makes self.old k (new_key typ description owner payload) self.new) }
+        ensures number { IfOk result (λ k. IsNumberFor self.old typ description k (map.get self.new.numbers k)) }
+        ensures fresh { IfOk result (IsFresh self.old.serials) }
+        ensures err { OnErr result (self.new ≡ self.old) }
+        ensures quota { (result ≡ Err KeyFault.Quota) ↔ IsRefused self.old owner }
+        ensures others { IfErr result (λ fault. (fault ≡ KeyFault.Quota) ⊎ (fault ≡ KeyFault.NoMemory)) }
+    {
+        let mut drawn = self.serials;
+        if self.is_full(owner) {
+            return Err(KeyFault::Quota);
+        }
+        let Some(serial) = drawn.draw() else {
+            return Err(KeyFault::Quota);
+        };
+        self.facts.reserve(1)?;
+        self.numbers.reserve(1)?;
+        let shared = number_of(&self.facts, &self.numbers, &typ, &description);
+        let number = shared.unwrap_or(NameNo(serial.get()));
+        self.numbers.insert(serial.get(), number);
+        self.facts
+            .insert(serial.get(), Key::new(typ, description, owner, payload));
+        self.serials = drawn;
+        Ok(serial)
+    }
+
+    /// Gives the key its condition, and an expiry where one is given; else the one that it has stays
+    /// (keyctl_instantiate(3), keyctl_reject(3)). Of a serial that no key has nothing changes.
+    pub fn complete(&mut self, key: Serial, condition: Condition, expiry: Option<Moment>)
+        ensures { self.new ≡ with_key_changed key (concluded condition expiry) self.old }
+    {
+        self.facts.change(key.get(), Conclude { condition, expiry });
+    }
+
+    /// Marks the key as revoked (keyctl_revoke(3)). `Own(Revoked)` exactly where it is marked already,
+    /// and then nothing changes.
+    pub fn revoke(&mut self, key: Serial) -> Result<(), KeyFault>
+        ensures { MatchBool (key_passes self.old.keys key is_revoked) ((result ≡ Err (KeyFault.Own KeyError.Revoked)) × (self.new ≡ self.old)) (IsOk result × (self.new ≡ with_key_changed key marked self.old)) }
+    {
+        if self.fact(key).is_some_and(|fact| fact.revoked) {
+            return Err(KeyFault::Own(KeyError::Revoked));
+        }
+        self.facts.change(key.get(), Mark);
+        Ok(())
+    }
+
+    /// Lets the key expire so many seconds from now, or never for 0 (keyctl_set_timeout(3)). `Own` with
+    /// its error exactly where it stands Revoked or Expired, and then nothing changes.
+    pub fn set_expiry(&mut self, key: Serial, now: Moment, seconds: u32) -> Result<(), KeyFault>
+        ensures { MatchOption (change_fault self.old.keys key now) (IsOk result × (self.new ≡ with_key_changed key (timed now seconds) self.old)) (λ fault. (result ≡ Err fault) × (self.new ≡ self.old)) }
+    {
+        if let Some(error) = self.state_at(key, now).and_then(Standing::over) {
+            return Err(KeyFault::Own(error));
+        }
+        self.facts.change(key.get(), Time { now, seconds });
+        Ok(())
+    }
+
+    /// Forgets a key, where there is one. Its serial stays drawn.
+    pub fn forget(&mut self, key: Serial)
+        ensures { self.new ≡ without_key key self.old }
+    {
+        self.facts.remove(key.get());
+        self.numbers.remove(key.get());
+    }
+}

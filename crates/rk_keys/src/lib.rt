@@ -1,0 +1,47 @@
+//! The keys of a request_key daemon: what is known of each, the serials, and the numbers of names.
+//!
+//! # Purpose
+//!
+//! [`Keys`] holds what the daemon knows of every key: its type and description, the user to whose
+//! quota it counts, whether it is under construction, positive or negative, its mark of revocation and its
+//! expiry (keyrings(7)). It draws the serials of keys, and of rings too, so that none is used twice.
+//!
+//! # What it promises
+//!
+//! Its clauses speak of one value: a finite map from serials to keys, a finite map from serials to numbers of
+//! names, and the set of serials that were drawn. Each call is one change of that value. A serial
+//! is never given again, also when its key is forgotten. Live keys share the number of a name exactly where
+//! their type and description are equal, so a ring can tell names apart without reading them. A refused call
+//! changes nothing. Only `new` and `make` take memory, and room for the keys of one user is made
+//! by `new`.
+//!
+//! # An example
+//!
+//! `Keys::new(alloc, first, 1)` with the serial 1 for `first` holds no key. `make` for the type `user` and the
+//! description `mail` answers 1, and the key stands Building; `complete` with a payload makes it
+//! Positive; `set_expiry` of 10 seconds at the moment 100 lets it stand Positive at 109 and Expired at 110; `revoke`
+//! makes it Revoked for good. After `forget` nothing is known of it, and the next key is 2.
+//!
+//! # How it is built
+//!
+//! `key` has one key and what it is at a moment, `serials` the serials, `fault` the refusals. `keys` puts two
+//! tables and the serials together; `sought` has the keys that are looked for, `naming` the
+//! look-up of a name's number, `changes` what happens to one key. Where the specifications speak of a key in few words,
+//! as `standing_of`, they stand in `specs/Key.antt`; of all keys in `specs/Known.antt`.
+#![tactic(auto)]
+
+mod changes;
+mod fault;
+mod key;
+mod keys;
+mod naming;
+mod serials;
+mod sought;
+
+pub use fault::KeyFault;
+pub use key::{Condition, Key, Standing};
+pub use keys::Keys;
+pub use serials::Serials;
+
+#[cfg(test)]
+mod tests;

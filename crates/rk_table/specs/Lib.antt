@@ -1,0 +1,4 @@
+pub mod Maps
+pub mod Entries
+pub mod Stored
+pub mod Says

@@ -1,0 +1,234 @@
+//! The table itself, and the changes and tests that its methods take.
+ghost use Rattle.std.specs.Prelude.{◌≡◌, ◌≤◌, ◌<◌, ◌-◌, ◌==◌, filter, position, map as list_map, None, OnOk, OnErr, IfOk, IsOk, option_map, count_by, find as list_find, MatchOption, false, true, vec_len, vec_capacity};
+ghost use Rattle.std.specs.Ordering.{nat_cmp};
+ghost use Rattle.std.specs.Option.{option_copied, option_map_or};
+ghost use Rattle.std.specs.List.{list_any};
+ghost use Rattle.std.specs.FinMap as map;
+ghost use Rattle.rk_table.specs.Entries.{HasEachOnce};
+ghost use Rattle.rk_table.specs.Maps.{changed_at, changed_all, kept_where};
+ghost use Rattle.rk_table.specs.Stored.{Stored, stored_code, places};
+
+use std::alloc::{AllocError, Global};
+use std::marker::Model;
+
+/// A change of one value in its place, which is used up.
+pub trait ChangeOnce<V> {
+    ghost changed: { Self → V → V };
+
+    /// Changes the value.
+    fn change(self, value: &mut V)
+        ensures { value.new ≡ changed self value.old };
+}
+
+/// A change of each value in its place.
+pub trait Change<V> {
+    ghost changed: { Self → V → V };
+
+    /// Changes the value.
+    fn change(&self, value: &mut V)
+        ensures { value.new ≡ changed self.now value.old };
+}
+
+/// A test of entries.
+pub trait Test<V> {
+    ghost use Rattle.std.specs.Prelude.{ℕ, Bool};
+
+    ghost passes: { Self → ℕ → V → Bool };
+
+    /// Whether the entry passes.
+    fn passes(&self, key: u32, value: &V) -> bool
+        ensures { result ≡ passes self.now key value.now };
+}
+
+/// A finite map from numbers to values, with places that were reserved.
+#[derive(Drop)]
+pub struct Table<V> {
+    entries: Vec<(u32, V)>,
+}
+
+impl<V> Model for Table<V> {
+    ghost Value = { Stored V };
+
+    ghost coded = { stored_code V.code };
+
+    ghost view = { λ a. record { facts = map.from_entries a.entries.items; room = vec_capacity a.entries - vec_len a.entries } };
+
+    ghost invariant = { λ a. HasEachOnce a.entries.items };
+}
+
+impl<V> Table<V> {
+    /// An empty table with no room. It takes no memory.
+    pub fn new(alloc: Global) -> Self
+        ensures { result.facts ≡ map.empty }
+    {
+        Table {
+            entries: Vec::new(alloc),
+        }
+    }
+
+    /// An empty table with room for so many entries.
+    pub fn with_room(alloc: Global, room: usize) -> Result<Self, AllocError>
+        ensures empty { IfOk result (λ t. t.facts ≡ map.empty) }
+        ensures len { IfOk result (λ t. map.len t.facts ≡ 0) }
+        ensures room { IfOk result (λ t. t.room ≡ room) }
+    {
+        Ok(Table {
+            entries: Vec::with_capacity(alloc, room)?,
+        })
+    }
+
+    /// Makes room for so many more entries. The facts stay; an `Err` changes nothing.
+    pub fn reserve(&mut self, more: usize) -> Result<(), AllocError>
+        ensures facts { self.new.facts ≡ self.old.facts }
+        ensures ok { OnOk result (more ≤ self.new.room) }
+        ensures err { OnErr result (self.new ≡ self.old) }
+        ensures grows { self.old.room ≤ self.new.room }
+        ensures succeeds { more ≤ self.old.room → IsOk result }
+    {
+        self.entries.reserve(more)
+    }
+
+    /// The value at the key.
+    pub fn get(&self, key: u32) -> Option<&V>
+        ensures { option_copied result ≡ map.get self.now.facts key }
+    {
+        for entry in &self.entries {
+            if entry.0 == key {
+                return Some(&entry.1);
+            }
+        }
+        None
+    }
+
+    /// Whether there is a value at the key.
+    pub fn contains(&self, key: u32) -> bool
+        ensures { result ≡ map.contains_key self.now.facts key }
+    {
+        self.get(key).is_some()
+    }
+
+    /// How many entries there are.
+    pub fn len(&self) -> usize
+        ensures { result ≡ map.len self.now.facts }
+    {
+        self.entries.len()
+    }
+
+    /// Whether some entry passes the test.
+    pub fn any<T: Test<V>>(&self, test: &T) -> bool
+        ensures { result ≡ list_any (λ e. T.passes test.now e.0 e.1) (map.entries self.now.facts) }
+    {
+        any_entry(&self.entries, test)
+    }
+
+    /// How many entries pass the test.
+    pub fn count<T: Test<V>>(&self, test: &T) -> usize
+        ensures { result ≡ map.len (kept_where (T.passes test.now) self.now.facts) }
+    {
+        count_entries(&self.entries, test)
+    }
+
+    /// The key of an entry that passes the test; `None` where none does.
+    pub fn find<T: Test<V>>(&self, test: &T) -> Option<u32>
+        ensures { MatchOption result (list_any (λ e. T.passes test.now e.0 e.1) (map.entries self.now.facts) ≡ false) (λ k. (option_map_or (T.passes test.now k) (map.get self.now.facts k) false ≡ true) × (list_any (λ e. T.passes test.now e.0 e.1) (map.entries self.now.facts) ≡ true)) }
+    {
+        find_entry(&self.entries, test)
+    }
+
+    /// Puts in a value at a new key, in a place that was reserved. It takes no memory.
+    pub fn insert(&mut self, key: u32, value: V)
+        requires new { map.get self.old.facts key ≡ None }
+        requires room { 0 < self.old.room }
+        ensures facts { self.new.facts ≡ map.insert self.old.facts key value }
+        ensures places { places self.new ≡ places self.old }
+        ensures room { self.new.room ≡ self.old.room - 1 }
+    {
+        self.entries.push_reserved((key, value));
+    }
+
+    /// Changes the value at a key, if it has one. It takes no memory.
+    pub fn change<C: ChangeOnce<V> + Drop>(&mut self, key: u32, change: C)
+        ensures facts { self.new.facts ≡ changed_at key (C.changed change) self.old.facts }
+        ensures places { places self.new ≡ places self.old }
+        ensures room { self.new.room ≡ self.old.room }
+    {
+        if let Some(i) = place_of(&self.entries, key) {
+            change.change(&mut self.entries[i].1);
+        }
+    }
+
+    /// Changes each value. It takes no memory.
+    pub fn change_all<C: Change<V>>(&mut self, change: &C)
+        ensures facts { self.new.facts ≡ changed_all (C.changed change.now) self.old.facts }
+        ensures places { places self.new ≡ places self.old }
+        ensures room { self.new.room ≡ self.old.room }
+    {
+        change_each(&mut self.entries, change);
+    }
+}
+
+impl<V: Drop> Table<V> {
+    /// Keeps the entries that pass the test. The places of the others are free.
+    pub fn retain<T: Test<V>>(&mut self, test: &T)
+        ensures facts { self.new.facts ≡ kept_where (T.passes test.now) self.old.facts }
+        ensures room { self.old.room ≤ self.new.room }
+        ensures places { places self.new ≡ places self.old }
+    {
+        retain_entries(&mut self.entries, test);
+    }
+
+    /// Takes out the value at a key, if it has one. Its place is free.
+    pub fn remove(&mut self, key: u32)
+        ensures facts { self.new.facts ≡ map.remove self.old.facts key }
+        ensures room { self.old.room ≤ self.new.room }
+        ensures places { places self.new ≡ places self.old }
+    {
+        self.entries.retain(|entry| entry.0 != key);
+    }
+}
+
+fn place_of<V>(entries: &[(u32, V)], key: u32) -> Option<usize>
+    ensures { result ≡ position (λ e. e.0 == key) entries.now }
+{
+    entries.iter().position(|entry| entry.0 == key)
+}
+
+fn change_each<V, C: Change<V>>(entries: &mut [(u32, V)], change: &C)
+    ensures { entries.new ≡ list_map (λ e. (e.0, C.changed change.now e.1)) entries.old }
+{
+    for entry in entries.iter_mut() {
+        change.change(&mut entry.1);
+    }
+}
+
+fn retain_entries<V: Drop, T: Test<V>>(entries: &mut Vec<(u32, V)>, test: &T)
+    ensures items { entries.new.items ≡ filter (λ e. T.passes test.now e.0 e.1) entries.old.items }
+    ensures len { vec_len entries.new ≤ vec_len entries.old }
+    ensures capacity { vec_capacity entries.new ≡ vec_capacity entries.old }
+{
+    entries.retain(|entry| test.passes(entry.0, &entry.1));
+}
+
+fn any_entry<V, T: Test<V>>(entries: &[(u32, V)], test: &T) -> bool
+    ensures { result ≡ list_any (λ e. T.passes test.now e.0 e.1) entries.now }
+{
+    entries.iter().any(|entry| test.passes(entry.0, &entry.1))
+}
+
+fn count_entries<V, T: Test<V>>(entries: &[(u32, V)], test: &T) -> usize
+    ensures { result ≡ count_by (λ e. T.passes test.now e.0 e.1) entries.now }
+{
+    entries
+        .iter()
+        .filter(|entry| test.passes(entry.0, &entry.1))
+        .count()
+}
+
+fn find_entry<V, T: Test<V>>(entries: &[(u32, V)], test: &T) -> Option<u32>
+    ensures { result ≡ option_map (λ e. e.0) (list_find (λ e. T.passes test.now e.0 e.1) entries.now) }
+{
+    entries
+        .iter()
+        .find(|entry| test.passes(entry.0, &entry.1))
+        .map(|entry| entry.0)
+}
