@@ -1,0 +1,15 @@
+use Rattle.std.proofs.Common.{lit<, sym, ◌∙◌}
+use Rattle.rk_conf.proofs.Cuts.{from_place}
+use Rattle.rk_conf.proofs.Macros.{argument-macro, argument-literal, after_byte}
+use Rattle.rk_conf.proofs.told.Told.read.Goals as goal
+
+pub returns-then-begins_with-clause-told : goal.returns-then-begins_with-clause-told
+returns-then-begins_with-clause-told c =
+    rw (argument-macro c.args.field.now (sym c.begins_with.ensures ∙ c.if-begins_with.true), ← from_place c.args.field.now 1) c.macro_told.ensures.told
+
+pub returns-then-begins_with-clause-text : goal.returns-then-begins_with-clause-text
+returns-then-begins_with-clause-text c t =
+    c.macro_told.ensures.text (rw (from_place c.args.field.now 1) (after_byte 37 c.args.field.now (lit< tt) (sym c.begins_with.ensures ∙ c.if-begins_with.true) t))
+
+pub returns-else-begins_with-clause-told : goal.returns-else-begins_with-clause-told
+returns-else-begins_with-clause-told c = sym (argument-literal c.args.field.now (sym c.begins_with.ensures ∙ c.if-begins_with.false))

@@ -1,0 +1,2 @@
+pub mod Wildcard
+pub mod Laws

@@ -1,0 +1,4 @@
+pub mod Codes
+pub mod Expansion
+pub mod Lookup
+pub mod Word
