@@ -1,0 +1,85 @@
+-- All rings, after one of them has changed.
+use Rattle.std.proofs.Common.{◌≡◌, ℕ, ◌+◌, ◌-◌, ◌≤◌, Bool, true, false, cond, refl, ap, sym, ◌∙◌, subst, arith, lit≤}
+use Rattle.std.specs.Prelude.{Option, Some, None, is_some, MatchOption}
+use Rattle.std.specs.Option.{option_map, option_map_or}
+use Rattle.std.specs.Ordering.{nat_cmp, eq_by_cmp}
+use Rattle.std.specs.Cmp.{nat_cmp_total}
+use Rattle.std.specs.FinMap.{FinMap, get, len, insert, remove, empty, contains_key, get-insert, len-insert, len-remove, len-empty}
+use Rattle.rk_table.specs.Maps.{changed_at}
+use Rattle.rk_table.proofs.Once.{FindsEntry}
+use Rattle.rk_rings.specs.Numbered.{Numbered, Rings, AreSerials, IsMatch}
+use Rattle.rk_rings.proofs.Finds.{tied, no_entry}
+use Rattle.rk_rings.proofs.Links.{serials_within, serials-remove, serials-empty}
+
+module _ {X : Type 0} where
+  changed_here : (f : X → X) (b : Bool) (v : X) (o : Option X) → (b ≡ true → o ≡ Some v) → cond b (Some (f v)) o ≡ cond b (option_map f o) o
+  changed_here f true v o h = sym (ap (option_map f) (h refl))
+  changed_here f false v o h = refl
+
+  not_here : (f : X → X) (b : Bool) (o : Option X) → (b ≡ true → o ≡ None) → o ≡ cond b (option_map f o) o
+  not_here f true o h = h refl ∙ sym (ap (option_map f) (h refl))
+  not_here f false o h = refl
+
+  pub get-changed_at : (k : ℕ) (f : X → X) (m : FinMap nat_cmp X) (q : ℕ) → get (changed_at k f m) q ≡ cond (eq_by_cmp nat_cmp q k) (option_map f (get m q)) (get m q)
+  get-changed_at k f m q =
+      elim (get m k) as (λ o. get m k ≡ o → get (option_map_or (λ v. insert m k (f v)) o m) q ≡ cond (eq_by_cmp nat_cmp q k) (option_map f (get m q)) (get m q)) [
+        | None ↦ λ e. not_here f _ (get m q) (λ t. ap (get m) (tied q k t) ∙ e)
+        | Some v ↦ λ e. get-insert nat_cmp_total m k (f v) q ∙ changed_here f _ v (get m q) (λ t. ap (get m) (tied q k t) ∙ e)
+      ] refl
+
+  mapped_there : (f : X → X) (b : Bool) (o : Option X) → is_some (cond b (option_map f o) o) ≡ is_some o
+  mapped_there f false o = refl
+  mapped_there f true None = refl
+  mapped_there f true (Some x) = refl
+
+  pub contains_key-changed_at : (k : ℕ) (f : X → X) (m : FinMap nat_cmp X) (q : ℕ) → contains_key (changed_at k f m) q ≡ contains_key m q
+  contains_key-changed_at k f m q = ap is_some (get-changed_at k f m q) ∙ mapped_there f _ (get m q)
+
+  pub len-changed_at : (k : ℕ) (f : X → X) (m : FinMap nat_cmp X) → len (changed_at k f m) ≡ len m
+  len-changed_at k f m =
+      elim (get m k) as (λ o. get m k ≡ o → len (option_map_or (λ v. insert m k (f v)) o m) ≡ len m) [
+        | None ↦ λ e. refl
+        | Some v ↦ λ e. len-insert nat_cmp_total m k (f v) ∙ ap (λ o. cond (is_some o) (len m) (len m + 1)) e
+      ] refl
+
+  -- two changes that agree on the value there
+  pub changed_alike : (k : ℕ) (f g : X → X) (m : FinMap nat_cmp X) → ((v : X) → get m k ≡ Some v → f v ≡ g v) → changed_at k f m ≡ changed_at k g m
+  changed_alike k f g m h =
+      elim (get m k) as (λ o. get m k ≡ o → option_map_or (λ v. insert m k (f v)) o m ≡ option_map_or (λ v. insert m k (g v)) o m) [
+        | None ↦ λ e. refl
+        | Some v ↦ λ e. ap (insert m k) (h v e)
+      ] refl
+
+  -- what a search by a test of values finds
+  pub by_test : (p : X → Bool) (m : FinMap nat_cmp X) (o : Option ℕ) → FindsEntry (λ k v. p v) m o
+      → MatchOption o ((k : ℕ) (v : X) → get m k ≡ Some v → p v ≡ false) (λ k. option_map_or p (get m k) false ≡ true)
+  by_test p m None h = λ k v there. elim (p v) as (λ b. p v ≡ b → b ≡ false) [ true ↦ λ e. absurd (no_entry (λ (e : ℕ × X). p e.1) m k v h there e) | false ↦ λ e. refl ] refl
+  by_test p m (Some k) h = h.0
+
+-- at most 1,024 rings, at serials
+abbrev pub AreRows : Rings → Type 0
+AreRows m = (len m ≤ 1024) × AreSerials m
+
+pub rows-changed_at : (k : ℕ) (f : Numbered → Numbered) (m n : Rings) → n ≡ changed_at k f m → AreRows m → AreRows n
+rows-changed_at k f m n is h =
+    subst AreRows (sym is) (
+      subst (λ x. x ≤ 1024) (sym (len-changed_at k f m)) h.0,
+      serials_within (changed_at k f m) m (λ q there. sym (contains_key-changed_at k f m q) ∙ there) h.1,
+    )
+
+fewer_or_same : (b : Bool) (n : ℕ) → cond b (n - 1) n ≤ n
+fewer_or_same true n = omega arith
+fewer_or_same false n = omega arith
+
+pub rows-remove : (k : ℕ) (m n : Rings) → n ≡ remove m k → AreRows m → AreRows n
+rows-remove k m n is h =
+    let le : len (remove m k) ≤ len m = subst (λ x. x ≤ len m) (sym (len-remove nat_cmp_total m k)) (fewer_or_same (contains_key m k) (len m)) in
+    subst AreRows (sym is) (omega (arith, le, h.0), serials-remove m k h.1)
+
+pub rows-empty : (m : Rings) → m ≡ empty → AreRows m
+rows-empty m is = subst AreRows (sym is) (subst (λ x. x ≤ 1024) (sym (len-empty nat_cmp Numbered)) (lit≤ tt), serials-empty Numbered)
+
+pub match_found : (rings : Rings) (ring n : ℕ) (row : Numbered) (o : Option ℕ) → get rings ring ≡ Some row
+    → MatchOption o ((k : ℕ) → ¬ (get row.links k ≡ Some n)) (λ k. get row.links k ≡ Some n) → IsMatch rings n (Some ring) o
+match_found rings ring n row None is h = λ r there k. let same : r ≡ row = cc in subst (λ x. ¬ (get x.links k ≡ Some n)) (sym same) (h k)
+match_found rings ring n row (Some k) is h = (row, is, h)

@@ -1,0 +1,110 @@
+-- What some entry of a map passes, and what stands at a key.
+use Rattle.std.proofs.Common.{◌≡◌, ◌≢◌, ℕ, Bool, true, false, cond, ◌&&◌, ◌||◌, T, List, [], ◌∷◌, refl, ap, sym, ◌∙◌}
+use Rattle.std.specs.Prelude.{Option, Some, None, is_some}
+use Rattle.std.specs.Prelude.{map as list_map}
+use Rattle.std.specs.List.{list_any}
+use Rattle.std.specs.Ordering.{nat_cmp, eq_by_cmp, is_lt, is_eq}
+use Rattle.std.specs.declared.cmp.Ordering.{Ordering}
+use Rattle.std.specs.declared.cmp.Ordering.TheVariants.{Less, Equal, Greater}
+use Rattle.std.specs.FinMap.{FinMap, get, entries, values, find, is_sorted, entries_sorted, get-entries}
+use Rattle.std.specs.FinMap.Entries.{below_all}
+use Rattle.std.proofs.lemmas.Bool.{both_ways, eqb-true, eq-eqb}
+use Rattle.rk_table.specs.Entries.{HasEachOnce}
+use Rattle.rk_table.proofs.Entries.{tie}
+
+first : (a b : Bool) → T (a && b) → T a
+first true b h = tt
+first false b h = h
+
+second : (a b : Bool) → T (a && b) → T b
+second true b h = h
+second false b h = absurd h
+
+not_tied : (r : Ordering) → T (is_lt r) → is_eq r ≡ false
+not_tied Less h = refl
+not_tied Equal h = absurd h
+not_tied Greater h = absurd h
+
+-- the number that ties with another is that one
+pub tied : (q k : ℕ) → eq_by_cmp nat_cmp q k ≡ true → q ≡ k
+tied q k t = sym (eqb-true k q (sym (tie q k) ∙ t))
+
+pub tied_itself : (q : ℕ) → eq_by_cmp nat_cmp q q ≡ true
+tied_itself q = tie q q ∙ eq-eqb q q refl
+
+pub is_there : {A : Type 0} (o : Option A) → is_some o ≡ true → (x : A) × (o ≡ Some x)
+is_there None h = absurd (both_ways false refl h)
+is_there (Some x) h = (x, refl)
+
+module _ {X : Type 0} where
+  some_not_none : (x : X) → Some x ≢ None
+  some_not_none x e = cc
+
+  none_above : (x : ℕ) (es : List (ℕ × X)) → T (below_all nat_cmp x es) → find nat_cmp x es ≡ None
+  none_above x [] h = refl
+  none_above x (e ∷ es) h = ap (λ b. cond b (Some e.1) (find nat_cmp x es)) (not_tied (nat_cmp x e.0) (first _ _ h)) ∙ none_above x es (second _ _ h)
+
+  once_sorted : (es : List (ℕ × X)) → T (is_sorted nat_cmp es) → HasEachOnce es
+  once_sorted [] h = tt
+  once_sorted (e ∷ es) h = (none_above e.0 es (first _ _ h), once_sorted es (second _ _ h))
+
+  -- a map has each key once
+  pub entries_once : (m : FinMap nat_cmp X) → HasEachOnce (entries m)
+  entries_once m = once_sorted (entries m) (entries_sorted m)
+
+  any_at : (p : ℕ × X → Bool) (es : List (ℕ × X)) (q : ℕ) (v : X) → find nat_cmp q es ≡ Some v → p (q, v) ≡ true → list_any p es ≡ true
+  any_at p [] q v there is = absurd (cc)
+  any_at p (e ∷ es) q v there is =
+      elim (eq_by_cmp nat_cmp q e.0) as (λ b. eq_by_cmp nat_cmp q e.0 ≡ b → cond b (Some e.1) (find nat_cmp q es) ≡ Some v → (p e || list_any p es) ≡ true) [
+        | true ↦ λ t there.
+            let key : q ≡ e.0 = tied q e.0 t in
+            let value : e.1 ≡ v = cc in
+            ap (λ b. b || list_any p es) ((λ i. p (sym key i, value i)) ∙ is)
+        | false ↦ λ t there. elim (p e) as (λ b. (b || list_any p es) ≡ true) [ true ↦ refl | false ↦ any_at p es q v there is ]
+      ] refl there
+
+  abbrev pub Found : (ℕ × X → Bool) → (ℕ → Option X) → Type 0
+  Found p at = (q : ℕ) × (v : X) × (at q ≡ Some v) × (p (q, v) ≡ true)
+
+  found_later : (p : ℕ × X → Bool) (e : ℕ × X) (es : List (ℕ × X)) → find nat_cmp e.0 es ≡ None → Found p (λ q. find nat_cmp q es) → Found p (λ q. find nat_cmp q (e ∷ es))
+  found_later p e es none f = (
+    f.0,
+    f.1,
+    elim (eq_by_cmp nat_cmp f.0 e.0) as (λ b. eq_by_cmp nat_cmp f.0 e.0 ≡ b → cond b (Some e.1) (find nat_cmp f.0 es) ≡ Some f.1) [
+      | true ↦ λ t. absurd (some_not_none f.1 (sym f.2 ∙ ap (λ k. find nat_cmp k es) (tied f.0 e.0 t) ∙ none))
+      | false ↦ λ t. f.2
+    ] refl,
+    f.3,
+  )
+
+  any_in : (p : ℕ × X → Bool) (es : List (ℕ × X)) → HasEachOnce es → list_any p es ≡ true → Found p (λ q. find nat_cmp q es)
+  any_in p [] once is = absurd (both_ways false refl is)
+  any_in p (e ∷ es) once is =
+      elim (p e) as (λ b. p e ≡ b → (b || list_any p es) ≡ true → Found p (λ q. find nat_cmp q (e ∷ es))) [
+        | true ↦ λ t is. (e.0, e.1, ap (λ b. cond b (Some e.1) (find nat_cmp e.0 es)) (tied_itself e.0), t)
+        | false ↦ λ t is. found_later p e es once.0 (any_in p es once.1 is)
+      ] refl is
+
+  -- ---- of a map
+
+  pub some_entry : (p : ℕ × X → Bool) (m : FinMap nat_cmp X) (q : ℕ) (v : X) → get m q ≡ Some v → p (q, v) ≡ true → list_any p (entries m) ≡ true
+  some_entry p m q v there is = any_at p (entries m) q v (sym (get-entries m q) ∙ there) is
+
+  pub no_entry : (p : ℕ × X → Bool) (m : FinMap nat_cmp X) (q : ℕ) (v : X) → list_any p (entries m) ≡ false → get m q ≡ Some v → p (q, v) ≡ true → ⊥
+  no_entry p m q v none there is = both_ways _ none (some_entry p m q v there is)
+
+  pub entry_found : (p : ℕ × X → Bool) (m : FinMap nat_cmp X) → list_any p (entries m) ≡ true → Found p (get m)
+  entry_found p m is =
+      let f = any_in p (entries m) (entries_once m) is in
+      (f.0, f.1, get-entries m f.0 ∙ f.2, f.3)
+
+  any_mapped : (p : X → Bool) (es : List (ℕ × X)) → list_any p (list_map (λ e. e.1) es) ≡ list_any (λ e. p e.1) es
+  any_mapped p [] = refl
+  any_mapped p (e ∷ es) = ap (λ b. p e.1 || b) (any_mapped p es)
+
+  pub any_value : (p : X → Bool) (m : FinMap nat_cmp X) → list_any p (values m) ≡ list_any (λ e. p e.1) (entries m)
+  any_value p m = any_mapped p (entries m)
+
+  head_found : (es : List (ℕ × X)) → es ≢ [] → (q : ℕ) × (v : X) × (find nat_cmp q es ≡ Some v)
+  head_found [] h = absurd (h refl)
+  head_found (e ∷ es) h = (e.0, e.1, ap (λ b. cond b (Some e.1) (find nat_cmp e.0 es)) (tied_itself e.0))

@@ -1,0 +1,109 @@
+-- The links of one ring.
+use Rattle.std.proofs.Common.{◌≡◌, ℕ, ◌+◌, ◌<◌, ◌≤◌, Bool, true, false, cond, not, ◌&&◌, ltb, leb, refl, ap, sym, ◌∙◌, subst, arith}
+use Rattle.std.specs.Prelude.{Option, Some, None, is_some, nat_eq, MatchOption}
+use Rattle.std.specs.Option.{option_map_or}
+use Rattle.std.specs.List.{list_any}
+use Rattle.std.specs.Ordering.{nat_cmp, eq_by_cmp}
+use Rattle.std.specs.Cmp.{nat_cmp_total}
+use Rattle.std.specs.FinMap.{FinMap, get, values, len, insert, remove, empty, contains_key, get-insert, get-empty, get-retain_keys, same_map, nat_cmp-IsAntisymmetric}
+use Rattle.std.proofs.lemmas.Bool.{both_ways, eqb-true, eq-eqb, le-ltb, ne_eqb, leb-false, not-false}
+use Rattle.rk_names.specs.Numbers.{serial_of}
+use Rattle.rk_table.specs.Maps.{kept_where}
+use Rattle.rk_table.proofs.Once.{FindsEntry}
+use Rattle.rk_rings.specs.Numbered.{Numbered, AreSerials, has_number, is_full}
+use Rattle.rk_rings.proofs.Finds.{tied, no_entry, entry_found, any_value}
+use Rattle.rk_rings.proofs.Counts.{IsWithin, contains_key-remove, no_more, fewer}
+
+if_some : {A : Type 0} (t : A → Bool) (o : Option A) → is_some (cond (option_map_or t o false) o None) ≡ true → is_some o ≡ true
+if_some t None h = h
+if_some t (Some x) h = refl
+
+not_kept : {A : Type 0} (t : A → Bool) (o : Option A) (x : A) → o ≡ Some x → t x ≡ false → is_some (cond (option_map_or t o false) o None) ≡ false
+not_kept t o x is fails = ap (λ (o : Option _). is_some (cond (option_map_or t o false) o None)) is ∙ ap (λ b. is_some (cond b (Some x) None)) fails
+
+none_passes : {A : Type 0} (o : Option A) → cond (option_map_or (λ _. false) o false) o None ≡ None
+none_passes None = refl
+none_passes (Some x) = refl
+
+second_true : (a b : Bool) → (not a && b) ≡ true → b ≡ true
+second_true true b h = absurd (both_ways false refl h)
+second_true false b h = h
+
+module _ {X : Type 0} where
+  pub get-kept_where : (p : ℕ → X → Bool) (m : FinMap nat_cmp X) (q : ℕ) → get (kept_where p m) q ≡ cond (option_map_or (p q) (get m q) false) (get m q) None
+  get-kept_where p m q =
+      let test : ℕ → Bool = λ k. option_map_or (p k) (get m k) false in
+      get-retain_keys m test q (λ x t. ap test (sym (nat_cmp-IsAntisymmetric q x t)))
+
+  pub kept_within : (p : ℕ → X → Bool) (m : FinMap nat_cmp X) → IsWithin (kept_where p m) m
+  kept_within p m q h = if_some (p q) (get m q) (ap is_some (sym (get-kept_where p m q)) ∙ h)
+
+  pub rest_within : (m : FinMap nat_cmp X) (k : ℕ) → IsWithin (remove m k) m
+  rest_within m k q h = second_true _ _ (sym (contains_key-remove m k q) ∙ h)
+
+  pub none_kept : (m : FinMap nat_cmp X) → kept_where (λ _ _. false) m ≡ empty
+  none_kept m = same_map nat_cmp_total nat_cmp-IsAntisymmetric _ _ (λ q. get-kept_where (λ _ _. false) m q ∙ none_passes (get m q) ∙ sym (get-empty nat_cmp q))
+
+  -- an entry that does not pass is one that goes
+  pub fewer_kept : (p : ℕ → X → Bool) (m : FinMap nat_cmp X) (k : ℕ) (v : X) → get m k ≡ Some v → p k v ≡ false → len (kept_where p m) < len m
+  fewer_kept p m k v there fails =
+      fewer (kept_where p m) m k (kept_within p m) (ap is_some (get-kept_where p m k) ∙ not_kept (p k) (get m k) v there fails) (ap is_some there)
+
+  -- ---- numbers that are serials
+
+  pub serials_within : (a b : FinMap nat_cmp X) → IsWithin a b → AreSerials b → AreSerials a
+  serials_within a b h all k is = all k (h k is)
+
+  pub serials-remove : (m : FinMap nat_cmp X) (k : ℕ) → AreSerials m → AreSerials (remove m k)
+  serials-remove m k all = serials_within (remove m k) m (rest_within m k) all
+
+  pub serials-insert : (m : FinMap nat_cmp X) (k : ℕ) (v : X) → AreSerials m → serial_of k ≡ Some k → AreSerials (insert m k v)
+  serials-insert m k v all here q h =
+      elim (eq_by_cmp nat_cmp q k) as (λ b. eq_by_cmp nat_cmp q k ≡ b → is_some (cond b (Some v) (get m q)) ≡ true → serial_of q ≡ Some q) [
+        | true ↦ λ t _. subst (λ n. serial_of n ≡ Some n) (sym (tied q k t)) here
+        | false ↦ λ t h. all q h
+      ] refl (ap is_some (sym (get-insert nat_cmp_total m k v q)) ∙ h)
+
+pub serials-empty : (X : Type 0) → AreSerials (empty {X = X} {R = nat_cmp})
+serials-empty X k h = absurd (both_ways _ (ap is_some (get-empty nat_cmp k)) h)
+
+pub is_serial : (k : ℕ) → 1 ≤ k → k ≤ 2147483647 → serial_of k ≡ Some k
+is_serial k low high =
+    ap (λ b. cond b None (cond (ltb 2147483647 k) None (Some k))) (ne_eqb k 0 (λ e. absurd (omega (arith, e, low))))
+    ∙ ap (λ b. cond b None (Some k)) (le-ltb 2147483647 k high)
+
+-- ---- what is found by the number of its name
+
+pub by_number : (m : FinMap nat_cmp ℕ) (n : ℕ) (o : Option ℕ) → FindsEntry (λ k v. nat_eq v n) m o → MatchOption o ((k : ℕ) → ¬ (get m k ≡ Some n)) (λ k. get m k ≡ Some n)
+by_number m n None h = λ k there. no_entry (λ (e : ℕ × ℕ). nat_eq e.1 n) m k n h there (eq-eqb n n refl)
+by_number m n (Some k) h =
+    elim (get m k) as (λ o. option_map_or (λ v. nat_eq v n) o false ≡ true → o ≡ Some n) [ None ↦ λ e. absurd (both_ways false refl e) | Some v ↦ λ e. ap (λ x. Some x) (eqb-true v n e) ] h.0
+
+pub any_key : (m : FinMap nat_cmp ℕ) (o : Option ℕ) → FindsEntry (λ k v. true) m o → MatchOption o ((k : ℕ) → contains_key m k ≡ false) (λ k. contains_key m k ≡ true)
+any_key m None h = λ k.
+    elim (get m k) as (λ o. get m k ≡ o → is_some o ≡ false) [ None ↦ λ e. refl | Some v ↦ λ e. absurd (no_entry (λ (e : ℕ × ℕ). true) m k v h e refl) ] refl
+any_key m (Some k) h =
+    elim (get m k) as (λ o. option_map_or (λ v. true) o false ≡ true → is_some o ≡ true) [ None ↦ λ e. e | Some v ↦ λ e. refl ] h.0
+
+-- ---- a new link
+
+pub fewer_rivals : (links : FinMap nat_cmp ℕ) (n : ℕ) → list_any (λ m. nat_eq m n) (values links) ≡ true → len (kept_where (λ j m. not (nat_eq m n)) links) < len links
+fewer_rivals links n h =
+    let at = entry_found (λ (e : ℕ × ℕ). nat_eq e.1 n) links (sym (any_value (λ m. nat_eq m n) links) ∙ h) in
+    fewer_kept (λ j m. not (nat_eq m n)) links at.0 at.1 at.2 (ap not at.3)
+
+-- where a ring is not full for a name, the rivals leave room
+pub room_left : (r : Numbered) (n kept room : ℕ) → is_full (Some n) r ≡ false → len r.links ≤ 256 → kept ≡ len (kept_where (λ j m. not (nat_eq m n)) r.links) → kept + room ≡ 256 → 0 < room
+room_left r n kept room h most is sum =
+    elim (leb 256 (len r.links)) as (λ b. leb 256 (len r.links) ≡ b → (b && not (has_number r n)) ≡ false → 0 < room) [
+      | true ↦ λ e h. omega (arith, fewer_rivals r.links n (not-false _ h), most, is, sum)
+      | false ↦ λ e h. omega (arith, no_more _ _ (kept_within (λ j m. not (nat_eq m n)) r.links), leb-false 256 (len r.links) e, is, sum)
+    ] refl h
+
+-- a key that is not linked is not linked once others have gone
+pub still_new : (p : ℕ → ℕ → Bool) (links : FinMap nat_cmp ℕ) (k : ℕ) → contains_key links k ≡ false → get (kept_where p links) k ≡ None
+still_new p links k h =
+    elim (get (kept_where p links) k) as (λ o. get (kept_where p links) k ≡ o → o ≡ None) [
+      | None ↦ λ e. refl
+      | Some v ↦ λ e. absurd (both_ways _ h (kept_within p links k (ap is_some e)))
+    ] refl

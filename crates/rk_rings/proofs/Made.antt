@@ -1,0 +1,77 @@
+-- Rings that are made one after the other.
+use Rattle.std.proofs.Common.{◌≡◌, ℕ, ◌+◌, ◌<◌, ◌≤◌, cond, List, [], ◌∷◌, length, refl, ap, sym, ◌∙◌, subst, arith}
+use Rattle.std.specs.Prelude.{Some, None, is_some}
+use Rattle.std.specs.Prelude.{map as list_map}
+use Rattle.std.specs.Cmp.{nat_cmp_total}
+use Rattle.std.specs.FinMap.{get, insert, len, len-insert, get-insert}
+use Rattle.std.proofs.lemmas.Bool.{ne_eqb}
+use Rattle.rk_table.proofs.Entries.{tie}
+use Rattle.rk_rings.specs.declared.kind.NewRing.{NewRing}
+use Rattle.rk_rings.specs.Numbered.{Numbered, Rings, new_ring, with_rings, AreNew, AreSerials}
+use Rattle.rk_rings.specs.Making.{with_entries, HasEachNew}
+use Rattle.rk_rings.proofs.Changed.{AreRows}
+
+-- ---- the entries that are left to put in
+
+pub left_facts : (items rest : List (ℕ × Numbered)) (k : ℕ) (v : Numbered) (m n w : Rings) → items ≡ (k, v) ∷ rest → n ≡ insert m k v → with_entries items m ≡ w → with_entries rest n ≡ w
+left_facts items rest k v m n w e is h = ap (with_entries rest) is ∙ sym (ap (λ es. with_entries es m) e) ∙ h
+
+pub left_new : (items rest : List (ℕ × Numbered)) (k : ℕ) (v : Numbered) (m n : Rings) → items ≡ (k, v) ∷ rest → n ≡ insert m k v → HasEachNew items m → HasEachNew rest n
+left_new items rest k v m n e is h =
+    let now : HasEachNew ((k, v) ∷ rest) m = subst (λ es. HasEachNew es m) e h in
+    subst (HasEachNew rest) (sym is) now.1
+
+pub next_new : (items rest : List (ℕ × Numbered)) (k : ℕ) (v : Numbered) (m : Rings) → items ≡ (k, v) ∷ rest → HasEachNew items m → get m k ≡ None
+next_new items rest k v m e h =
+    let now : HasEachNew ((k, v) ∷ rest) m = subst (λ es. HasEachNew es m) e h in now.0
+
+pub none_left : (items : List (ℕ × Numbered)) (m w : Rings) → length items ≡ 0 → with_entries items m ≡ w → m ≡ w
+none_left [] m w e h = h
+none_left (x ∷ xs) m w e h = absurd (omega arith)
+
+-- ---- what is wanted, as entries
+
+pub entries_made : (wanted : List NewRing) (m : Rings) → with_entries (list_map (λ w. (w.serial, new_ring w)) wanted) m ≡ with_rings wanted m
+entries_made [] m = refl
+entries_made (w ∷ ws) m = entries_made ws (insert m w.serial (new_ring w))
+
+pub entries_new : (wanted : List NewRing) (m : Rings) → AreNew wanted m → HasEachNew (list_map (λ w. (w.serial, new_ring w)) wanted) m
+entries_new [] m h = h
+entries_new (w ∷ ws) m h = (h.0, entries_new ws (insert m w.serial (new_ring w)) h.1)
+
+-- each new ring is one more
+pub len-with_rings : (wanted : List NewRing) (m : Rings) → AreNew wanted m → len (with_rings wanted m) ≡ len m + length wanted
+len-with_rings [] m h = omega arith
+len-with_rings (w ∷ ws) m h =
+    let one : len (insert m w.serial (new_ring w)) ≡ len m + 1 = len-insert nat_cmp_total m w.serial (new_ring w) ∙ ap (λ o. cond (is_some o) (len m) (len m + 1)) h.0 in
+    omega (arith, len-with_rings ws (insert m w.serial (new_ring w)) h.1, one)
+
+-- ---- what has been put in
+
+pub put_new : (wanted : List NewRing) (items : List (ℕ × Numbered)) (m n : Rings) → items ≡ list_map (λ w. (w.serial, new_ring w)) wanted → n ≡ m → AreNew wanted m → HasEachNew items n
+put_new wanted items m n e same h = subst (HasEachNew items) (sym same) (subst (λ es. HasEachNew es m) (sym e) (entries_new wanted m h))
+
+pub put_made : (wanted : List NewRing) (items : List (ℕ × Numbered)) (m n w : Rings) → items ≡ list_map (λ w. (w.serial, new_ring w)) wanted → n ≡ m → w ≡ with_entries items n → w ≡ with_rings wanted m
+put_made wanted items m n w e same is = is ∙ ap (with_entries items) same ∙ ap (λ es. with_entries es m) e ∙ entries_made wanted m
+
+pub rows_made : (wanted : List NewRing) (m w : Rings) → w ≡ with_rings wanted m → AreNew wanted m → len m + length wanted ≤ 1024 → AreSerials w → AreRows w
+rows_made wanted m w is new room all = (omega (arith, ap len is, len-with_rings wanted m new, room), all)
+
+-- ---- serials that are new and rise
+
+pub still_new : (m : Rings) (k : ℕ) (v : Numbered) (q : ℕ) → get m q ≡ None → k < q → get (insert m k v) q ≡ None
+still_new m k v q none less =
+    get-insert nat_cmp_total m k v q ∙ ap (λ b. cond b (Some v) (get m q)) (tie q k ∙ ne_eqb k q (λ e. absurd (omega (arith, e, less)))) ∙ none
+
+-- each serial is above those before it, and new
+abbrev pub RiseNew : ℕ → List NewRing → Rings → Type 0
+RiseNew low [] m = Unit {0}
+RiseNew low (w ∷ ws) m = (low < w.serial) × (get m w.serial ≡ None) × RiseNew w.serial ws m
+
+rise_still : (low k : ℕ) (v : Numbered) (ws : List NewRing) (m : Rings) → k ≤ low → RiseNew low ws m → RiseNew low ws (insert m k v)
+rise_still low k v [] m h r = tt
+rise_still low k v (w ∷ ws) m h r = (r.0, still_new m k v w.serial r.1 (omega (arith, h, r.0)), rise_still w.serial k v ws m (omega (arith, h, r.0)) r.2)
+
+pub new_since_rising : (low : ℕ) (ws : List NewRing) (m : Rings) → RiseNew low ws m → AreNew ws m
+new_since_rising low [] m r = tt
+new_since_rising low (w ∷ ws) m r = (r.1, new_since_rising w.serial ws (insert m w.serial (new_ring w)) (rise_still w.serial w.serial (new_ring w) ws m (omega arith) r.2))

@@ -1,0 +1,85 @@
+//! The changes of a ring, each as the table of rings takes it, and the tests of rings.
+ghost use Rattle.std.specs.Prelude.{◌≡◌};
+
+use crate::kind::RingKind;
+use crate::row::Row;
+use rk_names::{NameNo, Serial};
+use rk_table::{ChangeOnce, Test};
+
+/// Links a key, where it is linked already or there is room for its name.
+#[derive(Clone, Copy)]
+pub struct Link {
+    pub key: Serial,
+    pub name: NameNo,
+}
+
+impl ChangeOnce<Row> for Link {
+    ghost use Rattle.rk_rings.specs.Numbered.{linked_in_room};
+
+    ghost changed = { λ c r. linked_in_room c.key c.name r };
+
+    fn change(self, row: &mut Row) {
+        if row.takes(self.key, self.name) {
+            row.link(self.key, self.name);
+        }
+    }
+}
+
+/// Takes out the link of a key.
+#[derive(Clone, Copy)]
+pub struct Unlink(pub Serial);
+
+impl ChangeOnce<Row> for Unlink {
+    ghost use Rattle.rk_rings.specs.Numbered.{unlinked};
+
+    ghost changed = { λ c r. unlinked c.0 r };
+
+    fn change(self, row: &mut Row) {
+        row.unlink(self.0);
+    }
+}
+
+/// Takes out all links.
+#[derive(Clone, Copy)]
+pub struct Clear;
+
+impl ChangeOnce<Row> for Clear {
+    ghost use Rattle.rk_rings.specs.Numbered.{cleared};
+
+    ghost changed = { λ _ r. cleared r };
+
+    fn change(self, row: &mut Row) {
+        let Clear = self;
+        row.clear();
+    }
+}
+
+/// Rings in which a key is linked.
+#[derive(Clone, Copy)]
+pub struct Holds(pub Serial);
+
+impl Test<Row> for Holds {
+    ghost use Rattle.std.specs.FinMap as map;
+
+    ghost passes = { λ t ring r. map.contains_key r.links t.0 };
+
+    fn passes(&self, ring: u32, row: &Row) -> bool {
+        let _ = ring;
+        row.holds(self.0)
+    }
+}
+
+/// User rings of a user.
+#[derive(Clone, Copy)]
+pub struct IsUserRing(pub u32);
+
+impl Test<Row> for IsUserRing {
+    ghost use Rattle.rk_rings.specs.Numbered.{is_user_ring};
+
+    ghost passes = { λ t ring r. is_user_ring t.0 r };
+
+    fn passes(&self, ring: u32, row: &Row) -> bool {
+        let _ = ring;
+        row.kind() == RingKind::User && row.uid() == self.0
+    }
+}

@@ -1,0 +1,54 @@
+//! The rings of a request_key daemon, and which key is linked in which.
+//!
+//! # Purpose
+//!
+//! [`Rings`] holds the live rings by their serials: whose each is (keyrings(7), "Anchoring keys"), and the
+//! keys that are linked in it. It knows a key by its serial and by the number of its name, which live keys
+//! share exactly where their type and description are equal, so it tells names apart without reading them.
+//! It answers where a key of a name is found in the rings of a context, which ring an ask means, and where
+//! a new key goes.
+//!
+//! # What it promises
+//!
+//! Its clauses speak of one value: a finite map from serials to rings, each with its kind, its user and a
+//! finite map from keys to numbers. A link takes the place of another key of that name in the ring, and
+//! changes nothing for a key that is there. A ring has at most 256 links, there are at most 1,024 rings, and
+//! `Full` comes exactly where a limit would be passed. Each refusal comes exactly in its case and changes
+//! nothing. Only `make` takes memory: it makes several rings or none, each with the room for its links, so no
+//! later call can want any.
+//!
+//! # An example
+//!
+//! `make` of the ring 3, a session ring of the user 1000; `link` of the key 7 with the name 1 in it, and of the
+//! key 8 with the name 1: `holds(3, 7)` is now false, `holds(3, 8)` true. `at` with the place `Session` answers
+//! 3 for a context whose session ring is 3, and `NoRing` after `drop_ring(3)`; `choose` then answers the context's
+//! user ring.
+//!
+//! # How it is built
+//!
+//! `kind` says what a ring is for, `place` how an ask names one, `fault` why a call is refused. `row` is one
+//! ring, a table of its links; `changes` has the changes of a ring as the table of rings takes them; `rings` is
+//! all of them; `reach` goes over the rings of a context. A look-up of a ring walks over the rings, and of a key over
+//! the links of its ring. No clause says how they lie, so an index can take the place of the walks.
+//!
+//! For libraries above, which see a ring as the set of its keys, `proofs/Seen.antt` and `proofs/SeenPlaces.antt`
+//! say what each change and each look-up is without the numbers.
+#![tactic(auto)]
+
+mod changes;
+mod fault;
+mod kind;
+mod place;
+mod reach;
+mod rings;
+mod row;
+
+pub use fault::RingFault;
+pub use kind::{NewRing, RingKind};
+pub use place::Place;
+pub use reach::Matches;
+pub use rings::{MAX_RINGS, Rings};
+pub use row::MAX_LINKS;
+
+#[cfg(test)]
+mod tests;

@@ -1,0 +1,258 @@
+//! All rings.
+ghost use Rattle.std.specs.Prelude.{◌≡◌, ◌≤◌, IfOk, vec_len};
+ghost use Rattle.std.specs.Prelude.{map as list_map};
+ghost use Rattle.rk_rings.specs.Numbered.{new_ring, AreSerials};
+ghost use Rattle.rk_rings.specs.Making.{with_entries, HasEachNew};
+
+use crate::changes::{Clear, Holds, IsUserRing, Link, Unlink};
+use crate::fault::RingFault;
+use crate::kind::{NewRing, RingKind};
+use crate::row::Row;
+use rk_names::{NameNo, Serial};
+use rk_table::Table;
+use std::alloc::{AllocError, Global};
+use std::marker::Model;
+
+/// The most rings at a time.
+pub const MAX_RINGS: usize = 1_024;
+
+/// The live rings by their serials, each with room for its 256 links.
+///
+/// A call that is given a ring walks over the rings to find it, at most 1,024, and where it looks for a key or
+/// a name, over the links of that ring.
+#[derive(Drop)]
+pub struct Rings {
+    rows: Table<Row>,
+}
+
+impl Model for Rings {
+    ghost use Rattle.std.specs.Prelude.{◌≤◌};
+    ghost use Rattle.std.specs.Coded.{coded_ℕ};
+    ghost use Rattle.std.specs.Ordering.{nat_cmp};
+    ghost use Rattle.std.specs.FinMap as map;
+    ghost use Rattle.rk_rings.specs.Numbered.{Numbered, numbered_code, AreSerials};
+
+    ghost Value = { map.FinMap nat_cmp Numbered };
+
+    ghost coded = { map.code coded_ℕ numbered_code };
+
+    ghost view = { λ r. r.rows.facts };
+
+    ghost invariant = { λ r. (map.len r.rows.facts ≤ 1024) × AreSerials r.rows.facts };
+}
+
+impl Rings {
+    ghost use Rattle.std.specs.Prelude.{◌≡◌, ◌≤◌, ◌<◌, ◌+◌, ◌↔◌, ◌⊎◌, ℕ, true, false, length, IsTrue, Some, None, Ok, Err, OnOk, OnErr, IfErr, MatchOption};
+    ghost use Rattle.std.specs.FinMap as map;
+    ghost use Rattle.std.specs.Option.{option_map, option_map_or, option_copied};
+    ghost use Rattle.rk_table.specs.Maps.{changed_at};
+    ghost use Rattle.rk_rings.specs.Numbered.{Numbered, AreNew, with_rings, is_user_ring, is_full, is_full_at, holds, is_held, linked, unlinked, cleared, IsMatch};
+
+    /// No ring. It takes no memory until `make`.
+    pub fn new(alloc: Global) -> Rings
+        ensures { result ≡ map.empty }
+    {
+        Rings {
+            rows: Table::new(alloc),
+        }
+    }
+
+    /// Whether so many more rings can be made: there are at most 1,024.
+    pub fn has_room(&self, more: usize) -> bool
+        ensures { IsTrue result ↔ (map.len self.now + more ≤ 1024) }
+    {
+        more <= MAX_RINGS - self.rows.len()
+    }
+
+    /// Whether there is such a ring.
+    pub fn contains(&self, ring: Serial) -> bool
+        ensures { result ≡ map.contains_key self.now ring }
+    {
+        self.rows.contains(ring.get())
+    }
+
+    fn row(&self, ring: Serial) -> Option<&Row>
+        ensures { option_copied result ≡ map.get self.now ring }
+    {
+        self.rows.get(ring.get())
+    }
+
+    /// What the ring is for, and the user whose it is; `None` where there is no such ring.
+    pub fn kind(&self, ring: Serial) -> Option<(RingKind, u32)>
+        ensures { result ≡ option_map (λ r. (r.kind, r.uid)) (map.get self.now ring) }
+    {
+        let row = self.row(ring)?;
+        Some((row.kind(), row.uid()))
+    }
+
+    /// The user ring of a user; `None` where none is live (user-keyring(7)). It walks over all rings.
+    pub fn user_ring(&self, uid: u32) -> Option<Serial>
+        ensures { MatchOption result ((k : ℕ) (r : Numbered) → map.get self.now k ≡ Some r → is_user_ring uid r ≡ false) (λ k. option_map_or (is_user_ring uid) (map.get self.now k) false ≡ true) }
+    {
+        Serial::new(self.rows.find(&IsUserRing(uid))?)
+    }
+
+    /// Whether the key is linked in the ring.
+    pub fn holds(&self, ring: Serial, key: Serial) -> bool
+        ensures { result ≡ holds self.now ring key }
+    {
+        match self.row(ring) {
+            Some(row) => row.holds(key),
+            None => false,
+        }
+    }
+
+    /// Whether the key is linked in some ring. It walks over the links of all rings, up to the first.
+    pub fn is_held(&self, key: Serial) -> bool
+        ensures { result ≡ is_held self.now key }
+    {
+        self.rows.any(&Holds(key))
+    }
+
+    /// A key that is linked in the ring; `None` where there is none, or no such ring.
+    pub fn first_key(&self, ring: Serial) -> Option<Serial>
+        ensures { MatchOption result ((k : ℕ) → holds self.now ring k ≡ false) (λ k. holds self.now ring k ≡ true) }
+    {
+        self.row(ring)?.first()
+    }
+
+    /// Whether the ring is there and has no room for a key of that name: it has 256 links, and none to a
+    /// key of that name. `None` is a name that no key has.
+    pub fn is_full(&self, ring: Serial, name: Option<NameNo>) -> bool
+        ensures { result ≡ is_full_at self.now ring name }
+    {
+        match self.row(ring) {
+            Some(row) => row.is_full(name),
+            None => false,
+        }
+    }
+
+    /// Makes rings, each with room for its links, all of them or none. The serials have to be new.
+    ///
+    /// `Full` exactly where there would be more than 1,024 rings; then `NoMemory`. A refusal changes
+    /// nothing: the room of each ring and that for the rings themselves is made before the first is put in.
+    pub fn make(&mut self, alloc: Global, wanted: &[NewRing]) -> Result<(), RingFault>
+        requires { AreNew wanted.now self.old }
+        ensures ok { OnOk result (self.new ≡ with_rings wanted.now self.old) }
+        ensures err { OnErr result (self.new ≡ self.old) }
+        ensures full { (result ≡ Err RingFault.Full) ↔ (1024 < map.len self.old + length wanted.now) }
+        ensures memory { IfErr result (λ f. (f ≡ RingFault.Full) ⊎ (f ≡ RingFault.NoMemory)) }
+    {
+        if !self.has_room(wanted.len()) {
+            return Err(RingFault::Full);
+        }
+        let Ok(rows) = new_rows(alloc, wanted) else {
+            return Err(RingFault::NoMemory);
+        };
+        if self.rows.reserve(rows.len()).is_err() {
+            return Err(RingFault::NoMemory);
+        }
+        insert_rows(&mut self.rows, rows);
+        Ok(())
+    }
+
+    /// Links a key in a ring, in the place of another key of that name. It takes no memory, and changes
+    /// nothing where the key is linked there already (keyctl_link(3); keyctl(2), `KEYCTL_LINK`).
+    ///
+    /// `NoRing` exactly where there is no such ring. `Full` exactly where the ring has 256 links, none of
+    /// them to the key nor to one of that name. A refusal changes nothing.
+    pub fn link(&mut self, ring: Serial, key: Serial, name: NameNo) -> Result<(), RingFault>
+        ensures ok { OnOk result (self.new ≡ changed_at ring (linked key name) self.old) }
+        ensures err { OnErr result (self.new ≡ self.old) }
+        ensures no_ring { (result ≡ Err RingFault.NoRing) ↔ (map.contains_key self.old ring ≡ false) }
+        ensures full { (result ≡ Err RingFault.Full) ↔ ((is_full_at self.old ring (Some name) ≡ true) × (holds self.old ring key ≡ false)) }
+        ensures others { IfErr result (λ f. (f ≡ RingFault.NoRing) ⊎ (f ≡ RingFault.Full)) }
+    {
+        if !self.contains(ring) {
+            return Err(RingFault::NoRing);
+        }
+        if !self.holds(ring, key) && self.is_full(ring, Some(name)) {
+            return Err(RingFault::Full);
+        }
+        self.rows.change(ring.get(), Link { key, name });
+        Ok(())
+    }
+
+    /// Takes out the link of a key from a ring. It takes no memory (keyctl_unlink(3)).
+    ///
+    /// `NoRing` exactly where there is no such ring, and `NotLinked` exactly where the ring is there and
+    /// the key is not linked in it. A refusal changes nothing.
+    pub fn unlink(&mut self, ring: Serial, key: Serial) -> Result<(), RingFault>
+        ensures ok { OnOk result (self.new ≡ changed_at ring (unlinked key) self.old) }
+        ensures err { OnErr result (self.new ≡ self.old) }
+        ensures no_ring { (result ≡ Err RingFault.NoRing) ↔ (map.contains_key self.old ring ≡ false) }
+        ensures not_linked { (result ≡ Err RingFault.NotLinked) ↔ ((map.contains_key self.old ring ≡ true) × (holds self.old ring key ≡ false)) }
+        ensures others { IfErr result (λ f. (f ≡ RingFault.NoRing) ⊎ (f ≡ RingFault.NotLinked)) }
+    {
+        if !self.contains(ring) {
+            return Err(RingFault::NoRing);
+        }
+        if !self.holds(ring, key) {
+            return Err(RingFault::NotLinked);
+        }
+        self.rows.change(ring.get(), Unlink(key));
+        Ok(())
+    }
+
+    /// Takes out all links of a ring. It takes no memory (keyctl_clear(3)).
+    ///
+    /// `NoRing` exactly where there is no such ring, and then nothing changes.
+    pub fn clear(&mut self, ring: Serial) -> Result<(), RingFault>
+        ensures ok { OnOk result (self.new ≡ changed_at ring cleared self.old) }
+        ensures err { OnErr result (self.new ≡ self.old) }
+        ensures no_ring { (result ≡ Err RingFault.NoRing) ↔ (map.contains_key self.old ring ≡ false) }
+        ensures others { IfErr result (λ f. f ≡ RingFault.NoRing) }
+    {
+        if !self.contains(ring) {
+            return Err(RingFault::NoRing);
+        }
+        self.rows.change(ring.get(), Clear);
+        Ok(())
+    }
+
+    /// Drops a ring with its links. It takes no memory.
+    ///
+    /// `NoRing` exactly where there is no such ring, and then nothing changes.
+    pub fn drop_ring(&mut self, ring: Serial) -> Result<(), RingFault>
+        ensures ok { OnOk result (self.new ≡ map.remove self.old ring) }
+        ensures err { OnErr result (self.new ≡ self.old) }
+        ensures no_ring { (result ≡ Err RingFault.NoRing) ↔ (map.contains_key self.old ring ≡ false) }
+        ensures others { IfErr result (λ f. f ≡ RingFault.NoRing) }
+    {
+        if !self.contains(ring) {
+            return Err(RingFault::NoRing);
+        }
+        self.rows.remove(ring.get());
+        Ok(())
+    }
+
+    /// The key of that name in the ring; `None` where there is none, or no such ring.
+    pub(crate) fn find_in(&self, ring: Serial, name: NameNo) -> Option<Serial>
+        ensures { IsMatch self.now name (Some ring) result }
+    {
+        self.row(ring)?.find(name)
+    }
+}
+
+/// The rings that are wanted, each with room for its links.
+fn new_rows(alloc: Global, wanted: &[NewRing]) -> Result<Vec<(Serial, Row)>, AllocError>
+    ensures { IfOk result (λ rows. rows.items ≡ list_map (λ w. (w.serial, new_ring w)) wanted.now) }
+{
+    let mut rows = Vec::with_capacity(alloc, wanted.len())?;
+    for ring in wanted {
+        rows.push((ring.serial, Row::new(alloc, *ring)?))?;
+    }
+    Ok(rows)
+}
+
+/// Puts rings at new serials into places that were reserved.
+fn insert_rows(table: &mut Table<Row>, rows: Vec<(Serial, Row)>)
+    requires new { HasEachNew rows.items table.old.facts }
+    requires room { vec_len rows ≤ table.old.room }
+    ensures facts { table.new.facts ≡ with_entries rows.items table.old.facts }
+    ensures serials { AreSerials table.old.facts → AreSerials table.new.facts }
+{
+    for (serial, row) in rows {
+        table.insert(serial.get(), row);
+    }
+}
