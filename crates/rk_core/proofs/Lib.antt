@@ -1,0 +1,14 @@
+pub mod Refusals
+pub mod Effects
+pub mod Gets
+pub mod Shapes
+pub mod Greetings
+pub mod Draws
+pub mod Turns
+pub mod Drawn
+pub mod Once
+pub mod Own
+pub mod Waits
+pub mod Ties
+pub mod Circles
+pub mod Depths
