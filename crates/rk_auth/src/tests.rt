@@ -177,3 +177,35 @@ fn piped_and_too_deep(rt: HostRuntime) -> Result<(), Fail> {
     assert_eq!(rt; AuthFault::Circle.errno().number(), 35);
     Ok(())
 }
+
+/// Issues the authority of a key that has none; a refused growth is the fault.
+fn issue(rt: &impl Abort, auths: &mut Auths, alloc: Global, key: Serial) -> Option<AuthFault> {
+    if auths.stage(key).is_some() {
+        return None;
+    }
+    match authority(rt, alloc, 1) {
+        Ok(authority) => auths.issue(key, authority).err(),
+        Err(_) => Some(AuthFault::NoMemory),
+    }
+}
+
+/// Goes well whichever allocation is refused: the call answers it, changes nothing, and goes well when it is
+/// made again.
+#[test]
+fn a_refused_growth_changes_nothing(rt: HostRuntime) -> Result<(), Fail> {
+    let alloc = rt.alloc();
+    let mut auths = match Auths::new(alloc) {
+        Ok(auths) => auths,
+        Err(_) => Auths::new(alloc)?,
+    };
+    for number in 3..20 {
+        let key = serial(&rt, number);
+        if let Some(fault) = issue(&rt, &mut auths, alloc, key) {
+            assert_eq!(rt; fault, AuthFault::NoMemory);
+            assert!(rt; !auths.is_open(key));
+            assert_eq!(rt; issue(&rt, &mut auths, alloc, key), None);
+        }
+        assert!(rt; auths.is_open(key));
+    }
+    Ok(())
+}
