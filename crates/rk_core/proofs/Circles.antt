@@ -23,6 +23,7 @@ use Rattle.rk_core.proofs.Shapes.{shape}
 use Rattle.rk_core.proofs.Once.{knows}
 use Rattle.rk_core.proofs.Waits.{same-true, flag, flag_in, flag_of}
 use Rattle.rk_core.proofs.Ties.{step, begun_refused, after, tied, IdleFresh}
+use Rattle.rk_core.proofs.Options.{some_none, some_same}
 
 -- ---- circles of any waits
 
@@ -90,12 +91,6 @@ key_in o = option_map (λ v. v.0) o
 
 abbrev waits_in : World → SessionId → Option ℕ
 waits_in w s = key_in (flag_of w.sessions s)
-
-some_same : {m n : ℕ} → Some m ≡ Some n → m ≡ n
-some_same e = cc
-
-some_none : {k : ℕ} → Some k ≡ None → ⊥
-some_none e = cc
 
 -- what leads to a session by the waits of the world, leads to it
 next_of_flag : (o : Option Wait) → option_map (λ w. w.key) o ≡ key_in (option_map flag o)
@@ -166,7 +161,7 @@ begun_by old now e a new (still t wait ev is ready ra w) idle = not_begun old e 
 begun_by old now e a new (took t wait outcome ev is ready ra w) idle = not_begun old e _ a _ ev ra (λ s. refl)
 begun_by old now e a new (came n ev fresh ra w) idle = not_begun old e _ a _ ev ra (λ s. refl)
 begun_by old now e a new (went n ev there ra w) idle = not_begun old e _ a _ ev ra (λ s. refl)
-begun_by old now e a new (greets n uid gid thread process join ev can none h) idle = not_begun old e _ a _ ev h.6.0 (λ s. refl)
+begun_by old now e a new (greets n uid gid thread process join ev can none joined h) idle = not_begun old e _ a _ ev h.6.0 (λ s. refl)
 begun_by old now e a new (begins t asker typ description callout r ring k ev can is depth fresh ra w) idle =
     one_begun t k true (λ s. ap (λ v. wait_begun s v a) ev ∙ ap (λ v. wait_begun s (Asked t (ask.Request typ description (Some callout) r)) v) ra)
     (new_not_reached old k t (idle k fresh.unused) can.there)
@@ -187,7 +182,7 @@ begun_by old now e a new (finished k how payload st condition ev is running fina
 
 -- ---- every run
 
-idle_known : (from : Beginning) (past : List Past) (w : World) → Run from past w → IdleFresh w
+pub idle_known : (from : Beginning) (past : List Past) (w : World) → Run from past w → IdleFresh w
 idle_known from past w run k fresh = no_construction (map.get w.sessions.constructions k) (((knows from past w run).1 k).idle fresh)
   where
     no_construction : (o : Option Construction) → option_map shape o ≡ None → o ≡ None

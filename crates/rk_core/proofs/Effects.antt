@@ -45,7 +45,7 @@ use Rattle.rk_core.specs.Asker.{Asker, asker_of, serial_named, ring_for, ring_re
 use Rattle.rk_core.specs.Links.{linked_in, unlinked_in, cleared_in, full_refusal}
 use Rattle.rk_core.specs.Search.{Query, block_of}
 use Rattle.rk_core.specs.Completion.{completed, ended, condition_after}
-use Rattle.rk_core.specs.Hello.{Greets, Hellos, hello_refusal}
+use Rattle.rk_core.specs.Hello.{Greets, Hellos, hello_refusal, join_refusal}
 use Rattle.rk_core.specs.Request.{waiting, MeetsBuilding, MeetsPositive, Meets, Misses, Requests, start_refusal, destination_of, subject_of, started, with_key, new_authority}
 use Rattle.rk_core.specs.KeyAsks.{serial_in, TellsOf, TellsCallout, ReadsKey, Adds, with_key_changed, setting_asked, is_authority, read_refusal, revoke_refusal, timeout_refusal, link_refusal, unlink_refusal, add_refusal}
 use Rattle.rk_core.specs.Asks.{gate, ask_refusal, assume_refusal, Completes, completion_refusal, Acting, Asking}
@@ -91,6 +91,7 @@ pub data Effect (old : World) (now : ℕ) (e : Event) (a : Answer) (new : World)
   went : (n : ℕ) → e ≡ Gone (Client n) → map.contains_key old.sessions.clients n ≡ true → a ≡ done → new ≡ tidied (gone n old) → Effect old now e a new
   -- a client gets its context
   greets : (n uid gid : ℕ) (thread process : Bool) (join : Option ℕ) → e ≡ Asked (Client n) (ask.Hello uid gid thread process join) → CanAsk old (Client n) → asker_of old (Client n) ≡ None
+      → join_refusal old (record { uid = uid; gid = gid; thread = thread; process = process; join = join }) ≡ None
       → Greets old (Client n) (record { uid = uid; gid = gid; thread = thread; process = process; join = join }) a new → Effect old now e a new
   -- a construction starts
   begins : (s : SessionId) (asker : Asker) (typ description callout : List ℕ) (r : ℤ) (ring k : ℕ)
@@ -241,9 +242,9 @@ greeting : (old : World) (now : ℕ) (s : SessionId) (uid gid : ℕ) (thread pro
     → Hellos old s (record { uid = uid; gid = gid; thread = thread; process = process; join = join }) a new → Effect old now (Asked s (ask.Hello uid gid thread process join)) a new
 unfolding Hellos
 greeting old now (Client n) uid gid thread process join a new can gated h =
-    unless (hello_refusal old (record { uid = uid; gid = gid; thread = thread; process = process; join = join }) h.0) old a new _ _ (no_ask old now (Client n) a new (ask.Hello uid gid thread process join)) (λ _.
+    unless (hello_refusal old (record { uid = uid; gid = gid; thread = thread; process = process; join = join }) h.0) old a new _ _ (no_ask old now (Client n) a new (ask.Hello uid gid thread process join)) (λ none.
     or_memory old a new _ _ (no_ask old now (Client n) a new (ask.Hello uid gid thread process join)) (λ g.
-    greets n uid gid thread process join refl can (none_is _ (if_none _ errno.Einval gated)) g)) h.2
+    greets n uid gid thread process join refl can (none_is _ (if_none _ errno.Einval gated)) (first_none (join_refusal old (record { uid = uid; gid = gid; thread = thread; process = process; join = join })) _ none).0 g)) h.2
 greeting old now (Handler k) uid gid thread process join a new can gated h = absurd (cc)
 
 asking : (old : World) (now : ℕ) (s : SessionId) (x : Ask) (a : Answer) (new : World) → CanAsk old s → gate old s x ≡ None → Asking old now s x a new → Effect old now (Asked s x) a new

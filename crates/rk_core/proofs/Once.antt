@@ -15,7 +15,7 @@ use Rattle.rk_core.proofs.Drawn.{keeps_drawn}
 
 -- ---- lists
 
-never_more : (p : Past → Bool) (s : Past) (before : List Past) → p s ≡ false → never p before → never p (s ∷ before)
+pub never_more : (p : Past → Bool) (s : Past) (before : List Past) → p s ≡ false → never p before → never p (s ∷ before)
 never_more p s before h n = (λ i. h i || n i)
 
 happened_now : (p : Past → Bool) (s : Past) (before : List Past) → p s ≡ true → happened p (s ∷ before)

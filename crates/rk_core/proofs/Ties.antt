@@ -36,7 +36,7 @@ use Rattle.rk_core.specs.Completion.{announced, outcome_of, sessions_ended, keys
 use Rattle.rk_core.specs.Steps.{Past, told_as}
 use Rattle.rk_core.specs.Laws.{same_session, is_done, is_waiting, wait_begun, is_wait_ended}
 use Rattle.rk_core.proofs.Gets.{get_inserted}
-use Rattle.rk_core.proofs.Refusals.{none_is}
+use Rattle.rk_core.proofs.Refusals.{none_is, and_false}
 use Rattle.rk_core.proofs.Effects.{Effect, refused, still, took, came, went, greets, begins, joins, links, unlinks, marks, tells, sets, adds, assumes, concludes, ran_plain, ran_piped, failed, finished}
 use Rattle.rk_core.proofs.Greetings.{greeted_sessions}
 use Rattle.rk_core.proofs.Draws.{is_drawn}
@@ -50,10 +50,6 @@ abbrev pub after : ℕ → SessionId → Event → Answer → Option (ℕ × Boo
 after now s e a r = option_map_or (λ w. Some w) (wait_begun s e a) (cond (is_wait_ended s (step now e a)) None r)
 
 -- ---- the list's side
-
-and_false : (a b : Bool) → b ≡ false → (a && b) ≡ false
-and_false true b h = h
-and_false false b h = refl
 
 or_false : (a : Bool) → (a || false) ≡ a
 or_false true = refl
@@ -207,7 +203,7 @@ abbrev pub IdleFresh : World → Type 0
 IdleFresh w = (k : ℕ) → is_drawn w k ≡ false → map.get w.sessions.constructions k ≡ None
 
 -- who is there is there beside a new construction
-there_issued : (k : ℕ) (authority : Authority) (a : Sessions) (t : SessionId) → map.get a.constructions k ≡ None → is_none (session_of a t) ≡ false → is_none (session_of (with_construction k authority a) t) ≡ false
+pub there_issued : (k : ℕ) (authority : Authority) (a : Sessions) (t : SessionId) → map.get a.constructions k ≡ None → is_none (session_of a t) ≡ false → is_none (session_of (with_construction k authority a) t) ≡ false
 there_issued k authority a (Client n) new h = h
 there_issued k authority a (Handler j) new h =
     ap (λ o. is_none (option_and_then (λ (c : Construction). handler_in c.stage) o)) (get_inserted a.constructions k _ j) ∙ kept (nat_eq k j) refl
@@ -231,7 +227,7 @@ tied old now e a new (came n ev fresh ra w) idle s =
 tied old now e a new (went n ev there ra w) idle s =
     flag_at new _ s _ w (flag_went n old.sessions s)
     ∙ sym (ap (λ y. after now s y a (flag_of old.sessions s)) ev ∙ ap (λ y. after now s (Gone (Client n)) y (flag_of old.sessions s)) ra ∙ cleared_after now s (Gone (Client n)) done _ _ refl (over_gone now s n))
-tied old now e a new (greets n uid gid thread process join ev can none h) idle s =
+tied old now e a new (greets n uid gid thread process join ev can none joined h) idle s =
     flag_at new _ s _ h.6.1 (flag_kept (Client n) (with_context (record { uid = uid; gid = gid; thread = h.0; process = h.1; session = h.2; user = h.3 })) (λ x. refl) h.4.sessions s ∙ ap (λ (x : Sessions). flag_of x s) (greeted_sessions _ old h.4 h.0 h.1 h.2 h.3 h.5))
     ∙ sym (asked_done now s _ e a (Client n) (ask.Hello uid gid thread process join) _ ev h.6.0)
 tied old now e a new (begins t asker typ description callout r ring k ev can is depth fresh ra w) idle s =

@@ -37,7 +37,7 @@ use Rattle.rk_core.specs.Completion.{announced, outcome_of, ended, sessions_ende
 use Rattle.rk_core.specs.Asks.{assume_refusal}
 use Rattle.rk_core.specs.Steps.{told_as}
 use Rattle.rk_core.specs.Laws.{is_done, starts_by, launches, ends, completes_by, completes, assumed_at, same_session}
-use Rattle.rk_core.proofs.Refusals.{not_not, if_none, first_none, some_is}
+use Rattle.rk_core.proofs.Refusals.{not_not, and_false, if_none, first_none, some_is}
 use Rattle.rk_core.proofs.Effects.{Effect, CanAsk, refused, still, took, came, went, greets, begins, joins, links, unlinks, marks, tells, sets, adds, assumes, concludes, ran_plain, ran_piped, failed, finished}
 use Rattle.rk_core.proofs.Draws.{is_drawn, drawn_now}
 use Rattle.rk_core.proofs.Greetings.{greeted_sessions}
@@ -61,10 +61,6 @@ none_of = record { start = false; launch = false; ending = false; completion = f
 and_true : (a : Bool) → (a && true) ≡ a
 and_true true = refl
 and_true false = refl
-
-and_false : (a b : Bool) → b ≡ false → (a && b) ≡ false
-and_false true b h = h
-and_false false b h = refl
 
 -- nothing of it
 no_tests : (q : ℕ) (e : Event) (a : Answer) → starts_by a q ≡ false → launches e q ≡ false → ends e q ≡ false → completes_by e q ≡ false → assumed_at q e a ≡ None → tests q e a ≡ none_of
@@ -128,7 +124,7 @@ same_at : (new mid : World) (q : ℕ) (o : Option Shape) → new ≡ mid → at 
 same_at new mid q o e h = ap (λ (w : World). at w q) e ∙ h
 
 -- with one key in it, a step is a turn of that key and quiet for the others
-by_key : (k q : ℕ) (P : Type 0) → (k ≡ q → nat_eq k q ≡ true → P) → (nat_eq k q ≡ false → P) → P
+pub by_key : (k q : ℕ) (P : Type 0) → (k ≡ q → nat_eq k q ≡ true → P) → (nat_eq k q ≡ false → P) → P
 by_key k q P here other = elim (nat_eq k q) as (λ b. nat_eq k q ≡ b → P) [ true ↦ λ e. here (eqb-true k q e) e | false ↦ λ e. other e ] refl
 
 some_of : (a : Sessions) (k : ℕ) (st : Stage) → stage_of a k ≡ Some st → (x : Shape) × (shape_of a k ≡ Some x) × (x.starting ≡ is_starting (Some st))
@@ -160,7 +156,7 @@ pub shape_gone : (now k : ℕ) (condition : Condition) (w : World) (q : ℕ) →
 shape_gone now k condition w q same = shape_removed k (sessions_ended now k condition w) q ∙ ap (λ b. cond b None (shape_of (sessions_ended now k condition w) q)) same
 
 -- who completes a key is a handler that runs and has assumed that key's authority
-concluder : (w : World) (s : SessionId) (asker : Asker) (k : ℕ) → asker_of w s ≡ Some asker → asker.assumed ≡ Some k → (j : ℕ) × (x : Shape) × (s ≡ Handler j) × (at w j ≡ Some x) × (x.assumed ≡ Some k)
+pub concluder : (w : World) (s : SessionId) (asker : Asker) (k : ℕ) → asker_of w s ≡ Some asker → asker.assumed ≡ Some k → (j : ℕ) × (x : Shape) × (s ≡ Handler j) × (at w j ≡ Some x) × (x.assumed ≡ Some k)
 concluder w (Client n) asker k is own = absurd (client (session_of w.sessions (Client n)) is)
   where
     none_known : (o : Option Asker) → o ≡ Some asker → ((one : Asker) → o ≡ Some one → one.assumed ≡ None) → ⊥
@@ -273,7 +269,7 @@ turns old now e a new (took s wait outcome ev is ready ra w) g q =
     (same_at new _ q _ w (shape_session s _ (λ x. refl) old.sessions q))
 turns old now e a new (came n ev fresh ra w) g q = quiet (ap (λ y. tests q y a) ev ∙ no_tests q (Opened (Client n)) a (ap (λ y. starts_by y q) ra) refl refl refl refl) (same_at new _ q _ w refl)
 turns old now e a new (went n ev there ra w) g q = quiet (ap (λ y. tests q y a) ev ∙ no_tests q (Gone (Client n)) a (ap (λ y. starts_by y q) ra) refl refl refl refl) (same_at new _ q _ w refl)
-turns old now e a new (greets n uid gid thread process join ev can none h) g q =
+turns old now e a new (greets n uid gid thread process join ev can none joined h) g q =
     quiet (no_completion q (Client n) (ask.Hello uid gid thread process join) e a ev refl (ap (λ y. starts_by y q) h.6.0) refl)
     (same_at new _ q _ h.6.1 (shape_session (Client n) (with_context (record { uid = uid; gid = gid; thread = h.0; process = h.1; session = h.2; user = h.3 })) (λ x. refl) h.4.sessions q ∙ ap (λ (s : Sessions). shape_of s q) (greeted_sessions _ old h.4 h.0 h.1 h.2 h.3 h.5)))
 turns old now e a new (begins s asker typ description callout r ring k ev can is depth fresh ra w) g q =

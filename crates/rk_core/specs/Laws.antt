@@ -162,6 +162,11 @@ pub record OneOutcome (s : Past) (before : List Past) : Type 0 where
   pub waits : (t : SessionId) (j k : ℕ) (starter : Bool) → s.event ≡ Collect t → s.answer ≡ Waiting j → waited t before ≡ Some (k, starter)
       → (j ≡ k) × never (is_ending k) before × (starter ≡ false → never (is_completion k) before)
 
+-- each key has one outcome, for all who wait
+abbrev pub EachOutcome : List Past → Type 0
+EachOutcome [] = Unit {0}
+EachOutcome (s ∷ before) = OneOutcome s before × EachOutcome before
+
 -- ---- own authority: a completion is its own handler's
 
 -- the key that Handler k assumes by this event and answer, 0 for none
@@ -234,6 +239,11 @@ abbrev pub Rooted : Past → List Past → Type 0
 Rooted s before =
     (t : SessionId) (a : Ask) (k : ℕ) (subject : Subject) → s.event ≡ Asked t a → s.answer ≡ Start k subject
     → (root : Root) × (root_of before t ≡ Some root) × HasRoot subject root before
+
+-- each start has the context of its root
+abbrev pub EachRooted : List Past → Type 0
+EachRooted [] = Unit {0}
+EachRooted (s ∷ before) = Rooted s before × EachRooted before
 
 -- ---- no circle of waits, and no deep chain of starts
 
