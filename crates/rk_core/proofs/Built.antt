@@ -21,7 +21,7 @@ built_at keys k = key_passes keys k is_building
 abbrev pub is_built : World → ℕ → Bool
 is_built w k = built_at w.keys k
 
-abbrev built_in : Option Key → Bool
+abbrev pub built_in : Option Key → Bool
 built_in o = unwrap_or (option_map is_building o) false
 
 -- such a key is there

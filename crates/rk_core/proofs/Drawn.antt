@@ -29,23 +29,23 @@ same_world old mid new e h q n = h q (ap (λ (w : World). is_drawn w q) (sym e) 
 made : (kind : RingKind) (uid : ℕ) (old new : World) (ring : ℕ) → Makes kind uid old new ring → KeepsDrawn old new
 made kind uid old new ring h = same_world old _ new h.1 (draws ring old)
 
-made_if : (b : Bool) (kind : RingKind) (uid : ℕ) (old new : World) (ring : Option ℕ) → MakesIf b kind uid old new ring → KeepsDrawn old new
-made_if false kind uid old new ring h = same_world old old new h.1 (λ q n. n)
-made_if true kind uid old new ring h = made kind uid old new h.0 h.2
+pub if_drawn : (b : Bool) (kind : RingKind) (uid : ℕ) (old new : World) (ring : Option ℕ) → MakesIf b kind uid old new ring → KeepsDrawn old new
+if_drawn false kind uid old new ring h = same_world old old new h.1 (λ q n. n)
+if_drawn true kind uid old new ring h = made kind uid old new h.0 h.2
 
-session_made : (join : Option ℕ) (uid : ℕ) (old new : World) (ring : ℕ) → HasSessionRing join uid old new ring → KeepsDrawn old new
-session_made None uid old new ring h = made kind.Session uid old new ring h
-session_made (Some join) uid old new ring h = same_world old old new h.1 (λ q n. n)
+pub session_drawn : (join : Option ℕ) (uid : ℕ) (old new : World) (ring : ℕ) → HasSessionRing join uid old new ring → KeepsDrawn old new
+session_drawn None uid old new ring h = made kind.Session uid old new ring h
+session_drawn (Some join) uid old new ring h = same_world old old new h.1 (λ q n. n)
 
-user_made : (uid : ℕ) (old new : World) (ring : ℕ) → HasUserRing uid old new ring → KeepsDrawn old new
-user_made uid old new ring (inl h) = same_world old old new h.3 (λ q n. n)
-user_made uid old new ring (inr h) = made kind.User uid old new ring h.1
+pub user_drawn : (uid : ℕ) (old new : World) (ring : ℕ) → HasUserRing uid old new ring → KeepsDrawn old new
+user_drawn uid old new ring (inl h) = same_world old old new h.3 (λ q n. n)
+user_drawn uid old new ring (inr h) = made kind.User uid old new ring h.1
 
 greeted : (g : Greeting) (old new : World) (thread process : Option ℕ) (session user : ℕ) → MakesRings g old new thread process session user → KeepsDrawn old new
 greeted g old new thread process session user h q n =
-    made_if g.thread kind.Thread g.uid old h.w1 thread h.thread_made q
-    (made_if g.process kind.Process g.uid h.w1 h.w2 process h.process_made q
-    (session_made g.join g.uid h.w2 h.w3 session h.session_made q (user_made g.uid h.w3 new user h.user_made q n)))
+    if_drawn g.thread kind.Thread g.uid old h.w1 thread h.thread_made q
+    (if_drawn g.process kind.Process g.uid h.w1 h.w2 process h.process_made q
+    (session_drawn g.join g.uid h.w2 h.w3 session h.session_made q (user_drawn g.uid h.w3 new user h.user_made q n)))
 
 pub keeps_drawn : (old : World) (now : ℕ) (e : Event) (a : Answer) (new : World) → Effect old now e a new → KeepsDrawn old new
 keeps_drawn old now e a new (refused error ra w free) = same_world old old new w (λ q n. n)

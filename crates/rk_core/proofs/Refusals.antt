@@ -1,5 +1,5 @@
 -- What a step without a refusal has passed.
-use Rattle.std.proofs.Common.{◌≡◌, Bool, true, false, ◌||◌, ◌&&◌, List, ◌∷◌, refl, inl, inr}
+use Rattle.std.proofs.Common.{◌≡◌, Bool, true, false, ◌||◌, ◌&&◌, List, [], ◌∷◌, refl, sym, subst, inl, inr}
 use Rattle.std.specs.Prelude.{Option, Some, None, not, is_some, is_none, MatchOption}
 use Rattle.rk_names.specs.declared.errors.Errno.{Errno}
 use Rattle.rk_names.specs.declared.errors.Errno.TheVariants as errno
@@ -57,3 +57,15 @@ or_memory old a new P X out on (inr h) = on h
 pub by_option : {A : Type 0} (o : Option A) (P : A → Type 0) (N X : Type 0) → (o ≡ None → N → X) → ((x : A) → o ≡ Some x → P x → X) → MatchOption o N P → X
 by_option None P N X none some h = none refl h
 by_option (Some x) P N X none some h = some x refl h
+
+-- ---- what a step does, where a refusal applies or none does
+
+pub unless_none : (r : Option Errno) (old : World) (a : Answer) (new : World) (P : Type 0) → r ≡ None → P → Unless r old a new P
+unless_none r old a new P e p = subst (λ (o : Option Errno). Unless o old a new P) (sym e) p
+
+pub unless_some : (r : Option Errno) (error : Errno) (old : World) (P : Type 0) → r ≡ Some error → Unless r old (Refused error) old P
+unless_some r error old P e = subst (λ (o : Option Errno). Unless o old (Refused error) old P) (sym e) (refl, refl)
+
+pub only_one : (o : Option Errno) → first_of (o ∷ []) ≡ o
+only_one None = refl
+only_one (Some error) = refl

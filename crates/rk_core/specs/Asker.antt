@@ -4,7 +4,6 @@ use Rattle.std.specs.Option.{option_map_or}
 use Rattle.std.specs.List.{list_any}
 use Rattle.std.specs.FinMap as map
 use Rattle.rk_names.specs.declared.context.Context.{Context}
-use Rattle.rk_names.specs.declared.context.Setting.{Setting}
 use Rattle.rk_names.specs.declared.numbers.SessionId.{SessionId}
 use Rattle.rk_names.specs.declared.numbers.SessionId.TheVariants.{Client, Handler}
 use Rattle.rk_names.specs.declared.errors.Errno.{Errno}
@@ -16,17 +15,10 @@ use Rattle.rk_auth.specs.declared.session.Session.{Session}
 use Rattle.rk_auth.specs.declared.construction.Authority.{Authority}
 use Rattle.rk_auth.specs.Sessions.{session_of, assumed_authority}
 use Rattle.rk_core.specs.World.{World}
+pub use Rattle.rk_core.specs.declared.asker.Asker.{Asker}
 use Rattle.rk_core.specs.Allowed.{first_of, refused_if}
 
 -- ---- who acts
-
--- who acts in an ask: its context, the key whose authority is assumed and the requestor's ring, how deep a construction would be, and the setting
-pub record Asker : Type 0 where
-  pub context : Context
-  pub assumed : Option ℕ
-  pub requestor : Option ℕ
-  pub depth : ℕ
-  pub setting : Setting
 
 -- a client acts for itself
 abbrev pub client_asker : Session → Option Asker

@@ -1,5 +1,5 @@
 -- The asks, each with its own refusals and its effect.
-use Rattle.std.specs.Prelude.{ℕ, ℤ, pos, negsuc, not, ◌==◌, is_some, is_none, [], ◌∷◌, Option, Some, None, MatchOption, if◌then◌else◌}
+use Rattle.std.specs.Prelude.{ℕ, ℤ, Bool, true, false, pos, negsuc, not, ◌==◌, is_some, is_none, [], ◌∷◌, Option, Some, None, MatchOption, if◌then◌else◌}
 use Rattle.rk_names.specs.declared.numbers.SessionId.{SessionId}
 use Rattle.rk_names.specs.declared.numbers.SessionId.TheVariants.{Client, Handler}
 use Rattle.rk_names.specs.declared.errors.Errno.{Errno}
@@ -65,6 +65,13 @@ ask_refusal w s a =
     first_of (refused_if (is_none (session_of w.sessions s)) errno.Einval ∷ refused_if (is_some (wait_of w.sessions s)) errno.Ebusy ∷ gate w s a ∷ [])
 
 -- ---- each ask
+
+-- any ask but HELLO, ASSUME and CALLOUT is one of someone who acts
+abbrev pub is_acting : Ask → Bool
+is_acting (ask.Hello uid gid thread process join) = false
+is_acting (ask.Assume key) = false
+is_acting ask.Callout = false
+is_acting _ = true
 
 -- behind the gate the session acts for someone
 abbrev pub Acting : World → SessionId → Answer → World → (Asker → Type 0) → Type 0

@@ -14,17 +14,10 @@ use Rattle.rk_rings.specs.declared.kind.RingKind.TheVariants as kind
 use Rattle.rk_rings.specs.Ring.{Ring, empty_ring, is_users, is_sessions}
 use Rattle.rk_auth.specs.Changes.{session_changed, with_context}
 use Rattle.rk_core.specs.declared.event.Answer.{Answer}
+pub use Rattle.rk_core.specs.declared.greeting.Greeting.{Greeting}
 use Rattle.rk_core.specs.declared.event.Answer.TheVariants.{Done}
 use Rattle.rk_core.specs.World.{World, drawn}
 use Rattle.rk_core.specs.Allowed.{first_of, refused_if, Leaves, Unless, OrNoMemory}
-
--- what is said in HELLO
-pub record Greeting : Type 0 where
-  pub uid : ℕ
-  pub gid : ℕ
-  pub thread : Bool
-  pub process : Bool
-  pub join : Option ℕ
 
 abbrev pub has_user_ring : World → ℕ → Bool
 has_user_ring w uid = list_any (λ r. is_users r.kind r.uid uid) (map.values w.rings)

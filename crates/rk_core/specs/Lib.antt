@@ -1,10 +1,15 @@
 pub mod World
+pub mod Kept
 pub mod Allowed
 pub mod Asker
 pub mod Links
 pub mod Search
+pub mod Sought
+pub mod Tidy
+pub mod Sound
 pub mod Completion
 pub mod Hello
+pub mod Drafts
 pub mod Request
 pub mod KeyAsks
 pub mod Asks

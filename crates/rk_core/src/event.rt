@@ -1,4 +1,7 @@
 //! What happens to the machine, and what it answers.
+ghost use Rattle.std.specs.Prelude.{◌≡◌};
+ghost use Rattle.rk_core.specs.Allowed.{done};
+
 use rk_macro::Subject;
 use rk_message::{Ask, Reply};
 use rk_names::{Errno, Payload, Serial, SessionId};
@@ -51,4 +54,11 @@ pub enum Answer {
     Waiting(Serial),
     /// It was refused, and nothing changed; or this is the outcome of a wait.
     Refused(Errno),
+}
+
+/// The answer of what gives nothing back.
+pub(crate) fn done() -> Answer
+    ensures { result ≡ done }
+{
+    Answer::Done(Reply::Number(0))
 }

@@ -157,6 +157,7 @@ impl Keys {
         payload: Option<Payload>,
     ) -> Result<Serial, KeyFault>
         ensures ok { IfOk result (λ k. IsNext self.old.serials k × Makes self.old k (new_key typ description owner payload) self.new) }
+        ensures naming { IsNaming self.old.keys self.old.numbers }
         ensures number { IfOk result (λ k. IsNumberFor self.old typ description k (map.get self.new.numbers k)) }
         ensures fresh { IfOk result (IsFresh self.old.serials) }
         ensures err { OnErr result (self.new ≡ self.old) }

@@ -226,8 +226,9 @@ impl Rings {
         Ok(())
     }
 
-    /// The key of that name in the ring; `None` where there is none, or no such ring.
-    pub(crate) fn find_in(&self, ring: Serial, name: NameNo) -> Option<Serial>
+    /// The key of that name in the ring; `None` where there is none, or no such ring. It takes no memory, and
+    /// walks over the links of the ring.
+    pub fn find_in(&self, ring: Serial, name: NameNo) -> Option<Serial>
         ensures { IsMatch self.now name (Some ring) result }
     {
         self.row(ring)?.find(name)

@@ -1,0 +1,68 @@
+-- A step, by what its call did.
+use Rattle.std.proofs.Common.{◌≡◌, ℕ, true, false, not, List, refl, sym, ap, subst}
+use Rattle.std.specs.Prelude.{Option, Some, None}
+use Rattle.std.proofs.lemmas.Bool.{both_ways}
+use Rattle.rk_names.specs.declared.numbers.SessionId.{SessionId}
+use Rattle.rk_names.specs.declared.errors.Errno.{Errno}
+use Rattle.rk_names.specs.declared.errors.Errno.TheVariants as errno
+use Rattle.rk_message.specs.declared.ask.Ask.{Ask}
+use Rattle.rk_auth.specs.declared.construction.Stage.{Stage}
+use Rattle.rk_auth.specs.declared.construction.Stage.TheVariants.{Starting, Plain, Piped}
+use Rattle.rk_auth.specs.Sessions.{stage_of, is_starting, is_running}
+use Rattle.rk_auth.specs.Changes as sessions
+use Rattle.rk_core.specs.declared.event.Event.TheVariants.{Asked, Launched, Ended}
+use Rattle.rk_core.specs.declared.event.Ran.{Ran}
+use Rattle.rk_core.specs.declared.event.How.{How}
+use Rattle.rk_core.specs.declared.event.Answer.{Answer}
+use Rattle.rk_core.specs.declared.event.Answer.TheVariants.{Refused}
+use Rattle.rk_core.specs.World.{World, tidied}
+use Rattle.rk_core.specs.Allowed.{done, refused_if}
+use Rattle.rk_core.specs.Asks.{ask_refusal, Asking}
+use Rattle.rk_core.specs.Completion.{ended, condition_after}
+use Rattle.rk_core.specs.Steps.{launched, Ends, Step}
+use Rattle.rk_core.specs.Tidy.{StayBut}
+use Rattle.rk_core.proofs.Refusals.{unless_none, unless_some}
+use Rattle.rk_core.proofs.Tidy.{all_stay}
+
+-- ---- an ask
+
+pub ask_refused : (old : World) (now : ℕ) (s : SessionId) (x : Ask) (e : Errno) → ask_refusal old s x ≡ Some e → Step old now (Asked s x) (Refused e) old
+unfolding Step
+ask_refused old now s x e is = unless_some (ask_refusal old s x) e old _ is
+
+pub ask_answered : (old : World) (now : ℕ) (s : SessionId) (x : Ask) (a : Answer) (new : World) → ask_refusal old s x ≡ None → Asking old now s x a new → Step old now (Asked s x) a new
+unfolding Step
+ask_answered old now s x a new none h = unless_none (ask_refusal old s x) old a new _ none h
+
+-- ---- a handler starts, and ends
+
+pub launches : (old : World) (now k : ℕ) (r : Ran) (a : Answer) (new : World) → stage_of old.sessions k ≡ Some Starting → a ≡ done → new ≡ tidied (launched now k r old) → Step old now (Launched k r) a new
+unfolding Step
+launches old now k r a new is ra left =
+    unless_none (refused_if (not (is_starting (stage_of old.sessions k))) errno.Einval) old a new _ (ap (λ o. refused_if (not (is_starting o)) errno.Einval) is) (ra, left)
+
+-- a session alone takes no key away
+pub only_sessions : (old : World) (k : ℕ) (st : Stage) → StayBut (λ j. false) old
+    → ◌≡◌ {A = World} (record old { sessions = sessions.launched k st old.sessions }) (tidied (record old { sessions = sessions.launched k st old.sessions }))
+only_sessions old k st tidy = λ i. record (sym (all_stay old tidy) i) { sessions = sessions.launched k st old.sessions }
+
+ends_as : (old : World) (now k : ℕ) (how : How) (payload : Option (List ℕ)) (st : Stage) (a : Answer) (new : World) → is_running (Some st) ≡ true → a ≡ done → new ≡ tidied (ended now k (condition_after st how payload) old)
+    → Ends old now k how payload (Some st) a new
+ends_as old now k how payload Starting a new runs ra left = absurd (both_ways false refl runs)
+ends_as old now k how payload (Plain s) a new runs ra left = (ra, left)
+ends_as old now k how payload Piped a new runs ra left = (ra, left)
+
+pub ends : (old : World) (now k : ℕ) (how : How) (payload : Option (List ℕ)) (st : Stage) (a : Answer) (new : World) → stage_of old.sessions k ≡ Some st → is_running (Some st) ≡ true → a ≡ done
+    → new ≡ tidied (ended now k (condition_after st how payload) old) → Step old now (Ended k how payload) a new
+unfolding Step
+ends old now k how payload st a new is runs ra left = subst (λ o. Ends old now k how payload o a new) (sym is) (ends_as old now k how payload st a new runs ra left)
+
+not_running : (old : World) (now k : ℕ) (how : How) (payload : Option (List ℕ)) (o : Option Stage) → is_running o ≡ false → Ends old now k how payload o (Refused errno.Einval) old
+not_running old now k how payload None h = (refl, refl)
+not_running old now k how payload (Some Starting) h = (refl, refl)
+not_running old now k how payload (Some (Plain s)) h = absurd (both_ways _ h refl)
+not_running old now k how payload (Some Piped) h = absurd (both_ways _ h refl)
+
+pub ends_none : (old : World) (now k : ℕ) (how : How) (payload : Option (List ℕ)) → is_running (stage_of old.sessions k) ≡ false → Step old now (Ended k how payload) (Refused errno.Einval) old
+unfolding Step
+ends_none old now k how payload h = not_running old now k how payload (stage_of old.sessions k) h

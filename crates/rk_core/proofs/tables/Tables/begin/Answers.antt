@@ -1,0 +1,48 @@
+use Rattle.std.proofs.Common.{ℕ, true, sym, ap, ◌∙◌, subst}
+use Rattle.std.specs.Prelude.{Some, None}
+use Rattle.rk_keys.specs.Known.{new_key}
+use Rattle.rk_auth.specs.Sessions.{Sessions}
+use Rattle.rk_auth.specs.Circles.{Leads}
+use Rattle.rk_auth.specs.declared.construction.Authority.{Authority}
+use Rattle.rk_core.specs.World.{World, tidied}
+use Rattle.rk_core.specs.Links.{linked_in}
+use Rattle.rk_core.specs.Search.{Query}
+use Rattle.rk_core.specs.Request.{waiting, subject_of}
+use Rattle.rk_core.specs.declared.event.Answer.TheVariants.{Start}
+use Rattle.rk_core.proofs.Starting.{new_known, others_stay, has_room, leads_nowhere}
+use Rattle.rk_core.proofs.tables.Tables.begin.Goals as goal
+
+pub link_tidily-requires-clause-known : goal.link_tidily-requires-clause-known
+link_tidily-requires-clause-known c =
+    new_known c.args.self.now c.make_construction.new.self c.in_ok-key.key (new_key c.args.typ c.args.description c.args.asker.now.context.uid None)
+    (ap (λ (w : World). w.keys) c.in_ok-key.ensures.ok) (ap (λ (w : World). w.rings) c.in_ok-key.ensures.ok)
+
+pub link_tidily-requires-clause-tidy : goal.link_tidily-requires-clause-tidy
+link_tidily-requires-clause-tidy c =
+    others_stay c.args.self.now c.make_construction.new.self c.in_ok-key.key (new_key c.args.typ c.args.description c.args.asker.now.context.uid None)
+    (ap (λ (w : World). w.keys) c.in_ok-key.ensures.ok) (ap (λ (w : World). w.rings) c.in_ok-key.ensures.ok) c.requires.sound.tidy
+
+pub link_tidily-requires-clause-room : goal.link_tidily-requires-clause-room
+link_tidily-requires-clause-room c =
+    has_room c.args.self.now c.make_construction.new.self c.in_ok-key.key (new_key c.args.typ c.args.description c.args.asker.now.context.uid None)
+    (ap (λ (w : World). w.keys) c.in_ok-key.ensures.ok) (ap (λ (w : World). w.rings) c.in_ok-key.ensures.ok) c.in_ok-key.ensures.unlinked c.args.ring c.requires.room
+
+pub wait-requires : goal.wait-requires
+wait-requires c =
+    let authority : Authority = record { context = c.args.asker.now.context; destination = c.args.ring; callout = c.args.callout; depth = c.args.asker.now.depth } in
+    subst (λ (a : Sessions). ¬ (Leads a c.in_ok-key.key c.args.id.now)) (sym (ap (λ (w : World). w.sessions) (c.link_tidily.ensures) ∙ ap (λ (w : World). w.sessions) c.in_ok-key.ensures.ok))
+    (leads_nowhere c.args.self.now.sessions c.in_ok-key.key authority c.args.id.now (c.requires.sound.constructions c.in_ok-key.key c.in_ok-key.ensures.fresh.unused) c.requires.there)
+
+pub returns-clause-ok : goal.returns-clause-ok
+returns-clause-ok c =
+    let q : Query = record { context = c.args.asker.now.context; typ = c.args.typ; description = c.args.description; now = c.args.now } in
+    let k : ℕ = c.in_ok-key.key in (
+      k,
+      c.in_ok-key.ensures.fresh,
+      (
+        λ i. Start k ((
+            c.subject-subject.ensures c.args.now
+            ∙ (λ j. subject_of (c.in_ok-key.ensures.ok j) k (record q { typ = c.in_ok-told_typ.ensures.cases j; description = c.in_ok-told_description.ensures.cases j }) (c.in_ok-told_callout.ensures.cases j))) i),
+        c.wait.ensures ∙ ap (waiting c.args.id.now k true) (c.link_tidily.ensures ∙ ap (λ (w : World). tidied (linked_in (Some c.args.ring) k w)) c.in_ok-key.ensures.ok),
+      ),
+    )

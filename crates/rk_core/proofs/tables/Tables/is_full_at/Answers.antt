@@ -1,0 +1,13 @@
+use Rattle.std.proofs.Common.{ap, ◌∙◌}
+use Rattle.rk_core.specs.World.{World}
+use Rattle.rk_core.specs.Links.{is_full_at}
+use Rattle.rk_core.proofs.NamesOf.{by_name}
+use Rattle.rk_core.proofs.Linked.{full_alike}
+use Rattle.rk_core.proofs.tables.Tables.is_full_at.Goals as goal
+
+pub returns : goal.returns
+returns c =
+    c.is_full.ensures
+    ∙ full_alike c.self.inside.keys c.self.inside.rings c.args.ring c.args.typ.now c.args.description.now c.name.result c.self.invariant
+    (by_name c.self.inside.keys c.args.typ.now c.args.description.now c.name.result c.name.ensures.naming c.name.ensures.none c.name.ensures.some)
+    ∙ ap (λ (w : World). is_full_at w c.args.ring c.args.typ.now c.args.description.now) c.self.view_is

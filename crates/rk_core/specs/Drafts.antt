@@ -1,0 +1,40 @@
+-- Rings that are to be made, with the serials drawn for them.
+use Rattle.std.specs.Prelude.{◌≡◌, ℕ, true, false, List, [], ◌∷◌, Option, Some, None}
+use Rattle.std.specs.Ordering.{nat_cmp}
+use Rattle.std.specs.FinMap as map
+use Rattle.std.specs.FinSet as set
+use Rattle.rk_keys.specs.Serials.{Drawn}
+use Rattle.rk_rings.specs.declared.kind.NewRing.{NewRing}
+use Rattle.rk_rings.specs.declared.kind.RingKind.{RingKind}
+use Rattle.rk_rings.specs.Ring.{Ring, empty_ring, is_users}
+use Rattle.rk_core.specs.World.{World}
+use Rattle.rk_core.specs.Hello.{Makes, has_user_ring}
+
+-- the rings are made, one after the other
+abbrev pub with_all : List NewRing → map.FinMap nat_cmp Ring → map.FinMap nat_cmp Ring
+with_all [] rings = rings
+with_all (one ∷ more) rings = with_all more (map.insert rings one.serial (empty_ring one.kind one.uid))
+
+-- each is new when it is made
+abbrev pub AreAllNew : List NewRing → map.FinMap nat_cmp Ring → Type 0
+AreAllNew [] rings = Unit {0}
+AreAllNew (one ∷ more) rings = (map.get rings one.serial ≡ None) × AreAllNew more (map.insert rings one.serial (empty_ring one.kind one.uid))
+
+-- the world with these rings, and these serials
+abbrev pub drafted : Drawn → List NewRing → World → World
+drafted serials made w = record w { rings = with_all made w.rings; serials = serials }
+
+-- the rings are new, and so is the next one
+pub record IsDraftOf (serials : Drawn) (made : List NewRing) (rings : map.FinMap nat_cmp Ring) : Type 0 where
+  pub new : AreAllNew made rings
+  pub more : (k : ℕ) → set.contains serials.used k ≡ false → map.get (with_all made rings) k ≡ None
+
+-- the ring that is there, or a new one
+abbrev pub MakesOr : Option ℕ → RingKind → ℕ → World → World → ℕ → Type 0
+MakesOr None kind uid old new ring = Makes kind uid old new ring
+MakesOr (Some there) kind uid old new ring = (ring ≡ there) × (new ≡ old)
+
+-- the user ring of this uid, None where it has none
+abbrev pub IsUserRing : World → ℕ → Option ℕ → Type 0
+IsUserRing w uid None = has_user_ring w uid ≡ false
+IsUserRing w uid (Some ring) = (r : Ring) × (map.get w.rings ring ≡ Some r) × (is_users r.kind r.uid uid ≡ true)

@@ -1,0 +1,150 @@
+//! HELLO: a client gets its context.
+ghost use Rattle.std.specs.Prelude.{◌≡◌, unwrap_or, [], IfOk, IfNone, OnOk, OnErr, IsTrue};
+ghost use Rattle.rk_keys.specs.Serials.{HasSerials, Extends};
+ghost use Rattle.rk_core.specs.World.{World};
+ghost use Rattle.rk_core.specs.Sound.{IsSound};
+ghost use Rattle.rk_core.specs.Drafts.{drafted, IsDraftOf, IsUserRing};
+ghost use Rattle.rk_core.specs.Hello.{join_refusal, rings_made, hello_refusal, Greets, Hellos};
+
+use crate::draft::Draft;
+use crate::event::Answer;
+use crate::greeting::Greeting;
+use crate::tables::Tables;
+use rk_message::Reply;
+use rk_names::{Context, Errno, Serial, SessionId};
+use rk_rings::RingKind;
+use std::alloc::AllocError;
+
+impl Tables {
+    /// The user ring of a uid, if it has one (user-keyring(7)).
+    fn user_ring(&self, uid: u32) -> Option<Serial>
+        ensures { IsUserRing self.now uid result }
+    {
+        self.rings.user_ring(uid)
+    }
+
+    /// A ring to join is a session ring of the same uid.
+    fn join_refusal(&self, greeting: &Greeting) -> Option<Errno>
+        ensures { result ≡ join_refusal self.now greeting.now }
+    {
+        let join = greeting.join?;
+        match self.ring_kind(join) {
+            None => Some(Errno::Enokey),
+            Some((RingKind::Session, uid)) if uid == greeting.uid => None,
+            Some(_) => Some(Errno::Eacces),
+        }
+    }
+
+    fn hello_refusal(&self, greeting: &Greeting, made: u32, left: bool) -> Option<Errno>
+        requires { made ≡ rings_made self.now greeting.now }
+        ensures is { result ≡ hello_refusal self.now greeting.now left }
+        ensures left { IfNone result (IsTrue left) }
+    {
+        let refusal = self.join_refusal(greeting);
+        if refusal.is_some() {
+            return refusal;
+        }
+        if !self.has_room(made) || !left {
+            return Some(Errno::Edquot);
+        }
+        None
+    }
+
+    /// Makes the rings of a context, and gives it to the session. All growths come before the first change.
+    #[tactic(auto, unfolding(crate::specs::Hello::Hellos))]
+    pub fn hello(&mut self, id: &SessionId, greeting: &Greeting) -> Answer
+        requires sound { IsSound self.old }
+        ensures { Hellos self.old id.now greeting.now result self.new }
+    {
+        let user = self.user_ring(greeting.uid);
+        let made = rings_made(greeting, &user);
+        let left = self.has_serials(made);
+        let refusal = self.hello_refusal(greeting, made, left);
+        if let Some(error) = refusal {
+            return Answer::Refused(error);
+        }
+        match self.greet(id, greeting, &user) {
+            Ok(answer) => answer,
+            Err(_) => Answer::Refused(Errno::Enomem),
+        }
+    }
+
+    fn greet(
+        &mut self,
+        id: &SessionId,
+        greeting: &Greeting,
+        there: &Option<Serial>,
+    ) -> Result<Answer, AllocError>
+        requires sound { IsSound self.old }
+        requires user { IsUserRing self.old greeting.now.uid there.now }
+        requires left { HasSerials self.old.serials (rings_made self.old greeting.now) }
+        ensures ok { IfOk result (λ answer. Greets self.old id.now greeting.now answer self.new) }
+        ensures err { OnErr result (self.new ≡ self.old) }
+    {
+        let uid = greeting.uid;
+        let mut draft = self.draft()?;
+        let thread = draft.make_if(greeting.thread, RingKind::Thread, uid)?;
+        let process = draft.make_if(greeting.process, RingKind::Process, uid)?;
+        let session = draft.make_or(&greeting.join, RingKind::Session, uid)?;
+        let user = draft.make_or(there, RingKind::User, uid)?;
+        self.take(draft)?;
+        let context = Context {
+            uid,
+            gid: greeting.gid,
+            thread,
+            process,
+            session,
+            user,
+        };
+        self.set_context(id, context);
+        Ok(Answer::Done(Reply::Rings {
+            thread: number(&context.thread),
+            process: number(&context.process),
+            session: session.get(),
+            user: user.get(),
+        }))
+    }
+
+    fn draft(&self) -> Result<Draft, AllocError>
+        ensures { IfOk result (λ d. (d.serials ≡ self.now.serials) × (d.made.items ≡ [])) }
+    {
+        Draft::new(self.alloc, self.keys.serials())
+    }
+
+    /// Makes the rings of a draft, or changes nothing.
+    fn take(&mut self, draft: Draft) -> Result<(), AllocError>
+        requires draft { IsDraftOf draft.serials draft.made.items self.old.rings }
+        requires extends { Extends self.old.serials draft.serials }
+        ensures ok { OnOk result (self.new ≡ drafted draft.serials draft.made.items self.old) }
+        ensures err { OnErr result (self.new ≡ self.old) }
+    {
+        let Draft { serials, made } = draft;
+        match self.rings.make(self.alloc, &made) {
+            Ok(()) => {
+                self.keys.set_serials(serials);
+                Ok(())
+            }
+            Err(_) => Err(AllocError),
+        }
+    }
+}
+
+/// How many rings are made for a context.
+fn rings_made(greeting: &Greeting, user: &Option<Serial>) -> u32
+    ensures { (w : World) → IsUserRing w greeting.now.uid user.now → result ≡ rings_made w greeting.now }
+{
+    u32::from(greeting.thread)
+        + u32::from(greeting.process)
+        + u32::from(greeting.join.is_none())
+        + u32::from(user.is_none())
+}
+
+/// A ring that may be absent, 0 where it is.
+fn number(ring: &Option<Serial>) -> u32
+    ensures { result ≡ unwrap_or ring.now 0 }
+{
+    match ring {
+        Some(ring) => ring.get(),
+        None => 0,
+    }
+}

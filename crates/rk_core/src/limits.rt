@@ -1,0 +1,13 @@
+//! What a book begins with.
+use rk_names::Serial;
+
+/// What a book begins with.
+#[derive(Clone, Copy, Debug, PartialEq, Eq)]
+pub struct Limits {
+    /// For so many seconds a key is negative whose handler did not complete it.
+    pub negative: u32,
+    /// The first serial that is drawn.
+    pub first: Serial,
+    /// How far the next one is from it, at least 1.
+    pub stride: u32,
+}

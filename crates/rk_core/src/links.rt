@@ -1,0 +1,156 @@
+//! Links of keys in rings, and the keys that vanish with their last link.
+ghost use Rattle.std.specs.Prelude.{◌≡◌, true, false, None, Some, [], ◌∷◌, ◌||◌, ◌==◌, MatchOption, ℕ};
+ghost use Rattle.std.specs.Option.{option_map_or};
+ghost use Rattle.std.specs.FinMap as map;
+ghost use Rattle.rk_keys.specs.Key.{is_rival};
+ghost use Rattle.rk_rings.specs.Ring.{is_linked};
+ghost use Rattle.rk_core.specs.World.{tidied};
+ghost use Rattle.rk_core.specs.Links.{is_full_at, is_full_for, full_refusal, linked_in, unlinked_in, cleared_in};
+ghost use Rattle.rk_core.specs.Tidy.{settled_at, without_ring, StayBut, rival_in};
+
+use crate::tables::Tables;
+use rk_names::{Description, Errno, Serial, TypeName};
+
+impl Tables {
+    /// Whether a ring has no room for a key of that name.
+    pub fn is_full_at(&self, ring: Serial, typ: &TypeName, description: &Description) -> bool
+        ensures { result ≡ is_full_at self.now ring typ.now description.now }
+    {
+        self.rings.is_full(ring, self.keys.name(typ, description))
+    }
+
+    fn is_full_for(&self, ring: Serial, key: Serial) -> bool
+        ensures { result ≡ is_full_for self.now ring key }
+    {
+        match self.fact(key) {
+            Some(fact) => self.is_full_at(ring, &fact.typ, &fact.description),
+            None => false,
+        }
+    }
+
+    /// Why a key can't be linked in a ring: it is full.
+    pub fn full_refusal(&self, ring: &Option<Serial>, key: Serial) -> Option<Errno>
+        ensures { result ≡ full_refusal self.now ring.now key }
+    {
+        match ring {
+            Some(ring) if self.is_full_for(*ring, key) => Some(Errno::Edquot),
+            _ => None,
+        }
+    }
+
+    /// The key that gives way where this one is linked.
+    pub fn rival(&self, ring: &Option<Serial>, key: Serial) -> Option<Serial>
+        ensures { (j : ℕ) → rival_in self.now ring.now key j ≡ option_map_or (λ r. j == r) result false }
+    {
+        let Some(ring) = ring else {
+            return None;
+        };
+        let name = self.keys.number(key)?;
+        match self.rings.find_in(*ring, name) {
+            Some(rival) => { if rival == key { None } else { Some(rival) } }
+            None => None,
+        }
+    }
+
+    /// Links a key in a ring, where one is given.
+    pub fn link(&mut self, ring: &Option<Serial>, key: Serial)
+        requires known { map.contains_key self.old.keys key ≡ true }
+        requires room { full_refusal self.old ring.now key ≡ None }
+        ensures { self.new ≡ linked_in ring.now key self.old }
+    {
+        if let Some(ring) = ring {
+            if let Some(name) = self.keys.number(key) {
+                let _ = self.rings.link(*ring, key, name);
+            }
+        }
+    }
+
+    /// Takes the link of a key out of a ring.
+    pub fn unlink(&mut self, ring: Serial, key: Serial)
+        requires { is_linked self.old.rings ring key ≡ true }
+        ensures { self.new ≡ unlinked_in (Some ring) key self.old }
+    {
+        let _ = self.rings.unlink(ring, key);
+    }
+
+    /// A key that is linked in a ring.
+    fn first_key(&self, ring: Serial) -> Option<Serial>
+        ensures { MatchOption result ((k : ℕ) → is_linked self.now.rings ring k ≡ false) (λ k. is_linked self.now.rings ring k ≡ true) }
+    {
+        self.rings.first_key(ring)
+    }
+
+    fn drop_ring(&mut self, ring: Serial)
+        ensures { self.new ≡ without_ring ring self.old }
+    {
+        let _ = self.rings.drop_ring(ring);
+    }
+}
+
+// ---- keys that vanish
+
+impl Tables {
+    /// The key vanishes, where it has no link and is not under construction (keyrings(7)).
+    pub fn settle(&mut self, key: Serial)
+        ensures { self.new ≡ settled_at key self.old }
+    {
+        if !self.has_link(key) && !self.is_building(key) {
+            self.keys.forget(key);
+        }
+    }
+
+    /// These two vanish, where they have no link and are not under construction.
+    pub fn settle_both(&mut self, rival: Option<Serial>, key: Serial)
+        requires { StayBut (λ j. option_map_or (λ r. j == r) rival false || j == key) self.old }
+        ensures { self.new ≡ tidied self.old }
+    {
+        match rival {
+            Some(rival) => {
+                self.settle(rival);
+                self.settle(key);
+            }
+            None => self.settle(key),
+        }
+    }
+
+    /// Links a key in a ring, where one is given. The key that gives way vanishes with its last link.
+    pub fn link_tidily(&mut self, ring: &Option<Serial>, key: Serial)
+        requires known { map.contains_key self.old.keys key ≡ true }
+        requires room { full_refusal self.old ring.now key ≡ None }
+        requires tidy { StayBut (λ j. j == key) self.old }
+        ensures { self.new ≡ tidied (linked_in ring.now key self.old) }
+    {
+        let rival = self.rival(ring, key);
+        self.link(ring, key);
+        self.settle_both(rival, key);
+    }
+
+    /// Takes the link of a key out of a ring. The key vanishes with its last link.
+    pub fn unlink_tidily(&mut self, ring: Serial, key: Serial)
+        requires linked { is_linked self.old.rings ring key ≡ true }
+        requires tidy { StayBut (λ j. false) self.old }
+        ensures { self.new ≡ tidied (unlinked_in (Some ring) key self.old) }
+    {
+        self.unlink(ring, key);
+        self.settle(key);
+    }
+
+    /// Takes all links out of a ring. Keys vanish with their last links.
+    pub fn clear_tidily(&mut self, ring: Serial)
+        requires tidy { StayBut (λ j. false) self.old }
+        ensures { self.new ≡ tidied (cleared_in (Some ring) self.old) }
+    {
+        while let Some(key) = self.first_key(ring) {
+            self.unlink_tidily(ring, key);
+        }
+    }
+
+    /// Drops a ring, where it is there. Keys vanish with their last links.
+    pub fn drop_tidily(&mut self, ring: Serial)
+        requires tidy { StayBut (λ j. false) self.old }
+        ensures { self.new ≡ tidied (without_ring ring self.old) }
+    {
+        self.clear_tidily(ring);
+        self.drop_ring(ring);
+    }
+}

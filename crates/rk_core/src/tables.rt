@@ -1,0 +1,286 @@
+//! Keys, rings and sessions as one world: what an ask reads of it.
+ghost use Rattle.std.specs.Prelude.{◌≡◌, ◌≤◌, ◌+◌, ◌↔◌, IsTrue, IfOk, MatchOption, MatchResult, None, Some, is_some, if◌then◌else◌};
+ghost use Rattle.std.specs.Option.{option_copied, option_map};
+ghost use Rattle.std.specs.FinMap as map;
+ghost use Rattle.rk_names.specs.Settings.{setting_number};
+ghost use Rattle.rk_keys.specs.Key.{key_passes, is_building, is_revoked};
+ghost use Rattle.rk_keys.specs.Known.{has_all_keys};
+ghost use Rattle.rk_keys.specs.Serials.{HasSerials};
+ghost use Rattle.rk_table.specs.Says.{Says};
+ghost use Rattle.rk_rings.specs.Ring.{is_linked, has_link};
+ghost use Rattle.rk_rings.specs.Places.{ring_at, is_numbered_live, default_ring, live};
+ghost use Rattle.rk_rings.specs.Faults.{fault_errno};
+ghost use Rattle.rk_auth.specs.Sessions.{session_of, wait_of, stage_of, unspent, assumed_authority};
+ghost use Rattle.rk_auth.specs.Changes.{outcome_at, session_changed, with_context, with_setting, with_assumed};
+ghost use Rattle.rk_auth.specs.Circles.{Leads};
+ghost use Rattle.rk_auth.specs.Faults.{assume_fault};
+ghost use Rattle.rk_core.specs.World.{World, empty_world};
+ghost use Rattle.rk_core.specs.Asker.{is_reached};
+
+use crate::limits::Limits;
+use rk_auth::{Authority, Auths, Outcome, Session, Stage, Wait};
+use rk_keys::{Key, Keys};
+use rk_names::{Context, Errno, Serial, SessionId, Setting};
+use rk_rings::{Place, RingFault, RingKind, Rings};
+use std::alloc::{AllocError, Global};
+use std::marker::Model;
+
+/// The machine's state: keys, rings and sessions.
+#[derive(Drop)]
+pub struct Tables {
+    pub(crate) alloc: Global,
+    pub(crate) negative: u32,
+    pub(crate) keys: Keys,
+    pub(crate) rings: Rings,
+    pub(crate) auths: Auths,
+}
+
+impl Model for Tables {
+    ghost use Rattle.rk_core.specs.World.{World, world_code};
+    ghost use Rattle.rk_core.specs.Kept.{IsKept, world_of};
+
+    ghost Value = { World };
+
+    ghost coded = { world_code };
+
+    ghost view = { λ t. world_of t.negative t.keys t.rings t.auths.sessions };
+
+    ghost invariant = { λ t. IsKept t.keys t.rings };
+}
+
+impl Tables {
+    /// No key, no ring, no session.
+    pub fn new(alloc: Global, limits: Limits) -> Result<Tables, AllocError>
+        requires { 1 ≤ limits.stride }
+        ensures { IfOk result (λ t. t ≡ empty_world limits.negative limits.first limits.stride) }
+    {
+        let keys = Keys::new(alloc, limits.first, limits.stride)?;
+        let auths = Auths::new(alloc)?;
+        Ok(Tables {
+            alloc,
+            negative: limits.negative,
+            keys,
+            rings: Rings::new(alloc),
+            auths,
+        })
+    }
+
+    /// Where memory comes from.
+    pub fn alloc(&self) -> Global {
+        self.alloc
+    }
+
+    /// For so many seconds a key is negative whose handler did not complete it.
+    pub fn negative(&self) -> u32
+        ensures { result ≡ self.now.negative }
+    {
+        self.negative
+    }
+}
+
+// ---- sessions
+
+impl Tables {
+    /// A session, as it stands.
+    pub fn session(&self, id: &SessionId) -> Option<&Session>
+        ensures { option_copied result ≡ session_of self.now.sessions id.now }
+    {
+        self.auths.session(id)
+    }
+
+    /// What a session waits for.
+    pub fn wait_of(&self, id: &SessionId) -> Option<Wait>
+        ensures { result ≡ wait_of self.now.sessions id.now }
+    {
+        self.auths.wait_of(id)
+    }
+
+    /// How far the construction of a key is.
+    pub fn stage(&self, key: Serial) -> Option<&Stage>
+        ensures { option_copied result ≡ stage_of self.now.sessions key }
+    {
+        self.auths.stage(key)
+    }
+
+    /// The authority of a key, while it is unspent.
+    pub fn unspent(&self, key: Serial) -> Option<&Authority>
+        ensures { option_copied result ≡ unspent self.now.sessions key }
+    {
+        self.auths.unspent(key)
+    }
+
+    /// The unspent authority that a session has assumed.
+    pub fn assumed_authority(&self, id: &SessionId) -> Option<&Authority>
+        ensures { option_copied result ≡ assumed_authority self.now.sessions id.now }
+    {
+        self.auths.assumed_authority(id)
+    }
+
+    /// Whether a client is there.
+    pub fn has_client(&self, client: u32) -> bool
+        ensures { result ≡ map.contains_key self.now.sessions.clients client }
+    {
+        self.auths.has_client(client)
+    }
+
+    /// Gives a session its context.
+    pub fn set_context(&mut self, id: &SessionId, context: Context)
+        ensures { self.new ≡ record self.old { sessions = session_changed id.now (with_context context) self.old.sessions } }
+    {
+        self.auths.set_context(id, context);
+    }
+
+    /// Gives a session its setting for new keys.
+    pub fn set_setting(&mut self, id: &SessionId, setting: Setting)
+        ensures { self.new ≡ record self.old { sessions = session_changed id.now (with_setting setting) self.old.sessions } }
+    {
+        self.auths.set_setting(id, setting);
+    }
+
+    /// A session assumes the authority of a key, which has to be its own and unspent, or with `None` none.
+    pub fn set_assumed(&mut self, id: &SessionId, key: Option<Serial>)
+        requires { assume_fault self.old.sessions id.now key ≡ None }
+        ensures { self.new ≡ record self.old { sessions = session_changed id.now (with_assumed key) self.old.sessions } }
+    {
+        let _ = self.auths.assume(id, key);
+    }
+
+    /// The outcome of a session's wait, where it may be collected.
+    pub fn outcome(&self, id: &SessionId) -> Option<Outcome>
+        ensures { result ≡ outcome_at self.now.sessions id.now }
+    {
+        self.auths.ready(id)
+    }
+
+    /// Whether the session would wait for itself, if it waited for the key.
+    pub fn closes_circle(&self, id: &SessionId, key: Serial) -> bool
+        ensures { Says result (Leads self.now.sessions key id.now) }
+    {
+        self.auths.would_close_circle(id, key)
+    }
+}
+
+// ---- keys
+
+impl Tables {
+    /// What is known of a key.
+    pub fn fact(&self, key: Serial) -> Option<&Key>
+        ensures { option_copied result ≡ map.get self.now.keys key }
+    {
+        self.keys.fact(key)
+    }
+
+    /// Whether the key is under construction.
+    pub fn is_building(&self, key: Serial) -> bool
+        ensures { result ≡ key_passes self.now.keys key is_building }
+    {
+        match self.fact(key) {
+            Some(fact) => fact.is_building(),
+            None => false,
+        }
+    }
+
+    /// Whether the key is marked as revoked.
+    pub fn is_revoked(&self, key: Serial) -> bool
+        ensures { result ≡ key_passes self.now.keys key is_revoked }
+    {
+        match self.fact(key) {
+            Some(fact) => fact.revoked,
+            None => false,
+        }
+    }
+
+    /// Whether the user has its 200 keys.
+    pub fn has_all_keys(&self, uid: u32) -> bool
+        ensures { result ≡ has_all_keys self.now.keys uid }
+    {
+        self.keys.is_full(uid)
+    }
+
+    /// Whether so many serials are left.
+    pub fn has_serials(&self, count: u32) -> bool
+        ensures { Says result (HasSerials self.now.serials count) }
+    {
+        self.keys.left(count)
+    }
+}
+
+// ---- rings
+
+impl Tables {
+    /// Whether there is such a ring.
+    pub fn has_ring(&self, ring: Serial) -> bool
+        ensures { result ≡ map.contains_key self.now.rings ring }
+    {
+        self.rings.contains(ring)
+    }
+
+    /// A ring that may have been dropped.
+    pub fn live(&self, ring: Option<Serial>) -> Option<Serial>
+        ensures { result ≡ live self.now.rings ring }
+    {
+        match ring {
+            Some(ring) if self.has_ring(ring) => Some(ring),
+            _ => None,
+        }
+    }
+
+    /// What a ring is for, and whose it is.
+    pub fn ring_kind(&self, ring: Serial) -> Option<(RingKind, u32)>
+        ensures { result ≡ option_map (λ r. (r.kind, r.uid)) (map.get self.now.rings ring) }
+    {
+        self.rings.kind(ring)
+    }
+
+    /// Whether so many rings can be made.
+    pub fn has_room(&self, more: u32) -> bool
+        ensures { IsTrue result ↔ (map.len self.now.rings + more ≤ 1024) }
+    {
+        self.rings.has_room(more as usize)
+    }
+
+    /// Whether the key is linked in the ring.
+    pub fn is_linked(&self, ring: Serial, key: Serial) -> bool
+        ensures { result ≡ is_linked self.now.rings ring key }
+    {
+        self.rings.holds(ring, key)
+    }
+
+    /// Whether the key is linked in some ring.
+    pub fn has_link(&self, key: Serial) -> bool
+        ensures { result ≡ has_link self.now.rings key }
+    {
+        self.rings.is_held(key)
+    }
+
+    /// Whether the key is linked in a ring of the context.
+    pub fn is_reached(&self, context: &Context, key: Serial) -> bool
+        ensures { result ≡ is_reached self.now context.now key }
+    {
+        self.rings.is_reached(context, key)
+    }
+
+    /// The ring at a place of the context.
+    pub fn ring_at(
+        &self,
+        context: &Context,
+        requestor: Option<Serial>,
+        place: Place,
+    ) -> Result<Serial, RingFault>
+        ensures { MatchResult result (λ ring. ring_at self.now.rings context.now requestor place ≡ Some ring) (λ f. (ring_at self.now.rings context.now requestor place ≡ None) × (f ≡ (if is_numbered_live self.now.rings place then RingFault.Elsewhere else RingFault.NoRing))) }
+    {
+        self.rings.at(context, requestor, place)
+    }
+
+    /// Where a new key goes when no ring is named.
+    pub fn default_ring(
+        &self,
+        context: &Context,
+        requestor: Option<Serial>,
+        setting: Setting,
+    ) -> Serial
+        ensures { result ≡ default_ring self.now.rings context.now requestor setting }
+    {
+        self.rings.choose(context, requestor, setting)
+    }
+}
