@@ -31,20 +31,66 @@ fn authority(rt: &impl Abort, alloc: Global, depth: u8) -> Result<Authority, Nam
 /// Lets a client enter, unless it is there.
 fn open(auths: &mut Auths, client: u32) -> Result<(), AuthFault> {
     let id = SessionId::Client(client);
-    if auths.session(&id).is_none() {
-        auths.enter(id)?;
+    if auths.session(&id).is_some() {
+        return Ok(());
     }
-    Ok(())
+    auths.enter(id)
+}
+
+/// Issues the authority of a key that has none, so deep.
+fn issue_at(
+    rt: &impl Abort,
+    auths: &mut Auths,
+    alloc: Global,
+    key: Serial,
+    depth: u8,
+) -> Result<(), AuthFault> {
+    if auths.stage(key).is_some() {
+        return Ok(());
+    }
+    match authority(rt, alloc, depth) {
+        Ok(authority) => auths.issue(key, authority),
+        Err(_) => Err(AuthFault::NoMemory),
+    }
+}
+
+fn issue(rt: &impl Abort, auths: &mut Auths, alloc: Global, key: Serial) -> Result<(), AuthFault> {
+    issue_at(rt, auths, alloc, key, 1)
 }
 
 /// Starts the construction of a key, unless it has one, and lets its plain handler run.
-fn start(rt: &impl Abort, auths: &mut Auths, alloc: Global, key: Serial) -> Result<(), Fail> {
-    let authority = authority(rt, alloc, 1)?;
-    if auths.stage(key).is_none() {
-        auths.issue(key, authority)?;
-    }
-    auths.enter(SessionId::Handler(key))?;
-    Ok(())
+fn start(rt: &impl Abort, auths: &mut Auths, alloc: Global, key: Serial) -> Result<(), AuthFault> {
+    issue(rt, auths, alloc, key)?;
+    auths.enter(SessionId::Handler(key))
+}
+
+/// The clients 1, which started the construction of the key 3, and 2, which waits for it; its plain handler runs.
+fn started(rt: &impl Abort, alloc: Global) -> Result<Auths, Fail> {
+    let mut auths = Auths::new(alloc)?;
+    let key = serial(rt, 3);
+    assert_eq!(rt; open(&mut auths, 1), Ok(()));
+    assert_eq!(rt; open(&mut auths, 2), Ok(()));
+    assert_eq!(rt; start(rt, &mut auths, alloc, key), Ok(()));
+    assert_eq!(rt; auths.wait(&SessionId::Client(1), key, true), Ok(()));
+    assert_eq!(rt; auths.wait(&SessionId::Client(2), key, false), Ok(()));
+    Ok(auths)
+}
+
+/// What assuming an authority answers a session.
+fn assumes(
+    rt: &impl Abort,
+    auths: &mut Auths,
+    id: &SessionId,
+    key: Option<u32>,
+    wanted: Result<(), AuthFault>,
+) {
+    let key = key.map(|number| serial(rt, number));
+    assert_eq!(rt; auths.assume(id, key), wanted);
+}
+
+/// Whether the session holds the key's authority.
+fn holds(rt: &impl Abort, auths: &Auths, id: &SessionId, key: u32) -> bool {
+    auths.holder(id, serial(rt, key)).is_ok()
 }
 
 #[test]
@@ -67,8 +113,8 @@ fn sixty_four_clients(rt: HostRuntime) -> Result<(), Fail> {
 fn settings_contexts_and_shared_rings(rt: HostRuntime) -> Result<(), Fail> {
     let mut auths = Auths::new(rt.alloc())?;
     let one = SessionId::Client(1);
-    open(&mut auths, 1)?;
-    open(&mut auths, 2)?;
+    assert_eq!(rt; open(&mut auths, 1), Ok(()));
+    assert_eq!(rt; open(&mut auths, 2), Ok(()));
     assert!(rt; auths.root_context(&one).is_none());
     auths.set_context(&one, context(&rt));
     auths.set_setting(&one, Setting::User);
@@ -82,40 +128,48 @@ fn settings_contexts_and_shared_rings(rt: HostRuntime) -> Result<(), Fail> {
     Ok(())
 }
 
-/// One construction: its handler alone assumes its authority, its waiters are told when it is spent, and its
-/// starter collects when it has ended.
 #[test]
-fn from_start_to_end(rt: HostRuntime) -> Result<(), Fail> {
-    let mut auths = Auths::new(rt.alloc())?;
-    let (starter, waiter) = (SessionId::Client(1), SessionId::Client(2));
-    let (key, other) = (serial(&rt, 3), serial(&rt, 4));
-    let handler = SessionId::Handler(key);
-    open(&mut auths, 1)?;
-    open(&mut auths, 2)?;
-    start(&rt, &mut auths, rt.alloc(), key)?;
-    auths.wait(&starter, key, true)?;
-    auths.wait(&waiter, key, false)?;
-
-    assert_eq!(rt; auths.assume(&waiter, Some(key)), Err(AuthFault::NoKey));
-    assert_eq!(rt; auths.assume(&handler, Some(other)), Err(AuthFault::NoKey));
-    assert!(rt; auths.holder(&handler, key).is_err());
-    assert_eq!(rt; auths.assume(&handler, Some(key)), Ok(()));
+fn its_handler_alone_assumes(rt: HostRuntime) -> Result<(), Fail> {
+    let mut auths = started(&rt, rt.alloc())?;
+    let (waiter, handler) = (SessionId::Client(2), SessionId::Handler(serial(&rt, 3)));
+    assumes(&rt, &mut auths, &waiter, Some(3), Err(AuthFault::NoKey));
+    assumes(&rt, &mut auths, &handler, Some(4), Err(AuthFault::NoKey));
+    assert!(rt; !holds(&rt, &auths, &handler, 3));
+    assumes(&rt, &mut auths, &handler, Some(3), Ok(()));
     assert_eq!(rt; auths.root_context(&handler), Some(context(&rt)));
-    assert!(rt; auths.holder(&handler, key).is_ok());
-    assert!(rt; auths.holder(&handler, other).is_err());
+    assert!(rt; holds(&rt, &auths, &handler, 3));
+    assert!(rt; !holds(&rt, &auths, &handler, 4));
     let callout = auths
         .assumed_authority(&handler)
         .map(|one| one.callout.as_bytes().len());
     assert_eq!(rt; callout, Some(1));
+    Ok(())
+}
 
+#[test]
+fn a_spent_authority_is_gone(rt: HostRuntime) -> Result<(), Fail> {
+    let mut auths = started(&rt, rt.alloc())?;
+    let key = serial(&rt, 3);
+    let handler = SessionId::Handler(key);
+    assumes(&rt, &mut auths, &handler, Some(3), Ok(()));
     auths.spend(key, Outcome::Failed(KeyError::Rejected));
     assert!(rt; auths.unspent(key).is_none());
-    assert_eq!(rt; auths.assume(&handler, None), Ok(()));
-    assert_eq!(rt; auths.assume(&handler, Some(key)), Err(AuthFault::Revoked));
-    assert_eq!(rt;
-        auths.collect(&waiter),
-        Some(Outcome::Failed(KeyError::Rejected))
-    );
+    assert!(rt; !holds(&rt, &auths, &handler, 3));
+    assumes(&rt, &mut auths, &handler, None, Ok(()));
+    assumes(&rt, &mut auths, &handler, Some(3), Err(AuthFault::Revoked));
+    Ok(())
+}
+
+/// Who waits is told when the authority is spent, and the starter when the construction has ended.
+#[test]
+fn all_are_told(rt: HostRuntime) -> Result<(), Fail> {
+    let mut auths = started(&rt, rt.alloc())?;
+    let (starter, waiter) = (SessionId::Client(1), SessionId::Client(2));
+    let key = serial(&rt, 3);
+    let handler = SessionId::Handler(key);
+    let told = Some(Outcome::Failed(KeyError::Rejected));
+    auths.spend(key, Outcome::Failed(KeyError::Rejected));
+    assert_eq!(rt; auths.collect(&waiter), told);
     assert_eq!(rt; auths.collect(&waiter), None);
     assert_eq!(rt; auths.ready(&starter), None);
     assert!(rt; auths.wait_of(&starter).is_some());
@@ -123,29 +177,31 @@ fn from_start_to_end(rt: HostRuntime) -> Result<(), Fail> {
     auths.end(key);
     assert!(rt; !auths.is_open(key));
     assert!(rt; auths.session(&handler).is_none());
-    assert_eq!(rt;
-        auths.ready(&starter),
-        Some(Outcome::Failed(KeyError::Rejected))
-    );
-    assert_eq!(rt;
-        auths.collect(&starter),
-        Some(Outcome::Failed(KeyError::Rejected))
-    );
+    assert_eq!(rt; auths.ready(&starter), told);
+    assert_eq!(rt; auths.collect(&starter), told);
     Ok(())
+}
+
+/// The constructions of the keys 3 and 4, with their plain handlers, of which the first waits for the key 4.
+fn half_a_circle(rt: &impl Abort, alloc: Global) -> Result<Auths, AuthFault> {
+    let mut auths = Auths::new(alloc).map_err(|_| AuthFault::NoMemory)?;
+    let (three, four) = (serial(rt, 3), serial(rt, 4));
+    open(&mut auths, 1)?;
+    start(rt, &mut auths, alloc, three)?;
+    start(rt, &mut auths, alloc, four)?;
+    let first = SessionId::Handler(three);
+    assert!(rt; auths.would_close_circle(&first, three));
+    assert!(rt; !auths.would_close_circle(&first, four));
+    assert_eq!(rt; auths.wait(&first, four, false), Ok(()));
+    Ok(auths)
 }
 
 /// Two handlers that would wait for each other; a handler that would wait for itself.
 #[test]
 fn circles(rt: HostRuntime) -> Result<(), Fail> {
-    let mut auths = Auths::new(rt.alloc())?;
+    let mut auths = half_a_circle(&rt, rt.alloc())?;
     let (three, four) = (serial(&rt, 3), serial(&rt, 4));
     let (first, second) = (SessionId::Handler(three), SessionId::Handler(four));
-    open(&mut auths, 1)?;
-    start(&rt, &mut auths, rt.alloc(), three)?;
-    start(&rt, &mut auths, rt.alloc(), four)?;
-    assert!(rt; auths.would_close_circle(&first, three));
-    assert!(rt; !auths.would_close_circle(&first, four));
-    assert_eq!(rt; auths.wait(&first, four, false), Ok(()));
     assert_eq!(rt; auths.wait(&second, three, false), Err(AuthFault::Circle));
     assert!(rt; auths.wait_of(&second).is_none());
     assert_eq!(rt; auths.wait(&SessionId::Client(1), three, false), Ok(()));
@@ -160,33 +216,22 @@ fn circles(rt: HostRuntime) -> Result<(), Fail> {
 fn piped_and_too_deep(rt: HostRuntime) -> Result<(), Fail> {
     let mut auths = Auths::new(rt.alloc())?;
     let key = serial(&rt, 3);
-    let deep = authority(&rt, rt.alloc(), 9)?;
-    if auths.stage(key).is_none() {
-        assert_eq!(rt; auths.issue(key, deep), Err(AuthFault::Quota));
-    }
+    let deep = issue_at(&rt, &mut auths, rt.alloc(), key, 9);
+    assert_eq!(rt; deep, Err(AuthFault::Quota));
     assert!(rt; !auths.is_open(key));
-    let deepest = authority(&rt, rt.alloc(), 8)?;
-    if auths.stage(key).is_none() {
-        auths.reserve()?;
-        assert_eq!(rt; auths.issue(key, deepest), Ok(()));
-    }
+    assert_eq!(rt; auths.reserve(), Ok(()));
+    let deepest = issue_at(&rt, &mut auths, rt.alloc(), key, 8);
+    assert_eq!(rt; deepest, Ok(()));
     assert!(rt; matches!(auths.stage(key), Some(Stage::Starting)));
     auths.pipe(key);
     assert!(rt; matches!(auths.stage(key), Some(Stage::Piped)));
     assert!(rt; auths.session(&SessionId::Handler(key)).is_none());
-    assert_eq!(rt; AuthFault::Circle.errno().number(), 35);
     Ok(())
 }
 
-/// Issues the authority of a key that has none; a refused growth is the fault.
-fn issue(rt: &impl Abort, auths: &mut Auths, alloc: Global, key: Serial) -> Option<AuthFault> {
-    if auths.stage(key).is_some() {
-        return None;
-    }
-    match authority(rt, alloc, 1) {
-        Ok(authority) => auths.issue(key, authority).err(),
-        Err(_) => Some(AuthFault::NoMemory),
-    }
+#[test]
+fn faults_have_numbers(rt: HostRuntime) {
+    assert_eq!(rt; AuthFault::Circle.errno().number(), 35);
 }
 
 /// Goes well whichever allocation is refused: the call answers it, changes nothing, and goes well when it is
@@ -200,10 +245,33 @@ fn a_refused_growth_changes_nothing(rt: HostRuntime) -> Result<(), Fail> {
     };
     for number in 3..20 {
         let key = serial(&rt, number);
-        if let Some(fault) = issue(&rt, &mut auths, alloc, key) {
+        if let Err(fault) = issue(&rt, &mut auths, alloc, key) {
             assert_eq!(rt; fault, AuthFault::NoMemory);
             assert!(rt; !auths.is_open(key));
-            assert_eq!(rt; issue(&rt, &mut auths, alloc, key), None);
+            assert_eq!(rt; issue(&rt, &mut auths, alloc, key), Ok(()));
+        }
+        assert!(rt; auths.is_open(key));
+    }
+    Ok(())
+}
+
+/// The same of room that is asked for first.
+#[test]
+fn refused_room_changes_nothing(rt: HostRuntime) -> Result<(), Fail> {
+    let alloc = rt.alloc();
+    let mut auths = match Auths::new(alloc) {
+        Ok(auths) => auths,
+        Err(_) => Auths::new(alloc)?,
+    };
+    for number in 3..20 {
+        let key = serial(&rt, number);
+        if auths.reserve().is_err() {
+            assert!(rt; !auths.is_open(key));
+            assert_eq!(rt; auths.is_open(serial(&rt, 3)), number > 3);
+            assert_eq!(rt; auths.reserve(), Ok(()));
+        }
+        if issue(&rt, &mut auths, alloc, key).is_err() {
+            assert_eq!(rt; issue(&rt, &mut auths, alloc, key), Ok(()));
         }
         assert!(rt; auths.is_open(key));
     }

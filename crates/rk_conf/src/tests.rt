@@ -1,5 +1,5 @@
 use super::*;
-use rk_names::{Callout, Description, TypeName};
+use rk_names::{Callout, Description, NameFault, TypeName};
 use std::alloc::Global;
 use std::process::Abort;
 use std::test::Fail;
@@ -22,7 +22,7 @@ fn picked(
     typ: &str,
     desc: &str,
     callout: &str,
-) -> Result<usize, Fail> {
+) -> Result<usize, NameFault> {
     let typ = TypeName::new(alloc, typ.as_bytes())?;
     let desc = Description::new(alloc, desc.as_bytes())?;
     let callout = Callout::new(alloc, callout.as_bytes())?;
@@ -92,6 +92,17 @@ fn refuses_the_first_bad_line(rt: HostRuntime) -> Result<(), Fail> {
     for (text, line, code) in rows {
         check_fault(&rt, alloc, text, line, code);
     }
+    let fault = ConfFault {
+        line: 3,
+        kind: ConfKind::TooFewFields,
+    };
+    assert_eq!(rt; format!(in alloc; "{fault}")?.as_str(), "line 3: C1");
+    Ok(())
+}
+
+#[test]
+fn refuses_long_lines(rt: HostRuntime) -> Result<(), Fail> {
+    let alloc = rt.alloc();
     let long = vec![in alloc; b'a'; 8193]?;
     check_fault(&rt, alloc, &long, 1, "C4");
     let longest = vec![in alloc; b'a'; 8192]?;
@@ -99,11 +110,6 @@ fn refuses_the_first_bad_line(rt: HostRuntime) -> Result<(), Fail> {
     let mut spaced = Vec::from_slice(alloc, b"create user * * /bin/h")?;
     spaced.extend_from_slice(&vec![in alloc; b' '; 8171]?)?;
     check_fault(&rt, alloc, &spaced, 1, "C4");
-    let fault = ConfFault {
-        line: 3,
-        kind: ConfKind::TooFewFields,
-    };
-    assert_eq!(rt; format!(in alloc; "{fault}")?.as_str(), "line 3: C1");
     Ok(())
 }
 
@@ -127,39 +133,57 @@ fn shows_each_refusal_as_its_code(rt: HostRuntime) -> Result<(), Fail> {
     Ok(())
 }
 
+/// Finds that the line has these arguments.
+fn check_arguments(rt: &impl Abort, line: &Line, want: &[(&str, &[u8], &[u8])]) {
+    let arguments = line.args.as_slice();
+    assert_eq!(rt; arguments.len(), want.len());
+    for (argument, want) in arguments.iter().zip(want) {
+        assert_eq!(rt; shown(argument), *want);
+    }
+}
+
+/// Finds that the line has these four fields and this program.
+fn check_fields(rt: &impl Abort, line: &Line, want: [&[u8]; 5], piped: bool) {
+    let fields = [&line.op, &line.typ, &line.desc, &line.callout, &line.prog];
+    for (field, want) in fields.into_iter().zip(want) {
+        assert_eq!(rt; field.as_bytes(), want);
+    }
+    assert_eq!(rt; line.piped, piped);
+}
+
+#[test]
+fn reads_no_line(rt: HostRuntime) -> Result<(), Fail> {
+    for text in [b"".as_slice(), b"\n \n# x\n"] {
+        assert_eq!(rt; Conf::read(rt.alloc(), text)?.lines().len(), 0);
+    }
+    Ok(())
+}
+
 #[test]
 fn reads_the_fields_of_a_line(rt: HostRuntime) -> Result<(), Fail> {
-    let alloc = rt.alloc();
-    assert_eq!(rt; Conf::read(alloc, b"")?.lines().len(), 0);
-    assert_eq!(rt; Conf::read(alloc, b"\n \n# x\n")?.lines().len(), 0);
-
     let text = b"\tcreate\tid_resolver\t*\t*\t/usr/sbin/nfsidmap\t-t\t600\t%k\t%d";
-    let conf = Conf::read(alloc, text)?;
+    let conf = Conf::read(rt.alloc(), text)?;
     assert_eq!(rt; conf.lines().len(), 1);
     let line = &conf.lines()[0];
     assert_eq!(rt; line.number, 1);
-    assert_eq!(rt; line.op.as_bytes(), b"create".as_slice());
-    assert_eq!(rt; line.typ.as_bytes(), b"id_resolver".as_slice());
-    assert_eq!(rt; line.desc.as_bytes(), b"*".as_slice());
-    assert_eq!(rt; line.callout.as_bytes(), b"*".as_slice());
-    assert_eq!(rt; line.prog.as_bytes(), b"/usr/sbin/nfsidmap".as_slice());
-    assert!(rt; !line.piped);
+    let fields: [&[u8]; 5] = [b"create", b"id_resolver", b"*", b"*", b"/usr/sbin/nfsidmap"];
+    check_fields(&rt, line, fields, false);
     let want: [(&str, &[u8], &[u8]); 4] = [
         ("literal", b"-t", b""),
         ("literal", b"600", b""),
         ("key", b"", b""),
         ("description", b"", b""),
     ];
-    assert_eq!(rt; line.args.as_slice().len(), want.len());
-    for (argument, want) in line.args.as_slice().iter().zip(want) {
-        assert_eq!(rt; shown(argument), want);
-    }
+    check_arguments(&rt, line, &want);
+    Ok(())
+}
 
-    let conf = Conf::read(alloc, b"create * * * |/bin/cat\r\n")?;
+#[test]
+fn reads_a_pipe(rt: HostRuntime) -> Result<(), Fail> {
+    let conf = Conf::read(rt.alloc(), b"create * * * |/bin/cat\r\n")?;
     assert_eq!(rt; conf.lines().len(), 1);
-    let line = &conf.lines()[0];
-    assert_eq!(rt; line.prog.as_bytes(), b"/bin/cat".as_slice());
-    assert!(rt; line.piped);
+    let fields: [&[u8]; 5] = [b"create", b"*", b"*", b"*", b"/bin/cat"];
+    check_fields(&rt, &conf.lines()[0], fields, true);
     Ok(())
 }
 
@@ -186,11 +210,7 @@ fn reads_each_macro(rt: HostRuntime) -> Result<(), Fail> {
         ("payload", b"user", b"a}"),
         ("payload", b"user", b"a:b"),
     ];
-    let arguments = conf.lines()[0].args.as_slice();
-    assert_eq!(rt; arguments.len(), want.len());
-    for (argument, want) in arguments.iter().zip(want) {
-        assert_eq!(rt; shown(argument), want);
-    }
+    check_arguments(&rt, &conf.lines()[0], &want);
     Ok(())
 }
 
@@ -217,8 +237,8 @@ fn picks_the_first_line_that_fits(rt: HostRuntime) -> Result<(), Fail> {
     ];
     for (op, typ, desc, callout, want) in rows {
         assert_eq!(rt;
-            picked(alloc, &conf, op, typ, desc, callout)?,
-            want,
+            picked(alloc, &conf, op, typ, desc, callout),
+            Ok(want),
             "{op} {typ} {desc} {callout}"
         );
     }
@@ -248,11 +268,12 @@ fn wants_nothing_but_memory(rt: HostRuntime) {
 #[test]
 fn words_are_text(rt: HostRuntime) -> Result<(), Fail> {
     let alloc = rt.alloc();
+    for bytes in [b"a\0".as_slice(), b"\xff"] {
+        assert!(rt; Word::from_bytes(Vec::from_slice(alloc, bytes)?).is_none());
+    }
     let word = Word::from_bytes(Vec::from_slice(alloc, b"caf\xc3\xa9")?).ok_or("text")?;
     assert_eq!(rt; word.as_bytes().len(), 5);
     assert_eq!(rt; word.as_str(), "café");
-    assert!(rt; Word::from_bytes(Vec::from_slice(alloc, b"a\0")?).is_none());
-    assert!(rt; Word::from_bytes(Vec::from_slice(alloc, b"\xff")?).is_none());
     assert_eq!(rt;
         Word::new(alloc, word.as_bytes())?.as_bytes(),
         word.as_bytes()

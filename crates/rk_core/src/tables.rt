@@ -8,7 +8,7 @@ ghost use Rattle.rk_keys.specs.Known.{has_all_keys};
 ghost use Rattle.rk_keys.specs.Serials.{HasSerials};
 ghost use Rattle.rk_table.specs.Says.{Says};
 ghost use Rattle.rk_rings.specs.Ring.{is_linked, has_link};
-ghost use Rattle.rk_rings.specs.Places.{ring_at, is_numbered_live, default_ring, live};
+ghost use Rattle.rk_rings.specs.Places.{ring_at, is_numbered_live, default_ring};
 ghost use Rattle.rk_rings.specs.Faults.{fault_errno};
 ghost use Rattle.rk_auth.specs.Sessions.{session_of, wait_of, stage_of, unspent, assumed_authority};
 ghost use Rattle.rk_auth.specs.Changes.{outcome_at, session_changed, with_context, with_setting, with_assumed};
@@ -213,16 +213,6 @@ impl Tables {
         ensures { result ≡ map.contains_key self.now.rings ring }
     {
         self.rings.contains(ring)
-    }
-
-    /// A ring that may have been dropped.
-    pub fn live(&self, ring: Option<Serial>) -> Option<Serial>
-        ensures { result ≡ live self.now.rings ring }
-    {
-        match ring {
-            Some(ring) if self.has_ring(ring) => Some(ring),
-            _ => None,
-        }
     }
 
     /// What a ring is for, and whose it is.

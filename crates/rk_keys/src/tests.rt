@@ -1,16 +1,18 @@
-ghost use Rattle.std.specs.Prelude.{◌≤◌};
+ghost use Rattle.std.specs.Prelude.{◌≤◌, ◌<◌, ◌^◌};
 
 use super::*;
-use rk_names::{Description, Errno, KeyError, Moment, NameNo, Payload, Serial, TypeName};
+use rk_names::{
+    Description, Errno, KeyError, Moment, NameFault, NameNo, Payload, Serial, TypeName,
+};
 use std::alloc::{AllocError, Global};
+use std::process::Abort;
 use std::test::Fail;
 
-/// No key, and the serials of this form.
-fn no_keys(alloc: Global, first: u32, stride: u32) -> Result<Keys, Fail>
-    requires { 1 ≤ stride }
+/// The serial of this number.
+fn serial(number: u32) -> Serial
+    requires { (1 ≤ number) × (number < 2 ^ 31) }
 {
-    let first = Serial::new(first).ok_or("a serial")?;
-    Ok(Keys::new(alloc, first, stride)?)
+    Serial::new(number).unwrap()
 }
 
 /// Makes a key of type user under construction.
@@ -35,11 +37,70 @@ fn make_with(
     keys.make(typ, description, owner, payload)
 }
 
-/// The number of the name of type user, as the keys tell it.
-fn name(alloc: Global, keys: &Keys, description: &[u8]) -> Result<Option<u32>, Fail> {
+/// What making a key of type user under construction answers, its serial as a number.
+fn makes(
+    rt: &impl Abort,
+    alloc: Global,
+    keys: &mut Keys,
+    description: &[u8],
+    owner: u32,
+    wanted: Result<u32, KeyFault>,
+) {
+    let made = make(alloc, keys, description, owner).map(Serial::get);
+    assert_eq!(rt; made, wanted);
+}
+
+/// One key, of type user: under construction, or with a payload.
+fn one_key(alloc: Global, payload: Option<Payload>) -> Result<(Keys, Serial), KeyFault> {
+    let mut keys = Keys::new(alloc, serial(1), 1)?;
+    let key = make_with(alloc, &mut keys, b"a", 0, payload)?;
+    Ok((keys, key))
+}
+
+/// The payload of the bytes 7 and 0.
+fn two_bytes(alloc: Global) -> Result<Payload, Fail> {
+    Ok(Payload::new([7, 0].to_vec(alloc)?)?)
+}
+
+/// What the key stands as at a moment.
+fn stands(rt: &impl Abort, keys: &Keys, key: Serial, now: u64, wanted: Standing) {
+    assert_eq!(rt; keys.state_at(key, Moment(now)), Some(wanted), "at {now}");
+}
+
+/// What a timeout answers.
+fn times(
+    rt: &impl Abort,
+    keys: &mut Keys,
+    key: Serial,
+    now: u64,
+    seconds: u32,
+    wanted: Result<(), KeyFault>,
+) {
+    assert_eq!(rt;
+        keys.set_expiry(key, Moment(now), seconds),
+        wanted,
+        "at {now}"
+    );
+}
+
+fn name(alloc: Global, keys: &Keys, description: &[u8]) -> Result<Option<NameNo>, NameFault> {
     let typ = TypeName::new(alloc, b"user")?;
     let description = Description::new(alloc, description)?;
-    Ok(keys.name(&typ, &description).map(|number| number.0))
+    Ok(keys.name(&typ, &description))
+}
+
+/// The number of the name of type user, as the keys tell it.
+fn named(rt: &impl Abort, alloc: Global, keys: &Keys, description: &[u8], wanted: Option<u32>) {
+    let number = name(alloc, keys, description);
+    assert_eq!(rt; number, Ok(wanted.map(|number| NameNo(number))));
+}
+
+/// The numbers of the names of the keys 1 to 5.
+fn numbered(rt: &impl Abort, keys: &Keys, wanted: [Option<u32>; 5]) {
+    for (key, number) in [1, 2, 3, 4, 5].into_iter().zip(wanted) {
+        let found = Serial::new(key).and_then(|key| keys.number(key));
+        assert_eq!(rt; found.map(|number| number.0), number, "key {key}");
+    }
 }
 
 /// What a payload answers: the first byte and the length, or the refusal; `None` where there is no such key.
@@ -54,6 +115,17 @@ fn payload(keys: &Keys, key: Serial, now: u64) -> Option<Result<(u8, usize), Key
         )),
         Err(fault) => Err(fault),
     })
+}
+
+/// What a payload answers at a moment.
+fn gives(
+    rt: &impl Abort,
+    keys: &Keys,
+    key: Serial,
+    now: u64,
+    wanted: Option<Result<(u8, usize), KeyFault>>,
+) {
+    assert_eq!(rt; payload(keys, key, now), wanted, "at {now}");
 }
 
 #[test]
@@ -80,7 +152,7 @@ fn serials_rise_by_the_stride(rt: HostRuntime) -> Result<(), Fail> {
             assert_eq!(rt; serials.draw().map(Serial::get), number);
         }
     }
-    let serials = Serials::new(Serial::new(2_147_483_646).ok_or("a serial")?, 1);
+    let serials = Serials::new(serial(2_147_483_646), 1);
     assert!(rt; serials.left(0) && serials.left(2));
     assert!(rt; !serials.left(3) && !serials.left(4_294_967_295));
     Ok(())
@@ -88,7 +160,7 @@ fn serials_rise_by_the_stride(rt: HostRuntime) -> Result<(), Fail> {
 
 #[test]
 fn a_copy_draws_beside(rt: HostRuntime) -> Result<(), Fail> {
-    let mut keys = no_keys(rt.alloc(), 3, 4)?;
+    let mut keys = Keys::new(rt.alloc(), serial(3), 4)?;
     let mut beside = keys.serials();
     assert_eq!(rt; beside.draw().map(Serial::get), Some(3));
     assert_eq!(rt; beside.draw().map(Serial::get), Some(7));
@@ -96,27 +168,20 @@ fn a_copy_draws_beside(rt: HostRuntime) -> Result<(), Fail> {
     let mut further = keys.serials();
     assert_eq!(rt; further.draw().map(Serial::get), Some(7));
     keys.set_serials(further);
-    assert_eq!(rt; make(rt.alloc(), &mut keys, b"a", 0)?.get(), 11);
+    makes(&rt, rt.alloc(), &mut keys, b"a", 0, Ok(11));
     Ok(())
 }
 
 #[test]
 fn the_serials_run_out(rt: HostRuntime) -> Result<(), Fail> {
     let alloc = rt.alloc();
-    let mut keys = no_keys(alloc, 2_147_483_646, 1)?;
-    let first = make(alloc, &mut keys, b"a", 0)?;
-    assert_eq!(rt; first.get(), 2_147_483_646);
+    let mut keys = Keys::new(alloc, serial(2_147_483_646), 1)?;
+    makes(&rt, alloc, &mut keys, b"a", 0, Ok(2_147_483_646));
     assert!(rt; keys.left(1) && !keys.left(2));
-    assert_eq!(rt; make(alloc, &mut keys, b"b", 0)?.get(), 2_147_483_647);
-    assert_eq!(rt;
-        make(alloc, &mut keys, b"c", 0).err(),
-        Some(KeyFault::Quota)
-    );
-    keys.forget(first);
-    assert_eq!(rt;
-        make(alloc, &mut keys, b"c", 0).err(),
-        Some(KeyFault::Quota)
-    );
+    makes(&rt, alloc, &mut keys, b"b", 0, Ok(2_147_483_647));
+    makes(&rt, alloc, &mut keys, b"c", 0, Err(KeyFault::Quota));
+    keys.forget(serial(2_147_483_646));
+    makes(&rt, alloc, &mut keys, b"c", 0, Err(KeyFault::Quota));
     assert_eq!(rt; keys.draw(), None);
     Ok(())
 }
@@ -124,53 +189,57 @@ fn the_serials_run_out(rt: HostRuntime) -> Result<(), Fail> {
 #[test]
 fn a_user_has_200_keys(rt: HostRuntime) -> Result<(), Fail> {
     let alloc = rt.alloc();
-    let mut keys = no_keys(alloc, 1, 1)?;
+    let mut keys = Keys::new(alloc, serial(1), 1)?;
     for number in 1..=200u32 {
         assert!(rt; !keys.is_full(1000));
-        assert_eq!(rt; make(alloc, &mut keys, b"one name", 1000)?.get(), number);
+        makes(&rt, alloc, &mut keys, b"one name", 1000, Ok(number));
     }
     assert!(rt; keys.is_full(1000) && !keys.is_full(1001));
-    assert_eq!(rt;
-        make(alloc, &mut keys, b"more", 1000).err(),
-        Some(KeyFault::Quota)
-    );
+    makes(&rt, alloc, &mut keys, b"more", 1000, Err(KeyFault::Quota));
     // The refused call drew no serial.
-    assert_eq!(rt; make(alloc, &mut keys, b"more", 1001)?.get(), 201);
-    keys.forget(Serial::new(7).ok_or("a serial")?);
-    assert_eq!(rt; make(alloc, &mut keys, b"more", 1000)?.get(), 202);
+    makes(&rt, alloc, &mut keys, b"more", 1001, Ok(201));
+    keys.forget(serial(7));
+    makes(&rt, alloc, &mut keys, b"more", 1000, Ok(202));
     Ok(())
 }
 
 /// What a key stands as: a mark before an expiry, an expiry before the condition.
 #[test]
 fn standing(rt: HostRuntime) -> Result<(), Fail> {
-    let alloc = rt.alloc();
-    let mut keys = no_keys(alloc, 1, 1)?;
-    let key = make(alloc, &mut keys, b"a", 0)?;
+    let (mut keys, key) = one_key(rt.alloc(), None)?;
     assert!(rt; keys.fact(key).is_some_and(Key::is_building));
-    assert_eq!(rt; keys.state_at(key, Moment(0)), Some(Standing::Building));
+    stands(&rt, &keys, key, 0, Standing::Building);
     keys.complete(
         key,
         Condition::Negative(KeyError::Rejected),
         Some(Moment(110)),
     );
     assert!(rt; !keys.fact(key).is_some_and(Key::is_building));
-    assert_eq!(rt;
-        keys.state_at(key, Moment(109)),
-        Some(Standing::Negative(KeyError::Rejected))
-    );
-    assert_eq!(rt; keys.state_at(key, Moment(110)), Some(Standing::Expired));
-    assert_eq!(rt; keys.state_at(key, Moment(111)), Some(Standing::Expired));
-    keys.revoke(key)?;
-    assert_eq!(rt; keys.state_at(key, Moment(109)), Some(Standing::Revoked));
-    assert_eq!(rt; keys.state_at(key, Moment(111)), Some(Standing::Revoked));
-    assert_eq!(rt;
-        keys.revoke(key).err(),
-        Some(KeyFault::Own(KeyError::Revoked))
-    );
-    let none = Serial::new(2).ok_or("a serial")?;
-    assert_eq!(rt; keys.state_at(none, Moment(0)), None);
+    stands(&rt, &keys, key, 109, Standing::Negative(KeyError::Rejected));
+    stands(&rt, &keys, key, 110, Standing::Expired);
+    stands(&rt, &keys, key, 111, Standing::Expired);
+    Ok(())
+}
 
+#[test]
+fn a_mark_stays(rt: HostRuntime) -> Result<(), Fail> {
+    let (mut keys, key) = one_key(rt.alloc(), None)?;
+    keys.complete(
+        key,
+        Condition::Negative(KeyError::Rejected),
+        Some(Moment(110)),
+    );
+    assert_eq!(rt; keys.revoke(key), Ok(()));
+    stands(&rt, &keys, key, 109, Standing::Revoked);
+    stands(&rt, &keys, key, 111, Standing::Revoked);
+    assert_eq!(rt; keys.revoke(key), Err(KeyFault::Own(KeyError::Revoked)));
+    assert_eq!(rt; keys.state_at(serial(2), Moment(0)), None);
+    Ok(())
+}
+
+/// The error of each standing, and whether it is for good.
+#[test]
+fn standings_have_errors(rt: HostRuntime) {
     let table: [(Standing, Option<KeyError>, Option<KeyError>); 5] = [
         (
             Standing::Revoked,
@@ -194,106 +263,84 @@ fn standing(rt: HostRuntime) -> Result<(), Fail> {
         assert_eq!(rt; standing.error(), error);
         assert_eq!(rt; standing.over(), over);
     }
-    Ok(())
 }
 
 #[test]
 fn timeouts(rt: HostRuntime) -> Result<(), Fail> {
-    let alloc = rt.alloc();
-    let mut keys = no_keys(alloc, 1, 1)?;
-    let content = Payload::new([7, 0].to_vec(alloc)?)?;
-    let key = make_with(alloc, &mut keys, b"a", 0, Some(content))?;
-    keys.set_expiry(key, Moment(100), 10)?;
-    assert_eq!(rt; keys.state_at(key, Moment(109)), Some(Standing::Positive));
-    assert_eq!(rt; keys.state_at(key, Moment(110)), Some(Standing::Expired));
-    assert_eq!(rt;
-        keys.set_expiry(key, Moment(110), 0).err(),
-        Some(KeyFault::Own(KeyError::Expired))
-    );
-    keys.set_expiry(key, Moment(109), 0)?;
-    assert_eq!(rt;
-        keys.state_at(key, Moment(18_446_744_073_709_551_615)),
-        Some(Standing::Positive)
-    );
-    keys.set_expiry(key, Moment(18_446_744_073_709_551_610), 10)?;
-    assert_eq!(rt;
-        keys.state_at(key, Moment(18_446_744_073_709_551_614)),
-        Some(Standing::Positive)
-    );
-    assert_eq!(rt;
-        keys.state_at(key, Moment(18_446_744_073_709_551_615)),
-        Some(Standing::Expired)
-    );
+    let content = two_bytes(rt.alloc())?;
+    let (mut keys, key) = one_key(rt.alloc(), Some(content))?;
+    times(&rt, &mut keys, key, 100, 10, Ok(()));
+    stands(&rt, &keys, key, 109, Standing::Positive);
+    stands(&rt, &keys, key, 110, Standing::Expired);
+    let expired = Err(KeyFault::Own(KeyError::Expired));
+    times(&rt, &mut keys, key, 110, 0, expired);
+    times(&rt, &mut keys, key, 109, 0, Ok(()));
+    stands(&rt, &keys, key, u64::MAX, Standing::Positive);
+    Ok(())
+}
+
+#[test]
+fn the_last_moment(rt: HostRuntime) -> Result<(), Fail> {
+    let content = two_bytes(rt.alloc())?;
+    let (mut keys, key) = one_key(rt.alloc(), Some(content))?;
+    let last = 18_446_744_073_709_551_615;
+    times(&rt, &mut keys, key, 18_446_744_073_709_551_610, 10, Ok(()));
+    stands(&rt, &keys, key, last - 1, Standing::Positive);
+    stands(&rt, &keys, key, last, Standing::Expired);
     // A completion without an expiry keeps the one that the key has.
     keys.complete(key, Condition::Building, None);
-    assert_eq!(rt;
-        keys.state_at(key, Moment(18_446_744_073_709_551_615)),
-        Some(Standing::Expired)
-    );
-    keys.revoke(key)?;
-    assert_eq!(rt;
-        keys.set_expiry(key, Moment(0), 5).err(),
-        Some(KeyFault::Own(KeyError::Revoked))
-    );
+    stands(&rt, &keys, key, last, Standing::Expired);
+    assert_eq!(rt; keys.revoke(key), Ok(()));
+    let revoked = Err(KeyFault::Own(KeyError::Revoked));
+    times(&rt, &mut keys, key, 0, 5, revoked);
     Ok(())
 }
 
 #[test]
 fn payloads(rt: HostRuntime) -> Result<(), Fail> {
-    let alloc = rt.alloc();
-    let mut keys = no_keys(alloc, 1, 1)?;
-    let key = make(alloc, &mut keys, b"a", 0)?;
-    assert_eq!(rt; payload(&keys, key, 5), Some(Err(KeyFault::Busy)));
+    let (mut keys, key) = one_key(rt.alloc(), None)?;
+    gives(&rt, &keys, key, 5, Some(Err(KeyFault::Busy)));
     keys.complete(
         key,
-        Condition::Positive(Payload::new([7, 0].to_vec(alloc)?)?),
+        Condition::Positive(two_bytes(rt.alloc())?),
         Some(Moment(10)),
     );
-    assert_eq!(rt; payload(&keys, key, 5), Some(Ok((7, 2))));
-    assert_eq!(rt;
-        payload(&keys, key, 10),
-        Some(Err(KeyFault::Own(KeyError::Expired)))
-    );
+    gives(&rt, &keys, key, 5, Some(Ok((7, 2))));
+    let expired = KeyFault::Own(KeyError::Expired);
+    gives(&rt, &keys, key, 10, Some(Err(expired)));
     keys.complete(key, Condition::Negative(KeyError::NoKey), None);
-    assert_eq!(rt;
-        payload(&keys, key, 5),
-        Some(Err(KeyFault::Own(KeyError::NoKey)))
-    );
-    keys.revoke(key)?;
-    assert_eq!(rt;
-        payload(&keys, key, 5),
-        Some(Err(KeyFault::Own(KeyError::Revoked)))
-    );
+    let no_key = KeyFault::Own(KeyError::NoKey);
+    gives(&rt, &keys, key, 5, Some(Err(no_key)));
+    assert_eq!(rt; keys.revoke(key), Ok(()));
+    let revoked = KeyFault::Own(KeyError::Revoked);
+    gives(&rt, &keys, key, 5, Some(Err(revoked)));
     keys.forget(key);
-    assert_eq!(rt; payload(&keys, key, 5), None);
+    gives(&rt, &keys, key, 5, None);
     Ok(())
 }
 
 #[test]
 fn equal_names_share_a_number(rt: HostRuntime) -> Result<(), Fail> {
     let alloc = rt.alloc();
-    let mut keys = no_keys(alloc, 1, 1)?;
-    assert_eq!(rt; name(alloc, &keys, b"a")?, None);
-    let first = make(alloc, &mut keys, b"a", 0)?;
-    let second = make(alloc, &mut keys, b"a", 1000)?;
-    let other = make(alloc, &mut keys, b"ab", 0)?;
-    assert_eq!(rt; keys.number(first), Some(NameNo(1)));
-    assert_eq!(rt; keys.number(second), Some(NameNo(1)));
-    assert_eq!(rt; keys.number(other), Some(NameNo(3)));
-    assert_eq!(rt; name(alloc, &keys, b"ab")?, Some(3));
+    let mut keys = Keys::new(alloc, serial(1), 1)?;
+    named(&rt, alloc, &keys, b"a", None);
+    makes(&rt, alloc, &mut keys, b"a", 0, Ok(1));
+    makes(&rt, alloc, &mut keys, b"a", 1000, Ok(2));
+    makes(&rt, alloc, &mut keys, b"ab", 0, Ok(3));
+    numbered(&rt, &keys, [Some(1), Some(1), Some(3), None, None]);
+    named(&rt, alloc, &keys, b"ab", Some(3));
 
-    keys.forget(first);
-    assert_eq!(rt; keys.number(first), None);
-    assert_eq!(rt; name(alloc, &keys, b"a")?, Some(1));
-    let fourth = make(alloc, &mut keys, b"a", 0)?;
-    assert_eq!(rt; keys.number(fourth), Some(NameNo(1)));
+    keys.forget(serial(1));
+    named(&rt, alloc, &keys, b"a", Some(1));
+    makes(&rt, alloc, &mut keys, b"a", 0, Ok(4));
+    numbered(&rt, &keys, [None, Some(1), Some(3), Some(1), None]);
 
     // With the last key of a name its number goes, and none is used again.
-    keys.forget(second);
-    keys.forget(fourth);
-    assert_eq!(rt; name(alloc, &keys, b"a")?, None);
-    let fifth = make(alloc, &mut keys, b"a", 0)?;
-    assert_eq!(rt; keys.number(fifth), Some(NameNo(5)));
+    keys.forget(serial(2));
+    keys.forget(serial(4));
+    named(&rt, alloc, &keys, b"a", None);
+    makes(&rt, alloc, &mut keys, b"a", 0, Ok(5));
+    numbered(&rt, &keys, [None, None, Some(3), None, Some(5)]);
     Ok(())
 }
 
@@ -326,10 +373,9 @@ fn faults_are_answered(rt: HostRuntime) -> Result<(), Fail> {
 #[test]
 fn a_refused_growth_changes_nothing(rt: HostRuntime) -> Result<(), Fail> {
     let alloc = rt.alloc();
-    let first = Serial::new(1).ok_or("a serial")?;
-    let mut keys = match Keys::new(alloc, first, 1) {
+    let mut keys = match Keys::new(alloc, serial(1), 1) {
         Ok(keys) => keys,
-        Err(AllocError) => Keys::new(alloc, first, 1)?,
+        Err(AllocError) => Keys::new(alloc, serial(1), 1)?,
     };
     for number in 1..=201u32 {
         let owner = number / 200;

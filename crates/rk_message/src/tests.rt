@@ -1,19 +1,32 @@
 //! Bodies that were spelled by hand from the format, both ways, and the faults of others.
 
 use super::*;
-use rk_names::{Callout, Description, Errno, Payload, Serial, TypeName};
+use rk_names::{Callout, Description, Errno, NameFault, Payload, Serial, TypeName};
 use std::alloc::{AllocError, Global};
 use std::process::Abort;
 use std::test::Fail;
 
 const INVALID: Fault = Fault::Bad(Errno::Einval);
 
-fn bytes_of(alloc: Global, hex: &str) -> Result<Vec<u8>, Fail> {
+/// The byte of two hexadecimal digits.
+fn byte_of(pair: &[u8]) -> Option<u8> {
+    u8::from_str_radix(str::from_utf8(pair).ok()?, 16).ok()
+}
+
+/// The bytes of the digits. What is no digit is refused as if for want of memory.
+fn bytes_of(alloc: Global, hex: &str) -> Result<Vec<u8>, AllocError> {
     let mut bytes = Vec::new(alloc);
     for pair in hex.as_bytes().chunks(2) {
-        bytes.push(u8::from_str_radix(str::from_utf8(pair)?, 16)?)?;
+        bytes.push(byte_of(pair).ok_or(AllocError)?)?;
     }
     Ok(bytes)
+}
+
+/// The bytes twice, one behind the other.
+fn twice(alloc: Global, bytes: &[u8]) -> Result<Vec<u8>, AllocError> {
+    let mut both = bytes.to_vec(alloc)?;
+    both.extend_from_slice(bytes)?;
+    Ok(both)
 }
 
 /// Asks of numbers alone.
@@ -97,7 +110,7 @@ fn reject(error: KeyError) -> Ask {
     }
 }
 
-fn request(alloc: Global, callout: Option<Callout>, destination: i32) -> Result<Ask, Fail> {
+fn request(alloc: Global, callout: Option<Callout>, destination: i32) -> Result<Ask, NameFault> {
     Ok(Ask::Request {
         typ: TypeName::new(alloc, b"user")?,
         description: Description::new(alloc, b"a")?,
@@ -106,69 +119,82 @@ fn request(alloc: Global, callout: Option<Callout>, destination: i32) -> Result<
     })
 }
 
-/// Asks that hold names.
-fn named_asks(alloc: Global) -> Result<Vec<(&'static str, Ask)>, Fail> {
-    let told = Callout::new(alloc, b"x")?;
-    let empty = Callout::new(alloc, b"")?;
-    let instantiate = Ask::Instantiate {
-        key: 3,
-        payload: Payload::new(b"hi".to_vec(alloc)?)?,
-        ring: 0,
-    };
-    let add = Ask::Add {
-        typ: TypeName::new(alloc, b"user")?,
-        description: Description::new(alloc, b"a")?,
-        payload: Payload::new(b"hi".to_vec(alloc)?)?,
-        ring: 4,
-    };
-    let asks = vec![in alloc;
-        (
-            "020004757365720001610100017800000000",
-            request(alloc, Some(told), 0)?
-        ),
-        ("0200047573657200016100fffffffc", request(alloc, None, -4)?),
-        (
-            "02000475736572000161010000fffffff8",
-            request(alloc, Some(empty), -8)?
-        ),
-        ("04000000030002686900000000", instantiate),
-        ("0f0004757365720001610002686900000004", add),
-    ]?;
-    Ok(asks)
+fn told(alloc: Global, callout: &[u8], destination: i32) -> Result<Ask, NameFault> {
+    request(alloc, Some(Callout::new(alloc, callout)?), destination)
 }
 
-/// Reads and writes the body as the ask, and finds that no shorter and no longer one is read.
-fn goes_both_ways(rt: &impl Abort, alloc: Global, hex: &str, ask: &Ask) -> Result<(), Fail> {
+fn payload(alloc: Global) -> Result<Payload, NameFault> {
+    Payload::new(b"hi".to_vec(alloc).map_err(|_| NameFault::NoMemory)?)
+}
+
+fn instantiate(alloc: Global) -> Result<Ask, NameFault> {
+    Ok(Ask::Instantiate {
+        key: 3,
+        payload: payload(alloc)?,
+        ring: 0,
+    })
+}
+
+fn add(alloc: Global) -> Result<Ask, NameFault> {
+    Ok(Ask::Add {
+        typ: TypeName::new(alloc, b"user")?,
+        description: Description::new(alloc, b"a")?,
+        payload: payload(alloc)?,
+        ring: 4,
+    })
+}
+
+fn are_bytes(rt: &impl Abort, hex: &str, what: &str, found: &[u8], wanted: &[u8]) {
+    assert_eq!(rt; found, wanted, "{hex} is {what}");
+}
+
+fn is_text(rt: &impl Abort, hex: &str, found: &str, wanted: &str) {
+    assert_eq!(rt; found, wanted, "{hex} is read");
+}
+
+fn is_fault(rt: &impl Abort, hex: &str, len: usize, found: Option<ReadError>, wanted: Fault) {
+    let wanted = Some(ReadError::Fault(wanted));
+    assert_eq!(rt; found, wanted, "{hex} at {len}");
+}
+
+/// Reads the body as the ask.
+fn ask_is_read(rt: &impl Abort, alloc: Global, hex: &str, ask: &Ask) -> Result<(), AllocError> {
     let body = bytes_of(alloc, hex)?;
-    let read = Ask::read(alloc, &body)?;
-    assert_eq!(rt;
-        format!(in alloc; "{read:?}")?,
-        format!(in alloc; "{ask:?}")?,
-        "{hex} is read"
-    );
-    assert_eq!(rt; ask.write(alloc)?, body, "{hex} is written");
+    let read = format!(in alloc; "{:?}", Ask::read(alloc, &body).ok())?;
+    let wanted = format!(in alloc; "Some({ask:?})")?;
+    is_text(rt, hex, &read, &wanted);
+    Ok(())
+}
+
+/// Writes the ask as the body, alone and behind it.
+fn ask_is_written(rt: &impl Abort, alloc: Global, hex: &str, ask: &Ask) -> Result<(), AllocError> {
+    let body = bytes_of(alloc, hex)?;
+    are_bytes(rt, hex, "written", &ask.write(alloc)?, &body);
     assert_eq!(rt; ask.body_len(), body.len(), "{hex} has its length");
     let mut longer = bytes_of(alloc, hex)?;
     ask.write_into(&mut longer)?;
-    assert_eq!(rt;
-        longer,
-        bytes_of(alloc, &format!(in alloc; "{hex}{hex}")?)?,
-        "{hex} is appended"
-    );
-    for len in 0..body.len() {
-        assert_eq!(rt;
-            Ask::read(alloc, &body[..len]).err(),
-            Some(ReadError::Fault(Fault::Short)),
-            "{hex} cut at {len}"
-        );
-    }
-    longer.truncate(body.len() + 1);
-    assert_eq!(rt;
-        Ask::read(alloc, &longer).err(),
-        Some(ReadError::Fault(Fault::Trailing)),
-        "{hex} and a byte"
-    );
+    are_bytes(rt, hex, "appended", &longer, &twice(alloc, &body)?);
     Ok(())
+}
+
+/// Finds that no shorter and no longer body is read.
+fn ask_is_whole(rt: &impl Abort, alloc: Global, hex: &str) -> Result<(), AllocError> {
+    let body = bytes_of(alloc, hex)?;
+    for len in 0..body.len() {
+        let found = Ask::read(alloc, &body[..len]).err();
+        is_fault(rt, hex, len, found, Fault::Short);
+    }
+    let mut longer = twice(alloc, &body)?;
+    longer.truncate(body.len() + 1);
+    let found = Ask::read(alloc, &longer).err();
+    is_fault(rt, hex, longer.len(), found, Fault::Trailing);
+    Ok(())
+}
+
+fn goes_both_ways(rt: &impl Abort, alloc: Global, hex: &str, ask: &Ask) -> Result<(), AllocError> {
+    ask_is_read(rt, alloc, hex, ask)?;
+    ask_is_written(rt, alloc, hex, ask)?;
+    ask_is_whole(rt, alloc, hex)
 }
 
 #[test]
@@ -177,17 +203,45 @@ fn asks_go_both_ways(rt: HostRuntime) -> Result<(), Fail> {
     for (hex, ask) in &plain_asks(rt.alloc())? {
         goes_both_ways(&rt, rt.alloc(), hex, ask)?;
     }
-    for (hex, ask) in &named_asks(rt.alloc())? {
-        goes_both_ways(&rt, rt.alloc(), hex, ask)?;
-    }
     Ok(())
 }
 
-fn reply_of(alloc: Global, bytes: &[u8]) -> Result<Reply, Fail> {
-    Ok(Reply::Bytes(ReplyBytes::new(bytes.to_vec(alloc)?).ok_or("too many bytes")?))
+/// The ask of names goes both ways, where there was memory to make it.
+fn made_goes_both_ways(
+    rt: &impl Abort,
+    alloc: Global,
+    hex: &str,
+    ask: Result<Ask, NameFault>,
+) -> Result<(), NameFault> {
+    goes_both_ways(rt, alloc, hex, &ask?).map_err(|_| NameFault::NoMemory)
 }
 
-fn replies(alloc: Global) -> Result<Vec<(&'static str, Reply)>, Fail> {
+/// Asks that hold names.
+#[test]
+fn asks_of_names_go_both_ways(rt: HostRuntime) -> Result<(), Fail> {
+    let alloc = rt.alloc();
+    let one = "020004757365720001610100017800000000";
+    made_goes_both_ways(&rt, alloc, one, told(alloc, b"x", 0))?;
+    let none = "0200047573657200016100fffffffc";
+    made_goes_both_ways(&rt, alloc, none, request(alloc, None, -4))?;
+    let empty = "02000475736572000161010000fffffff8";
+    made_goes_both_ways(&rt, alloc, empty, told(alloc, b"", -8))?;
+    let payload = "04000000030002686900000000";
+    made_goes_both_ways(&rt, alloc, payload, instantiate(alloc))?;
+    let added = "0f0004757365720001610002686900000004";
+    made_goes_both_ways(&rt, alloc, added, add(alloc))?;
+    Ok(())
+}
+
+fn reply_of(alloc: Global, bytes: &[u8]) -> Result<Reply, AllocError> {
+    let bytes = bytes.to_vec(alloc)?;
+    match ReplyBytes::new(bytes) {
+        Some(bytes) => Ok(Reply::Bytes(bytes)),
+        None => Err(AllocError),
+    }
+}
+
+fn replies(alloc: Global) -> Result<Vec<(&'static str, Reply)>, AllocError> {
     let rings = Reply::Rings {
         thread: 0,
         process: 0,
@@ -206,46 +260,63 @@ fn replies(alloc: Global) -> Result<Vec<(&'static str, Reply)>, Fail> {
     Ok(replies)
 }
 
+/// Reads the body as the reply.
+fn reply_is_read(
+    rt: &impl Abort,
+    alloc: Global,
+    hex: &str,
+    reply: &Reply,
+) -> Result<(), AllocError> {
+    let body = bytes_of(alloc, hex)?;
+    let read = format!(in alloc; "{:?}", Reply::read(alloc, &body).ok())?;
+    let wanted = format!(in alloc; "Some({reply:?})")?;
+    is_text(rt, hex, &read, &wanted);
+    Ok(())
+}
+
+/// Writes the reply as the body, alone and behind it.
+fn reply_is_written(
+    rt: &impl Abort,
+    alloc: Global,
+    hex: &str,
+    reply: &Reply,
+) -> Result<(), AllocError> {
+    let body = bytes_of(alloc, hex)?;
+    are_bytes(rt, hex, "written", &reply.write(alloc)?, &body);
+    assert_eq!(rt; reply.body_len(), body.len(), "{hex} has its length");
+    let mut longer = bytes_of(alloc, hex)?;
+    reply.write_into(&mut longer)?;
+    are_bytes(rt, hex, "appended", &longer, &twice(alloc, &body)?);
+    Ok(())
+}
+
+/// Finds that no shorter and no longer body is read.
+fn reply_is_whole(rt: &impl Abort, alloc: Global, hex: &str) -> Result<(), AllocError> {
+    let body = bytes_of(alloc, hex)?;
+    for len in 0..body.len() {
+        let found = Reply::read(alloc, &body[..len]).err();
+        is_fault(rt, hex, len, found, Fault::Short);
+    }
+    let mut longer = twice(alloc, &body)?;
+    longer.truncate(body.len() + 1);
+    let found = Reply::read(alloc, &longer).err();
+    is_fault(rt, hex, longer.len(), found, Fault::Trailing);
+    Ok(())
+}
+
 #[test]
 fn replies_go_both_ways(rt: HostRuntime) -> Result<(), Fail> {
     replies_have_one_reading();
-    let alloc = rt.alloc();
-    for (hex, reply) in &replies(alloc)? {
-        let body = bytes_of(alloc, hex)?;
-        let read = Reply::read(alloc, &body)?;
-        assert_eq!(rt;
-            format!(in alloc; "{read:?}")?,
-            format!(in alloc; "{reply:?}")?,
-            "{hex} is read"
-        );
-        assert_eq!(rt; reply.write(alloc)?, body, "{hex} is written");
-        assert_eq!(rt; reply.body_len(), body.len(), "{hex} has its length");
-        let mut longer = bytes_of(alloc, hex)?;
-        reply.write_into(&mut longer)?;
-        assert_eq!(rt;
-            longer,
-            bytes_of(alloc, &format!(in alloc; "{hex}{hex}")?)?,
-            "{hex} is appended"
-        );
-        for len in 0..body.len() {
-            assert_eq!(rt;
-                Reply::read(alloc, &body[..len]).err(),
-                Some(ReadError::Fault(Fault::Short)),
-                "{hex} cut at {len}"
-            );
-        }
-        longer.truncate(body.len() + 1);
-        assert_eq!(rt;
-            Reply::read(alloc, &longer).err(),
-            Some(ReadError::Fault(Fault::Trailing)),
-            "{hex} and a byte"
-        );
+    for (hex, reply) in &replies(rt.alloc())? {
+        reply_is_read(&rt, rt.alloc(), hex, reply)?;
+        reply_is_written(&rt, rt.alloc(), hex, reply)?;
+        reply_is_whole(&rt, rt.alloc(), hex)?;
     }
     Ok(())
 }
 
 #[test]
-fn refusals_take_no_memory(rt: HostRuntime) -> Result<(), Fail> {
+fn refusals_take_no_memory(rt: HostRuntime) {
     let numbers = [
         (Errno::Eperm, 1),
         (Errno::Enoent, 2),
@@ -262,15 +333,29 @@ fn refusals_take_no_memory(rt: HostRuntime) -> Result<(), Fail> {
     ];
     for (errno, number) in numbers {
         assert_eq!(rt; Reply::refusal(errno), [3, number]);
-        assert!(rt;
-            matches!(Reply::read(rt.alloc(), &[3, number])?, Reply::Refused(read) if read == errno)
-        );
+        let read = Reply::read(rt.alloc(), &[3, number]);
+        assert!(rt; matches!(read, Ok(Reply::Refused(read)) if read == errno));
     }
-    Ok(())
+}
+
+/// The fault for which the body is no ask.
+fn ask_fault(alloc: Global, hex: &str) -> Option<ReadError> {
+    match bytes_of(alloc, hex) {
+        Ok(body) => Ask::read(alloc, &body).err(),
+        Err(AllocError) => Some(ReadError::NoMemory),
+    }
+}
+
+/// The fault for which the body is no reply.
+fn reply_fault(alloc: Global, hex: &str) -> Option<ReadError> {
+    match bytes_of(alloc, hex) {
+        Ok(body) => Reply::read(alloc, &body).err(),
+        Err(AllocError) => Some(ReadError::NoMemory),
+    }
 }
 
 #[test]
-fn bodies_have_a_leftmost_fault(rt: HostRuntime) -> Result<(), Fail> {
+fn asks_have_a_leftmost_fault(rt: HostRuntime) {
     let asks = [
         ("", Fault::Short),
         ("00", Fault::UnknownOp),
@@ -300,13 +385,12 @@ fn bodies_have_a_leftmost_fault(rt: HostRuntime) -> Result<(), Fail> {
         ("06000000030000000100000082", INVALID),
     ];
     for (hex, fault) in asks {
-        let body = bytes_of(rt.alloc(), hex)?;
-        assert_eq!(rt;
-            Ask::read(rt.alloc(), &body).err(),
-            Some(ReadError::Fault(fault)),
-            "{hex}"
-        );
+        is_fault(&rt, hex, hex.len() / 2, ask_fault(rt.alloc(), hex), fault);
     }
+}
+
+#[test]
+fn replies_have_a_leftmost_fault(rt: HostRuntime) {
     let replies = [
         ("", Fault::Short),
         ("04", Fault::UnknownOp),
@@ -315,27 +399,28 @@ fn bodies_have_a_leftmost_fault(rt: HostRuntime) -> Result<(), Fail> {
         ("01fffe", Fault::Short),
     ];
     for (hex, fault) in replies {
-        let body = bytes_of(rt.alloc(), hex)?;
-        assert_eq!(rt;
-            Reply::read(rt.alloc(), &body).err(),
-            Some(ReadError::Fault(fault)),
-            "{hex}"
-        );
+        is_fault(&rt, hex, hex.len() / 2, reply_fault(rt.alloc(), hex), fault);
     }
-    Ok(())
 }
 
 /// The body that begins so and goes on with so many letters.
-fn lettered(alloc: Global, front: &str, count: usize) -> Result<Vec<u8>, Fail> {
+fn lettered(alloc: Global, front: &str, count: usize) -> Result<Vec<u8>, AllocError> {
     let mut body = bytes_of(alloc, front)?;
     let letters = vec![in alloc; b'a'; count]?;
     body.extend_from_slice(&letters)?;
     Ok(body)
 }
 
+/// The fault for which that body is no ask.
+fn lettered_fault(alloc: Global, front: &str, count: usize) -> Option<ReadError> {
+    match lettered(alloc, front, count) {
+        Ok(body) => Ask::read(alloc, &body).err(),
+        Err(AllocError) => Some(ReadError::NoMemory),
+    }
+}
+
 #[test]
-fn lengths_have_limits(rt: HostRuntime) -> Result<(), Fail> {
-    let alloc = rt.alloc();
+fn lengths_have_limits(rt: HostRuntime) {
     let cases = [
         // a type of 31 and of 32 letters, a dot and 31 letters
         ("02001f", 31, Fault::Short),
@@ -351,19 +436,22 @@ fn lengths_have_limits(rt: HostRuntime) -> Result<(), Fail> {
         ("04000000038000", 32_768, INVALID),
     ];
     for (front, count, fault) in cases {
-        let body = lettered(alloc, front, count)?;
-        assert_eq!(rt;
-            Ask::read(alloc, &body).err(),
-            Some(ReadError::Fault(fault)),
-            "{front} and {count} letters"
-        );
+        let found = lettered_fault(rt.alloc(), front, count);
+        is_fault(&rt, front, count, found, fault);
     }
-    let longest = lettered(alloc, "01fffd", 65_533)?;
+}
+
+#[test]
+fn replies_have_a_limit(rt: HostRuntime) -> Result<(), Fail> {
+    let longest = lettered(rt.alloc(), "01fffd", 65_533)?;
     assert_eq!(rt; longest.len(), 65_536);
-    assert_eq!(rt; Reply::read(alloc, &longest)?.write(alloc)?, longest);
-    let longer = lettered(alloc, "01fffe", 65_534)?;
+    let Ok(reply) = Reply::read(rt.alloc(), &longest) else {
+        return Err(Fail::from("the longest reply is one"));
+    };
+    assert_eq!(rt; reply.write(rt.alloc()), Ok(longest));
+    let longer = lettered(rt.alloc(), "01fffe", 65_534)?;
     assert_eq!(rt;
-        Reply::read(alloc, &longer).err(),
+        Reply::read(rt.alloc(), &longer).err(),
         Some(ReadError::Fault(INVALID))
     );
     Ok(())
@@ -418,31 +506,35 @@ fn faults_are_answered(rt: HostRuntime) -> Result<(), Fail> {
     ];
     for (error, errno, text) in cases {
         assert_eq!(rt; error.errno(), errno);
-        assert_eq!(rt; format!(in rt.alloc(); "{error}")?.as_str(), text);
+        let shown = format!(in rt.alloc(); "{error}")?;
+        assert_eq!(rt; shown.as_str(), text);
     }
     assert_eq!(rt; Fault::Bad(Errno::Eperm).errno(), Errno::Eperm);
     Ok(())
 }
 
-/// Whichever allocation is refused, a body is read as what it spells or wants memory, and nothing is written by halves.
-#[test]
-fn memory_may_be_refused(rt: HostRuntime) -> Result<(), Fail> {
-    let alloc = rt.alloc();
-    for body in [
-        b"\x02\0\x04user\0\x01a\x01\0\x01x\0\0\0\0".as_slice(),
-        b"\x0f\0\x04user\0\x01a\0\x02hi\0\0\0\x04",
-    ] {
-        match Ask::read(alloc, body) {
-            Ok(ask) => {
-                let mut out = Vec::new(alloc);
-                match ask.write_into(&mut out) {
-                    Ok(()) => assert_eq!(rt; out.as_slice(), body),
-                    Err(AllocError) => assert!(rt; out.is_empty()),
-                }
+/// Reads the body and writes it again: as it was, or not for want of memory, and never by halves.
+fn ask_may_want_memory(rt: &impl Abort, alloc: Global, body: &[u8]) {
+    match Ask::read(alloc, body) {
+        Ok(ask) => {
+            let mut out = Vec::new(alloc);
+            match ask.write_into(&mut out) {
+                Ok(()) => assert_eq!(rt; out.as_slice(), body),
+                Err(AllocError) => assert!(rt; out.is_empty()),
             }
-            Err(error) => assert_eq!(rt; error, ReadError::NoMemory),
         }
+        Err(error) => assert_eq!(rt; error, ReadError::NoMemory),
     }
+}
+
+/// Whichever allocation is refused, a body is read as what it spells or wants memory.
+#[test]
+fn memory_may_be_refused(rt: HostRuntime) {
+    let alloc = rt.alloc();
+    let request = b"\x02\0\x04user\0\x01a\x01\0\x01x\0\0\0\0".as_slice();
+    ask_may_want_memory(&rt, alloc, request);
+    let add = b"\x0f\0\x04user\0\x01a\0\x02hi\0\0\0\x04".as_slice();
+    ask_may_want_memory(&rt, alloc, add);
     let body = b"\x01\0\x02hi".as_slice();
     match Reply::read(alloc, body) {
         Ok(reply) => {
@@ -454,5 +546,4 @@ fn memory_may_be_refused(rt: HostRuntime) -> Result<(), Fail> {
     }
     let bad = Ask::read(alloc, b"\x02\0\x04user\0\x01a\x01\0\x01x\0\0\0\0\0");
     assert_eq!(rt; bad.err(), Some(ReadError::Fault(Fault::Trailing)));
-    Ok(())
 }

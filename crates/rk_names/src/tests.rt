@@ -1,73 +1,123 @@
 use super::*;
+use std::alloc::{AllocError, Global};
+use std::process::Abort;
 use std::test::Fail;
 
 /// The bytes of a name of so many letters.
-fn letters(alloc: std::alloc::Global, count: usize) -> Result<Vec<u8>, std::alloc::AllocError> {
+fn letters(alloc: Global, count: usize) -> Result<Vec<u8>, AllocError> {
     vec![in alloc; b'a'; count]
 }
 
-#[test]
-fn types_keep_their_rule(rt: HostRuntime) -> Result<(), Fail> {
-    let alloc = rt.alloc();
-    let user = TypeName::new(alloc, b"user")?;
-    assert_eq!(rt; user.as_bytes(), b"user".as_slice());
-    let longest = letters(alloc, 31)?;
-    let made = TypeName::new(alloc, &longest)?;
-    assert_eq!(rt; made.as_bytes().len(), 31);
-    assert_eq!(rt; made.clone()?.as_bytes(), longest.as_slice());
-
-    let long = letters(alloc, 32)?;
-    let mut dotted = letters(alloc, 32)?;
-    assert_eq!(rt; dotted.len(), 32);
-    dotted[0] = b'.';
-    assert_eq!(rt; TypeName::fault(b""), Some(NameFault::Empty));
-    assert_eq!(rt; TypeName::fault(&long), Some(NameFault::TooLong));
-    assert_eq!(rt; TypeName::fault(&dotted), Some(NameFault::TooLong));
-    assert_eq!(rt; TypeName::fault(b".x"), Some(NameFault::Dot));
-    assert_eq!(rt; TypeName::fault(b".\xff"), Some(NameFault::Dot));
-    assert_eq!(rt; TypeName::fault(b"a\0"), Some(NameFault::Byte));
-    assert_eq!(rt; TypeName::fault(b"a\xff"), Some(NameFault::Byte));
-    assert_eq!(rt; TypeName::new(alloc, b".x").err(), Some(NameFault::Dot));
+/// Finds that a type and its clone have these bytes.
+fn type_is_made(rt: &impl Abort, alloc: Global, bytes: &[u8]) -> Result<(), NameFault> {
+    let name = TypeName::new(alloc, bytes)?;
+    assert_eq!(rt; name.as_bytes(), bytes);
+    let copy = name.clone().map_err(|_| NameFault::NoMemory)?;
+    assert_eq!(rt; copy.as_bytes(), bytes);
     Ok(())
 }
 
 #[test]
-fn descriptions_and_callouts_keep_theirs(rt: HostRuntime) -> Result<(), Fail> {
-    let alloc = rt.alloc();
-    let longest = letters(alloc, 4095)?;
-    let long = letters(alloc, 4096)?;
-
-    let description = Description::new(alloc, b".x y")?;
-    assert_eq!(rt; description.as_bytes(), b".x y".as_slice());
-    assert_eq!(rt; description.clone()?.as_bytes(), b".x y".as_slice());
-    assert_eq!(rt; Description::fault(b""), Some(NameFault::Empty));
-    assert_eq!(rt; Description::fault(&longest), None);
-    assert_eq!(rt; Description::fault(&long), Some(NameFault::TooLong));
-    assert_eq!(rt; Description::fault(b"a\0"), Some(NameFault::Byte));
-
-    let callout = Callout::new(alloc, b"")?;
-    assert_eq!(rt; callout.as_bytes().len(), 0);
-    assert_eq!(rt; callout.clone()?.as_bytes().len(), 0);
-    assert_eq!(rt; Callout::fault(&longest), None);
-    assert_eq!(rt; Callout::fault(&long), Some(NameFault::TooLong));
-    assert_eq!(rt; Callout::fault(b"\0"), Some(NameFault::Byte));
+fn types_are_made(rt: HostRuntime) -> Result<(), Fail> {
+    type_is_made(&rt, rt.alloc(), b"user")?;
+    let longest = letters(rt.alloc(), 31)?;
+    assert_eq!(rt; longest.len(), 31);
+    type_is_made(&rt, rt.alloc(), &longest)?;
     Ok(())
+}
+
+#[test]
+fn types_keep_their_rule(rt: HostRuntime) {
+    let table: [(&[u8], NameFault); 5] = [
+        (b"", NameFault::Empty),
+        (b".x", NameFault::Dot),
+        (b".\xff", NameFault::Dot),
+        (b"a\0", NameFault::Byte),
+        (b"a\xff", NameFault::Byte),
+    ];
+    for (bytes, fault) in table {
+        assert_eq!(rt; TypeName::fault(bytes), Some(fault), "{bytes:?}");
+    }
+    let made = TypeName::new(rt.alloc(), b".x");
+    assert_eq!(rt; made.err(), Some(NameFault::Dot));
+}
+
+#[test]
+fn types_have_a_limit(rt: HostRuntime) -> Result<(), Fail> {
+    let long = letters(rt.alloc(), 32)?;
+    assert_eq!(rt; TypeName::fault(&long), Some(NameFault::TooLong));
+    let mut dotted = long;
+    assert_eq!(rt; dotted.len(), 32);
+    dotted[0] = b'.';
+    assert_eq!(rt; TypeName::fault(&dotted), Some(NameFault::TooLong));
+    Ok(())
+}
+
+/// Finds that a description and its clone have these bytes.
+fn description_is_made(rt: &impl Abort, alloc: Global, bytes: &[u8]) -> Result<(), NameFault> {
+    let name = Description::new(alloc, bytes)?;
+    assert_eq!(rt; name.as_bytes(), bytes);
+    let copy = name.clone().map_err(|_| NameFault::NoMemory)?;
+    assert_eq!(rt; copy.as_bytes(), bytes);
+    Ok(())
+}
+
+/// Finds that a callout and its clone have these bytes.
+fn callout_is_made(rt: &impl Abort, alloc: Global, bytes: &[u8]) -> Result<(), NameFault> {
+    let name = Callout::new(alloc, bytes)?;
+    assert_eq!(rt; name.as_bytes(), bytes);
+    let copy = name.clone().map_err(|_| NameFault::NoMemory)?;
+    assert_eq!(rt; copy.as_bytes(), bytes);
+    Ok(())
+}
+
+#[test]
+fn descriptions_and_callouts_are_made(rt: HostRuntime) -> Result<(), Fail> {
+    description_is_made(&rt, rt.alloc(), b".x y")?;
+    callout_is_made(&rt, rt.alloc(), b"")?;
+    Ok(())
+}
+
+#[test]
+fn descriptions_and_callouts_keep_their_rule(rt: HostRuntime) {
+    assert_eq!(rt; Description::fault(b""), Some(NameFault::Empty));
+    assert_eq!(rt; Description::fault(b"a\0"), Some(NameFault::Byte));
+    assert_eq!(rt; Callout::fault(b"\0"), Some(NameFault::Byte));
+}
+
+#[test]
+fn descriptions_and_callouts_have_a_limit(rt: HostRuntime) -> Result<(), Fail> {
+    for (count, fault) in [(4_095, None), (4_096, Some(NameFault::TooLong))] {
+        let bytes = letters(rt.alloc(), count)?;
+        assert_eq!(rt; Description::fault(&bytes), fault);
+        assert_eq!(rt; Callout::fault(&bytes), fault);
+    }
+    Ok(())
+}
+
+/// How long the payload of these bytes is, or why there is none.
+fn payload_of(bytes: Vec<u8>) -> Result<usize, NameFault> {
+    Ok(Payload::new(bytes)?.as_bytes().len())
 }
 
 #[test]
 fn payloads_keep_theirs(rt: HostRuntime) -> Result<(), Fail> {
     let alloc = rt.alloc();
-    let longest = letters(alloc, 32_767)?;
-    let long = letters(alloc, 32_768)?;
     assert_eq!(rt; Payload::fault(b""), Some(NameFault::Empty));
+    assert_eq!(rt; payload_of(Vec::new(alloc)), Err(NameFault::Empty));
+    let longest = letters(alloc, 32_767)?;
+    assert_eq!(rt; payload_of(longest), Ok(32_767));
+    let long = letters(alloc, 32_768)?;
     assert_eq!(rt; Payload::fault(&long), Some(NameFault::TooLong));
-    assert_eq!(rt; Payload::new(Vec::new(alloc)).err(), Some(NameFault::Empty));
-    assert_eq!(rt; Payload::new(long).err(), Some(NameFault::TooLong));
+    assert_eq!(rt; payload_of(long), Err(NameFault::TooLong));
+    Ok(())
+}
 
-    let payload = Payload::new([0, 255].to_vec(alloc)?)?;
+#[test]
+fn payloads_are_made(rt: HostRuntime) -> Result<(), Fail> {
+    let payload = Payload::new([0, 255].to_vec(rt.alloc())?)?;
     assert_eq!(rt; payload.as_bytes(), b"\0\xff".as_slice());
     assert_eq!(rt; payload.clone()?.as_bytes(), b"\0\xff".as_slice());
-    assert_eq!(rt; Payload::new(longest)?.as_bytes().len(), 32_767);
     Ok(())
 }
 
@@ -88,7 +138,7 @@ fn serials_and_moments(rt: HostRuntime) {
 
 /// The numbers of Linux's generic ABI, and the names of errno(3).
 #[test]
-fn errors_by_number_and_name(rt: HostRuntime) -> Result<(), Fail> {
+fn errnos_by_number_and_name(rt: HostRuntime) -> Result<(), Fail> {
     let known: [(u8, &str); 12] = [
         (1, "EPERM"),
         (2, "ENOENT"),
@@ -109,26 +159,49 @@ fn errors_by_number_and_name(rt: HostRuntime) -> Result<(), Fail> {
         let shown = format!(in rt.alloc(); "{errno}")?;
         assert_eq!(rt; shown.as_str(), name);
     }
-    assert_eq!(rt; Errno::from_number(0), None);
-    assert_eq!(rt; Errno::from_number(11), None);
-
-    for number in [126, 127, 128, 129] {
-        let error = KeyError::from_number(number).ok_or("an error of a key")?;
-        assert_eq!(rt; u32::from(error.errno().number()), number);
+    for number in [0, 11] {
+        assert_eq!(rt; Errno::from_number(number), None);
     }
-    assert_eq!(rt; KeyError::from_number(125), None);
-    assert_eq!(rt; KeyError::from_number(130), None);
+    Ok(())
+}
 
-    for number in [0, 1, 2, 3, 4, 7] {
-        let setting = Setting::from_number(number).ok_or("a setting")?;
-        assert_eq!(rt; setting.number(), number);
+#[test]
+fn errors_of_keys_by_number(rt: HostRuntime) {
+    for (number, is_one) in [
+        (125, false),
+        (126, true),
+        (127, true),
+        (128, true),
+        (129, true),
+        (130, false),
+    ] {
+        let error = KeyError::from_number(number);
+        let errno = error.map(|error| u32::from(error.errno().number()));
+        assert_eq!(rt; errno, if is_one { Some(number) } else { None });
     }
-    assert_eq!(rt; Setting::from_number(5), None);
-    assert_eq!(rt; Setting::from_number(6), None);
-    assert_eq!(rt; Setting::from_number(8), None);
+}
 
+#[test]
+fn settings_by_number(rt: HostRuntime) {
+    for (number, is_one) in [
+        (0, true),
+        (1, true),
+        (2, true),
+        (3, true),
+        (4, true),
+        (5, false),
+        (6, false),
+        (7, true),
+        (8, false),
+    ] {
+        let setting = Setting::from_number(number).map(Setting::number);
+        assert_eq!(rt; setting, if is_one { Some(number) } else { None });
+    }
+}
+
+#[test]
+fn faults_of_names(rt: HostRuntime) {
     assert_eq!(rt; NameFault::Dot.errno(), Errno::Eperm);
     assert_eq!(rt; NameFault::Byte.errno(), Errno::Einval);
     assert_eq!(rt; NameFault::NoMemory.errno(), Errno::Enomem);
-    Ok(())
 }

@@ -343,6 +343,18 @@ fn names_are_found_in_each_ring(rt: HostRuntime) {
 }
 
 #[test]
+fn a_name_is_found_in_one_ring(rt: HostRuntime) {
+    let mut rings = eight_rings(rt.alloc());
+    let _ = take(&mut rings, Step::Link(3, 103, 5));
+    let _ = take(&mut rings, Step::Link(3, 104, 6));
+    let rows: [(u16, u32, u32); 4] = [(3, 5, 103), (3, 6, 104), (3, 7, 0), (99, 5, 0)];
+    for (ring, name, key) in rows {
+        let found = rings.find_in(serial(ring), NameNo(name));
+        assert_eq!(rt; found.map_or(0, Serial::get), key);
+    }
+}
+
+#[test]
 fn faults_are_answered(rt: HostRuntime) -> Result<(), Fail> {
     let table: [(RingFault, Errno, &str); 5] = [
         (RingFault::NoRing, Errno::Enokey, "there is no such ring"),

@@ -1,7 +1,7 @@
 ghost use Rattle.std.specs.Prelude.{◌≡◌, ◌+◌, ◌<◌, ◌%◌, ◌^◌, nat_lt, nat_eq, Bool};
 
 use super::*;
-use std::alloc::AllocError;
+use std::alloc::{AllocError, Global};
 use std::test::Fail;
 
 /// One more, and round at 256.
@@ -57,35 +57,60 @@ fn put(table: &mut Table<u8>, key: u32, value: u8) -> Result<(), AllocError> {
     Ok(())
 }
 
-#[test]
-fn each_call_once(rt: HostRuntime) -> Result<(), Fail> {
-    let mut table: Table<u8> = Table::with_room(rt.alloc(), 2)?;
-    assert_eq!(rt; table.len(), 0);
+/// The keys 7 and 9, with the values 70 and 90.
+fn two(alloc: Global) -> Result<Table<u8>, AllocError> {
+    let mut table: Table<u8> = Table::with_room(alloc, 2)?;
     put(&mut table, 7, 70)?;
     put(&mut table, 9, 90)?;
+    Ok(table)
+}
+
+/// The values at the keys 7, 8 and 9, and how many there are.
+fn held(table: &Table<u8>) -> ([Option<u8>; 3], usize) {
+    let values = [
+        table.get(7).copied(),
+        table.get(8).copied(),
+        table.get(9).copied(),
+    ];
+    (values, table.len())
+}
+
+#[test]
+fn entries_are_looked_up(rt: HostRuntime) -> Result<(), Fail> {
+    let empty: Table<u8> = Table::with_room(rt.alloc(), 2)?;
+    assert_eq!(rt; empty.len(), 0);
+    let table = two(rt.alloc())?;
     assert!(rt; table.contains(9));
     assert!(rt; !table.contains(8));
-    assert_eq!(rt; table.len(), 2);
-    assert_eq!(rt; table.get(7).copied(), Some(70));
-    assert_eq!(rt; table.get(9).copied(), Some(90));
-    assert_eq!(rt; table.get(8).copied(), None);
+    assert_eq!(rt; held(&table), ([Some(70), None, Some(90)], 2));
+    Ok(())
+}
 
-    table.change(9, Next);
-    table.change(8, Next);
-    assert_eq!(rt; table.get(9).copied(), Some(91));
-    assert_eq!(rt; table.len(), 2);
-    assert_eq!(rt; table.find(&Holds(91)), Some(9));
+#[test]
+fn entries_are_tested(rt: HostRuntime) -> Result<(), Fail> {
+    let table = two(rt.alloc())?;
+    assert_eq!(rt; table.find(&Holds(90)), Some(9));
     assert_eq!(rt; table.find(&Holds(92)), None);
     assert!(rt; table.any(&Holds(70)));
+    assert!(rt; !table.any(&Holds(91)));
     assert_eq!(rt; table.count(&Holds(70)), 1);
+    assert_eq!(rt; table.count(&Holds(91)), 0);
+    Ok(())
+}
 
+#[test]
+fn entries_are_changed(rt: HostRuntime) -> Result<(), Fail> {
+    let mut table = two(rt.alloc())?;
+    table.change(9, Next);
+    table.change(8, Next);
+    assert_eq!(rt; held(&table), ([Some(70), None, Some(91)], 2));
+    assert_eq!(rt; table.find(&Holds(91)), Some(9));
     table.retain(&Holds(91));
-    assert_eq!(rt; table.get(7).copied(), None);
-    assert_eq!(rt; table.get(9).copied(), Some(91));
+    assert_eq!(rt; held(&table), ([None, None, Some(91)], 1));
     table.change_all(&Zeroed);
-    assert_eq!(rt; table.get(9).copied(), Some(0));
+    assert_eq!(rt; held(&table), ([None, None, Some(0)], 1));
     table.remove(9);
-    assert_eq!(rt; table.len(), 0);
+    assert_eq!(rt; held(&table), ([None; 3], 0));
     Ok(())
 }
 
@@ -99,5 +124,49 @@ fn places_come_back(rt: HostRuntime) -> Result<(), Fail> {
         assert_eq!(rt; table.len(), 1);
         table.remove(key);
     }
+    Ok(())
+}
+
+/// A growth past all memory is refused, and changes nothing: what was reserved before is there too.
+#[test]
+fn a_growth_past_all_memory_is_refused(rt: HostRuntime) -> Result<(), Fail> {
+    let none: Option<Table<u8>> = Table::with_room(rt.alloc(), usize::MAX).ok();
+    assert!(rt; none.is_none());
+    let mut table = two(rt.alloc())?;
+    table.reserve(1)?;
+    assert_eq!(rt; table.reserve(usize::MAX), Err(AllocError));
+    assert_eq!(rt; held(&table), ([Some(70), None, Some(90)], 2));
+    assert_eq!(rt; put(&mut table, 8, 80), Ok(()));
+    assert_eq!(rt; held(&table), ([Some(70), Some(80), Some(90)], 3));
+    Ok(())
+}
+
+/// The key of which the value is not its own number, among the first so many.
+fn wrong(table: &Table<u8>, keys: u8) -> Option<u8> {
+    for key in 0..keys {
+        if table.get(u32::from(key)).copied() != Some(key) {
+            return Some(key);
+        }
+    }
+    None
+}
+
+/// Goes well whichever allocation is refused: the call answers it, changes nothing, and goes well when it is
+/// made again.
+#[test]
+fn a_refused_growth_changes_nothing(rt: HostRuntime) -> Result<(), Fail> {
+    let mut table: Table<u8> = match Table::with_room(rt.alloc(), 2) {
+        Ok(table) => table,
+        Err(AllocError) => Table::with_room(rt.alloc(), 2)?,
+    };
+    for key in 0..40u8 {
+        if put(&mut table, u32::from(key), key).is_err() {
+            assert_eq!(rt; table.len(), usize::from(key));
+            assert_eq!(rt; wrong(&table, key), None);
+            assert_eq!(rt; put(&mut table, u32::from(key), key), Ok(()));
+        }
+        assert_eq!(rt; table.len(), usize::from(key) + 1);
+    }
+    assert_eq!(rt; wrong(&table, 40), None);
     Ok(())
 }
