@@ -1,0 +1,314 @@
+//! A refused growth leaves everything as it was, and the same step is made when it is tried again.
+//!
+//! With ample memory these only play their tables, on two books. They are for runs in which the Nth growth is refused (`rt try --test
+//! --fail-alloc N`): the book that answers ENOMEM is compared with the other one, which has not yet taken the step.
+use super::endings::{CLEARED_IN_THE_MAKING, GONE_WHILE_IT_WAITS, PIPED, PUT_OUT_A_BYTE};
+use super::handlers::{A_HANDLER_ASKS, BOTH_ARE_MADE, BOTH_IN_THE_THREAD_RING};
+use super::keys::{STATES, THE_SAME_NAME_AGAIN};
+use super::requests::{
+    ITS_HANDLER_ACTS, MADE_BY_A_HANDLER, ONE_START_FOR_TWO, REVOKED_IN_THE_MAKING,
+    TOLD_ONE_AFTER_THE_OTHER,
+};
+use super::*;
+use rk_core::Event;
+use rk_message::Ask;
+
+/// Reads a line, once more where memory was refused.
+fn read_surely(alloc: Global, line: &str) -> Result<Line, Fault> {
+    match read(alloc, line) {
+        Err(Fault::NoMemory) => read(alloc, line),
+        answer => answer,
+    }
+}
+
+/// Plays a line once, and prints the answer, once more where memory was refused for that.
+fn said(alloc: Global, book: &mut Book, now: Moment, line: &str) -> Result<String, Fail> {
+    match read_surely(alloc, line)?.told {
+        Move::Step(event) => {
+            let answer = book.step(now, event);
+            match shown(alloc, &answer) {
+                Ok(words) => Ok(words),
+                Err(AllocError) => Ok(shown(alloc, &answer)?),
+            }
+        }
+        told => Ok(play(alloc, book, now, told)?),
+    }
+}
+
+/// Which steps may want memory. A request may where it starts a construction.
+fn may_want_memory(event: &Event, answer: &str) -> bool {
+    match event {
+        Event::Opened(_) => true,
+        Event::Asked(_, ask) => match ask {
+            Ask::Hello { .. }
+            | Ask::Read { .. }
+            | Ask::Describe { .. }
+            | Ask::Add { .. }
+            | Ask::Callout => true,
+            Ask::Request { .. } => answer.starts_with("start "),
+            _ => false,
+        },
+        _ => false,
+    }
+}
+
+/// Both books say the same to a line.
+fn say_the_same(
+    rt: &impl Abort,
+    alloc: Global,
+    one: &mut Book,
+    other: &mut Book,
+    now: Moment,
+    line: &str,
+) -> Result<(), Fail> {
+    let ones = said(alloc, one, now, line)?;
+    let others = said(alloc, other, now, line)?;
+    assert_eq!(rt; ones.as_str(), others.as_str(), "{line}");
+    Ok(())
+}
+
+/// Sessions see the same keys in both books, and the books tell the same of sessions and constructions.
+fn are_alike(
+    rt: &impl Abort,
+    alloc: Global,
+    one: &mut Book,
+    other: &mut Book,
+    now: Moment,
+) -> Result<(), Fail> {
+    for number in [1, 2, 3, 4, 5, 6, 204, 205] {
+        for looks in [
+            "c1 DESCRIBE ",
+            "c1 READ ",
+            "c2 DESCRIBE ",
+            "c2 READ ",
+            "c3 READ ",
+            "h3 READ ",
+            "h4 READ ",
+            "h5 READ ",
+            "waits c",
+            "waits h",
+            "ready c",
+            "ready h",
+            "owes gone c",
+            "depth ",
+        ] {
+            let line = format!(in alloc; "{looks}{number}")?;
+            say_the_same(rt, alloc, one, other, now, line.as_str())?;
+        }
+    }
+    Ok(())
+}
+
+/// Plays a line on one book. Where it answers ENOMEM it has to be like the other one, and the line is played again.
+fn play_surely(
+    rt: &impl Abort,
+    alloc: Global,
+    one: &mut Book,
+    other: &mut Book,
+    now: Moment,
+    line: &str,
+    answer: &str,
+) -> Result<(), Fail> {
+    let first = said(alloc, one, now, line)?;
+    if first.as_str() != "E12" {
+        assert_eq!(rt; first.as_str(), answer, "{line}");
+        return Ok(());
+    }
+    let Move::Step(event) = read(alloc, line)?.told else {
+        panic!(rt; "no step: {line}");
+    };
+    assert!(rt; may_want_memory(&event, answer), "{line}");
+    are_alike(rt, alloc, one, other, now)?;
+    let second = said(alloc, one, now, line)?;
+    assert_eq!(rt; second.as_str(), answer, "{line}");
+    Ok(())
+}
+
+/// Plays a line on the other book, again where it answers ENOMEM.
+fn follow(
+    rt: &impl Abort,
+    alloc: Global,
+    other: &mut Book,
+    now: Moment,
+    line: &str,
+    answer: &str,
+) -> Result<(), Fail> {
+    let mut words = said(alloc, other, now, line)?;
+    if words.as_str() == "E12" {
+        words = said(alloc, other, now, line)?;
+    }
+    assert_eq!(rt; words.as_str(), answer, "{line}");
+    Ok(())
+}
+
+/// A new book, in the second attempt where memory was refused.
+fn surely_new(rt: &impl Abort, alloc: Global) -> Result<Book, AllocError> {
+    match new_book(rt, alloc, 1) {
+        Ok(book) => Ok(book),
+        Err(AllocError) => new_book(rt, alloc, 1),
+    }
+}
+
+/// Plays the rows on two books, and gives the last moment back.
+fn play_on_both(
+    rt: &impl Abort,
+    alloc: Global,
+    one: &mut Book,
+    other: &mut Book,
+    now: Moment,
+    rows: &[Row],
+) -> Result<Moment, Fail> {
+    let mut now = now;
+    for (line, answer) in rows {
+        now = read_surely(alloc, line)?.moment.unwrap_or(now);
+        play_surely(rt, alloc, one, other, now, line, answer)?;
+        follow(rt, alloc, other, now, line, answer)?;
+    }
+    Ok(now)
+}
+
+/// Plays the tables on two new books.
+fn play_twice(rt: &impl Abort, alloc: Global, tables: &[&[Row]]) -> Result<(), Fail> {
+    let mut one = surely_new(rt, alloc)?;
+    let mut other = surely_new(rt, alloc)?;
+    let mut now = Moment(0);
+    for rows in tables {
+        now = play_on_both(rt, alloc, &mut one, &mut other, now, rows)?;
+    }
+    Ok(())
+}
+
+#[test]
+fn growths_of_one_construction(rt: HostRuntime) -> Result<(), Fail> {
+    play_twice(&rt, rt.alloc(), &[ALONE, MADE_BY_A_HANDLER])
+}
+
+#[test]
+fn growths_of_two_requesters(rt: HostRuntime) -> Result<(), Fail> {
+    play_twice(
+        &rt,
+        rt.alloc(),
+        &[
+            TWO,
+            ONE_START_FOR_TWO,
+            ITS_HANDLER_ACTS,
+            TOLD_ONE_AFTER_THE_OTHER,
+        ],
+    )
+}
+
+#[test]
+fn growths_of_nested_handlers(rt: HostRuntime) -> Result<(), Fail> {
+    play_twice(
+        &rt,
+        rt.alloc(),
+        &[
+            THREAD,
+            A_HANDLER_ASKS,
+            BOTH_ARE_MADE,
+            BOTH_IN_THE_THREAD_RING,
+        ],
+    )
+}
+
+#[test]
+fn growths_of_a_second_start(rt: HostRuntime) -> Result<(), Fail> {
+    play_twice(
+        &rt,
+        rt.alloc(),
+        &[
+            TWO,
+            ONE_START_FOR_TWO,
+            ITS_HANDLER_ACTS,
+            REVOKED_IN_THE_MAKING,
+        ],
+    )
+}
+
+#[test]
+fn growths_of_added_and_described_keys(rt: HostRuntime) -> Result<(), Fail> {
+    play_twice(&rt, rt.alloc(), &[TWO, THE_SAME_NAME_AGAIN])?;
+    play_twice(&rt, rt.alloc(), &[TWO, STATES])
+}
+
+#[test]
+fn growths_of_rings_that_are_dropped(rt: HostRuntime) -> Result<(), Fail> {
+    play_twice(&rt, rt.alloc(), &[THREAD, GONE_WHILE_IT_WAITS])?;
+    play_twice(&rt, rt.alloc(), &[TWO, CLEARED_IN_THE_MAKING])
+}
+
+#[test]
+fn growths_of_a_piped_handler(rt: HostRuntime) -> Result<(), Fail> {
+    play_twice(&rt, rt.alloc(), &[ALONE, PIPED, PUT_OUT_A_BYTE])
+}
+
+/// Two clients of two users.
+const TWO_USERS: &[Row] = &[
+    ("100 open c1", "0"),
+    ("c1 HELLO 1000 1000 0 0", "rings 0 0 1 2"),
+    ("open c2", "0"),
+    ("c2 HELLO 1001 1001 0 0", "rings 0 0 3 4"),
+];
+
+/// The line that adds this key, and its answer.
+fn row_of(alloc: Global, key: u32) -> Result<(String, String), AllocError> {
+    let line = format!(in alloc; "c1 ADD user k{key} v -3")?;
+    let answer = format!(in alloc; "{key}")?;
+    Ok((line, answer))
+}
+
+/// Adds a key to a book.
+fn add_surely(
+    rt: &impl Abort,
+    alloc: Global,
+    book: &mut Book,
+    now: Moment,
+    key: u32,
+) -> Result<(), Fail> {
+    let (line, answer) = match row_of(alloc, key) {
+        Ok(row) => row,
+        Err(AllocError) => row_of(alloc, key)?,
+    };
+    let words = said(alloc, book, now, line.as_str())?;
+    assert_eq!(rt; words.as_str(), answer.as_str(), "{line}");
+    Ok(())
+}
+
+/// The first user has 200 keys in both books, for which they have places from the beginning; then the rows are played.
+fn play_when_full(rt: &impl Abort, alloc: Global, rows: &[Row]) -> Result<(), Fail> {
+    let mut one = surely_new(rt, alloc)?;
+    let mut other = surely_new(rt, alloc)?;
+    let now = play_on_both(rt, alloc, &mut one, &mut other, Moment(0), TWO_USERS)?;
+    for key in 5..205u32 {
+        add_surely(rt, alloc, &mut one, now, key)?;
+        add_surely(rt, alloc, &mut other, now, key)?;
+    }
+    play_on_both(rt, alloc, &mut one, &mut other, now, rows)?;
+    Ok(())
+}
+
+const ANOTHER_KEY_IS_ADDED: &[Row] = &[
+    ("c2 ADD user z v -3", "205"),
+    ("c2 READ 205", "bytes v"),
+    ("c2 ADD user y v -3", "206"),
+];
+
+const ANOTHER_KEY_IS_STARTED: &[Row] = &[
+    (
+        "c2 REQUEST user z =x 0",
+        "start 205 user z x 1001 1001 0 0 3",
+    ),
+    ("launched 205 failed", "0"),
+    ("collect c2", "E126"),
+    ("c2 ADD user y v -3", "206"),
+];
+
+#[test]
+fn growths_of_a_key_past_two_hundred(rt: HostRuntime) -> Result<(), Fail> {
+    play_when_full(&rt, rt.alloc(), ANOTHER_KEY_IS_ADDED)
+}
+
+#[test]
+fn growths_of_a_start_past_two_hundred(rt: HostRuntime) -> Result<(), Fail> {
+    play_when_full(&rt, rt.alloc(), ANOTHER_KEY_IS_STARTED)
+}

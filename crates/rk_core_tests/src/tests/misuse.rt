@@ -1,0 +1,60 @@
+//! What does not fit is refused, and changes nothing.
+use super::*;
+
+/// Nothing is there but a client without a context.
+const OF_NOTHING: &[Row] = &[
+    ("100 open c1", "0"),
+    ("open c1", "E16"),
+    ("open h3", "E22"),
+    ("gone c2", "E22"),
+    ("gone h3", "E22"),
+    ("collect c1", "E22"),
+    ("collect c2", "E22"),
+    ("collect h3", "E22"),
+    ("launched 3 plain", "E22"),
+    ("ended 3 exit 0", "E22"),
+    ("c2 HELLO 1000 1000 0 0", "E22"),
+    ("h3 ASSUME 3", "E22"),
+    ("c1 CALLOUT", "E13"),
+    ("c1 HELLO 1000 1000 0 0", "rings 0 0 1 2"),
+    ("c1 CALLOUT", "E126"),
+    ("c1 READ -7", "E126"),
+    ("c1 READ 0", "E22"),
+    ("c1 READ 1", "E126"),
+];
+
+#[test]
+fn events_of_nothing(rt: HostRuntime) -> Result<(), Fail> {
+    play_all(&rt, rt.alloc(), &[OF_NOTHING])
+}
+
+/// A session that waits asks nothing, and each event has its turn once.
+const OUT_OF_TURN: &[Row] = &[
+    ("c1 REQUEST user a =x 0", "start 3 user a x 1000 1000 0 0 1"),
+    ("c1 READ 3", "E16"),
+    ("c1 HELLO 1000 1000 0 0", "E16"),
+    ("ended 3 exit 0", "E22"),
+    ("launched 3 plain", "0"),
+    ("launched 3 plain", "E22"),
+    ("launched 3 failed", "E22"),
+    ("open h3", "E22"),
+    ("gone h3", "E22"),
+    ("h3 CALLOUT", "E13"),
+    ("h3 HELLO 1000 1000 0 0", "E13"),
+    ("h3 ASSUME 3", "0"),
+    ("h3 HELLO 1000 1000 0 0", "E22"),
+    ("ended 3 exit 0", "0"),
+    ("ended 3 exit 0", "E22"),
+    ("launched 3 plain", "E22"),
+    ("h3 ASSUME 3", "E22"),
+    ("collect c1", "E126"),
+    ("collect c1", "E22"),
+    ("gone c1", "0"),
+    ("gone c1", "E22"),
+    ("c1 READ 3", "E22"),
+];
+
+#[test]
+fn events_out_of_turn(rt: HostRuntime) -> Result<(), Fail> {
+    play_all(&rt, rt.alloc(), &[ALONE, OUT_OF_TURN])
+}

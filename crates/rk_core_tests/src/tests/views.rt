@@ -1,0 +1,91 @@
+//! What a book tells without a step.
+use super::*;
+
+/// A payload is seen by the handler of a key, in the rings of its requester, as long as its authority is unspent.
+const WHAT_A_HANDLER_SEES: &[Row] = &[
+    ("c1 ADD user b hi -3", "3"),
+    ("peek 3 user b", "none"),
+    ("c1 REQUEST user a =x 0", "start 4 user a x 1000 1000 0 0 1"),
+    ("peek 4 user b", "bytes hi"),
+    ("peek 4 user c", "none"),
+    ("peek 4 other b", "none"),
+    ("peek 4 user a", "none"),
+    ("peek 9 user b", "none"),
+    ("launched 4 failed", "0"),
+    ("peek 4 user b", "none"),
+];
+
+#[test]
+fn payloads_are_seen(rt: HostRuntime) -> Result<(), Fail> {
+    play_all(&rt, rt.alloc(), &[ALONE, WHAT_A_HANDLER_SEES])
+}
+
+/// Nobody waits, and nothing is owed but the end of a client.
+const IN_PEACE: &[Row] = &[
+    ("waits c1", "no"),
+    ("ready c1", "no"),
+    ("waits h3", "no"),
+    ("ready c9", "no"),
+    ("depth 3", "none"),
+    ("owes launched 3 plain", "no"),
+    ("owes ended 3 exit 0", "no"),
+    ("owes collect c1", "no"),
+    ("owes gone c1", "yes"),
+    ("owes gone c9", "no"),
+    ("owes gone h3", "no"),
+    ("owes open c9", "no"),
+    ("owes c1 CALLOUT", "no"),
+];
+
+const WHILE_IT_STARTS: &[Row] = &[
+    ("c1 REQUEST user a =x 0", "start 3 user a x 1000 1000 0 0 1"),
+    ("c2 REQUEST user a =x 0", "waiting 3"),
+    ("waits c1", "yes"),
+    ("waits c2", "yes"),
+    ("ready c1", "no"),
+    ("depth 3", "1"),
+    ("owes launched 3 plain", "yes"),
+    ("owes launched 3 failed", "yes"),
+    ("owes ended 3 exit 0", "no"),
+    ("owes launched 4 plain", "no"),
+];
+
+const WHILE_IT_RUNS: &[Row] = &[
+    ("launched 3 plain", "0"),
+    ("owes launched 3 plain", "no"),
+    ("owes ended 3 signal", "yes"),
+    ("h3 ASSUME 3", "0"),
+    ("depth 3", "1"),
+    ("h3 NEGATE 3 10 0", "0"),
+    ("depth 3", "none"),
+    ("ready c1", "no"),
+    ("owes collect c1", "no"),
+    ("ready c2", "yes"),
+    ("owes collect c2", "yes"),
+];
+
+const WHEN_IT_HAS_ENDED: &[Row] = &[
+    ("ended 3 exit 0", "0"),
+    ("owes ended 3 exit 0", "no"),
+    ("ready c1", "yes"),
+    ("owes collect c1", "yes"),
+    ("collect c1", "E126"),
+    ("ready c1", "no"),
+    ("waits c1", "no"),
+    ("waits c2", "yes"),
+];
+
+#[test]
+fn what_is_waited_for_and_owed(rt: HostRuntime) -> Result<(), Fail> {
+    play_all(
+        &rt,
+        rt.alloc(),
+        &[
+            TWO,
+            IN_PEACE,
+            WHILE_IT_STARTS,
+            WHILE_IT_RUNS,
+            WHEN_IT_HAS_ENDED,
+        ],
+    )
+}
