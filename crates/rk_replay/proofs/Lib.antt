@@ -1,0 +1,13 @@
+pub mod Cuts
+pub mod Numbers
+pub mod Stages
+pub mod Presence
+pub mod ServedLaws
+pub mod Idle
+pub mod SeatLists
+pub mod Seating
+pub mod Kept
+pub mod Weight
+pub mod Expansions
+pub mod Moving
+pub mod OwnSteps

@@ -1,0 +1,39 @@
+use Rattle.std.proofs.Common.{◌≡◌, refl, sym, ◌∙◌, ap}
+use Rattle.std.specs.Prelude.{Some, slice_set}
+use Rattle.std.proofs.lemmas.Option.{slice_get_read, MatchOption-at_some}
+use Rattle.rk_names.specs.declared.numbers.SessionId.{SessionId}
+use Rattle.rk_names.specs.declared.numbers.SessionId.TheVariants.{Handler}
+use Rattle.rk_replay.specs.declared.seat.Place.{Place}
+use Rattle.rk_replay.specs.declared.seat.Seat.{Seat}
+use Rattle.rk_core.specs.Views.{has_wait}
+use Rattle.rk_replay.specs.Left.{seat}
+use Rattle.rk_replay.proofs.SeatLists.{some_seat}
+use Rattle.rk_replay.proofs.Moving.{shuts_client_one, shuts_handler_one}
+use Rattle.rk_replay.proofs.desk.Desk.fault_at.Goals as goal
+
+pub returns-in_ok-push-in-Client : goal.returns-in_ok-push-in-Client
+returns-in_ok-push-in-Client c conf =
+    let x = c.index.result.now in
+    let at = slice_get_read c.args.self.now.seats.items _ c.args.index x c.args.self.now.seats.ok.0 c.requires.within c.index.ensures in
+    let free = MatchOption-at_some _ _ x at c.requires.free in
+    let fault = MatchOption-at_some _ _ x at c.requires.fault in
+    shuts_client_one conf c.args.now _ _ _ _ c.args.index c.in-Client.client x.place
+    (at ∙ ap (λ (s : SessionId). Some (seat s x.place)) c.in-Client.is) fault
+    (ap (λ (s : SessionId). has_wait c.args.self.now.book s) (sym c.in-Client.is) ∙ free.0, free.1)
+    c.step.result c.step.ensures.step c.remove.ensures c.in_ok-push-in-Client.ensures.items
+
+pub returns-in_ok-push-in-Handler : goal.returns-in_ok-push-in-Handler
+returns-in_ok-push-in-Handler c conf =
+    let x = c.index_mut.result.now in
+    let at = slice_get_read c.args.self.now.seats.items _ c.args.index x c.args.self.now.seats.ok.0 c.requires.within c.index_mut.ensures.value in
+    let first = slice_get_read c.args.self.now.seats.items _ c.args.index c.index.result.now c.args.self.now.seats.ok.0 c.requires.within c.index.ensures in
+    let same : x ≡ c.index.result.now = some_seat (sym at ∙ first) in
+    let who : x.who ≡ Handler c.in-Handler.key = ap (λ (v : Seat). v.who) same ∙ c.in-Handler.is in
+    let free = MatchOption-at_some _ _ x at c.requires.free in
+    let fault = MatchOption-at_some _ _ x at c.requires.fault in
+    shuts_handler_one conf c.args.now _ _ _ _ c.args.index c.in-Handler.key x.place
+    (at ∙ ap (λ (s : SessionId). Some (seat s x.place)) who) fault
+    (ap (λ (s : SessionId). has_wait c.args.self.now.book s) (sym who) ∙ free.0, free.1)
+    refl
+    (ap (λ (s : SessionId). slice_set c.args.self.now.seats.items c.args.index (seat s c.shut.new.self)) who ∙ ap (λ (p : Place). slice_set c.args.self.now.seats.items c.args.index (seat (Handler c.in-Handler.key) p)) c.shut.ensures)
+    c.in_ok-push-in-Handler.ensures.items

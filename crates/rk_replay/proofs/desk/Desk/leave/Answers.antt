@@ -1,0 +1,11 @@
+use Rattle.std.proofs.Common.{[]}
+use Rattle.rk_names.specs.declared.numbers.SessionId.TheVariants.{Client}
+use Rattle.rk_core.specs.declared.event.Event.TheVariants.{Gone}
+use Rattle.rk_core.specs.Allowed.{done}
+use Rattle.rk_replay.proofs.Seating.{gone_done}
+use Rattle.rk_replay.proofs.OwnSteps.{steps_by}
+use Rattle.rk_replay.proofs.desk.Desk.leave.Goals as goal
+
+pub returns : goal.returns
+returns c =
+    (steps_by c.args.now (Gone (Client c.args.client)) _ _ c.step.result done [] (gone_done _ _ _ _ _ c.requires c.step.ensures.step) c.step.ensures.step, c.remove.ensures)

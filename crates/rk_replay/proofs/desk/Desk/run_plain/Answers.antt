@@ -1,0 +1,21 @@
+use Rattle.std.proofs.Common.{refl, sym, ap, ◌∙◌}
+use Rattle.std.specs.Prelude.{slice_set}
+use Rattle.std.proofs.lemmas.Option.{slice_get_read, slice_get_within}
+use Rattle.rk_names.specs.declared.numbers.SessionId.TheVariants.{Handler}
+use Rattle.rk_replay.specs.declared.seat.Place.TheVariants.{Talks, Starts}
+use Rattle.rk_replay.specs.declared.seat.Seat.{Seat}
+use Rattle.rk_replay.specs.Unused.{Unused}
+use Rattle.rk_replay.specs.Left.{seat}
+use Rattle.rk_replay.proofs.SeatLists.{some_seat}
+use Rattle.rk_replay.proofs.OwnSteps.{plain_one}
+use Rattle.rk_replay.proofs.desk.Desk.run_plain.Goals as goal
+
+pub returns : goal.returns
+returns c put =
+    let xs = c.args.self.now.seats.items in
+    let i = c.args.index in
+    let there = c.requires.starts.1 in
+    let at = slice_get_read xs _ i c.index_mut.result.now refl (slice_get_within xs i (seat (Handler c.args.key) (Starts _ c.requires.starts.0)) there) c.index_mut.ensures.value in
+    let same = some_seat (sym at ∙ there) in
+    plain_one c.args.now c.args.key _ _ put put i c.requires.starts c.step.result c.requires.owed c.step.ensures.step
+    (ap (λ (x : Seat). slice_set xs i (seat x.who (Talks c.in_ok-new.field-0))) same ∙ ap (λ (u : Unused). slice_set xs i (seat (Handler c.args.key) (Talks u))) c.in_ok-new.ensures)

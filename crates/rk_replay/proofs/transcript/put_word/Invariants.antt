@@ -1,0 +1,8 @@
+use Rattle.std.proofs.Common.{◌≡◌, ◌++◌, take}
+use Rattle.std.specs.Prelude.{codes, string_bytes}
+use Rattle.std.specs.List.{flat_map}
+use Rattle.rk_replay.specs.Writing.{byte_text}
+use Rattle.rk_replay.proofs.transcript.put_word.Given as goal
+
+abbrev pub invariant-loop-byte : goal.invariant-loop-byte
+invariant-loop-byte l = string_bytes l.text ≡ (string_bytes l.fn.text ++ codes " =") ++ flat_map byte_text (take l.byte-index l.byte-items)

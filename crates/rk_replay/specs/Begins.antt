@@ -1,0 +1,148 @@
+-- The own step of a happening.
+use Rattle.std.specs.Prelude.{◌≡◌, ◌⊎◌, ℕ, Bool, not, List, [], ◌∷◌, ◌++◌, Option, Some, None, is_none, slice_get, slice_set, if◌then◌else◌}
+use Rattle.rk_names.specs.declared.numbers.SessionId.{SessionId}
+use Rattle.rk_names.specs.declared.numbers.SessionId.TheVariants.{Client, Handler}
+use Rattle.rk_names.specs.declared.errors.Errno.{Errno}
+use Rattle.rk_names.specs.Rules.{payload_fault}
+use Rattle.rk_macro.specs.declared.subject.Subject.{Subject}
+use Rattle.rk_core.specs.declared.event.Event.{Event}
+use Rattle.rk_core.specs.declared.event.Event.TheVariants.{Opened, Launched, Ended, Gone}
+use Rattle.rk_core.specs.declared.event.Ran.TheVariants as ran
+use Rattle.rk_core.specs.declared.event.How.{How}
+use Rattle.rk_core.specs.declared.event.How.TheVariants.{Fault}
+use Rattle.rk_core.specs.declared.event.Answer.{Answer}
+use Rattle.rk_core.specs.declared.event.Answer.TheVariants.{Refused}
+use Rattle.rk_core.specs.Allowed.{done}
+use Rattle.rk_core.specs.World.{World}
+use Rattle.rk_core.specs.Steps.{Step}
+use Rattle.rk_core.specs.Views.{is_owed}
+use Rattle.rk_replay.specs.declared.happening.Happening.{Happening}
+use Rattle.rk_replay.specs.declared.happening.Happening.TheVariants as happening
+use Rattle.rk_replay.specs.declared.happening.StartResult.TheVariants.{Started, Failed}
+use Rattle.rk_replay.specs.declared.output.Output.{Output}
+use Rattle.rk_replay.specs.declared.output.Output.TheVariants as output
+use Rattle.rk_replay.specs.declared.seat.Place.{Place}
+use Rattle.rk_replay.specs.declared.seat.Place.TheVariants.{Talks, Starts, Pipes}
+use Rattle.rk_replay.specs.declared.seat.Seat.{Seat}
+use Rattle.rk_replay.specs.Streams.{no_bytes, lengthened}
+use Rattle.rk_replay.specs.Left.{Left, seat, without, Part, no_step, one_step}
+
+-- ---- where it is out of place
+
+-- the client is there
+abbrev pub has_client : World → ℕ → Bool
+has_client w n = is_owed w (Gone (Client n))
+
+-- the handler of k was not started yet
+abbrev pub is_to_start : World → ℕ → Bool
+is_to_start w k = is_owed w (Launched k ran.Plain)
+
+-- the handler of k runs
+abbrev pub is_running : World → ℕ → Bool
+is_running w k = is_owed w (Ended k Fault None)
+
+-- its session or construction is not at that point
+abbrev pub is_misplaced : World → Happening → Bool
+is_misplaced w (happening.Accept n) = has_client w n
+is_misplaced w (happening.Bytes n bytes) = not (has_client w n)
+is_misplaced w (happening.Gone n) = not (has_client w n)
+is_misplaced w (happening.StartResult k r) = not (is_to_start w k)
+is_misplaced w (happening.HandlerBytes k bytes) = not (is_running w k)
+is_misplaced w (happening.HandlerReadFault k) = not (is_running w k)
+is_misplaced w (happening.HandlerEnded k how) = not (is_running w k)
+is_misplaced w (happening.WaitFault k) = not (is_running w k)
+
+-- ---- what it does to the seats
+
+-- who it is about has this seat, and afterwards has another one
+pub record Reseats (s : SessionId) (old new : List Seat) (place place' : Place) : Type 0 where
+  pub index : ℕ
+  pub at : slice_get old index ≡ Some (seat s place)
+  pub seats : new ≡ slice_set old index (seat s place')
+
+-- one is there, wherever it stands among the others
+pub record Adds (s : SessionId) (place : Place) (old new : List Seat) : Type 0 where
+  pub before : List Seat
+  pub after : List Seat
+  pub others : old ≡ before ++ after
+  pub seats : new ≡ before ++ seat s place ∷ after
+
+-- one step, and what it puts out
+pub record StepsBy (now : ℕ) (event : Event) (answer : Answer) (outputs : List Output) (old : Left) (part : Part) (new : Left) : Type 0 where
+  pub step : Step old.world now event answer new.world
+  pub part_is : part ≡ one_step now event answer outputs
+
+-- ---- bytes
+
+-- bytes only lengthen a stream, or what a piped handler has put out
+abbrev pub place_with : List ℕ → Place → Place
+place_with more (Talks stream) = Talks (lengthened more stream)
+place_with more (Pipes bytes) = Pipes (bytes ++ more)
+place_with more (Starts piped subject) = Starts piped subject
+
+pub record Lengthens (s : SessionId) (more : List ℕ) (old : Left) (part : Part) (new : Left) : Type 0 where
+  pub place : Place
+  pub reseats : Reseats s old.seats new.seats place (place_with more place)
+  pub world : new.world ≡ old.world
+  pub part_is : part ≡ no_step []
+
+-- ---- clients
+
+-- the client is there from now on, with an empty stream; or it is refused, and shut
+abbrev pub Accepts : ℕ → ℕ → Left → Part → Left → Type 0
+Accepts now n old part new =
+    (StepsBy now (Opened (Client n)) done [] old part new × Adds (Client n) (Talks no_bytes) old.seats new.seats)
+    ⊎ ((e : Errno) × StepsBy now (Opened (Client n)) (Refused e) (output.Shut n ∷ []) old part new × (new.seats ≡ old.seats))
+
+abbrev pub Leaves : ℕ → ℕ → Left → Part → Left → Type 0
+Leaves now n old part new = StepsBy now (Gone (Client n)) done [] old part new × (new.seats ≡ without (Client n) old.seats)
+
+-- ---- starts
+
+-- a piped handler is handed the callout, if it says something
+abbrev pub callout_to : ℕ → List ℕ → List Output
+callout_to k [] = []
+callout_to k (b ∷ bytes) = output.ToHandler k (b ∷ bytes) ∷ []
+
+-- the handler runs as its command was put out: with a stream, or piped
+pub record Runs (now k : ℕ) (old : Left) (part : Part) (new : Left) : Type 0 where
+  pub piped : Bool
+  pub subject : Subject
+  pub steps : StepsBy now (Launched k (if piped then ran.Piped else ran.Plain)) done (if piped then callout_to k subject.callout else []) old part new
+  pub reseats : Reseats (Handler k) old.seats new.seats (Starts piped subject) (if piped then Pipes [] else Talks no_bytes)
+
+abbrev pub FailsToRun : ℕ → ℕ → Left → Part → Left → Type 0
+FailsToRun now k old part new = StepsBy now (Launched k ran.Failed) done [] old part new × (new.seats ≡ without (Handler k) old.seats)
+
+-- ---- ends
+
+-- what a piped handler has put out, where it can be a payload
+abbrev pub payload_in : Place → Option (List ℕ)
+payload_in (Pipes bytes) = if is_none (payload_fault bytes) then Some bytes else None
+payload_in (Talks stream) = None
+payload_in (Starts piped subject) = None
+
+-- the handler has ended, with the payload of what it put out
+pub record Finishes (now k : ℕ) (how : How) (old : Left) (part : Part) (new : Left) : Type 0 where
+  pub index : ℕ
+  pub place : Place
+  pub at : slice_get old.seats index ≡ Some (seat (Handler k) place)
+  pub steps : StepsBy now (Ended k how (payload_in place)) done [] old part new
+  pub seats : new.seats ≡ without (Handler k) old.seats
+
+-- the handler could not be read or waited for
+abbrev pub Breaks : ℕ → ℕ → Left → Part → Left → Type 0
+Breaks now k old part new = StepsBy now (Ended k Fault None) done [] old part new × (new.seats ≡ without (Handler k) old.seats)
+
+-- ---- by the happening
+
+abbrev pub Begins : ℕ → Happening → Left → Part → Left → Type 0
+Begins now (happening.Accept n) old part new = Accepts now n old part new
+Begins now (happening.Bytes n bytes) old part new = Lengthens (Client n) bytes old part new
+Begins now (happening.Gone n) old part new = Leaves now n old part new
+Begins now (happening.StartResult k Started) old part new = Runs now k old part new
+Begins now (happening.StartResult k Failed) old part new = FailsToRun now k old part new
+Begins now (happening.HandlerBytes k bytes) old part new = Lengthens (Handler k) bytes old part new
+Begins now (happening.HandlerReadFault k) old part new = Breaks now k old part new
+Begins now (happening.HandlerEnded k how) old part new = Finishes now k how old part new
+Begins now (happening.WaitFault k) old part new = Breaks now k old part new

@@ -1,0 +1,101 @@
+-- What the calls of a desk do.
+use Rattle.std.specs.Prelude.{◌≡◌, ◌⊎◌, ℕ, Bool, true, false, List, [], ◌∷◌, ◌++◌, Some, IfSome, slice_get}
+use Rattle.std.specs.Bool.{MatchBool}
+use Rattle.rk_names.specs.declared.numbers.SessionId.{SessionId}
+use Rattle.rk_names.specs.declared.numbers.SessionId.TheVariants.{Handler}
+use Rattle.rk_conf.specs.declared.line.Line.{Line}
+use Rattle.rk_macro.specs.declared.command.Command.{Command}
+use Rattle.rk_macro.specs.declared.subject.Subject.{Subject}
+use Rattle.rk_message.specs.declared.ask.Ask.{Ask}
+use Rattle.rk_core.specs.declared.event.Event.TheVariants.{Launched}
+use Rattle.rk_core.specs.declared.event.Ran.TheVariants as ran
+use Rattle.rk_core.specs.declared.event.How.{How}
+use Rattle.rk_core.specs.declared.event.Answer.{Answer}
+use Rattle.rk_core.specs.declared.event.Answer.TheVariants as answer
+use Rattle.rk_core.specs.Steps.{Step}
+use Rattle.rk_core.specs.Views.{has_wait}
+use Rattle.rk_replay.specs.declared.happening.Happening.{Happening}
+use Rattle.rk_replay.specs.declared.output.Output.{Output}
+use Rattle.rk_replay.specs.declared.output.Output.TheVariants as output
+use Rattle.rk_replay.specs.declared.seat.Place.TheVariants.{Starts}
+use Rattle.rk_replay.specs.declared.seat.Seat.{Seat}
+use Rattle.rk_replay.specs.declared.desk.Desk.{Desk}
+use Rattle.rk_replay.specs.Left.{Left, seat, Part}
+use Rattle.rk_replay.specs.Commands.{IsCommand, HasNoCommand}
+use Rattle.rk_replay.specs.Moves.{Answered, Move, Moves, CannotMove}
+use Rattle.rk_replay.specs.Begins.{Adds, Finishes, Begins}
+use Rattle.rk_replay.specs.Served.{outputs_of}
+use Rattle.rk_replay.specs.Places.{is_open}
+
+abbrev pub left_of : Desk → Left
+left_of desk = record { world = desk.book; seats = desk.seats.items }
+
+-- one move, whose outputs go to the end of what was put out
+pub record MovesOne (conf : List Line) (now : ℕ) (old : Left) (put : List Output) (new : Left) (put' : List Output) : Type 0 where
+  pub place : ℕ
+  pub part : Part
+  pub move : Move conf now old place part new
+  pub outputs : put' ≡ put ++ part.outputs
+
+-- some moves, likewise
+pub record MovesSome (conf : List Line) (now : ℕ) (old : Left) (put : List Output) (new : Left) (put' : List Output) : Type 0 where
+  pub parts : List Part
+  pub moves : Moves conf now old parts new
+  pub outputs : put' ≡ put ++ outputs_of parts
+
+-- one ask, likewise
+pub record AnswersOne (conf : List Line) (now : ℕ) (old : Left) (who : SessionId) (ask : Ask) (put : List Output) (new : Left) (put' : List Output) : Type 0 where
+  pub part : Part
+  pub answered : Answered conf now old who ask part new
+  pub outputs : put' ≡ put ++ part.outputs
+
+-- the own step of a happening, likewise
+pub record BeginsOne (now : ℕ) (h : Happening) (old : Left) (put : List Output) (new : Left) (put' : List Output) : Type 0 where
+  pub part : Part
+  pub begins : Begins now h old part new
+  pub outputs : put' ≡ put ++ part.outputs
+
+-- the command of a construction that has begun is put out
+pub record PutsCommand (conf : List Line) (now k : ℕ) (subject : Subject) (old : Left) (put : List Output) (new : Left) (put' : List Output) : Type 0 where
+  pub command : Command
+  pub is_command : IsCommand conf old.world now k subject command
+  pub world : new.world ≡ old.world
+  pub adds : Adds (Handler k) (Starts command.piped subject) old.seats new.seats
+  pub outputs : put' ≡ put ++ output.Start k command ∷ []
+
+-- or its start fails
+pub record FailsAtOnce (conf : List Line) (now k : ℕ) (subject : Subject) (old : Left) (put : List Output) (new : Left) (put' : List Output) : Type 0 where
+  pub no_command : HasNoCommand conf old.world now k subject
+  pub answer : Answer
+  pub step : Step old.world now (Launched k ran.Failed) answer new.world
+  pub seats : new.seats ≡ old.seats
+  pub outputs : put' ≡ put
+
+abbrev pub StartsNow : List Line → ℕ → ℕ → Subject → Left → List Output → Left → List Output → Type 0
+StartsNow conf now k subject old put new put' = PutsCommand conf now k subject old put new put' ⊎ FailsAtOnce conf now k subject old put new put'
+
+-- the session at a place can't move
+abbrev pub RestsAt : Left → ℕ → Type 0
+RestsAt left i = IfSome (slice_get left.seats i) (λ x. CannotMove left.world x.who x.place)
+
+-- one move was made; or none was, and nothing changed
+abbrev pub TriesAt : List Line → ℕ → ℕ → Bool → Left → List Output → Left → List Output → Type 0
+TriesAt conf now i moved old put new put' = MatchBool moved (MovesOne conf now old put new put') ((new ≡ old) × (put' ≡ put) × RestsAt old i)
+
+-- its session does not wait, and its stream is not shut
+abbrev pub IsFreeAt : Left → ℕ → Type 0
+IsFreeAt left i = IfSome (slice_get left.seats i) (λ x. (has_wait left.world x.who ≡ false) × (is_open x.place ≡ true))
+
+-- the construction of k is there, and its command was put out
+abbrev pub IsStartAt : List Seat → ℕ → ℕ → Bool → Type 0
+IsStartAt seats i k piped = (subject : Subject) × (slice_get seats i ≡ Some (seat (Handler k) (Starts piped subject)))
+
+-- a handler has ended, and nothing is put out
+abbrev pub FinishesNow : ℕ → ℕ → How → Left → Left → Type 0
+FinishesNow now k how old new = (part : Part) × (part.outputs ≡ []) × Finishes now k how old part new
+
+abbrev pub is_refused : Answer → Bool
+is_refused (answer.Refused e) = true
+is_refused (answer.Done r) = false
+is_refused (answer.Start k subject) = false
+is_refused (answer.Waiting k) = false

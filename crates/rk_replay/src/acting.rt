@@ -1,0 +1,289 @@
+//! The own step of a happening, and the moves that follow it.
+ghost use Rattle.std.specs.Prelude.{◌≡◌, true, false, List, [], IfOk, OnOk};
+ghost use Rattle.rk_names.specs.declared.numbers.SessionId.TheVariants.{Client, Handler};
+ghost use Rattle.rk_core.specs.declared.event.Event.TheVariants.{Launched, Ended, Gone};
+ghost use Rattle.rk_core.specs.declared.event.Ran.TheVariants as ran;
+ghost use Rattle.rk_core.specs.declared.event.How.TheVariants.{Fault};
+ghost use Rattle.rk_core.specs.Allowed.{done};
+ghost use Rattle.rk_core.specs.Steps.{Past};
+ghost use Rattle.rk_replay.specs.declared.happening.Happening.TheVariants as happening;
+ghost use Rattle.rk_replay.specs.declared.happening.StartResult.TheVariants.{Started};
+ghost use Rattle.rk_replay.specs.Left.{no_step, one_step};
+ghost use Rattle.rk_replay.specs.Begins.{has_client, is_to_start, is_running, is_misplaced, Lengthens, Leaves, FailsToRun, Breaks};
+ghost use Rattle.rk_replay.specs.Served.{Acts};
+ghost use Rattle.rk_replay.specs.Seated.{IsSeated, has_seat, is_starts, place_of};
+ghost use Rattle.rk_replay.specs.Desk.{left_of, is_refused, BeginsOne, IsStartAt, FinishesNow};
+
+use crate::desk::Desk;
+use crate::happening::{Happening, StartResult};
+use crate::octets::Bytes;
+use crate::output::{Output, Outputs};
+use crate::seat::Place;
+use crate::seats;
+use crate::stream::Stream;
+use rk_conf::Conf;
+use rk_core::{Answer, Event, How, Ran};
+use rk_names::{Moment, Serial, SessionId};
+use std::alloc::{AllocError, Global};
+use std::mem;
+
+/// Where clients and constructions are.
+impl Desk {
+    /// Whether a client of this number is there.
+    fn has_client(&self, client: u32) -> bool
+        ensures { result ≡ has_client self.now.book client }
+    {
+        self.book.owes(&Event::Gone(SessionId::Client(client)))
+    }
+
+    /// Whether the handler of a key is still to be started.
+    fn is_to_start(&self, key: Serial) -> bool
+        ensures { result ≡ is_to_start self.now.book key }
+    {
+        self.book.owes(&Event::Launched(key, Ran::Plain))
+    }
+
+    /// Whether the handler of a key runs.
+    fn is_running(&self, key: Serial) -> bool
+        ensures { result ≡ is_running self.now.book key }
+    {
+        self.book.owes(&Event::Ended(key, How::Fault, None))
+    }
+
+    /// Whether the client or construction of a happening is not at that point.
+    pub fn is_misplaced(&self, happening: &Happening) -> bool
+        ensures { result ≡ is_misplaced self.now.book happening.now }
+    {
+        match happening {
+            Happening::Accept(client) => self.has_client(*client),
+            Happening::Bytes(client, _) | Happening::Gone(client) => !self.has_client(*client),
+            Happening::StartResult(key, _) => !self.is_to_start(*key),
+            Happening::HandlerBytes(key, _)
+            | Happening::HandlerReadFault(key)
+            | Happening::HandlerEnded(key, _)
+            | Happening::WaitFault(key) => !self.is_running(*key),
+        }
+    }
+}
+
+/// Own steps.
+impl Desk {
+    /// Bytes come, for a stream or from a piped handler.
+    fn lengthen(&mut self, who: &SessionId, bytes: &[u8]) -> Result<(), AllocError>
+        requires { has_seat self.old.seats.items who.now ≡ true }
+        ensures { OnOk result (Lengthens who.now bytes.now (left_of self.old) (no_step []) (left_of self.new)) }
+    {
+        if let Some(index) = seats::index_of(&self.seats, who) {
+            self.seats[index].place.feed(bytes)?;
+        }
+        Ok(())
+    }
+
+    /// A client comes, or is refused.
+    fn accept(
+        &mut self,
+        alloc: Global,
+        now: Moment,
+        client: u32,
+        out: &mut Vec<Output>,
+    ) -> Result<(), AllocError>
+        requires { has_client self.old.book client ≡ false }
+        ensures { OnOk result (BeginsOne now (happening.Accept client) (left_of self.old) out.old.items (left_of self.new) out.new.items) }
+    {
+        let answer = self
+            .book
+            .step(now, Event::Opened(SessionId::Client(client)));
+        if is_refused(&answer) {
+            out.push(Output::Shut(client))?;
+            return Ok(());
+        }
+        let place = Place::Talks(Stream::new(alloc)?);
+        seats::add(&mut self.seats, SessionId::Client(client), place)
+    }
+
+    /// A client goes.
+    fn leave(&mut self, now: Moment, client: u32)
+        requires { has_client self.old.book client ≡ true }
+        ensures { Leaves now client (left_of self.old) (one_step now (Gone (Client client)) done []) (left_of self.new) }
+    {
+        let _ = self.book.step(now, Event::Gone(SessionId::Client(client)));
+        seats::remove(&mut self.seats, &SessionId::Client(client));
+    }
+
+    /// A plain handler runs, with an empty stream.
+    fn run_plain(
+        &mut self,
+        alloc: Global,
+        now: Moment,
+        key: Serial,
+        index: usize,
+    ) -> Result<(), AllocError>
+        requires starts { IsStartAt self.old.seats.items index key false }
+        requires owed { is_to_start self.old.book key ≡ true }
+        ensures { (put : List Output) → OnOk result (BeginsOne now (happening.StartResult key Started) (left_of self.old) put (left_of self.new) put) }
+    {
+        let place = Place::Talks(Stream::new(alloc)?);
+        let _ = self.book.step(now, Event::Launched(key, Ran::Plain));
+        self.seats[index].place = place;
+        Ok(())
+    }
+
+    /// A piped handler runs, and is handed its callout.
+    fn run_piped(
+        &mut self,
+        alloc: Global,
+        now: Moment,
+        key: Serial,
+        index: usize,
+        out: &mut Vec<Output>,
+    ) -> Result<(), AllocError>
+        requires starts { IsStartAt self.old.seats.items index key true }
+        requires owed { is_to_start self.old.book key ≡ true }
+        ensures { OnOk result (BeginsOne now (happening.StartResult key Started) (left_of self.old) out.old.items (left_of self.new) out.new.items) }
+    {
+        let _ = self.book.step(now, Event::Launched(key, Ran::Piped));
+        self.seats[index].place.put_callout(alloc, key, out)?;
+        self.seats[index].place = Place::Pipes(Bytes::new(Vec::new(alloc)));
+        Ok(())
+    }
+
+    /// A handler runs as its command was put out.
+    fn run(
+        &mut self,
+        alloc: Global,
+        now: Moment,
+        key: Serial,
+        out: &mut Vec<Output>,
+    ) -> Result<(), AllocError>
+        requires starts { is_starts (place_of self.old.seats.items (Handler key)) ≡ true }
+        requires owed { is_to_start self.old.book key ≡ true }
+        ensures { OnOk result (BeginsOne now (happening.StartResult key Started) (left_of self.old) out.old.items (left_of self.new) out.new.items) }
+    {
+        if let Some(index) = seats::index_of(&self.seats, &SessionId::Handler(key)) {
+            if self.seats[index].place.is_piped() {
+                return self.run_piped(alloc, now, key, index, out);
+            }
+            return self.run_plain(alloc, now, key, index);
+        }
+        Ok(())
+    }
+
+    /// A command could not be started.
+    fn fail(&mut self, now: Moment, key: Serial)
+        requires { is_to_start self.old.book key ≡ true }
+        ensures { FailsToRun now key (left_of self.old) (one_step now (Launched key ran.Failed) done []) (left_of self.new) }
+    {
+        let _ = self.book.step(now, Event::Launched(key, Ran::Failed));
+        seats::remove(&mut self.seats, &SessionId::Handler(key));
+    }
+
+    /// A command was started, or could not be.
+    fn launch(
+        &mut self,
+        alloc: Global,
+        now: Moment,
+        key: Serial,
+        started: StartResult,
+        out: &mut Vec<Output>,
+    ) -> Result<(), AllocError>
+        requires starts { is_starts (place_of self.old.seats.items (Handler key)) ≡ true }
+        requires owed { is_to_start self.old.book key ≡ true }
+        ensures { OnOk result (BeginsOne now (happening.StartResult key started) (left_of self.old) out.old.items (left_of self.new) out.new.items) }
+    {
+        match started {
+            StartResult::Started => self.run(alloc, now, key, out),
+            StartResult::Failed => {
+                self.fail(now, key);
+                Ok(())
+            }
+        }
+    }
+
+    /// A handler has ended, and what a piped one has put out is its payload.
+    fn finish(&mut self, alloc: Global, now: Moment, key: Serial, how: How)
+        requires seated { has_seat self.old.seats.items (Handler key) ≡ true }
+        requires owed { is_running self.old.book key ≡ true }
+        ensures { FinishesNow now key how (left_of self.old) (left_of self.new) }
+    {
+        if let Some(index) = seats::index_of(&self.seats, &SessionId::Handler(key)) {
+            let empty = Place::Pipes(Bytes::new(Vec::new(alloc)));
+            let place = mem::replace(&mut self.seats[index].place, empty);
+            let _ = self
+                .book
+                .step(now, Event::Ended(key, how, place.into_payload()));
+            seats::remove(&mut self.seats, &SessionId::Handler(key));
+        }
+    }
+
+    /// A handler could not be read or waited for.
+    fn break_off(&mut self, now: Moment, key: Serial)
+        requires { is_running self.old.book key ≡ true }
+        ensures { Breaks now key (left_of self.old) (one_step now (Ended key Fault None) done []) (left_of self.new) }
+    {
+        let _ = self.book.step(now, Event::Ended(key, How::Fault, None));
+        seats::remove(&mut self.seats, &SessionId::Handler(key));
+    }
+
+    /// The own step of a happening.
+    fn begin(
+        &mut self,
+        alloc: Global,
+        now: Moment,
+        happening: &Happening,
+        out: &mut Vec<Output>,
+    ) -> Result<(), AllocError>
+        requires seated { IsSeated (left_of self.old) }
+        requires placed { is_misplaced self.old.book happening.now ≡ false }
+        ensures { OnOk result (BeginsOne now happening.now (left_of self.old) out.old.items (left_of self.new) out.new.items) }
+    {
+        match happening {
+            Happening::Accept(client) => self.accept(alloc, now, *client, out),
+            Happening::Bytes(client, bytes) => {
+                self.lengthen(&SessionId::Client(*client), bytes.as_slice())
+            }
+            Happening::Gone(client) => {
+                self.leave(now, *client);
+                Ok(())
+            }
+            Happening::StartResult(key, started) => {
+                self.launch(alloc, now, *key, *started, out)
+            },
+            Happening::HandlerBytes(key, bytes) => {
+                self.lengthen(&SessionId::Handler(*key), bytes.as_slice())
+            }
+            Happening::HandlerEnded(key, how) => {
+                self.finish(alloc, now, *key, *how);
+                Ok(())
+            }
+            Happening::HandlerReadFault(key) | Happening::WaitFault(key) => {
+                self.break_off(now, *key);
+                Ok(())
+            }
+        }
+    }
+
+    /// The own step of a happening, and then moves until no session can move.
+    pub fn act(
+        &mut self,
+        alloc: Global,
+        conf: &Conf,
+        now: Moment,
+        happening: &Happening,
+    ) -> Result<Outputs, AllocError>
+        requires seated { IsSeated (left_of self.old) }
+        requires placed { is_misplaced self.old.book happening.now ≡ false }
+        ensures { IfOk result (λ out. (steps : List Past) × Acts conf.now (left_of self.old) now happening.now out steps (left_of self.new)) }
+    {
+        let mut out = Vec::new(alloc);
+        self.begin(alloc, now, happening, &mut out)?;
+        self.settle(alloc, conf, now, &mut out)?;
+        Ok(Outputs::new(out))
+    }
+}
+
+/// Whether it is a refusal.
+fn is_refused(answer: &Answer) -> bool
+    ensures { result ≡ is_refused answer.now }
+{
+    matches!(answer, Answer::Refused(_))
+}

@@ -1,0 +1,56 @@
+//! A script of happenings in; replies, commands and keys out.
+//!
+//! A [`Replay`] is the machine of `rk_core` with a stream of frames for each client and each plain handler. Nothing is started,
+//! no clock is read and no socket is there: what happens is told to it, and what it would do is put out.
+//!
+//! # What is promised
+//!
+//! [`Replay::take`] takes one [`Happening`] at its moment. Whatever list of happenings was served before, that list with this one
+//! and with these outputs is served, too (`specs/Served.antt`): the own step of the happening, and then moves of sessions until
+//! none can move. A session that waits moves no more until it can collect. Of those that can, any may be next. The steps are a
+//! run of the machine ([`served_is_run`]), so that each law of every run holds. A happening whose client or handler is not at
+//! that point is refused, and changes nothing. After want of memory a replay answers that for good.
+//!
+//! [`Reading::read`] says what a line of a script says, and a [`Transcript`] holds what is put out as lines of text
+//! (`specs/Reading.antt`, `specs/Writing.antt`). Numbers are decimal and have 1 to 20 digits, bytes are hexadecimal, and a line has
+//! at most 262,144 bytes.
+//!
+//! # How it is built
+//!
+//! `text`, `number`, `field` and `verb` read a line from its front, each in time in proportion to what it reads. `stream` cuts
+//! frames and reads asks, `seat` and `seats` say who is there, `command` makes the words of a command, `desk` moves sessions, and
+//! `acting` takes the own step of a happening. Each move makes the rest lighter: fewer unused bytes, a stream that is shut, or a
+//! wait that has ended; so the moves come to an end (`proofs/Weight.antt`).
+#![tactic(auto)]
+
+mod acting;
+mod command;
+mod desk;
+mod fault;
+mod field;
+mod happening;
+mod number;
+mod octets;
+mod output;
+mod reading;
+mod replay;
+mod replies;
+mod seat;
+mod seats;
+mod stream;
+mod text;
+mod transcript;
+mod verb;
+
+pub use fault::TakeFault;
+pub use happening::{Happening, StartResult};
+pub use octets::Bytes;
+pub use output::{Output, Outputs};
+pub use reading::Reading;
+pub use replay::{Replay, served_is_run};
+pub use transcript::{LineFault, Transcript};
+
+#[cfg(test)]
+mod replay_tests;
+#[cfg(test)]
+mod tests;

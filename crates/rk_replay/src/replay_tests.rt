@@ -1,0 +1,156 @@
+//! What a proof can't show: that whole scripts give the text of the format.
+use super::*;
+use rk_conf::Conf;
+use rk_core::Limits;
+use rk_names::Serial;
+use std::alloc::{AllocError, Global};
+use std::process::Abort;
+use std::test::Fail;
+
+const PLAIN: &[u8] = b"create * * * /bin/handler %o %k %u %g %T %P %S";
+
+const PIPED: &[u8] = b"create * * * |/bin/handler %k";
+
+const HELLO: &[u8] = b"100 bytes 1 0000000e01000003e8000003e80000000000";
+
+const REQUEST: &[u8] = b"100 bytes 1 00000012020004757365720001610100017800000000";
+
+/// Puts out what a happening gives, or that its line changed nothing.
+fn put_line(
+    alloc: Global,
+    replay: &mut Replay,
+    transcript: &mut Transcript,
+    number: u64,
+    line: &[u8],
+) -> Result<(), AllocError> {
+    let Reading::Happens(now, happening) = Reading::read(alloc, line)? else {
+        return transcript.refuse(number, LineFault::NotALine);
+    };
+    match replay.take(alloc, now, &happening) {
+        Ok(outputs) => {
+            for output in outputs.as_slice() {
+                transcript.tell(alloc, output)?;
+            }
+            Ok(())
+        }
+        Err(TakeFault::Unknown) => transcript.refuse(number, LineFault::Unknown),
+        Err(TakeFault::NoMemory) => Err(AllocError),
+    }
+}
+
+fn check_run(
+    rt: &impl Abort,
+    alloc: Global,
+    conf: &[u8],
+    lines: &[&[u8]],
+    want: &str,
+) -> Result<(), Fail> {
+    let conf = Conf::read(alloc, conf).ok().ok_or("a configuration")?;
+    let limits = Limits {
+        negative: 60,
+        first: Serial::new(1).ok_or("a serial")?,
+        stride: 1,
+    };
+    let mut replay = Replay::new(alloc, conf, limits)?;
+    let mut transcript = Transcript::new(alloc);
+    for (i, line) in lines.iter().enumerate() {
+        put_line(alloc, &mut replay, &mut transcript, i as u64 + 1, *line)?;
+    }
+    let text = str::from_utf8(transcript.as_bytes()).ok().ok_or("text")?;
+    assert_eq!(rt; text, want);
+    Ok(())
+}
+
+#[test]
+fn a_plain_handler_makes_a_key(rt: HostRuntime) -> Result<(), Fail> {
+    let lines = [
+        b"100 accept 1".as_slice(),
+        HELLO,
+        REQUEST,
+        b"100 started 3",
+        b"101 out 3 000000050300000003",
+        b"101 out 3 0000000d04000000030002686900000000",
+        b"102 ended 3 exit 0",
+    ];
+    let want = "to 1 000000110200000000000000000000000100000002\n\
+                start 3 plain =/bin/handler =create =3 =1000 =1000 =0 =0 =1\n\
+                tohandler 3 000000050000000000\n\
+                tohandler 3 000000050000000000\n\
+                to 1 000000050000000003\n";
+    check_run(&rt, rt.alloc(), PLAIN, lines.as_slice(), want)
+}
+
+#[test]
+fn a_piped_handler_makes_a_key(rt: HostRuntime) -> Result<(), Fail> {
+    let lines = [
+        b"100 accept 1".as_slice(),
+        HELLO,
+        REQUEST,
+        b"100 started 3",
+        b"101 out 3 68",
+        b"101 out 3 69",
+        b"102 ended 3 exit 0",
+    ];
+    let want = "to 1 000000110200000000000000000000000100000002\n\
+                start 3 piped =/bin/handler =3\n\
+                tohandler 3 78\n\
+                to 1 000000050000000003\n";
+    check_run(&rt, rt.alloc(), PIPED, lines.as_slice(), want)
+}
+
+/// Bytes may be cut anywhere, and asks behind a wait are served when it has ended.
+#[test]
+fn asks_wait_for_their_turn(rt: HostRuntime) -> Result<(), Fail> {
+    let lines = [
+        b"100 accept 1".as_slice(),
+        b"100 bytes 1 0000000e01000003e8",
+        b"100 bytes 1 000003e8000000000000000012020004757365720001610100017800000000000000120200",
+        b"100 bytes 1 04757365720001610100017800000000",
+        b"100 unstarted 3",
+    ];
+    let want = "to 1 000000110200000000000000000000000100000002\n\
+                start 3 plain =/bin/handler =create =3 =1000 =1000 =0 =0 =1\n\
+                to 1 00000002037e\n\
+                to 1 00000002037e\n";
+    check_run(&rt, rt.alloc(), PLAIN, lines.as_slice(), want)
+}
+
+#[test]
+fn a_stream_with_a_fault_is_shut(rt: HostRuntime) -> Result<(), Fail> {
+    let lines = [
+        b"100 accept 1".as_slice(),
+        b"100 bytes 1 00000000",
+        b"100 bytes 1 00",
+        b"100 accept 2",
+        b"100 bytes 2 00000001ff",
+    ];
+    let want = "shut 1\nfault 3 S2\nto 2 000000020316\n";
+    check_run(&rt, rt.alloc(), PLAIN, lines.as_slice(), want)
+}
+
+#[test]
+fn what_is_misplaced_changes_nothing(rt: HostRuntime) -> Result<(), Fail> {
+    let lines = [
+        b"100 gone 1".as_slice(),
+        b"100 accept 1",
+        b"100 accept 1",
+        b"100 started 3",
+        b"100 unstarted 3",
+        b"100 out 3 00",
+        b"100 outfault 3",
+        b"100 ended 3 exit 0",
+        b"100 waitfault 3",
+        b"100 bytes 2 00",
+        b"100 happen 1",
+        b"100 gone 1",
+    ];
+    let want = "fault 1 S2\nfault 3 S2\nfault 4 S2\nfault 5 S2\nfault 6 S2\nfault 7 S2\n\
+                fault 8 S2\nfault 9 S2\nfault 10 S2\nfault 11 S1\n";
+    check_run(&rt, rt.alloc(), PLAIN, lines.as_slice(), want)
+}
+
+#[test]
+fn the_law_runs(rt: HostRuntime) {
+    served_is_run();
+    assert_eq!(rt; TakeFault::Unknown == TakeFault::NoMemory, false);
+}

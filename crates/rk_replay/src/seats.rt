@@ -1,0 +1,81 @@
+//! The seats of who is there, in the order in which they move.
+ghost use Rattle.std.specs.Prelude.{◌≡◌, ◌<◌, ◌≤◌, length, IfSome, IfNone, OnOk, slice_get};
+ghost use Rattle.rk_names.specs.declared.numbers.SessionId.TheVariants.{Client, Handler};
+ghost use Rattle.rk_core.specs.Laws.{same_session};
+ghost use Rattle.rk_replay.specs.Left.{without};
+ghost use Rattle.rk_replay.specs.Seated.{place_of};
+ghost use Rattle.rk_replay.specs.Begins.{Adds};
+
+use crate::seat::{Place, Seat};
+use rk_names::SessionId;
+use std::alloc::AllocError;
+
+/// Whether the two are one.
+fn same(one: &SessionId, other: &SessionId) -> bool
+    ensures { result ≡ same_session one.now other.now }
+{
+    match one {
+        SessionId::Client(n) => is_client(other, *n),
+        SessionId::Handler(k) => is_handler(other, k.get()),
+    }
+}
+
+/// Whether it is the client of this number.
+fn is_client(who: &SessionId, client: u32) -> bool
+    ensures { result ≡ same_session (Client client) who.now }
+{
+    match who {
+        SessionId::Client(n) => client == *n,
+        SessionId::Handler(_) => false,
+    }
+}
+
+/// Whether it is the handler of the key of this number.
+fn is_handler(who: &SessionId, key: u32) -> bool
+    ensures { result ≡ same_session (Handler key) who.now }
+{
+    match who {
+        SessionId::Client(_) => false,
+        SessionId::Handler(k) => key == k.get(),
+    }
+}
+
+/// Where the seat of this one is.
+pub fn index_of(seats: &[Seat], who: &SessionId) -> Option<usize>
+    ensures found { IfSome result (λ i. IfSome (slice_get seats.now i) (λ x. (x.who ≡ who.now) × (place_of seats.now who.now ≡ Some x.place))) }
+    ensures within { IfSome result (λ i. i < length seats.now) }
+    ensures none { IfNone result (place_of seats.now who.now ≡ None) }
+{
+    for (i, seat) in seats.iter().enumerate() {
+        if same(&seat.who, who) {
+            return Some(i);
+        }
+    }
+    None
+}
+
+/// Where a seat of this one is to stand: clients by rising number, and then handlers by rising key.
+fn rank(seats: &[Seat], who: &SessionId) -> usize
+    ensures { result ≤ length seats.now }
+{
+    seats
+        .iter()
+        .position(|seat| seat.who > *who)
+        .unwrap_or(seats.len())
+}
+
+/// Puts a seat among the others.
+pub fn add(seats: &mut Vec<Seat>, who: SessionId, place: Place) -> Result<(), AllocError>
+    ensures { OnOk result (Adds who place seats.old.items seats.new.items) }
+{
+    let index = rank(seats, &who);
+    seats.insert(index, Seat { who, place })?;
+    Ok(())
+}
+
+/// Takes the seat of this one away.
+pub fn remove(seats: &mut Vec<Seat>, who: &SessionId)
+    ensures { seats.new.items ≡ without who.now seats.old.items }
+{
+    seats.retain(|seat| !same(&seat.who, who));
+}
