@@ -6,15 +6,26 @@ SHELL := /bin/bash
 # The programs, each a crate of its name with a src/main.rt.
 PROGRAMS := $(patsubst crates/%/src/main.rt,%,$(wildcard crates/*/src/main.rt))
 
-.PHONY: all check tests clean help toolchain
+.PHONY: all check demo clean help toolchain
 
-all: toolchain  ## Prove and build the programs that there are, into build/
+all: $(addprefix build/,$(PROGRAMS))  ## Prove and build the programs, into build/
+
+# What a program is made of: any change of a crate makes it anew.
+SOURCES := $(shell find crates -path '*/out' -prune -o -type f \( -name '*.rt' -o -name '*.antt' \) -print) crates.txt
+
+build/%: $(SOURCES) | toolchain
 	@mkdir -p build
-	@for name in $(PROGRAMS); do \
-		(cd crates/$$name && rt check > ../../build/$$name.log && rt run > /dev/null < /dev/null || true); \
-		cp crates/$$name/out/$$name build/ || exit 1; \
-	done
-	@if [ -z "$(PROGRAMS)" ]; then echo "There is no program yet; make check proves and tests the libraries."; fi
+	@echo "Proving and building $*; the first time takes some minutes (build/$*.log)"
+	@cd crates/$* && { rt run < /dev/null > ../../build/$*.log 2>&1 || true; } && grep -q '^logic=proved' ../../build/$*.log
+	@cp crates/$*/out/$* $@
+
+# The program as it was built, or else as the toolchain runs it before its proofs.
+DEMO = $(if $(wildcard build/reqkeyd),build/reqkeyd replay,bash -c 'cd crates/reqkeyd && rt try -- replay 2> ../../build/try.log')
+
+demo: toolchain  ## Run the example script, and show what each of its lines does
+	@mkdir -p build
+	@[ -x build/reqkeyd ] || echo "Running reqkeyd before its proofs, about a minute (build/try.log); make proves and builds it first."
+	@examples/demo.py examples/first-path.script $(DEMO)
 
 check: toolchain  ## Prove every crate from nothing and pass all tests; the last line counts them
 	@bash tests/check.sh

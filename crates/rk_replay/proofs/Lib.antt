@@ -1,3 +1,7 @@
+pub mod Heads
+pub mod Bodies
+pub mod Scripts
+pub mod LinesLeft
 pub mod Cuts
 pub mod Numbers
 pub mod Stages

@@ -16,3 +16,7 @@ pub mod Seated
 pub mod Places
 pub mod Desk
 pub mod View
+pub mod Script
+pub mod Settings
+pub mod Playing
+pub mod Written

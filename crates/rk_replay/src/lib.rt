@@ -11,13 +11,19 @@
 //! run of the machine ([`served_is_run`]), so that each law of every run holds. A happening whose client or handler is not at
 //! that point is refused, and changes nothing. After want of memory a replay answers that for good.
 //!
+//! [`run_script`] reads a script, plays its lines and writes what comes of them: the lines of a served list for the happenings of what it
+//! read, with one line for each line of the script that changed nothing, and nothing else (`specs/Written.antt`). Lines before the first
+//! happening may set the configuration and the negative time (`specs/Script.antt`); where the configuration is refused, its fault
+//! is the last line.
+//!
 //! [`Reading::read`] says what a line of a script says, and a [`Transcript`] holds what is put out as lines of text
 //! (`specs/Reading.antt`, `specs/Writing.antt`). Numbers are decimal and have 1 to 20 digits, bytes are hexadecimal, and a line has
 //! at most 262,144 bytes.
 //!
 //! # How it is built
 //!
-//! `text`, `number`, `field` and `verb` read a line from its front, each in time in proportion to what it reads. `stream` cuts
+//! `script` reads and writes the streams, `settings` holds what the head of a script sets, and `playing` goes through its lines. `text`,
+//! `number`, `field` and `verb` read a line from its front, each in time in proportion to what it reads. `stream` cuts
 //! frames and reads asks, `seat` and `seats` say who is there, `command` makes the words of a command, `desk` moves sessions, and
 //! `acting` takes the own step of a happening. Each move makes the rest lighter: fewer unused bytes, a stream that is shut, or a
 //! wait that has ended; so the moves come to an end (`proofs/Weight.antt`).
@@ -32,25 +38,31 @@ mod happening;
 mod number;
 mod octets;
 mod output;
+mod playing;
 mod reading;
 mod replay;
 mod replies;
+mod script;
 mod seat;
 mod seats;
+mod settings;
 mod stream;
 mod text;
 mod transcript;
 mod verb;
 
-pub use fault::TakeFault;
+pub use fault::{ScriptFault, TakeFault};
 pub use happening::{Happening, StartResult};
 pub use octets::Bytes;
 pub use output::{Output, Outputs};
 pub use reading::Reading;
 pub use replay::{Replay, served_is_run};
+pub use script::{MAX_READS, run_script};
 pub use transcript::{LineFault, Transcript};
 
 #[cfg(test)]
 mod replay_tests;
+#[cfg(test)]
+mod script_tests;
 #[cfg(test)]
 mod tests;

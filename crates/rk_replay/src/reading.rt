@@ -2,6 +2,7 @@
 ghost use Rattle.std.specs.Prelude.{◌≡◌, IfOk, option_copied};
 ghost use Rattle.rk_replay.specs.Text.{fields_of};
 ghost use Rattle.rk_replay.specs.Reading.{reading_of, conf_text, told_by, event_of};
+ghost use Rattle.rk_replay.specs.Script.{happens};
 ghost use Rattle.rk_replay.specs.Fields.{Gives};
 
 use crate::field::{self, Misread};
@@ -31,6 +32,13 @@ pub enum Reading {
 }
 
 impl Reading {
+    /// Whether something happens.
+    pub fn happens(&self) -> bool
+        ensures { result ≡ happens self.now }
+    {
+        matches!(self, Reading::Happens(_, _))
+    }
+
     /// What the line says, without its newline. The only refusal is want of memory.
     ///
     /// It takes time in proportion to the length of the line.

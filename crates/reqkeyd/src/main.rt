@@ -1,0 +1,27 @@
+//! `reqkeyd`, the request_key daemon.
+//!
+//! `reqkeyd replay` runs a script from its standard input to its standard output: what happens, line by line, and what the daemon does
+//! (docs/SCRIPTS.md). `serve`, which answers a socket, is not there yet.
+//!
+//! All that it does is one call, [`run::run_words`], over words and streams that are passed in, so that tests call what `main` calls.
+#![tactic(auto)]
+
+mod args;
+mod run;
+
+use std::env;
+use std::process::ExitCode;
+
+fn main(rt: HostRuntime) -> ExitCode {
+    let mut errors = rt.stderr();
+    let words: Vec<String> = match env::args(&rt) {
+        Ok(words) => match words.collect(rt.alloc()) {
+            Ok(words) => words,
+            Err(_) => return ExitCode::from(run::no_memory(&mut errors)),
+        },
+        Err(_) => return ExitCode::from(run::not_text(&mut errors)),
+    };
+    let (mut reader, mut writer) = (rt.stdin(), rt.stdout());
+    let status = run::run_words(&rt, words.as_slice(), &mut reader, &mut writer, &mut errors);
+    ExitCode::from(status)
+}

@@ -1,0 +1,20 @@
+use Rattle.std.proofs.Common.{◌≡◌, ◌∙◌, None}
+use Rattle.rk_replay.proofs.Bodies.{played_line, played_all}
+use Rattle.rk_replay.proofs.LinesLeft.{line_cut, number_fits}
+use Rattle.rk_replay.proofs.playing.play_body.Goals as goal
+
+pub loop-rest-preserved : goal.loop-rest-preserved
+loop-rest-preserved c =
+    let left = c.in-Some.left.now in
+    let cut = line_cut left c.cut_line.result.0.now c.cut_line.result.1 c.cut_line.ensures.cut in
+    record {
+      fine = c.in_ok-play_line.ensures.fine;
+      conf = c.in_ok-play_line.ensures.conf ∙ c.loop-rest.invariant.conf;
+      few = number_fits left c.cut_line.result.1 c.loop-rest.number c.cut_line.ensures.shorter (rw c.in-Some.is at c.loop-rest.invariant.few);
+      played = played_line _ _ _ _ _ _ _ _ _ _ _ _ (rw (c.in-Some.is, cut) at c.loop-rest.invariant.played) (rw c.loop-rest.invariant.conf at c.in_ok-play_line.ensures.plays);
+    }
+
+pub returns : goal.returns
+returns c =
+    let none : c.loop-rest.rest ≡ None = c.in_default.is in
+    played_all _ _ _ _ _ _ _ _ (rw none at c.loop-rest.invariant.played)

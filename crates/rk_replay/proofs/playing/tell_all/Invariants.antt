@@ -1,0 +1,7 @@
+use Rattle.std.proofs.Common.{◌≡◌, ◌++◌, take}
+use Rattle.std.specs.List.{flat_map}
+use Rattle.rk_replay.specs.Writing.{output_line}
+use Rattle.rk_replay.proofs.playing.tell_all.Given as goal
+
+abbrev pub invariant-loop-output : goal.invariant-loop-output
+invariant-loop-output l = l.transcript ≡ l.fn.transcript ++ flat_map output_line (take l.output-index l.outputs)

@@ -1,0 +1,74 @@
+-- How a script is played: its head, one line behind it, and all of them.
+use Rattle.std.specs.Prelude.{◌≡◌, ℕ, ◌+◌, suc, List, [], ◌∷◌, ◌++◌, map, length, not, Bool, true, Option, Some, None}
+use Rattle.std.specs.Borrow.{Bor}
+use Rattle.std.specs.List.{flat_map, filter_map, list_all}
+use Rattle.rk_conf.specs.declared.line.Line.{Line}
+use Rattle.rk_conf.specs.Text.{lines_of}
+use Rattle.rk_core.specs.Steps.{Beginning, Past}
+use Rattle.rk_replay.specs.declared.output.Output.{Output}
+use Rattle.rk_replay.specs.declared.playing.Head.{Head}
+use Rattle.rk_replay.specs.declared.reading.Reading.{Reading}
+use Rattle.rk_replay.specs.declared.reading.Reading.TheVariants.{Blank, Conf, Negative, Happens, Wrong}
+use Rattle.rk_replay.specs.declared.transcript.LineFault.TheVariants.{NotALine}
+use Rattle.rk_replay.specs.Left.{Left}
+use Rattle.rk_replay.specs.Served.{Turn, Served, ServesNext}
+use Rattle.rk_replay.specs.Reading.{reading_of}
+use Rattle.rk_replay.specs.Writing.{line_text, fault_line}
+use Rattle.rk_replay.specs.Script.{happens, said_late, conf_in, seconds_in, last_of, happenings_of}
+use Rattle.rk_replay.specs.Written.{turn_text, text_from, moment_of, outputs_in}
+
+-- ---- the head
+
+-- what the lines of the text that is left say
+abbrev pub readings_left : Option (Bor (List ℕ)) → List Reading
+readings_left None = []
+readings_left (Some text) = map reading_of (lines_of text.now)
+
+-- one more than the bytes that are left
+abbrev pub bytes_left : Option (Bor (List ℕ)) → ℕ
+bytes_left None = 0
+bytes_left (Some text) = suc (length text.now)
+
+-- nothing is left, or something happens first
+abbrev pub happens_first : List Reading → Bool
+happens_first [] = true
+happens_first (r ∷ rs) = happens r
+
+-- these lines are the head, and the text says which of them are none
+pub record IsHead (input : List ℕ) (head : Head) (text : List ℕ) : Type 0 where
+  pub lines : List Reading
+  pub all : map reading_of (lines_of input) ≡ lines ++ readings_left head.rest
+  pub quiet : list_all (λ r. not (happens r)) lines ≡ true
+  pub ends : happens_first (readings_left head.rest) ≡ true
+  pub counted : head.number ≡ 1 + length lines
+  pub conf : head.settings.conf ≡ flat_map line_text (filter_map conf_in lines)
+  pub negative : head.settings.negative ≡ last_of 60 (filter_map seconds_in lines)
+  pub text_is : text ≡ text_from 1 lines []
+
+-- ---- what is behind it
+
+-- the line changes nothing, and is written to be none
+abbrev pub Refuses : ℕ → Left → List ℕ → Left → List ℕ → Type 0
+Refuses number old text new text' = (new ≡ old) × (text' ≡ text ++ fault_line number NotALine)
+
+-- what is left and the text, before and after one line
+abbrev pub Plays : List Line → ℕ → Reading → Left → List ℕ → Left → List ℕ → Type 0
+Plays conf number Blank old text new text' = (new ≡ old) × (text' ≡ text)
+Plays conf number (Conf line) old text new text' = Refuses number old text new text'
+Plays conf number (Negative n) old text new text' = Refuses number old text new text'
+Plays conf number Wrong old text new text' = Refuses number old text new text'
+Plays conf number (Happens now h) old text new text' =
+    (outputs : Option (List Output)) × ServesNext conf old (record { now = now; happening = h; outputs = outputs }) new × (text' ≡ text ++ turn_text number outputs)
+
+-- all lines from a number on: their happenings, from what a machine begins with
+pub record PlaysAll (conf : List Line) (from : Beginning) (number : ℕ) (rs : List Reading) (text text' : List ℕ) : Type 0 where
+  pub turns : List Turn
+  pub run : List Past
+  pub left : Left
+  pub served : Served conf from turns run left
+  pub happenings : map moment_of turns ≡ happenings_of (map said_late rs)
+  pub text_is : text' ≡ text ++ text_from number (map said_late rs) (map outputs_in turns)
+
+abbrev pub PlaysBody : List Line → Head → List ℕ → List ℕ → Type 0
+PlaysBody conf head text text' =
+    PlaysAll conf (record { negative = head.settings.negative; first = 1; stride = 1 }) head.number (readings_left head.rest) text text'

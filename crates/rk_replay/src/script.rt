@@ -1,0 +1,81 @@
+//! A script from a reader, played to a writer.
+ghost use Rattle.std.specs.Prelude.{◌≡◌, ◌≢◌, List, ℕ, IfOk, OnOk, IfSome, Err};
+ghost use Rattle.std.specs.Io.KnownBytes.{Appends};
+ghost use Rattle.rk_replay.specs.Written.{IsWritten, IsRefused};
+
+use crate::fault::ScriptFault;
+use crate::playing::play;
+use crate::transcript::Transcript;
+use std::alloc::Global;
+use std::io::{Read, Write};
+
+/// The most reads of one script.
+pub const MAX_READS: u32 = 1_048_576;
+
+/// How much one read asks for.
+const PIECE: usize = 4096;
+
+/// Reads a script to its end, plays it, and writes what comes of it: one line for each output, and one for each line that
+/// changed nothing.
+///
+/// Refusals: `Read` and `Write` of the streams, `TurnsUsed` after 1,048,576 reads, `NoMemory`; after each of them nothing is said
+/// of what was written. `Conf` where the configuration is refused: what was written before it stays, and the last line tells the
+/// line and the rule.
+pub fn run_script<R: Read, W: Write>(
+    alloc: Global,
+    reader: &mut R,
+    writer: &mut W,
+) -> Result<(), ScriptFault>
+    // It has written the lines of a served list for the happenings of what it read, and nothing else.
+    ensures written { OnOk result (IfSome (R.remaining reader.old) (λ input. (text : List ℕ) × IsWritten input text
+        × Appends (W.contents writer.old) (W.contents writer.new) text)) }
+    // or the lines before the first happening and the fault of the configuration
+    ensures refused { result ≡ Err ScriptFault.Conf → IfSome (R.remaining reader.old) (λ input. (text : List ℕ) × IsRefused input text
+        × Appends (W.contents writer.old) (W.contents writer.new) text) }
+{
+    let text = read_all(alloc, reader)?;
+    let mut transcript = Transcript::new(alloc);
+    match play(alloc, text.as_slice(), &mut transcript) {
+        Ok(()) => write_out(&transcript, writer),
+        Err(ScriptFault::Conf) => {
+            write_out(&transcript, writer)?;
+            Err(ScriptFault::Conf)
+        }
+        Err(fault) => Err(fault),
+    }
+}
+
+/// Writes the whole transcript at once.
+fn write_out<W: Write>(transcript: &Transcript, writer: &mut W) -> Result<(), ScriptFault>
+    ensures written { OnOk result (Appends (W.contents writer.old) (W.contents writer.new) transcript.now) }
+    ensures fault { result ≢ Err ScriptFault.Conf }
+{
+    let Ok(()) = writer.write_all(transcript.as_bytes()) else {
+        return Err(ScriptFault::Write);
+    };
+    match writer.flush() {
+        Ok(()) => Ok(()),
+        Err(_) => Err(ScriptFault::Write),
+    }
+}
+
+/// Reads all there is.
+fn read_all<R: Read>(alloc: Global, reader: &mut R) -> Result<Vec<u8>, ScriptFault>
+    ensures all { IfOk result (λ text. IfSome (R.remaining reader.old) (λ input. text.items ≡ input)) }
+    ensures fault { result ≢ Err ScriptFault.Conf }
+{
+    let mut text = Vec::new(alloc);
+    let mut piece = [0u8; PIECE];
+    for _ in 0..MAX_READS {
+        let Ok(count) = reader.read(&mut piece) else {
+            return Err(ScriptFault::Read);
+        };
+        if count == 0 {
+            return Ok(text);
+        }
+        if text.extend_from_slice(&piece[..count]).is_err() {
+            return Err(ScriptFault::NoMemory);
+        }
+    }
+    Err(ScriptFault::TurnsUsed)
+}

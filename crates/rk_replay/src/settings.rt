@@ -1,0 +1,94 @@
+//! What the head of a script sets.
+ghost use Rattle.std.specs.Prelude.{◌≡◌, [], IfOk, OnOk, IfErr};
+ghost use Rattle.rk_conf.specs.Faults.{IsFaultFor};
+ghost use Rattle.rk_conf.specs.Reading.{faults_of, lines_told};
+ghost use Rattle.rk_replay.specs.Settings.{Sets, configured};
+
+use crate::octets::Bytes;
+use crate::reading::Reading;
+use crate::transcript::{LineFault, Transcript};
+use rk_conf::{Conf, ConfFault};
+use rk_core::Limits;
+use rk_names::Serial;
+use std::alloc::{AllocError, Global};
+
+/// The configuration of a script that sets none: one handler makes every key.
+const DEFAULT_CONF: &[u8] = b"create * * * /bin/handler %o %k %u %g %T %P %S";
+
+/// For so many seconds a key is negative whose handler did not complete it, where a script sets no other time.
+const NEGATIVE: u32 = 60;
+
+/// What the lines of a script before its first happening set.
+#[derive(Debug, Drop)]
+pub struct Settings {
+    /// The configuration lines, each with its newline.
+    conf: Bytes,
+    /// For so many seconds a key is negative whose handler did not complete it.
+    negative: u32,
+}
+
+impl Settings {
+    /// Nothing is set yet. It takes no memory.
+    pub fn new(alloc: Global) -> Settings
+        ensures conf { result.conf ≡ [] }
+        ensures negative { result.negative ≡ 60 }
+    {
+        Settings {
+            conf: Bytes::new(Vec::new(alloc)),
+            negative: NEGATIVE,
+        }
+    }
+
+    /// Takes in a line on which nothing happens, and writes it where it is none.
+    pub fn hear(
+        &mut self,
+        number: u64,
+        reading: &Reading,
+        transcript: &mut Transcript,
+    ) -> Result<(), AllocError>
+        ensures { OnOk result (Sets reading.now number self.old transcript.old self.new transcript.new) }
+    {
+        match reading {
+            Reading::Blank => Ok(()),
+            Reading::Conf(text) => {
+                self.conf.extend(text.as_slice())?;
+                self.conf.extend(b"\n")
+            }
+            Reading::Negative(seconds) => {
+                self.negative = *seconds;
+                Ok(())
+            }
+            Reading::Happens(_, _) => Ok(()),
+            Reading::Wrong => transcript.refuse(number, LineFault::NotALine),
+        }
+    }
+
+    /// The configuration that is set, or the default one.
+    pub fn conf(&self, alloc: Global) -> Result<Conf, ConfFault>
+        ensures ok { OnOk result (faults_of (configured self.now.conf) ≡ []) }
+        ensures lines { IfOk result (λ conf. conf ≡ lines_told (configured self.now.conf)) }
+        ensures err { IfErr result (λ fault. IsFaultFor fault (faults_of (configured self.now.conf))) }
+    {
+        Conf::read(alloc, self.conf_text())
+    }
+
+    fn conf_text(&self) -> &[u8]
+        ensures { result.now ≡ configured self.now.conf }
+    {
+        let text = self.conf.as_slice();
+        if text.is_empty() { DEFAULT_CONF } else { text }
+    }
+
+    /// What the machine begins with: serials are drawn from 1 on.
+    pub fn limits(&self) -> Limits
+        ensures negative { result.negative ≡ self.now.negative }
+        ensures first { result.first ≡ 1 }
+        ensures stride { result.stride ≡ 1 }
+    {
+        Limits {
+            negative: self.negative,
+            first: Serial::new(1).unwrap(),
+            stride: 1,
+        }
+    }
+}
