@@ -10,6 +10,7 @@ mod args;
 mod run;
 
 use std::env;
+use std::io::ErrorKind;
 use std::process::ExitCode;
 
 fn main(rt: HostRuntime) -> ExitCode {
@@ -19,6 +20,9 @@ fn main(rt: HostRuntime) -> ExitCode {
             Ok(words) => words,
             Err(_) => return ExitCode::from(run::no_memory(&mut errors)),
         },
+        Err(error) if error.kind() == ErrorKind::OutOfMemory => {
+            return ExitCode::from(run::no_memory(&mut errors));
+        }
         Err(_) => return ExitCode::from(run::not_text(&mut errors)),
     };
     let (mut reader, mut writer) = (rt.stdin(), rt.stdout());
