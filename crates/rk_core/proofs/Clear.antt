@@ -15,11 +15,11 @@ use Rattle.rk_auth.specs.declared.session.Session.{Session}
 use Rattle.rk_auth.specs.declared.construction.Stage.{Stage}
 use Rattle.rk_auth.specs.Sessions.{Sessions, unspent}
 use Rattle.rk_auth.specs.Changes.{session_changed, in_handler, in_new_stage, launched, spent, without_authority, without_construction, all_told, told}
-use Rattle.rk_core.specs.World.{World, tidied, drawn}
-use Rattle.rk_core.specs.Links.{rings_changed}
-use Rattle.rk_core.specs.Completion.{outcome_of, announced, keys_ended, sessions_ended, expiry_after}
-use Rattle.rk_core.proofs.Gets.{get_inserted, get_removed, get_changed_at, get_changed_all, get_kept_where}
-use Rattle.rk_core.proofs.Draws.{is_drawn, drawn_is}
+use Rattle.rk_machine.specs.World.{World, tidied, drawn}
+use Rattle.rk_machine.specs.Links.{rings_changed}
+use Rattle.rk_machine.specs.Completion.{outcome_of, announced, keys_ended, sessions_ended, expiry_after}
+use Rattle.rk_machine.proofs.Gets.{get_inserted, get_removed, get_changed_at, get_changed_all, get_kept_where}
+use Rattle.rk_machine.proofs.Draws.{is_drawn, drawn_is}
 
 -- ---- maps
 

@@ -10,10 +10,10 @@ use Rattle.std.proofs.lemmas.Bool.{eqb-true, both_ways}
 use Rattle.rk_table.specs.Maps.{changed_at}
 use Rattle.rk_keys.specs.declared.key.Key.{Key}
 use Rattle.rk_rings.specs.Ring.{Ring, is_linked, without_link, without_links}
-use Rattle.rk_core.specs.World.{World, tidied}
-use Rattle.rk_core.specs.Links.{unlinked_in, cleared_in}
+use Rattle.rk_machine.specs.World.{World, tidied}
+use Rattle.rk_machine.specs.Links.{unlinked_in, cleared_in}
 use Rattle.rk_core.specs.Tidy.{stays, StayBut}
-use Rattle.rk_core.proofs.Gets.{get_changed_at}
+use Rattle.rk_machine.proofs.Gets.{get_changed_at}
 use Rattle.rk_core.proofs.Stays.{links_kept, has_key, tied_itself}
 use Rattle.rk_core.proofs.Tidy.{same_keys, get_tidied, all_stay, stays_by}
 use Rattle.rk_core.proofs.Tidied.{still_stays}

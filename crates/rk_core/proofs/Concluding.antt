@@ -2,14 +2,15 @@
 use Rattle.std.proofs.Common.{◌≡◌, ℕ, refl, sym, ap, ◌∙◌}
 use Rattle.std.specs.Prelude.{ℤ, Option, Some, None, unwrap_or}
 use Rattle.rk_keys.specs.declared.key.Condition.{Condition}
-use Rattle.rk_core.specs.World.{World, tidied}
-use Rattle.rk_core.specs.Allowed.{done}
-use Rattle.rk_core.specs.Asker.{Asker, serial_named, ring_for}
-use Rattle.rk_core.specs.Links.{linked_in}
-use Rattle.rk_core.specs.Completion.{completed}
-use Rattle.rk_core.specs.KeyAsks.{serial_in}
-use Rattle.rk_core.specs.Asks.{completion_refusal, Completes}
-use Rattle.rk_core.proofs.Refusals.{unless_none}
+use Rattle.rk_machine.specs.World.{World, tidied}
+use Rattle.rk_machine.specs.Allowed.{done}
+use Rattle.rk_machine.specs.declared.asker.Asker.{Asker}
+use Rattle.rk_machine.specs.Asker.{serial_named, ring_for}
+use Rattle.rk_machine.specs.Links.{linked_in}
+use Rattle.rk_machine.specs.Completion.{completed}
+use Rattle.rk_machine.specs.KeyAsks.{serial_in}
+use Rattle.rk_machine.specs.Asks.{completion_refusal, Completes}
+use Rattle.rk_machine.proofs.Refusals.{unless_none}
 
 pub serial_is : (key : ℤ) (k : ℕ) → serial_named key ≡ Some k → serial_in key ≡ k
 serial_is key k is = ap (λ (o : Option ℕ). unwrap_or o 0) is

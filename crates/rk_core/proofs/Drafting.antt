@@ -12,11 +12,11 @@ use Rattle.rk_rings.specs.Ring.{Ring, empty_ring}
 use Rattle.rk_rings.specs.Numbered.{Rings, ring_seen, rings_seen, new_ring, with_rings, AreNew}
 use Rattle.rk_rings.proofs.Counts.{some_key, one_less}
 use Rattle.rk_rings.proofs.Seen.{get-rings_seen, contains_key-rings_seen, rings_seen-empty, rings_seen-insert, rings_seen-remove, ring_seen-new_ring}
-use Rattle.rk_core.specs.World.{World}
-use Rattle.rk_core.specs.Hello.{Makes}
+use Rattle.rk_machine.specs.World.{World}
+use Rattle.rk_machine.specs.Hello.{Makes}
 use Rattle.rk_core.specs.Drafts.{with_all, AreAllNew, drafted, IsDraftOf}
-use Rattle.rk_core.proofs.Gets.{get_inserted}
-use Rattle.rk_core.proofs.Refusals.{or_left, or_right}
+use Rattle.rk_machine.proofs.Gets.{get_inserted}
+use Rattle.rk_machine.proofs.Refusals.{or_left, or_right}
 
 -- ---- rings as they are seen
 

@@ -6,11 +6,12 @@ use Rattle.std.proofs.lemmas.Bool.{eqb-true, both_ways}
 use Rattle.rk_rings.specs.declared.kind.RingKind.{RingKind}
 use Rattle.rk_rings.specs.declared.kind.RingKind.TheVariants as kind
 use Rattle.rk_rings.specs.Ring.{empty_ring, is_linked}
-use Rattle.rk_core.specs.World.{World}
-use Rattle.rk_core.specs.Hello.{Greeting, Makes, MakesIf, HasSessionRing, HasUserRing, MakesRings}
-use Rattle.rk_core.proofs.Gets.{get_inserted}
-use Rattle.rk_core.proofs.Draws.{is_drawn}
-use Rattle.rk_core.proofs.Drawn.{KeepsDrawn, if_drawn, session_drawn, user_drawn}
+use Rattle.rk_machine.specs.World.{World}
+use Rattle.rk_machine.specs.declared.greeting.Greeting.{Greeting}
+use Rattle.rk_machine.specs.Hello.{Makes, MakesIf, HasSessionRing, HasUserRing, MakesRings}
+use Rattle.rk_machine.proofs.Gets.{get_inserted}
+use Rattle.rk_machine.proofs.Draws.{is_drawn}
+use Rattle.rk_machine.proofs.Drawn.{KeepsDrawn, if_drawn, session_drawn, user_drawn}
 use Rattle.rk_core.proofs.Stays.{has_key}
 use Rattle.rk_core.proofs.Clear.{none_inserted, apart}
 

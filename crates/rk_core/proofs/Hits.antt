@@ -12,8 +12,8 @@ use Rattle.rk_keys.specs.declared.key.Standing.{Standing}
 use Rattle.rk_keys.specs.Key.{key_passes}
 use Rattle.rk_rings.specs.Ring.{Ring, is_linked}
 use Rattle.rk_rings.specs.Places.{rings_of}
-use Rattle.rk_core.specs.World.{World}
-use Rattle.rk_core.specs.Search.{Query, Hits, answers, is_live, is_hit, has_match, some_match, blocks, is_stale, errors, block_of, stale_of}
+use Rattle.rk_machine.specs.World.{World}
+use Rattle.rk_machine.specs.Search.{Query, Hits, answers, is_live, is_hit, has_match, some_match, blocks, is_stale, errors, block_of, stale_of}
 use Rattle.rk_core.specs.Sought.{IsSole, IsSought, stands, any_stands, live_key, or_else, hit_in, block_in, stale_in}
 use Rattle.rk_core.specs.declared.search.Match.{Match}
 use Rattle.rk_core.specs.declared.search.Sought.{Sought}

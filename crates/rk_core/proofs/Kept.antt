@@ -12,7 +12,7 @@ use Rattle.rk_rings.specs.declared.kind.NewRing.{NewRing}
 use Rattle.rk_rings.specs.Numbered.{Numbered, Rings, HasEachNameOnce, is_held, linked, unlinked, links_with, new_ring, with_rings}
 use Rattle.rk_rings.proofs.Finds.{any_value, some_entry, entry_found}
 use Rattle.rk_core.specs.Kept.{IsKept}
-use Rattle.rk_core.proofs.Gets.{get_inserted, get_removed, get_changed_at, get_kept_where}
+use Rattle.rk_machine.proofs.Gets.{get_inserted, get_removed, get_changed_at, get_kept_where}
 
 -- what came of a call, whatever it answered
 pub either_way : {A B : Type 0} (r : Result A B) (P Q : Type 0) → OnOk r P → OnErr r Q → P ⊎ Q

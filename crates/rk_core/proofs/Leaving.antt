@@ -12,10 +12,10 @@ use Rattle.rk_keys.specs.Key.{is_building}
 use Rattle.rk_rings.specs.Ring.{Ring, is_linked, has_link}
 use Rattle.rk_auth.specs.Sessions.{is_shared}
 use Rattle.rk_auth.specs.Changes.{without_client}
-use Rattle.rk_core.specs.World.{World, tidied}
-use Rattle.rk_core.specs.Steps.{context_of, is_ring, goes_with, rings_without, gone}
+use Rattle.rk_machine.specs.World.{World, tidied}
+use Rattle.rk_machine.specs.Steps.{context_of, is_ring, goes_with, rings_without, gone}
 use Rattle.rk_core.specs.Tidy.{stays, StayBut, removed_if, without_if, session_goes}
-use Rattle.rk_core.proofs.Gets.{get_removed, get_kept_where}
+use Rattle.rk_machine.proofs.Gets.{get_removed, get_kept_where}
 use Rattle.rk_core.proofs.Stays.{Rings, links_kept, has_key}
 use Rattle.rk_core.proofs.Tidy.{same_keys, get_tidied, all_stay, stays_by}
 use Rattle.rk_core.proofs.Tidied.{still_stays}

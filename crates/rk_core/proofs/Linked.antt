@@ -20,8 +20,8 @@ use Rattle.rk_rings.specs.Numbered as numbered
 use Rattle.rk_rings.proofs.Finds.{tied, tied_itself, any_value, some_entry, entry_found}
 use Rattle.rk_rings.proofs.Seen.{get-rings_seen, rings_seen-changed_at, ring_seen-linked, contains-ring_seen, len-ring_seen, is_linked-rings_seen, contains_key-rings_seen, rings_seen-remove, ring_seen-unlinked, GivesWay}
 use Rattle.rk_core.specs.Kept.{IsKept}
-use Rattle.rk_core.specs.Links.{is_full, holds_name}
-use Rattle.rk_core.proofs.Gets.{get_removed}
+use Rattle.rk_machine.specs.Links.{is_full, holds_name}
+use Rattle.rk_machine.proofs.Gets.{get_removed}
 use Rattle.rk_core.proofs.Stays.{same_answer}
 use Rattle.rk_core.proofs.NamesOf.{IsNameOf, by_key, gives_way_by}
 

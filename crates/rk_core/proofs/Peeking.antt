@@ -5,10 +5,10 @@ use Rattle.std.specs.FinMap as map
 use Rattle.rk_auth.specs.declared.construction.Authority.{Authority}
 use Rattle.rk_auth.specs.Sessions.{unspent}
 use Rattle.rk_rings.specs.Places.{rings_of}
-use Rattle.rk_core.specs.World.{World}
-use Rattle.rk_core.specs.Search.{Hits}
+use Rattle.rk_machine.specs.World.{World}
+use Rattle.rk_machine.specs.Search.{Hits}
 use Rattle.rk_core.specs.Sought.{IsSought, hit_in}
-use Rattle.rk_core.specs.Views.{positive, Peeks}
+use Rattle.rk_machine.specs.Views.{positive, Peeks}
 use Rattle.rk_core.specs.declared.search.Sought.{Sought}
 use Rattle.rk_core.proofs.Hits.{hits_of}
 

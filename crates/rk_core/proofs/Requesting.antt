@@ -8,16 +8,17 @@ use Rattle.rk_names.specs.declared.errors.KeyError.TheVariants as error
 use Rattle.rk_table.specs.Says.{Says}
 use Rattle.rk_keys.specs.Serials.{HasSerials}
 use Rattle.rk_rings.specs.Places.{rings_of}
-use Rattle.rk_core.specs.declared.event.Answer.{Answer}
-use Rattle.rk_core.specs.declared.event.Answer.TheVariants.{Refused}
+use Rattle.rk_machine.specs.declared.event.Answer.{Answer}
+use Rattle.rk_machine.specs.declared.event.Answer.TheVariants.{Refused}
 use Rattle.rk_core.specs.declared.search.Sought.{Sought}
-use Rattle.rk_core.specs.World.{World}
-use Rattle.rk_core.specs.Asker.{Asker, ring_for, ring_or_none_refusal}
-use Rattle.rk_core.specs.Allowed.{first_of, OrNoMemory}
-use Rattle.rk_core.specs.Search.{Query, Hits, block_of}
+use Rattle.rk_machine.specs.World.{World}
+use Rattle.rk_machine.specs.declared.asker.Asker.{Asker}
+use Rattle.rk_machine.specs.Asker.{ring_for, ring_or_none_refusal}
+use Rattle.rk_machine.specs.Allowed.{first_of, OrNoMemory}
+use Rattle.rk_machine.specs.Search.{Query, Hits, block_of}
 use Rattle.rk_core.specs.Sought.{IsSought, block_in, stale_in}
-use Rattle.rk_core.specs.Request.{start_refusal, destination_of, Begins, Misses, Meets, Requests}
-use Rattle.rk_core.proofs.Refusals.{unless_none, unless_some}
+use Rattle.rk_machine.specs.Request.{start_refusal, destination_of, Begins, Misses, Meets, Requests}
+use Rattle.rk_machine.proofs.Refusals.{unless_none, unless_some}
 use Rattle.rk_core.proofs.Hits.{block_as, stale_as}
 
 module _ (old : World) (s : SessionId) (asker : Asker) (q : Query) (ring : ℕ) (sought : Sought) (found : IsSought old q sought) where

@@ -11,8 +11,8 @@ use Rattle.rk_keys.specs.Known.{Known, IsNaming}
 use Rattle.rk_rings.specs.Ring.{is_linked}
 use Rattle.rk_rings.specs.Numbered.{Numbered, Rings, rings_seen, IsMatch}
 use Rattle.rk_core.specs.Kept.{IsKept}
-use Rattle.rk_core.specs.World.{World}
-use Rattle.rk_core.specs.Search.{Query, answers}
+use Rattle.rk_machine.specs.World.{World}
+use Rattle.rk_machine.specs.Search.{Query, answers}
 use Rattle.rk_core.specs.Sought.{IsSole}
 use Rattle.rk_core.specs.declared.search.Match.{Match}
 use Rattle.rk_core.proofs.NamesOf.{IsNameOf, key_of}

@@ -12,29 +12,29 @@ use Rattle.rk_keys.specs.declared.key.Condition.TheVariants.{Negative}
 use Rattle.rk_names.specs.declared.errors.KeyError.TheVariants as error
 use Rattle.rk_names.specs.declared.numbers.SessionId.TheVariants.{Client}
 use Rattle.rk_auth.specs.Changes.{with_context, launched}
-use Rattle.rk_core.specs.Completion.{completed, ended, keys_ended}
+use Rattle.rk_machine.specs.Completion.{completed, ended, keys_ended}
 use Rattle.rk_auth.specs.Sessions.{Sessions, new_session}
 use Rattle.rk_rings.specs.Ring.{has_link}
-use Rattle.rk_core.specs.declared.event.Event.{Event}
-use Rattle.rk_core.specs.declared.event.Answer.{Answer}
-use Rattle.rk_core.specs.World.{World, drawn, empty_world}
+use Rattle.rk_machine.specs.declared.event.Event.{Event}
+use Rattle.rk_machine.specs.declared.event.Answer.{Answer}
+use Rattle.rk_machine.specs.World.{World, drawn, empty_world}
 use Rattle.rk_core.specs.Sound.{IsSound}
 use Rattle.rk_core.specs.Tidy.{stays, StayBut}
 use Rattle.rk_auth.specs.declared.construction.Construction.{Construction}
 use Rattle.rk_auth.specs.declared.construction.Stage.TheVariants.{Plain, Piped}
 use Rattle.rk_keys.specs.Known.{new_key}
-use Rattle.rk_core.specs.Links.{linked_in, unlinked_in, cleared_in}
-use Rattle.rk_core.specs.Request.{waiting, started, with_key}
-use Rattle.rk_core.specs.KeyAsks.{with_key_changed}
-use Rattle.rk_core.specs.Steps.{Step, gone}
-use Rattle.rk_core.proofs.Built.{built_marked}
+use Rattle.rk_machine.specs.Links.{linked_in, unlinked_in, cleared_in}
+use Rattle.rk_machine.specs.Request.{waiting, started, with_key}
+use Rattle.rk_machine.specs.KeyAsks.{with_key_changed}
+use Rattle.rk_machine.specs.Steps.{Step, gone}
+use Rattle.rk_machine.proofs.Built.{built_marked}
 use Rattle.rk_core.proofs.Tidied.{still_stays}
 use Rattle.rk_core.proofs.Unspent.{building_after}
-use Rattle.rk_core.proofs.Effects.{Effect, effect, IsMild, query, authority_for, refused, still, took, came, went, greets, begins, joins, links, unlinks, marks, tells, sets, adds, assumes, concludes, ran_plain, ran_piped, failed, finished}
-use Rattle.rk_core.proofs.Gets.{get_changed_at}
-use Rattle.rk_core.proofs.Draws.{is_drawn}
-use Rattle.rk_core.proofs.Drawn.{keeps_drawn}
-use Rattle.rk_core.proofs.Greetings.{greeted_sessions, greeted_keys}
+use Rattle.rk_machine.proofs.Effects.{Effect, effect, IsMild, query, authority_for, refused, still, took, came, went, greets, begins, joins, links, unlinks, marks, tells, sets, adds, assumes, concludes, ran_plain, ran_piped, failed, finished}
+use Rattle.rk_machine.proofs.Gets.{get_changed_at}
+use Rattle.rk_machine.proofs.Draws.{is_drawn}
+use Rattle.rk_machine.proofs.Drawn.{keeps_drawn}
+use Rattle.rk_machine.proofs.Greetings.{greeted_sessions, greeted_keys}
 use Rattle.rk_core.proofs.Growing.{Grows, rings_grow}
 use Rattle.rk_core.proofs.Clear.{IsClear, none_changed, none_kept, none_inserted, none_linked, none_ended, free_changed, free_launched, free_concluded, free_ended, apart}
 use Rattle.rk_core.proofs.Stays.{links_kept}

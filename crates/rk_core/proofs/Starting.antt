@@ -19,11 +19,11 @@ use Rattle.rk_auth.specs.declared.construction.Stage.TheVariants.{Starting}
 use Rattle.rk_auth.specs.Sessions.{Sessions, session_of, handler_in}
 use Rattle.rk_auth.specs.Changes.{with_construction}
 use Rattle.rk_auth.specs.Circles.{Leads, its_own, further}
-use Rattle.rk_core.specs.World.{World}
-use Rattle.rk_core.specs.Allowed.{refused_if}
-use Rattle.rk_core.specs.Links.{is_full, is_full_at, is_full_for, holds_name}
+use Rattle.rk_machine.specs.World.{World}
+use Rattle.rk_machine.specs.Allowed.{refused_if}
+use Rattle.rk_machine.specs.Links.{is_full, is_full_at, is_full_for, holds_name}
 use Rattle.rk_core.specs.Tidy.{StayBut}
-use Rattle.rk_core.proofs.Gets.{get_inserted}
+use Rattle.rk_machine.proofs.Gets.{get_inserted}
 use Rattle.rk_core.proofs.Stays.{same_answer, tied_itself, link_somewhere, has_key}
 use Rattle.rk_core.proofs.Tidy.{stays_by}
 use Rattle.rk_core.proofs.Linked.{item_passes, passing_item}

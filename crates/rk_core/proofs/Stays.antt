@@ -11,7 +11,7 @@ use Rattle.rk_table.specs.Maps.{changed_at}
 use Rattle.rk_table.proofs.Entries.{tie}
 use Rattle.rk_rings.specs.Ring.{Ring, is_linked, has_link, with_link, without_link, without_links}
 use Rattle.rk_rings.proofs.Finds.{any_value, some_entry, entry_found}
-use Rattle.rk_core.proofs.Gets.{get_changed_at, get_removed}
+use Rattle.rk_machine.proofs.Gets.{get_changed_at, get_removed}
 
 abbrev pub Rings : Type 0
 Rings = map.FinMap nat_cmp Ring

@@ -10,18 +10,18 @@ use Rattle.rk_auth.specs.declared.construction.Stage.{Stage}
 use Rattle.rk_auth.specs.declared.construction.Stage.TheVariants.{Starting, Plain, Piped}
 use Rattle.rk_auth.specs.Sessions.{stage_of, is_starting, is_running}
 use Rattle.rk_auth.specs.Changes as sessions
-use Rattle.rk_core.specs.declared.event.Event.TheVariants.{Asked, Launched, Ended}
-use Rattle.rk_core.specs.declared.event.Ran.{Ran}
-use Rattle.rk_core.specs.declared.event.How.{How}
-use Rattle.rk_core.specs.declared.event.Answer.{Answer}
-use Rattle.rk_core.specs.declared.event.Answer.TheVariants.{Refused}
-use Rattle.rk_core.specs.World.{World, tidied}
-use Rattle.rk_core.specs.Allowed.{done, refused_if}
-use Rattle.rk_core.specs.Asks.{ask_refusal, Asking}
-use Rattle.rk_core.specs.Completion.{ended, condition_after}
-use Rattle.rk_core.specs.Steps.{launched, Ends, Step}
+use Rattle.rk_machine.specs.declared.event.Event.TheVariants.{Asked, Launched, Ended}
+use Rattle.rk_machine.specs.declared.event.Ran.{Ran}
+use Rattle.rk_machine.specs.declared.event.How.{How}
+use Rattle.rk_machine.specs.declared.event.Answer.{Answer}
+use Rattle.rk_machine.specs.declared.event.Answer.TheVariants.{Refused}
+use Rattle.rk_machine.specs.World.{World, tidied}
+use Rattle.rk_machine.specs.Allowed.{done, refused_if}
+use Rattle.rk_machine.specs.Asks.{ask_refusal, Asking}
+use Rattle.rk_machine.specs.Completion.{ended, condition_after}
+use Rattle.rk_machine.specs.Steps.{launched, Ends, Step}
 use Rattle.rk_core.specs.Tidy.{StayBut}
-use Rattle.rk_core.proofs.Refusals.{unless_none, unless_some}
+use Rattle.rk_machine.proofs.Refusals.{unless_none, unless_some}
 use Rattle.rk_core.proofs.Tidy.{all_stay}
 
 -- ---- an ask

@@ -11,11 +11,11 @@ use Rattle.rk_keys.specs.Key.{key_passes, is_building, is_rival}
 use Rattle.rk_keys.specs.Known.{concluded}
 use Rattle.rk_auth.specs.Sessions.{unspent}
 use Rattle.rk_rings.specs.Ring.{Ring, is_linked, has_link, without_links}
-use Rattle.rk_core.specs.World.{World, tidied}
-use Rattle.rk_core.specs.Links.{linked_in, unlinked_in, cleared_in}
-use Rattle.rk_core.specs.Completion.{completed, ended, keys_ended, expiry_after}
+use Rattle.rk_machine.specs.World.{World, tidied}
+use Rattle.rk_machine.specs.Links.{linked_in, unlinked_in, cleared_in}
+use Rattle.rk_machine.specs.Completion.{completed, ended, keys_ended, expiry_after}
 use Rattle.rk_core.specs.Tidy.{stays, StayBut, settled_at, without_ring, rival_in}
-use Rattle.rk_core.proofs.Gets.{get_changed_at, get_removed}
+use Rattle.rk_machine.proofs.Gets.{get_changed_at, get_removed}
 use Rattle.rk_core.proofs.Stays.{links_kept, stays_linked, stays_unlinked, cleared_alike}
 use Rattle.rk_core.proofs.Tidy.{same_keys, get_tidied, one_settles, stays_by}
 

@@ -10,9 +10,9 @@ use Rattle.std.proofs.lemmas.Cmp.{nat_eq_equiv}
 use Rattle.rk_keys.specs.declared.key.Key.{Key}
 use Rattle.rk_keys.specs.Key.{is_building}
 use Rattle.rk_rings.specs.Ring.{has_link}
-use Rattle.rk_core.specs.World.{World, tidied}
+use Rattle.rk_machine.specs.World.{World, tidied}
 use Rattle.rk_core.specs.Tidy.{stays, StayBut, settled_at}
-use Rattle.rk_core.proofs.Gets.{get_kept_where, get_removed}
+use Rattle.rk_machine.proofs.Gets.{get_kept_where, get_removed}
 
 pub same_keys : (m n : map.FinMap nat_cmp Key) → ((q : ℕ) → map.get m q ≡ map.get n q) → m ≡ n
 same_keys m n h = map.same_map nat_cmp_total map.nat_cmp-IsAntisymmetric m n h

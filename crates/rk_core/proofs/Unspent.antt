@@ -17,18 +17,18 @@ use Rattle.rk_auth.specs.declared.construction.Construction.{Construction}
 use Rattle.rk_auth.specs.declared.construction.Stage.TheVariants.{Plain, Piped}
 use Rattle.rk_auth.specs.Sessions.{Sessions, new_session, unspent}
 use Rattle.rk_auth.specs.Changes.{with_context, with_wait, new_wait, with_setting, with_assumed, with_construction}
-use Rattle.rk_core.specs.declared.event.Event.{Event}
-use Rattle.rk_core.specs.declared.event.Answer.{Answer}
-use Rattle.rk_core.specs.World.{World, drawn}
-use Rattle.rk_core.specs.Asker.{serial_named}
-use Rattle.rk_core.specs.Links.{linked_in, unlinked_in, cleared_in}
-use Rattle.rk_core.specs.Completion.{keys_ended}
+use Rattle.rk_machine.specs.declared.event.Event.{Event}
+use Rattle.rk_machine.specs.declared.event.Answer.{Answer}
+use Rattle.rk_machine.specs.World.{World, drawn}
+use Rattle.rk_machine.specs.Asker.{serial_named}
+use Rattle.rk_machine.specs.Links.{linked_in, unlinked_in, cleared_in}
+use Rattle.rk_machine.specs.Completion.{keys_ended}
 use Rattle.rk_core.specs.Sound.{IsSound}
-use Rattle.rk_core.specs.Steps.{rings_without}
-use Rattle.rk_core.proofs.Effects.{Effect, authority_for, refused, still, took, came, went, greets, begins, joins, links, unlinks, marks, tells, sets, adds, assumes, concludes, ran_plain, ran_piped, failed, finished}
-use Rattle.rk_core.proofs.Greetings.{greeted_sessions, greeted_keys}
-use Rattle.rk_core.proofs.Built.{built_at, built_in, built_tidied, built_put, built_marked, built_concluded}
-use Rattle.rk_core.proofs.Authorities.{unspent_changed, unspent_launched, unspent_concluded, unspent_ended, unspent_issued}
+use Rattle.rk_machine.specs.Steps.{rings_without}
+use Rattle.rk_machine.proofs.Effects.{Effect, authority_for, refused, still, took, came, went, greets, begins, joins, links, unlinks, marks, tells, sets, adds, assumes, concludes, ran_plain, ran_piped, failed, finished}
+use Rattle.rk_machine.proofs.Greetings.{greeted_sessions, greeted_keys}
+use Rattle.rk_machine.proofs.Built.{built_at, built_in, built_tidied, built_put, built_marked, built_concluded}
+use Rattle.rk_machine.proofs.Authorities.{unspent_changed, unspent_launched, unspent_concluded, unspent_ended, unspent_issued}
 use Rattle.rk_core.proofs.Tidied.{other_key}
 
 -- where the authority of k alone is spent, and the condition of k alone changes

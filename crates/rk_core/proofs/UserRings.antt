@@ -12,10 +12,11 @@ use Rattle.rk_rings.specs.Ring.{Ring, empty_ring, is_users}
 use Rattle.rk_rings.specs.Numbered.{Numbered, Rings, ring_seen, rings_seen, is_user_ring}
 use Rattle.rk_rings.proofs.Finds.{any_value, some_entry, entry_found}
 use Rattle.rk_rings.proofs.Seen.{get-rings_seen}
-use Rattle.rk_core.specs.World.{World}
-use Rattle.rk_core.specs.Hello.{Greeting, has_user_ring, rings_made, Makes, MakesIf, HasSessionRing, HasUserRing}
+use Rattle.rk_machine.specs.World.{World}
+use Rattle.rk_machine.specs.declared.greeting.Greeting.{Greeting}
+use Rattle.rk_machine.specs.Hello.{has_user_ring, rings_made, Makes, MakesIf, HasSessionRing, HasUserRing}
 use Rattle.rk_core.specs.Drafts.{MakesOr, IsUserRing}
-use Rattle.rk_core.proofs.Gets.{get_inserted}
+use Rattle.rk_machine.proofs.Gets.{get_inserted}
 use Rattle.rk_core.proofs.Drafting.{not_used, still_none}
 
 -- ---- whether a uid has one

@@ -7,8 +7,8 @@ use Rattle.rk_keys.specs.Serials.{Drawn}
 use Rattle.rk_rings.specs.declared.kind.NewRing.{NewRing}
 use Rattle.rk_rings.specs.declared.kind.RingKind.{RingKind}
 use Rattle.rk_rings.specs.Ring.{Ring, empty_ring, is_users}
-use Rattle.rk_core.specs.World.{World}
-use Rattle.rk_core.specs.Hello.{Makes, has_user_ring}
+use Rattle.rk_machine.specs.World.{World}
+use Rattle.rk_machine.specs.Hello.{Makes, has_user_ring}
 
 -- the rings are made, one after the other
 abbrev pub with_all : List NewRing → map.FinMap nat_cmp Ring → map.FinMap nat_cmp Ring

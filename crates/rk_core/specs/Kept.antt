@@ -4,7 +4,7 @@ use Rattle.std.specs.FinMap as map
 use Rattle.rk_keys.specs.Known.{Known}
 use Rattle.rk_rings.specs.Numbered.{Numbered, Rings, rings_seen, HasEachNameOnce}
 use Rattle.rk_auth.specs.Sessions.{Sessions}
-use Rattle.rk_core.specs.World.{World}
+use Rattle.rk_machine.specs.World.{World}
 
 -- the world of these tables
 abbrev pub world_of : ℕ → Known → Rings → Sessions → World

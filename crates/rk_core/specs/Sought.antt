@@ -5,8 +5,8 @@ use Rattle.rk_names.specs.declared.errors.KeyError.{KeyError}
 use Rattle.rk_keys.specs.declared.key.Standing.{Standing}
 use Rattle.rk_keys.specs.Key.{key_passes}
 use Rattle.rk_rings.specs.Ring.{is_linked}
-use Rattle.rk_core.specs.World.{World}
-use Rattle.rk_core.specs.Search.{Query, answers, is_live, blocks, is_stale, errors}
+use Rattle.rk_machine.specs.World.{World}
+use Rattle.rk_machine.specs.Search.{Query, answers, is_live, blocks, is_stale, errors}
 use Rattle.rk_core.specs.declared.search.Match.{Match}
 use Rattle.rk_core.specs.declared.search.Sought.{Sought}
 

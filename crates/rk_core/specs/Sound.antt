@@ -4,7 +4,7 @@ use Rattle.std.specs.FinMap as map
 use Rattle.std.specs.FinSet as set
 use Rattle.rk_keys.specs.Key.{key_passes, is_building}
 use Rattle.rk_auth.specs.Sessions.{unspent}
-use Rattle.rk_core.specs.World.{World}
+use Rattle.rk_machine.specs.World.{World}
 use Rattle.rk_core.specs.Tidy.{StayBut}
 
 -- what bears a serial has drawn it, an unspent authority is that of a key under construction, and every key stays

@@ -6,7 +6,7 @@ use Rattle.std.specs.FinMap as map
 use Rattle.rk_keys.specs.declared.key.Key.{Key}
 use Rattle.rk_keys.specs.Key.{key_passes, is_building, is_rival}
 use Rattle.rk_rings.specs.Ring.{Ring, has_link, is_linked}
-use Rattle.rk_core.specs.World.{World}
+use Rattle.rk_machine.specs.World.{World}
 
 -- a key that has a link or is under construction stays
 abbrev pub stays : World → ℕ → Bool

@@ -1,17 +1,15 @@
 //! One ask: whether the session may ask, and what it comes to.
 ghost use Rattle.std.specs.Prelude.{◌≡◌, None, Some, is_some, true};
 ghost use Rattle.rk_auth.specs.Sessions.{session_of};
-ghost use Rattle.rk_core.specs.Asker.{asker_of, serial_named};
-ghost use Rattle.rk_core.specs.Asks.{is_acting, gate, ask_refusal, assume_refusal, Assumes, Asking};
+ghost use Rattle.rk_machine.specs.Asker.{asker_of, serial_named};
+ghost use Rattle.rk_machine.specs.Asks.{is_acting, gate, ask_refusal, assume_refusal, Assumes, Asking};
 ghost use Rattle.rk_core.specs.Sound.{IsSound};
-ghost use Rattle.rk_core.specs.Steps.{Step};
+ghost use Rattle.rk_machine.specs.Steps.{Step};
 
-use crate::asker::Asker;
-use crate::event::{Answer, Event, done};
-use crate::greeting::Greeting;
 use crate::named::serial_named;
 use crate::tables::Tables;
 use rk_keys::Condition;
+use rk_machine::{Answer, Asker, Event, Greeting, done};
 use rk_message::Ask;
 use rk_names::{Errno, KeyError, Moment, Serial, SessionId};
 

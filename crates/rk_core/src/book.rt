@@ -1,14 +1,14 @@
 //! The book: the machine's state, and the steps that it takes.
 ghost use Rattle.std.specs.Prelude.{◌≡◌, ◌≤◌, List, ◌∷◌, IfOk, option_map};
 ghost use Rattle.std.specs.Option.{option_copied};
-ghost use Rattle.rk_core.specs.World.{World, empty_world};
-ghost use Rattle.rk_core.specs.Steps.{Beginning, Past, Run, Step};
-ghost use Rattle.rk_core.specs.Laws.{ContinuesTo};
-ghost use Rattle.rk_core.specs.Views.{is_ready, is_owed, has_wait, depth_of, Peeks};
+ghost use Rattle.rk_machine.specs.World.{World, empty_world};
+ghost use Rattle.rk_machine.specs.Steps.{Beginning, Past, Run, Step};
+ghost use Rattle.rk_machine.specs.Laws.{ContinuesTo};
+ghost use Rattle.rk_machine.specs.Views.{is_ready, is_owed, has_wait, depth_of, Peeks};
 
-use crate::event::{Answer, Event};
 use crate::limits::Limits;
 use crate::tables::Tables;
+use rk_machine::{Answer, Event};
 use rk_names::{Description, Moment, Serial, SessionId, TypeName};
 use std::alloc::{AllocError, Global};
 use std::marker::Model;
@@ -22,7 +22,7 @@ pub struct Book {
 }
 
 impl Model for Book {
-    ghost use Rattle.rk_core.specs.World.{World, world_code};
+    ghost use Rattle.rk_machine.specs.World.{World, world_code};
     ghost use Rattle.rk_core.specs.Sound.{IsSound};
 
     ghost Value = { World };

@@ -1,15 +1,14 @@
 //! INSTANTIATE, NEGATE, REJECT: a handler gives its key a condition.
 ghost use Rattle.std.specs.Prelude.{◌≡◌, ℕ, true, None, Some, MatchResult};
 ghost use Rattle.std.specs.FinMap as map;
-ghost use Rattle.rk_core.specs.Asker.{serial_named};
-ghost use Rattle.rk_core.specs.Asks.{completion_refusal, Completes};
+ghost use Rattle.rk_machine.specs.Asker.{serial_named};
+ghost use Rattle.rk_machine.specs.Asks.{completion_refusal, Completes};
 ghost use Rattle.rk_core.specs.Sound.{IsSound};
 
-use crate::asker::Asker;
-use crate::event::{Answer, done};
 use crate::named::serial_named;
 use crate::tables::Tables;
 use rk_keys::Condition;
+use rk_machine::{Answer, Asker, done};
 use rk_names::{Errno, Moment, Serial};
 
 impl Tables {
@@ -36,7 +35,7 @@ impl Tables {
     /// The key is linked where it is wanted, and complete: its authority is spent, and all who wait are told
     /// (keyctl_instantiate(3)). It takes no memory. EPERM where its authority is not assumed, then the ring's error, then
     /// EDQUOT where that is full.
-    #[tactic(auto, unfolding(crate::specs::Asks::Completes))]
+    #[tactic(auto, unfolding(rk_machine::specs::Asks::Completes))]
     pub fn complete_key(
         &mut self,
         now: Moment,

@@ -3,14 +3,14 @@ ghost use Rattle.std.specs.Prelude.{◌≡◌, true, false, None, Some, is_some,
 ghost use Rattle.std.specs.FinMap as map;
 ghost use Rattle.rk_keys.specs.Key.{key_passes, is_building};
 ghost use Rattle.rk_auth.specs.Sessions.{unspent};
-ghost use Rattle.rk_core.specs.World.{tidied};
+ghost use Rattle.rk_machine.specs.World.{tidied};
 ghost use Rattle.rk_core.specs.Tidy.{StayBut};
-ghost use Rattle.rk_core.specs.Completion.{outcome_of, completed, condition_after, expiry_after, ended};
+ghost use Rattle.rk_machine.specs.Completion.{outcome_of, completed, condition_after, expiry_after, ended};
 
-use crate::event::How;
 use crate::tables::Tables;
 use rk_auth::{Outcome, Stage};
 use rk_keys::{Condition, Key};
+use rk_machine::How;
 use rk_names::{KeyError, Moment, Payload, Serial};
 
 /// What those who wait for a key are told.

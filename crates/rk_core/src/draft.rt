@@ -4,8 +4,8 @@ ghost use Rattle.std.specs.Ordering.{nat_cmp};
 ghost use Rattle.std.specs.FinMap as map;
 ghost use Rattle.rk_keys.specs.Serials.{HasSerials, Extends};
 ghost use Rattle.rk_rings.specs.Ring.{Ring};
-ghost use Rattle.rk_core.specs.World.{World};
-ghost use Rattle.rk_core.specs.Hello.{Makes, MakesIf};
+ghost use Rattle.rk_machine.specs.World.{World};
+ghost use Rattle.rk_machine.specs.Hello.{Makes, MakesIf};
 ghost use Rattle.rk_core.specs.Drafts.{drafted, IsDraftOf, MakesOr};
 
 use rk_keys::Serials;

@@ -1,15 +1,14 @@
 //! HELLO: a client gets its context.
 ghost use Rattle.std.specs.Prelude.{◌≡◌, unwrap_or, [], IfOk, IfNone, OnOk, OnErr, IsTrue};
 ghost use Rattle.rk_keys.specs.Serials.{HasSerials, Extends};
-ghost use Rattle.rk_core.specs.World.{World};
+ghost use Rattle.rk_machine.specs.World.{World};
 ghost use Rattle.rk_core.specs.Sound.{IsSound};
 ghost use Rattle.rk_core.specs.Drafts.{drafted, IsDraftOf, IsUserRing};
-ghost use Rattle.rk_core.specs.Hello.{join_refusal, rings_made, hello_refusal, Greets, Hellos};
+ghost use Rattle.rk_machine.specs.Hello.{join_refusal, rings_made, hello_refusal, Greets, Hellos};
 
 use crate::draft::Draft;
-use crate::event::Answer;
-use crate::greeting::Greeting;
 use crate::tables::Tables;
+use rk_machine::{Answer, Greeting};
 use rk_message::Reply;
 use rk_names::{Context, Errno, Serial, SessionId};
 use rk_rings::RingKind;
@@ -51,7 +50,7 @@ impl Tables {
     }
 
     /// Makes the rings of a context, and gives it to the session. All growths come before the first change.
-    #[tactic(auto, unfolding(crate::specs::Hello::Hellos))]
+    #[tactic(auto, unfolding(rk_machine::specs::Hello::Hellos))]
     pub fn hello(&mut self, id: &SessionId, greeting: &Greeting) -> Answer
         requires sound { IsSound self.old }
         ensures { Hellos self.old id.now greeting.now result self.new }

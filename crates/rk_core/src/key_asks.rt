@@ -6,13 +6,12 @@ ghost use Rattle.std.specs.FinMap as map;
 ghost use Rattle.rk_names.specs.Numbers.{key_errno};
 ghost use Rattle.rk_keys.specs.Key.{key_passes, is_revoked};
 ghost use Rattle.rk_keys.specs.Known.{marked, timed};
-ghost use Rattle.rk_core.specs.KeyAsks.{serial_in, description_of, payload_by, state_word, TellsOf, TellsCallout, read_refusal, ReadsKey, Reads, Describes, Revokes, TimesOut, over_refusal, with_key_changed, revoke_refusal, timeout_refusal};
+ghost use Rattle.rk_machine.specs.KeyAsks.{serial_in, description_of, payload_by, state_word, TellsOf, TellsCallout, read_refusal, ReadsKey, Reads, Describes, Revokes, TimesOut, over_refusal, with_key_changed, revoke_refusal, timeout_refusal};
 
-use crate::asker::Asker;
-use crate::event::{Answer, done};
 use crate::tables::Tables;
 use itoa::Buffer;
 use rk_keys::{Condition, Key, Standing};
+use rk_machine::{Answer, Asker, done};
 use rk_message::{Reply, ReplyBytes};
 use rk_names::{Errno, Moment, Serial, SessionId};
 use std::alloc::{AllocError, Global};

@@ -4,8 +4,8 @@ ghost use Rattle.std.specs.Option.{option_map_or};
 ghost use Rattle.std.specs.FinMap as map;
 ghost use Rattle.rk_keys.specs.Key.{is_rival};
 ghost use Rattle.rk_rings.specs.Ring.{is_linked};
-ghost use Rattle.rk_core.specs.World.{tidied};
-ghost use Rattle.rk_core.specs.Links.{is_full_at, is_full_for, full_refusal, linked_in, unlinked_in, cleared_in};
+ghost use Rattle.rk_machine.specs.World.{tidied};
+ghost use Rattle.rk_machine.specs.Links.{is_full_at, is_full_for, full_refusal, linked_in, unlinked_in, cleared_in};
 ghost use Rattle.rk_core.specs.Tidy.{settled_at, without_ring, StayBut, rival_in};
 
 use crate::tables::Tables;

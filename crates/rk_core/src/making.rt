@@ -5,7 +5,7 @@ ghost use Rattle.rk_keys.specs.Serials.{IsFresh};
 ghost use Rattle.rk_keys.specs.Known.{new_key};
 ghost use Rattle.rk_auth.specs.Changes.{with_construction};
 ghost use Rattle.rk_rings.specs.Ring.{has_link};
-ghost use Rattle.rk_core.specs.World.{World, drawn};
+ghost use Rattle.rk_machine.specs.World.{World, drawn};
 ghost use Rattle.rk_core.specs.Sound.{IsSound};
 
 use crate::tables::Tables;

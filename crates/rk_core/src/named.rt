@@ -1,13 +1,14 @@
 //! The keys and rings that an ask names, and why it is refused.
 ghost use Rattle.std.specs.Prelude.{◌≡◌, None, Some, MatchResult, MatchOption, unwrap_or, true, ℕ};
 ghost use Rattle.std.specs.FinMap as map;
-ghost use Rattle.rk_core.specs.Asker.{Asker, asker_of, serial_named, ring_for, ring_refusal, ring_or_none_refusal, known_refusal, is_possessed, key_refusal};
-ghost use Rattle.rk_core.specs.KeyAsks.{use_refusal, over_refusal};
-ghost use Rattle.rk_core.specs.Request.{destination_of};
+ghost use Rattle.rk_machine.specs.declared.asker.Asker.{Asker};
+ghost use Rattle.rk_machine.specs.Asker.{asker_of, serial_named, ring_for, ring_refusal, ring_or_none_refusal, known_refusal, is_possessed, key_refusal};
+ghost use Rattle.rk_machine.specs.KeyAsks.{use_refusal, over_refusal};
+ghost use Rattle.rk_machine.specs.Request.{destination_of};
 
-use crate::asker::Asker;
 use crate::tables::Tables;
 use rk_keys::Standing;
+use rk_machine::Asker;
 use rk_names::{Errno, Moment, Serial, SessionId};
 use rk_rings::Place;
 

@@ -5,20 +5,19 @@ ghost use Rattle.rk_names.specs.Numbers.{key_errno};
 ghost use Rattle.rk_rings.specs.Places.{live};
 ghost use Rattle.rk_auth.specs.Sessions.{session_of};
 ghost use Rattle.rk_auth.specs.Circles.{Leads};
-ghost use Rattle.rk_core.specs.Allowed.{first_of, OrNoMemory};
-ghost use Rattle.rk_core.specs.Asker.{ring_for};
-ghost use Rattle.rk_core.specs.Links.{is_full_at};
-ghost use Rattle.rk_core.specs.Search.{Query, block_of};
+ghost use Rattle.rk_machine.specs.Allowed.{first_of, OrNoMemory};
+ghost use Rattle.rk_machine.specs.Asker.{ring_for};
+ghost use Rattle.rk_machine.specs.Links.{is_full_at};
+ghost use Rattle.rk_machine.specs.Search.{Query, block_of};
 ghost use Rattle.rk_core.specs.Sought.{IsSought, block_in};
 ghost use Rattle.rk_core.specs.Sound.{IsSound};
 ghost use Rattle.rk_core.specs.Tidy.{StayBut};
-ghost use Rattle.rk_core.specs.Request.{waiting, MeetsBuilding, MeetsPositive, Meets, destination_of, start_refusal, subject_of, Begins, Misses, Requests};
+ghost use Rattle.rk_machine.specs.Request.{waiting, MeetsBuilding, MeetsPositive, Meets, destination_of, start_refusal, subject_of, Begins, Misses, Requests};
 
-use crate::asker::Asker;
-use crate::event::Answer;
 use crate::search::Sought;
 use crate::tables::Tables;
 use rk_auth::Authority;
+use rk_machine::{Answer, Asker};
 use rk_macro::Subject;
 use rk_message::Reply;
 use rk_names::{Callout, Context, Description, Errno, Moment, Serial, SessionId, TypeName};
@@ -27,7 +26,7 @@ use std::alloc::AllocError;
 impl Tables {
     /// Finds a key, waits for one that is being made, or has one made by a handler (request_key(2)). A search costs one
     /// look-up of the name and one in each ring of the context.
-    #[tactic(auto, unfolding(crate::specs::Request::Requests))]
+    #[tactic(auto, unfolding(rk_machine::specs::Request::Requests))]
     pub fn request(
         &mut self,
         now: Moment,

@@ -3,14 +3,13 @@ ghost use Rattle.std.specs.Prelude.{◌≡◌, ℕ, true, false, None, Some, Mat
 ghost use Rattle.std.specs.FinMap as map;
 ghost use Rattle.rk_keys.specs.Serials.{IsFresh};
 ghost use Rattle.rk_rings.specs.Ring.{is_linked};
-ghost use Rattle.rk_core.specs.Asker.{serial_named, ring_for, ring_refusal};
-ghost use Rattle.rk_core.specs.Links.{is_full_at, full_refusal};
+ghost use Rattle.rk_machine.specs.Asker.{serial_named, ring_for, ring_refusal};
+ghost use Rattle.rk_machine.specs.Links.{is_full_at, full_refusal};
 ghost use Rattle.rk_core.specs.Sound.{IsSound};
-ghost use Rattle.rk_core.specs.KeyAsks.{link_refusal, LinksIn, unlink_refusal, Unlinks, Clears, setting_asked, Defaults, add_refusal, AddsTo, Adds};
+ghost use Rattle.rk_machine.specs.KeyAsks.{link_refusal, LinksIn, unlink_refusal, Unlinks, Clears, setting_asked, Defaults, add_refusal, AddsTo, Adds};
 
-use crate::asker::Asker;
-use crate::event::{Answer, done};
 use crate::tables::Tables;
+use rk_machine::{Answer, Asker, done};
 use rk_message::Reply;
 use rk_names::{Description, Errno, Moment, Payload, Serial, SessionId, Setting, TypeName};
 use std::alloc::AllocError;
@@ -161,7 +160,7 @@ impl Tables {
 
     /// Makes a key with its payload, and links it in a ring, in the place of one of that name (add_key(2)). The ring's error;
     /// EDQUOT where the user has 200 keys, no serial is left or the ring is full. All growths come before the first change.
-    #[tactic(auto, unfolding(crate::specs::KeyAsks::Adds))]
+    #[tactic(auto, unfolding(rk_machine::specs::KeyAsks::Adds))]
     pub fn add(
         &mut self,
         asker: &Asker,

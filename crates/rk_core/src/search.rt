@@ -3,7 +3,7 @@ ghost use Rattle.std.specs.Prelude.{◌≡◌, None, Some, option_and_then, unwr
 ghost use Rattle.std.specs.Option.{option_map};
 ghost use Rattle.std.specs.FinMap as map;
 ghost use Rattle.rk_keys.specs.Key.{standing_of};
-ghost use Rattle.rk_core.specs.Search.{is_live, blocks, is_stale};
+ghost use Rattle.rk_machine.specs.Search.{is_live, blocks, is_stale};
 ghost use Rattle.rk_core.specs.Sought.{IsSought, any_stands, stands, live_key, hit_in, block_in, stale_in};
 
 use crate::tables::Tables;

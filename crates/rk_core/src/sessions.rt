@@ -4,8 +4,8 @@ ghost use Rattle.std.specs.FinMap as map;
 ghost use Rattle.rk_auth.specs.Sessions.{new_session, is_shared};
 ghost use Rattle.rk_auth.specs.Changes.{outcome_at, launched, without_client};
 ghost use Rattle.rk_auth.specs.declared.construction.Stage.TheVariants.{Plain, Piped};
-ghost use Rattle.rk_core.specs.World.{World, tidied};
-ghost use Rattle.rk_core.specs.Steps.{opened, collected, context_of, gone};
+ghost use Rattle.rk_machine.specs.World.{World, tidied};
+ghost use Rattle.rk_machine.specs.Steps.{opened, collected, context_of, gone};
 ghost use Rattle.rk_core.specs.Tidy.{StayBut, without_if, session_goes};
 
 use crate::tables::Tables;

@@ -1,14 +1,14 @@
 //! One step: what happens is one of six events.
 ghost use Rattle.std.specs.Prelude.{◌≡◌, true, false, None, Some, MatchOption};
 ghost use Rattle.rk_auth.specs.Sessions.{stage_of, is_running};
-ghost use Rattle.rk_core.specs.World.{World};
+ghost use Rattle.rk_machine.specs.World.{World};
 ghost use Rattle.rk_core.specs.Sound.{IsSound};
-ghost use Rattle.rk_core.specs.Steps.{Step, told_as};
+ghost use Rattle.rk_machine.specs.Steps.{Step, told_as};
 
-use crate::event::{Answer, Event, How, Ran, done};
 use crate::tables::Tables;
 use rk_auth::{MAX_CLIENTS, Outcome, Stage};
 use rk_keys::Condition;
+use rk_machine::{Answer, Event, How, Ran, done};
 use rk_message::Reply;
 use rk_names::{Errno, KeyError, Moment, Payload, Serial, SessionId};
 
@@ -38,7 +38,7 @@ impl Tables {
     }
 
     /// A client comes. EBUSY where it is there, EDQUOT where there are 64.
-    #[tactic(auto, unfolding(crate::specs::Steps::Step))]
+    #[tactic(auto, unfolding(rk_machine::specs::Steps::Step))]
     fn opened(&mut self, now: Moment, id: &SessionId) -> Answer
         ensures { Step self.old now (Event.Opened id.now) result self.new }
     {
@@ -59,7 +59,7 @@ impl Tables {
     }
 
     /// The handler of a key was started, or could not be. EINVAL where it is not to be started.
-    #[tactic(auto, unfolding(crate::specs::Steps::Step))]
+    #[tactic(auto, unfolding(rk_machine::specs::Steps::Step))]
     fn launched(&mut self, now: Moment, key: Serial, ran: Ran) -> Answer
         requires sound { IsSound self.old }
         ensures { Step self.old now (Event.Launched key ran) result self.new }
@@ -84,7 +84,7 @@ impl Tables {
     }
 
     /// The handler of a key has ended. EINVAL where none runs.
-    #[tactic(auto, unfolding(crate::specs::Steps::Step))]
+    #[tactic(auto, unfolding(rk_machine::specs::Steps::Step))]
     fn ended(&mut self, now: Moment, key: Serial, how: How, payload: Option<Payload>) -> Answer
         requires sound { IsSound self.old }
         ensures { Step self.old now (Event.Ended key how payload) result self.new }
@@ -108,7 +108,7 @@ impl Tables {
     }
 
     /// A session takes the outcome of its wait, where that may be collected. EINVAL where it does not wait.
-    #[tactic(auto, unfolding(crate::specs::Steps::Step))]
+    #[tactic(auto, unfolding(rk_machine::specs::Steps::Step))]
     fn collect(&mut self, now: Moment, id: &SessionId) -> Answer
         ensures { Step self.old now (Event.Collect id.now) result self.new }
     {
@@ -126,7 +126,7 @@ impl Tables {
     }
 
     /// A client goes, and its rings with it. EINVAL where it is not there.
-    #[tactic(auto, unfolding(crate::specs::Steps::Step))]
+    #[tactic(auto, unfolding(rk_machine::specs::Steps::Step))]
     fn gone(&mut self, now: Moment, id: &SessionId) -> Answer
         requires sound { IsSound self.old }
         ensures { Step self.old now (Event.Gone id.now) result self.new }

@@ -14,8 +14,8 @@ ghost use Rattle.rk_auth.specs.Sessions.{session_of, wait_of, stage_of, unspent,
 ghost use Rattle.rk_auth.specs.Changes.{outcome_at, session_changed, with_context, with_setting, with_assumed};
 ghost use Rattle.rk_auth.specs.Circles.{Leads};
 ghost use Rattle.rk_auth.specs.Faults.{assume_fault};
-ghost use Rattle.rk_core.specs.World.{World, empty_world};
-ghost use Rattle.rk_core.specs.Asker.{is_reached};
+ghost use Rattle.rk_machine.specs.World.{World, empty_world};
+ghost use Rattle.rk_machine.specs.Asker.{is_reached};
 
 use crate::limits::Limits;
 use rk_auth::{Authority, Auths, Outcome, Session, Stage, Wait};
@@ -36,7 +36,7 @@ pub struct Tables {
 }
 
 impl Model for Tables {
-    ghost use Rattle.rk_core.specs.World.{World, world_code};
+    ghost use Rattle.rk_machine.specs.World.{World, world_code};
     ghost use Rattle.rk_core.specs.Kept.{IsKept, world_of};
 
     ghost Value = { World };

@@ -2,12 +2,12 @@
 ghost use Rattle.std.specs.Prelude.{◌≡◌, option_map, option_and_then};
 ghost use Rattle.std.specs.FinMap as map;
 ghost use Rattle.rk_auth.specs.Sessions.{stage_of, is_running, is_starting};
-ghost use Rattle.rk_core.specs.Views.{is_ready, is_owed, has_wait, depth_of, positive, Peeks};
+ghost use Rattle.rk_machine.specs.Views.{is_ready, is_owed, has_wait, depth_of, positive, Peeks};
 
-use crate::event::Event;
 use crate::tables::Tables;
 use rk_auth::Stage;
 use rk_keys::Condition;
+use rk_machine::Event;
 use rk_names::{Description, Moment, Serial, SessionId, TypeName};
 
 impl Tables {

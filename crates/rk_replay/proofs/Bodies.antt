@@ -2,7 +2,7 @@
 use Rattle.std.proofs.Common.{◌≡◌, ℕ, ◌+◌, List, [], ◌∷◌, ◌++◌, map, Option, refl, sym, ap, ◌∙◌, subst, append_assoc}
 use Rattle.std.proofs.lemmas.List.{append-nil}
 use Rattle.rk_conf.specs.declared.line.Line.{Line}
-use Rattle.rk_core.specs.Steps.{Beginning, Past}
+use Rattle.rk_machine.specs.Steps.{Beginning, Past}
 use Rattle.rk_replay.specs.declared.happening.Happening.{Happening}
 use Rattle.rk_replay.specs.declared.output.Output.{Output}
 use Rattle.rk_replay.specs.declared.reading.Reading.{Reading}

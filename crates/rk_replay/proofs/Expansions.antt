@@ -10,8 +10,8 @@ use Rattle.rk_macro.specs.declared.fault.ExpandFault.TheVariants.{NoKey, NotText
 use Rattle.rk_macro.specs.declared.subject.Subject.{Subject}
 use Rattle.std.specs.Global.{Vec}
 use Rattle.rk_macro.specs.Lookup.{Lookup, payload_shown, answers_of}
-use Rattle.rk_core.specs.World.{World}
-use Rattle.rk_core.specs.Views.{Peeks}
+use Rattle.rk_machine.specs.World.{World}
+use Rattle.rk_machine.specs.Views.{Peeks}
 use Rattle.rk_replay.specs.Commands.{looked_up}
 use Rattle.rk_macro.specs.Expansion.{StandsFor, OnPayload, AreWords, Fails, FailsNext, FailsAt}
 

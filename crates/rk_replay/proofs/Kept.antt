@@ -6,12 +6,12 @@ use Rattle.std.specs.FinMap.{get-empty}
 use Rattle.rk_names.specs.declared.numbers.SessionId.{SessionId}
 use Rattle.rk_names.specs.declared.numbers.SessionId.TheVariants.{Client, Handler}
 use Rattle.rk_conf.specs.declared.line.Line.{Line}
-use Rattle.rk_core.specs.declared.event.Event.TheVariants.{Opened, Launched, Collect, Gone}
-use Rattle.rk_core.specs.declared.event.Ran.TheVariants as ran
-use Rattle.rk_core.specs.declared.event.Answer.{Answer}
-use Rattle.rk_core.specs.declared.event.Answer.TheVariants.{Refused}
-use Rattle.rk_core.specs.Allowed.{done}
-use Rattle.rk_core.specs.Steps.{Beginning, Past, Step}
+use Rattle.rk_machine.specs.declared.event.Event.TheVariants.{Opened, Launched, Collect, Gone}
+use Rattle.rk_machine.specs.declared.event.Ran.TheVariants as ran
+use Rattle.rk_machine.specs.declared.event.Answer.{Answer}
+use Rattle.rk_machine.specs.declared.event.Answer.TheVariants.{Refused}
+use Rattle.rk_machine.specs.Allowed.{done}
+use Rattle.rk_machine.specs.Steps.{Beginning, Past, Step}
 use Rattle.rk_replay.specs.declared.happening.Happening.{Happening}
 use Rattle.rk_replay.specs.declared.happening.Happening.TheVariants as happening
 use Rattle.rk_replay.specs.declared.happening.StartResult.TheVariants.{Started, Failed}
@@ -23,7 +23,7 @@ use Rattle.rk_replay.specs.Moves.{Move, collects, refuses, asks, shuts_client, s
 use Rattle.rk_replay.specs.Begins.{has_client, is_misplaced, Lengthens, Runs, Begins, place_with}
 use Rattle.rk_replay.specs.Served.{Acts}
 use Rattle.rk_replay.specs.Seated.{IsSeated}
-use Rattle.rk_replay.proofs.Stages.{kind_in}
+use Rattle.rk_machine.proofs.Stages.{kind_in}
 use Rattle.rk_replay.proofs.SeatLists.{is_start, at_has}
 use Rattle.rk_replay.proofs.Seating.{Fits, fits, seated, same_seats, reseated, opened_fits, gone_fits, gone_done, ended_fits, runs_fits, answered_fits}
 

@@ -4,10 +4,7 @@ pub mod Scripts
 pub mod LinesLeft
 pub mod Cuts
 pub mod Numbers
-pub mod Stages
-pub mod Presence
 pub mod ServedLaws
-pub mod Idle
 pub mod SeatLists
 pub mod Seating
 pub mod Kept

@@ -9,13 +9,13 @@ use Rattle.rk_conf.specs.declared.line.Line.{Line}
 use Rattle.rk_macro.specs.declared.subject.Subject.{Subject}
 use Rattle.rk_message.specs.declared.ask.Ask.{Ask}
 use Rattle.rk_message.specs.declared.reply.Reply.TheVariants as reply
-use Rattle.rk_core.specs.declared.event.Event.TheVariants.{Asked, Launched, Collect, Gone}
-use Rattle.rk_core.specs.declared.event.Ran.TheVariants as ran
-use Rattle.rk_core.specs.declared.event.Answer.{Answer}
-use Rattle.rk_core.specs.declared.event.Answer.TheVariants.{Done, Start, Waiting, Refused}
-use Rattle.rk_core.specs.World.{World}
-use Rattle.rk_core.specs.Steps.{Step}
-use Rattle.rk_core.specs.Views.{is_ready, has_wait}
+use Rattle.rk_machine.specs.declared.event.Event.TheVariants.{Asked, Launched, Collect, Gone}
+use Rattle.rk_machine.specs.declared.event.Ran.TheVariants as ran
+use Rattle.rk_machine.specs.declared.event.Answer.{Answer}
+use Rattle.rk_machine.specs.declared.event.Answer.TheVariants.{Done, Start, Waiting, Refused}
+use Rattle.rk_machine.specs.World.{World}
+use Rattle.rk_machine.specs.Steps.{Step}
+use Rattle.rk_machine.specs.Views.{is_ready, has_wait}
 use Rattle.rk_replay.specs.declared.output.Output.{Output}
 use Rattle.rk_replay.specs.declared.output.Output.TheVariants as output
 use Rattle.rk_replay.specs.declared.seat.Place.{Place}
@@ -28,7 +28,7 @@ use Rattle.rk_replay.specs.Moves.{is_start, Answered, tells, starts_one, fails_t
 use Rattle.rk_replay.specs.Served.{outputs_of}
 use Rattle.rk_replay.specs.Places.{is_stream, is_open, IsNextAt, HasFaultAt, shut_place}
 use Rattle.rk_replay.specs.Desk.{MovesOne, MovesSome, AnswersOne, StartsNow, RestsAt}
-use Rattle.rk_replay.proofs.Presence.{ready_waits}
+use Rattle.rk_machine.proofs.Presence.{ready_waits}
 use Rattle.rk_replay.proofs.SeatLists.{not_false, some_seat}
 
 -- ---- one more move

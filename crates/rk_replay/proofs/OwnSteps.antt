@@ -8,18 +8,18 @@ use Rattle.rk_names.specs.declared.errors.Errno.{Errno}
 use Rattle.rk_auth.specs.declared.construction.Stage.{Stage}
 use Rattle.rk_auth.specs.declared.construction.Stage.TheVariants.{Starting, Plain, Piped}
 use Rattle.rk_auth.specs.Sessions as sessions
-use Rattle.rk_core.specs.declared.event.Event.{Event}
-use Rattle.rk_core.specs.declared.event.Event.TheVariants.{Opened, Launched, Ended}
-use Rattle.rk_core.specs.declared.event.Ran.TheVariants as ran
-use Rattle.rk_core.specs.declared.event.How.{How}
-use Rattle.rk_core.specs.declared.event.Answer.{Answer}
-use Rattle.rk_core.specs.declared.event.Answer.TheVariants.{Refused}
-use Rattle.rk_core.specs.World.{World}
-use Rattle.rk_core.specs.Allowed.{done}
-use Rattle.rk_core.specs.Laws.{same_session}
-use Rattle.rk_core.specs.Steps.{Step, open_refusal, Ends}
-use Rattle.rk_core.proofs.Refusals.{unless, or_memory}
-use Rattle.rk_core.proofs.Waits.{same-self}
+use Rattle.rk_machine.specs.declared.event.Event.{Event}
+use Rattle.rk_machine.specs.declared.event.Event.TheVariants.{Opened, Launched, Ended}
+use Rattle.rk_machine.specs.declared.event.Ran.TheVariants as ran
+use Rattle.rk_machine.specs.declared.event.How.{How}
+use Rattle.rk_machine.specs.declared.event.Answer.{Answer}
+use Rattle.rk_machine.specs.declared.event.Answer.TheVariants.{Refused}
+use Rattle.rk_machine.specs.World.{World}
+use Rattle.rk_machine.specs.Allowed.{done}
+use Rattle.rk_machine.specs.Laws.{same_session}
+use Rattle.rk_machine.specs.Steps.{Step, open_refusal, Ends}
+use Rattle.rk_machine.proofs.Refusals.{unless, or_memory}
+use Rattle.rk_machine.proofs.Waits.{same-self}
 use Rattle.rk_replay.specs.declared.happening.Happening.{Happening}
 use Rattle.rk_replay.specs.declared.happening.Happening.TheVariants as happening
 use Rattle.rk_replay.specs.declared.happening.StartResult.TheVariants.{Started}

@@ -11,7 +11,7 @@ use Rattle.rk_conf.specs.declared.line.Line.{Line}
 use Rattle.rk_conf.specs.Faults.{IsFaultFor}
 use Rattle.rk_conf.specs.Reading.{faults_of, lines_told}
 use Rattle.rk_conf.specs.Text.{lines_of}
-use Rattle.rk_core.specs.Steps.{Beginning}
+use Rattle.rk_machine.specs.Steps.{Beginning}
 use Rattle.rk_replay.specs.declared.playing.Head.{Head}
 use Rattle.rk_replay.specs.declared.reading.Reading.{Reading}
 use Rattle.rk_replay.specs.declared.reading.Reading.TheVariants.{Blank, Conf, Negative, Happens, Wrong}

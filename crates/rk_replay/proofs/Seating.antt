@@ -14,18 +14,18 @@ use Rattle.rk_auth.specs.declared.construction.Stage.{Stage}
 use Rattle.rk_auth.specs.declared.construction.Stage.TheVariants.{Starting, Plain, Piped}
 use Rattle.rk_auth.specs.declared.construction.Construction.{Construction}
 use Rattle.rk_auth.specs.Sessions.{stage_of, is_starting}
-use Rattle.rk_core.specs.declared.event.Event.{Event}
-use Rattle.rk_core.specs.declared.event.Event.TheVariants.{Opened, Asked, Launched, Gone}
-use Rattle.rk_core.specs.declared.event.Ran.{Ran}
-use Rattle.rk_core.specs.declared.event.Ran.TheVariants as ran
-use Rattle.rk_core.specs.declared.event.Answer.{Answer}
-use Rattle.rk_core.specs.declared.event.Answer.TheVariants.{Done, Start, Waiting, Refused}
-use Rattle.rk_core.specs.World.{World}
-use Rattle.rk_core.specs.Allowed.{done, refused_if}
-use Rattle.rk_core.specs.Steps.{Beginning, Past, Step}
-use Rattle.rk_core.specs.Laws.{same_session}
-use Rattle.rk_core.proofs.Refusals.{unless}
-use Rattle.rk_core.proofs.Effects.{effect}
+use Rattle.rk_machine.specs.declared.event.Event.{Event}
+use Rattle.rk_machine.specs.declared.event.Event.TheVariants.{Opened, Asked, Launched, Gone}
+use Rattle.rk_machine.specs.declared.event.Ran.{Ran}
+use Rattle.rk_machine.specs.declared.event.Ran.TheVariants as ran
+use Rattle.rk_machine.specs.declared.event.Answer.{Answer}
+use Rattle.rk_machine.specs.declared.event.Answer.TheVariants.{Done, Start, Waiting, Refused}
+use Rattle.rk_machine.specs.World.{World}
+use Rattle.rk_machine.specs.Allowed.{done, refused_if}
+use Rattle.rk_machine.specs.Steps.{Beginning, Past, Step}
+use Rattle.rk_machine.specs.Laws.{same_session}
+use Rattle.rk_machine.proofs.Refusals.{unless}
+use Rattle.rk_machine.proofs.Effects.{effect}
 use Rattle.rk_replay.specs.declared.seat.Place.{Place}
 use Rattle.rk_replay.specs.declared.seat.Place.TheVariants.{Starts}
 use Rattle.rk_replay.specs.declared.seat.Seat.{Seat}
@@ -33,9 +33,9 @@ use Rattle.rk_replay.specs.Left.{Left, seat, without, Part}
 use Rattle.rk_replay.specs.Moves.{is_start as is_start_of, Answered, tells, starts_one, fails_to_start}
 use Rattle.rk_replay.specs.Begins.{has_client, is_to_start, is_running, Adds}
 use Rattle.rk_replay.specs.Seated.{are_apart, IsSeated}
-use Rattle.rk_replay.proofs.Stages.{kind_in, kind_of, kind_after, kinds, launched_kind}
-use Rattle.rk_replay.proofs.Presence.{is_client, client_after, clients}
-use Rattle.rk_replay.proofs.Idle.{IsIdle, idle_step, start_draws}
+use Rattle.rk_machine.proofs.Stages.{kind_in, kind_of, kind_after, kinds, launched_kind}
+use Rattle.rk_machine.proofs.Presence.{is_client, client_after, clients}
+use Rattle.rk_machine.proofs.Idle.{IsIdle, idle_step, start_draws}
 use Rattle.rk_replay.proofs.SeatLists.{some_none, is_start, kind_at, is_first, is_second, has_seat_is, starts_is, runs_is, same_kind, kind_added, kind_without, kind_kept, kind_set, apart_added, apart_without, apart_set}
 
 -- ---- the stage of a construction, by two tests
@@ -209,7 +209,7 @@ launch_done w now k r a v h step =
     unless (refused_if (not (is_starting (stage_of w.sessions k))) errno.Einval) w a v _ _
     (λ error ra same. answered error (is_starting (stage_of w.sessions k)) h step) (λ none g. g.0) step
   where
-    answered : (error : Errno) (b : Bool) → b ≡ true → Rattle.rk_core.specs.Allowed.Unless (refused_if (not b) errno.Einval) w a v (Rattle.rk_core.specs.Allowed.Settles done (Rattle.rk_core.specs.Steps.launched now k r w) a v) → a ≡ done
+    answered : (error : Errno) (b : Bool) → b ≡ true → Rattle.rk_machine.specs.Allowed.Unless (refused_if (not b) errno.Einval) w a v (Rattle.rk_machine.specs.Allowed.Settles done (Rattle.rk_machine.specs.Steps.launched now k r w) a v) → a ≡ done
     answered error true e g = g.0
     answered error false e g = absurd (cc)
 
@@ -249,6 +249,6 @@ pub gone_done : (w : World) (now n : ℕ) (a : Answer) (v : World) → has_clien
 unfolding Step
 gone_done w now n a v h step = answered (map.contains_key w.sessions.clients n) h step
   where
-    answered : (b : Bool) → b ≡ true → Rattle.rk_core.specs.Allowed.Unless (refused_if (not b) errno.Einval) w a v (Rattle.rk_core.specs.Allowed.Settles done (Rattle.rk_core.specs.Steps.gone n w) a v) → a ≡ done
+    answered : (b : Bool) → b ≡ true → Rattle.rk_machine.specs.Allowed.Unless (refused_if (not b) errno.Einval) w a v (Rattle.rk_machine.specs.Allowed.Settles done (Rattle.rk_machine.specs.Steps.gone n w) a v) → a ≡ done
     answered true e g = g.0
     answered false e g = absurd (cc)

@@ -5,17 +5,17 @@ use Rattle.rk_names.specs.declared.numbers.SessionId.TheVariants.{Client, Handle
 use Rattle.rk_names.specs.declared.errors.Errno.{Errno}
 use Rattle.rk_names.specs.Rules.{payload_fault}
 use Rattle.rk_macro.specs.declared.subject.Subject.{Subject}
-use Rattle.rk_core.specs.declared.event.Event.{Event}
-use Rattle.rk_core.specs.declared.event.Event.TheVariants.{Opened, Launched, Ended, Gone}
-use Rattle.rk_core.specs.declared.event.Ran.TheVariants as ran
-use Rattle.rk_core.specs.declared.event.How.{How}
-use Rattle.rk_core.specs.declared.event.How.TheVariants.{Fault}
-use Rattle.rk_core.specs.declared.event.Answer.{Answer}
-use Rattle.rk_core.specs.declared.event.Answer.TheVariants.{Refused}
-use Rattle.rk_core.specs.Allowed.{done}
-use Rattle.rk_core.specs.World.{World}
-use Rattle.rk_core.specs.Steps.{Step}
-use Rattle.rk_core.specs.Views.{is_owed}
+use Rattle.rk_machine.specs.declared.event.Event.{Event}
+use Rattle.rk_machine.specs.declared.event.Event.TheVariants.{Opened, Launched, Ended, Gone}
+use Rattle.rk_machine.specs.declared.event.Ran.TheVariants as ran
+use Rattle.rk_machine.specs.declared.event.How.{How}
+use Rattle.rk_machine.specs.declared.event.How.TheVariants.{Fault}
+use Rattle.rk_machine.specs.declared.event.Answer.{Answer}
+use Rattle.rk_machine.specs.declared.event.Answer.TheVariants.{Refused}
+use Rattle.rk_machine.specs.Allowed.{done}
+use Rattle.rk_machine.specs.World.{World}
+use Rattle.rk_machine.specs.Steps.{Step}
+use Rattle.rk_machine.specs.Views.{is_owed}
 use Rattle.rk_replay.specs.declared.happening.Happening.{Happening}
 use Rattle.rk_replay.specs.declared.happening.Happening.TheVariants as happening
 use Rattle.rk_replay.specs.declared.happening.StartResult.TheVariants.{Started, Failed}

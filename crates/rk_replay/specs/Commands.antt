@@ -7,8 +7,8 @@ use Rattle.rk_macro.specs.declared.fault.ExpandFault.{ExpandFault}
 use Rattle.rk_macro.specs.declared.subject.Subject.{Subject}
 use Rattle.rk_macro.specs.Lookup.{Lookup}
 use Rattle.rk_macro.specs.Expansion.{AreWords, size_of, FailsAt}
-use Rattle.rk_core.specs.World.{World}
-use Rattle.rk_core.specs.Views.{Peeks}
+use Rattle.rk_machine.specs.World.{World}
+use Rattle.rk_machine.specs.Views.{Peeks}
 
 -- what `%{..}` finds for the construction of k: the payload that a search with its authority's context hits, unless memory is wanting
 abbrev pub looked_up : World → ℕ → ℕ → Lookup

@@ -7,13 +7,13 @@ use Rattle.rk_conf.specs.declared.line.Line.{Line}
 use Rattle.rk_macro.specs.declared.command.Command.{Command}
 use Rattle.rk_macro.specs.declared.subject.Subject.{Subject}
 use Rattle.rk_message.specs.declared.ask.Ask.{Ask}
-use Rattle.rk_core.specs.declared.event.Event.TheVariants.{Launched}
-use Rattle.rk_core.specs.declared.event.Ran.TheVariants as ran
-use Rattle.rk_core.specs.declared.event.How.{How}
-use Rattle.rk_core.specs.declared.event.Answer.{Answer}
-use Rattle.rk_core.specs.declared.event.Answer.TheVariants as answer
-use Rattle.rk_core.specs.Steps.{Step}
-use Rattle.rk_core.specs.Views.{has_wait}
+use Rattle.rk_machine.specs.declared.event.Event.TheVariants.{Launched}
+use Rattle.rk_machine.specs.declared.event.Ran.TheVariants as ran
+use Rattle.rk_machine.specs.declared.event.How.{How}
+use Rattle.rk_machine.specs.declared.event.Answer.{Answer}
+use Rattle.rk_machine.specs.declared.event.Answer.TheVariants as answer
+use Rattle.rk_machine.specs.Steps.{Step}
+use Rattle.rk_machine.specs.Views.{has_wait}
 use Rattle.rk_replay.specs.declared.happening.Happening.{Happening}
 use Rattle.rk_replay.specs.declared.output.Output.{Output}
 use Rattle.rk_replay.specs.declared.output.Output.TheVariants as output

@@ -7,12 +7,12 @@ use Rattle.rk_message.specs.declared.reply.Reply.TheVariants as reply
 use Rattle.rk_message.specs.Wire.{spelling}
 use Rattle.rk_message.specs.Replies.{reply_message}
 use Rattle.rk_frame.specs.Framing.{frame}
-use Rattle.rk_core.specs.declared.event.Event.{Event}
-use Rattle.rk_core.specs.declared.event.Answer.{Answer}
-use Rattle.rk_core.specs.declared.event.Answer.TheVariants.{Done, Start, Waiting, Refused}
-use Rattle.rk_core.specs.World.{World, empty_world}
-use Rattle.rk_core.specs.Steps.{Beginning, Past}
-use Rattle.rk_core.specs.Laws.{same_session}
+use Rattle.rk_machine.specs.declared.event.Event.{Event}
+use Rattle.rk_machine.specs.declared.event.Answer.{Answer}
+use Rattle.rk_machine.specs.declared.event.Answer.TheVariants.{Done, Start, Waiting, Refused}
+use Rattle.rk_machine.specs.World.{World, empty_world}
+use Rattle.rk_machine.specs.Steps.{Beginning, Past}
+use Rattle.rk_machine.specs.Laws.{same_session}
 use Rattle.rk_replay.specs.declared.output.Output.{Output}
 use Rattle.rk_replay.specs.declared.output.Output.TheVariants as output
 use Rattle.rk_replay.specs.declared.seat.Place.{Place}

@@ -9,13 +9,13 @@ use Rattle.rk_message.specs.declared.reply.Reply.TheVariants as reply
 use Rattle.rk_conf.specs.declared.line.Line.{Line}
 use Rattle.rk_macro.specs.declared.command.Command.{Command}
 use Rattle.rk_macro.specs.declared.subject.Subject.{Subject}
-use Rattle.rk_core.specs.declared.event.Event.TheVariants.{Asked, Launched, Collect, Gone}
-use Rattle.rk_core.specs.declared.event.Ran.TheVariants as ran
-use Rattle.rk_core.specs.declared.event.Answer.{Answer}
-use Rattle.rk_core.specs.declared.event.Answer.TheVariants.{Done, Start, Waiting, Refused}
-use Rattle.rk_core.specs.World.{World}
-use Rattle.rk_core.specs.Steps.{Step}
-use Rattle.rk_core.specs.Views.{is_ready, has_wait}
+use Rattle.rk_machine.specs.declared.event.Event.TheVariants.{Asked, Launched, Collect, Gone}
+use Rattle.rk_machine.specs.declared.event.Ran.TheVariants as ran
+use Rattle.rk_machine.specs.declared.event.Answer.{Answer}
+use Rattle.rk_machine.specs.declared.event.Answer.TheVariants.{Done, Start, Waiting, Refused}
+use Rattle.rk_machine.specs.World.{World}
+use Rattle.rk_machine.specs.Steps.{Step}
+use Rattle.rk_machine.specs.Views.{is_ready, has_wait}
 use Rattle.rk_replay.specs.declared.output.Output.TheVariants as output
 use Rattle.rk_replay.specs.declared.seat.Place.{Place}
 use Rattle.rk_replay.specs.declared.seat.Place.TheVariants.{Talks, Starts, Pipes}

@@ -1,8 +1,8 @@
 -- What a line of a script says.
 use Rattle.std.specs.Prelude.{ℕ, List, [], ◌∷◌, length, drop, take, codes, Option, Some, None, option_map, option_and_then, unwrap_or, nat_lt, if◌then◌else◌}
 use Rattle.std.specs.Str.{bytes_eq}
-use Rattle.rk_core.specs.declared.event.How.{How}
-use Rattle.rk_core.specs.declared.event.How.TheVariants.{Exit, Signal}
+use Rattle.rk_machine.specs.declared.event.How.{How}
+use Rattle.rk_machine.specs.declared.event.How.TheVariants.{Exit, Signal}
 use Rattle.rk_replay.specs.declared.happening.Happening.{Happening}
 use Rattle.rk_replay.specs.declared.happening.Happening.TheVariants as happening
 use Rattle.rk_replay.specs.declared.happening.StartResult.TheVariants.{Started, Failed}

@@ -1,7 +1,7 @@
 -- What a whole script says.
 use Rattle.std.specs.Prelude.{ℕ, List, [], ◌∷◌, map, codes, not, take, Bool, true, false, Option, Some, None, if◌then◌else◌}
 use Rattle.std.specs.List.{flat_map, filter_map, prefix_len}
-use Rattle.rk_core.specs.Steps.{Beginning}
+use Rattle.rk_machine.specs.Steps.{Beginning}
 use Rattle.rk_replay.specs.declared.happening.Happening.{Happening}
 use Rattle.rk_replay.specs.declared.reading.Reading.{Reading}
 use Rattle.rk_replay.specs.declared.reading.Reading.TheVariants.{Blank, Conf, Negative, Happens, Wrong}

@@ -3,7 +3,7 @@ use Rattle.std.specs.Prelude.{◌≡◌, ℕ, Bool, true, false, not, ◌&&◌, 
 use Rattle.std.specs.FinSet as set
 use Rattle.rk_names.specs.declared.numbers.SessionId.{SessionId}
 use Rattle.rk_names.specs.declared.numbers.SessionId.TheVariants.{Client, Handler}
-use Rattle.rk_core.specs.Laws.{same_session}
+use Rattle.rk_machine.specs.Laws.{same_session}
 use Rattle.rk_replay.specs.declared.seat.Place.{Place}
 use Rattle.rk_replay.specs.declared.seat.Place.TheVariants.{Talks, Starts, Pipes}
 use Rattle.rk_replay.specs.declared.seat.Seat.{Seat}

@@ -2,7 +2,7 @@
 use Rattle.std.specs.Prelude.{◌≡◌, ℕ, List, [], ◌∷◌, ◌++◌, reverse, Option, Some, None, true, false}
 use Rattle.std.specs.List.{flat_map}
 use Rattle.rk_conf.specs.declared.line.Line.{Line}
-use Rattle.rk_core.specs.Steps.{Beginning, Past, Run}
+use Rattle.rk_machine.specs.Steps.{Beginning, Past, Run}
 use Rattle.rk_replay.specs.declared.happening.Happening.{Happening}
 use Rattle.rk_replay.specs.declared.output.Output.{Output}
 use Rattle.rk_replay.specs.Left.{Left, Part, nothing}

@@ -3,7 +3,7 @@ use Rattle.std.specs.Prelude.{Bool, List, Option, Some, None, Result, Ok, Err, r
 use Rattle.std.specs.Coded.{Coded, code_by, coded×, coded_list, coded_bool}
 use Rattle.rk_conf.specs.declared.line.Line.{Line}
 use Rattle.rk_conf.specs.contracts.line.Line as line
-use Rattle.rk_core.specs.World.{World, world_code}
+use Rattle.rk_machine.specs.World.{World, world_code}
 use Rattle.rk_replay.specs.declared.output.Output.{Output}
 use Rattle.rk_replay.specs.declared.seat.Seat.{Seat}
 use Rattle.rk_replay.specs.contracts.seat.Seat as seat

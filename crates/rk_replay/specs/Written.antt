@@ -3,7 +3,7 @@ use Rattle.std.specs.Prelude.{◌≡◌, ℕ, ◌+◌, List, [], ◌∷◌, ◌+
 use Rattle.std.specs.List.{flat_map}
 use Rattle.rk_conf.specs.declared.fault.ConfFault.{ConfFault}
 use Rattle.rk_conf.specs.Reading.{faults_of, lines_told}
-use Rattle.rk_core.specs.Steps.{Past}
+use Rattle.rk_machine.specs.Steps.{Past}
 use Rattle.rk_replay.specs.declared.happening.Happening.{Happening}
 use Rattle.rk_replay.specs.declared.output.Output.{Output}
 use Rattle.rk_replay.specs.declared.reading.Reading.{Reading}

@@ -1,11 +1,11 @@
 //! The own step of a happening, and the moves that follow it.
 ghost use Rattle.std.specs.Prelude.{◌≡◌, true, false, List, [], IfOk, OnOk};
 ghost use Rattle.rk_names.specs.declared.numbers.SessionId.TheVariants.{Client, Handler};
-ghost use Rattle.rk_core.specs.declared.event.Event.TheVariants.{Launched, Ended, Gone};
-ghost use Rattle.rk_core.specs.declared.event.Ran.TheVariants as ran;
-ghost use Rattle.rk_core.specs.declared.event.How.TheVariants.{Fault};
-ghost use Rattle.rk_core.specs.Allowed.{done};
-ghost use Rattle.rk_core.specs.Steps.{Past};
+ghost use Rattle.rk_machine.specs.declared.event.Event.TheVariants.{Launched, Ended, Gone};
+ghost use Rattle.rk_machine.specs.declared.event.Ran.TheVariants as ran;
+ghost use Rattle.rk_machine.specs.declared.event.How.TheVariants.{Fault};
+ghost use Rattle.rk_machine.specs.Allowed.{done};
+ghost use Rattle.rk_machine.specs.Steps.{Past};
 ghost use Rattle.rk_replay.specs.declared.happening.Happening.TheVariants as happening;
 ghost use Rattle.rk_replay.specs.declared.happening.StartResult.TheVariants.{Started};
 ghost use Rattle.rk_replay.specs.Left.{no_step, one_step};

@@ -1,6 +1,6 @@
 //! The command for a key under construction.
 ghost use Rattle.std.specs.Prelude.{◌≡◌, ℕ, List, option_map, MatchOption, IfOk};
-ghost use Rattle.rk_core.specs.Views.{Peeks};
+ghost use Rattle.rk_machine.specs.Views.{Peeks};
 ghost use Rattle.rk_replay.specs.Commands.{IsCommand, HasNoCommand};
 
 use rk_conf::Conf;

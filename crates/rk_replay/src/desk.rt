@@ -1,7 +1,7 @@
 //! The machine and the seats of who is there: the moves of sessions.
 ghost use Rattle.std.specs.Prelude.{◌≡◌, true, ◌<◌, List, IfOk, OnOk, IfSome, MatchBool, vec_len, slice_get};
 ghost use Rattle.rk_conf.specs.declared.line.Line.{Line};
-ghost use Rattle.rk_core.specs.Views.{is_ready};
+ghost use Rattle.rk_machine.specs.Views.{is_ready};
 ghost use Rattle.rk_replay.specs.Places.{is_stream, HasFaultAt};
 ghost use Rattle.rk_replay.specs.Moves.{IsAtRest};
 ghost use Rattle.rk_replay.specs.Seated.{IsSeated};

@@ -1,7 +1,7 @@
 //! The seats of who is there, in the order in which they move.
 ghost use Rattle.std.specs.Prelude.{◌≡◌, ◌<◌, ◌≤◌, length, IfSome, IfNone, OnOk, slice_get};
 ghost use Rattle.rk_names.specs.declared.numbers.SessionId.TheVariants.{Client, Handler};
-ghost use Rattle.rk_core.specs.Laws.{same_session};
+ghost use Rattle.rk_machine.specs.Laws.{same_session};
 ghost use Rattle.rk_replay.specs.Left.{without};
 ghost use Rattle.rk_replay.specs.Seated.{place_of};
 ghost use Rattle.rk_replay.specs.Begins.{Adds};

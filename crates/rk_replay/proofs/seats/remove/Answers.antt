@@ -1,6 +1,6 @@
 use Rattle.std.proofs.Common.{rules, not}
 use Rattle.std.proofs.lemmas.Fn.{filter_same}
-use Rattle.rk_core.specs.Laws.{same_session}
+use Rattle.rk_machine.specs.Laws.{same_session}
 use Rattle.rk_replay.proofs.seats.remove.Goals as goal
 
 pub returns : goal.returns

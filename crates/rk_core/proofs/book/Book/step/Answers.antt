@@ -1,6 +1,6 @@
 use Rattle.std.proofs.Common.{sym, subst}
-use Rattle.rk_core.specs.Steps.{Past, Run}
-use Rattle.rk_core.proofs.Lawful.{continues}
+use Rattle.rk_machine.specs.Steps.{Past, Run}
+use Rattle.rk_machine.proofs.Lawful.{continues}
 use Rattle.rk_core.proofs.Sound.{step_sound}
 use Rattle.rk_core.proofs.book.Book.step.Goals as goal
 

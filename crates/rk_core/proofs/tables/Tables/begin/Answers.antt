@@ -4,11 +4,11 @@ use Rattle.rk_keys.specs.Known.{new_key}
 use Rattle.rk_auth.specs.Sessions.{Sessions}
 use Rattle.rk_auth.specs.Circles.{Leads}
 use Rattle.rk_auth.specs.declared.construction.Authority.{Authority}
-use Rattle.rk_core.specs.World.{World, tidied}
-use Rattle.rk_core.specs.Links.{linked_in}
-use Rattle.rk_core.specs.Search.{Query}
-use Rattle.rk_core.specs.Request.{waiting, subject_of}
-use Rattle.rk_core.specs.declared.event.Answer.TheVariants.{Start}
+use Rattle.rk_machine.specs.World.{World, tidied}
+use Rattle.rk_machine.specs.Links.{linked_in}
+use Rattle.rk_machine.specs.Search.{Query}
+use Rattle.rk_machine.specs.Request.{waiting, subject_of}
+use Rattle.rk_machine.specs.declared.event.Answer.TheVariants.{Start}
 use Rattle.rk_core.proofs.Starting.{new_known, others_stay, has_room, leads_nowhere}
 use Rattle.rk_core.proofs.tables.Tables.begin.Goals as goal
 

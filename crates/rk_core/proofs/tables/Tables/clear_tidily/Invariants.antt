@@ -4,8 +4,8 @@ use Rattle.std.specs.Option.{option_map_or}
 use Rattle.std.specs.FinMap as map
 use Rattle.std.specs.FinSet as set
 use Rattle.rk_rings.specs.Ring.{Ring}
-use Rattle.rk_core.specs.World.{tidied}
-use Rattle.rk_core.specs.Links.{cleared_in}
+use Rattle.rk_machine.specs.World.{tidied}
+use Rattle.rk_machine.specs.Links.{cleared_in}
 use Rattle.rk_core.specs.Tidy.{StayBut}
 use Rattle.rk_core.proofs.tables.Tables.clear_tidily.Given as goal
 

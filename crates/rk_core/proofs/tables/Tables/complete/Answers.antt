@@ -11,10 +11,10 @@ use Rattle.rk_keys.specs.Known.{Known, concluded}
 use Rattle.rk_auth.specs.declared.session.Outcome.{Outcome}
 use Rattle.rk_auth.specs.Sessions.{Sessions}
 use Rattle.rk_auth.specs.Changes.{spent, all_told}
-use Rattle.rk_core.specs.World.{World}
+use Rattle.rk_machine.specs.World.{World}
 use Rattle.rk_core.specs.Kept.{world_of}
-use Rattle.rk_core.specs.Completion.{outcome_of, completed, announced}
-use Rattle.rk_core.proofs.Gets.{get_changed_at}
+use Rattle.rk_machine.specs.Completion.{outcome_of, completed, announced}
+use Rattle.rk_machine.proofs.Gets.{get_changed_at}
 use Rattle.rk_core.proofs.Stays.{tied_itself}
 use Rattle.rk_core.proofs.tables.Tables.complete.Goals as goal
 

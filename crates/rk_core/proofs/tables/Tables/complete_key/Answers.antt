@@ -2,11 +2,11 @@ use Rattle.std.proofs.Common.{◌≡◌, ℕ, Bool, false, ◌||◌, refl, sym, 
 use Rattle.std.specs.Prelude.{Option, nat_eq}
 use Rattle.std.specs.Option.{option_map_or}
 use Rattle.std.proofs.lemmas.Int.{to_z-of_z}
-use Rattle.rk_core.specs.World.{tidied}
-use Rattle.rk_core.specs.Links.{linked_in}
-use Rattle.rk_core.specs.Asker.{serial_named, ring_for}
-use Rattle.rk_core.specs.Asks.{completion_refusal, Completes}
-use Rattle.rk_core.specs.Completion.{completed}
+use Rattle.rk_machine.specs.World.{tidied}
+use Rattle.rk_machine.specs.Links.{linked_in}
+use Rattle.rk_machine.specs.Asker.{serial_named, ring_for}
+use Rattle.rk_machine.specs.Asks.{completion_refusal, Completes}
+use Rattle.rk_machine.specs.Completion.{completed}
 use Rattle.rk_core.specs.Tidy.{StayBut}
 use Rattle.rk_core.proofs.Tidied.{link_stay, completed_stay}
 use Rattle.rk_core.proofs.Concluding.{completes_so}

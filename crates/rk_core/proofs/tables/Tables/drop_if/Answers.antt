@@ -1,6 +1,6 @@
 use Rattle.std.proofs.Common.{ℕ, false, sym, ap, ◌∙◌, subst}
 use Rattle.std.specs.Prelude.{Option}
-use Rattle.rk_core.specs.World.{tidied}
+use Rattle.rk_machine.specs.World.{tidied}
 use Rattle.rk_core.specs.Tidy.{StayBut, without_ring, without_if}
 use Rattle.rk_core.proofs.Tidy.{all_stay}
 use Rattle.rk_core.proofs.Cleared.{tidied_stay}

@@ -1,7 +1,7 @@
 use Rattle.std.proofs.Common.{◌≡◌, ap, ◌∙◌}
 use Rattle.std.specs.FinMap as map
 use Rattle.rk_rings.specs.Numbered.{rings_seen}
-use Rattle.rk_core.specs.World.{World}
+use Rattle.rk_machine.specs.World.{World}
 use Rattle.rk_core.specs.Kept.{world_of}
 use Rattle.rk_core.specs.Tidy.{without_ring}
 use Rattle.rk_core.proofs.Kept.{kept_drop, either_way}

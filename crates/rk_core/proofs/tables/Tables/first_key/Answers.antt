@@ -3,7 +3,7 @@ use Rattle.std.specs.Prelude.{Option, Some, None, MatchOption}
 use Rattle.rk_rings.specs.Ring.{is_linked}
 use Rattle.rk_rings.specs.Numbered.{holds}
 use Rattle.rk_rings.proofs.Seen.{is_linked-rings_seen}
-use Rattle.rk_core.specs.World.{World}
+use Rattle.rk_machine.specs.World.{World}
 use Rattle.rk_core.proofs.tables.Tables.first_key.Goals as goal
 
 -- what holds of one test holds of one that answers alike

@@ -2,9 +2,10 @@ use Rattle.std.proofs.Common.{refl, ap, ◌∙◌, subst}
 use Rattle.rk_message.specs.declared.reply.Reply.TheVariants.{Rings}
 use Rattle.rk_rings.specs.declared.kind.RingKind.TheVariants as kind
 use Rattle.rk_auth.specs.Changes.{session_changed, with_context}
-use Rattle.rk_core.specs.declared.event.Answer.TheVariants.{Done}
-use Rattle.rk_core.specs.World.{World}
-use Rattle.rk_core.specs.Hello.{Greeting, MakesIf, HasSessionRing, HasUserRing}
+use Rattle.rk_machine.specs.declared.event.Answer.TheVariants.{Done}
+use Rattle.rk_machine.specs.World.{World}
+use Rattle.rk_machine.specs.declared.greeting.Greeting.{Greeting}
+use Rattle.rk_machine.specs.Hello.{MakesIf, HasSessionRing, HasUserRing}
 use Rattle.rk_core.specs.Drafts.{drafted}
 use Rattle.rk_core.proofs.Drafting.{start_draft, nothing_drafted}
 use Rattle.rk_core.proofs.UserRings.{KeepsUsers, keeps_all, keeps_if, keeps_session, joined_or_made, user_made}

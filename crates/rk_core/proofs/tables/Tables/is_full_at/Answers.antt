@@ -1,6 +1,6 @@
 use Rattle.std.proofs.Common.{ap, ◌∙◌}
-use Rattle.rk_core.specs.World.{World}
-use Rattle.rk_core.specs.Links.{is_full_at}
+use Rattle.rk_machine.specs.World.{World}
+use Rattle.rk_machine.specs.Links.{is_full_at}
 use Rattle.rk_core.proofs.NamesOf.{by_name}
 use Rattle.rk_core.proofs.Linked.{full_alike}
 use Rattle.rk_core.proofs.tables.Tables.is_full_at.Goals as goal

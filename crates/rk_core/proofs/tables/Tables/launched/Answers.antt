@@ -4,9 +4,9 @@ use Rattle.std.specs.Option.{option_copied}
 use Rattle.rk_auth.specs.declared.construction.Stage.{Stage}
 use Rattle.rk_auth.specs.declared.construction.Stage.TheVariants.{Plain, Piped}
 use Rattle.rk_auth.specs.Sessions.{new_session}
-use Rattle.rk_core.specs.declared.event.Ran.{Ran}
-use Rattle.rk_core.specs.World.{tidied}
-use Rattle.rk_core.specs.Steps.{launched}
+use Rattle.rk_machine.specs.declared.event.Ran.{Ran}
+use Rattle.rk_machine.specs.World.{tidied}
+use Rattle.rk_machine.specs.Steps.{launched}
 use Rattle.rk_core.proofs.Stepping.{launches, only_sessions}
 use Rattle.rk_core.proofs.tables.Tables.launched.Goals as goal
 

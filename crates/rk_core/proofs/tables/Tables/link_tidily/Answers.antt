@@ -1,7 +1,7 @@
 use Rattle.std.proofs.Common.{false, ◌||◌, ◌∙◌, ap, sym, subst}
 use Rattle.std.specs.Prelude.{nat_eq}
 use Rattle.std.specs.Option.{option_map_or}
-use Rattle.rk_core.specs.World.{tidied}
+use Rattle.rk_machine.specs.World.{tidied}
 use Rattle.rk_core.specs.Tidy.{StayBut}
 use Rattle.rk_core.proofs.Tidied.{link_stay}
 use Rattle.rk_core.proofs.tables.Tables.link_tidily.Goals as goal

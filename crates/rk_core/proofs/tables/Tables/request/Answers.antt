@@ -3,9 +3,9 @@ use Rattle.std.specs.Prelude.{Option, Some, None}
 use Rattle.std.proofs.lemmas.Int.{to_z-of_z}
 use Rattle.std.proofs.Common.{w32}
 use Rattle.rk_rings.specs.Places.{rings_of}
-use Rattle.rk_core.specs.Search.{Query, Hits}
-use Rattle.rk_core.specs.Asker.{ring_for, ring_or_none_refusal}
-use Rattle.rk_core.specs.Request.{destination_of, Meets, Misses}
+use Rattle.rk_machine.specs.Search.{Query, Hits}
+use Rattle.rk_machine.specs.Asker.{ring_for, ring_or_none_refusal}
+use Rattle.rk_machine.specs.Request.{destination_of, Meets, Misses}
 use Rattle.rk_core.proofs.Requesting.{requested}
 use Rattle.rk_core.proofs.Hits.{hits_of, hit_known}
 use Rattle.rk_core.proofs.tables.Tables.request.Goals as goal

@@ -5,7 +5,7 @@ use Rattle.rk_rings.specs.Ring.{Ring}
 use Rattle.rk_rings.specs.Numbered.{Numbered, ring_seen}
 use Rattle.rk_rings.specs.declared.kind.RingKind.{RingKind}
 use Rattle.rk_rings.proofs.Seen.{get-rings_seen}
-use Rattle.rk_core.specs.World.{World}
+use Rattle.rk_machine.specs.World.{World}
 use Rattle.rk_core.proofs.tables.Tables.ring_kind.Goals as goal
 
 abbrev kind_in : Option Ring → Option (RingKind × ℕ)

@@ -1,7 +1,7 @@
 use Rattle.std.proofs.Common.{◌≡◌, ℕ, Bool, true, false, not, ◌&&◌, refl, sym, ap, ◌∙◌}
 use Rattle.std.specs.Prelude.{Option, nat_eq}
 use Rattle.std.specs.Option.{option_map_or}
-use Rattle.rk_core.specs.World.{World}
+use Rattle.rk_machine.specs.World.{World}
 use Rattle.rk_core.specs.Kept.{world_of}
 use Rattle.rk_core.specs.Tidy.{rival_in}
 use Rattle.rk_core.proofs.Linked.{rival_seen, last_false}

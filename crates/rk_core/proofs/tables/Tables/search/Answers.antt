@@ -5,8 +5,8 @@ use Rattle.std.specs.FinMap as map
 use Rattle.rk_keys.specs.declared.key.Key.{Key}
 use Rattle.rk_keys.specs.Key.{standing_of}
 use Rattle.rk_rings.specs.Numbered.{rings_seen, IsMatch}
-use Rattle.rk_core.specs.World.{World}
-use Rattle.rk_core.specs.Search.{Query}
+use Rattle.rk_machine.specs.World.{World}
+use Rattle.rk_machine.specs.Search.{Query}
 use Rattle.rk_core.specs.Sought.{IsSole}
 use Rattle.rk_core.specs.declared.search.Match.{Match}
 use Rattle.rk_core.proofs.NamesOf.{IsNameOf, by_name}

@@ -2,7 +2,7 @@ use Rattle.std.proofs.Common.{◌≡◌, List, sym, ap, ◌∙◌, subst}
 use Rattle.rk_keys.specs.Known.{Known}
 use Rattle.rk_rings.specs.declared.kind.NewRing.{NewRing}
 use Rattle.rk_rings.specs.Numbered.{rings_seen, AreNew}
-use Rattle.rk_core.specs.World.{World}
+use Rattle.rk_machine.specs.World.{World}
 use Rattle.rk_core.specs.Kept.{IsKept, world_of}
 use Rattle.rk_core.specs.Drafts.{with_all, AreAllNew, drafted}
 use Rattle.rk_core.proofs.Kept.{kept_rings, kept_numbers}

@@ -3,9 +3,9 @@ use Rattle.std.specs.Prelude.{Some}
 use Rattle.rk_table.specs.Maps.{changed_at}
 use Rattle.rk_rings.specs.Ring.{is_linked, without_link}
 use Rattle.rk_rings.specs.Numbered.{rings_seen}
-use Rattle.rk_core.specs.World.{World}
+use Rattle.rk_machine.specs.World.{World}
 use Rattle.rk_core.specs.Kept.{world_of}
-use Rattle.rk_core.specs.Links.{unlinked_in}
+use Rattle.rk_machine.specs.Links.{unlinked_in}
 use Rattle.rk_core.proofs.Kept.{kept_unlink, either_way}
 use Rattle.rk_core.proofs.Linked.{unlink_seen}
 use Rattle.rk_core.proofs.tables.Tables.unlink.Goals as goal

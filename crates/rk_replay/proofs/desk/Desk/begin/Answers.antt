@@ -1,9 +1,9 @@
 use Rattle.std.proofs.Common.{[], refl, None, inl, inr}
 use Rattle.std.proofs.lemmas.Result.{on_ok_weaker}
 use Rattle.rk_names.specs.declared.numbers.SessionId.TheVariants.{Client}
-use Rattle.rk_core.specs.declared.event.Event.TheVariants.{Ended, Gone}
-use Rattle.rk_core.specs.declared.event.How.TheVariants.{Fault}
-use Rattle.rk_core.specs.Allowed.{done}
+use Rattle.rk_machine.specs.declared.event.Event.TheVariants.{Ended, Gone}
+use Rattle.rk_machine.specs.declared.event.How.TheVariants.{Fault}
+use Rattle.rk_machine.specs.Allowed.{done}
 use Rattle.rk_replay.specs.declared.happening.Happening.TheVariants as happening
 use Rattle.rk_replay.specs.Left.{no_step, one_step}
 use Rattle.rk_replay.proofs.OwnSteps.{begins_quiet}

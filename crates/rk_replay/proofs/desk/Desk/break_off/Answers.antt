@@ -1,7 +1,7 @@
 use Rattle.std.proofs.Common.{[], None}
-use Rattle.rk_core.specs.declared.event.Event.TheVariants.{Ended}
-use Rattle.rk_core.specs.declared.event.How.TheVariants.{Fault}
-use Rattle.rk_core.specs.Allowed.{done}
+use Rattle.rk_machine.specs.declared.event.Event.TheVariants.{Ended}
+use Rattle.rk_machine.specs.declared.event.How.TheVariants.{Fault}
+use Rattle.rk_machine.specs.Allowed.{done}
 use Rattle.rk_replay.proofs.OwnSteps.{steps_by, ended_done}
 use Rattle.rk_replay.proofs.desk.Desk.break_off.Goals as goal
 

@@ -1,7 +1,7 @@
 use Rattle.std.proofs.Common.{[]}
-use Rattle.rk_core.specs.declared.event.Event.TheVariants.{Launched}
-use Rattle.rk_core.specs.declared.event.Ran.TheVariants.{Failed}
-use Rattle.rk_core.specs.Allowed.{done}
+use Rattle.rk_machine.specs.declared.event.Event.TheVariants.{Launched}
+use Rattle.rk_machine.specs.declared.event.Ran.TheVariants.{Failed}
+use Rattle.rk_machine.specs.Allowed.{done}
 use Rattle.rk_replay.proofs.Seating.{launch_done}
 use Rattle.rk_replay.proofs.OwnSteps.{steps_by}
 use Rattle.rk_replay.proofs.desk.Desk.fail.Goals as goal

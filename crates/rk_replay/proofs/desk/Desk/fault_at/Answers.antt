@@ -5,7 +5,7 @@ use Rattle.rk_names.specs.declared.numbers.SessionId.{SessionId}
 use Rattle.rk_names.specs.declared.numbers.SessionId.TheVariants.{Handler}
 use Rattle.rk_replay.specs.declared.seat.Place.{Place}
 use Rattle.rk_replay.specs.declared.seat.Seat.{Seat}
-use Rattle.rk_core.specs.Views.{has_wait}
+use Rattle.rk_machine.specs.Views.{has_wait}
 use Rattle.rk_replay.specs.Left.{seat}
 use Rattle.rk_replay.proofs.SeatLists.{some_seat}
 use Rattle.rk_replay.proofs.Moving.{shuts_client_one, shuts_handler_one}

@@ -1,7 +1,7 @@
 use Rattle.std.proofs.Common.{[], refl}
-use Rattle.rk_core.specs.declared.event.Event.TheVariants.{Launched}
-use Rattle.rk_core.specs.declared.event.Ran.TheVariants as ran
-use Rattle.rk_core.specs.Allowed.{done}
+use Rattle.rk_machine.specs.declared.event.Event.TheVariants.{Launched}
+use Rattle.rk_machine.specs.declared.event.Ran.TheVariants as ran
+use Rattle.rk_machine.specs.Allowed.{done}
 use Rattle.rk_replay.specs.declared.happening.Happening.TheVariants as happening
 use Rattle.rk_replay.specs.declared.happening.StartResult.TheVariants.{Failed}
 use Rattle.rk_replay.specs.Left.{one_step}

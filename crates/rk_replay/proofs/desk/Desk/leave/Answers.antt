@@ -1,7 +1,7 @@
 use Rattle.std.proofs.Common.{[]}
 use Rattle.rk_names.specs.declared.numbers.SessionId.TheVariants.{Client}
-use Rattle.rk_core.specs.declared.event.Event.TheVariants.{Gone}
-use Rattle.rk_core.specs.Allowed.{done}
+use Rattle.rk_machine.specs.declared.event.Event.TheVariants.{Gone}
+use Rattle.rk_machine.specs.Allowed.{done}
 use Rattle.rk_replay.proofs.Seating.{gone_done}
 use Rattle.rk_replay.proofs.OwnSteps.{steps_by}
 use Rattle.rk_replay.proofs.desk.Desk.leave.Goals as goal

@@ -2,7 +2,7 @@ use Rattle.std.proofs.Common.{◌≡◌, ◌++◌, refl, inl, inr, subst, ap, �
 use Rattle.std.specs.Prelude.{slice_set}
 use Rattle.std.proofs.lemmas.Option.{slice_get_read, slice_get_within, MatchOption-at_some}
 use Rattle.std.proofs.lemmas.List.{get_or-set_same}
-use Rattle.rk_core.specs.declared.event.Answer.TheVariants.{Refused}
+use Rattle.rk_machine.specs.declared.event.Answer.TheVariants.{Refused}
 use Rattle.rk_replay.specs.declared.seat.Seat.{Seat}
 use Rattle.rk_replay.specs.Left.{Left, seat, replies_to}
 use Rattle.rk_replay.specs.Desk.{left_of, MovesOne, AnswersOne}

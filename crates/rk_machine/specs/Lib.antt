@@ -1,0 +1,13 @@
+pub mod World
+pub mod Allowed
+pub mod Asker
+pub mod Links
+pub mod Search
+pub mod Completion
+pub mod Hello
+pub mod Request
+pub mod KeyAsks
+pub mod Asks
+pub mod Steps
+pub mod Views
+pub mod Laws

@@ -1,0 +1,45 @@
+//! The construction machine of a request_key daemon: its definitions, and the laws of every run.
+//!
+//! # Purpose
+//!
+//! What the daemon does is a list of steps: something happens ([`Event`]) at a moment, and is answered ([`Answer`]). The machine says which
+//! answers a step may have and which world it leaves. It is told in docs/MACHINE.md, and written as definitions in `specs/`. Nothing here
+//! takes a step: rk_core has the state of a daemon, and each of its steps is one of the machine.
+//!
+//! # What it promises
+//!
+//! Whatever steps the machine takes from the empty world on, they obey the laws of every run, which [`every_run`] tells. So whoever shows only
+//! that each of its answers is a step of the machine has these laws as well.
+//!
+//! # The definitions
+//!
+//! They are what one has to believe: `World` (keys, rings, serials, sessions), `Allowed` (the forms of what a step may answer and leave), `Asker` (who
+//! acts, and what rings and keys an ask names), `Links`, `Search`, `Completion`, then the asks by family (`Hello`, `Request`, `KeyAsks`, `Asks`),
+//! `Steps` (one step, and runs), `Views` (what is told without a step) and `Laws`. What a library holds is defined there: keys, standing and
+//! serials in rk_keys, rings and places in rk_rings, sessions, constructions and circles in rk_auth.
+//!
+//! They know nothing of tables, of an order of work or of the code. A free choice stays free: any serial that was never drawn, and whose
+//! turn it is.
+//!
+//! # How it is built
+//!
+//! `event` has what happens and what is answered, `greeting` and `asker` what the definitions of the asks speak of, `laws` the one call that promises
+//! the laws.
+//!
+//! `proofs/Effects.antt` turns a step inside out once: whatever step the machine may take is one of some twenty, each with what it found and what it
+//! leaves. Every law is proved over these (`proofs/Lawful.antt`), and so is what others hold of every step: which constructions and clients there
+//! are after it (`proofs/Stages.antt`, `proofs/Presence.antt`), and that what was never drawn is none (`proofs/Idle.antt`).
+#![tactic(auto)]
+
+mod asker;
+mod event;
+mod greeting;
+mod laws;
+
+pub use asker::Asker;
+pub use event::{Answer, Event, How, Ran, done};
+pub use greeting::Greeting;
+pub use laws::every_run;
+
+#[cfg(test)]
+mod tests;
