@@ -1,24 +1,18 @@
 -- A list of entries as a finite map.
-use Rattle.std.proofs.Common.{◌≡◌, ℕ, zero, suc, ◌+◌, ◌<◌, ◌≤◌, Bool, true, false, cond, ltb, not, List, [], ◌∷◌, ◌++◌, length, get_or, set, drop, refl, ap, sym, ◌∙◌, arith, add-one, drop-cons}
+use Rattle.std.proofs.Common.{◌≡◌, ℕ, zero, suc, ◌+◌, ◌<◌, ◌≤◌, Bool, true, false, cond, not, List, [], ◌∷◌, ◌++◌, length, get_or, set, drop, refl, ap, sym, ◌∙◌, arith, add-one, drop-cons}
 use Rattle.std.specs.Prelude.{Option, Some, None, filter, nat_eq}
 use Rattle.std.specs.Prelude.{map as list_map}
 use Rattle.std.specs.Ordering.{nat_cmp, eq_by_cmp}
 use Rattle.std.specs.Cmp.{nat_cmp_total, unsigned_tied, nat_eq_equiv}
 use Rattle.std.specs.FinMap.{FinMap, from_entries, get, insert, find, get-from_entries, get-insert, same_map, entries, get-entries, remove, retain_keys, get-remove, get-retain_keys, from_entries_push, nat_cmp-IsAntisymmetric}
-use Rattle.std.proofs.lemmas.Bool.{eq-eqb, ne_eqb, eqb-true, both_ways, ltb-false}
-use Rattle.std.proofs.lemmas.List.Quantifiers.{position-Some}
-use Rattle.std.specs.List.{position, position_or_len}
+use Rattle.std.proofs.lemmas.Bool.{eq-eqb, ne_eqb, eqb-true}
 use Rattle.std.proofs.lemmas.List.{at_drop_all}
-use Rattle.rk_table.specs.Maps.{changed_at, changed_all}
-use Rattle.std.specs.Option.{option_map, option_map_or}
+use Rattle.rk_table.specs.Maps.{changed_all}
+use Rattle.std.specs.Option.{option_map}
 use Rattle.std.specs.FinMap.Entries.{find-where_key}
 
 pub tie : (q k : ℕ) → eq_by_cmp nat_cmp q k ≡ nat_eq k q
 tie q k = unsigned_tied q k ∙ nat_eq_equiv.symm q k
-
-not_before : (n m : ℕ) → cond (ltb n m) (Some n) None ≡ None → m ≤ n
-not_before n m is =
-    elim (ltb n m) as (λ b. ltb n m ≡ b → cond b (Some n) None ≡ None → m ≤ n) [ true ↦ λ e is. absurd (cc) | false ↦ λ e is. ltb-false n m e ] refl is
 
 module _ {A : Type 0} where
   -- the list with its first i elements changed
@@ -93,76 +87,14 @@ module _ {X : Type 0} where
       ∙ ap (λ o. cond (eq_by_cmp nat_cmp q k) None o) (sym (get_in es q))
       ∙ sym (get-remove nat_cmp_total (from_entries es) k q))
 
-  shadow : (b : Bool) (x y z : Option X) → cond b x (cond b y z) ≡ cond b x z
+  pub shadow : (b : Bool) (x y z : Option X) → cond b x (cond b y z) ≡ cond b x z
   shadow true x y z = refl
   shadow false x y z = refl
 
-  swap_tests : (a b : Bool) (x y z : Option X) → (a ≡ true → b ≡ true → ⊥) → cond a x (cond b y z) ≡ cond b y (cond a x z)
+  pub swap_tests : (a b : Bool) (x y z : Option X) → (a ≡ true → b ≡ true → ⊥) → cond a x (cond b y z) ≡ cond b y (cond a x z)
   swap_tests true true x y z apart = absurd (apart refl refl)
   swap_tests true false x y z apart = refl
   swap_tests false b x y z apart = refl
-
-  find_set : (q k : ℕ) (v : X) (es : List (ℕ × X)) (i : ℕ) (d : ℕ × X) → i < length es → (get_or es i d).0 ≡ k → ((j : ℕ) → j < i → (get_or es j d).0 ≡ k → ⊥)
-      → find nat_cmp q (set es i (k, v)) ≡ cond (eq_by_cmp nat_cmp q k) (Some v) (find nat_cmp q es)
-  find_set q k v [] i d h here before = absurd (omega arith)
-  find_set q k v (e ∷ es) zero d h here before =
-      sym (shadow (eq_by_cmp nat_cmp q k) (Some v) (Some e.1) (find nat_cmp q es))
-      ∙ ap (λ n. cond (eq_by_cmp nat_cmp q k) (Some v) (cond (eq_by_cmp nat_cmp q n) (Some e.1) (find nat_cmp q es))) (sym here)
-  find_set q k v (e ∷ es) (suc i) d h here before =
-      let both : eq_by_cmp nat_cmp q e.0 ≡ true → eq_by_cmp nat_cmp q k ≡ true → ⊥ =
-      λ a b. before 0 (omega arith) (eqb-true _ _ (sym (tie q e.0) ∙ a) ∙ sym (eqb-true _ _ (sym (tie q k) ∙ b))) in
-      ap (cond (eq_by_cmp nat_cmp q e.0) (Some e.1)) (find_set q k v es i d (omega arith) here (λ j below. before (suc j) (omega arith)))
-      ∙ swap_tests (eq_by_cmp nat_cmp q e.0) (eq_by_cmp nat_cmp q k) (Some e.1) (Some v) (find nat_cmp q es) both
-
-  find_first : (k : ℕ) (es : List (ℕ × X)) (i : ℕ) (d : ℕ × X) → i < length es → (get_or es i d).0 ≡ k → ((j : ℕ) → j < i → (get_or es j d).0 ≡ k → ⊥) → find nat_cmp k es ≡ Some (get_or es i d).1
-  find_first k [] i d h here before = absurd (omega arith)
-  find_first k (e ∷ es) zero d h here before = ap (λ b. cond b (Some e.1) (find nat_cmp k es)) (tie k e.0 ∙ eq-eqb _ _ here)
-  find_first k (e ∷ es) (suc i) d h here before =
-      ap (λ b. cond b (Some e.1) (find nat_cmp k es)) (tie k e.0 ∙ ne_eqb _ _ (before 0 (omega arith)))
-      ∙ find_first k es i d (omega arith) here (λ j below. before (suc j) (omega arith))
-
-  past_none : (k : ℕ) (es : List (ℕ × X)) → length es ≤ position_or_len (λ e. nat_eq e.0 k) es → find nat_cmp k es ≡ None
-  past_none k [] h = refl
-  past_none k (e ∷ es) h =
-      elim (nat_eq e.0 k) as (λ b. nat_eq e.0 k ≡ b → suc (length es) ≤ cond (not b) (1 + position_or_len (λ (x : ℕ × X). nat_eq x.0 k) es) 0 → find nat_cmp k (e ∷ es) ≡ None) [
-        | true ↦ λ is h. absurd (omega arith)
-        | false ↦ λ is h. ap (λ b. cond b (Some e.1) (find nat_cmp k es)) (tie k e.0 ∙ is) ∙ past_none k es (omega arith)
-      ] refl h
-
-  -- to write a new value at the first place of a key is to insert it
-  pub written : (es : List (ℕ × X)) (i k : ℕ) (v : X) (d : ℕ × X) → position (λ e. nat_eq e.0 k) es ≡ Some i
-      → from_entries {R = nat_cmp} (set es i (k, v)) ≡ insert (from_entries es) k v
-  written es i k v d is =
-      let at = position-Some (λ (e : ℕ × X). nat_eq e.0 k) es i d is in
-      same_map nat_cmp_total nat_cmp-IsAntisymmetric _ _ (λ q.
-      get_in (set es i (k, v)) q
-      ∙ find_set q k v es i d at.0 (eqb-true _ _ at.1) (λ j below same. both_ways _ (at.2 j below) (eq-eqb _ _ same))
-      ∙ ap (cond (eq_by_cmp nat_cmp q k) (Some v)) (sym (get_in es q))
-      ∙ sym (get-insert nat_cmp_total (from_entries es) k v q))
-
-  -- what is found at a key, by the place of the key
-  pub found_at : (es : List (ℕ × X)) (k : ℕ) (i : ℕ) (d : ℕ × X) → position (λ e. nat_eq e.0 k) es ≡ Some i → get (from_entries {R = nat_cmp} es) k ≡ Some (get_or es i d).1
-  found_at es k i d is =
-      let at = position-Some (λ (e : ℕ × X). nat_eq e.0 k) es i d is in
-      get_in es k ∙ find_first k es i d at.0 (eqb-true _ _ at.1) (λ j below same. both_ways _ (at.2 j below) (eq-eqb _ _ same))
-
-  pub not_found : (es : List (ℕ × X)) (k : ℕ) → position (λ e. nat_eq e.0 k) es ≡ None → get (from_entries {R = nat_cmp} es) k ≡ None
-  not_found es k is = get_in es k ∙ past_none k es (not_before _ _ is)
-
-  -- the value at a key changed in its place
-  pub changed_here : (es : List (ℕ × X)) (m : FinMap nat_cmp X) (i k : ℕ) (e : ℕ × X) (f : X → X) (v : X) → from_entries es ≡ m → position (λ e. nat_eq e.0 k) es ≡ Some i
-      → e ≡ get_or es i e → v ≡ f e.1 → from_entries {R = nat_cmp} (set es i (e.0, v)) ≡ changed_at k f m
-  changed_here es m i k e f v view is at new =
-      let spot = position-Some (λ (x : ℕ × X). nat_eq x.0 k) es i e is in
-      let there : get m k ≡ Some e.1 = ap (λ n. get n k) (sym view) ∙ found_at es k i e is ∙ ap (λ (x : ℕ × X). Some x.1) (sym at) in
-      ap (λ n. from_entries {R = nat_cmp} (set es i (n, v))) (ap (λ (x : ℕ × X). x.0) at ∙ eqb-true _ _ spot.1)
-      ∙ written es i k v e is
-      ∙ (λ j. insert (view j) k (new j))
-      ∙ sym (ap (λ o. option_map_or (λ w. insert m k (f w)) o m) there)
-
-  pub not_changed : (es : List (ℕ × X)) (m : FinMap nat_cmp X) (k : ℕ) (f : X → X) → from_entries es ≡ m → position (λ e. nat_eq e.0 k) es ≡ None → m ≡ changed_at k f m
-  not_changed es m k f view is =
-      sym (ap (λ o. option_map_or (λ v. insert m k (f v)) o m) (ap (λ n. get n k) (sym view) ∙ not_found es k is))
 
   mapped : (f : X → X) (b : Bool) (x : X) (o : Option X) → cond b (Some (f x)) (option_map f o) ≡ option_map f (cond b (Some x) o)
   mapped f true x o = refl

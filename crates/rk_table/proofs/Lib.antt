@@ -1,2 +1,4 @@
 pub mod Entries
+pub mod Rising
+pub mod Found
 pub mod Once

@@ -1,5 +1,5 @@
 -- Tables in which each key stands once.
-use Rattle.std.proofs.Common.{◌≡◌, ◌≢◌, ℕ, zero, suc, ◌+◌, ◌-◌, ◌≤◌, Bool, true, false, cond, ◌||◌, List, [], ◌∷◌, ◌++◌, length, get_or, set, refl, ap, sym, ◌∙◌, subst, arith}
+use Rattle.std.proofs.Common.{◌≡◌, ℕ, zero, suc, ◌+◌, ◌-◌, ◌≤◌, Bool, true, false, cond, ◌||◌, List, [], ◌∷◌, length, get_or, set, refl, ap, sym, ◌∙◌, subst, arith}
 use Rattle.std.specs.Prelude.{Option, Some, None, filter, is_some, count_by, option_map, MatchOption}
 use Rattle.std.specs.Prelude.{find as list_find}
 use Rattle.std.proofs.lemmas.List.Sums.{length-filter}
@@ -8,13 +8,15 @@ use Rattle.std.specs.List.{list_any}
 use Rattle.std.specs.Option.{option_map_or}
 use Rattle.std.specs.Ordering.{nat_cmp, eq_by_cmp, is_eq}
 use Rattle.std.specs.declared.cmp.Ordering.TheVariants.{Less, Equal, Greater}
-use Rattle.std.specs.Cmp.{nat_cmp_total, eq_by_cmp_equiv}
+use Rattle.std.specs.Cmp.{nat_cmp_total}
 use Rattle.std.specs.FinMap.{FinMap, from_entries, get, find, empty, len, entries, len-empty, len-insert, get-entries, entries-insert, get-retain_keys, len-entries, same_map, nat_cmp-IsAntisymmetric}
 use Rattle.std.specs.FinMap.Entries.{put, by_order}
 use Rattle.std.proofs.lemmas.Bool.{both_ways, eqb-true, eq-eqb}
 use Rattle.rk_table.specs.Maps.{kept_where}
-use Rattle.rk_table.specs.Entries.{HasEachOnce}
+use Rattle.rk_table.specs.Entries.{HasEachOnce, AreAbove, KeysRise}
 use Rattle.rk_table.proofs.Entries.{tie, get_in}
+use Rattle.rk_table.proofs.Rising.{not_in_above}
+use Rattle.rk_table.proofs.Found.{find_none, some_not_none}
 
 or_swap : (a b c : Bool) → (a || (b || c)) ≡ (b || (a || c))
 or_swap true true c = refl
@@ -26,9 +28,6 @@ no_length [] e = refl
 no_length (x ∷ es) e = absurd (omega arith)
 
 module _ {X : Type 0} where
-  some_not_none : (x : X) → Some x ≢ None
-  some_not_none x e = cc
-
   no_entries : entries (from_entries {X = X} {R = nat_cmp} []) ≡ []
   no_entries = no_length _ (sym (len-entries (empty {X = X} {R = nat_cmp})) ∙ len-empty nat_cmp X)
 
@@ -56,6 +55,13 @@ module _ {X : Type 0} where
       ∙ any_put p e.0 e.1 _ (sym (get-entries (from_entries es) e.0) ∙ get_in es e.0 ∙ h.0)
       ∙ ap (λ b. p e || b) (any_once p es h.1)
 
+  none_above : (k : ℕ) (es : List (ℕ × X)) → AreAbove k es → find nat_cmp k es ≡ None
+  none_above k es h = find_none k es (not_in_above k es h)
+
+  pub once_rising : (es : List (ℕ × X)) → KeysRise es → HasEachOnce es
+  once_rising [] h = tt
+  once_rising (e ∷ es) h = (none_above e.0 es h.0, once_rising es h.1)
+
   -- ---- what keeps each key once
   none_left : (p : ℕ × X → Bool) (q : ℕ) (es : List (ℕ × X)) → find nat_cmp q es ≡ None → find nat_cmp q (filter p es) ≡ None
   none_left p q [] h = refl
@@ -72,42 +78,6 @@ module _ {X : Type 0} where
   once_filtered p [] h = tt
   once_filtered p (e ∷ es) h =
       elim (p e) as (λ b. HasEachOnce (cond b (e ∷ filter p es) (filter p es))) [ true ↦ (none_left p e.0 es h.0, once_filtered p es h.1) | false ↦ once_filtered p es h.1 ]
-
-  not_pushed : (q k : ℕ) (v : X) (es : List (ℕ × X)) → find nat_cmp q es ≡ None → eq_by_cmp nat_cmp q k ≡ false → find nat_cmp q (es ++ (k, v) ∷ []) ≡ None
-  not_pushed q k v [] h t = ap (λ b. cond b (Some v) None) t
-  not_pushed q k v (e ∷ es) h t =
-      elim (eq_by_cmp nat_cmp q e.0) as (λ b. cond b (Some e.1) (find nat_cmp q es) ≡ None → cond b (Some e.1) (find nat_cmp q (es ++ (k, v) ∷ [])) ≡ None) [
-        | true ↦ λ h. absurd (some_not_none e.1 h)
-        | false ↦ λ h. not_pushed q k v es h t
-      ] h
-
-  pub once_pushed : (es : List (ℕ × X)) (k : ℕ) (v : X) → HasEachOnce es → find nat_cmp k es ≡ None → HasEachOnce (es ++ (k, v) ∷ [])
-  once_pushed [] k v h none = (refl, tt)
-  once_pushed (e ∷ es) k v h none =
-      elim (eq_by_cmp nat_cmp k e.0) as (λ b. eq_by_cmp nat_cmp k e.0 ≡ b → cond b (Some e.1) (find nat_cmp k es) ≡ None → HasEachOnce (e ∷ es ++ (k, v) ∷ [])) [
-        | true ↦ λ t none. absurd (some_not_none e.1 none)
-        | false ↦ λ t none. (not_pushed e.0 k v es h.0 ((eq_by_cmp_equiv nat_cmp_total).symm e.0 k ∙ t), once_pushed es k v h.1 none)
-      ] refl none
-
-  -- the keys alone decide
-  none_by_keys : (q : ℕ) (es fs : List (ℕ × X)) → list_map (λ e. e.0) es ≡ list_map (λ e. e.0) fs → find nat_cmp q es ≡ None → find nat_cmp q fs ≡ None
-  none_by_keys q es [] same h = refl
-  none_by_keys q [] (f ∷ fs) same h = absurd (cc)
-  none_by_keys q (e ∷ es) (f ∷ fs) same h =
-      let one : e.0 ≡ f.0 = cc in
-      let rest : list_map (λ (x : ℕ × X). x.0) es ≡ list_map (λ (x : ℕ × X). x.0) fs = cc in
-      elim (eq_by_cmp nat_cmp q e.0) as (λ b. eq_by_cmp nat_cmp q e.0 ≡ b → cond b (Some e.1) (find nat_cmp q es) ≡ None → find nat_cmp q (f ∷ fs) ≡ None) [
-        | true ↦ λ t h. absurd (some_not_none e.1 h)
-        | false ↦ λ t h. ap (λ b. cond b (Some f.1) (find nat_cmp q fs)) (ap (eq_by_cmp nat_cmp q) (sym one) ∙ t) ∙ none_by_keys q es fs rest h
-      ] refl h
-
-  pub once_by_keys : (es fs : List (ℕ × X)) → list_map (λ e. e.0) es ≡ list_map (λ e. e.0) fs → HasEachOnce es → HasEachOnce fs
-  once_by_keys es [] same h = tt
-  once_by_keys [] (f ∷ fs) same h = absurd (cc)
-  once_by_keys (e ∷ es) (f ∷ fs) same h =
-      let one : e.0 ≡ f.0 = cc in
-      let rest : list_map (λ (x : ℕ × X). x.0) es ≡ list_map (λ (x : ℕ × X). x.0) fs = cc in
-      (ap (λ q. find nat_cmp q fs) (sym one) ∙ none_by_keys e.0 es fs rest h.0, once_by_keys es fs rest h.1)
 
   pub keys_written : (es : List (ℕ × X)) (i : ℕ) (e : ℕ × X) (v : X) → e ≡ get_or es i e → list_map (λ e. e.0) es ≡ list_map (λ e. e.0) (set es i (e.0, v))
   keys_written [] i e v at = refl
@@ -150,8 +120,8 @@ module _ {X : Type 0} where
   count_once p es h = ap len (sym (kept_once p es h)) ∙ len_once (filter (λ e. p e.0 e.1) es) (once_filtered _ es h) ∙ length-filter (λ (e : ℕ × X). p e.0 e.1) es
 
   -- the places of a list of entries are those that it has memory for
-  pub places_once : (es : List (ℕ × X)) (n capacity : ℕ) → HasEachOnce es → n ≡ length es → n ≤ capacity → len (from_entries {R = nat_cmp} es) + (capacity - n) ≡ capacity
-  places_once es n capacity h e le = omega (arith, len_once es h, e, le)
+  pub places_once : (es : List (ℕ × X)) (n capacity : ℕ) → KeysRise es → n ≡ length es → n ≤ capacity → len (from_entries {R = nat_cmp} es) + (capacity - n) ≡ capacity
+  places_once es n capacity h e le = omega (arith, len_once es (once_rising es h), e, le)
 
   -- what a search for an entry finds
   abbrev pub FindsEntry : (ℕ → X → Bool) → FinMap nat_cmp X → Option ℕ → Type 0

@@ -20,10 +20,13 @@
 //!
 //! # How it is built
 //!
-//! A plain vector of entries, each key once, in the order in which they came. A look-up, a test and a removal walk over the entries; an
-//! insertion does not. No contract says so, so that an index can take the place of the walk.
+//! `table` has the table, `places` the search. A plain vector of entries in the order of their keys, each key once, so that a search halves
+//! it: `get`, `contains` and `change` look at 15 entries where 20,000 are held. `insert` and `remove` search alike, and then the entries
+//! of greater keys move by one place, in one piece; keys that come rising, as serials do, are put at the end. `any`, `count`, `find`,
+//! `change_all` and `retain` walk over all entries. No contract says so, so that another index can take the place of the order.
 #![tactic(auto)]
 
+mod places;
 mod table;
 
 pub use table::{Change, ChangeOnce, Table, Test};

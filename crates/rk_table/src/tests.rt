@@ -114,6 +114,28 @@ fn entries_are_changed(rt: HostRuntime) -> Result<(), Fail> {
     Ok(())
 }
 
+/// Keys that come falling are found as those that come rising, also when one of two is taken out again.
+#[test]
+fn keys_come_in_any_order(rt: HostRuntime) -> Result<(), Fail> {
+    let mut table: Table<u8> = Table::new(rt.alloc());
+    for key in 0..40u8 {
+        put(&mut table, u32::from(39 - key), 39 - key)?;
+    }
+    assert_eq!(rt; wrong(&table, 40), None);
+    for half in 0..20u8 {
+        table.remove(u32::from(half) * 2);
+    }
+    assert_eq!(rt; table.len(), 20);
+    for half in 0..20u8 {
+        assert_eq!(rt; table.get(u32::from(half) * 2).copied(), None);
+        assert_eq!(rt;
+            table.get(u32::from(half) * 2 + 1).copied(),
+            Some(half * 2 + 1)
+        );
+    }
+    Ok(())
+}
+
 /// Entries that are taken out leave their places: no growth is asked for after the first two.
 #[test]
 fn places_come_back(rt: HostRuntime) -> Result<(), Fail> {

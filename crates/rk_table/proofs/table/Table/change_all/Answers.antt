@@ -3,8 +3,9 @@ use Rattle.std.specs.FinMap as map
 use Rattle.std.proofs.lemmas.List.{take-append-le, take_all}
 use Rattle.rk_table.proofs.Entries.{changed_in_all}
 use Rattle.std.proofs.Common.{subst}
-use Rattle.rk_table.specs.Entries.{HasEachOnce}
-use Rattle.rk_table.proofs.Once.{once_by_keys, keys_changed}
+use Rattle.rk_table.specs.Entries.{KeysRise}
+use Rattle.rk_table.proofs.Once.{keys_changed}
+use Rattle.rk_table.proofs.Rising.{rising_by_keys}
 use Rattle.rk_table.specs.Stored.{places}
 use Rattle.rk_table.proofs.Once.{places_once}
 use Rattle.std.specs.Vec.{with_items}
@@ -20,8 +21,8 @@ returns-clause-facts g c =
 
 pub invariant_of-self : goal.invariant_of-self
 invariant_of-self g c =
-    subst HasEachOnce (sym (refilled c.self.inside.entries.len c.change_each.new.entries c.self.inside.entries.items (omega arith) ∙ c.change_each.ensures))
-    (once_by_keys c.deref_mut.result.now _ (keys_changed _ c.deref_mut.result.now) (subst HasEachOnce (sym c.deref_mut.ensures.value) c.self.invariant))
+    subst KeysRise (sym (refilled c.self.inside.entries.len c.change_each.new.entries c.self.inside.entries.items (omega arith) ∙ c.change_each.ensures))
+    (rising_by_keys c.deref_mut.result.now _ (keys_changed _ c.deref_mut.result.now) (subst KeysRise (sym c.deref_mut.ensures.value) c.self.invariant))
 
 pub returns-clause-places : goal.returns-clause-places
 returns-clause-places g c =

@@ -1,10 +1,10 @@
 use Rattle.std.proofs.Common.{ap, ◌∙◌}
 use Rattle.std.specs.Prelude.{option_map}
 use Rattle.std.specs.Prelude.{find as list_find}
-use Rattle.rk_table.proofs.Once.{finds_entry}
+use Rattle.rk_table.proofs.Once.{finds_entry, once_rising}
 use Rattle.rk_table.proofs.table.Table.find.Goals as goal
 
 pub returns : goal.returns
 returns g c =
-    finds_entry (g.T.Test.passes c.args.test.now) c.self.inside.entries.items _ _ c.self.invariant (ap (λ s. s.facts) c.self.view_is)
+    finds_entry (g.T.Test.passes c.args.test.now) c.self.inside.entries.items _ _ (once_rising _ c.self.invariant) (ap (λ s. s.facts) c.self.view_is)
     (c.find_entry.ensures ∙ ap (λ es. option_map (λ e. e.0) (list_find (λ e. g.T.Test.passes c.args.test.now e.0 e.1) es)) c.deref.ensures.value)

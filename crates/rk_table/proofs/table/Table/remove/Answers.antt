@@ -1,27 +1,32 @@
-use Rattle.std.proofs.Common.{ap, sym, ◌∙◌, rules}
+use Rattle.std.proofs.Common.{ap, sym, subst, ◌∙◌}
 use Rattle.std.specs.FinMap as map
-use Rattle.std.proofs.lemmas.Fn.{filter_same}
-use Rattle.rk_table.proofs.Entries.{removed}
-use Rattle.std.proofs.Common.{subst, not}
-use Rattle.std.specs.Prelude.{◌==◌}
-use Rattle.rk_table.specs.Entries.{HasEachOnce}
-use Rattle.rk_table.proofs.Once.{once_filtered, places_once}
+use Rattle.rk_table.specs.Entries.{KeysRise, IsAt, IsGapFor}
+use Rattle.rk_table.proofs.Rising.{rising_filtered}
+use Rattle.rk_table.proofs.Found.{without_at, taken_out, nothing_to_take}
 use Rattle.rk_table.specs.Stored.{places}
+use Rattle.rk_table.proofs.Once.{places_once}
 use Rattle.rk_table.proofs.table.Table.remove.Goals as goal
 
-pub returns-clause-facts : goal.returns-clause-facts
-returns-clause-facts g c =
-    ap map.from_entries (filter_same _ _ _ (λ x b f' k. search rules) _ _ c.retain.ensures.filtered)
-    ∙ removed c.self.inside.entries.items c.args.key
+pub returns-in-Ok-clause-facts : goal.returns-in-Ok-clause-facts
+returns-in-Ok-clause-facts g c =
+    ap map.from_entries c.remove.ensures.items
+    ∙ taken_out c.self.inside.entries.items c.args.key c.in-Ok.place c.self.invariant (subst (λ es. IsAt es c.args.key c.in-Ok.place) c.deref.ensures.value c.in-Ok.ensures.found)
+    ∙ ap (λ s. map.remove s.facts c.args.key) c.self.view_is
+
+pub returns-in_default-clause-facts : goal.returns-in_default-clause-facts
+returns-in_default-clause-facts g c =
+    sym (ap (λ s. s.facts) c.self.view_is)
+    ∙ nothing_to_take c.self.inside.entries.items c.args.key c.in_default.field-0 (subst (λ es. IsGapFor es c.args.key c.in_default.field-0) c.deref.ensures.value c.in_default.ensures.absent)
     ∙ ap (λ s. map.remove s.facts c.args.key) c.self.view_is
 
 pub invariant_of-self : goal.invariant_of-self
 invariant_of-self g c =
-    subst HasEachOnce (sym (filter_same _ _ _ (λ x b f' k. search rules) _ _ c.retain.ensures.filtered)) (once_filtered (λ e. not (e.0 == c.args.key)) c.self.inside.entries.items c.self.invariant)
+    subst KeysRise (sym (c.remove.ensures.items ∙ without_at c.self.inside.entries.items c.args.key c.in-Ok.place c.self.invariant (subst (λ es. IsAt es c.args.key c.in-Ok.place) c.deref.ensures.value c.in-Ok.ensures.found)))
+    (rising_filtered _ c.self.inside.entries.items c.self.invariant)
 
-pub returns-clause-places : goal.returns-clause-places
-returns-clause-places g c =
-    places_once c.retain.new.self.items c.retain.new.self.len c.retain.new.self.cap (invariant_of-self g c) c.retain.new.self.ok.0 c.retain.new.self.ok.1
-    ∙ c.retain.ensures.capacity
+pub returns-in-Ok-clause-places : goal.returns-in-Ok-clause-places
+returns-in-Ok-clause-places g c =
+    places_once c.remove.new.self.items c.remove.new.self.len c.remove.new.self.cap (invariant_of-self g c) c.remove.new.self.ok.0 c.remove.new.self.ok.1
+    ∙ c.remove.ensures.capacity
     ∙ sym (places_once c.self.inside.entries.items c.self.inside.entries.len c.self.inside.entries.cap c.self.invariant c.self.inside.entries.ok.0 c.self.inside.entries.ok.1)
     ∙ ap places c.self.view_is

@@ -3,19 +3,20 @@ use Rattle.std.specs.FinMap as map
 use Rattle.rk_table.specs.Maps.{kept_where}
 use Rattle.rk_table.proofs.Once.{kept_once}
 use Rattle.std.proofs.Common.{subst}
-use Rattle.rk_table.specs.Entries.{HasEachOnce}
-use Rattle.rk_table.proofs.Once.{once_filtered, places_once}
+use Rattle.rk_table.specs.Entries.{KeysRise}
+use Rattle.rk_table.proofs.Once.{once_rising, places_once}
+use Rattle.rk_table.proofs.Rising.{rising_filtered}
 use Rattle.rk_table.specs.Stored.{places}
 use Rattle.rk_table.proofs.table.Table.retain.Goals as goal
 
 pub returns-clause-facts : goal.returns-clause-facts
 returns-clause-facts g c =
     ap map.from_entries c.retain_entries.ensures.items
-    ∙ kept_once (g.T.Test.passes c.args.test.now) c.self.inside.entries.items c.self.invariant
+    ∙ kept_once (g.T.Test.passes c.args.test.now) c.self.inside.entries.items (once_rising _ c.self.invariant)
     ∙ ap (λ s. kept_where (g.T.Test.passes c.args.test.now) s.facts) c.self.view_is
 
 pub invariant_of-self : goal.invariant_of-self
-invariant_of-self g c = subst HasEachOnce (sym c.retain_entries.ensures.items) (once_filtered _ c.self.inside.entries.items c.self.invariant)
+invariant_of-self g c = subst KeysRise (sym c.retain_entries.ensures.items) (rising_filtered _ c.self.inside.entries.items c.self.invariant)
 
 pub returns-clause-places : goal.returns-clause-places
 returns-clause-places g c =

@@ -1,0 +1,26 @@
+//! Places of entries whose keys rise: the search by halves, and an insertion where there is room.
+ghost use Rattle.std.specs.Prelude.{◌≡◌, ◌≤◌, ◌<◌, IfOk, IfErr, vec_len, vec_capacity};
+ghost use Rattle.std.specs.List.{insert};
+ghost use Rattle.rk_table.specs.Entries.{KeysRise, IsAt, IsGapFor};
+
+/// Where the key stands, or else where it would. It looks at as many entries as their number can be halved.
+pub(crate) fn place_of<V>(entries: &[(u32, V)], key: u32) -> Result<usize, usize>
+    requires rising { KeysRise entries.now }
+    ensures found { IfOk result (IsAt entries.now key) }
+    ensures absent { IfErr result (IsGapFor entries.now key) }
+{
+    entries.binary_search_by_key(&key, |entry| entry.0)
+}
+
+/// Puts in an item at a place, and moves those from there on up by one. It takes no memory.
+pub(crate) fn put_at<T>(items: &mut Vec<T>, place: usize, item: T)
+    requires within { place ≤ vec_len items.old }
+    requires room { vec_len items.old < vec_capacity items.old }
+    ensures items { items.new.items ≡ insert items.old.items place item }
+    ensures capacity { vec_capacity items.new ≡ vec_capacity items.old }
+{
+    match items.insert(place, item) {
+        Ok(()) => {}
+        Err(_) => unreachable!(),
+    }
+}
