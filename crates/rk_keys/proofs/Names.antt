@@ -42,7 +42,7 @@ have_one_name-same a b c d at ad bt bd =
     ∙ ap (λ t. bytes_eq c.typ t && bytes_eq c.description b.description) bt
     ∙ ap (λ t. bytes_eq c.typ d.typ && bytes_eq c.description t) bd
 
-passing : (p : Key → Bool) (o : Option Key) → unwrap_or (option_map p o) false ≡ true → (a : Key) × (o ≡ Some a) × (p a ≡ true)
+pub passing : (p : Key → Bool) (o : Option Key) → unwrap_or (option_map p o) false ≡ true → (a : Key) × (o ≡ Some a) × (p a ≡ true)
 passing p None e = absurd (cc)
 passing p (Some a) e = (a, refl, e)
 
@@ -83,17 +83,7 @@ stays_drawn d k q e = set.contains-insert nat_cmp_total d.used k q ∙ ap (λ b.
 just_drawn : (d : Drawn) (k : ℕ) → set.contains (set.insert d.used k) k ≡ true
 just_drawn d k = set.contains-insert nat_cmp_total d.used k k ∙ ap (λ b. b || set.contains d.used k) (tie k k ∙ eq-eqb k k refl)
 
--- ---- the search for a name
-
-none_in : (p : Key → Bool) (k : ℕ) (es : List (ℕ × Key)) → list_any (λ e. p e.1) es ≡ false → unwrap_or (option_map p (map.find nat_cmp k es)) false ≡ false
-none_in p k [] h = refl
-none_in p k (e ∷ es) h =
-    let parts = or_parts (p e.1) (list_any (λ (x : ℕ × Key). p x.1) es) h in
-    elim (eq_by_cmp nat_cmp k e.0) as (λ b. unwrap_or (option_map p (cond b (Some e.1) (map.find nat_cmp k es))) false ≡ false) [ true ↦ parts.0 | false ↦ none_in p k es parts.1 ]
-
--- where no entry passes the test, no key does
-pub none_passes : (p : Key → Bool) (keys : map.FinMap nat_cmp Key) → list_any (λ e. p e.1) (map.entries keys) ≡ false → (k : ℕ) → key_passes keys k p ≡ false
-none_passes p keys h k = ap (λ o. unwrap_or (option_map p o) false) (map.get-entries keys k) ∙ none_in p k (map.entries keys) h
+-- ---- the number of a new key
 
 -- the number of a new key: that of its name, else its own serial
 pub number_of_new : (known : Known) (key : Key) (k : ℕ) (o : Option ℕ) → IsHeld known → set.contains known.serials.used k ≡ false

@@ -11,6 +11,7 @@ ghost use Rattle.rk_keys.specs.Known.{Known, IsNaming, IsRefused, Makes, has_all
 ghost use Rattle.rk_keys.specs.Names.{IsNumberFor};
 ghost use Rattle.rk_keys.specs.Faults.{use_fault, change_fault};
 
+use crate::by_name::{put_in, take_out};
 use crate::changes::{Conclude, Mark, Time};
 use crate::fault::KeyFault;
 use crate::key::{Condition, Key, Standing};
@@ -22,19 +23,22 @@ use rk_table::Table;
 use std::alloc::{AllocError, Global};
 use std::marker::Model;
 
-/// All keys, and the serials of keys and rings. None but `new` and `make` takes memory. What asks for a key,
-/// a name or a user looks through the keys held, so it takes time in proportion to them; `left`,
-/// `draw`, `serials` and `set_serials` take the same time always.
+/// All keys, and the serials of keys and rings. None but `new` and `make` takes memory. What asks for a key
+/// looks at as many keys as their number can be halved, and what asks for a name, `name`, `make` and `forget`, at the square of that;
+/// `is_full` and `make` count the keys of a user among all keys; `left`, `draw`, `serials` and `set_serials` take the same time always.
 #[derive(Drop)]
 pub struct Keys {
     facts: Table<Key>,
     /// The number of each key's name.
     numbers: Table<NameNo>,
+    /// The serials of the keys, in the order of their names.
+    by_name: Vec<u32>,
     serials: Serials,
 }
 
 impl Model for Keys {
     ghost use Rattle.rk_keys.specs.Known.{Known, known_code, IsHeld};
+    ghost use Rattle.rk_keys.specs.Spots.{IsIndex};
 
     ghost Value = { Known };
 
@@ -42,7 +46,7 @@ impl Model for Keys {
 
     ghost view = { λ a. record { keys = a.facts.facts; numbers = a.numbers.facts; serials = a.serials } };
 
-    ghost invariant = { λ a. IsHeld (record { keys = a.facts.facts; numbers = a.numbers.facts; serials = a.serials }) };
+    ghost invariant = { λ a. record { held : IsHeld (record { keys = a.facts.facts; numbers = a.numbers.facts; serials = a.serials }); index : IsIndex a.facts.facts a.by_name.items } };
 }
 
 impl Keys {
@@ -58,6 +62,7 @@ impl Keys {
         Ok(Keys {
             facts: Table::with_room(alloc, Keys::MAX_PER_USER)?,
             numbers: Table::with_room(alloc, Keys::MAX_PER_USER)?,
+            by_name: Vec::with_capacity(alloc, Keys::MAX_PER_USER)?,
             serials: Serials::new(first, stride),
         })
     }
@@ -95,7 +100,7 @@ impl Keys {
         ensures none { result ≡ None → (k : ℕ) → has_name self.now.keys k typ.now description.now ≡ false }
         ensures some { IfSome result (λ n. (k : ℕ) × (has_name self.now.keys k typ.now description.now ≡ true) × (map.get self.now.numbers k ≡ Some n)) }
     {
-        number_of(&self.facts, &self.numbers, typ, description)
+        number_of(&self.facts, &self.numbers, &self.by_name, typ, description)
     }
 
     /// The number of the key's name; `None` where there is no key of that serial.
@@ -173,8 +178,22 @@ impl Keys {
         };
         self.facts.reserve(1)?;
         self.numbers.reserve(1)?;
-        let shared = number_of(&self.facts, &self.numbers, &typ, &description);
+        self.by_name.reserve(1)?;
+        let shared = number_of(
+            &self.facts,
+            &self.numbers,
+            &self.by_name,
+            &typ,
+            &description,
+        );
         let number = shared.unwrap_or(NameNo(serial.get()));
+        put_in(
+            &self.facts,
+            &mut self.by_name,
+            &typ,
+            &description,
+            serial.get(),
+        );
         self.numbers.insert(serial.get(), number);
         self.facts
             .insert(serial.get(), Key::new(typ, description, owner, payload));
@@ -218,6 +237,7 @@ impl Keys {
     pub fn forget(&mut self, key: Serial)
         ensures { self.new ≡ without_key key self.old }
     {
+        take_out(&self.facts, &mut self.by_name, key.get());
         self.facts.remove(key.get());
         self.numbers.remove(key.get());
     }

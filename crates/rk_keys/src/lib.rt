@@ -25,11 +25,12 @@
 //! # How it is built
 //!
 //! `key` has one key and what it is at a moment, `serials` the serials, `fault` the refusals. `keys` puts two
-//! tables and the serials together; `sought` has the keys that are looked for, `naming` the
-//! look-up of a name's number, `changes` what happens to one key. Where the specifications speak of a key in few words,
+//! tables, the order of names and the serials together; `by_name` keeps the serials in the order of their keys' names, `naming` looks up
+//! a name's number there, `sought` has the keys that are counted, `changes` what happens to one key. Where the specifications speak of a key in few words,
 //! as `standing_of`, they stand in `specs/Key.antt`; of all keys in `specs/Known.antt`.
 #![tactic(auto)]
 
+mod by_name;
 mod changes;
 mod fault;
 mod key;

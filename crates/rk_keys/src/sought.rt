@@ -1,6 +1,5 @@
-//! The keys that are sought or counted.
+//! The keys that are counted.
 use crate::key::Key;
-use rk_names::{Description, TypeName};
 use rk_table::Test;
 
 /// The keys of one user.
@@ -16,22 +15,5 @@ impl Test<Key> for OwnedBy {
 
     fn passes(&self, _key: u32, value: &Key) -> bool {
         value.owner == self.owner
-    }
-}
-
-/// The keys of one name.
-#[derive(Drop)]
-pub struct Named<'a> {
-    pub typ: &'a TypeName,
-    pub description: &'a Description,
-}
-
-impl Test<Key> for Named<'_> {
-    ghost use Rattle.rk_keys.specs.Key.{is_named};
-
-    ghost passes = { λ s _ key. is_named s.typ.now s.description.now key };
-
-    fn passes(&self, _key: u32, value: &Key) -> bool {
-        value.is_named(self.typ, self.description)
     }
 }

@@ -344,6 +344,37 @@ fn equal_names_share_a_number(rt: HostRuntime) -> Result<(), Fail> {
     Ok(())
 }
 
+/// Of keys that come in no order of their names, each is found by its name, and no longer when it is forgotten.
+#[test]
+fn names_are_found_in_any_order(rt: HostRuntime) -> Result<(), Fail> {
+    let mut keys = Keys::new(rt.alloc(), serial(1), 1)?;
+    for (description, owner) in [(b"m", 0), (b"c", 1), (b"x", 0), (b"c", 2), (b"a", 0)] {
+        let _ = make(rt.alloc(), &mut keys, description, owner)?;
+    }
+    for (description, number) in [
+        (b"a", Some(5)),
+        (b"b", None),
+        (b"c", Some(2)),
+        (b"m", Some(1)),
+        (b"x", Some(3)),
+    ] {
+        named(&rt, rt.alloc(), &keys, description, number);
+    }
+    keys.forget(serial(2));
+    keys.forget(serial(3));
+    for (description, number) in [
+        (b"a", Some(5)),
+        (b"c", Some(2)),
+        (b"m", Some(1)),
+        (b"x", None),
+    ] {
+        named(&rt, rt.alloc(), &keys, description, number);
+    }
+    keys.forget(serial(4));
+    named(&rt, rt.alloc(), &keys, b"c", None);
+    Ok(())
+}
+
 #[test]
 fn faults_are_answered(rt: HostRuntime) -> Result<(), Fail> {
     let table: [(KeyFault, Errno, &str); 4] = [

@@ -1,5 +1,7 @@
-use Rattle.std.proofs.Common.{◌≡◌, subst, ◌∙◌, ap, ℕ, refl}
-use Rattle.std.specs.Prelude.{Some, unwrap_or}
+use Rattle.std.proofs.Common.{◌≡◌, subst, ◌∙◌, ap, ℕ, List, refl}
+use Rattle.std.specs.Prelude.{Some, None, unwrap_or}
+use Rattle.std.specs.List.{insert as insert_at}
+use Rattle.std.specs.Ordering.{nat_cmp}
 use Rattle.std.specs.FinMap as map
 use Rattle.std.proofs.lemmas.Result.{err_from_is_err_and}
 use Rattle.rk_keys.specs.declared.key.Key.{Key}
@@ -8,6 +10,8 @@ use Rattle.rk_keys.specs.Known.{Known, new_key, IsHeld}
 use Rattle.rk_keys.specs.Names.{IsNumberFor}
 use Rattle.rk_keys.proofs.Names.{number_of_new, number_for_new}
 use Rattle.rk_keys.proofs.Held.{held_made_so, at_new}
+use Rattle.rk_keys.specs.Spots.{spot_cmp, spot_of, IsPlaceFor, IsIndex}
+use Rattle.rk_keys.proofs.Index.{index_with}
 use Rattle.rk_keys.proofs.Refused.{not_refused}
 use Rattle.rk_keys.proofs.keys.Keys.make.Goals as goal
 
@@ -23,6 +27,12 @@ returns-in_err-reserve-2-clause-quota c =
     let p = err_from_is_err_and c.from_residual-in_err-reserve-2.result c.from_residual-in_err-reserve-2.ensures.1 in
     rw (p.1, p.2) (λ e. absurd (cc), λ refused. absurd (not_refused c.args.self.now c.args.owner c.in-Some.serial c.is_full.result c.is_full.ensures c.if-is_full.false next refused))
 
+pub returns-in_err-reserve-3-clause-quota : goal.returns-in_err-reserve-3-clause-quota
+returns-in_err-reserve-3-clause-quota c =
+    let next : IsNext c.args.self.now.serials c.in-Some.serial = subst (λ (n : Known). IsNext n.serials c.in-Some.serial) c.self.view_is c.in-Some.ensures.cases.0 in
+    let p = err_from_is_err_and c.from_residual-in_err-reserve-3.result c.from_residual-in_err-reserve-3.ensures.1 in
+    rw (p.1, p.2) (λ e. absurd (cc), λ refused. absurd (not_refused c.args.self.now c.args.owner c.in-Some.serial c.is_full.result c.is_full.ensures c.if-is_full.false next refused))
+
 pub returns-clause-quota : goal.returns-clause-quota
 returns-clause-quota c =
     let next : IsNext c.args.self.now.serials c.in-Some.serial = subst (λ (n : Known). IsNext n.serials c.in-Some.serial) c.self.view_is c.in-Some.ensures.cases.0 in
@@ -31,19 +41,30 @@ returns-clause-quota c =
 pub invariant_of-self-2 : goal.invariant_of-self-2
 invariant_of-self-2 c =
     let known : Known = record { keys = c.reserve.new.self.facts; numbers = c.reserve-2.new.self.facts; serials = c.self.inside.serials } in
-    let held : IsHeld known = rw (c.reserve.ensures.facts, c.reserve-2.ensures.facts) c.self.invariant in
+    let held : IsHeld known = rw (c.reserve.ensures.facts, c.reserve-2.ensures.facts) c.self.invariant.held in
     let key : Key = new_key c.args.typ c.args.description c.args.owner c.args.payload in
     let number = number_of_new known key c.in-Some.serial c.number_of-shared.result held c.in-Some.ensures.cases.0.drawable.unused c.number_of-shared.ensures.none c.number_of-shared.ensures.some in
     let which : c.unwrap_or-number.result ≡ unwrap_or c.number_of-shared.result c.in-Some.serial = cc (c.unwrap_or-number.ensures, c.get.ensures.number) in
-    held_made_so known c.in-Some.serial key c.unwrap_or-number.result c.insert-2.new.self.facts c.insert.new.self.facts c.draw.new.self
-    (cc (c.insert-2.ensures.facts, c.get-3.ensures.number)) (cc (c.insert.ensures.facts, c.get-2.ensures.number)) c.in-Some.ensures.cases.1 (rw which number) held
+    let keys : map.FinMap nat_cmp Key = c.reserve.new.self.facts in
+    let by_name : List ℕ = c.reserve-3.new.self.items in
+    let index : IsIndex keys by_name = rw (c.reserve.ensures.facts, c.reserve-3.ensures.items) c.self.invariant.index in
+    let new : map.get keys c.in-Some.serial ≡ None = held.drawn c.in-Some.serial c.in-Some.ensures.cases.0.drawable.unused in
+    let there : IsPlaceFor spot_cmp (spot_of keys) (c.args.typ, c.args.description, c.in-Some.serial) by_name c.put_in.ensures.place =
+    subst (λ n. IsPlaceFor spot_cmp (spot_of keys) (c.args.typ, c.args.description, n) by_name c.put_in.ensures.place) c.get-2.ensures.number c.put_in.ensures.there in
+    let put : c.insert-2.new.self.facts ≡ map.insert keys c.in-Some.serial key = cc (c.insert-2.ensures.facts, c.get-4.ensures.number) in
+    let items : c.put_in.new.by_name.items ≡ insert_at by_name c.put_in.ensures.place c.in-Some.serial = c.put_in.ensures.items ∙ ap (insert_at by_name c.put_in.ensures.place) c.get-2.ensures.number in
+    record {
+      held = held_made_so known c.in-Some.serial key c.unwrap_or-number.result c.insert-2.new.self.facts c.insert.new.self.facts c.draw.new.self put
+          (cc (c.insert.ensures.facts, c.get-3.ensures.number)) c.in-Some.ensures.cases.1 (rw which number) held;
+      index = rw (put, items) (index_with keys by_name index c.in-Some.serial key c.put_in.ensures.place new there);
+    }
 
 pub returns-clause-number : goal.returns-clause-number
 returns-clause-number c =
     let known : Known = record { keys = c.reserve.new.self.facts; numbers = c.reserve-2.new.self.facts; serials = c.self.inside.serials } in
     let same : known ≡ c.args.self.now = rw (c.reserve.ensures.facts, c.reserve-2.ensures.facts) c.self.view_is in
     let number : ℕ = unwrap_or c.number_of-shared.result c.in-Some.serial in
-    let put : c.insert.new.self.facts ≡ map.insert c.reserve-2.new.self.facts c.in-Some.serial number = cc (c.insert.ensures.facts, c.get-2.ensures.number, c.unwrap_or-number.ensures, c.get.ensures.number) in
+    let put : c.insert.new.self.facts ≡ map.insert c.reserve-2.new.self.facts c.in-Some.serial number = cc (c.insert.ensures.facts, c.get-3.ensures.number, c.unwrap_or-number.ensures, c.get.ensures.number) in
     let is : map.get c.insert.new.self.facts c.in-Some.serial ≡ Some number = ap (λ m. map.get m c.in-Some.serial) put ∙ at_new c.reserve-2.new.self.facts c.in-Some.serial number c.in-Some.serial refl in
     subst (λ (n : Known). IsNumberFor n c.args.typ c.args.description c.in-Some.serial (map.get c.insert.new.self.facts c.in-Some.serial)) same
     (rw is (number_for_new known c.args.typ c.args.description c.in-Some.serial c.number_of-shared.result c.number_of-shared.ensures.none c.number_of-shared.ensures.some))

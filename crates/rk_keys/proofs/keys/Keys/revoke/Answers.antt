@@ -1,8 +1,12 @@
 use Rattle.rk_keys.specs.Known.{Known, marked}
 use Rattle.rk_keys.proofs.Held.{held_changed, marked_keeps}
+use Rattle.rk_keys.proofs.Index.{index_changed}
 use Rattle.rk_keys.proofs.keys.Keys.revoke.Goals as goal
 
 pub invariant_of-self : goal.invariant_of-self
 invariant_of-self c =
     let known : Known = record { keys = c.self.inside.facts.facts; numbers = c.self.inside.numbers.facts; serials = c.self.inside.serials } in
-    rw c.change.ensures.facts (held_changed known c.get.result marked marked_keeps c.self.invariant)
+    rw c.change.ensures.facts record {
+      held = held_changed known c.get.result marked marked_keeps c.self.invariant.held;
+      index = index_changed known.keys c.self.inside.by_name.items c.self.invariant.index c.get.result marked marked_keeps;
+    }
