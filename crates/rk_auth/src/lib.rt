@@ -23,8 +23,8 @@
 //!
 //! Two tables: the constructions by their keys, with the plain handler's session inside its stage, so that a launch needs no room and an
 //! ending is one removal; and the clients by their numbers, with room for 64. `changes` has what is done to one entry, `circles` the walk
-//! from a key to the handler that makes it and the key on which that one waits. A look-up walks over the entries of its table, and `spend`
-//! over all sessions; no contract says so.
+//! from a key to the handler that makes it and the key on which that one waits. A look-up halves the entries of its table, and `spend`
+//! walks over all sessions; no contract says so.
 #![tactic(auto)]
 
 mod auths;

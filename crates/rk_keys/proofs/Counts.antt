@@ -17,7 +17,7 @@ module _ {V : Type 0} where
       let test : ℕ → Bool = λ k. option_map_or (p k) (map.get m k) false in
       map.get-retain_keys m test q (λ x t. ap test (sym (map.nat_cmp-IsAntisymmetric q x t)))
 
-  none_kept : (p : ℕ → V → Bool) (m : map.FinMap nat_cmp V) (k : ℕ) → map.get m k ≡ None → map.get (kept_where p m) k ≡ None
+  pub none_kept : (p : ℕ → V → Bool) (m : map.FinMap nat_cmp V) (k : ℕ) → map.get m k ≡ None → map.get (kept_where p m) k ≡ None
   none_kept p m k none = get-kept_where p m k ∙ ap (λ (o : Option V). cond (option_map_or (p k) o false) o None) none
 
   put_if : (b : Bool) (m : map.FinMap nat_cmp V) (k : ℕ) (v : V) (q : ℕ) → map.get m k ≡ None → q ≡ k → cond b (Some v) None ≡ map.get (cond b (map.insert m k v) m) q

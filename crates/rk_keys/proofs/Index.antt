@@ -1,6 +1,6 @@
 -- The keys in the order of their names: what is found there, and what keeps it.
-use Rattle.std.proofs.Common.{◌≡◌, ◌≢◌, ◌∙◌, ℕ, ◌+◌, ◌<◌, ◌≤◌, Bool, true, false, cond, not, ◌||◌, List, [], ◌∷◌, length, get_or, refl, ap, sym, subst, inl, inr, arith}
-use Rattle.std.specs.Prelude.{Option, Some, None, filter, nat_eq, bytes_eq, is_some, option_map, unwrap_or, ◌&&◌}
+use Rattle.std.proofs.Common.{◌≡◌, ◌≢◌, ◌∙◌, ℕ, ◌<◌, ◌≤◌, Bool, true, false, cond, not, ◌||◌, List, [], length, get_or, refl, ap, sym, subst, inl, inr, arith}
+use Rattle.std.specs.Prelude.{Option, Some, None, filter, nat_eq, bytes_eq, is_some, option_map, unwrap_or}
 use Rattle.std.specs.Option.{option_map_or}
 use Rattle.std.specs.List.{list_any, insert as insert_at, remove as remove_at}
 use Rattle.std.specs.Ordering.{nat_cmp, is_lt, ordering_then}
@@ -15,7 +15,7 @@ use Rattle.std.proofs.lemmas.Slice.Eq.{bytes_eq-Decides}
 use Rattle.rk_table.specs.Maps.{changed_at}
 use Rattle.rk_keys.specs.declared.key.Key.{Key}
 use Rattle.rk_keys.specs.Key.{has_name, is_named}
-use Rattle.rk_keys.specs.Spots.{Spot, spot_cmp, spot_of, Rise, IsPlaceFor, IsIndex}
+use Rattle.rk_keys.specs.Spots.{Spot, spot_cmp, spot_of, IsPlaceFor, IsIndex}
 use Rattle.rk_keys.proofs.Names.{passing}
 use Rattle.rk_keys.proofs.Held.{KeepsName, at_new, at_other, left_in, taken_out, get-changed_at, contains_key-changed_at}
 use Rattle.rk_keys.proofs.Rising.{place_in, is_in, any_put, any_other, any_gone, all_stay, turned, greater, rise_at, own_place, rise_same, rise_filtered, rise_put, without_at}

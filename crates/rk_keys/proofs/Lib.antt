@@ -6,3 +6,4 @@ pub mod Refused
 pub mod Counts
 pub mod Rising
 pub mod Index
+pub mod UserCounts

@@ -1,17 +1,16 @@
 -- Names: which keys have one, and which number it has.
-use Rattle.std.proofs.Common.{◌≡◌, ◌∙◌, ap, sym, refl, ℕ, Bool, true, false, ◌&&◌, ◌||◌, List, [], ◌∷◌, cond, inl, inr}
+use Rattle.std.proofs.Common.{◌≡◌, ◌∙◌, ap, sym, refl, ℕ, Bool, true, false, ◌&&◌, ◌||◌, List, inl, inr}
 use Rattle.std.specs.Prelude.{bytes_eq, Option, Some, None, ◌==◌, option_map, unwrap_or, IfSome}
-use Rattle.std.specs.List.{list_any}
 use Rattle.std.specs.Ordering.{nat_cmp, eq_by_cmp}
 use Rattle.std.specs.FinMap as map
 use Rattle.std.specs.FinSet as set
 use Rattle.std.specs.Cmp.{nat_cmp_total}
-use Rattle.std.proofs.lemmas.Bool.{and_parts, and_from, or_parts, eq-eqb, ne_eqb, both_ways}
+use Rattle.std.proofs.lemmas.Bool.{and_parts, and_from, eq-eqb, ne_eqb, both_ways}
 use Rattle.std.proofs.lemmas.Slice.Eq.{bytes_eq-Decides}
 use Rattle.rk_table.proofs.Entries.{tie}
 use Rattle.rk_keys.specs.declared.key.Key.{Key}
 use Rattle.rk_keys.specs.Serials.{Drawn}
-use Rattle.rk_keys.specs.Key.{is_named, have_one_name, key_passes, has_name}
+use Rattle.rk_keys.specs.Key.{is_named, have_one_name, has_name}
 use Rattle.rk_keys.specs.Known.{IsNaming, IsHeld, Known}
 use Rattle.rk_keys.specs.Names.{IsNumberFor}
 

@@ -1,5 +1,5 @@
 -- Serials whose spots rise in a total order.
-use Rattle.std.proofs.Common.{◌≡◌, ◌≢◌, ◌∙◌, ℕ, zero, suc, ◌+◌, ◌<◌, ◌≤◌, Bool, true, false, cond, not, ◌||◌, List, [], ◌∷◌, length, get_or, refl, ap, sym, subst, inl, inr, arith}
+use Rattle.std.proofs.Common.{◌≡◌, ◌≢◌, ◌∙◌, ℕ, zero, suc, ◌<◌, ◌≤◌, Bool, true, false, cond, not, ◌||◌, List, [], ◌∷◌, length, get_or, refl, ap, sym, subst, inl, inr, arith}
 use Rattle.std.specs.Prelude.{filter, nat_eq}
 use Rattle.std.specs.List.{list_any, insert as insert_at, remove as remove_at}
 use Rattle.std.specs.List.Sorted.{IsPartitionedBy, IsPartitionPoint}
@@ -7,7 +7,7 @@ use Rattle.std.specs.Ordering.{is_lt, ordering_reverse}
 use Rattle.std.specs.Cmp.{IsTotalOrder, tied_itself}
 use Rattle.std.specs.declared.cmp.Ordering.{Ordering}
 use Rattle.std.specs.declared.cmp.Ordering.TheVariants.{Less, Equal, Greater}
-use Rattle.std.proofs.lemmas.Bool.{eq-eqb, ne_eqb, eqb-true, cases_lt, cases_eq}
+use Rattle.std.proofs.lemmas.Bool.{eq-eqb, ne_eqb, eqb-true, cases_lt}
 use Rattle.rk_keys.specs.Spots.{AreAfter, Rise, IsPlaceFor}
 
 less : (r : Ordering) → is_lt r ≡ true → r ≡ Less

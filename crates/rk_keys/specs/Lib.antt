@@ -4,6 +4,7 @@ pub mod Drawing
 pub mod Known
 pub mod Names
 pub mod Spots
+pub mod Owners
 pub mod Faults
 pub use Rattle.rk_table.specs.Maps
 pub use Rattle.rk_table.specs.Says

@@ -16,8 +16,8 @@ use crate::changes::{Conclude, Mark, Time};
 use crate::fault::KeyFault;
 use crate::key::{Condition, Key, Standing};
 use crate::naming::number_of;
+use crate::owners::{count_of, leave, one_more};
 use crate::serials::Serials;
-use crate::sought::OwnedBy;
 use rk_names::{Description, KeyError, Moment, NameNo, Payload, Serial, TypeName};
 use rk_table::Table;
 use std::alloc::{AllocError, Global};
@@ -25,7 +25,7 @@ use std::marker::Model;
 
 /// All keys, and the serials of keys and rings. None but `new` and `make` takes memory. What asks for a key
 /// looks at as many keys as their number can be halved, and what asks for a name, `name`, `make` and `forget`, at the square of that;
-/// `is_full` and `make` count the keys of a user among all keys; `left`, `draw`, `serials` and `set_serials` take the same time always.
+/// `is_full` halves the users; `left`, `draw`, `serials` and `set_serials` take the same time always.
 #[derive(Drop)]
 pub struct Keys {
     facts: Table<Key>,
@@ -33,12 +33,15 @@ pub struct Keys {
     numbers: Table<NameNo>,
     /// The serials of the keys, in the order of their names.
     by_name: Vec<u32>,
+    /// How many keys each user has.
+    counts: Table<u32>,
     serials: Serials,
 }
 
 impl Model for Keys {
     ghost use Rattle.rk_keys.specs.Known.{Known, known_code, IsHeld};
     ghost use Rattle.rk_keys.specs.Spots.{IsIndex};
+    ghost use Rattle.rk_keys.specs.Owners.{AreCounts};
 
     ghost Value = { Known };
 
@@ -46,7 +49,7 @@ impl Model for Keys {
 
     ghost view = { λ a. record { keys = a.facts.facts; numbers = a.numbers.facts; serials = a.serials } };
 
-    ghost invariant = { λ a. record { held : IsHeld (record { keys = a.facts.facts; numbers = a.numbers.facts; serials = a.serials }); index : IsIndex a.facts.facts a.by_name.items } };
+    ghost invariant = { λ a. record { held : IsHeld (record { keys = a.facts.facts; numbers = a.numbers.facts; serials = a.serials }); index : IsIndex a.facts.facts a.by_name.items; counts : AreCounts a.facts.facts a.counts.facts } };
 }
 
 impl Keys {
@@ -63,6 +66,7 @@ impl Keys {
             facts: Table::with_room(alloc, Keys::MAX_PER_USER)?,
             numbers: Table::with_room(alloc, Keys::MAX_PER_USER)?,
             by_name: Vec::with_capacity(alloc, Keys::MAX_PER_USER)?,
+            counts: Table::with_room(alloc, 1)?,
             serials: Serials::new(first, stride),
         })
     }
@@ -115,7 +119,7 @@ impl Keys {
     pub fn is_full(&self, owner: u32) -> bool
         ensures { result ≡ has_all_keys self.now.keys owner }
     {
-        self.facts.count(&OwnedBy { owner }) >= Keys::MAX_PER_USER
+        count_of(&self.counts, owner) >= Keys::MAX_PER_USER as u32
     }
 
     /// Whether so many serials are left.
@@ -179,6 +183,7 @@ impl Keys {
         self.facts.reserve(1)?;
         self.numbers.reserve(1)?;
         self.by_name.reserve(1)?;
+        self.counts.reserve(1)?;
         let shared = number_of(
             &self.facts,
             &self.numbers,
@@ -197,6 +202,7 @@ impl Keys {
         self.numbers.insert(serial.get(), number);
         self.facts
             .insert(serial.get(), Key::new(typ, description, owner, payload));
+        one_more(&mut self.counts, owner);
         self.serials = drawn;
         Ok(serial)
     }
@@ -238,6 +244,7 @@ impl Keys {
         ensures { self.new ≡ without_key key self.old }
     {
         take_out(&self.facts, &mut self.by_name, key.get());
+        leave(&self.facts, &mut self.counts, key.get());
         self.facts.remove(key.get());
         self.numbers.remove(key.get());
     }

@@ -26,7 +26,7 @@
 //!
 //! `key` has one key and what it is at a moment, `serials` the serials, `fault` the refusals. `keys` puts two
 //! tables, the order of names and the serials together; `by_name` keeps the serials in the order of their keys' names, `naming` looks up
-//! a name's number there, `sought` has the keys that are counted, `changes` what happens to one key. Where the specifications speak of a key in few words,
+//! a name's number there, `owners` counts the keys of each user, `changes` has what happens to one key. Where the specifications speak of a key in few words,
 //! as `standing_of`, they stand in `specs/Key.antt`; of all keys in `specs/Known.antt`.
 #![tactic(auto)]
 
@@ -36,8 +36,8 @@ mod fault;
 mod key;
 mod keys;
 mod naming;
+mod owners;
 mod serials;
-mod sought;
 
 pub use fault::KeyFault;
 pub use key::{Condition, Key, Standing};

@@ -18,8 +18,8 @@ pub const MAX_RINGS: usize = 1_024;
 
 /// The live rings by their serials, each with room for its 256 links.
 ///
-/// A call that is given a ring walks over the rings to find it, at most 1,024, and where it looks for a key or
-/// a name, over the links of that ring.
+/// A call that is given a ring looks at 11 of 1,024 rings to find it, and at 9 of its 256 links to find a key; where it looks for a name,
+/// it walks over the links of that ring.
 #[derive(Drop)]
 pub struct Rings {
     rows: Table<Row>,

@@ -1,6 +1,7 @@
 use Rattle.rk_keys.specs.Known.{Known, concluded}
 use Rattle.rk_keys.proofs.Held.{held_changed, concluded_keeps}
 use Rattle.rk_keys.proofs.Index.{index_changed}
+use Rattle.rk_keys.proofs.UserCounts.{counts_changed, concluded_keeps_owner}
 use Rattle.rk_keys.proofs.keys.Keys.complete.Goals as goal
 
 pub invariant_of-self : goal.invariant_of-self
@@ -9,4 +10,5 @@ invariant_of-self c =
     rw c.change.ensures.facts record {
       held = held_changed known c.get.result (concluded c.args.condition c.args.expiry) (concluded_keeps c.args.condition c.args.expiry) c.self.invariant.held;
       index = index_changed known.keys c.self.inside.by_name.items c.self.invariant.index c.get.result (concluded c.args.condition c.args.expiry) (concluded_keeps c.args.condition c.args.expiry);
+      counts = counts_changed known.keys c.self.inside.counts.facts c.get.result (concluded c.args.condition c.args.expiry) (concluded_keeps_owner c.args.condition c.args.expiry) c.self.invariant.counts;
     }

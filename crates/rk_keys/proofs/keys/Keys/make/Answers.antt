@@ -5,13 +5,15 @@ use Rattle.std.specs.Ordering.{nat_cmp}
 use Rattle.std.specs.FinMap as map
 use Rattle.std.proofs.lemmas.Result.{err_from_is_err_and}
 use Rattle.rk_keys.specs.declared.key.Key.{Key}
-use Rattle.rk_keys.specs.Serials.{IsNext}
+use Rattle.rk_keys.specs.Serials.{IsNext, with_drawn}
 use Rattle.rk_keys.specs.Known.{Known, new_key, IsHeld}
 use Rattle.rk_keys.specs.Names.{IsNumberFor}
 use Rattle.rk_keys.proofs.Names.{number_of_new, number_for_new}
 use Rattle.rk_keys.proofs.Held.{held_made_so, at_new}
 use Rattle.rk_keys.specs.Spots.{spot_cmp, spot_of, IsPlaceFor, IsIndex}
 use Rattle.rk_keys.proofs.Index.{index_with}
+use Rattle.rk_keys.specs.Owners.{AreCounts}
+use Rattle.rk_keys.proofs.UserCounts.{counts_with}
 use Rattle.rk_keys.proofs.Refused.{not_refused}
 use Rattle.rk_keys.proofs.keys.Keys.make.Goals as goal
 
@@ -33,6 +35,12 @@ returns-in_err-reserve-3-clause-quota c =
     let p = err_from_is_err_and c.from_residual-in_err-reserve-3.result c.from_residual-in_err-reserve-3.ensures.1 in
     rw (p.1, p.2) (λ e. absurd (cc), λ refused. absurd (not_refused c.args.self.now c.args.owner c.in-Some.serial c.is_full.result c.is_full.ensures c.if-is_full.false next refused))
 
+pub returns-in_err-reserve-4-clause-quota : goal.returns-in_err-reserve-4-clause-quota
+returns-in_err-reserve-4-clause-quota c =
+    let next : IsNext c.args.self.now.serials c.in-Some.serial = subst (λ (n : Known). IsNext n.serials c.in-Some.serial) c.self.view_is c.in-Some.ensures.cases.0 in
+    let p = err_from_is_err_and c.from_residual-in_err-reserve-4.result c.from_residual-in_err-reserve-4.ensures.1 in
+    rw (p.1, p.2) (λ e. absurd (cc), λ refused. absurd (not_refused c.args.self.now c.args.owner c.in-Some.serial c.is_full.result c.is_full.ensures c.if-is_full.false next refused))
+
 pub returns-clause-quota : goal.returns-clause-quota
 returns-clause-quota c =
     let next : IsNext c.args.self.now.serials c.in-Some.serial = subst (λ (n : Known). IsNext n.serials c.in-Some.serial) c.self.view_is c.in-Some.ensures.cases.0 in
@@ -48,6 +56,7 @@ invariant_of-self-2 c =
     let keys : map.FinMap nat_cmp Key = c.reserve.new.self.facts in
     let by_name : List ℕ = c.reserve-3.new.self.items in
     let index : IsIndex keys by_name = rw (c.reserve.ensures.facts, c.reserve-3.ensures.items) c.self.invariant.index in
+    let counts : AreCounts keys c.reserve-4.new.self.facts = rw (c.reserve.ensures.facts, c.reserve-4.ensures.facts) c.self.invariant.counts in
     let new : map.get keys c.in-Some.serial ≡ None = held.drawn c.in-Some.serial c.in-Some.ensures.cases.0.drawable.unused in
     let there : IsPlaceFor spot_cmp (spot_of keys) (c.args.typ, c.args.description, c.in-Some.serial) by_name c.put_in.ensures.place =
     subst (λ n. IsPlaceFor spot_cmp (spot_of keys) (c.args.typ, c.args.description, n) by_name c.put_in.ensures.place) c.get-2.ensures.number c.put_in.ensures.there in
@@ -57,7 +66,23 @@ invariant_of-self-2 c =
       held = held_made_so known c.in-Some.serial key c.unwrap_or-number.result c.insert-2.new.self.facts c.insert.new.self.facts c.draw.new.self put
           (cc (c.insert.ensures.facts, c.get-3.ensures.number)) c.in-Some.ensures.cases.1 (rw which number) held;
       index = rw (put, items) (index_with keys by_name index c.in-Some.serial key c.put_in.ensures.place new there);
+      counts = rw put (counts_with keys c.reserve-4.new.self.facts c.one_more.new.counts.facts c.in-Some.serial key counts new c.one_more.ensures);
     }
+
+pub returns-clause-ok : goal.returns-clause-ok
+returns-clause-ok c =
+    let k : ℕ = c.in-Some.serial in
+    let key : Key = new_key c.args.typ c.args.description c.args.owner c.args.payload in
+    let keys : c.insert-2.new.self.facts ≡ map.insert c.reserve.new.self.facts k key = cc (c.insert-2.ensures.facts, c.get-4.ensures.number) in
+    let numbers : c.insert.new.self.facts ≡ map.insert c.reserve-2.new.self.facts k c.unwrap_or-number.result = cc (c.insert.ensures.facts, c.get-3.ensures.number) in (
+      subst (λ (n : Known). IsNext n.serials k) c.self.view_is c.in-Some.ensures.cases.0,
+      record {
+        keys = keys ∙ ap (λ m. map.insert m k key) (c.reserve.ensures.facts ∙ ap (λ (n : Known). n.keys) c.self.view_is);
+        number = c.unwrap_or-number.result;
+        numbers = numbers ∙ ap (λ m. map.insert m k c.unwrap_or-number.result) (c.reserve-2.ensures.facts ∙ ap (λ (n : Known). n.numbers) c.self.view_is);
+        serials = c.in-Some.ensures.cases.1 ∙ ap (λ (n : Known). with_drawn k n.serials) c.self.view_is;
+      },
+    )
 
 pub returns-clause-number : goal.returns-clause-number
 returns-clause-number c =
