@@ -80,7 +80,7 @@ impl Tables {
     {
         match self.assumed_authority(id) {
             None => Answer::Refused(Errno::Enokey),
-            Some(authority) => told(self.alloc(), authority.callout.as_bytes()),
+            Some(authority) => told(self.alloc, authority.callout.as_bytes()),
         }
     }
 
@@ -110,8 +110,8 @@ impl Tables {
         ensures { TellsOf (λ one. payload_by one.condition) self.now key result self.now }
     {
         match self.fact(key) {
-            Some(fact) => told(self.alloc(), payload(fact)),
-            None => told(self.alloc(), &[]),
+            Some(fact) => told(self.alloc, payload(fact)),
+            None => told(self.alloc, &[]),
         }
     }
 
@@ -143,7 +143,7 @@ impl Tables {
     {
         match self.fact(key) {
             None => unreachable!(),
-            Some(fact) => match description(self.alloc(), fact, now) {
+            Some(fact) => match description(self.alloc, fact, now) {
                 Ok(bytes) => answered(bytes),
                 Err(_) => Answer::Refused(Errno::Enomem),
             },

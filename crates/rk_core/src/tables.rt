@@ -65,11 +65,6 @@ impl Tables {
         })
     }
 
-    /// Where memory comes from.
-    pub fn alloc(&self) -> Global {
-        self.alloc
-    }
-
     /// For so many seconds a key is negative whose handler did not complete it.
     pub fn negative(&self) -> u32
         ensures { result ≡ self.now.negative }
