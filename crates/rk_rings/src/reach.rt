@@ -51,7 +51,7 @@ impl Rings {
     }
 
     /// Whether the key is linked in some ring of the context (keyrings(7), "Possession"). It takes no memory,
-    /// and walks over the links of the four rings, up to the first.
+    /// and asks the four rings in turn, up to the first that holds it.
     pub fn is_reached(&self, context: &Context, key: Serial) -> bool
         ensures { result ≡ list_any (λ ring. holds self.now ring key) (rings_of context.now) }
     {

@@ -102,7 +102,7 @@ impl Rings {
         }
     }
 
-    /// Whether the key is linked in some ring. It walks over the links of all rings, up to the first.
+    /// Whether the key is linked in some ring. It asks one ring after another, up to the first that holds it.
     pub fn is_held(&self, key: Serial) -> bool
         ensures { result ≡ is_held self.now key }
     {
