@@ -24,7 +24,7 @@
 //!
 //! The `Book` is the `Tables` (`tables`) with what holds of every world that a run leads to (`specs/Sound.antt`). `Tables` joins rk_keys, rk_rings
 //! and rk_auth into one world; each of its methods does what one definition says. `links` has the changes of rings, and takes away the keys
-//! that lose their last link, each by itself: no step goes through all keys but to look one up. `search` looks up a name once, and then one key
+//! that lose their last link, each by itself: no step goes through all keys. `search` looks up a name once, and then one key
 //! in each ring of a context. `completion`, `making`, `sessions` and `draft` are what the asks are made of; `hello`, `request`, `completing`, `key_asks`
 //! and `ring_asks` are the asks; `asks` is the gate and the dispatch, `steps` the six events, `views` what is told without a step.
 //!
