@@ -7,6 +7,7 @@ use Rattle.rk_message.specs.declared.ask.Ask.{Ask}
 use Rattle.rk_conf.specs.declared.line.Line.{Line}
 use Rattle.rk_machine.specs.World.{World}
 use Rattle.rk_machine.specs.Steps.{Beginning, Past, Step, Run}
+use Rattle.rk_machine.proofs.Lawful.{lawful}
 use Rattle.rk_replay.specs.declared.happening.Happening.{Happening}
 use Rattle.rk_replay.specs.declared.happening.Happening.TheVariants as happening
 use Rattle.rk_replay.specs.declared.happening.StartResult.TheVariants.{Started, Failed}
@@ -107,4 +108,5 @@ served_chain conf (t ∷ ts) run old new h =
 
 pub served_is_run : ServedIsRun
 served_is_run conf from turns run left h =
-    subst (λ (xs : List Past). Run from xs left.world) (append-nil (reverse run)) (chain_run from [] run (nothing from).world left.world refl (served_chain conf turns run (nothing from) left h))
+    let is_run : Run from (reverse run) left.world = subst (λ (xs : List Past). Run from xs left.world) (append-nil (reverse run)) (chain_run from [] run (nothing from).world left.world refl (served_chain conf turns run (nothing from) left h)) in
+    (is_run, lawful from (reverse run) left.world is_run)

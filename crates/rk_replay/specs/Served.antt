@@ -2,7 +2,8 @@
 use Rattle.std.specs.Prelude.{◌≡◌, ℕ, List, [], ◌∷◌, ◌++◌, reverse, Option, Some, None, true, false}
 use Rattle.std.specs.List.{flat_map}
 use Rattle.rk_conf.specs.declared.line.Line.{Line}
-use Rattle.rk_machine.specs.Steps.{Beginning, Past, Run}
+use Rattle.rk_machine.specs.Laws.{ContinuesTo}
+use Rattle.rk_machine.specs.Steps.{Beginning, Past}
 use Rattle.rk_replay.specs.declared.happening.Happening.{Happening}
 use Rattle.rk_replay.specs.declared.output.Output.{Output}
 use Rattle.rk_replay.specs.Left.{Left, Part, nothing}
@@ -62,7 +63,7 @@ ServesNext conf old turn new =
     (from : Beginning) (turns : List Turn) (run : List Past) → Served conf from turns run old →
     (steps : List Past) × Served conf from (turns ++ turn ∷ []) (run ++ steps) new
 
--- The steps of a served list, the newest first, are a run of the machine to the world that it leaves.
+-- The steps of a served list, the newest first, are a run of the machine to the world that it leaves, and obey the laws of every run.
 abbrev pub ServedIsRun : Type 0
 ServedIsRun = (conf : List Line) (from : Beginning) (turns : List Turn) (run : List Past) (left : Left) →
-    Served conf from turns run left → Run from (reverse run) left.world
+    Served conf from turns run left → ContinuesTo from (reverse run) left.world

@@ -1,8 +1,9 @@
 -- What a run of a script writes.
-use Rattle.std.specs.Prelude.{◌≡◌, ℕ, ◌+◌, List, [], ◌∷◌, ◌++◌, map, Option, Some, None}
+use Rattle.std.specs.Prelude.{◌≡◌, ℕ, ◌+◌, List, [], ◌∷◌, ◌++◌, map, reverse, Option, Some, None}
 use Rattle.std.specs.List.{flat_map}
 use Rattle.rk_conf.specs.declared.fault.ConfFault.{ConfFault}
 use Rattle.rk_conf.specs.Reading.{faults_of, lines_told}
+use Rattle.rk_machine.specs.Laws.{ContinuesTo}
 use Rattle.rk_machine.specs.Steps.{Past}
 use Rattle.rk_replay.specs.declared.happening.Happening.{Happening}
 use Rattle.rk_replay.specs.declared.output.Output.{Output}
@@ -35,13 +36,15 @@ moment_of turn = (turn.now, turn.happening)
 abbrev pub outputs_in : Turn → Option (List Output)
 outputs_in turn = turn.outputs
 
--- The text is the lines of a served list for the happenings of the script, with the script's configuration, and nothing else.
+-- The text is the lines of a served list for the happenings of the script, with the script's configuration, and nothing else. The steps of
+-- that list, the newest first, are a run of the machine, and obey the laws of every run.
 pub record IsWritten (input text : List ℕ) : Type 0 where
   pub turns : List Turn
   pub run : List Past
   pub left : Left
   pub sound : faults_of (conf_of (said_in input)) ≡ []
   pub served : Served (lines_told (conf_of (said_in input))) (beginning_of (said_in input)) turns run left
+  pub lawful : ContinuesTo (beginning_of (said_in input)) (reverse run) left.world
   pub happenings : map moment_of turns ≡ happenings_of (said_in input)
   pub text_is : text ≡ text_from 1 (said_in input) (map outputs_in turns)
 
