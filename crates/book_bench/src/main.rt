@@ -1,7 +1,7 @@
 //! What a step of a book costs, by the number of keys that it holds.
 //!
-//! `book_bench 200 2000 20000` fills a book with so many keys, 200 of each user, and prints for each size what one step takes, and how
-//! often as long that is as with the first size. Without sizes it says how it is called.
+//! `book_bench 200 2000 20000` fills a book with so many keys, 200 of each user, and prints for each size what one step of each kind takes.
+//! Without sizes it says how it is called.
 #![tactic(auto)]
 
 mod filling;

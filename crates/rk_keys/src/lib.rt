@@ -24,10 +24,10 @@
 //!
 //! # How it is built
 //!
-//! `key` has one key and what it is at a moment, `serials` the serials, `fault` the refusals. `keys` puts two
+//! `key` has one key and what it is at a moment, `serials` the serials, `fault` the refusals. `keys` puts three
 //! tables, the order of names and the serials together; `by_name` keeps the serials in the order of their keys' names, `naming` looks up
-//! a name's number there, `owners` counts the keys of each user, `changes` has what happens to one key. Where the specifications speak of a key in few words,
-//! as `standing_of`, they stand in `specs/Key.antt`; of all keys in `specs/Known.antt`.
+//! a name's number there, `owners` counts the keys of each user, `changes` has what happens to one key. Where the specifications
+//! speak of a key in few words, as `standing_of`, they stand in `specs/Key.antt`; of all keys in `specs/Known.antt`.
 #![tactic(auto)]
 
 mod by_name;

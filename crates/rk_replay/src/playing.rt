@@ -50,7 +50,7 @@ pub fn play(alloc: Global, text: &[u8], transcript: &mut Transcript) -> Result<(
     }
 }
 
-/// Writes the fault of a configuration. Where that is want of memory, or there is none to write it, this is the fault instead.
+/// Writes the fault of a configuration. The answer is `NoMemory` where that fault is want of memory, or where it could not be written.
 fn refuse(fault: ConfFault, transcript: &mut Transcript) -> ScriptFault
     ensures memory { fault.kind ≡ ConfKind.NoMemory → result ≡ ScriptFault.NoMemory }
     ensures conf { result ≡ ScriptFault.Conf → transcript.new ≡ transcript.old ++ conf_line fault }

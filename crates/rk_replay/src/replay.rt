@@ -94,7 +94,7 @@ impl Replay {
     }
 }
 
-/// The steps of a served list are a run of the machine, to the world that the list leaves.
+/// The steps of a served list are a run of the machine, to the world that the list leaves, and obey the laws of every run.
 pub fn served_is_run()
     ensures { ServedIsRun }
 {}
