@@ -1,0 +1,42 @@
+"""The crates of the repository, as crates.txt lists them."""
+import hashlib
+import pathlib
+
+top = pathlib.Path(__file__).resolve().parent.parent
+
+# The folders of a crate that its proof reads.
+PARTS = ["src", "specs", "proofs"]
+
+
+def listed():
+    """The lines of crates.txt that name a crate, by its name."""
+    lines = [line for line in (top / "crates.txt").read_text().splitlines(keepends=True) if ":" in line and not line.startswith("#")]
+    return {line.partition(":")[0].split()[0]: line for line in lines}
+
+
+def uses():
+    """The crates, lowest first, each with those of the repository that it uses."""
+    lines = listed()
+    left = {name: [it for it in line.partition(":")[2].split() if it in lines] for name, line in lines.items()}
+    found = {}
+    while left:
+        ready = [name for name, used in left.items() if all(it in found for it in used)]
+        if not ready:
+            raise SystemExit(f"crates.txt: these use one another: {' '.join(left)}")
+        for name in ready:
+            found[name] = left.pop(name)
+    return found
+
+
+def below(used, name):
+    """All crates that this one stands on."""
+    return {it for dep in used[name] for it in {dep} | below(used, dep)}
+
+
+def digest(folder, parts=PARTS):
+    """What the files of a crate are, in one number."""
+    files = sorted(path for part in parts for path in (folder / part).rglob("*") if path.is_file())
+    said = hashlib.sha256()
+    for path in files:
+        said.update(f"{path.relative_to(folder)} {hashlib.sha256(path.read_bytes()).hexdigest()}\n".encode())
+    return said.hexdigest()

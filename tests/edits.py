@@ -1,0 +1,136 @@
+"""Edits that must fail, of which one check of a crate tries many.
+
+An edit is a wrong body: a file with a line `file: src/NAME.rt` and then pairs of lines `old: TEXT` and `new: TEXT`, where each old text stands
+once in what the pairs before it made of that file. The prover checks each function against its own contract and its callees' contracts, so the
+edits of different functions say nothing of one another. They are made together in a copy, which is checked once. An edit is refused where a function in
+which it stands has an open goal of its own; a function that only calls one that isn't proved counts for nothing, and neither does one whose proof
+names what the edit took away, since that says nothing of its contract: an edit changes a value and keeps the names.
+"""
+import difflib
+import re
+
+# What the check says of a function that isn't proved.
+UNPROVED = re.compile(r"^fn (\S+): (.*did not prove.*)$", re.M)
+# What it says of a proof file whose answer no longer fits its goal; where the answer names what an edit took away, that says nothing of the contract.
+WRONG_ANSWER = re.compile(r"^(?:\./)?proofs/(\S+)/\w+\.antt:\d+:\d+: error: (.*)$", re.M)
+NAMES = re.compile(r"has no field|is not in scope|has no `|was not admitted")
+FUNCTION = re.compile(r"( *)(?:pub(?:\([a-z]+\))? )?(?:const )?fn (\w+)")
+IMPL = re.compile(r"impl\b(?:<.*?>)? ?(?:(\w+)(?:<.*>)? for )?(\w+)")
+
+
+class BadEdit(Exception):
+    """The edit can't be made."""
+
+
+class Edit:
+    """A wrong body: its name, the lines that it changes in each file, and the functions in which they stand."""
+
+    def __init__(self, path, crate):
+        self.name = path.name
+        self.changes = {}
+        self.places = set()
+        for file, text in made(path.read_text(), crate).items():
+            before = (crate / file).read_text()
+            lines = text.split("\n")
+            matcher = difflib.SequenceMatcher(None, before.split("\n"), lines, autojunk=False)
+            self.changes[file] = [(i, j, lines[m:n]) for what, i, j, m, n in matcher.get_opcodes() if what != "equal"]
+            self.places |= {place(file, before, line) for first, end, _ in self.changes[file] for line in range(first, max(end, first + 1))}
+
+    def functions(self):
+        """The functions in which it stands; none where a part of it stands outside of all."""
+        return set() if None in self.places else self.places
+
+
+def made(said, crate):
+    """The files that an edit changes, with its pairs made one after the other."""
+    texts, file, old = {}, None, None
+    for line in said.split("\n"):
+        if line.startswith("file: "):
+            file = line.removeprefix("file: ").strip()
+            if not file.startswith("src/"):
+                raise BadEdit(f"{file} is not below src/")
+            texts.setdefault(file, (crate / file).read_text())
+        elif line.startswith("old: "):
+            old = line.removeprefix("old: ")
+        elif line.startswith("new:"):
+            if not file or not old or texts[file].count(old) != 1:
+                raise BadEdit(f"{old!r} does not stand once in {file}")
+            texts[file] = texts[file].replace(old, line.removeprefix("new:").removeprefix(" "))
+    if not texts:
+        raise BadEdit("it names no file")
+    return texts
+
+
+def place(file, text, line):
+    """The function in which a line stands: its module path, the head of its block, and its name. None where it stands in none."""
+    for block, name, first, last in spans(text):
+        if first <= line <= last:
+            return module(file), block, name
+    return None
+
+
+def spans(text):
+    """The block, name, first and last line of each function, by its layout, inner ones first."""
+    lines, found, block = text.split("\n"), [], ""
+    for first, line in enumerate(lines):
+        # a method's path has the type's name, and in an impl of a trait the trait's behind it
+        if line.startswith("impl"):
+            of_trait, of_type = IMPL.match(line).groups()
+            block = of_type + (of_trait or "")
+        elif line == "}":
+            block = ""
+        head = FUNCTION.match(line)
+        if head:
+            ends = (i for i in range(first, len(lines)) if lines[i].startswith(head[1] + "}"))
+            found.append((block, head[2], first, next(ends, first)))
+    return sorted(found, key=lambda it: it[3] - it[2])
+
+
+def module(file):
+    """The module path of a source file."""
+    parts = file.removeprefix("src/").removesuffix(".rt").split("/")
+    return () if parts in (["lib"], ["main"]) else tuple(parts)
+
+
+def make(edits, crate):
+    """Makes the edits in the crate's files, each where it stands in the file as it is."""
+    for file in {file for edit in edits for file in edit.changes}:
+        lines = (crate / file).read_text().split("\n")
+        for first, end, new in sorted((it for edit in edits for it in edit.changes.get(file, [])), reverse=True):
+            lines[first:end] = new
+        (crate / file).write_text("\n".join(lines))
+
+
+def groups(edits):
+    """The edits in groups: no two of a group stand in functions of one name, and an edit outside of functions stands alone."""
+    found = []
+    for edit in edits:
+        functions = edit.functions()
+        for taken, members in found:
+            if functions and taken and not taken & functions:
+                taken |= functions
+                members.append(edit)
+                break
+        else:
+            found.append((set(functions), [edit]))
+    return [members for _, members in found]
+
+
+def opened(log):
+    """The paths of the functions that have an open goal or a wrong answer of their own, in what a check said."""
+    paths = {tuple(path.split("::")[1:]) for path, _ in UNPROVED.findall(log)}
+    return paths | {tuple(path.split("/")) for path, said in WRONG_ANSWER.findall(log) if not NAMES.search(said)}
+
+
+def is_refused(edit, paths):
+    """Whether a function in which the edit stands is among these; for an edit outside of functions, whether there is any."""
+    if not edit.functions():
+        return bool(paths)
+    return any(is_path(path, *function) for path in paths for function in edit.functions())
+
+
+def is_path(path, inside, block, name):
+    """Whether a path of the check is that of a function. A method's path has the module of its type, wherever the method stands."""
+    if block:
+        return path[-1] == name and len(path) > 1 and path[-2].startswith(block)
+    return path == (*inside, name)
