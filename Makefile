@@ -3,20 +3,28 @@
 SHELL := /bin/bash
 .DEFAULT_GOAL := all
 
-# The programs, each a crate of its name with a src/main.rt.
-PROGRAMS := $(patsubst crates/%/src/main.rt,%,$(wildcard crates/*/src/main.rt))
+# The programs that users install, and those that measure; each is a crate of its name with a src/main.rt.
+ALL_PROGRAMS := $(patsubst crates/%/src/main.rt,%,$(wildcard crates/*/src/main.rt))
+BENCHES := $(filter %_bench,$(ALL_PROGRAMS))
+PROGRAMS := $(filter-out $(BENCHES),$(ALL_PROGRAMS))
 
-.PHONY: all check demo clean help toolchain
+.PHONY: all bench quick check demo clean help toolchain
 
 all: $(addprefix build/,$(PROGRAMS))  ## Prove and build the programs, into build/
+
+bench: $(addprefix build/,$(BENCHES))  ## Prove and build what measures them, into build/ (bench/README.md)
 
 # What a program is made of: any change of a crate makes it anew.
 SOURCES := $(shell find crates -path '*/out' -prune -o -type f \( -name '*.rt' -o -name '*.antt' \) -print) crates.txt
 
+# The log has a verdict for each library too; the last one is the program's.
 build/%: $(SOURCES) | toolchain
 	@mkdir -p build
 	@echo "Proving and building $*; the first time takes some minutes (build/$*.log)"
-	@cd crates/$* && { rt run < /dev/null > ../../build/$*.log 2>&1 || true; } && grep -q '^logic=proved' ../../build/$*.log
+	@rm -f crates/$*/out/$*
+	@cd crates/$* && { rt run -- --version < /dev/null > ../../build/$*.log 2>&1 || true; }
+	@grep '^logic=' build/$*.log | tail -n 1 | grep -q '^logic=proved' && [ -x crates/$*/out/$* ] || { \
+		echo "$* is not proved: build/$*.log says why." >&2; exit 1; }
 	@cp crates/$*/out/$* $@
 
 # The program as it was built, or else as the toolchain runs it before its proofs.
@@ -26,6 +34,9 @@ demo: toolchain  ## Run the example script, and show what each of its lines does
 	@mkdir -p build
 	@[ -x build/reqkeyd ] || echo "Running reqkeyd before its proofs, about a minute (build/try.log); make proves and builds it first."
 	@examples/demo.py examples/first-path.script $(DEMO)
+
+quick: toolchain  ## Check what changed since the last time, over kept work, in minutes; no verdict
+	@tests/quick.py
 
 check: toolchain  ## Prove every crate from nothing and pass all tests; the last line counts them
 	@bash tests/check.sh
@@ -38,5 +49,5 @@ help:  ## List the targets
 
 toolchain:
 	@command -v rt > /dev/null || { \
-		echo "The Rattle toolchain is not here: its command rt has to be on the PATH (README.md, \"Toolchain\")." >&2; \
+		echo "The Rattle toolchain is not here: its command rt has to be on the PATH (README.md)." >&2; \
 		exit 1; }

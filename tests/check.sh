@@ -1,8 +1,8 @@
 #!/usr/bin/env bash
 # Runs the toolchain's gate, then each test program of this folder, and adds up what passed and failed.
 #
-# The gate proves every crate and its tests from nothing, tries the must-fail edits, runs the tests and the
-# programs. A test of this folder is an executable test_*.sh or test_*.py; its last line is `N passed, M failed`.
+# The gate proves every crate and its tests from nothing, tries the edits of crates/NAME/must-fail one by one, and runs the tests and
+# the programs. A test of this folder is an executable test_*.sh or test_*.py; its last line is `N passed, M failed`.
 set -uo pipefail
 cd "$(dirname "$0")/.."
 
@@ -35,5 +35,7 @@ count rt ci
 for test in tests/test_*; do
     [[ -x $test ]] && count "$test"
 done
+read -r user system < <(times | tail -n 1)
+echo "processor time: $user in programs, $system in the system"
 echo "$passed passed, $failed failed"
 [[ $failed -eq 0 ]]

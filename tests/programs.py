@@ -1,11 +1,15 @@
-"""The built `reqkeyd`, as LLVM makes it and as the toolchain's own compiler does, and the count of what passed on them."""
+"""The built `reqkeyd`, as LLVM makes it and as the toolchain's own compiler does, and the count of what passed on them.
+
+The folder PROGRAMS of the environment, where it is named, has the one program to be tried in their place (`make quick`).
+"""
+import os
 import pathlib
 import sys
 
 top = pathlib.Path(__file__).resolve().parent.parent
 out = top / "crates" / "reqkeyd" / "out"
 
-PROGRAMS = [out / "reqkeyd", out / "reqkeyd.by-rattle"]
+PROGRAMS = [top / os.environ["PROGRAMS"] / "reqkeyd"] if "PROGRAMS" in os.environ else [out / "reqkeyd", out / "reqkeyd.by-rattle"]
 
 
 def check_all(cases, fault):
