@@ -35,7 +35,9 @@ count rt ci
 for test in tests/test_*; do
     [[ -x $test ]] && count "$test"
 done
-read -r user system < <(times | tail -n 1)
-echo "processor time: $user in programs, $system in the system"
+used=$(mktemp)
+times > "$used"
+echo "processor time, in programs and in the system: $(tail -n 1 "$used")"
+rm -f "$used"
 echo "$passed passed, $failed failed"
 [[ $failed -eq 0 ]]
