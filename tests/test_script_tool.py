@@ -1,5 +1,7 @@
 #!/usr/bin/env python3
 """Tries tools/script.py: that its tables are those of docs/PROTOCOL.md, and that words and lines of a script say the same, both ways.
+
+Also holds each scenario of tests/replay together: its script and what has to come of it are what its words say.
 """
 import pathlib
 import random
@@ -204,9 +206,12 @@ def meaning(line):
 
 
 def scenarios():
-    """A scenario's script, and what has to come of it, have words that say the same."""
+    """What a scenario's words say is what is beside them, and what is beside them has words that say the same."""
     for folder in sorted((top / "tests" / "replay").iterdir()):
-        lines, came = ((folder / name).read_bytes() for name in ["script", "expected"])
+        words, lines, came = ((folder / name).read_bytes() for name in ["words", "script", "expected"])
+        made = f"what its words say (tools/script.py scenario tests/replay/{folder.name})"
+        count.same(f"{folder.name}: the script is {made}", script.write(words), lines)
+        count.same(f"{folder.name}: what is expected is {made}", script.answers(words), came)
         again = script.write(script.read(lines))
         count.same(f"{folder.name}: read and written", [*map(meaning, again.split(b"\n"))], [*map(meaning, lines.split(b"\n"))])
         count.same(f"{folder.name}: read and written again", script.answers(script.read(came)), came)
@@ -214,6 +219,7 @@ def scenarios():
 
 def calls():
     """The command: what it prints, and its status."""
+    first = top / "tests" / "replay" / "first_path"
     for words, given, status, output, errors in [
         ([], b"", 2, b"", b"usage: script.py write"),
         (["what"], b"", 2, b"", b"usage"),
@@ -223,6 +229,8 @@ def calls():
         (["write"], b"100 c1 READ 3\n", 0, b"100 bytes 1 000000050700000003\n", b""),
         (["read"], b"100 bytes 1 000000050700000003\n", 0, b"100 c1 READ 3\n", b""),
         (["read"], b"to 1 00000002030d\n", 0, b"  c1 <- EACCES (13)\n", b""),
+        (["write", first / "words"], b"", 0, (first / "script").read_bytes(), b""),
+        (["answers", first / "words"], b"", 0, (first / "expected").read_bytes(), b""),
         (["write"], b"100 accept 1\nc1 READ\n", 1, b"", b"script.py: line 2: the fields of READ: key i32\n"),
         (["write"], b"accept 1\n", 1, b"", b"script.py: line 1: "),
         (["write", "/nothing/there"], b"", 1, b"", b"script.py: "),
@@ -232,6 +240,13 @@ def calls():
         count.same(f"script.py {words}", got, (status, output, True, bool(errors)))
 
 
-for test in [tables, one_by_one, whole_texts, any_bytes, scenarios, calls]:
+def examples():
+    """The example is the first path."""
+    first = top / "tests" / "replay" / "first_path"
+    lines = [line for line in script.lines_of((top / "examples" / "first-path.script").read_bytes()) if not line.startswith("#")]
+    count.same("examples/first-path.script", lines, script.lines_of((first / "script").read_bytes()))
+
+
+for test in [tables, one_by_one, whole_texts, any_bytes, scenarios, calls, examples]:
     test()
 count.end()
