@@ -1,45 +1,118 @@
 #!/usr/bin/env python3
-"""Shows what a run of a script does with each line: the line on the left, what comes of it on the right.
+"""Shows a script in words, line by line: what happens on the left, what comes of it on the right.
 
 usage: demo.py SCRIPT COMMAND ..
 
-COMMAND reads a script and writes what comes of it, as `reqkeyd replay` does. A comment of the script is printed in words above the line
-that follows it.
+COMMAND reads a script from its standard input and writes what comes of it, as `reqkeyd replay` does. The comments of the script stand above
+the lines that follow them. The status is that of COMMAND; 1 where it did not run the script; 2 for a wrong command line.
 """
+import pathlib
+import signal
 import subprocess
 import sys
+import textwrap
 
-WIDTH = 60
-MARK = "?\n"
+sys.path.insert(0, str(pathlib.Path(__file__).resolve().parent.parent / "tools"))
+from script import ANSWER, is_conf, lines_of, read_answer, read_line
+
+LEFT = 46  # the columns of what happens
+WHOLE = 100  # the columns of a comment
+MARK = "?"
+LEGEND = """c1 is client 1, h3 the handler of key 3; a number in front is the moment in seconds, until another one stands there.
+What comes of a line stands beside it, with <- before a reply."""
+MEANS = {
+    "S1": "this is no line of a script, and is passed over",
+    "S2": "this can't happen now, and is passed over",
+    "C1": "it has fewer than five fields",
+    "C2": "its program is no absolute path",
+    "C3": "an argument is no macro",
+    "C4": "it has more than 8,192 bytes",
+    "C6": "it is no UTF-8, or has a zero byte",
+}
 
 
-def outputs(command, lines):
-    """What came of each line. A line that is none stands behind each, so that its fault tells where the next one begins."""
-    script = "".join(line + MARK for line in lines)
-    ran = subprocess.run(command, input=script, stdout=subprocess.PIPE, text=True)
-    found, number = [[]], 2
-    for line in ran.stdout.splitlines():
-        if line == f"fault {number} S1":
-            found.append([])
-            number += 2
+class Failed(Exception):
+    """The command did not run the script."""
+
+
+def run(command, lines, errors=None):
+    """What came of each line, and last at the end, as far as the script was run; and the status.
+
+    A mark stands behind each line in the copy that is run. It is none, and its fault tells where the next line begins. `errors` is where
+    the command's standard error goes.
+    """
+    copy = "".join(f"{line}\n{MARK}\n" for line in lines).encode("latin-1")
+    ran = subprocess.run(command, input=copy, stdout=subprocess.PIPE, stderr=errors)
+    came = [[]]
+    for answer in lines_of(ran.stdout):
+        if not ANSWER.fullmatch(answer):
+            raise Failed(f"{answer[:80]!r} comes of no script")
+        verb, number, *rest = answer.split(" ")
+        if verb == "fault" and int(number) == 2 * len(came):
+            came.append([])
+        elif verb == "fault":
+            came[-1].append(f"fault {(int(number) + 1) // 2} {rest[0]}")
         else:
-            found[-1].append(line)
-    if len(found) <= len(lines):
-        sys.exit(f"{' '.join(command)}: did not come to the end of the script")
-    return found
+            came[-1].append(answer)
+    refused = any(answer.startswith("conf ") for answer in came[-1])
+    if len(came) <= len(lines) and not refused:
+        raise Failed(f"it did not come to the end of the script, and its status was {ran.returncode}")
+    return came, ran.returncode
+
+
+def told(answer, lines):
+    """The words of what came, and what a code means."""
+    words = read_answer(answer)
+    verb, number, *rest = words.split(" ")
+    if verb == "fault":
+        return f"{words}: {MEANS[rest[0]]}"
+    if verb == "conf":
+        line = [at for at, line in enumerate(lines, 1) if is_conf(line)][int(number) - 1]
+        return f"{words}: line {line} of the script is refused, {MEANS[rest[0]]}. Here the run ends"
+    return words
+
+
+def show(number, left, right):
+    """The rows of a line: what happens, and beside it what came."""
+    row = f"{number:>4}  {left:<{LEFT}}"
+    beside = right and len(left) <= LEFT
+    print(f"{row}  {right[0]}" if beside else row.rstrip())
+    for words in right[1:] if beside else right:
+        print(f"{'':{LEFT + 8}}{words}")
+
+
+def show_all(lines, came):
+    """The rows of the lines that were run; comments as text."""
+    print(LEGEND)
+    moment, before = None, ""
+    for number, (line, answers) in enumerate(zip(lines, came), 1):
+        words, moment = read_line(line, moment)
+        right = [told(answer, lines) for answer in answers]
+        if line.startswith("#") and not right:
+            text = line[1:].strip().encode("latin-1").decode("utf-8", "replace")
+            print(*([] if before.startswith("#") else [""]), textwrap.fill(text, WHOLE), sep="\n")
+        elif words or right:
+            show(number, words.removeprefix("line "), right)
+        before = line
+    for answer in came[len(lines)] if len(came) > len(lines) else []:
+        show("", "(the end)", [told(answer, lines)])
 
 
 def main():
     if len(sys.argv) < 3:
-        sys.exit(__doc__.split("\n")[2])
-    with open(sys.argv[1]) as file:
-        lines = file.read().splitlines(keepends=True)
-    for line, new in zip(lines, outputs(sys.argv[2:], lines)):
-        if line.startswith("#"):
-            print("\n" + line[1:].strip())
-            continue
-        for left, right in zip([line.strip()] + [""] * len(new), new or [""]):
-            print(f"  {left:<{WIDTH}}{'| ' + right if right else ''}".rstrip())
+        print(__doc__.split("\n")[2], file=sys.stderr)
+        sys.exit(2)
+    path, *command = sys.argv[1:]
+    try:
+        lines = lines_of(pathlib.Path(path).read_bytes())
+        came, status = run(command, lines)
+    except (Failed, OSError) as failed:
+        sys.exit(f"demo.py: {' '.join(command)}: {failed}" if isinstance(failed, Failed) else f"demo.py: {failed}")
+    # whoever reads may have seen enough
+    signal.signal(signal.SIGPIPE, signal.SIG_DFL)
+    show_all(lines, came)
+    sys.exit(status)
 
 
-main()
+if __name__ == "__main__":
+    main()

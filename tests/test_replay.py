@@ -1,11 +1,17 @@
 #!/usr/bin/env python3
 """Runs each scenario of tests/replay through `reqkeyd replay`.
 
-A scenario is a folder with a script, what has to come of it, a line of purpose, and the status where that is not 0.
+A scenario is a folder: `words` says line by line what happens and what has to come of it (docs/SCRIPTS.md), `purpose` what it is for. Of the
+words `tools/script.py scenario` makes the `script` and what is `expected`, byte by byte. `status` is there where it is not 0.
 """
 import subprocess
+import sys
 
 from programs import check_all, top
+
+sys.path[:0] = [str(top / "examples"), str(top / "tools")]
+import demo
+from script import lines_of, steps_of
 
 
 def fault(program, script, folder):
@@ -25,11 +31,24 @@ def fault(program, script, folder):
     errors = b"reqkeyd: script\n" if status == 1 else b""
     if ran.stderr != errors:
         return f"on standard error: {ran.stderr!r}"
+    return misplaced(program, folder)
+
+
+def misplaced(program, folder):
+    """The first line of which other lines come than those under it in the words, or None."""
+    steps = steps_of((folder / "words").read_bytes())[1:]
+    came, _ = demo.run([program, "replay"], lines_of((folder / "script").read_bytes()), subprocess.DEVNULL)
+    came += [[]] * (len(steps) + 1 - len(came))
+    # what comes at the end stands under the last line
+    came[-2:] = [came[-2] + came[-1]]
+    for number, ((line, want), got) in enumerate(zip(steps, came), 1):
+        if got != want:
+            return f"of line {number}, {line[:80]!r}, comes {got}, not {want}"
     return None
 
 
 folders = sorted(path for path in (top / "tests" / "replay").iterdir() if path.is_dir())
 cases = [(folder.name, folder / "script", folder) for folder in folders]
-# the example is the first path with words
+# the example is the first path, with comments
 cases.append(("examples/first-path.script", top / "examples" / "first-path.script", top / "tests" / "replay" / "first_path"))
 check_all(cases, fault)

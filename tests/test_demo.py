@@ -1,0 +1,142 @@
+#!/usr/bin/env python3
+"""Tries examples/demo.py on scripts of every kind, with tests/fake_replay.py in place of the program."""
+import pathlib
+import subprocess
+import sys
+import tempfile
+
+top = pathlib.Path(__file__).resolve().parent.parent
+sys.path.insert(0, str(top / "tools"))
+import script
+from counted import Counted
+
+count = Counted()
+demo = top / "examples" / "demo.py"
+fake = top / "tests" / "fake_replay.py"
+
+FIRST_PATH = """
+A client connects.
+   2  100 accept 1
+
+It says who it is: user 1000, group 1000, no ring of its own, a new session ring. Its rings are
+none, none, 1 and 2.
+   4  c1 HELLO 1000 1000 0 0                          c1 <- rings 0 0 1 2
+
+It requests the key `a` of type `user`, with the callout `x`. There is none, so key 3 is under
+construction and its handler is started.
+   6  c1 REQUEST user a =x 0                          start 3 plain =/bin/handler =create =3 =1000 =1000 =0 =0 =1
+
+The handler runs.
+   8  started 3
+
+The handler assumes the authority over key 3. Done.
+  10  101 h3 ASSUME 3                                 h3 <- 0
+
+It gives key 3 its payload, `hi`. Done.
+  12  h3 INSTANTIATE 3 hi 0                           h3 <- 0
+
+It ends with status 0, and the client is told that its key is 3.
+  14  102 ended 3 exit 0                              c1 <- 3
+"""
+
+# The words of a script, what the demo shows of it below the legend, its status.
+SHOWN = [
+    ("", "", 0),
+    ("100 accept 1", "   1  100 accept 1\n", 0),
+    ("100 c1 READ 3\n  c1 <- E13", "   1  100 c1 READ 3                                   c1 <- EACCES (13)\n", 0),
+    (
+        "# one\n# two\n\n\n100 accept 1\n# three\nline what\n  fault S1\naccept 1\n  fault S2\n",
+        "\none\ntwo\n   5  100 accept 1\n\nthree\n"
+        "   7  what                                            fault 7 S1: this is no line of a script, and is passed over\n"
+        "   8  accept 1                                        fault 8 S2: this can't happen now, and is passed over\n",
+        0,
+    ),
+    (
+        "conf # x\nline what\n  fault S1\nconf create user * * bin/h\nnegative 9\n100 accept 1\n  conf 2 C2\n101 accept 2",
+        "   1  conf # x\n"
+        "   2  what                                            fault 2 S1: this is no line of a script, and is passed over\n"
+        "   3  conf create user * * bin/h\n"
+        "   4  negative 9\n"
+        "   5  100 accept 1                                    conf 2 C2: line 3 of the script is refused, its program is no absolute path."
+        " Here the run ends\n",
+        1,
+    ),
+    (
+        "100 h3 REQUEST user a_description_of_many_letters =x 0\n  start 4 piped =/bin/p\n  c1 <- bytes a*20\n",
+        "   1  100 h3 REQUEST user a_description_of_many_letters =x 0\n"
+        "                                                      start 4 piped =/bin/p\n"
+        "                                                      c1 <- bytes a*20\n",
+        0,
+    ),
+]
+
+# A command that is not as the program is, what is told of it, and the status.
+FAULTS = [
+    (["/nothing/there"], "No such file", 1),
+    (["false"], "did not come to the end of the script, and its status was 1", 1),
+    (["true"], "did not come to the end of the script, and its status was 0", 1),
+    (["echo", "fault 2 S1"], "did not come to the end of the script, and its status was 0", 1),
+    (["echo", "fault 2 S1\nwhat"], "'what' comes of no script", 1),
+]
+
+
+def shown(path, command):
+    """What the demo writes, its status, and its standard error."""
+    ran = subprocess.run([demo, path, *command], capture_output=True, text=True)
+    return ran.stdout, ran.returncode, ran.stderr
+
+
+def check(name, words, want, status):
+    """Shows the script of these words, where the fake says what comes of it."""
+    with tempfile.TemporaryDirectory() as room:
+        told, path = pathlib.Path(room) / "words", pathlib.Path(room) / "script"
+        told.write_text(words)
+        path.write_bytes(script.write(words.encode()))
+        output, ended, errors = shown(path, [sys.executable, fake, told])
+    legend, rows = output.split("before a reply.\n")
+    count.same(name, (rows, ended, errors), (want, status, ""))
+
+
+def at_the_end():
+    """A configuration that is refused when the script has ended: the program reads it at the end."""
+    with tempfile.TemporaryDirectory() as room:
+        path = pathlib.Path(room) / "script"
+        path.write_bytes(b"# x\nconf create user a *")
+        refuses = [sys.executable, "-c", "print('fault 2 S1\\nfault 4 S1\\nconf 1 C1'); exit(1)"]
+        output, status, _ = shown(path, refuses)
+    rows = "   2  conf create user a *\n      (the end)                                       conf 1 C1: line 2 of the script is refused"
+    count.same("refused at the end", (f"\nx\n{rows}, it has fewer than five fields. Here the run ends\n" in output, status), (True, 1))
+
+
+def scenarios():
+    """Every scenario: each line beside what its words say, by the numbers of its own script."""
+    for folder in sorted((top / "tests" / "replay").iterdir()):
+        output, status, errors = shown(folder / "script", [sys.executable, fake, folder / "words"])
+        wanted = int((folder / "status").read_text()) if (folder / "status").exists() else 0
+        rows = [row.strip() for row in output.split("\n")]
+        lacking = [line for line in script.lines_of((folder / "expected").read_bytes()) if not beside(rows, script.read_answer(line))]
+        count.same(folder.name, (lacking, status, errors), ([], wanted, ""))
+
+
+def beside(rows, words):
+    """Takes the rows up to the one that ends with these words, and tells whether there is one."""
+    while rows:
+        row = rows.pop(0)
+        if row.endswith(words) or f"{words}: " in row:
+            return True
+    return False
+
+
+for words, want, status in SHOWN:
+    check(words, words, want, status)
+example = top / "examples" / "first-path.script"
+output, status, errors = shown(example, [sys.executable, fake, top / "tests" / "replay" / "first_path" / "words"])
+count.same("the example", (output.split("before a reply.\n")[1], status, errors), (FIRST_PATH, 0, ""))
+at_the_end()
+scenarios()
+for command, told, status in FAULTS:
+    output, ended, errors = shown(example, command)
+    count.same(command, (output, ended, told in errors), ("", status, True))
+ran = subprocess.run([demo, "x"], capture_output=True, text=True)
+count.same("too few words", (ran.returncode, ran.stderr), (2, "usage: demo.py SCRIPT COMMAND ..\n"))
+count.end()
