@@ -201,8 +201,10 @@ def any_bytes():
 
 
 def meaning(line):
-    """A line without what changes nothing: the white space around its fields."""
-    return b" ".join(line.split())
+    """A line without what changes nothing: the white space around its fields, the case of digits, leading zeros of numbers."""
+    fields = line.lower().split()
+    numbers = 3 if fields[1:2] in ([b"bytes"], [b"out"]) else len(fields)
+    return [re.sub(b"^0+(?=[0-9]+$)", b"", text) for text in fields[:numbers]] + fields[numbers:]
 
 
 def scenarios():
