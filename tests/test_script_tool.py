@@ -243,10 +243,12 @@ def calls():
 
 
 def examples():
-    """The example is the first path."""
+    """The example is the first path, on the page of scripts too."""
     first = top / "tests" / "replay" / "first_path"
     lines = [line for line in script.lines_of((top / "examples" / "first-path.script").read_bytes()) if not line.startswith("#")]
     count.same("examples/first-path.script", lines, script.lines_of((first / "script").read_bytes()))
+    page = (top / "docs" / "SCRIPTS.md").read_text()
+    count.same("the example's words stand in docs/SCRIPTS.md", f"```\n{(first / 'words').read_text()}```\n" in page, True)
 
 
 for test in [tables, one_by_one, whole_texts, any_bytes, scenarios, calls, examples]:
