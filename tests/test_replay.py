@@ -36,6 +36,8 @@ def fault(program, script, folder):
 
 def misplaced(program, folder):
     """The first line of which other lines come than those under it in the words, or None."""
+    if not (folder / "words").exists():
+        return "it has no words"
     steps = steps_of((folder / "words").read_bytes())[1:]
     came, _ = demo.run([program, "replay"], lines_of((folder / "script").read_bytes()), subprocess.DEVNULL)
     came += [[]] * (len(steps) + 1 - len(came))

@@ -210,6 +210,9 @@ def meaning(line):
 def scenarios():
     """What a scenario's words say is what is beside them, and what is beside them has words that say the same."""
     for folder in sorted((top / "tests" / "replay").iterdir()):
+        if not (folder / "words").exists():
+            count.same(f"{folder.name} has words", False, True)
+            continue
         words, lines, came = ((folder / name).read_bytes() for name in ["words", "script", "expected"])
         made = f"what its words say (tools/script.py scenario tests/replay/{folder.name})"
         count.same(f"{folder.name}: the script is {made}", script.write(words), lines)
