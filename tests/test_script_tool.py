@@ -146,13 +146,13 @@ WRONG = [
 def tables():
     """The tables of the tool are those of the page."""
     page = (top / "docs" / "PROTOCOL.md").read_text().replace("`", "")
-    rows = [" ".join(row) for row in re.findall(r"^\| (\d+) \| ([A-Z]+) \| (.*?) \|$", page, re.MULTILINE)]
-    asks = [row for row in rows if not re.match(r"\d+ E[A-Z]+ \d", row)]
+    parts = {text.split("\n")[0]: text for text in page.split("\n## ")}
+    asks = [" ".join(row) for row in re.findall(r"^\| (\d+) \| ([A-Z]+) \| (.*?) \|$", parts["Asks"], re.MULTILINE)]
     count.same("the asks of docs/PROTOCOL.md", asks, messages.ASKS.strip().split("\n"))
-    errnos = {int(number): name for number, name in re.findall(r"\| (\d+) \| (E[A-Z]+) ", page)}
-    count.same("its errors", errnos, messages.ERRNOS)
-    replies = [(int(kind), name) for kind, name in re.findall(r"^\| (\d) \| ([A-Z][a-z]+) \|", page, re.MULTILINE)]
+    replies = [(int(kind), name) for kind, name in re.findall(r"^\| (\d) \| ([A-Z][a-z]+) \|", parts["Replies"], re.MULTILINE)]
     count.same("its replies", replies, [row[:2] for row in messages.REPLIES])
+    errnos = {int(number): name for number, name in re.findall(r"\| (\d+) \| (E[A-Z]+) ", parts["Replies"])}
+    count.same("its errors", errnos, messages.ERRNOS)
 
 
 def one_by_one():
