@@ -1,83 +1,30 @@
 -- The numbers of names stay in order where keys and rings change.
-use Rattle.std.proofs.Common.{◌≡◌, ◌⊎◌, ℕ, Bool, true, false, cond, not, List, [], ◌∷◌, refl, sym, ap, ◌∙◌, inl, inr, subst}
+use Rattle.std.proofs.Common.{◌≡◌, ◌⊎◌, ℕ, Bool, true, false, cond, List, [], ◌∷◌, refl, sym, ap, ◌∙◌, inl, inr, subst}
 use Rattle.std.specs.Prelude.{Option, Some, None, Result, Ok, Err, OnOk, OnErr, nat_eq, option_map, is_some}
-use Rattle.std.specs.Option.{option_map_or}
 use Rattle.std.specs.Ordering.{nat_cmp}
 use Rattle.std.specs.FinMap as map
-use Rattle.std.proofs.lemmas.Bool.{eqb-true, eq-eqb, both_ways}
-use Rattle.rk_table.specs.Maps.{changed_at, kept_where}
+use Rattle.std.proofs.lemmas.Bool.{eqb-true, both_ways}
+use Rattle.rk_table.specs.Maps.{changed_at}
 use Rattle.rk_keys.specs.declared.key.Key.{Key}
 use Rattle.rk_keys.specs.Known.{Known, Makes, IsNaming, without_key}
 use Rattle.rk_rings.specs.declared.kind.NewRing.{NewRing}
-use Rattle.rk_rings.specs.Numbered.{Numbered, Rings, HasEachNameOnce, is_held, linked, unlinked, links_with, new_ring, with_rings}
+use Rattle.rk_rings.specs.Numbered.{Numbered, Rings, is_held, linked, unlinked, new_ring, with_rings}
+use Rattle.rk_rings.proofs.Named.{new_or_there, left_there, no_link}
+use Rattle.rk_rings.proofs.Changed.{ring_there}
 use Rattle.rk_rings.proofs.Finds.{any_value, some_entry, entry_found}
 use Rattle.rk_core.specs.Kept.{IsKept}
-use Rattle.rk_machine.proofs.Gets.{get_inserted, get_removed, get_changed_at, get_kept_where}
+use Rattle.rk_machine.proofs.Gets.{get_inserted, get_removed, get_changed_at}
 
 -- what came of a call, whatever it answered
 pub either_way : {A B : Type 0} (r : Result A B) (P Q : Type 0) → OnOk r P → OnErr r Q → P ⊎ Q
 either_way (Ok x) P Q p q = inl p
 either_way (Err x) P Q p q = inr q
 
--- ---- where a link is put in
-
-kept_is : (n : ℕ) (o : Option ℕ) (m : ℕ) → cond (option_map_or (λ x. not (nat_eq x n)) o false) o None ≡ Some m → (o ≡ Some m) × (nat_eq m n ≡ false)
-kept_is n None m e = absurd (cc)
-kept_is n (Some x) m e = by_test (nat_eq x n) refl e
-  where
-    by_test : (b : Bool) → nat_eq x n ≡ b → cond (not b) (Some x) None ≡ Some m → (◌≡◌ {A = Option ℕ} (Some x) (Some m)) × (nat_eq m n ≡ false)
-    by_test true t e = absurd (cc)
-    by_test false t e = let same : x ≡ m = cc in (e, ap (λ y. nat_eq y n) (sym same) ∙ t)
-
--- a link is the new one, or was there and has another number
-link_is : (links : map.FinMap nat_cmp ℕ) (k n j m : ℕ) → map.get (map.insert (kept_where (λ j m. not (nat_eq m n)) links) k n) j ≡ Some m
-    → ((j ≡ k) × (m ≡ n)) ⊎ ((map.get links j ≡ Some m) × (nat_eq m n ≡ false))
-link_is links k n j m e = by_key (nat_eq k j) refl (sym (get_inserted (kept_where (λ j m. not (nat_eq m n)) links) k n j) ∙ e)
-  where
-    by_key : (b : Bool) → nat_eq k j ≡ b → cond b (Some n) (map.get (kept_where (λ j m. not (nat_eq m n)) links) j) ≡ Some m
-        → ((j ≡ k) × (m ≡ n)) ⊎ ((map.get links j ≡ Some m) × (nat_eq m n ≡ false))
-    by_key true t e = let same : m ≡ n = cc in inl (sym (eqb-true k j t), same)
-    by_key false t e = inr (kept_is n (map.get links j) m (sym (get_kept_where (λ j m. not (nat_eq m n)) links j) ∙ e))
-
-differs : (m n : ℕ) → nat_eq m n ≡ false → m ≡ n → ⊥
-differs m n t e = both_ways _ t (ap (λ x. nat_eq m x) (sym e) ∙ same_as m)
-  where
-    same_as : (m : ℕ) → nat_eq m m ≡ true
-    same_as m = eq-eqb m m refl
-
-once_put : (links : map.FinMap nat_cmp ℕ) (k n : ℕ) → HasEachNameOnce links → HasEachNameOnce (map.insert (kept_where (λ j m. not (nat_eq m n)) links) k n)
-once_put links k n once i j p a b = by_cases (link_is links k n i p a) (link_is links k n j p b)
-  where
-    by_cases : ((i ≡ k) × (p ≡ n)) ⊎ ((map.get links i ≡ Some p) × (nat_eq p n ≡ false)) → ((j ≡ k) × (p ≡ n)) ⊎ ((map.get links j ≡ Some p) × (nat_eq p n ≡ false)) → i ≡ j
-    by_cases (inl x) (inl y) = x.0 ∙ sym y.0
-    by_cases (inl x) (inr y) = absurd (differs p n y.1 x.1)
-    by_cases (inr x) (inl y) = absurd (differs p n x.1 y.1)
-    by_cases (inr x) (inr y) = once i j p x.0 y.0
-
-once_linked : (links : map.FinMap nat_cmp ℕ) (k n : ℕ) → HasEachNameOnce links → HasEachNameOnce (links_with k n links)
-once_linked links k n once =
-    elim (map.contains_key links k) as (λ b. HasEachNameOnce (cond b links (map.insert (kept_where (λ j m. not (nat_eq m n)) links) k n))) [
-      | true ↦ once
-      | false ↦ once_put links k n once
-    ]
-
-new_or_there : (links : map.FinMap nat_cmp ℕ) (k n j m : ℕ) → map.get (links_with k n links) j ≡ Some m → (map.get links j ≡ Some m) ⊎ ((j ≡ k) × (m ≡ n))
-new_or_there links k n j m e = by_test (map.contains_key links k) e
-  where
-    by_link : ((j ≡ k) × (m ≡ n)) ⊎ ((map.get links j ≡ Some m) × (nat_eq m n ≡ false)) → (map.get links j ≡ Some m) ⊎ ((j ≡ k) × (m ≡ n))
-    by_link (inl x) = inr x
-    by_link (inr x) = inl x.0
-
-    by_test : (b : Bool) → map.get (cond b links (map.insert (kept_where (λ j m. not (nat_eq m n)) links) k n)) j ≡ Some m → (map.get links j ≡ Some m) ⊎ ((j ≡ k) × (m ≡ n))
-    by_test true e = inl e
-    by_test false e = by_link (link_is links k n j m e)
-
 -- ---- one ring is changed
 
 -- a change of one ring that puts in no link but with the number of its key
 pub record IsFair (known : Known) (f : Numbered → Numbered) : Type 0 where
   pub numbers : (r : Numbered) (j m : ℕ) → map.get (f r).links j ≡ Some m → (map.get r.links j ≡ Some m) ⊎ (map.get known.numbers j ≡ Some m)
-  pub once : (r : Numbered) → HasEachNameOnce r.links → HasEachNameOnce (f r).links
 
 some_of : {A B : Type 0} (f : A → B) (o : Option A) (y : B) → option_map f o ≡ Some y → (x : A) × (o ≡ Some x) × (f x ≡ y)
 some_of f None y e = absurd (cc)
@@ -88,8 +35,6 @@ kept_changed known rings ring f fair h = record {
   numbered = λ q k n r there link.
       by_ring q (nat_eq ring q) r (λ old is e. by_link q k n old is (fair.numbers old k n (ap (λ (x : Numbered). map.get x.links k) e ∙ link))) (λ is. h.numbered q k n r is link)
       (sym (get_changed_at ring f rings q) ∙ there);
-  once = λ q r there.
-      by_ring q (nat_eq ring q) r (λ old is e. subst (λ (x : Numbered). HasEachNameOnce x.links) e (fair.once old (h.once q old is))) (λ is. h.once q r is) (sym (get_changed_at ring f rings q) ∙ there);
 }
   where
     by_ring : {P : Type 0} (q : ℕ) (b : Bool) (r : Numbered) → ((old : Numbered) → map.get rings q ≡ Some old → f old ≡ r → P) → (map.get rings q ≡ Some r → P)
@@ -104,25 +49,14 @@ kept_changed known rings ring f fair h = record {
 fair_link : (known : Known) (k n : ℕ) → map.get known.numbers k ≡ Some n → IsFair known (linked k n)
 fair_link known k n is = record {
   numbers = λ r j m e. by_link r j m (new_or_there r.links k n j m e);
-  once = λ r once. once_linked r.links k n once;
 }
   where
     by_link : (r : Numbered) (j m : ℕ) → (map.get r.links j ≡ Some m) ⊎ ((j ≡ k) × (m ≡ n)) → (map.get r.links j ≡ Some m) ⊎ (map.get known.numbers j ≡ Some m)
     by_link r j m (inl e) = inl e
     by_link r j m (inr e) = inr (ap (map.get known.numbers) e.0 ∙ is ∙ ap (λ (x : ℕ). Some x) (sym e.1))
 
-removed_is : (links : map.FinMap nat_cmp ℕ) (k j m : ℕ) → map.get (map.remove links k) j ≡ Some m → map.get links j ≡ Some m
-removed_is links k j m e = by_key (nat_eq k j) (sym (get_removed links k j) ∙ e)
-  where
-    by_key : (b : Bool) → cond b None (map.get links j) ≡ Some m → map.get links j ≡ Some m
-    by_key true e = absurd (cc)
-    by_key false e = e
-
 fair_unlink : (known : Known) (k : ℕ) → IsFair known (unlinked k)
-fair_unlink known k = record {
-  numbers = λ r j m e. inl (removed_is r.links k j m e);
-  once = λ r once i j n a b. once i j n (removed_is r.links k i n a) (removed_is r.links k j n b);
-}
+fair_unlink known k = record { numbers = λ r j m e. inl (left_there r.links k j m e) }
 
 pub kept_link : (known : Known) (rings new : Rings) (ring k n : ℕ) → map.get known.numbers k ≡ Some n → (new ≡ changed_at ring (linked k n) rings) ⊎ (new ≡ rings) → IsKept known rings → IsKept known new
 kept_link known rings new ring k n is (inl e) h = subst (IsKept known) (sym e) (kept_changed known rings ring (linked k n) (fair_link known k n is) h)
@@ -134,27 +68,13 @@ kept_unlink known rings new ring k (inr e) h = subst (IsKept known) (sym e) h
 
 -- ---- a ring is dropped, rings are made
 
-ring_there : (rings : Rings) (ring q : ℕ) (r : Numbered) → map.get (map.remove rings ring) q ≡ Some r → map.get rings q ≡ Some r
-ring_there rings ring q r e = by_key (nat_eq ring q) (sym (get_removed rings ring q) ∙ e)
-  where
-    by_key : (b : Bool) → cond b None (map.get rings q) ≡ Some r → map.get rings q ≡ Some r
-    by_key true e = absurd (cc)
-    by_key false e = e
-
 pub kept_drop : (known : Known) (rings new : Rings) (ring : ℕ) → (new ≡ map.remove rings ring) ⊎ (new ≡ rings) → IsKept known rings → IsKept known new
-kept_drop known rings new ring (inl e) h = subst (IsKept known) (sym e) (record {
-  numbered = λ q k n r there link. h.numbered q k n r (ring_there rings ring q r there) link;
-  once = λ q r there. h.once q r (ring_there rings ring q r there);
-})
+kept_drop known rings new ring (inl e) h = subst (IsKept known) (sym e) (record { numbered = λ q k n r there link. h.numbered q k n r (ring_there rings ring q r there) link })
 kept_drop known rings new ring (inr e) h = subst (IsKept known) (sym e) h
-
-empty_links : (j n : ℕ) (links : map.FinMap nat_cmp ℕ) → links ≡ map.empty → map.get links j ≡ Some n → ⊥
-empty_links j n links is e = let h : None ≡ Some n = sym (ap (λ (m : map.FinMap nat_cmp ℕ). map.get m j) is ∙ map.get-empty nat_cmp j) ∙ e in absurd (cc)
 
 kept_one : (known : Known) (rings : Rings) (wanted : NewRing) → IsKept known rings → IsKept known (map.insert rings wanted.serial (new_ring wanted))
 kept_one known rings wanted h = record {
-  numbered = λ q k n r there link. by_key q (nat_eq wanted.serial q) r (λ e. absurd (empty_links k n r.links (ap (λ (x : Numbered). x.links) (sym e)) link)) (λ is. h.numbered q k n r is link) (sym (get_inserted rings wanted.serial (new_ring wanted) q) ∙ there);
-  once = λ q r there. by_key q (nat_eq wanted.serial q) r (λ e. λ i j n a b. absurd (empty_links i n r.links (ap (λ (x : Numbered). x.links) (sym e)) a)) (λ is. h.once q r is) (sym (get_inserted rings wanted.serial (new_ring wanted) q) ∙ there);
+  numbered = λ q k n r there link. by_key q (nat_eq wanted.serial q) r (λ e. absurd (no_link k n (ap (λ (x : Numbered). map.get x.links k) e ∙ link))) (λ is. h.numbered q k n r is link) (sym (get_inserted rings wanted.serial (new_ring wanted) q) ∙ there);
 }
   where
     by_key : {P : Type 0} (q : ℕ) (b : Bool) (r : Numbered) → (new_ring wanted ≡ r → P) → (map.get rings q ≡ Some r → P) → cond b (Some (new_ring wanted)) (map.get rings q) ≡ Some r → P
@@ -170,7 +90,6 @@ kept_rings known (one ∷ more) rings h = kept_rings known more (map.insert ring
 pub kept_numbers : (known new : Known) (rings : Rings) → new.numbers ≡ known.numbers → IsKept known rings → IsKept new rings
 kept_numbers known new rings e h = record {
   numbered = λ q k n r there link. ap (λ (m : map.FinMap nat_cmp ℕ). map.get m k) e ∙ h.numbered q k n r there link;
-  once = λ q r there. h.once q r there;
 }
 
 -- a link to a key, in some ring
@@ -181,7 +100,6 @@ held_by rings ring k n r there link =
 pub kept_forget : (known : Known) (rings : Rings) (k : ℕ) → is_held rings k ≡ false → IsKept known rings → IsKept (without_key k known) rings
 kept_forget known rings k free h = record {
   numbered = λ q j n r there link. get_removed known.numbers k j ∙ by_key q j n r there link (nat_eq k j) refl;
-  once = λ q r there. h.once q r there;
 }
   where
     by_key : (q j n : ℕ) (r : Numbered) → map.get rings q ≡ Some r → map.get r.links j ≡ Some n → (b : Bool) → nat_eq k j ≡ b → cond b None (map.get known.numbers j) ≡ Some n
@@ -193,7 +111,6 @@ pub kept_make : (known new : Known) (rings : Rings) (k : ℕ) (key : Key) → ma
 kept_make known new rings k key none makes h = record {
   numbered = λ q j n r there link.
       ap (λ (m : map.FinMap nat_cmp ℕ). map.get m j) makes.numbers ∙ get_inserted known.numbers k makes.number j ∙ by_key q j n r there link (nat_eq k j) refl;
-  once = λ q r there. h.once q r there;
 }
   where
     by_key : (q j n : ℕ) (r : Numbered) → map.get rings q ≡ Some r → map.get r.links j ≡ Some n → (b : Bool) → nat_eq k j ≡ b → cond b (Some makes.number) (map.get known.numbers j) ≡ Some n

@@ -139,9 +139,9 @@ last_false false b h = refl
 
 module _ (known : Known) (rings : Rings) (ring k n : ℕ) (naming : IsNaming known.keys known.numbers) (kept : IsKept known rings) (number : map.get known.numbers k ≡ Some n) where
   -- in the ring, where j has this number, and f is the one key of the number n
-  one_match : (r : Numbered) (f j m : ℕ) → map.get rings ring ≡ Some r → map.get r.links f ≡ Some n → map.get r.links j ≡ Some m
+  one_match : (r : Numbered) (f j m : ℕ) → map.get rings ring ≡ Some r → map.get r.links f ≡ Some n → ((i : ℕ) → map.get r.links i ≡ Some n → i ≡ f) → map.get r.links j ≡ Some m
       → ((not (is_linked (rings_seen rings) ring k) && is_linked (rings_seen rings) ring j) && is_rival known.keys k j) ≡ (nat_eq j f && not (nat_eq f k))
-  one_match r f j m there match link =
+  one_match r f j m there match sole link =
       (λ i. (not (is_linked (rings_seen rings) ring k) && linked_is rings ring j r (Some m) there link i) && gives_way_by known k n j m naming number (kept.numbered ring j m r there link) i)
       ∙ by_match (nat_eq j f) refl
     where
@@ -154,7 +154,7 @@ module _ (known : Known) (rings : Rings) (ring k n : ℕ) (naming : IsNaming kno
           free true e =
               let x = some_there (map.get r.links k) (sym (linked_is rings ring k r (map.get r.links k) there refl) ∙ e) in
               let same : Some x.0 ≡ Some n = sym (kept.numbered ring k x.0 r there x.1) ∙ number in
-              absurd (both_ways _ t (ap (λ q. nat_eq f q) (kept.once ring r there k f n (x.1 ∙ same) match) ∙ eq-eqb f f refl))
+              absurd (both_ways _ t (ap (λ q. nat_eq f q) (sole k (x.1 ∙ same)) ∙ eq-eqb f f refl))
 
       by_match : (b : Bool) → nat_eq j f ≡ b → ((not (is_linked (rings_seen rings) ring k) && true) && (not (nat_eq j k) && nat_eq m n)) ≡ (b && not (nat_eq f k))
       by_match true t =
@@ -164,7 +164,7 @@ module _ (known : Known) (rings : Rings) (ring k n : ℕ) (naming : IsNaming kno
           (λ i. (not (is_linked (rings_seen rings) ring k) && true) && (not (nat_eq (e i) k) && (ap (λ x. nat_eq x n) mn ∙ eq-eqb n n refl) i)) ∙ self_or_not (nat_eq f k) refl
       by_match false t =
           last_false (not (is_linked (rings_seen rings) ring k) && true) (not (nat_eq j k) && nat_eq m n)
-          (last_false (not (nat_eq j k)) (nat_eq m n) (ne_eqb m n (λ e. both_ways _ t (eq-eqb j f (kept.once ring r there j f n (link ∙ ap (λ (x : ℕ). Some x) e) match)))))
+          (last_false (not (nat_eq j k)) (nat_eq m n) (ne_eqb m n (λ e. both_ways _ t (eq-eqb j f (sole j (link ∙ ap (λ (x : ℕ). Some x) e))))))
 
   -- what is found by the number is what gives way, where it is another key
   pub rival_seen : (found : Option ℕ) → IsMatch rings n (Some ring) found → (j : ℕ)
@@ -176,7 +176,7 @@ module _ (known : Known) (rings : Rings) (ring k n : ℕ) (naming : IsNaming kno
       by_link None is =
           both_false (not (is_linked (rings_seen rings) ring k)) (is_linked (rings_seen rings) ring j) (is_rival known.keys k j) (linked_is rings ring j h.0 None h.1 is)
           ∙ ap (λ b. b && not (nat_eq f k)) (sym (ne_eqb j f (λ e. let no : None ≡ Some n = sym is ∙ ap (map.get h.0.links) e ∙ h.2 in absurd (cc))))
-      by_link (Some m) is = one_match h.0 f j m h.1 h.2 is
+      by_link (Some m) is = one_match h.0 f j m h.1 h.2 h.3 is
   rival_seen None h j = by_ring (map.get rings ring) refl
     where
       by_link : (r : Numbered) → map.get rings ring ≡ Some r → (o : Option ℕ) → map.get r.links j ≡ o

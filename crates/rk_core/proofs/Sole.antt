@@ -49,9 +49,9 @@ module _ (known : Known) (rings : Rings) (q : Query) (naming : IsNaming known.ke
     none_sole none None = refl
     none_sole none (Some ring) = λ p k. to_world p ring k ∙ last_false (is_linked (rings_seen rings) ring k) (passes p k) (no_name none p k)
 
-    found_at : (n : ℕ) → IsNameOf known q.typ q.description (Some n) → (ring f : ℕ) (r : Numbered) → map.get rings ring ≡ Some r → map.get r.links f ≡ Some n
+    found_at : (n : ℕ) → IsNameOf known q.typ q.description (Some n) → (ring f : ℕ) (r : Numbered) → map.get rings ring ≡ Some r → map.get r.links f ≡ Some n → ((j : ℕ) → map.get r.links j ≡ Some n → j ≡ f)
         → (kf : Key) → map.get known.keys f ≡ Some kf → (p : Standing → Bool) (k : ℕ) → (is_linked (rings_seen rings) ring k && passes p k) ≡ (nat_eq k f && p (standing_of kf q.now))
-    found_at n names ring f r there match kf is p k = by_link (map.get r.links k) refl
+    found_at n names ring f r there match sole kf is p k = by_link (map.get r.links k) refl
       where
         by_key : (b : Bool) → nat_eq k f ≡ b → (m : ℕ) → map.get r.links k ≡ Some m → (key : Key) → map.get known.keys k ≡ Some key → (nat_eq m n && p (standing_of key q.now)) ≡ (b && p (standing_of kf q.now))
         by_key true t m link key there_is =
@@ -62,7 +62,7 @@ module _ (known : Known) (rings : Rings) (q : Query) (naming : IsNaming known.ke
             let one : key ≡ kf = cc in
             λ i. (ap (λ x. nat_eq x n) mn ∙ eq-eqb n n refl) i && p (standing_of (one i) q.now)
         by_key false t m link key there_is =
-            ap (λ b. b && p (standing_of key q.now)) (ne_eqb m n (λ e. both_ways _ t (eq-eqb k f (kept.once ring r there k f n (link ∙ ap (λ (x : ℕ). Some x) e) match))))
+            ap (λ b. b && p (standing_of key q.now)) (ne_eqb m n (λ e. both_ways _ t (eq-eqb k f (sole k (link ∙ ap (λ (x : ℕ). Some x) e)))))
 
         by_link : (o : Option ℕ) → map.get r.links k ≡ o → (is_linked (rings_seen rings) ring k && passes p k) ≡ (nat_eq k f && p (standing_of kf q.now))
         by_link None link =
@@ -80,7 +80,7 @@ module _ (known : Known) (rings : Rings) (q : Query) (naming : IsNaming known.ke
         let number : map.get known.numbers f ≡ Some n = kept.numbered ring f n h.0 h.1 h.2 in
         let kf = key_of known f n naming number in
         λ p k.
-        to_world p ring k ∙ found_at n names ring f h.0 h.1 h.2 kf.0 kf.1 p k
+        to_world p ring k ∙ found_at n names ring f h.0 h.1 h.2 h.3 kf.0 kf.1 p k
         ∙ ap (λ o. option_map_or (λ (one : Match). nat_eq k one.key && p one.standing) (option_map (λ (key : Key). record { key = f; standing = standing_of key q.now }) o) false) (sym kf.1)
     found_sole n names (Some ring) None h = λ p k. to_world p ring k ∙ by_ring p k (map.get rings ring) refl
       where

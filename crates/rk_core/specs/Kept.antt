@@ -2,7 +2,7 @@
 use Rattle.std.specs.Prelude.{◌≡◌, ℕ, Some}
 use Rattle.std.specs.FinMap as map
 use Rattle.rk_keys.specs.Known.{Known}
-use Rattle.rk_rings.specs.Numbered.{Numbered, Rings, rings_seen, HasEachNameOnce}
+use Rattle.rk_rings.specs.Numbered.{Numbered, Rings, rings_seen}
 use Rattle.rk_auth.specs.Sessions.{Sessions}
 use Rattle.rk_machine.specs.World.{World}
 
@@ -10,7 +10,6 @@ use Rattle.rk_machine.specs.World.{World}
 abbrev pub world_of : ℕ → Known → Rings → Sessions → World
 world_of negative known rings sessions = record { negative = negative; keys = known.keys; rings = rings_seen rings; serials = known.serials; sessions = sessions }
 
--- each link has the number of its key's name, and no ring has two links of one number
+-- each link has the number of its key's name
 pub record IsKept (known : Known) (rings : Rings) : Type 0 where
   pub numbered : (ring k n : ℕ) (r : Numbered) → map.get rings ring ≡ Some r → map.get r.links k ≡ Some n → map.get known.numbers k ≡ Some n
-  pub once : (ring : ℕ) (r : Numbered) → map.get rings ring ≡ Some r → HasEachNameOnce r.links

@@ -1,14 +1,16 @@
 -- Rings that are made one after the other.
-use Rattle.std.proofs.Common.{◌≡◌, ℕ, ◌+◌, ◌<◌, ◌≤◌, cond, List, [], ◌∷◌, length, refl, ap, sym, ◌∙◌, subst, arith}
+use Rattle.std.proofs.Common.{◌≡◌, ℕ, ◌+◌, ◌<◌, ◌≤◌, Bool, true, false, cond, List, [], ◌∷◌, length, refl, ap, sym, ◌∙◌, subst, arith}
 use Rattle.std.specs.Prelude.{Some, None, is_some}
 use Rattle.std.specs.Prelude.{map as list_map}
+use Rattle.std.specs.Ordering.{nat_cmp, eq_by_cmp}
 use Rattle.std.specs.Cmp.{nat_cmp_total}
 use Rattle.std.specs.FinMap.{get, insert, len, len-insert, get-insert}
 use Rattle.std.proofs.lemmas.Bool.{ne_eqb}
 use Rattle.rk_table.proofs.Entries.{tie}
 use Rattle.rk_rings.specs.declared.kind.NewRing.{NewRing}
-use Rattle.rk_rings.specs.Numbered.{Numbered, Rings, new_ring, with_rings, AreNew, AreSerials}
+use Rattle.rk_rings.specs.Numbered.{Numbered, Rings, new_ring, with_rings, AreNew, AreSerials, HasEachNameOnce, HaveEachNameOnce}
 use Rattle.rk_rings.specs.Making.{with_entries, HasEachNew}
+use Rattle.rk_rings.proofs.Named.{once_empty}
 use Rattle.rk_rings.proofs.Changed.{AreRows}
 
 -- ---- the entries that are left to put in
@@ -54,8 +56,19 @@ put_new wanted items m n e same h = subst (HasEachNew items) (sym same) (subst (
 pub put_made : (wanted : List NewRing) (items : List (ℕ × Numbered)) (m n w : Rings) → items ≡ list_map (λ w. (w.serial, new_ring w)) wanted → n ≡ m → w ≡ with_entries items n → w ≡ with_rings wanted m
 put_made wanted items m n w e same is = is ∙ ap (with_entries items) same ∙ ap (λ es. with_entries es m) e ∙ entries_made wanted m
 
-pub rows_made : (wanted : List NewRing) (m w : Rings) → w ≡ with_rings wanted m → AreNew wanted m → len m + length wanted ≤ 1024 → AreSerials w → AreRows w
-rows_made wanted m w is new room all = (omega (arith, ap len is, len-with_rings wanted m new, room), all)
+once-insert : (m : Rings) (wanted : NewRing) → HaveEachNameOnce m → HaveEachNameOnce (insert m wanted.serial (new_ring wanted))
+once-insert m wanted once q r there = by_key (eq_by_cmp nat_cmp q wanted.serial) (sym (get-insert nat_cmp_total m wanted.serial (new_ring wanted) q) ∙ there)
+  where
+    by_key : (b : Bool) → cond b (Some (new_ring wanted)) (get m q) ≡ Some r → HasEachNameOnce r.links
+    by_key true e = let is : new_ring wanted ≡ r = cc in subst (λ (x : Numbered). HasEachNameOnce x.links) is once_empty
+    by_key false e = once q r e
+
+once-with_rings : (wanted : List NewRing) (m : Rings) → HaveEachNameOnce m → HaveEachNameOnce (with_rings wanted m)
+once-with_rings [] m once = once
+once-with_rings (w ∷ ws) m once = once-with_rings ws (insert m w.serial (new_ring w)) (once-insert m w once)
+
+pub rows_made : (wanted : List NewRing) (m w : Rings) → w ≡ with_rings wanted m → AreNew wanted m → len m + length wanted ≤ 1024 → AreSerials w → HaveEachNameOnce m → AreRows w
+rows_made wanted m w is new room all once = (omega (arith, ap len is, len-with_rings wanted m new, room), all, subst HaveEachNameOnce (sym is) (once-with_rings wanted m once))
 
 -- ---- serials that are new and rise
 

@@ -40,6 +40,10 @@ rings_seen rings = map.from_entries (list_map (λ e. (e.0, ring_seen e.1)) (map.
 abbrev pub HasEachNameOnce : map.FinMap nat_cmp ℕ → Type 0
 HasEachNameOnce links = (j k n : ℕ) → map.get links j ≡ Some n → map.get links k ≡ Some n → j ≡ k
 
+-- nor in any other ring
+abbrev pub HaveEachNameOnce : Rings → Type 0
+HaveEachNameOnce rings = (ring : ℕ) (r : Numbered) → map.get rings ring ≡ Some r → HasEachNameOnce r.links
+
 -- each number under which something stands is a serial
 abbrev pub AreSerials : {V : Type 0} → map.FinMap nat_cmp V → Type 0
 AreSerials m = (k : ℕ) → map.contains_key m k ≡ true → serial_of k ≡ Some k
@@ -65,11 +69,12 @@ is_full name r = nat_le 256 (map.len r.links) && not (option_map_or (has_number 
 abbrev pub is_full_at : Rings → ℕ → Option ℕ → Bool
 is_full_at rings ring name = option_map_or (is_full name) (map.get rings ring) false
 
--- the key of that name in a ring, if there is one
+-- the one key of that name in a ring, if there is one
 abbrev pub IsMatch : Rings → ℕ → Option ℕ → Option ℕ → Type 0
 IsMatch rings n None found = found ≡ None
 IsMatch rings n (Some ring) None = (r : Numbered) → map.get rings ring ≡ Some r → (k : ℕ) → ¬ (map.get r.links k ≡ Some n)
-IsMatch rings n (Some ring) (Some k) = (r : Numbered) × (map.get rings ring ≡ Some r) × (map.get r.links k ≡ Some n)
+IsMatch rings n (Some ring) (Some k) =
+    (r : Numbered) × (map.get rings ring ≡ Some r) × (map.get r.links k ≡ Some n) × ((j : ℕ) → map.get r.links j ≡ Some n → j ≡ k)
 
 -- this uid's user ring
 abbrev pub is_user_ring : ℕ → Numbered → Bool

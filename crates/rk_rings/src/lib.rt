@@ -11,8 +11,9 @@
 //! # What it promises
 //!
 //! Its clauses speak of one value: a finite map from serials to rings, each with its kind, its user and a
-//! finite map from keys to numbers. A link takes the place of another key of that name in the ring, and
-//! changes nothing for a key that is there. A ring has at most 256 links, there are at most 1,024 rings, and
+//! finite map from keys to numbers. No ring ever has two keys of one name, so the key of a name that a look-up
+//! finds is the only one there. A link takes the place of another key of that name in the ring, and changes
+//! nothing for a key that is there. A ring has at most 256 links, there are at most 1,024 rings, and
 //! `Full` comes exactly where a limit would be passed. Each refusal comes exactly in its case and changes
 //! nothing. Only `make` takes memory: it makes several rings or none, each with the room for its links, so no
 //! later call can want any.

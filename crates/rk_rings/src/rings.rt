@@ -16,7 +16,7 @@ use std::marker::Model;
 /// The most rings at a time.
 pub const MAX_RINGS: usize = 1_024;
 
-/// The live rings by their serials, each with room for its 256 links.
+/// The live rings by their serials, each with room for its 256 links, of which no two are to keys of one name.
 ///
 /// A call that is given a ring looks at 11 of 1,024 rings to find it, and at 9 of its 256 links to find a key; where it looks for a name,
 /// it walks over the links of that ring.
@@ -30,7 +30,7 @@ impl Model for Rings {
     ghost use Rattle.std.specs.Coded.{coded_ℕ};
     ghost use Rattle.std.specs.Ordering.{nat_cmp};
     ghost use Rattle.std.specs.FinMap as map;
-    ghost use Rattle.rk_rings.specs.Numbered.{Numbered, numbered_code, AreSerials};
+    ghost use Rattle.rk_rings.specs.Numbered.{Numbered, numbered_code, AreSerials, HaveEachNameOnce};
 
     ghost Value = { map.FinMap nat_cmp Numbered };
 
@@ -38,15 +38,15 @@ impl Model for Rings {
 
     ghost view = { λ r. r.rows.facts };
 
-    ghost invariant = { λ r. (map.len r.rows.facts ≤ 1024) × AreSerials r.rows.facts };
+    ghost invariant = { λ r. (map.len r.rows.facts ≤ 1024) × AreSerials r.rows.facts × HaveEachNameOnce r.rows.facts };
 }
 
 impl Rings {
-    ghost use Rattle.std.specs.Prelude.{◌≡◌, ◌≤◌, ◌<◌, ◌+◌, ◌↔◌, ◌⊎◌, ℕ, true, false, length, IsTrue, Some, None, Ok, Err, OnOk, OnErr, IfErr, MatchOption};
+    ghost use Rattle.std.specs.Prelude.{◌≡◌, ◌≤◌, ◌<◌, ◌+◌, ◌↔◌, ◌⊎◌, ℕ, true, false, length, IsTrue, Some, None, Ok, Err, OnOk, OnErr, IfSome, IfErr, MatchOption};
     ghost use Rattle.std.specs.FinMap as map;
     ghost use Rattle.std.specs.Option.{option_map, option_map_or, option_copied};
     ghost use Rattle.rk_table.specs.Maps.{changed_at};
-    ghost use Rattle.rk_rings.specs.Numbered.{Numbered, AreNew, with_rings, is_user_ring, is_full, is_full_at, holds, is_held, linked, unlinked, cleared, IsMatch};
+    ghost use Rattle.rk_rings.specs.Numbered.{Numbered, HasEachNameOnce, AreNew, with_rings, is_user_ring, is_full, is_full_at, holds, is_held, linked, unlinked, cleared, IsMatch};
 
     /// No ring. It takes no memory until `make`.
     pub fn new(alloc: Global) -> Rings
@@ -72,7 +72,8 @@ impl Rings {
     }
 
     fn row(&self, ring: Serial) -> Option<&Row>
-        ensures { option_copied result ≡ map.get self.now ring }
+        ensures row { option_copied result ≡ map.get self.now ring }
+        ensures once { IfSome result (λ r. HasEachNameOnce r.now.links) }
     {
         self.rows.get(ring.get())
     }
@@ -226,8 +227,8 @@ impl Rings {
         Ok(())
     }
 
-    /// The key of that name in the ring; `None` where there is none, or no such ring. It takes no memory, and
-    /// walks over the links of the ring.
+    /// The key of that name in the ring, which has no other; `None` where there is none, or no such ring. It takes no
+    /// memory, and walks over the links of the ring.
     pub fn find_in(&self, ring: Serial, name: NameNo) -> Option<Serial>
         ensures { IsMatch self.now name (Some ring) result }
     {

@@ -12,7 +12,7 @@ nothing : (rings : Rings) (ring : ℕ) (r : Numbered) → rings ≡ map.empty �
 nothing rings ring r is e = let h : None ≡ Some r = sym (ap (λ (m : Rings). map.get m ring) is ∙ map.get-empty nat_cmp ring) ∙ e in absurd (cc)
 
 empty_kept : (known : Known) (rings : Rings) → rings ≡ map.empty → IsKept known rings
-empty_kept known rings is = record { numbered = λ ring k n r e h. absurd (nothing rings ring r is e); once = λ ring r e. absurd (nothing rings ring r is e) }
+empty_kept known rings is = record { numbered = λ ring k n r e h. absurd (nothing rings ring r is e) }
 
 pub invariant_of-result : goal.invariant_of-result
 invariant_of-result c = empty_kept c.in_ok-keys.keys c.new-3.result c.new-3.ensures

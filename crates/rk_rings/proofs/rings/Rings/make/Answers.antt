@@ -1,5 +1,5 @@
 use Rattle.std.proofs.Common.{sym, subst, ◌∙◌, rules}
-use Rattle.rk_rings.specs.Numbered.{AreSerials}
+use Rattle.rk_rings.specs.Numbered.{AreSerials, HaveEachNameOnce}
 use Rattle.rk_rings.proofs.Made.{put_new, put_made, rows_made}
 use Rattle.rk_rings.proofs.rings.Rings.make.Goals as goal
 
@@ -12,4 +12,4 @@ returns-clause-ok c = put_made c.args.wanted.now c.in-Ok.rows.items c.args.self.
 pub invariant_of-self-2 : goal.invariant_of-self-2
 invariant_of-self-2 c =
     rows_made c.args.wanted.now c.args.self.now c.insert_rows.new.table.facts (returns-clause-ok c) c.requires (search rules)
-    (c.insert_rows.ensures.serials (subst AreSerials (sym c.reserve.ensures.facts) c.self.invariant.1))
+    (c.insert_rows.ensures.serials (subst AreSerials (sym c.reserve.ensures.facts) c.self.invariant.1)) (subst HaveEachNameOnce c.self.view_is c.self.invariant.2)
