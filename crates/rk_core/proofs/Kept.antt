@@ -69,12 +69,15 @@ kept_unlink known rings new ring k (inr e) h = subst (IsKept known) (sym e) h
 -- ---- a ring is dropped, rings are made
 
 pub kept_drop : (known : Known) (rings new : Rings) (ring : ℕ) → (new ≡ map.remove rings ring) ⊎ (new ≡ rings) → IsKept known rings → IsKept known new
-kept_drop known rings new ring (inl e) h = subst (IsKept known) (sym e) (record { numbered = λ q k n r there link. h.numbered q k n r (ring_there rings ring q r there) link })
+kept_drop known rings new ring (inl e) h =
+    subst (IsKept known) (sym e) (record { numbered = λ q k n r there link. h.numbered q k n r (ring_there rings ring q r there) link })
 kept_drop known rings new ring (inr e) h = subst (IsKept known) (sym e) h
 
 kept_one : (known : Known) (rings : Rings) (wanted : NewRing) → IsKept known rings → IsKept known (map.insert rings wanted.serial (new_ring wanted))
 kept_one known rings wanted h = record {
-  numbered = λ q k n r there link. by_key q (nat_eq wanted.serial q) r (λ e. absurd (no_link k n (ap (λ (x : Numbered). map.get x.links k) e ∙ link))) (λ is. h.numbered q k n r is link) (sym (get_inserted rings wanted.serial (new_ring wanted) q) ∙ there);
+  numbered = λ q k n r there link.
+      by_key q (nat_eq wanted.serial q) r (λ e. absurd (no_link k n (ap (λ (x : Numbered). map.get x.links k) e ∙ link))) (λ is. h.numbered q k n r is link)
+      (sym (get_inserted rings wanted.serial (new_ring wanted) q) ∙ there);
 }
   where
     by_key : {P : Type 0} (q : ℕ) (b : Bool) (r : Numbered) → (new_ring wanted ≡ r → P) → (map.get rings q ≡ Some r → P) → cond b (Some (new_ring wanted)) (map.get rings q) ≡ Some r → P

@@ -139,7 +139,8 @@ last_false false b h = refl
 
 module _ (known : Known) (rings : Rings) (ring k n : ℕ) (naming : IsNaming known.keys known.numbers) (kept : IsKept known rings) (number : map.get known.numbers k ≡ Some n) where
   -- in the ring, where j has this number, and f is the one key of the number n
-  one_match : (r : Numbered) (f j m : ℕ) → map.get rings ring ≡ Some r → map.get r.links f ≡ Some n → ((i : ℕ) → map.get r.links i ≡ Some n → i ≡ f) → map.get r.links j ≡ Some m
+  one_match : (r : Numbered) (f j m : ℕ) → map.get rings ring ≡ Some r → map.get r.links f ≡ Some n
+      → ((i : ℕ) → map.get r.links i ≡ Some n → i ≡ f) → map.get r.links j ≡ Some m
       → ((not (is_linked (rings_seen rings) ring k) && is_linked (rings_seen rings) ring j) && is_rival known.keys k j) ≡ (nat_eq j f && not (nat_eq f k))
   one_match r f j m there match sole link =
       (λ i. (not (is_linked (rings_seen rings) ring k) && linked_is rings ring j r (Some m) there link i) && gives_way_by known k n j m naming number (kept.numbered ring j m r there link) i)

@@ -49,7 +49,8 @@ module _ (known : Known) (rings : Rings) (q : Query) (naming : IsNaming known.ke
     none_sole none None = refl
     none_sole none (Some ring) = λ p k. to_world p ring k ∙ last_false (is_linked (rings_seen rings) ring k) (passes p k) (no_name none p k)
 
-    found_at : (n : ℕ) → IsNameOf known q.typ q.description (Some n) → (ring f : ℕ) (r : Numbered) → map.get rings ring ≡ Some r → map.get r.links f ≡ Some n → ((j : ℕ) → map.get r.links j ≡ Some n → j ≡ f)
+    found_at : (n : ℕ) → IsNameOf known q.typ q.description (Some n) → (ring f : ℕ) (r : Numbered) → map.get rings ring ≡ Some r → map.get r.links f ≡ Some n
+        → ((j : ℕ) → map.get r.links j ≡ Some n → j ≡ f)
         → (kf : Key) → map.get known.keys f ≡ Some kf → (p : Standing → Bool) (k : ℕ) → (is_linked (rings_seen rings) ring k && passes p k) ≡ (nat_eq k f && p (standing_of kf q.now))
     found_at n names ring f r there match sole kf is p k = by_link (map.get r.links k) refl
       where

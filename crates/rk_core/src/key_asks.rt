@@ -1,19 +1,19 @@
 //! The asks on keys: READ, DESCRIBE, CALLOUT, REVOKE, TIMEOUT.
-ghost use Rattle.std.specs.Prelude.{◌≡◌, ◌≤◌, ◌⊎◌, ℕ, None, Some, [], length, true, IfOk, MatchResult, MatchOption};
+ghost use Rattle.std.specs.Prelude.{◌≡◌, ◌≤◌, ◌⊎◌, None, Some, [], ◌∷◌, length, true, IfOk, MatchResult, MatchOption};
 ghost use Rattle.std.specs.Bool.{MatchBool};
 ghost use Rattle.std.specs.Option.{option_map_or};
 ghost use Rattle.std.specs.FinMap as map;
-ghost use Rattle.rk_names.specs.Numbers.{key_errno};
-ghost use Rattle.rk_keys.specs.Key.{key_passes, is_revoked};
+ghost use Rattle.rk_keys.specs.Key.{key_passes, is_building, is_revoked};
 ghost use Rattle.rk_keys.specs.Known.{marked, timed};
-ghost use Rattle.rk_machine.specs.KeyAsks.{serial_in, description_of, payload_by, state_word, TellsOf, TellsCallout, read_refusal, ReadsKey, Reads, Describes, Revokes, TimesOut, over_refusal, with_key_changed, revoke_refusal, timeout_refusal};
+ghost use Rattle.rk_machine.specs.Allowed.{first_of, refused_if};
+ghost use Rattle.rk_machine.specs.KeyAsks.{use_refusal, description_of, payload_by, state_word, TellsOf, TellsCallout, ReadsKey, Reads, Describes, Revokes, TimesOut, over_refusal, with_key_changed};
 
 use crate::tables::Tables;
 use itoa::Buffer;
-use rk_keys::{Condition, Key, Standing};
+use rk_keys::{Key, Standing};
 use rk_machine::{Answer, Asker, done};
 use rk_message::{Reply, ReplyBytes};
-use rk_names::{Errno, Moment, Serial, SessionId};
+use rk_names::{Errno, Moment, Payload, Serial, SessionId};
 use std::alloc::{AllocError, Global};
 
 /// A copy of the bytes as a reply, or want of memory.
@@ -31,17 +31,6 @@ fn told(alloc: Global, bytes: &[u8]) -> Answer
 }
 
 // ---- what is told of a key
-
-/// The payload of a Positive key, no byte of any other.
-fn payload(fact: &Key) -> &[u8]
-    ensures bytes { result.now ≡ payload_by fact.now.condition }
-    ensures short { length result.now ≤ 32767 }
-{
-    match &fact.condition {
-        Condition::Positive(payload) => payload.as_bytes(),
-        Condition::Building | Condition::Negative(_) => &[],
-    }
-}
 
 fn state_word(standing: Standing) -> &'static str
     ensures { result.now ≡ state_word standing }
@@ -84,34 +73,29 @@ impl Tables {
         }
     }
 
-    fn readable(&self, now: Moment, asker: &Asker, number: i32) -> Result<Serial, Errno>
-        ensures { MatchResult result (λ k. (serial_in number ≡ k) × (read_refusal self.now asker.now now number ≡ None)) (λ e. read_refusal self.now asker.now now number ≡ Some e) }
+    /// The payload of a key that is there and stands Positive. Its own error where it stands Revoked, Expired or Negative, and
+    /// EBUSY where it stands Building.
+    fn payload(&self, key: Serial, now: Moment) -> Result<&Payload, Errno>
+        requires { map.contains_key self.now.keys key ≡ true }
+        ensures { let refusal = first_of (use_refusal self.now key now ∷ refused_if (key_passes self.now.keys key is_building) Errno.Ebusy ∷ []) in
+            let payload = option_map_or (λ one. payload_by one.condition) (map.get self.now.keys key) [] in
+            MatchResult result (λ p. (refusal ≡ None) × (payload ≡ p.now)) (λ e. refusal ≡ Some e) }
     {
-        let key = self.own_key(asker, number)?;
-        if let Some(error) = self.use_refusal(key, now) {
-            return Err(error);
+        match self.keys.payload(key, now) {
+            Ok(payload) => Ok(payload),
+            Err(fault) => Err(fault.errno()),
         }
-        if self.is_building(key) {
-            return Err(Errno::Ebusy);
-        }
-        Ok(key)
     }
 
     fn read_key(&self, now: Moment, asker: &Asker, number: i32) -> Answer
         ensures { ReadsKey self.now now asker.now number result self.now }
     {
-        match self.readable(now, asker, number) {
+        match self.own_key(asker, number) {
             Err(error) => Answer::Refused(error),
-            Ok(key) => self.payload(key),
-        }
-    }
-
-    fn payload(&self, key: Serial) -> Answer
-        ensures { TellsOf (λ one. payload_by one.condition) self.now key result self.now }
-    {
-        match self.fact(key) {
-            Some(fact) => told(self.alloc, payload(fact)),
-            None => told(self.alloc, &[]),
+            Ok(key) => match self.payload(key, now) {
+                Err(error) => Answer::Refused(error),
+                Ok(payload) => told(self.alloc, payload.as_bytes()),
+            },
         }
     }
 

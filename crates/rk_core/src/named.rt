@@ -1,9 +1,9 @@
 //! The keys and rings that an ask names, and why it is refused.
-ghost use Rattle.std.specs.Prelude.{◌≡◌, None, Some, MatchResult, MatchOption, unwrap_or, true, ℕ};
+ghost use Rattle.std.specs.Prelude.{◌≡◌, None, Some, MatchResult, true};
 ghost use Rattle.std.specs.FinMap as map;
 ghost use Rattle.rk_machine.specs.declared.asker.Asker.{Asker};
 ghost use Rattle.rk_machine.specs.Asker.{asker_of, serial_named, ring_for, ring_refusal, ring_or_none_refusal, known_refusal, is_possessed, key_refusal};
-ghost use Rattle.rk_machine.specs.KeyAsks.{use_refusal, over_refusal};
+ghost use Rattle.rk_machine.specs.KeyAsks.{use_refusal};
 ghost use Rattle.rk_machine.specs.Request.{destination_of};
 
 use crate::tables::Tables;
@@ -40,7 +40,7 @@ impl Tables {
             SessionId::Handler(_) => {
                 let session = self.session(id)?;
                 let key = session.assumed?;
-                let authority = self.assumed_authority(id)?;
+                let authority = self.holder(id, key)?;
                 Some(Asker {
                     context: authority.context,
                     assumed: Some(key),
@@ -146,12 +146,5 @@ impl Tables {
         ensures { result ≡ use_refusal self.now key now }
     {
         Some(self.fact(key)?.standing(now).error()?.errno())
-    }
-
-    /// The error of a key that stands Revoked or Expired.
-    pub fn over_refusal(&self, key: Serial, now: Moment) -> Option<Errno>
-        ensures { result ≡ over_refusal self.now key now }
-    {
-        Some(self.fact(key)?.standing(now).over()?.errno())
     }
 }

@@ -1,16 +1,14 @@
 //! Keys, rings and sessions as one world: what an ask reads of it.
-ghost use Rattle.std.specs.Prelude.{◌≡◌, ◌≤◌, ◌+◌, ◌↔◌, IsTrue, IfOk, MatchOption, MatchResult, None, Some, is_some, if◌then◌else◌};
+ghost use Rattle.std.specs.Prelude.{◌≡◌, ◌≤◌, ◌+◌, ◌↔◌, IsTrue, IfOk, MatchResult, None, Some, if◌then◌else◌};
 ghost use Rattle.std.specs.Option.{option_copied, option_map};
 ghost use Rattle.std.specs.FinMap as map;
-ghost use Rattle.rk_names.specs.Settings.{setting_number};
-ghost use Rattle.rk_keys.specs.Key.{key_passes, is_building, is_revoked};
+ghost use Rattle.rk_keys.specs.Key.{key_passes, is_building};
 ghost use Rattle.rk_keys.specs.Known.{has_all_keys};
 ghost use Rattle.rk_keys.specs.Serials.{HasSerials};
 ghost use Rattle.rk_table.specs.Says.{Says};
 ghost use Rattle.rk_rings.specs.Ring.{is_linked, has_link};
 ghost use Rattle.rk_rings.specs.Places.{ring_at, is_numbered_live, default_ring};
-ghost use Rattle.rk_rings.specs.Faults.{fault_errno};
-ghost use Rattle.rk_auth.specs.Sessions.{session_of, wait_of, stage_of, unspent, assumed_authority};
+ghost use Rattle.rk_auth.specs.Sessions.{session_of, wait_of, stage_of, unspent, assumed_authority, owned_authority};
 ghost use Rattle.rk_auth.specs.Changes.{outcome_at, session_changed, with_context, with_setting, with_assumed};
 ghost use Rattle.rk_auth.specs.Circles.{Leads};
 ghost use Rattle.rk_auth.specs.Faults.{assume_fault};
@@ -111,6 +109,13 @@ impl Tables {
         self.auths.assumed_authority(id)
     }
 
+    /// The authority of a key, while it is unspent, where the session has assumed it.
+    pub fn holder(&self, id: &SessionId, key: Serial) -> Option<&Authority>
+        ensures { option_copied result ≡ owned_authority self.now.sessions id.now key }
+    {
+        self.auths.holder(id, key).ok()
+    }
+
     /// Whether a client is there.
     pub fn has_client(&self, client: u32) -> bool
         ensures { result ≡ map.contains_key self.now.sessions.clients client }
@@ -171,16 +176,6 @@ impl Tables {
     {
         match self.fact(key) {
             Some(fact) => fact.is_building(),
-            None => false,
-        }
-    }
-
-    /// Whether the key is marked as revoked.
-    pub fn is_revoked(&self, key: Serial) -> bool
-        ensures { result ≡ key_passes self.now.keys key is_revoked }
-    {
-        match self.fact(key) {
-            Some(fact) => fact.revoked,
             None => false,
         }
     }

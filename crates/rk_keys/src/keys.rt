@@ -1,12 +1,12 @@
 //! The keys by their serials.
-ghost use Rattle.std.specs.Prelude.{◌≡◌, ◌≤◌, ◌+◌, ◌↔◌, ◌⊎◌, ℕ, true, false, Some, None, Ok, Err, IsOk, OnOk, OnErr, IfOk, IfErr, IfSome, MatchOption, MatchResult, option_map, is_some};
+ghost use Rattle.std.specs.Prelude.{◌≡◌, ◌≤◌, ◌+◌, ◌↔◌, ◌⊎◌, ℕ, true, false, Some, None, Ok, Err, IsOk, OnErr, IfOk, IfErr, IfSome, MatchOption, MatchResult, option_map};
 ghost use Rattle.std.specs.Bool.{MatchBool};
 ghost use Rattle.std.specs.Option.{option_copied};
 ghost use Rattle.std.specs.FinMap as map;
 ghost use Rattle.std.specs.FinSet as set;
 ghost use Rattle.rk_table.specs.Says.{Says};
 ghost use Rattle.rk_keys.specs.Key.{standing_of, is_revoked, has_name, key_passes};
-ghost use Rattle.rk_keys.specs.Serials.{HasSerials, IsFresh, IsNext, Extends, with_drawn};
+ghost use Rattle.rk_keys.specs.Serials.{HasSerials, IsFresh, IsNext, Extends};
 ghost use Rattle.rk_keys.specs.Known.{Known, IsNaming, IsRefused, Makes, has_all_keys, new_key, concluded, marked, timed, with_key_changed, without_key};
 ghost use Rattle.rk_keys.specs.Names.{IsNumberFor};
 ghost use Rattle.rk_keys.specs.Faults.{use_fault, change_fault};
@@ -25,7 +25,7 @@ use std::marker::Model;
 
 /// All keys, and the serials of keys and rings. None but `new` and `make` takes memory. What asks for a key
 /// looks at as many keys as their number can be halved, and what asks for a name, `name`, `make` and `forget`, at the square of that;
-/// `is_full` halves the users; `left`, `draw`, `serials` and `set_serials` take the same time always.
+/// `is_full` halves the users; `left`, `serials` and `set_serials` take the same time always.
 #[derive(Drop)]
 pub struct Keys {
     facts: Table<Key>,
@@ -127,16 +127,6 @@ impl Keys {
         ensures { Says result (HasSerials self.now.serials count) }
     {
         self.serials.left(count)
-    }
-
-    /// Draws the least unused serial, for a ring. `None` exactly where none is left, and then nothing
-    /// changes.
-    pub fn draw(&mut self) -> Option<Serial>
-        ensures cases { MatchOption result (¬ (HasSerials self.old.serials 1) × (self.new ≡ self.old)) (λ k. IsNext self.old.serials k × (self.new ≡ record self.old { serials = with_drawn k self.old.serials })) }
-        ensures fresh { IfSome result (IsFresh self.old.serials) }
-        ensures left { (n : ℕ) → HasSerials self.old.serials (n + 1) → HasSerials self.new.serials n }
-    {
-        self.serials.draw()
     }
 
     /// The serials as they stand, to draw from beside these.

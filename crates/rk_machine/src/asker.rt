@@ -1,8 +1,8 @@
 //! Who acts in an ask.
 ghost use Rattle.std.specs.Prelude.{◌≡◌};
-ghost use Rattle.rk_machine.specs.Asker.{has_assumed, own_refusal};
+ghost use Rattle.rk_machine.specs.Asker.{has_assumed};
 
-use rk_names::{Context, Errno, Serial, Setting};
+use rk_names::{Context, Serial, Setting};
 
 /// Who acts in an ask: its context, the key whose authority is assumed and the requestor's ring, how deep a construction
 /// would be, and the setting for new keys.
@@ -23,16 +23,6 @@ impl Asker {
         match self.assumed {
             Some(assumed) => assumed == key,
             None => false,
-        }
-    }
-
-    /// Why it may not complete the key: it has not assumed its authority.
-    pub fn own_refusal(&self, key: Option<Serial>) -> Option<Errno>
-        ensures { result ≡ own_refusal self.now key }
-    {
-        match key {
-            Some(key) if self.has_assumed(key) => None,
-            _ => Some(Errno::Eperm),
         }
     }
 }

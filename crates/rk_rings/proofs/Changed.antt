@@ -60,7 +60,11 @@ module _ {X : Type 0} where
 abbrev pub AreRows : Rings → Type 0
 AreRows m = (len m ≤ 1024) × AreSerials m × HaveEachNameOnce m
 
-once-changed_at : (k : ℕ) (f : Numbered → Numbered) (m : Rings) → ((r : Numbered) → HasEachNameOnce r.links → HasEachNameOnce (f r).links) → HaveEachNameOnce m → HaveEachNameOnce (changed_at k f m)
+-- a change that leaves each name once
+abbrev pub KeepsOnce : (Numbered → Numbered) → Type 0
+KeepsOnce f = (r : Numbered) → HasEachNameOnce r.links → HasEachNameOnce (f r).links
+
+once-changed_at : (k : ℕ) (f : Numbered → Numbered) (m : Rings) → KeepsOnce f → HaveEachNameOnce m → HaveEachNameOnce (changed_at k f m)
 once-changed_at k f m fair once q r there = by_ring (eq_by_cmp nat_cmp q k) (get m q) refl (sym (get-changed_at k f m q) ∙ there)
   where
     by_ring : (b : Bool) (o : Option Numbered) → get m q ≡ o → cond b (option_map f o) o ≡ Some r → HasEachNameOnce r.links
@@ -70,7 +74,7 @@ once-changed_at k f m fair once q r there = by_ring (eq_by_cmp nat_cmp q k) (get
         let same : f old ≡ r = cc in
         subst (λ (x : Numbered). HasEachNameOnce x.links) same (fair old (once q old is))
 
-pub rows-changed_at : (k : ℕ) (f : Numbered → Numbered) (m n : Rings) → n ≡ changed_at k f m → ((r : Numbered) → HasEachNameOnce r.links → HasEachNameOnce (f r).links) → AreRows m → AreRows n
+pub rows-changed_at : (k : ℕ) (f : Numbered → Numbered) (m n : Rings) → n ≡ changed_at k f m → KeepsOnce f → AreRows m → AreRows n
 rows-changed_at k f m n is fair h =
     subst AreRows (sym is) (
       subst (λ x. x ≤ 1024) (sym (len-changed_at k f m)) h.0,

@@ -9,7 +9,7 @@ use Rattle.std.specs.declared.cmp.Ordering.TheVariants.{Less, Equal, Greater}
 use Rattle.std.specs.FinMap.{FinMap, get, entries, values, find, is_sorted, entries_sorted, get-entries}
 use Rattle.std.specs.FinMap.Entries.{below_all}
 use Rattle.std.proofs.lemmas.Bool.{both_ways, eqb-true, eq-eqb}
-use Rattle.rk_table.specs.Entries.{HasEachOnce}
+use Rattle.rk_table.proofs.Once.{HasEachOnce}
 use Rattle.rk_table.proofs.Entries.{tie}
 
 first : (a b : Bool) → T (a && b) → T a

@@ -67,8 +67,13 @@ once-with_rings : (wanted : List NewRing) (m : Rings) → HaveEachNameOnce m →
 once-with_rings [] m once = once
 once-with_rings (w ∷ ws) m once = once-with_rings ws (insert m w.serial (new_ring w)) (once-insert m w once)
 
-pub rows_made : (wanted : List NewRing) (m w : Rings) → w ≡ with_rings wanted m → AreNew wanted m → len m + length wanted ≤ 1024 → AreSerials w → HaveEachNameOnce m → AreRows w
-rows_made wanted m w is new room all once = (omega (arith, ap len is, len-with_rings wanted m new, room), all, subst HaveEachNameOnce (sym is) (once-with_rings wanted m once))
+pub rows_made : (wanted : List NewRing) (m w : Rings) → w ≡ with_rings wanted m → AreNew wanted m → len m + length wanted ≤ 1024 → AreSerials w
+    → HaveEachNameOnce m → AreRows w
+rows_made wanted m w is new room all once = (
+  omega (arith, ap len is, len-with_rings wanted m new, room),
+  all,
+  subst HaveEachNameOnce (sym is) (once-with_rings wanted m once),
+)
 
 -- ---- serials that are new and rise
 

@@ -39,7 +39,8 @@ new_or_there links k n j m e = by_test (map.contains_key links k) e
     by_link (inl x) = inr x
     by_link (inr x) = inl x.0
 
-    by_test : (b : Bool) → map.get (cond b links (map.insert (kept_where (λ j m. not (nat_eq m n)) links) k n)) j ≡ Some m → (map.get links j ≡ Some m) ⊎ ((j ≡ k) × (m ≡ n))
+    by_test : (b : Bool) → map.get (cond b links (map.insert (kept_where (λ j m. not (nat_eq m n)) links) k n)) j ≡ Some m
+        → (map.get links j ≡ Some m) ⊎ ((j ≡ k) × (m ≡ n))
     by_test true e = inl e
     by_test false e = by_link (link_is links k n j m e)
 
@@ -49,7 +50,8 @@ differs m n t e = both_ways _ t (ap (λ x. nat_eq m x) (sym e) ∙ eq-eqb m m re
 once_put : (links : map.FinMap nat_cmp ℕ) (k n : ℕ) → HasEachNameOnce links → HasEachNameOnce (map.insert (kept_where (λ j m. not (nat_eq m n)) links) k n)
 once_put links k n once i j p a b = by_cases (link_is links k n i p a) (link_is links k n j p b)
   where
-    by_cases : ((i ≡ k) × (p ≡ n)) ⊎ ((map.get links i ≡ Some p) × (nat_eq p n ≡ false)) → ((j ≡ k) × (p ≡ n)) ⊎ ((map.get links j ≡ Some p) × (nat_eq p n ≡ false)) → i ≡ j
+    by_cases : ((i ≡ k) × (p ≡ n)) ⊎ ((map.get links i ≡ Some p) × (nat_eq p n ≡ false))
+        → ((j ≡ k) × (p ≡ n)) ⊎ ((map.get links j ≡ Some p) × (nat_eq p n ≡ false)) → i ≡ j
     by_cases (inl x) (inl y) = x.0 ∙ sym y.0
     by_cases (inl x) (inr y) = absurd (differs p n y.1 x.1)
     by_cases (inr x) (inl y) = absurd (differs p n x.1 y.1)

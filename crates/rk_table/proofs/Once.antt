@@ -1,8 +1,7 @@
 -- Tables in which each key stands once.
 use Rattle.std.proofs.Common.{◌≡◌, ℕ, zero, suc, ◌+◌, ◌-◌, ◌≤◌, Bool, true, false, cond, ◌||◌, List, [], ◌∷◌, length, get_or, set, refl, ap, sym, ◌∙◌, subst, arith}
-use Rattle.std.specs.Prelude.{Option, Some, None, filter, is_some, count_by, option_map, MatchOption}
+use Rattle.std.specs.Prelude.{Option, Some, None, filter, is_some, option_map, MatchOption}
 use Rattle.std.specs.Prelude.{find as list_find}
-use Rattle.std.proofs.lemmas.List.Sums.{length-filter}
 use Rattle.std.specs.Prelude.{map as list_map}
 use Rattle.std.specs.List.{list_any}
 use Rattle.std.specs.Option.{option_map_or}
@@ -13,10 +12,15 @@ use Rattle.std.specs.FinMap.{FinMap, from_entries, get, find, empty, len, entrie
 use Rattle.std.specs.FinMap.Entries.{put, by_order}
 use Rattle.std.proofs.lemmas.Bool.{both_ways, eqb-true, eq-eqb}
 use Rattle.rk_table.specs.Maps.{kept_where}
-use Rattle.rk_table.specs.Entries.{HasEachOnce, AreAbove, KeysRise}
+use Rattle.rk_table.specs.Entries.{AreAbove, KeysRise}
 use Rattle.rk_table.proofs.Entries.{tie, get_in}
 use Rattle.rk_table.proofs.Rising.{not_in_above}
 use Rattle.rk_table.proofs.Found.{find_none, some_not_none}
+
+-- no key stands twice
+abbrev pub HasEachOnce : {V : Type 0} → List (ℕ × V) → Type 0
+HasEachOnce [] = Unit {0}
+HasEachOnce (e ∷ es) = (find nat_cmp e.0 es ≡ None) × HasEachOnce es
 
 or_swap : (a b c : Bool) → (a || (b || c)) ≡ (b || (a || c))
 or_swap true true c = refl
@@ -114,10 +118,6 @@ module _ {X : Type 0} where
       get_in (filter (λ e. p e.0 e.1) es) q ∙ find_kept p q es h
       ∙ ap (λ o. cond (option_map_or (p q) o false) o None) (sym (get_in es q))
       ∙ sym (get-retain_keys m test q (λ x t. ap test (sym (nat_cmp-IsAntisymmetric q x t)))))
-
-  -- how many entries pass the test
-  pub count_once : (p : ℕ → X → Bool) (es : List (ℕ × X)) → HasEachOnce es → len (kept_where p (from_entries es)) ≡ count_by (λ e. p e.0 e.1) es
-  count_once p es h = ap len (sym (kept_once p es h)) ∙ len_once (filter (λ e. p e.0 e.1) es) (once_filtered _ es h) ∙ length-filter (λ (e : ℕ × X). p e.0 e.1) es
 
   -- the places of a list of entries are those that it has memory for
   pub places_once : (es : List (ℕ × X)) (n capacity : ℕ) → KeysRise es → n ≡ length es → n ≤ capacity → len (from_entries {R = nat_cmp} es) + (capacity - n) ≡ capacity

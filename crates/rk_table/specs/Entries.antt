@@ -1,12 +1,5 @@
 -- Entries of a table, in the order of their keys.
-use Rattle.std.specs.Prelude.{◌≡◌, ◌<◌, ◌≤◌, ℕ, List, [], ◌∷◌, None, length, slice_index_or}
-use Rattle.std.specs.Ordering.{nat_cmp}
-use Rattle.std.specs.FinMap.{find}
-
--- no key stands twice
-abbrev pub HasEachOnce : {V : Type 0} → List (ℕ × V) → Type 0
-HasEachOnce [] = Unit {0}
-HasEachOnce (e ∷ es) = (find nat_cmp e.0 es ≡ None) × HasEachOnce es
+use Rattle.std.specs.Prelude.{◌≡◌, ◌<◌, ◌≤◌, ℕ, List, [], ◌∷◌, length, slice_index_or}
 
 -- each key is above k
 abbrev pub AreAbove : {V : Type 0} → ℕ → List (ℕ × V) → Type 0

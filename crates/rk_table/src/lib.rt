@@ -22,8 +22,8 @@
 //!
 //! `table` has the table, `places` the search. A plain vector of entries in the order of their keys, each key once, so that a search halves
 //! it: `get`, `contains` and `change` look at 15 entries where 20,000 are held. `insert` and `remove` search alike, and then the entries
-//! of greater keys move by one place, in one piece; keys that come rising, as serials do, are put at the end. `any`, `count`, `find`,
-//! `change_all` and `retain` walk over all entries. No contract says so, so that another index can take the place of the order.
+//! of greater keys move by one place, in one piece; keys that come rising, as serials do, are put at the end. `any`, `find`, `change_all`
+//! and `retain` walk over all entries. No contract says so, so that another index can take the place of the order.
 #![tactic(auto)]
 
 mod places;

@@ -1,5 +1,5 @@
 //! The table itself, and the changes and tests that its methods take.
-ghost use Rattle.std.specs.Prelude.{◌≡◌, ◌≤◌, ◌<◌, ◌-◌, filter, map as list_map, None, OnOk, OnErr, IfOk, IsOk, option_map, count_by, find as list_find, MatchOption, false, true, vec_len, vec_capacity};
+ghost use Rattle.std.specs.Prelude.{◌≡◌, ◌≤◌, ◌<◌, ◌-◌, filter, map as list_map, None, OnOk, OnErr, IfOk, IsOk, option_map, find as list_find, MatchOption, false, true, vec_len, vec_capacity};
 ghost use Rattle.std.specs.Ordering.{nat_cmp};
 ghost use Rattle.std.specs.Option.{option_copied, option_map_or};
 ghost use Rattle.std.specs.List.{list_any};
@@ -122,13 +122,6 @@ impl<V> Table<V> {
         any_entry(&self.entries, test)
     }
 
-    /// How many entries pass the test.
-    pub fn count<T: Test<V>>(&self, test: &T) -> usize
-        ensures { result ≡ map.len (kept_where (T.passes test.now) self.now.facts) }
-    {
-        count_entries(&self.entries, test)
-    }
-
     /// The key of an entry that passes the test; `None` where none does.
     pub fn find<T: Test<V>>(&self, test: &T) -> Option<u32>
         ensures { MatchOption result (list_any (λ e. T.passes test.now e.0 e.1) (map.entries self.now.facts) ≡ false) (λ k. (option_map_or (T.passes test.now k) (map.get self.now.facts k) false ≡ true) × (list_any (λ e. T.passes test.now e.0 e.1) (map.entries self.now.facts) ≡ true)) }
@@ -215,15 +208,6 @@ fn any_entry<V, T: Test<V>>(entries: &[(u32, V)], test: &T) -> bool
     ensures { result ≡ list_any (λ e. T.passes test.now e.0 e.1) entries.now }
 {
     entries.iter().any(|entry| test.passes(entry.0, &entry.1))
-}
-
-fn count_entries<V, T: Test<V>>(entries: &[(u32, V)], test: &T) -> usize
-    ensures { result ≡ count_by (λ e. T.passes test.now e.0 e.1) entries.now }
-{
-    entries
-        .iter()
-        .filter(|entry| test.passes(entry.0, &entry.1))
-        .count()
 }
 
 fn find_entry<V, T: Test<V>>(entries: &[(u32, V)], test: &T) -> Option<u32>

@@ -93,8 +93,6 @@ fn entries_are_tested(rt: HostRuntime) -> Result<(), Fail> {
     assert_eq!(rt; table.find(&Holds(92)), None);
     assert!(rt; table.any(&Holds(70)));
     assert!(rt; !table.any(&Holds(91)));
-    assert_eq!(rt; table.count(&Holds(70)), 1);
-    assert_eq!(rt; table.count(&Holds(91)), 0);
     Ok(())
 }
 

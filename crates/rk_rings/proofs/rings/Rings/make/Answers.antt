@@ -12,4 +12,5 @@ returns-clause-ok c = put_made c.args.wanted.now c.in-Ok.rows.items c.args.self.
 pub invariant_of-self-2 : goal.invariant_of-self-2
 invariant_of-self-2 c =
     rows_made c.args.wanted.now c.args.self.now c.insert_rows.new.table.facts (returns-clause-ok c) c.requires (search rules)
-    (c.insert_rows.ensures.serials (subst AreSerials (sym c.reserve.ensures.facts) c.self.invariant.1)) (subst HaveEachNameOnce c.self.view_is c.self.invariant.2)
+    (c.insert_rows.ensures.serials (subst AreSerials (sym c.reserve.ensures.facts) c.self.invariant.1))
+    (subst HaveEachNameOnce c.self.view_is c.self.invariant.2)

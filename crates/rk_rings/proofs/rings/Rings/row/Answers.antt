@@ -7,7 +7,8 @@ use Rattle.rk_rings.specs.declared.row.Row.{Row}
 use Rattle.rk_rings.specs.Numbered.{Rings, HasEachNameOnce, HaveEachNameOnce}
 use Rattle.rk_rings.proofs.rings.Rings.row.Goals as goal
 
-once_at : (rings : Rings) (ring : ℕ) (o : Option (Bor Row)) → option_copied o ≡ map.get rings ring → HaveEachNameOnce rings → IfSome o (λ r. HasEachNameOnce r.now.links)
+once_at : (rings : Rings) (ring : ℕ) (o : Option (Bor Row)) → option_copied o ≡ map.get rings ring → HaveEachNameOnce rings
+    → IfSome o (λ r. HasEachNameOnce r.now.links)
 once_at rings ring None is once = tt
 once_at rings ring (Some r) is once = once ring r.now (sym is)
 
