@@ -5,6 +5,7 @@ pub mod LinesLeft
 pub mod Cuts
 pub mod Numbers
 pub mod ServedLaws
+pub mod Turns
 pub mod SeatLists
 pub mod Seating
 pub mod Kept

@@ -14,8 +14,8 @@ use Rattle.rk_replay.specs.declared.happening.StartResult.TheVariants.{Started, 
 use Rattle.rk_replay.specs.declared.output.Output.{Output}
 use Rattle.rk_replay.specs.Left.{Left, Part, nothing}
 use Rattle.rk_replay.specs.Moves.{Answered, tells, starts_one, fails_to_start, Move, collects, refuses, asks, shuts_client, shuts_handler, Moves}
-use Rattle.rk_replay.specs.Begins.{is_misplaced, StepsBy, Begins}
-use Rattle.rk_replay.specs.Served.{Turn, steps_of, Acts, ServesBy, Serves, ServedFrom, ServesNext, ServedIsRun}
+use Rattle.rk_replay.specs.Begins.{StepsBy, Begins}
+use Rattle.rk_replay.specs.Served.{Turn, steps_of, ServesBy, Serves, ServedFrom, ServedIsRun}
 
 -- ---- one turn more
 
@@ -24,13 +24,6 @@ served_push conf [] run steps old mid new turn h s =
     (steps, [], new, ap (λ (es : List Past). es ++ steps) h.0 ∙ sym (append-nil steps), subst (λ (l : Left). Serves conf l turn steps new) h.1 s, (refl, refl))
 served_push conf (t ∷ ts) run steps old mid new turn h s =
     (h.0, h.1 ++ steps, h.2, ap (λ (es : List Past). es ++ steps) h.3 ∙ append_assoc h.0 h.1 steps, h.4, served_push conf ts h.1 steps h.2 mid new turn h.5 s)
-
-pub acts_next : (conf : List Line) (old : Left) (now : ℕ) (h : Happening) (outputs : List Output) (steps : List Past) (new : Left) → Acts conf old now h outputs steps new → ServesNext conf old (record { now = now; happening = h; outputs = Some outputs }) new
-acts_next conf old now h outputs steps new a from turns run served = (steps, served_push conf turns run steps _ old new (record { now = now; happening = h; outputs = Some outputs }) served a)
-
-pub passed_next : (conf : List Line) (old : Left) (now : ℕ) (h : Happening) → is_misplaced old.world h ≡ true → ServesNext conf old (record { now = now; happening = h; outputs = None }) old
-passed_next conf old now h misplaced from turns run served =
-    ([], served_push conf turns run [] _ old old (record { now = now; happening = h; outputs = None }) served (record { misplaced = misplaced; no_steps = refl; same = refl }))
 
 -- ---- a chain of steps, the first one first
 

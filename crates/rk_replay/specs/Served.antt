@@ -57,11 +57,12 @@ ServedFrom conf old (turn ∷ turns) run new =
 abbrev pub Served : List Line → Beginning → List Turn → List Past → Left → Type 0
 Served conf from turns run left = ServedFrom conf (nothing from) turns run left
 
--- Whatever served list left old, that list with this turn is served, and leaves new.
+-- Whatever served list left old, that list with this turn is served, and leaves new. Its steps with those of the turn, the newest first, are a
+-- run of the machine to the world that is left, and obey the laws of every run.
 abbrev pub ServesNext : List Line → Left → Turn → Left → Type 0
 ServesNext conf old turn new =
     (from : Beginning) (turns : List Turn) (run : List Past) → Served conf from turns run old →
-    (steps : List Past) × Served conf from (turns ++ turn ∷ []) (run ++ steps) new
+    (steps : List Past) × Served conf from (turns ++ turn ∷ []) (run ++ steps) new × ContinuesTo from (reverse (run ++ steps)) new.world
 
 -- The steps of a served list, the newest first, are a run of the machine to the world that it leaves, and obey the laws of every run.
 abbrev pub ServedIsRun : Type 0

@@ -7,9 +7,10 @@
 //!
 //! [`Replay::take`] takes one [`Happening`] at its moment. Whatever list of happenings was served before, that list with this one
 //! and with these outputs is served, too (`specs/Served.antt`): the own step of the happening, and then moves of sessions until
-//! none can move. A session that waits moves no more until it can collect. Of those that can, any may be next. The steps are a
-//! run of the machine that obeys the laws of every run ([`served_is_run`]). A happening whose client or handler is not at
-//! that point is refused, and changes nothing. After want of memory a replay answers that for good.
+//! none can move. A session that waits moves no more until it can collect. Of those that can, any may be next. The steps of that
+//! list and of this happening are a run of the machine that obeys the laws of every run: this stands on the contract of the call
+//! itself, and for any served list on that of [`served_is_run`]. A happening whose client or handler is not at that point is
+//! refused, and changes nothing. After want of memory a replay answers that for good.
 //!
 //! [`run_script`] reads a script, plays its lines and writes what comes of them: the lines of a served list for the happenings of what it
 //! read, with one line for each line of the script that changed nothing, and nothing else (`specs/Written.antt`). Lines before the first

@@ -58,6 +58,8 @@ impl Replay {
 
     /// Takes a happening in, at its moment, and returns what is put out for it.
     ///
+    /// Its steps go on with the run of the machine that led to the replay, and obey the laws of every run.
+    ///
     /// A misplaced happening is `Unknown`, and changes nothing. After want of memory it answers `NoMemory` for good, also to a
     /// misplaced happening.
     pub fn take(
@@ -66,7 +68,8 @@ impl Replay {
         now: Moment,
         happening: &Happening,
     ) -> Result<Outputs, TakeFault>
-        // Whatever served list left the replay, that list with this happening and these outputs is served, and leaves it so.
+        // Whatever served list left the replay, that list with this happening and these outputs is served, and leaves it so; the steps of
+        // that list and of this happening are a run of the machine that obeys the laws of every run.
         ensures served { IfSome (told result) (λ outputs. ServesNext self.old.conf self.old.left
             (record { now = now; happening = happening.now; outputs = outputs }) self.new.left) }
         ensures conf { self.new.conf ≡ self.old.conf }

@@ -1,6 +1,6 @@
 use Rattle.std.proofs.Common.{sym}
 use Rattle.rk_replay.specs.Desk.{left_of}
-use Rattle.rk_replay.proofs.ServedLaws.{passed_next, acts_next}
+use Rattle.rk_replay.proofs.Turns.{passed_next, acts_next}
 use Rattle.rk_replay.proofs.Kept.{acts_seated}
 use Rattle.rk_replay.proofs.replay.Replay.take.Goals as goal
 
