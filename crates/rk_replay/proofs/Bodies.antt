@@ -9,17 +9,19 @@ use Rattle.rk_replay.specs.declared.reading.Reading.{Reading}
 use Rattle.rk_replay.specs.declared.reading.Reading.TheVariants.{Blank, Conf, Negative, Happens, Wrong}
 use Rattle.rk_replay.specs.declared.transcript.LineFault.TheVariants.{NotALine}
 use Rattle.rk_replay.specs.Left.{Left, nothing}
-use Rattle.rk_replay.specs.Served.{Turn, Served}
+use Rattle.rk_replay.specs.Served.{Turn}
+use Rattle.rk_replay.specs.Order.{ServedInOrder}
 use Rattle.rk_replay.specs.Writing.{fault_line}
 use Rattle.rk_replay.specs.Script.{said_late, happenings_of}
 use Rattle.rk_replay.specs.Written.{turn_text, text_from, moment_of, outputs_in}
 use Rattle.rk_replay.specs.Playing.{Plays, PlaysAll}
+use Rattle.rk_replay.proofs.Orders.{in_order_push}
 
 -- the turns so far and the lines that are left give what all lines give
 pub record Played (conf : List Line) (from : Beginning) (first number : ℕ) (all rest : List Reading) (begun text : List ℕ) (left : Left) : Type 0 where
   pub turns : List Turn
   pub run : List Past
-  pub served : Served conf from turns run left
+  pub served : ServedInOrder conf from turns run left
   pub happenings : happenings_of (map said_late all) ≡ map moment_of turns ++ happenings_of (map said_late rest)
   pub text_is : (later : List (Option (List Output))) → begun ++ text_from first (map said_late all) (map outputs_in turns ++ later) ≡ text ++ text_from number (map said_late rest) later
 
@@ -44,7 +46,7 @@ module _ (conf : List Line) (from : Beginning) (first number : ℕ) (all rest : 
   passed r none same p e t = record {
     turns = p.turns;
     run = p.run;
-    served = subst (λ (l : Left). Served conf from p.turns p.run l) (sym e) p.served;
+    served = subst (λ (l : Left). ServedInOrder conf from p.turns p.run l) (sym e) p.served;
     happenings = p.happenings ∙ ap (λ (hs : List (ℕ × Happening)). map moment_of p.turns ++ hs) none;
     text_is = λ later. p.text_is later ∙ (ap (λ (bs : List ℕ). text ++ bs) (same later) ∙ ap (λ (bs : List ℕ). bs ++ text_from (number + 1) (map said_late rest) later) (sym t));
   }
@@ -56,7 +58,7 @@ module _ (conf : List Line) (from : Beginning) (first number : ℕ) (all rest : 
   refused r none same p e t = record {
     turns = p.turns;
     run = p.run;
-    served = subst (λ (l : Left). Served conf from p.turns p.run l) (sym e) p.served;
+    served = subst (λ (l : Left). ServedInOrder conf from p.turns p.run l) (sym e) p.served;
     happenings = p.happenings ∙ ap (λ (hs : List (ℕ × Happening)). map moment_of p.turns ++ hs) none;
     text_is = λ later. p.text_is later ∙ (ap (λ (bs : List ℕ). text ++ bs) (same later) ∙ (sym (append_assoc text (fault_line number NotALine) (text_from (number + 1) (map said_late rest) later)) ∙ ap (λ (bs : List ℕ). bs ++ text_from (number + 1) (map said_late rest) later) (sym t)));
   }
@@ -68,14 +70,13 @@ module _ (conf : List Line) (from : Beginning) (first number : ℕ) (all rest : 
   played_line Wrong p h = refused Wrong refl (λ told. refl) p h.0 h.1
   played_line (Happens now happening) p h =
       let turn : Turn = record { now = now; happening = happening; outputs = h.0 } in
-      let next = h.1 from p.turns p.run p.served in
       record {
         turns = p.turns ++ turn ∷ [];
-        run = p.run ++ next.0;
-        served = next.1;
+        run = p.run ++ h.1;
+        served = in_order_push conf p.turns p.run h.1 (nothing from) left new turn p.served h.2;
         happenings = p.happenings ∙ sym (map_push moment_of p.turns turn (happenings_of (map said_late rest)));
         text_is = λ later. ap (λ (os : List (Option (List Output))). begun ++ text_from first (map said_late all) os) (map_push outputs_in p.turns turn later)
-            ∙ (p.text_is (h.0 ∷ later) ∙ (sym (append_assoc text (turn_text number h.0) (text_from (number + 1) (map said_late rest) later)) ∙ ap (λ (bs : List ℕ). bs ++ text_from (number + 1) (map said_late rest) later) (sym h.2)));
+            ∙ (p.text_is (h.0 ∷ later) ∙ (sym (append_assoc text (turn_text number h.0) (text_from (number + 1) (map said_late rest) later)) ∙ ap (λ (bs : List ℕ). bs ++ text_from (number + 1) (map said_late rest) later) (sym h.3)));
       }
 
 pub played_all : (conf : List Line) (from : Beginning) (first number : ℕ) (all : List Reading) (begun text : List ℕ) (left : Left) → Played conf from first number all [] begun text left → PlaysAll conf from first all begun text

@@ -1,5 +1,5 @@
 -- What the calls of a desk do, out of what they found.
-use Rattle.std.proofs.Common.{◌≡◌, ◌⊎◌, ℕ, zero, suc, Bool, true, false, List, [], ◌∷◌, ◌++◌, refl, sym, ap, ◌∙◌, subst, append_assoc, inl, inr}
+use Rattle.std.proofs.Common.{◌≡◌, ◌⊎◌, ℕ, zero, suc, Bool, true, false, List, [], ◌∷◌, ◌++◌, refl, sym, ap, ◌∙◌, subst, inl, inr}
 use Rattle.std.proofs.lemmas.List.{append-nil}
 use Rattle.std.specs.Prelude.{Option, Some, IfSome, slice_get, slice_set}
 use Rattle.rk_names.specs.declared.numbers.SessionId.{SessionId}
@@ -22,34 +22,13 @@ use Rattle.rk_replay.specs.declared.seat.Place.{Place}
 use Rattle.rk_replay.specs.declared.seat.Place.TheVariants.{Talks, Starts, Pipes}
 use Rattle.rk_replay.specs.declared.seat.Seat.{Seat}
 use Rattle.rk_replay.specs.declared.stream.Message.TheVariants as message
-use Rattle.rk_replay.specs.Left.{Left, seat, without, Part, step, no_step, one_step, reply_to, replies_to}
+use Rattle.rk_replay.specs.Left.{Left, seat, without, step, no_step, one_step, reply_to, replies_to}
 use Rattle.rk_replay.specs.Commands.{IsCommand}
-use Rattle.rk_replay.specs.Moves.{is_start, Answered, tells, starts_one, fails_to_start, Move, collects, refuses, asks, shuts_client, shuts_handler, Moves, CannotMove}
-use Rattle.rk_replay.specs.Served.{outputs_of}
+use Rattle.rk_replay.specs.Moves.{is_start, Answered, tells, starts_one, fails_to_start, collects, refuses, asks, shuts_client, shuts_handler, CannotMove}
 use Rattle.rk_replay.specs.Places.{is_stream, is_open, IsNextAt, HasFaultAt, shut_place}
-use Rattle.rk_replay.specs.Desk.{MovesOne, MovesSome, AnswersOne, StartsNow, RestsAt}
+use Rattle.rk_replay.specs.Desk.{MovesOne, AnswersOne, StartsNow, RestsAt}
 use Rattle.rk_machine.proofs.Presence.{ready_waits}
 use Rattle.rk_replay.proofs.SeatLists.{not_false, some_seat}
-
--- ---- one more move
-
-outputs_push : (parts : List Part) (part : Part) → outputs_of (parts ++ part ∷ []) ≡ outputs_of parts ++ part.outputs
-outputs_push [] part = append-nil part.outputs
-outputs_push (p ∷ ps) part = ap (λ (xs : List Output). p.outputs ++ xs) (outputs_push ps part) ∙ sym (append_assoc p.outputs (outputs_of ps) part.outputs)
-
-moves_push : (conf : List Line) (now : ℕ) (parts : List Part) (old mid new : Left) (place : ℕ) (part : Part) → Moves conf now old parts mid → Move conf now mid place part new → Moves conf now old (parts ++ part ∷ []) new
-moves_push conf now [] old mid new place part same move = (place, new, subst (λ (l : Left). Move conf now l place part new) same move, refl)
-moves_push conf now (p ∷ ps) old mid new place part h move = (h.0, h.1, h.2, moves_push conf now ps h.1 mid new place part h.3 move)
-
-pub moves_none : (conf : List Line) (now : ℕ) (old : Left) (put : List Output) → MovesSome conf now old put old put
-moves_none conf now old put = record { parts = []; moves = refl; outputs = sym (append-nil put) }
-
-pub moves_more : (conf : List Line) (now : ℕ) (old mid new : Left) (put put' put'' : List Output) → MovesSome conf now old put mid put' → MovesOne conf now mid put' new put'' → MovesSome conf now old put new put''
-moves_more conf now old mid new put put' put'' some one = record {
-  parts = some.parts ++ one.part ∷ [];
-  moves = moves_push conf now some.parts old mid new one.place one.part some.moves one.move;
-  outputs = one.outputs ∙ ap (λ (xs : List Output). xs ++ one.part.outputs) some.outputs ∙ (append_assoc put (outputs_of some.parts) one.part.outputs ∙ ap (λ (xs : List Output). put ++ xs) (sym (outputs_push some.parts one.part)));
-}
 
 -- ---- one ask
 
@@ -123,9 +102,8 @@ not_ready w s none = by_test (is_ready w s) refl
 -- ---- one move
 
 module _ (conf : List Line) (now : ℕ) (old new : Left) (put put' : List Output) (i : ℕ) (who : SessionId) where
-  pub collects_one : (p : Place) → slice_get old.seats i ≡ Some (seat who p) → is_stream p ≡ true → is_ready old.world who ≡ true → (answer : Answer) → Step old.world now (Collect who) answer new.world → new.seats ≡ old.seats → put' ≡ put ++ replies_to who answer → MovesOne conf now old put new put'
+  pub collects_one : (p : Place) → slice_get old.seats i ≡ Some (seat who p) → is_stream p ≡ true → is_ready old.world who ≡ true → (answer : Answer) → Step old.world now (Collect who) answer new.world → new.seats ≡ old.seats → put' ≡ put ++ replies_to who answer → MovesOne conf now i old put new put'
   collects_one (Talks stream) at is ready answer step seats puts = record {
-    place = i;
     part = one_step now (Collect who) answer (replies_to who answer);
     move = collects (record { who = who; stream = stream; at = at; ready = ready; answer = answer; step = step; part_is = refl; seats = seats });
     outputs = puts;
@@ -133,9 +111,8 @@ module _ (conf : List Line) (now : ℕ) (old new : Left) (put put' : List Output
   collects_one (Starts piped subject) at is ready answer step seats puts = absurd (cc)
   collects_one (Pipes bytes) at is ready answer step seats puts = absurd (cc)
 
-  pub refuses_one : (p p' : Place) (e : Errno) → slice_get old.seats i ≡ Some (seat who p) → (has_wait old.world who ≡ false) × (is_open p ≡ true) → IsNextAt (message.Refused e) p p' → new.world ≡ old.world → new.seats ≡ slice_set old.seats i (seat who p') → put' ≡ put ++ replies_to who (Refused e) → MovesOne conf now old put new put'
+  pub refuses_one : (p p' : Place) (e : Errno) → slice_get old.seats i ≡ Some (seat who p) → (has_wait old.world who ≡ false) × (is_open p ≡ true) → IsNextAt (message.Refused e) p p' → new.world ≡ old.world → new.seats ≡ slice_set old.seats i (seat who p') → put' ≡ put ++ replies_to who (Refused e) → MovesOne conf now i old put new put'
   refuses_one (Talks stream) p' e at free next world seats puts = record {
-    place = i;
     part = no_step (reply_to who (reply.Refused e) ∷ []);
     move = refuses (record {
       who = who;
@@ -155,9 +132,8 @@ module _ (conf : List Line) (now : ℕ) (old new : Left) (put put' : List Output
   refuses_one (Starts piped subject) p' e at free next world seats puts = absurd (let h = free.1 in cc)
   refuses_one (Pipes bytes) p' e at free next world seats puts = absurd (let h = free.1 in cc)
 
-  pub asks_one : (p p' : Place) (ask : Ask) → slice_get old.seats i ≡ Some (seat who p) → (has_wait old.world who ≡ false) × (is_open p ≡ true) → IsNextAt (message.Asks ask) p p' → AnswersOne conf now (record { world = old.world; seats = slice_set old.seats i (seat who p') }) who ask put new put' → MovesOne conf now old put new put'
+  pub asks_one : (p p' : Place) (ask : Ask) → slice_get old.seats i ≡ Some (seat who p) → (has_wait old.world who ≡ false) × (is_open p ≡ true) → IsNextAt (message.Asks ask) p p' → AnswersOne conf now (record { world = old.world; seats = slice_set old.seats i (seat who p') }) who ask put new put' → MovesOne conf now i old put new put'
   asks_one (Talks stream) p' ask at free next done = record {
-    place = i;
     part = done.part;
     move = asks (record {
       who = who;
@@ -176,9 +152,8 @@ module _ (conf : List Line) (now : ℕ) (old new : Left) (put put' : List Output
   asks_one (Pipes bytes) p' ask at free next done = absurd (let h = free.1 in cc)
 
 module _ (conf : List Line) (now : ℕ) (old new : Left) (put put' : List Output) (i : ℕ) where
-  pub shuts_client_one : (client : ℕ) (p : Place) → slice_get old.seats i ≡ Some (seat (Client client) p) → HasFaultAt p → (has_wait old.world (Client client) ≡ false) × (is_open p ≡ true) → (answer : Answer) → Step old.world now (Gone (Client client)) answer new.world → new.seats ≡ without (Client client) old.seats → put' ≡ put ++ output.Shut client ∷ [] → MovesOne conf now old put new put'
+  pub shuts_client_one : (client : ℕ) (p : Place) → slice_get old.seats i ≡ Some (seat (Client client) p) → HasFaultAt p → (has_wait old.world (Client client) ≡ false) × (is_open p ≡ true) → (answer : Answer) → Step old.world now (Gone (Client client)) answer new.world → new.seats ≡ without (Client client) old.seats → put' ≡ put ++ output.Shut client ∷ [] → MovesOne conf now i old put new put'
   shuts_client_one client (Talks stream) at fault free answer step seats puts = record {
-    place = i;
     part = one_step now (Gone (Client client)) answer (output.Shut client ∷ []);
     move = shuts_client (record {
       client = client;
@@ -195,9 +170,8 @@ module _ (conf : List Line) (now : ℕ) (old new : Left) (put put' : List Output
   shuts_client_one client (Starts piped subject) at fault free answer step seats puts = absurd fault
   shuts_client_one client (Pipes bytes) at fault free answer step seats puts = absurd fault
 
-  pub shuts_handler_one : (key : ℕ) (p : Place) → slice_get old.seats i ≡ Some (seat (Handler key) p) → HasFaultAt p → (has_wait old.world (Handler key) ≡ false) × (is_open p ≡ true) → new.world ≡ old.world → new.seats ≡ slice_set old.seats i (seat (Handler key) (shut_place p)) → put' ≡ put ++ output.ShutHandler key ∷ [] → MovesOne conf now old put new put'
+  pub shuts_handler_one : (key : ℕ) (p : Place) → slice_get old.seats i ≡ Some (seat (Handler key) p) → HasFaultAt p → (has_wait old.world (Handler key) ≡ false) × (is_open p ≡ true) → new.world ≡ old.world → new.seats ≡ slice_set old.seats i (seat (Handler key) (shut_place p)) → put' ≡ put ++ output.ShutHandler key ∷ [] → MovesOne conf now i old put new put'
   shuts_handler_one key (Talks stream) at fault free world seats puts = record {
-    place = i;
     part = no_step (output.ShutHandler key ∷ []);
     move = shuts_handler (record {
       key = key;

@@ -20,11 +20,14 @@ use Rattle.rk_replay.specs.declared.transcript.LineFault.TheVariants.{NotALine}
 use Rattle.rk_replay.specs.Reading.{reading_of}
 use Rattle.rk_replay.specs.Writing.{line_text, fault_line, conf_line}
 use Rattle.rk_replay.specs.Script.{happens, said_late, said_in, conf_in, seconds_in, last_of, conf_by, conf_of, beginning_of, happenings_of, before_all}
+use Rattle.rk_replay.specs.Left.{nothing}
 use Rattle.rk_replay.specs.Served.{Served}
+use Rattle.rk_replay.specs.Order.{ServedInOrder}
 use Rattle.rk_replay.specs.Settings.{configured, Sets}
 use Rattle.rk_replay.specs.Written.{text_from, outputs_in, IsWritten, IsRefused}
 use Rattle.rk_replay.specs.Playing.{readings_left, happens_first, IsHead, PlaysBody}
 use Rattle.rk_replay.proofs.ServedLaws.{served_is_run}
+use Rattle.rk_replay.proofs.Orders.{served_of}
 use Rattle.rk_replay.proofs.Heads.{Quiet, parts, said_parts, conf_parts, seconds_parts, configured_by, happenings_parts, text_parts, before_parts}
 
 -- ---- the head, line by line
@@ -117,16 +120,19 @@ module _ (input : List ℕ) (head : Head) (text : List ℕ) (h : IsHead input he
   pub written : (conf : List Line) (text' : List ℕ) → faults_of (configured head.settings.conf) ≡ [] → conf ≡ lines_told (configured head.settings.conf) → PlaysBody conf head text text' → IsWritten input text'
   written conf text' sound lines p =
       let lines_are : conf ≡ lines_told (conf_of (said_in input)) = lines ∙ ap lines_told conf_is in
-      let from_told : Served (lines_told (conf_of (said_in input))) (beginning head.settings.negative) p.turns p.run p.left =
-      subst (λ (ls : List Line). Served ls (beginning head.settings.negative) p.turns p.run p.left) lines_are p.served in
+      let from_told : ServedInOrder (lines_told (conf_of (said_in input))) (beginning head.settings.negative) p.turns p.run p.left =
+      subst (λ (ls : List Line). ServedInOrder ls (beginning head.settings.negative) p.turns p.run p.left) lines_are p.served in
+      let in_order : ServedInOrder (lines_told (conf_of (said_in input))) (beginning_of (said_in input)) p.turns p.run p.left =
+      subst (λ (from : Beginning). ServedInOrder (lines_told (conf_of (said_in input))) from p.turns p.run p.left) beginning_is from_told in
       let served : Served (lines_told (conf_of (said_in input))) (beginning_of (said_in input)) p.turns p.run p.left =
-      subst (λ (from : Beginning). Served (lines_told (conf_of (said_in input))) from p.turns p.run p.left) beginning_is from_told in
+      served_of (lines_told (conf_of (said_in input))) p.turns p.run (nothing (beginning_of (said_in input))) p.left in_order in
       record {
         turns = p.turns;
         run = p.run;
         left = p.left;
         sound = rw (← conf_is) sound;
         served = served;
+        in_order = in_order;
         lawful = served_is_run (lines_told (conf_of (said_in input))) (beginning_of (said_in input)) p.turns p.run p.left served;
         happenings = p.happenings ∙ (sym (happenings_parts h.lines rest h.quiet) ∙ ap happenings_of (sym said_is));
         text_is = p.text_is ∙ (ap (λ (bs : List ℕ). bs ++ text_from head.number (map said_late rest) (map outputs_in p.turns)) h.text_is ∙ (ap (λ (n : ℕ). text_from 1 h.lines [] ++ text_from n (map said_late rest) (map outputs_in p.turns)) h.counted ∙ (sym (text_parts 1 h.lines (map said_late rest) (map outputs_in p.turns) h.quiet) ∙ ap (λ (rs : List Reading). text_from 1 rs (map outputs_in p.turns)) (sym said_is))));

@@ -7,6 +7,7 @@ use Rattle.rk_replay.specs.declared.output.Output.{Output}
 use Rattle.rk_replay.specs.Left.{Left, nothing}
 use Rattle.rk_replay.specs.Begins.{is_misplaced}
 use Rattle.rk_replay.specs.Served.{Turn, Acts, Serves, ServesNext}
+use Rattle.rk_replay.specs.Order.{ServesInOrder}
 use Rattle.rk_replay.proofs.ServedLaws.{served_push, served_is_run}
 
 serves_next : (conf : List Line) (old : Left) (turn : Turn) (steps : List Past) (new : Left) → Serves conf old turn steps new → ServesNext conf old turn new
@@ -16,6 +17,10 @@ serves_next conf old turn steps new s from turns run served =
 
 pub acts_next : (conf : List Line) (old : Left) (now : ℕ) (h : Happening) (outputs : List Output) (steps : List Past) (new : Left) → Acts conf old now h outputs steps new → ServesNext conf old (record { now = now; happening = h; outputs = Some outputs }) new
 acts_next conf old now h outputs steps new a = serves_next conf old (record { now = now; happening = h; outputs = Some outputs }) steps new a
+
+-- what is out of place has no moves
+pub passed_in_order : (conf : List Line) (old : Left) (now : ℕ) (h : Happening) → is_misplaced old.world h ≡ true → (steps : List Past) × ServesInOrder conf old now h None steps old
+passed_in_order conf old now h misplaced = ([], record { misplaced = misplaced; no_steps = refl; same = refl })
 
 pub passed_next : (conf : List Line) (old : Left) (now : ℕ) (h : Happening) → is_misplaced old.world h ≡ true → ServesNext conf old (record { now = now; happening = h; outputs = None }) old
 passed_next conf old now h misplaced = serves_next conf old (record { now = now; happening = h; outputs = None }) [] old (record { misplaced = misplaced; no_steps = refl; same = refl })

@@ -22,25 +22,31 @@ use Rattle.rk_replay.specs.declared.seat.Seat.{Seat}
 use Rattle.rk_replay.specs.declared.desk.Desk.{Desk}
 use Rattle.rk_replay.specs.Left.{Left, seat, Part}
 use Rattle.rk_replay.specs.Commands.{IsCommand, HasNoCommand}
-use Rattle.rk_replay.specs.Moves.{Answered, Move, Moves, CannotMove}
+use Rattle.rk_replay.specs.Moves.{Answered, Move, CannotMove}
 use Rattle.rk_replay.specs.Begins.{Adds, Finishes, Begins}
 use Rattle.rk_replay.specs.Served.{outputs_of}
+use Rattle.rk_replay.specs.Order.{MovesFirst, MovesInOrder}
 use Rattle.rk_replay.specs.Places.{is_open}
 
 abbrev pub left_of : Desk → Left
 left_of desk = record { world = desk.book; seats = desk.seats.items }
 
--- one move, whose outputs go to the end of what was put out
-pub record MovesOne (conf : List Line) (now : ℕ) (old : Left) (put : List Output) (new : Left) (put' : List Output) : Type 0 where
-  pub place : ℕ
+-- one move of the session at a place, whose outputs go to the end of what was put out
+pub record MovesOne (conf : List Line) (now place : ℕ) (old : Left) (put : List Output) (new : Left) (put' : List Output) : Type 0 where
   pub part : Part
   pub move : Move conf now old place part new
   pub outputs : put' ≡ put ++ part.outputs
 
--- some moves, likewise
+-- one move of the first session that can, likewise
+pub record MovesNext (conf : List Line) (now : ℕ) (old : Left) (put : List Output) (new : Left) (put' : List Output) : Type 0 where
+  pub part : Part
+  pub first : MovesFirst conf now old part new
+  pub outputs : put' ≡ put ++ part.outputs
+
+-- some moves in order, likewise
 pub record MovesSome (conf : List Line) (now : ℕ) (old : Left) (put : List Output) (new : Left) (put' : List Output) : Type 0 where
   pub parts : List Part
-  pub moves : Moves conf now old parts new
+  pub moves : MovesInOrder conf now old parts new
   pub outputs : put' ≡ put ++ outputs_of parts
 
 -- one ask, likewise
@@ -80,7 +86,7 @@ RestsAt left i = IfSome (slice_get left.seats i) (λ x. CannotMove left.world x.
 
 -- one move was made; or none was, and nothing changed
 abbrev pub TriesAt : List Line → ℕ → ℕ → Bool → Left → List Output → Left → List Output → Type 0
-TriesAt conf now i moved old put new put' = MatchBool moved (MovesOne conf now old put new put') ((new ≡ old) × (put' ≡ put) × RestsAt old i)
+TriesAt conf now i moved old put new put' = MatchBool moved (MovesOne conf now i old put new put') ((new ≡ old) × (put' ≡ put) × RestsAt old i)
 
 -- its session does not wait, and its stream is not shut
 abbrev pub IsFreeAt : Left → ℕ → Type 0

@@ -8,10 +8,12 @@ pub mod Unused
 pub mod Streams
 pub mod Message
 pub mod Left
+pub mod Standing
 pub mod Commands
 pub mod Moves
 pub mod Begins
 pub mod Served
+pub mod Order
 pub mod Seated
 pub mod Places
 pub mod Desk

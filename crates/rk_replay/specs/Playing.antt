@@ -11,7 +11,8 @@ use Rattle.rk_replay.specs.declared.reading.Reading.{Reading}
 use Rattle.rk_replay.specs.declared.reading.Reading.TheVariants.{Blank, Conf, Negative, Happens, Wrong}
 use Rattle.rk_replay.specs.declared.transcript.LineFault.TheVariants.{NotALine}
 use Rattle.rk_replay.specs.Left.{Left}
-use Rattle.rk_replay.specs.Served.{Turn, Served, ServesNext}
+use Rattle.rk_replay.specs.Served.{Turn}
+use Rattle.rk_replay.specs.Order.{ServesInOrder, ServedInOrder}
 use Rattle.rk_replay.specs.Reading.{reading_of}
 use Rattle.rk_replay.specs.Writing.{line_text, fault_line}
 use Rattle.rk_replay.specs.Script.{happens, said_late, conf_in, seconds_in, last_of, happenings_of}
@@ -58,14 +59,14 @@ Plays conf number (Conf line) old text new text' = Refuses number old text new t
 Plays conf number (Negative n) old text new text' = Refuses number old text new text'
 Plays conf number Wrong old text new text' = Refuses number old text new text'
 Plays conf number (Happens now h) old text new text' =
-    (outputs : Option (List Output)) × ServesNext conf old (record { now = now; happening = h; outputs = outputs }) new × (text' ≡ text ++ turn_text number outputs)
+    (outputs : Option (List Output)) × (steps : List Past) × ServesInOrder conf old now h outputs steps new × (text' ≡ text ++ turn_text number outputs)
 
--- all lines from a number on: their happenings, from what a machine begins with
+-- all lines from a number on: their happenings, in the order of work, from what a machine begins with
 pub record PlaysAll (conf : List Line) (from : Beginning) (number : ℕ) (rs : List Reading) (text text' : List ℕ) : Type 0 where
   pub turns : List Turn
   pub run : List Past
   pub left : Left
-  pub served : Served conf from turns run left
+  pub served : ServedInOrder conf from turns run left
   pub happenings : map moment_of turns ≡ happenings_of (map said_late rs)
   pub text_is : text' ≡ text ++ text_from number (map said_late rs) (map outputs_in turns)
 

@@ -12,6 +12,7 @@ use Rattle.rk_replay.specs.declared.reading.Reading.TheVariants.{Blank, Conf, Ne
 use Rattle.rk_replay.specs.declared.transcript.LineFault.TheVariants.{NotALine, Unknown}
 use Rattle.rk_replay.specs.Left.{Left}
 use Rattle.rk_replay.specs.Served.{Turn, Served}
+use Rattle.rk_replay.specs.Order.{ServedInOrder}
 use Rattle.rk_replay.specs.Writing.{output_line, fault_line, conf_line}
 use Rattle.rk_replay.specs.Script.{said_in, conf_of, beginning_of, happenings_of, before_all}
 
@@ -37,13 +38,14 @@ abbrev pub outputs_in : Turn → Option (List Output)
 outputs_in turn = turn.outputs
 
 -- The text is the lines of a served list for the happenings of the script, with the script's configuration, and nothing else. The steps of
--- that list, the newest first, are a run of the machine, and obey the laws of every run.
+-- that list, the newest first, are a run of the machine, and obey the laws of every run. It is served in the order of work.
 pub record IsWritten (input text : List ℕ) : Type 0 where
   pub turns : List Turn
   pub run : List Past
   pub left : Left
   pub sound : faults_of (conf_of (said_in input)) ≡ []
   pub served : Served (lines_told (conf_of (said_in input))) (beginning_of (said_in input)) turns run left
+  pub in_order : ServedInOrder (lines_told (conf_of (said_in input))) (beginning_of (said_in input)) turns run left
   pub lawful : ContinuesTo (beginning_of (said_in input)) (reverse run) left.world
   pub happenings : map moment_of turns ≡ happenings_of (said_in input)
   pub text_is : text ≡ text_from 1 (said_in input) (map outputs_in turns)

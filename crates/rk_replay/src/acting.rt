@@ -10,7 +10,7 @@ ghost use Rattle.rk_replay.specs.declared.happening.Happening.TheVariants as hap
 ghost use Rattle.rk_replay.specs.declared.happening.StartResult.TheVariants.{Started};
 ghost use Rattle.rk_replay.specs.Left.{no_step, one_step};
 ghost use Rattle.rk_replay.specs.Begins.{has_client, is_to_start, is_running, is_misplaced, Lengthens, Leaves, FailsToRun, Breaks};
-ghost use Rattle.rk_replay.specs.Served.{Acts};
+ghost use Rattle.rk_replay.specs.Order.{ActsInOrder};
 ghost use Rattle.rk_replay.specs.Seated.{IsSeated, has_seat, is_starts, place_of};
 ghost use Rattle.rk_replay.specs.Desk.{left_of, is_refused, BeginsOne, IsStartAt, FinishesNow};
 
@@ -262,7 +262,7 @@ impl Desk {
         }
     }
 
-    /// The own step of a happening, and then moves until no session can move.
+    /// The own step of a happening, and then moves in order until no session can move.
     pub fn act(
         &mut self,
         alloc: Global,
@@ -272,7 +272,7 @@ impl Desk {
     ) -> Result<Outputs, AllocError>
         requires seated { IsSeated (left_of self.old) }
         requires placed { is_misplaced self.old.book happening.now ≡ false }
-        ensures { IfOk result (λ out. (steps : List Past) × Acts conf.now (left_of self.old) now happening.now out steps (left_of self.new)) }
+        ensures { IfOk result (λ out. (steps : List Past) × ActsInOrder conf.now (left_of self.old) now happening.now out steps (left_of self.new)) }
     {
         let mut out = Vec::new(alloc);
         self.begin(alloc, now, happening, &mut out)?;

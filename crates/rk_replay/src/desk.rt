@@ -2,10 +2,10 @@
 ghost use Rattle.std.specs.Prelude.{◌≡◌, true, ◌<◌, List, IfOk, OnOk, IfSome, MatchBool, vec_len, slice_get};
 ghost use Rattle.rk_conf.specs.declared.line.Line.{Line};
 ghost use Rattle.rk_machine.specs.Views.{is_ready};
+ghost use Rattle.rk_replay.specs.Standing.{are_in_order};
 ghost use Rattle.rk_replay.specs.Places.{is_stream, HasFaultAt};
 ghost use Rattle.rk_replay.specs.Moves.{IsAtRest};
 ghost use Rattle.rk_replay.specs.Seated.{IsSeated};
-ghost use Rattle.rk_replay.specs.Desk.{left_of, MovesOne, MovesSome, AnswersOne, StartsNow, TriesAt, IsFreeAt};
 
 use crate::command::command_for;
 use crate::output::Output;
@@ -20,14 +20,18 @@ use rk_message::Ask;
 use rk_names::{Moment, Serial, SessionId};
 use std::alloc::{AllocError, Global};
 
-/// The machine, and the seats of who is there, in the order in which they move.
+/// The machine, and the seats of who is there, in the order in which they move: clients by rising number, and then handlers by
+/// rising key.
 #[derive(Drop)]
 pub struct Desk {
     pub book: Book,
     pub seats: Vec<Seat>,
+    ghost in_order: { are_in_order seats.items ≡ true },
 }
 
 impl Desk {
+    ghost use Rattle.rk_replay.specs.Desk.{left_of, MovesOne, MovesNext, MovesSome, AnswersOne, StartsNow, TriesAt, IsFreeAt};
+
     /// Puts out the command of a construction that has begun, or has its start fail.
     fn start(
         &mut self,
@@ -82,7 +86,7 @@ impl Desk {
     ) -> Result<(), AllocError>
         requires within { index < vec_len self.old.seats }
         requires ready { IfSome (slice_get self.old.seats.items index) (λ x. (is_stream x.place ≡ true) × (is_ready self.old.book x.who ≡ true)) }
-        ensures { (conf : List Line) → OnOk result (MovesOne conf now (left_of self.old) out.old.items (left_of self.new) out.new.items) }
+        ensures { (conf : List Line) → OnOk result (MovesOne conf now index (left_of self.old) out.old.items (left_of self.new) out.new.items) }
     {
         let who = self.seats[index].who;
         let answer = self.book.step(now, Event::Collect(who));
@@ -99,7 +103,7 @@ impl Desk {
         requires within { index < vec_len self.old.seats }
         requires fault { IfSome (slice_get self.old.seats.items index) (λ x. HasFaultAt x.place) }
         requires free { IsFreeAt (left_of self.old) index }
-        ensures { (conf : List Line) → OnOk result (MovesOne conf now (left_of self.old) out.old.items (left_of self.new) out.new.items) }
+        ensures { (conf : List Line) → OnOk result (MovesOne conf now index (left_of self.old) out.old.items (left_of self.new) out.new.items) }
     {
         match self.seats[index].who {
             SessionId::Client(client) => {
@@ -182,7 +186,7 @@ impl Desk {
         out: &mut Vec<Output>,
     ) -> Result<bool, AllocError>
         ensures { IfOk result (λ moved. MatchBool moved
-            (MovesOne conf.now now (left_of self.old) out.old.items (left_of self.new) out.new.items)
+            (MovesNext conf.now now (left_of self.old) out.old.items (left_of self.new) out.new.items)
             ((left_of self.new ≡ left_of self.old) × (out.new.items ≡ out.old.items) × IsAtRest (left_of self.old))) }
     {
         for index in 0..self.seats.len() {

@@ -7,15 +7,17 @@
 //!
 //! [`Replay::take`] takes one [`Happening`] at its moment. Whatever list of happenings was served before, that list with this one
 //! and with these outputs is served, too (`specs/Served.antt`): the own step of the happening, and then moves of sessions until
-//! none can move. A session that waits moves no more until it can collect. Of those that can, any may be next. The steps of that
-//! list and of this happening are a run of the machine that obeys the laws of every run: this stands on the contract of the call
-//! itself, and for any served list on that of [`served_is_run`]. A happening whose client or handler is not at that point is
-//! refused, and changes nothing. After want of memory a replay answers that for good.
+//! none can move. A session that waits moves no more until it can collect. Of those that can, the first one moves: clients by
+//! rising number, and then handlers by rising key (`specs/Order.antt`); so the seats of who is there stand in that order, whatever
+//! the order of arrival. The steps of that list and of this happening are a run of the machine that obeys the laws of every run:
+//! this stands on the contract of the call itself, and for any served list on that of [`served_is_run`]. A happening whose client
+//! or handler is not at that point is refused, and changes nothing. After want of memory a replay answers that for good.
 //!
 //! [`run_script`] reads a script, plays its lines and writes what comes of them: the lines of a served list for the happenings of what it
 //! read, with one line for each line of the script that changed nothing, and nothing else (`specs/Written.antt`). Lines before the first
 //! happening may set the configuration and the negative time (`specs/Script.antt`); where the configuration is refused, its fault
-//! is the last line. The steps of that list are a run of the machine, with the laws of every run, on the contract of the call itself.
+//! is the last line. The list is served in the order of work, and its steps are a run of the machine, with the laws of every run, on
+//! the contract of the call itself.
 //!
 //! [`Reading::read`] says what a line of a script says, and a [`Transcript`] holds what is put out as lines of text
 //! (`specs/Reading.antt`, `specs/Writing.antt`). Numbers are decimal and have 1 to 20 digits, bytes are hexadecimal, and a line has

@@ -1,8 +1,11 @@
 //! The replay: a happening, and then moves until no session can move.
-ghost use Rattle.std.specs.Prelude.{◌≡◌, ◌↔◌, ◌≤◌, true, false, Err, IfOk, IfSome};
+ghost use Rattle.std.specs.Prelude.{◌≡◌, ◌↔◌, ◌≤◌, true, false, List, Err, IfOk, IfSome};
+ghost use Rattle.rk_machine.specs.Steps.{Past};
 ghost use Rattle.rk_replay.specs.Left.{nothing};
 ghost use Rattle.rk_replay.specs.Begins.{is_misplaced};
 ghost use Rattle.rk_replay.specs.Served.{ServesNext, ServedIsRun};
+ghost use Rattle.rk_replay.specs.Standing.{are_in_order};
+ghost use Rattle.rk_replay.specs.Order.{ServesInOrder};
 ghost use Rattle.rk_replay.specs.View.{told};
 
 use crate::desk::Desk;
@@ -58,7 +61,8 @@ impl Replay {
 
     /// Takes a happening in, at its moment, and returns what is put out for it.
     ///
-    /// Its steps go on with the run of the machine that led to the replay, and obey the laws of every run.
+    /// Its steps go on with the run of the machine that led to the replay, and obey the laws of every run. Of the sessions that can
+    /// move, the first one moves: clients by rising number, and then handlers by rising key.
     ///
     /// A misplaced happening is `Unknown`, and changes nothing. After want of memory it answers `NoMemory` for good, also to a
     /// misplaced happening.
@@ -72,6 +76,10 @@ impl Replay {
         // that list and of this happening are a run of the machine that obeys the laws of every run.
         ensures served { IfSome (told result) (λ outputs. ServesNext self.old.conf self.old.left
             (record { now = now; happening = happening.now; outputs = outputs }) self.new.left) }
+        // The moves of sessions are made in the order of work: each by the first that can, clients by rising number, then handlers by rising key.
+        ensures order { IfSome (told result) (λ outputs. (steps : List Past) × ServesInOrder self.old.conf self.old.left now happening.now outputs steps self.new.left) }
+        // whatever the order of arrival, the seats stand in that order
+        ensures seats { are_in_order self.new.left.seats ≡ true }
         ensures conf { self.new.conf ≡ self.old.conf }
 
         ensures unknown { self.old.broken ≡ false → (result ≡ Err TakeFault.Unknown) ↔ (is_misplaced self.old.left.world happening.now ≡ true) }

@@ -115,6 +115,26 @@ fn asks_wait_for_their_turn(rt: HostRuntime) -> Result<(), Fail> {
     check_run(&rt, rt.alloc(), PLAIN, lines.as_slice(), want)
 }
 
+/// Whoever came first, the lower number moves first.
+#[test]
+fn clients_move_by_rising_number(rt: HostRuntime) -> Result<(), Fail> {
+    let lines = [
+        b"100 accept 2".as_slice(),
+        b"100 bytes 2 0000000e01000003e8000003e80000000000",
+        b"100 accept 1",
+        b"100 bytes 1 0000000e01000003e8000003e80000000001",
+        b"100 bytes 2 00000012020004757365720001610100017800000000",
+        REQUEST,
+        b"100 unstarted 3",
+    ];
+    let want = "to 2 000000110200000000000000000000000100000002\n\
+                to 1 000000110200000000000000000000000100000002\n\
+                start 3 plain =/bin/handler =create =3 =1000 =1000 =0 =0 =1\n\
+                to 1 00000002037e\n\
+                to 2 00000002037e\n";
+    check_run(&rt, rt.alloc(), PLAIN, lines.as_slice(), want)
+}
+
 #[test]
 fn a_stream_with_a_fault_is_shut(rt: HostRuntime) -> Result<(), Fail> {
     let lines = [

@@ -26,8 +26,8 @@ pub fn run_script<R: Read, W: Write>(
     reader: &mut R,
     writer: &mut W,
 ) -> Result<(), ScriptFault>
-    // It has written the lines of a served list for the happenings of what it read, and nothing else; the steps of that list are a run
-    // of the machine that obeys the laws of every run.
+    // It has written the lines of a served list for the happenings of what it read, and nothing else; that list is served in the order
+    // of work, and its steps are a run of the machine that obeys the laws of every run.
     ensures written { OnOk result (IfSome (R.remaining reader.old) (λ input. (text : List ℕ) × IsWritten input text
         × Appends (W.contents writer.old) (W.contents writer.new) text)) }
     // or the lines before the first happening and the fault of the configuration

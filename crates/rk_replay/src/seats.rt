@@ -1,8 +1,10 @@
 //! The seats of who is there, in the order in which they move.
-ghost use Rattle.std.specs.Prelude.{◌≡◌, ◌<◌, ◌≤◌, length, IfSome, IfNone, OnOk, slice_get};
+ghost use Rattle.std.specs.Prelude.{◌≡◌, ◌<◌, true, length, IfSome, IfNone, OnOk, slice_get, position};
+ghost use Rattle.std.specs.List.{position_or_len};
 ghost use Rattle.rk_names.specs.declared.numbers.SessionId.TheVariants.{Client, Handler};
 ghost use Rattle.rk_machine.specs.Laws.{same_session};
 ghost use Rattle.rk_replay.specs.Left.{without};
+ghost use Rattle.rk_replay.specs.Standing.{comes_before, are_in_order};
 ghost use Rattle.rk_replay.specs.Seated.{place_of};
 ghost use Rattle.rk_replay.specs.Begins.{Adds};
 
@@ -54,19 +56,31 @@ pub fn index_of(seats: &[Seat], who: &SessionId) -> Option<usize>
     None
 }
 
-/// Where a seat of this one is to stand: clients by rising number, and then handlers by rising key.
-fn rank(seats: &[Seat], who: &SessionId) -> usize
-    ensures { result ≤ length seats.now }
+/// Whether the one comes before the other: clients by rising number, and then handlers by rising key.
+fn comes_before(one: &SessionId, other: &SessionId) -> bool
+    ensures { result ≡ comes_before one.now other.now }
 {
-    seats
-        .iter()
-        .position(|seat| seat.who > *who)
-        .unwrap_or(seats.len())
+    one < other
 }
 
-/// Puts a seat among the others.
+/// Where the first one sits that this one comes before.
+fn first_behind(seats: &[Seat], who: &SessionId) -> Option<usize>
+    ensures { result ≡ position (λ x. comes_before who.now x.who) seats.now }
+{
+    seats.iter().position(|seat| comes_before(who, &seat.who))
+}
+
+/// Where a seat of this one is to stand: in front of the first that it comes before, or behind all.
+fn rank(seats: &[Seat], who: &SessionId) -> usize
+    ensures { result ≡ position_or_len (λ x. comes_before who.now x.who) seats.now }
+{
+    first_behind(seats, who).unwrap_or(seats.len())
+}
+
+/// Puts a seat among the others, at its place in the order.
 pub fn add(seats: &mut Vec<Seat>, who: SessionId, place: Place) -> Result<(), AllocError>
-    ensures { OnOk result (Adds who place seats.old.items seats.new.items) }
+    ensures adds { OnOk result (Adds who place seats.old.items seats.new.items) }
+    ensures order { are_in_order seats.old.items ≡ true → are_in_order seats.new.items ≡ true }
 {
     let index = rank(seats, &who);
     seats.insert(index, Seat { who, place })?;
@@ -75,7 +89,8 @@ pub fn add(seats: &mut Vec<Seat>, who: SessionId, place: Place) -> Result<(), Al
 
 /// Takes the seat of this one away.
 pub fn remove(seats: &mut Vec<Seat>, who: &SessionId)
-    ensures { seats.new.items ≡ without who.now seats.old.items }
+    ensures without { seats.new.items ≡ without who.now seats.old.items }
+    ensures order { are_in_order seats.old.items ≡ true → are_in_order seats.new.items ≡ true }
 {
     seats.retain(|seat| !same(&seat.who, who));
 }

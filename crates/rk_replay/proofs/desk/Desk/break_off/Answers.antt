@@ -7,4 +7,4 @@ use Rattle.rk_replay.proofs.desk.Desk.break_off.Goals as goal
 
 pub returns : goal.returns
 returns c =
-    (steps_by c.args.now (Ended c.args.key Fault None) _ _ c.step.result done [] (ended_done _ _ _ _ _ _ _ c.requires c.step.ensures.step) c.step.ensures.step, c.remove.ensures)
+    (steps_by c.args.now (Ended c.args.key Fault None) _ _ c.step.result done [] (ended_done _ _ _ _ _ _ _ c.requires c.step.ensures.step) c.step.ensures.step, c.remove.ensures.without)

@@ -9,6 +9,7 @@ use Rattle.rk_machine.specs.Views.{has_wait}
 use Rattle.rk_replay.specs.Left.{seat}
 use Rattle.rk_replay.proofs.SeatLists.{some_seat}
 use Rattle.rk_replay.proofs.Moving.{shuts_client_one, shuts_handler_one}
+use Rattle.rk_replay.proofs.Standings.{order_reseated}
 use Rattle.rk_replay.proofs.desk.Desk.fault_at.Goals as goal
 
 pub returns-in_ok-push-in-Client : goal.returns-in_ok-push-in-Client
@@ -20,7 +21,7 @@ returns-in_ok-push-in-Client c conf =
     shuts_client_one conf c.args.now _ _ _ _ c.args.index c.in-Client.client x.place
     (at ∙ ap (λ (s : SessionId). Some (seat s x.place)) c.in-Client.is) fault
     (ap (λ (s : SessionId). has_wait c.args.self.now.book s) (sym c.in-Client.is) ∙ free.0, free.1)
-    c.step.result c.step.ensures.step c.remove.ensures c.in_ok-push-in-Client.ensures.items
+    c.step.result c.step.ensures.step c.remove.ensures.without c.in_ok-push-in-Client.ensures.items
 
 pub returns-in_ok-push-in-Handler : goal.returns-in_ok-push-in-Handler
 returns-in_ok-push-in-Handler c conf =
@@ -37,3 +38,6 @@ returns-in_ok-push-in-Handler c conf =
     refl
     (ap (λ (s : SessionId). slice_set c.args.self.now.seats.items c.args.index (seat s c.shut.new.self)) who ∙ ap (λ (p : Place). slice_set c.args.self.now.seats.items c.args.index (seat (Handler c.in-Handler.key) p)) c.shut.ensures)
     c.in_ok-push-in-Handler.ensures.items
+
+pub invariant_of-self-in-Handler : goal.invariant_of-self-in-Handler
+invariant_of-self-in-Handler c = record { in_order = order_reseated c.args.self.now.seats.items c.args.index c.index_mut.result.now c.shut.new.self c.index_mut.ensures.value c.args.self.now.in_order }

@@ -8,4 +8,4 @@ use Rattle.rk_replay.proofs.desk.Desk.leave.Goals as goal
 
 pub returns : goal.returns
 returns c =
-    (steps_by c.args.now (Gone (Client c.args.client)) _ _ c.step.result done [] (gone_done _ _ _ _ _ c.requires c.step.ensures.step) c.step.ensures.step, c.remove.ensures)
+    (steps_by c.args.now (Gone (Client c.args.client)) _ _ c.step.result done [] (gone_done _ _ _ _ _ c.requires c.step.ensures.step) c.step.ensures.step, c.remove.ensures.without)

@@ -8,6 +8,7 @@ use Rattle.rk_replay.specs.Left.{seat}
 use Rattle.rk_replay.specs.Places.{callout_at}
 use Rattle.rk_replay.proofs.SeatLists.{some_seat}
 use Rattle.rk_replay.proofs.OwnSteps.{piped_one}
+use Rattle.rk_replay.proofs.Standings.{order_reseated}
 use Rattle.rk_replay.proofs.desk.Desk.run_piped.Goals as goal
 
 pub returns : goal.returns
@@ -21,3 +22,6 @@ returns c =
     piped_one c.args.now c.args.key _ _ _ _ i c.requires.starts c.step.result c.requires.owed c.step.ensures.step
     (ap (λ (x : Seat). slice_set xs i (seat x.who (Pipes c.new-2.result))) same ∙ ap (λ (b : List ℕ). slice_set xs i (seat (Handler c.args.key) (Pipes b))) (c.new-2.ensures ∙ c.new.ensures.items))
     (c.in_ok-put_callout.ensures ∙ ap (λ (x : Seat). c.args.out.now.items ++ callout_at c.args.key x.place) first)
+
+pub invariant_of-self-2 : goal.invariant_of-self-2
+invariant_of-self-2 c = record { in_order = order_reseated c.args.self.now.seats.items c.args.index c.index_mut.result.now (Pipes c.new-2.result) c.index_mut.ensures.value c.args.self.now.in_order }

@@ -8,6 +8,7 @@ use Rattle.rk_replay.specs.Unused.{Unused}
 use Rattle.rk_replay.specs.Left.{seat}
 use Rattle.rk_replay.proofs.SeatLists.{some_seat}
 use Rattle.rk_replay.proofs.OwnSteps.{plain_one}
+use Rattle.rk_replay.proofs.Standings.{order_reseated}
 use Rattle.rk_replay.proofs.desk.Desk.run_plain.Goals as goal
 
 pub returns : goal.returns
@@ -19,3 +20,6 @@ returns c put =
     let same = some_seat (sym at ∙ there) in
     plain_one c.args.now c.args.key _ _ put put i c.requires.starts c.step.result c.requires.owed c.step.ensures.step
     (ap (λ (x : Seat). slice_set xs i (seat x.who (Talks c.in_ok-new.field-0))) same ∙ ap (λ (u : Unused). slice_set xs i (seat (Handler c.args.key) (Talks u))) c.in_ok-new.ensures)
+
+pub invariant_of-self : goal.invariant_of-self
+invariant_of-self c = record { in_order = order_reseated c.args.self.now.seats.items c.args.index c.index_mut.result.now (Talks c.in_ok-new.field-0) c.index_mut.ensures.value c.args.self.now.in_order }

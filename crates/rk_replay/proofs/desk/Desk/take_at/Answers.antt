@@ -7,6 +7,7 @@ use Rattle.rk_replay.specs.declared.seat.Seat.{Seat}
 use Rattle.rk_replay.specs.Left.{Left, seat, replies_to}
 use Rattle.rk_replay.specs.Desk.{left_of, MovesOne, AnswersOne}
 use Rattle.rk_replay.proofs.Moving.{next_left, rests_more, asks_one, refuses_one}
+use Rattle.rk_replay.proofs.Standings.{order_reseated}
 use Rattle.rk_replay.proofs.desk.Desk.take_at.Goals as goal
 
 pub returns-in-More : goal.returns-in-More
@@ -45,6 +46,9 @@ returns-in_ok-fault_at-in-Fault c =
     let seats = c.args.self.now.seats in
     let at = slice_get_read seats.items _ c.args.index x seats.ok.0 c.requires.within c.index_mut.ensures.value in
     let next = rw c.in-Fault.is at c.in_ok-next.ensures in
-    subst (λ (l : Left). MovesOne c.args.conf.now c.args.now l c.args.out.now.items (left_of c.fault_at.new.self) c.fault_at.new.out.items)
+    subst (λ (l : Left). MovesOne c.args.conf.now c.args.now c.args.index l c.args.out.now.items (left_of c.fault_at.new.self) c.fault_at.new.out.items)
     (next_left (left_of c.args.self.now) c.args.index x.who x.place c.next.new.self at (inr next))
     (c.in_ok-fault_at-in-Fault.ensures c.args.conf.now)
+
+pub invariant_of-self : goal.invariant_of-self
+invariant_of-self c = record { in_order = order_reseated c.args.self.now.seats.items c.args.index c.index_mut.result.now c.next.new.self c.index_mut.ensures.value c.args.self.now.in_order }
