@@ -14,4 +14,5 @@ pub mod Weight
 pub mod Expansions
 pub mod Moving
 pub mod Orders
+pub mod BytesRead
 pub mod OwnSteps

@@ -17,7 +17,8 @@
 //! read, with one line for each line of the script that changed nothing, and nothing else (`specs/Written.antt`). Lines before the first
 //! happening may set the configuration and the negative time (`specs/Script.antt`); where the configuration is refused, its fault
 //! is the last line. The list is served in the order of work, and its steps are a run of the machine, with the laws of every run, on
-//! the contract of the call itself.
+//! the contract of the call itself. Where the script can't be read, is too long or memory is wanting, the writer is left as it was;
+//! a script of fewer than 1,048,576 bytes is never too long.
 //!
 //! [`Reading::read`] says what a line of a script says, and a [`Transcript`] holds what is put out as lines of text
 //! (`specs/Reading.antt`, `specs/Writing.antt`). Numbers are decimal and have 1 to 20 digits, bytes are hexadecimal, and a line has

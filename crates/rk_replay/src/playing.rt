@@ -1,5 +1,5 @@
 //! The lines of a script, played one after the other.
-ghost use Rattle.std.specs.Prelude.{◌≡◌, ◌++◌, ◌+◌, ◌<◌, ◌^◌, [], false, IfOk, OnOk, Err};
+ghost use Rattle.std.specs.Prelude.{◌≡◌, ◌⊎◌, ◌++◌, ◌+◌, ◌<◌, ◌^◌, [], false, IfOk, IfErr, OnOk, Err};
 ghost use Rattle.std.specs.List.{flat_map};
 ghost use Rattle.rk_replay.specs.Reading.{reading_of};
 ghost use Rattle.rk_replay.specs.declared.reading.Reading.TheVariants as reading;
@@ -37,6 +37,7 @@ pub fn play(alloc: Global, text: &[u8], transcript: &mut Transcript) -> Result<(
     requires { transcript.old ≡ [] }
     ensures written { OnOk result (IsWritten text.now transcript.new) }
     ensures refused { result ≡ Err ScriptFault.Conf → IsRefused text.now transcript.new }
+    ensures fault { IfErr result (λ fault. (fault ≡ ScriptFault.Conf) ⊎ (fault ≡ ScriptFault.NoMemory)) }
 {
     let Ok(head) = read_head(alloc, text, transcript) else {
         return Err(ScriptFault::NoMemory);
@@ -54,6 +55,7 @@ pub fn play(alloc: Global, text: &[u8], transcript: &mut Transcript) -> Result<(
 fn refuse(fault: ConfFault, transcript: &mut Transcript) -> ScriptFault
     ensures memory { fault.kind ≡ ConfKind.NoMemory → result ≡ ScriptFault.NoMemory }
     ensures conf { result ≡ ScriptFault.Conf → transcript.new ≡ transcript.old ++ conf_line fault }
+    ensures fault { (result ≡ ScriptFault.Conf) ⊎ (result ≡ ScriptFault.NoMemory) }
 {
     if fault.kind == ConfKind::NoMemory {
         return ScriptFault::NoMemory;

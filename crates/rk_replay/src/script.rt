@@ -1,5 +1,5 @@
 //! A script from a reader, played to a writer.
-ghost use Rattle.std.specs.Prelude.{◌≡◌, ◌≢◌, List, ℕ, IfOk, OnOk, IfSome, Err};
+ghost use Rattle.std.specs.Prelude.{◌≡◌, ◌≢◌, ◌⊎◌, ◌≤◌, List, ℕ, length, IfOk, IfErr, OnOk, IfSome, Err};
 ghost use Rattle.std.specs.Io.KnownBytes.{Appends};
 ghost use Rattle.rk_replay.specs.Written.{IsWritten, IsRefused};
 
@@ -18,9 +18,10 @@ const PIECE: usize = 4096;
 /// Reads a script to its end, plays it, and writes what comes of it: one line for each output, and one for each line that
 /// changed nothing.
 ///
-/// Refusals: `Read` and `Write` of the streams, `TurnsUsed` after 1,048,576 reads, `NoMemory`; after each of them nothing is said
-/// of what was written. `Conf` where the configuration is refused: what was written before it stays, and the last line tells the
-/// line and the rule.
+/// Refusals: `Read` where the reader fails; `TurnsUsed` where it was not at its end after 1,048,576 reads, which takes at least as
+/// many bytes; `NoMemory`. After these the writer is as it was. `Conf` where the configuration is refused: the bad lines before the
+/// first happening are written, and the last line tells the line and the rule. `Write` where the writer fails, also as it is
+/// flushed; after it nothing is said of what was written.
 pub fn run_script<R: Read, W: Write>(
     alloc: Global,
     reader: &mut R,
@@ -33,6 +34,10 @@ pub fn run_script<R: Read, W: Write>(
     // or the lines before the first happening and the fault of the configuration
     ensures refused { result ≡ Err ScriptFault.Conf → IfSome (R.remaining reader.old) (λ input. (text : List ℕ) × IsRefused input text
         × Appends (W.contents writer.old) (W.contents writer.new) text) }
+    // each read before the end gives a byte
+    ensures long { result ≡ Err ScriptFault.TurnsUsed → IfSome (R.remaining reader.old) (λ input. 1048576 ≤ length input) }
+    // nothing is written before all is read and played
+    ensures untouched { (result ≡ Err ScriptFault.Read) ⊎ (result ≡ Err ScriptFault.TurnsUsed) ⊎ (result ≡ Err ScriptFault.NoMemory) → writer.new ≡ writer.old }
 {
     let text = read_all(alloc, reader)?;
     let mut transcript = Transcript::new(alloc);
@@ -49,7 +54,7 @@ pub fn run_script<R: Read, W: Write>(
 /// Writes the whole transcript at once.
 fn write_out<W: Write>(transcript: &Transcript, writer: &mut W) -> Result<(), ScriptFault>
     ensures written { OnOk result (Appends (W.contents writer.old) (W.contents writer.new) transcript.now) }
-    ensures fault { result ≢ Err ScriptFault.Conf }
+    ensures fault { IfErr result (λ fault. fault ≡ ScriptFault.Write) }
 {
     let Ok(()) = writer.write_all(transcript.as_bytes()) else {
         return Err(ScriptFault::Write);
@@ -63,11 +68,12 @@ fn write_out<W: Write>(transcript: &Transcript, writer: &mut W) -> Result<(), Sc
 /// Reads all there is.
 fn read_all<R: Read>(alloc: Global, reader: &mut R) -> Result<Vec<u8>, ScriptFault>
     ensures all { IfOk result (λ text. IfSome (R.remaining reader.old) (λ input. text.items ≡ input)) }
+    ensures long { result ≡ Err ScriptFault.TurnsUsed → IfSome (R.remaining reader.old) (λ input. 1048576 ≤ length input) }
     ensures fault { result ≢ Err ScriptFault.Conf }
 {
     let mut text = Vec::new(alloc);
     let mut piece = [0u8; PIECE];
-    for _ in 0..MAX_READS {
+    for _turn in 0..MAX_READS {
         let Ok(count) = reader.read(&mut piece) else {
             return Err(ScriptFault::Read);
         };

@@ -108,24 +108,69 @@ fn an_empty_script_writes_nothing(rt: HostRuntime) -> Result<(), Fail> {
     check(&rt, rt.alloc(), "", "", Ok(()))
 }
 
-/// Gives newlines, one at a time, and fails at one of them.
+/// Gives newlines, one at a time, and then fails or is at its end.
 #[derive(Drop)]
 struct Newlines {
-    fails_at: u32,
-    given: u32,
+    left: u32,
+    fails: bool,
+    reads: u32,
+}
+
+impl Newlines {
+    fn new(left: u32, fails: bool) -> Newlines {
+        Newlines {
+            left,
+            fails,
+            reads: 0,
+        }
+    }
 }
 
 impl Read for Newlines {
     fn read(&mut self, buf: &mut [u8]) -> io::Result<usize> {
-        if self.given == self.fails_at {
+        self.reads = self.reads.saturating_add(1);
+        if self.left == 0 && self.fails {
             return Err(io::ErrorKind::Other.into());
         }
-        if buf.is_empty() {
+        if self.left == 0 || buf.is_empty() {
             return Ok(0);
         }
-        self.given = self.given.saturating_add(1);
+        self.left -= 1;
         buf[0] = b'\n';
         Ok(1)
+    }
+}
+
+/// Keeps what it is given until it is flushed, which may fail.
+#[derive(Drop)]
+struct Keeps {
+    kept: Vec<u8>,
+    passed_on: Vec<u8>,
+    fails: bool,
+}
+
+impl Keeps {
+    fn new(alloc: Global, fails: bool) -> Keeps {
+        Keeps {
+            kept: Vec::new(alloc),
+            passed_on: Vec::new(alloc),
+            fails,
+        }
+    }
+}
+
+impl Write for Keeps {
+    fn write(&mut self, buf: &[u8]) -> io::Result<usize> {
+        self.kept.write(buf)
+    }
+
+    fn flush(&mut self) -> io::Result<()> {
+        if self.fails {
+            return Err(io::ErrorKind::Other.into());
+        }
+        self.passed_on.write_all(&self.kept)?;
+        self.kept.clear();
+        Ok(())
     }
 }
 
@@ -150,10 +195,7 @@ impl Write for Refuses {
 fn a_fault_of_a_stream_is_told(rt: HostRuntime) {
     let alloc = rt.alloc();
     let mut written = Vec::new(alloc);
-    let mut reader = Newlines {
-        fails_at: 3,
-        given: 0,
-    };
+    let mut reader = Newlines::new(3, true);
     let ended = run_script(alloc, &mut reader, &mut written);
     assert_eq!(rt; ended, Err(ScriptFault::Read));
     assert!(rt; written.is_empty());
@@ -165,15 +207,45 @@ fn a_fault_of_a_stream_is_told(rt: HostRuntime) {
     assert!(rt; refuses.seen);
 }
 
+/// What is written reaches a writer that keeps it until it is flushed.
+#[test]
+fn the_writer_is_flushed(rt: HostRuntime) {
+    let alloc = rt.alloc();
+    let scripts = [
+        ("what", "fault 1 S1\n", Ok(())),
+        (
+            "conf x\nwhat",
+            "fault 2 S1\nconf 1 C1\n",
+            Err(ScriptFault::Conf),
+        ),
+    ];
+    for (script, want, end) in scripts {
+        let mut writer = Keeps::new(alloc, false);
+        let ended = run_script(alloc, &mut script.as_bytes(), &mut writer);
+        assert_eq!(rt; ended, end);
+        assert_eq!(rt; writer.passed_on.as_slice(), want.as_bytes());
+        assert!(rt; writer.kept.is_empty());
+
+        let mut writer = Keeps::new(alloc, true);
+        let ended = run_script(alloc, &mut script.as_bytes(), &mut writer);
+        assert_eq!(rt; ended, Err(ScriptFault::Write), "{script}");
+        assert_eq!(rt; writer.kept.as_slice(), want.as_bytes());
+    }
+}
+
+/// A script is read to its end where that comes within 1,048,576 reads.
 #[test]
 fn a_script_without_end_is_given_up(rt: HostRuntime) {
     let alloc = rt.alloc();
     let mut written = Vec::new(alloc);
-    let mut reader = Newlines {
-        fails_at: MAX_READS + 1,
-        given: 0,
-    };
+    let mut reader = Newlines::new(1_048_575, false);
+    let ended = run_script(alloc, &mut reader, &mut written);
+    assert_eq!(rt; ended, Ok(()));
+    assert_eq!(rt; reader.reads, 1_048_576);
+
+    let mut reader = Newlines::new(1_048_576, false);
     let ended = run_script(alloc, &mut reader, &mut written);
     assert_eq!(rt; ended, Err(ScriptFault::TurnsUsed));
-    assert_eq!(rt; reader.given, MAX_READS);
+    assert_eq!(rt; reader.reads, 1_048_576);
+    assert!(rt; written.is_empty());
 }
