@@ -15,7 +15,7 @@ use Rattle.rk_auth.specs.declared.session.Session.{Session}
 use Rattle.rk_auth.specs.declared.construction.Stage.{Stage}
 use Rattle.rk_auth.specs.Sessions.{Sessions, unspent}
 use Rattle.rk_auth.specs.Changes.{session_changed, in_handler, in_new_stage, launched, spent, without_authority, without_construction, all_told, told}
-use Rattle.rk_machine.specs.World.{World, tidied, drawn}
+use Rattle.rk_machine.specs.World.{World, drawn}
 use Rattle.rk_machine.specs.Links.{rings_changed}
 use Rattle.rk_machine.specs.Completion.{outcome_of, announced, keys_ended, sessions_ended, expiry_after}
 use Rattle.rk_machine.proofs.Gets.{get_inserted, get_removed, get_changed_at, get_changed_all, get_kept_where}
@@ -92,9 +92,6 @@ pub record IsClear (w : World) (q : ℕ) : Type 0 where
   pub keys : map.get w.keys q ≡ None
   pub rings : map.get w.rings q ≡ None
   pub constructions : IsFree w.sessions q
-
-pub clear_tidied : (w : World) (q : ℕ) → IsClear w q → IsClear (tidied w) q
-clear_tidied w q h = record { keys = none_kept _ w.keys q h.keys; rings = h.rings; constructions = h.constructions }
 
 -- another serial than one that was drawn
 pub apart : (k q : ℕ) (w : World) → is_drawn (drawn k w) q ≡ false → nat_eq k q ≡ false

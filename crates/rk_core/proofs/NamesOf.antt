@@ -63,17 +63,3 @@ gives_way_by known k n j m naming number there =
     let a = key_of known k n naming number in
     ap (λ o. not (nat_eq j k) && unwrap_or (option_map (λ (key : Key). has_name known.keys j key.typ key.description) o) false) a.1
     ∙ ap (λ b. not (nat_eq j k) && b) (by_key known k n a.0 naming a.1 number j m there)
-
--- nothing gives way to what is no key
-pub none_gives_way : (known : Known) (k j : ℕ) → IsNaming known.keys known.numbers → map.get known.numbers k ≡ None → is_rival known.keys k j ≡ false
-none_gives_way known k j naming none =
-    ap (λ o. not (nat_eq j k) && unwrap_or (option_map (λ (key : Key). has_name known.keys j key.typ key.description) o) false) (no_key (map.get known.keys k) (sym (naming.each k) ∙ ap is_some none))
-    ∙ not_both (not (nat_eq j k))
-  where
-    no_key : (o : Option Key) → is_some o ≡ false → o ≡ None
-    no_key None h = refl
-    no_key (Some key) h = absurd (both_ways _ h refl)
-
-    not_both : (b : Bool) → (b && false) ≡ false
-    not_both true = refl
-    not_both false = refl

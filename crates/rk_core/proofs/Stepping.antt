@@ -56,13 +56,3 @@ pub ends : (old : World) (now k : ℕ) (how : How) (payload : Option (List ℕ))
     → new ≡ tidied (ended now k (condition_after st how payload) old) → Step old now (Ended k how payload) a new
 unfolding Step
 ends old now k how payload st a new is runs ra left = subst (λ o. Ends old now k how payload o a new) (sym is) (ends_as old now k how payload st a new runs ra left)
-
-not_running : (old : World) (now k : ℕ) (how : How) (payload : Option (List ℕ)) (o : Option Stage) → is_running o ≡ false → Ends old now k how payload o (Refused errno.Einval) old
-not_running old now k how payload None h = (refl, refl)
-not_running old now k how payload (Some Starting) h = (refl, refl)
-not_running old now k how payload (Some (Plain s)) h = absurd (both_ways _ h refl)
-not_running old now k how payload (Some Piped) h = absurd (both_ways _ h refl)
-
-pub ends_none : (old : World) (now k : ℕ) (how : How) (payload : Option (List ℕ)) → is_running (stage_of old.sessions k) ≡ false → Step old now (Ended k how payload) (Refused errno.Einval) old
-unfolding Step
-ends_none old now k how payload h = not_running old now k how payload (stage_of old.sessions k) h

@@ -1,6 +1,6 @@
 -- How many keys a user has when one more is made.
 use Rattle.std.proofs.Common.{◌≡◌, ◌∙◌, ap, sym, refl, ℕ, ◌+◌, Bool, true, false, cond, inl, inr}
-use Rattle.std.specs.Prelude.{Option, Some, None, ◌==◌, is_some, nat_le}
+use Rattle.std.specs.Prelude.{Option, Some, None, ◌==◌, is_some}
 use Rattle.std.specs.Option.{option_map_or}
 use Rattle.std.specs.Ordering.{nat_cmp}
 use Rattle.std.specs.Cmp.{nat_cmp_total}
@@ -8,7 +8,7 @@ use Rattle.std.specs.FinMap as map
 use Rattle.std.proofs.lemmas.Bool.{cases_eq}
 use Rattle.rk_table.specs.Maps.{kept_where}
 use Rattle.rk_keys.specs.declared.key.Key.{Key}
-use Rattle.rk_keys.specs.Known.{keys_of, has_all_keys}
+use Rattle.rk_keys.specs.Known.{keys_of}
 use Rattle.rk_keys.proofs.Held.{at_new, at_other}
 
 module _ {V : Type 0} where
@@ -51,11 +51,3 @@ pub keys_of-insert : (keys : map.FinMap nat_cmp Key) (k : ℕ) (key : Key) (uid 
 keys_of-insert keys k key uid none =
     let p : ℕ → Key → Bool = λ _ key. key.owner == uid in
     ap map.len (kept_where-insert p keys k key none) ∙ len-put_if (key.owner == uid) (kept_where p keys) k key (none_kept p keys k none)
-
--- whether a user has its 200 keys is another matter for another's new key
-pub has_all_keys-insert : (keys : map.FinMap nat_cmp Key) (k : ℕ) (key : Key) (uid : ℕ) → map.get keys k ≡ None
-    → has_all_keys (map.insert keys k key) uid ≡ cond (key.owner == uid) (nat_le 200 (keys_of keys uid + 1)) (has_all_keys keys uid)
-has_all_keys-insert keys k key uid none = ap (nat_le 200) (keys_of-insert keys k key uid none) ∙ split (key.owner == uid) where
-  split : (b : Bool) → nat_le 200 (cond b (keys_of keys uid + 1) (keys_of keys uid)) ≡ cond b (nat_le 200 (keys_of keys uid + 1)) (has_all_keys keys uid)
-  split true = refl
-  split false = refl

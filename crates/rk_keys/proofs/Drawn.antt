@@ -24,9 +24,6 @@ pub Extends-with_drawn : (d : Drawn) (k : ℕ) → Extends d (with_drawn k d)
 Extends-with_drawn d k =
     (refl, refl, λ q e. neither (eq_by_cmp nat_cmp q k) (contains d.used q) (sym (contains-insert nat_cmp_total d.used k q) ∙ e))
 
-pub Extends-trans : (a b c : Drawn) → Extends a b → Extends b c → Extends a c
-Extends-trans a b c old new = (new.0 ∙ old.0, new.1 ∙ old.1, λ k e. old.2 k (new.2 k e))
-
 still_unused : (d : Drawn) (k j : ℕ) → k < j → contains d.used j ≡ false → contains (insert d.used k) j ≡ false
 still_unused d k j less e =
     contains-insert nat_cmp_total d.used k j ∙ ap (λ b. b || contains d.used j) (tie j k ∙ ne_eqb k j (λ same. absurd (omega (arith, less, same)))) ∙ e

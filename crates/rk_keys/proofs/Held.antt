@@ -6,14 +6,14 @@ use Rattle.std.specs.Ordering.{nat_cmp, eq_by_cmp}
 use Rattle.std.specs.Cmp.{nat_cmp_total, nat_eq_equiv}
 use Rattle.std.specs.FinMap as map
 use Rattle.std.specs.FinSet as set
-use Rattle.std.proofs.lemmas.Bool.{eq-eqb, ne_eqb, both_ways, cases_eq, or_parts, true_from_ne_false}
+use Rattle.std.proofs.lemmas.Bool.{eq-eqb, ne_eqb, both_ways, cases_eq, or_parts}
 use Rattle.std.proofs.lemmas.Option.{none-some, same_Some}
 use Rattle.rk_table.proofs.Entries.{tie}
 use Rattle.rk_table.specs.Maps.{changed_at}
 use Rattle.rk_keys.specs.declared.key.Key.{Key}
 use Rattle.rk_keys.specs.declared.key.Condition.{Condition}
 use Rattle.rk_keys.specs.Key.{have_one_name}
-use Rattle.rk_keys.specs.Serials.{Drawn, Extends, with_drawn}
+use Rattle.rk_keys.specs.Serials.{Drawn, with_drawn}
 use Rattle.rk_keys.specs.Known.{Known, IsNaming, IsHeld, with_key_changed, without_key, concluded, marked, timed}
 use Rattle.rk_keys.proofs.Names.{SharesNumber, have_one_name-sym, have_one_name-refl, have_one_name-same, stays_drawn}
 
@@ -76,14 +76,6 @@ held_empty d = record {
   };
   drawn = λ k _. map.get-empty nat_cmp k;
   numbered = λ k n is. absurd (none-some n (sym (map.get-empty nat_cmp k) ∙ is));
-}
-
--- further serials are drawn
-pub held_drawn : (known : Known) (d : Drawn) → Extends known.serials d → IsHeld known → IsHeld (record known { serials = d })
-held_drawn known d more held = record {
-  naming = held.naming;
-  drawn = λ k e. held.drawn k (more.2 k e);
-  numbered = λ k n is. true_from_ne_false _ (λ e. both_ways _ (more.2 n e) (held.numbered k n is));
 }
 
 abbrev pub KeepsName : (Key → Key) → Type 0

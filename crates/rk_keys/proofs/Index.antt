@@ -46,9 +46,6 @@ not_less r e f = cc
 same_bytes : (xs ys : List ℕ) → slice_cmp nat_cmp xs ys ≡ Equal → xs ≡ ys
 same_bytes xs ys e = map.slice_cmp-IsAntisymmetric map.nat_cmp-IsAntisymmetric xs ys e
 
-bytes_tie : (xs ys : List ℕ) → xs ≡ ys → slice_cmp nat_cmp xs ys ≡ Equal
-bytes_tie xs ys e = ap (λ zs. slice_cmp nat_cmp zs ys) e ∙ tied_itself nat_list_cmp_total ys
-
 not_below_zero : (q : ℕ) → is_lt (nat_cmp q 0) ≡ false
 not_below_zero q = elim (cases_eq q 0) [
   | inl e ↦ ap is_lt (ap (λ n. nat_cmp n 0) e ∙ tied_itself nat_cmp_total 0)

@@ -5,12 +5,11 @@ use Rattle.std.specs.Prelude.{Option, Some, None, MatchOption, ◌⊎◌}
 use Rattle.std.proofs.lemmas.Bool.{cases_lt}
 use Rattle.rk_message.specs.declared.fault.Fault.{Fault}
 use Rattle.rk_message.specs.declared.fault.Fault.TheVariants.{Trailing, Short, UnknownOp}
-use Rattle.rk_message.specs.Wire.{Value, Kind, Message, Fields, IsMessage, kinds_of, spelling}
+use Rattle.rk_message.specs.Wire.{Value, Kind, Message, Fields, kinds_of}
 use Rattle.rk_message.specs.Reading.{◌>>=◌, value_at, values_at, all_values, message_with, message_behind, message_at}
 use Rattle.rk_message.specs.Leftmost.{IsLeftmost, IsFaultOf}
 use Rattle.rk_message.proofs.Numbers.{IsBytes, IsBytes-rest}
 use Rattle.rk_message.proofs.Fields.{value_takes, value_again}
-use Rattle.rk_message.proofs.Messages.{message_again}
 
 abbrev failed : {A : Type 0} → Fault → Result A Fault
 failed f = Err f
@@ -125,10 +124,3 @@ pub fault_is_met : (lines : Fields) (body : List ℕ) (f : Fault) → IsFaultOf 
 unfolding message_at message_behind
 fault_is_met lines [] f is = ap (failed {A = Message}) (sym is)
 fault_is_met lines (op ∷ rest) f is = with_met (kinds_of lines op) op rest f is
-
--- a body that spells a message has no fault
-pub spelled_is_sound : (lines : Fields) (m : Message) (f : Fault) → IsMessage lines m → IsFaultOf lines (spelling m) f → ⊥
-spelled_is_sound lines m f is fault =
-    let fails = fault_is_met lines (spelling m) f fault in
-    let reads = message_again lines m is in
-    cc

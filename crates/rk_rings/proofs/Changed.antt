@@ -42,14 +42,6 @@ module _ {X : Type 0} where
         | Some v ↦ λ e. len-insert nat_cmp_total m k (f v) ∙ ap (λ o. cond (is_some o) (len m) (len m + 1)) e
       ] refl
 
-  -- two changes that agree on the value there
-  pub changed_alike : (k : ℕ) (f g : X → X) (m : FinMap nat_cmp X) → ((v : X) → get m k ≡ Some v → f v ≡ g v) → changed_at k f m ≡ changed_at k g m
-  changed_alike k f g m h =
-      elim (get m k) as (λ o. get m k ≡ o → option_map_or (λ v. insert m k (f v)) o m ≡ option_map_or (λ v. insert m k (g v)) o m) [
-        | None ↦ λ e. refl
-        | Some v ↦ λ e. ap (insert m k) (h v e)
-      ] refl
-
   -- what a search by a test of values finds
   pub by_test : (p : X → Bool) (m : FinMap nat_cmp X) (o : Option ℕ) → FindsEntry (λ k v. p v) m o
       → MatchOption o ((k : ℕ) (v : X) → get m k ≡ Some v → p v ≡ false) (λ k. option_map_or p (get m k) false ≡ true)

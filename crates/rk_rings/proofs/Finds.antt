@@ -104,7 +104,3 @@ module _ {X : Type 0} where
 
   pub any_value : (p : X → Bool) (m : FinMap nat_cmp X) → list_any p (values m) ≡ list_any (λ e. p e.1) (entries m)
   any_value p m = any_mapped p (entries m)
-
-  head_found : (es : List (ℕ × X)) → es ≢ [] → (q : ℕ) × (v : X) × (find nat_cmp q es ≡ Some v)
-  head_found [] h = absurd (h refl)
-  head_found (e ∷ es) h = (e.0, e.1, ap (λ b. cond b (Some e.1) (find nat_cmp e.0 es)) (tied_itself e.0))

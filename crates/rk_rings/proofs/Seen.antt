@@ -12,8 +12,8 @@ use Rattle.std.proofs.lemmas.Bool.{both_ways, eq-eqb}
 use Rattle.rk_table.specs.Maps.{changed_at, kept_where}
 use Rattle.rk_table.proofs.Entries.{get_in, tie}
 use Rattle.rk_rings.specs.declared.kind.NewRing.{NewRing}
-use Rattle.rk_rings.specs.Ring.{Ring, empty_ring, is_linked, has_link, with_link, without_link, without_links}
-use Rattle.rk_rings.specs.Numbered.{Numbered, Rings, ring_seen, rings_seen, holds, is_held, linked, unlinked, cleared, new_ring}
+use Rattle.rk_rings.specs.Ring.{Ring, empty_ring, is_linked, has_link, with_link, without_link}
+use Rattle.rk_rings.specs.Numbered.{Numbered, Rings, ring_seen, rings_seen, holds, is_held, linked, unlinked, new_ring}
 use Rattle.rk_rings.proofs.Finds.{tied, some_entry, entry_found, any_value}
 use Rattle.rk_rings.proofs.Counts.{some_key, one_less, contains_key-remove}
 use Rattle.rk_rings.proofs.Links.{get-kept_where}
@@ -133,9 +133,6 @@ ring_seen-unlinked k r =
 
 no_keys : (r : Numbered) → r.links ≡ map.empty → (ring_seen r).keys ≡ set.empty
 no_keys r e = same_keys _ _ (λ q. contains-ring_seen r q ∙ ap (λ m. map.contains_key m q) e ∙ ap is_some (map.get-empty nat_cmp q) ∙ sym (set.contains-empty nat_cmp q))
-
-pub ring_seen-cleared : (r : Numbered) → ring_seen (cleared r) ≡ without_links (ring_seen r)
-ring_seen-cleared r = ap (λ s. record { kind = r.kind; uid = r.uid; keys = s }) (no_keys (cleared r) refl)
 
 pub ring_seen-new_ring : (w : NewRing) → ring_seen (new_ring w) ≡ empty_ring w.kind w.uid
 ring_seen-new_ring w = ap (λ s. record { kind = w.kind; uid = w.uid; keys = s }) (no_keys (new_ring w) refl)

@@ -4,9 +4,8 @@ use Rattle.std.specs.Prelude.{Option, Some, None, filter, nat_eq}
 use Rattle.std.specs.Prelude.{map as list_map}
 use Rattle.std.specs.Ordering.{nat_cmp, eq_by_cmp}
 use Rattle.std.specs.Cmp.{nat_cmp_total, unsigned_tied, nat_eq_equiv}
-use Rattle.std.specs.FinMap.{FinMap, from_entries, get, insert, find, get-from_entries, get-insert, same_map, entries, get-entries, remove, retain_keys, get-remove, get-retain_keys, from_entries_push, nat_cmp-IsAntisymmetric}
-use Rattle.std.proofs.lemmas.Bool.{eq-eqb, ne_eqb, eqb-true}
-use Rattle.std.proofs.lemmas.List.{at_drop_all}
+use Rattle.std.specs.FinMap.{FinMap, from_entries, get, insert, find, get-from_entries, same_map, entries, get-entries, remove, retain_keys, get-remove, get-retain_keys, from_entries_push, nat_cmp-IsAntisymmetric}
+use Rattle.std.proofs.lemmas.Bool.{ne_eqb}
 use Rattle.rk_table.specs.Maps.{changed_all}
 use Rattle.std.specs.Option.{option_map}
 use Rattle.std.specs.FinMap.Entries.{find-where_key}
@@ -35,29 +34,15 @@ module _ {A : Type 0} where
   all_changed f (x ∷ xs) zero h = absurd (omega arith)
   all_changed f (x ∷ xs) (suc i) h = ap (λ ys. f x ∷ ys) (all_changed f xs i (omega arith))
 
-  pub length-changed_front : (f : A → A) (xs : List A) (i : ℕ) → length (changed_front f xs i) ≡ length xs
-  length-changed_front f [] i = refl
-  length-changed_front f (x ∷ xs) zero = refl
-  length-changed_front f (x ∷ xs) (suc i) = ap suc (length-changed_front f xs i)
-
 module _ {X : Type 0} where
   find_drop : (q : ℕ) (es : List (ℕ × X)) (i : ℕ) (d : ℕ × X) → i < length es
       → find nat_cmp q (drop i es) ≡ cond (eq_by_cmp nat_cmp q (get_or es i d).0) (Some (get_or es i d).1) (find nat_cmp q (drop (i + 1) es))
   find_drop q es i d h = rw (add-one, drop-cons es i d)
 
-  -- the entry at i is the one that is looked for, or not
-  pub find_here : (q : ℕ) (es : List (ℕ × X)) (i : ℕ) (e : ℕ × X) → i < length es → e ≡ get_or es i e → e.0 ≡ q → find nat_cmp q (drop i es) ≡ Some e.1
-  find_here q es i e h is same =
-      find_drop q es i e h ∙ ap (λ (x : ℕ × X). cond (eq_by_cmp nat_cmp q x.0) (Some x.1) (find nat_cmp q (drop (i + 1) es))) (sym is)
-      ∙ ap (λ b. cond b (Some e.1) (find nat_cmp q (drop (i + 1) es))) (tie q e.0 ∙ eq-eqb _ _ same)
-
   pub find_later : (q : ℕ) (es : List (ℕ × X)) (i : ℕ) (e : ℕ × X) → i < length es → e ≡ get_or es i e → (e.0 ≡ q → ⊥) → find nat_cmp q (drop i es) ≡ find nat_cmp q (drop (i + 1) es)
   find_later q es i e h is other =
       find_drop q es i e h ∙ ap (λ (x : ℕ × X). cond (eq_by_cmp nat_cmp q x.0) (Some x.1) (find nat_cmp q (drop (i + 1) es))) (sym is)
       ∙ ap (λ b. cond b (Some e.1) (find nat_cmp q (drop (i + 1) es))) (tie q e.0 ∙ ne_eqb _ _ other)
-
-  pub find_past : (q : ℕ) (es : List (ℕ × X)) (i : ℕ) → length es ≤ i → find nat_cmp q (drop i es) ≡ None
-  find_past q es i h = at_drop_all (find nat_cmp q) es i h
 
   pub get_in : (es : List (ℕ × X)) (q : ℕ) → get (from_entries {R = nat_cmp} es) q ≡ find nat_cmp q es
   get_in es q = get-from_entries nat_cmp_total es q
@@ -119,14 +104,3 @@ module _ {X : Type 0} where
       ap (λ w. set es i ((get_or es i d).0, w)) new
       ∙ ap (λ ys. set ys i ((get_or ys i d).0, f (get_or ys i d).1)) is
       ∙ one_more_changed (λ e. (e.0, f e.1)) xs i d h
-
-  back_and_forth : (b : Bool) (x y : Option X) → (b ≡ true → y ≡ None) → cond b None (cond b x y) ≡ y
-  back_and_forth true x y h = sym (h refl)
-  back_and_forth false x y h = refl
-
-  -- what was put in at a new key and taken out again leaves no trace
-  pub taken_back : (m : FinMap nat_cmp X) (k : ℕ) (v : X) → get m k ≡ None → remove (insert m k v) k ≡ m
-  taken_back m k v new = same_map nat_cmp_total nat_cmp-IsAntisymmetric _ _ (λ q.
-      get-remove nat_cmp_total (insert m k v) k q
-      ∙ ap (cond (eq_by_cmp nat_cmp q k) None) (get-insert nat_cmp_total m k v q)
-      ∙ back_and_forth (eq_by_cmp nat_cmp q k) (Some v) (get m q) (λ e. ap (get m) (sym (eqb-true _ _ (sym (tie q k) ∙ e))) ∙ new))
