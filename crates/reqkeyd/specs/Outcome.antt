@@ -1,9 +1,20 @@
--- What the program did on its streams.
-use Rattle.std.specs.Prelude.{◌≡◌, ℕ, List, Option, IfSome, ◌⊎◌}
+-- What the program does on its streams, by the words that it is called with.
+use Rattle.std.specs.Prelude.{ℕ, Bool, false, List, [], ◌∷◌, codes, Option, IfSome}
+use Rattle.std.specs.Str.{bytes_eq}
 use Rattle.std.specs.Io.KnownBytes.{Appends}
 use Rattle.rk_replay.specs.Written.{IsWritten}
 
--- It read a script to its end and wrote what is written for it, or it read nothing and wrote some text: what was left to read, and what was written, before and after.
-abbrev pub HasRun : Option (List ℕ) → Option (List ℕ) → Option (List ℕ) → Option (List ℕ) → Type 0
-HasRun unread unread' contents contents' =
-    IfSome unread (λ input. (text : List ℕ) × (IsWritten input text ⊎ (unread' ≡ unread)) × Appends contents contents' text)
+-- the words are the name of the program and `replay`, and nothing else
+abbrev pub asks_replay : List (List ℕ) → Bool
+asks_replay [] = false
+asks_replay (name ∷ []) = false
+asks_replay (name ∷ word ∷ []) = bytes_eq word (codes "replay")
+asks_replay (name ∷ word ∷ more ∷ words) = false
+
+-- it read a script to its end and wrote what is written for it: what was left to read, and what was written, before and after
+abbrev pub HasPlayed : Option (List ℕ) → Option (List ℕ) → Option (List ℕ) → Type 0
+HasPlayed unread contents contents' = IfSome unread (λ input. (text : List ℕ) × IsWritten input text × Appends contents contents' text)
+
+-- it wrote a text, whatever it says: what was written, before and after
+abbrev pub HasTold : Option (List ℕ) → Option (List ℕ) → Type 0
+HasTold contents contents' = (text : List ℕ) × Appends contents contents' text

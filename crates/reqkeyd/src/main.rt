@@ -23,7 +23,7 @@ fn main(rt: HostRuntime) -> ExitCode {
         Err(error) if error.kind() == ErrorKind::OutOfMemory => {
             return ExitCode::from(run::no_memory(&mut errors));
         }
-        Err(_) => return ExitCode::from(run::not_text(&mut errors)),
+        Err(_) => return ExitCode::from(run::usage(&mut errors)),
     };
     let (mut reader, mut writer) = (rt.stdin(), rt.stdout());
     let status = run::run_words(&rt, words.as_slice(), &mut reader, &mut writer, &mut errors);

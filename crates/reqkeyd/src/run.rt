@@ -1,7 +1,6 @@
 //! What the words ask for, done over the streams that are passed in.
-ghost use Rattle.std.specs.Prelude.{◌≡◌, ◌≤◌, ℕ, List};
-ghost use Rattle.std.specs.Io.KnownBytes.{Appends};
-ghost use Rattle.reqkeyd.specs.Outcome.{HasRun};
+ghost use Rattle.std.specs.Prelude.{◌≡◌, ◌≤◌, true, false, map, string_bytes};
+ghost use Rattle.reqkeyd.specs.Outcome.{asks_replay, HasPlayed, HasTold};
 
 use crate::args::{command, is_memory};
 use clap::Error;
@@ -23,17 +22,33 @@ pub fn no_memory<E: Write>(errors: &mut E) -> u8
     FAILED
 }
 
-/// The answer to words that are not text.
-pub fn not_text<E: Write>(errors: &mut E) -> u8
+/// The usage in one line, for words that are not text, and for those that could be read and ask for nothing.
+pub fn usage<E: Write>(errors: &mut E) -> u8
     ensures { result ≡ 2 }
 {
     let _ = errors.write_all(b"usage: reqkeyd replay\n");
     USAGE
 }
 
+/// Tells what was asked for.
+fn tell<W: Write>(text: &str, writer: &mut W) -> u8
+    ensures told { result ≡ 0 → HasTold (W.contents writer.old) (W.contents writer.new) }
+    ensures status { result ≤ 1 }
+{
+    let Ok(()) = writer.write_all(text.as_bytes()) else {
+        return FAILED;
+    };
+    match writer.flush() {
+        Ok(()) => 0,
+        Err(_) => FAILED,
+    }
+}
+
 /// Says what the command line lacks on the stream that it is for: help and version are asked for, all else is a fault.
 fn refused<W: Write, E: Write>(alloc: Global, error: &Error, writer: &mut W, errors: &mut E) -> u8
-    ensures told { result ≡ 0 → (text : List ℕ) × Appends (W.contents writer.old) (W.contents writer.new) text }
+    ensures told { result ≡ 0 → HasTold (W.contents writer.old) (W.contents writer.new) }
+    ensures quiet { result ≡ 0 → errors.new ≡ errors.old }
+    ensures usage { result ≡ 2 → writer.new ≡ writer.old }
     ensures status { result ≤ 2 }
 {
     if is_memory(error) {
@@ -44,19 +59,27 @@ fn refused<W: Write, E: Write>(alloc: Global, error: &Error, writer: &mut W, err
     };
     if error.use_stderr() {
         let _ = errors.write_all(text.as_bytes());
-        USAGE
-    } else {
-        match writer.write_all(text.as_bytes()) {
-            Ok(()) => 0,
-            Err(_) => FAILED,
-        }
+        return USAGE;
+    }
+    tell(&text, writer)
+}
+
+/// Whether the words are the name of the program and `replay`, and nothing else.
+fn is_replay(words: &[String]) -> bool
+    ensures { result ≡ asks_replay (map string_bytes words.now) }
+{
+    match words {
+        [_, word] => word.as_str() == "replay",
+        _ => false,
     }
 }
 
 /// Runs the program on these words and streams, and gives its status: 0; 1 where a script could not be run to its end or memory
-/// is lacking, with a line on `errors`; 2 for words that ask for nothing that there is, with the usage on `errors`.
+/// is lacking, with a line on `errors`, or where `writer` fails; 2 for words that ask for nothing that there is, with the usage on
+/// `errors`.
 ///
-/// Help and the version are asked for, so they are written to `writer` with status 0. The first word is the name of the program.
+/// The first word is the name of the program. Where `replay` is the only other one, a script is read from `reader` and played to
+/// `writer`. For all other words nothing is read. Help and the version are asked for, so they are written to `writer` with status 0.
 pub fn run_words<R: AllocGlobal, I: Read, W: Write, E: Write>(
     rt: &R,
     words: &[String],
@@ -64,16 +87,43 @@ pub fn run_words<R: AllocGlobal, I: Read, W: Write, E: Write>(
     writer: &mut W,
     errors: &mut E,
 ) -> u8
-    // With status 0 it has written the lines of a served list for the happenings of the script that it read, or it has read nothing.
-    ensures run { result ≡ 0 → HasRun (I.remaining reader.old) (I.remaining reader.new) (W.contents writer.old) (W.contents writer.new) }
+    // `replay` and nothing else: with status 0 it has written the lines of a served list for the happenings of the script that it read.
+    ensures played { asks_replay (map string_bytes words.now) ≡ true → result ≡ 0
+        → HasPlayed (I.remaining reader.old) (W.contents writer.old) (W.contents writer.new) }
+    ensures runs { asks_replay (map string_bytes words.now) ≡ true → result ≤ 1 }
+
+    // other words: nothing is read; help and version are told with status 0, and nothing is with status 2.
+    ensures unread { asks_replay (map string_bytes words.now) ≡ false → reader.new ≡ reader.old }
+    ensures told { asks_replay (map string_bytes words.now) ≡ false → result ≡ 0 → HasTold (W.contents writer.old) (W.contents writer.new) }
+    ensures usage { result ≡ 2 → writer.new ≡ writer.old }
+
+    ensures quiet { result ≡ 0 → errors.new ≡ errors.old }
     ensures status { result ≤ 2 }
 {
     let alloc = rt.alloc();
+    if is_replay(words) {
+        return replay(alloc, reader, writer, errors);
+    }
+    explain(alloc, words, writer, errors)
+}
+
+/// Answers words that ask for no script: help, the version, or what they lack.
+fn explain<W: Write, E: Write>(
+    alloc: Global,
+    words: &[String],
+    writer: &mut W,
+    errors: &mut E,
+) -> u8
+    ensures told { result ≡ 0 → HasTold (W.contents writer.old) (W.contents writer.new) }
+    ensures quiet { result ≡ 0 → errors.new ≡ errors.old }
+    ensures usage { result ≡ 2 → writer.new ≡ writer.old }
+    ensures status { result ≤ 2 }
+{
     let Ok(command) = command(alloc) else {
         return no_memory(errors);
     };
     match command.try_get_matches_from(words) {
-        Ok(_) => replay(alloc, reader, writer, errors),
+        Ok(_) => usage(errors),
         Err(error) => refused(alloc, &error, writer, errors),
     }
 }
@@ -85,7 +135,8 @@ fn replay<I: Read, W: Write, E: Write>(
     writer: &mut W,
     errors: &mut E,
 ) -> u8
-    ensures run { result ≡ 0 → HasRun (I.remaining reader.old) (I.remaining reader.new) (W.contents writer.old) (W.contents writer.new) }
+    ensures played { result ≡ 0 → HasPlayed (I.remaining reader.old) (W.contents writer.old) (W.contents writer.new) }
+    ensures quiet { result ≡ 0 → errors.new ≡ errors.old }
     ensures status { result ≤ 1 }
 {
     match run_script(alloc, reader, writer) {

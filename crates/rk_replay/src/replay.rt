@@ -77,7 +77,8 @@ impl Replay {
         ensures served { IfSome (told result) (λ outputs. ServesNext self.old.conf self.old.left
             (record { now = now; happening = happening.now; outputs = outputs }) self.new.left) }
         // The moves of sessions are made in the order of work: each by the first that can, clients by rising number, then handlers by rising key.
-        ensures order { IfSome (told result) (λ outputs. (steps : List Past) × ServesInOrder self.old.conf self.old.left now happening.now outputs steps self.new.left) }
+        ensures order { IfSome (told result) (λ outputs. (steps : List Past)
+            × ServesInOrder self.old.conf self.old.left now happening.now outputs steps self.new.left) }
         // whatever the order of arrival, the seats stand in that order
         ensures seats { are_in_order self.new.left.seats ≡ true }
         ensures conf { self.new.conf ≡ self.old.conf }
