@@ -15,7 +15,7 @@ use Rattle.rk_machine.specs.declared.event.Event.{Event}
 use Rattle.rk_machine.specs.declared.event.Event.TheVariants.{Asked, Launched, Ended, Collect, Gone}
 use Rattle.rk_machine.specs.declared.event.Ran.TheVariants as ran
 use Rattle.rk_machine.specs.declared.event.Answer.{Answer}
-use Rattle.rk_machine.specs.declared.event.Answer.TheVariants.{Done, Start, Waiting, Refused}
+use Rattle.rk_machine.specs.declared.event.Answer.TheVariants.{Done, Start, Waiting, Negate, Refused}
 use Rattle.rk_machine.specs.World.{World}
 use Rattle.rk_machine.specs.Steps.{Beginning, Past, Run}
 
@@ -67,7 +67,20 @@ launches _ k = false
 abbrev pub is_launch : ℕ → Past → Bool
 is_launch k s = is_done s.answer && launches s.event k
 
--- a failed launch is an ending, too
+abbrev pub negates_by : Answer → ℕ → Bool
+negates_by (Negate j) k = j == k
+negates_by _ k = false
+
+-- the piped handler of k has ended, and another is to be started
+abbrev pub is_negate : ℕ → Past → Bool
+is_negate k s = negates_by s.answer k
+
+-- the steps after the one by which another handler was to be started for k; all of them where there is none
+abbrev pub since_negate : ℕ → List Past → List Past
+since_negate k [] = []
+since_negate k (s ∷ before) = if is_negate k s then [] else s ∷ since_negate k before
+
+-- a failed launch is an ending, too; an end that another handler follows is none
 abbrev pub ends : Event → ℕ → Bool
 ends (Launched j ran.Failed) k = j == k
 ends (Ended j how payload) k = j == k
@@ -123,14 +136,15 @@ waited s [] = None
 waited s (p ∷ before) =
     option_map_or (λ wait. Some wait) (wait_begun s p.event p.answer) (if is_wait_ended s p then None else waited s before)
 
--- ---- one construction: it happens once, in order
+-- ---- one construction: it happens once, in order; a second launch comes only after a piped handler failed
 
 -- what a step that concerns k finds before it
 pub record OnceFor (k : ℕ) (s : Past) (before : List Past) : Type 0 where
   pub start : is_start k s ≡ true → never (is_start k) before
-  pub launch : is_launch k s ≡ true → happened (is_start k) before × never (is_launch k) before
-  pub completion : is_completion k s ≡ true → happened (is_launch k) before × never (is_completion k) before × never (is_ending k) before
-  pub ending : is_ending k s ≡ true → happened (is_launch k) (s ∷ before) × never (is_ending k) before
+  pub launch : is_launch k s ≡ true → happened (is_start k) before × never (is_launch k) (since_negate k before) × never (is_ending k) before
+  pub negate : is_negate k s ≡ true → happened (is_launch k) before × never (is_negate k) before × never (is_completion k) before × never (is_ending k) before
+  pub completion : is_completion k s ≡ true → happened (is_launch k) (since_negate k before) × never (is_completion k) before × never (is_ending k) before
+  pub ending : is_ending k s ≡ true → happened (is_launch k) (since_negate k (s ∷ before)) × never (is_ending k) before
 
 -- each construction happens once, in order
 abbrev pub EachOnce : List Past → Type 0

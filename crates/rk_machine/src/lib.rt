@@ -21,25 +21,36 @@
 //! They know nothing of tables, of an order of work or of the code. A free choice stays free: any serial that was never drawn, and whose
 //! turn it is.
 //!
+//! # What is owed
+//!
+//! Whoever records the steps of a daemon has to keep room for those that no want of memory or of room may refuse: the end of a client, the launches
+//! and ends of a construction, the collect of a wait. `Owing` counts them for a world, for one client or construction, and for a step, and
+//! `Recording` says how each step changes the counts ([`every_step_owed`]).
+//!
 //! # How it is built
 //!
-//! `event` has what happens and what is answered, `greeting` and `asker` what the definitions of the asks speak of, `laws` the one call that promises
-//! the laws.
+//! `event` has what happens and what is answered, `copying` and `equality` copy and compare them, `greeting` and `asker` have what the definitions
+//! of the asks speak of, `owing` counts what is owed, and `laws` has the one call that promises the laws.
 //!
 //! `proofs/Effects.antt` turns a step inside out once: whatever step the machine may take is one of some twenty, each with what it found and what it
 //! leaves. Every law is proved over these (`proofs/Lawful.antt`), and so is what others hold of every step: which constructions and clients there
-//! are after it (`proofs/Stages.antt`, `proofs/Presence.antt`), and that what was never drawn is none (`proofs/Idle.antt`).
+//! are after it (`proofs/Stages.antt`, `proofs/Presence.antt`), that what was never drawn is none (`proofs/Idle.antt`), and what is owed
+//! (`proofs/Recorded.antt`).
 #![tactic(auto)]
 
 mod asker;
+mod copying;
+mod equality;
 mod event;
 mod greeting;
 mod laws;
+mod owing;
 
 pub use asker::Asker;
 pub use event::{Answer, Event, How, Ran, done};
 pub use greeting::Greeting;
-pub use laws::every_run;
+pub use laws::{every_run, every_step_owed};
+pub use owing::{session_owes, stage_ends, stage_owes};
 
 #[cfg(test)]
 mod tests;

@@ -1,5 +1,34 @@
 //! What a command is made for.
+ghost use Rattle.std.specs.Prelude.{◌≡◌};
+
 use rk_names::{Callout, Description, Serial, TypeName};
+use std::alloc::AllocError;
+
+/// What a command is to do with the key (request-key.conf(5), "op").
+#[derive(Clone, Copy, Debug, PartialEq, Eq)]
+pub enum Op {
+    /// Make it.
+    Create,
+    /// Say that it cannot be made, after a piped command that was to make it failed.
+    Negate,
+}
+
+impl Op {
+    ghost use Rattle.std.specs.Prelude.{◌≡◌, true};
+    ghost use Rattle.rk_names.specs.Rules.{is_text};
+    ghost use Rattle.rk_macro.specs.Ops.{op_name};
+
+    /// Its name, as it stands in a line.
+    pub fn as_bytes(self) -> &'static [u8]
+        ensures value { result.now ≡ op_name self }
+        ensures text { is_text result.now ≡ true }
+    {
+        match self {
+            Op::Create => b"create",
+            Op::Negate => b"negate",
+        }
+    }
+}
 
 /// The request that a command is started for: the key under construction, the callout, and the requester.
 ///
@@ -8,6 +37,8 @@ use rk_names::{Callout, Description, Serial, TypeName};
 pub struct Subject {
     /// The key under construction.
     pub key: Serial,
+    /// What the command is to do with it.
+    pub op: Op,
     /// Its type.
     pub typ: TypeName,
     /// Its description.
@@ -24,4 +55,55 @@ pub struct Subject {
     pub process: u32,
     /// The requester's session ring, or 0.
     pub session: u32,
+}
+
+impl Clone for Subject {
+    ghost is_clone = { λ subject copy. copy ≡ subject };
+
+    fn clone(&self) -> Result<Subject, AllocError> {
+        Ok(Subject {
+            key: self.key,
+            op: self.op,
+            typ: self.typ.clone()?,
+            desc: self.desc.clone()?,
+            callout: self.callout.clone()?,
+            uid: self.uid,
+            gid: self.gid,
+            thread: self.thread,
+            process: self.process,
+            session: self.session,
+        })
+    }
+}
+
+impl Subject {
+    ghost use Rattle.std.specs.Prelude.{◌≡◌, ◌↔◌, IsTrue};
+
+    /// Whether the two are equal, field by field.
+    pub fn equals(&self, other: &Subject) -> bool
+        ensures { IsTrue result ↔ (self.now ≡ other.now) }
+    {
+        self.has_names_of(other) && self.has_numbers_of(other)
+    }
+
+    fn has_names_of(&self, other: &Subject) -> bool
+        ensures { IsTrue result ↔ ((self.now.typ ≡ other.now.typ) × (self.now.desc ≡ other.now.desc) × (self.now.callout ≡ other.now.callout)) }
+    {
+        self.typ.as_bytes() == other.typ.as_bytes()
+            && self.desc.as_bytes() == other.desc.as_bytes()
+            && self.callout.as_bytes() == other.callout.as_bytes()
+    }
+
+    fn has_numbers_of(&self, other: &Subject) -> bool
+        ensures { IsTrue result ↔ ((self.now.key ≡ other.now.key) × (self.now.op ≡ other.now.op) × (self.now.uid ≡ other.now.uid) × (self.now.gid ≡ other.now.gid)
+            × (self.now.thread ≡ other.now.thread) × (self.now.process ≡ other.now.process) × (self.now.session ≡ other.now.session)) }
+    {
+        self.key == other.key
+            && self.op == other.op
+            && self.uid == other.uid
+            && self.gid == other.gid
+            && self.thread == other.thread
+            && self.process == other.process
+            && self.session == other.session
+    }
 }

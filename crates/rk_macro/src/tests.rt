@@ -9,6 +9,7 @@ use std::test::Fail;
 fn subject(alloc: Global) -> Result<Subject, AllocError> {
     Ok(Subject {
         key: Serial::new(3).ok_or(AllocError)?,
+        op: Op::Create,
         typ: TypeName::new(alloc, b"user").map_err(|_| AllocError)?,
         desc: Description::new(alloc, b"debug:x").map_err(|_| AllocError)?,
         callout: Callout::new(alloc, b"q").map_err(|_| AllocError)?,
@@ -145,5 +146,26 @@ fn words_are_kept(rt: HostRuntime) -> Result<(), Fail> {
     items.push(word)?;
     let words = Words::new(items);
     assert_eq!(rt; words.as_slice().len(), 1);
+    Ok(())
+}
+
+#[test]
+fn subjects_are_copied_and_compared(rt: HostRuntime) -> Result<(), Fail> {
+    let alloc = rt.alloc();
+    let one = subject(alloc)?;
+    let copy = one.clone()?;
+    assert!(rt; copy.equals(&one));
+    let negated = Subject {
+        op: Op::Negate,
+        ..copy
+    };
+    assert!(rt; !negated.equals(&one));
+    assert_eq!(rt; negated.op.as_bytes(), b"negate".as_slice());
+    assert_eq!(rt; one.op.as_bytes(), b"create".as_slice());
+    let renamed = Subject {
+        callout: Callout::new(alloc, b"r").map_err(|_| AllocError)?,
+        ..subject(alloc)?
+    };
+    assert!(rt; !renamed.equals(&one));
     Ok(())
 }

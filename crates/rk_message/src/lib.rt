@@ -25,12 +25,14 @@
 //! The format stands once, as a table of first bytes and kinds of fields, in `specs/Table.antt`. `field` reads one
 //! field from the front of the bytes; `ask_reading` and `reply_reading` have a function for each line of
 //! the table. `spelling` writes fields; `ask_writing` and `reply_writing` name the fields of each
-//! message. What the table says of every body stands as laws in `laws`.
+//! message. What the table says of every body stands as laws in `laws`. `copying` and `equality` copy and compare messages.
 #![tactic(auto)]
 
 mod ask;
 mod ask_reading;
 mod ask_writing;
+mod copying;
+mod equality;
 mod fault;
 mod field;
 mod laws;

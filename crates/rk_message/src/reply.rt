@@ -3,6 +3,7 @@
 ghost use Rattle.std.specs.Prelude.{◌≡◌, ◌≤◌, Some, None, length, nat_lt, if◌then◌else◌};
 
 use rk_names::Errno;
+use std::alloc::AllocError;
 use std::marker::Model;
 
 /// The bytes of a reply: at most 65,533, so that with their length and the kind byte they fit the
@@ -47,6 +48,16 @@ impl ReplyBytes {
         ensures { result.items ≡ self }
     {
         self.bytes
+    }
+}
+
+impl Clone for ReplyBytes {
+    ghost is_clone = { λ bytes copy. copy ≡ bytes };
+
+    fn clone(&self) -> Result<ReplyBytes, AllocError> {
+        Ok(ReplyBytes {
+            bytes: self.bytes.clone()?,
+        })
     }
 }
 

@@ -547,3 +547,34 @@ fn memory_may_be_refused(rt: HostRuntime) {
     let bad = Ask::read(alloc, b"\x02\0\x04user\0\x01a\x01\0\x01x\0\0\0\0\0");
     assert_eq!(rt; bad.err(), Some(ReadError::Fault(Fault::Trailing)));
 }
+
+/// A copy is equal to the ask of its place, and to no other.
+#[test]
+fn asks_are_copied_and_compared(rt: HostRuntime) -> Result<(), Fail> {
+    let alloc = rt.alloc();
+    let mut asks = plain_asks(alloc)?;
+    asks.push(("", request(alloc, None, 0).ok().ok_or("an ask")?))?;
+    asks.push(("", told(alloc, b"x", 0).ok().ok_or("an ask")?))?;
+    asks.push(("", told(alloc, b"y", 0).ok().ok_or("an ask")?))?;
+    asks.push(("", instantiate(alloc).ok().ok_or("an ask")?))?;
+    asks.push(("", add(alloc).ok().ok_or("an ask")?))?;
+    for (place, (_, ask)) in asks.iter().enumerate() {
+        let copy = ask.clone()?;
+        for (other_place, (hex, other)) in asks.iter().enumerate() {
+            assert_eq!(rt; copy.equals(other), place == other_place, "{hex}");
+        }
+    }
+    Ok(())
+}
+
+#[test]
+fn replies_are_copied_and_compared(rt: HostRuntime) -> Result<(), Fail> {
+    let replies = replies(rt.alloc())?;
+    for (place, (_, reply)) in replies.iter().enumerate() {
+        let copy = reply.clone()?;
+        for (other_place, (hex, other)) in replies.iter().enumerate() {
+            assert_eq!(rt; copy.equals(other), place == other_place, "{hex}");
+        }
+    }
+    Ok(())
+}

@@ -6,8 +6,10 @@ use Rattle.std.specs.FinMap.{get-empty}
 use Rattle.rk_names.specs.declared.numbers.SessionId.{SessionId}
 use Rattle.rk_names.specs.declared.numbers.SessionId.TheVariants.{Client, Handler}
 use Rattle.rk_conf.specs.declared.line.Line.{Line}
-use Rattle.rk_machine.specs.declared.event.Event.TheVariants.{Opened, Launched, Collect, Gone}
+use Rattle.rk_macro.specs.declared.subject.Subject.{Subject}
+use Rattle.rk_machine.specs.declared.event.Event.TheVariants.{Opened, Launched, Ended, Collect, Gone}
 use Rattle.rk_machine.specs.declared.event.Ran.TheVariants as ran
+use Rattle.rk_machine.specs.declared.event.How.{How}
 use Rattle.rk_machine.specs.declared.event.Answer.{Answer}
 use Rattle.rk_machine.specs.declared.event.Answer.TheVariants.{Refused}
 use Rattle.rk_machine.specs.Allowed.{done}
@@ -18,28 +20,28 @@ use Rattle.rk_replay.specs.declared.happening.StartResult.TheVariants.{Started, 
 use Rattle.rk_replay.specs.declared.output.Output.{Output}
 use Rattle.rk_replay.specs.declared.seat.Place.{Place}
 use Rattle.rk_replay.specs.declared.seat.Place.TheVariants.{Talks, Starts, Pipes}
-use Rattle.rk_replay.specs.Left.{Left, seat, Part, nothing}
+use Rattle.rk_replay.specs.Left.{Left, seat, without, Part, nothing}
 use Rattle.rk_replay.specs.Moves.{Move, collects, refuses, asks, shuts_client, shuts_handler, Moves}
-use Rattle.rk_replay.specs.Begins.{has_client, is_misplaced, Lengthens, Runs, Begins, place_with}
+use Rattle.rk_replay.specs.Begins.{has_client, is_misplaced, Adds, Lengthens, Runs, negated, Follows, EndsBy, is_last, is_followed, is_not_followed, Begins, place_with}
 use Rattle.rk_replay.specs.Served.{Acts}
 use Rattle.rk_replay.specs.Seated.{IsSeated}
 use Rattle.rk_machine.proofs.Stages.{kind_in}
-use Rattle.rk_replay.proofs.SeatLists.{is_start, at_has}
-use Rattle.rk_replay.proofs.Seating.{Fits, fits, seated, same_seats, reseated, opened_fits, gone_fits, gone_done, ended_fits, runs_fits, answered_fits}
+use Rattle.rk_replay.proofs.SeatLists.{sort_in, at_has}
+use Rattle.rk_replay.proofs.Seating.{agree, Fits, fits, seated, same_seats, reseated, opened_fits, gone_fits, gone_done, ended_fits, runs_fits, follows_fits, follows_none_fits, answered_fits}
 
 -- ---- moves
 
-pub seated_client : (left : Left) (i n : ℕ) (p : Place) → slice_get left.seats i ≡ Some (seat (Client n) p) → Fits left → has_client left.world n ≡ true
-seated_client left i n p at f = sym (f.clients n) ∙ at_has left.seats i (seat (Client n) p) at
+pub seated_client : (left : Left) (i n : ℕ) (p : Place) (m : Option Subject) → slice_get left.seats i ≡ Some (seat (Client n) p m) → Fits left → has_client left.world n ≡ true
+seated_client left i n p m at f = sym (f.clients n) ∙ at_has left.seats i (seat (Client n) p m) at
 
 move_fits : (conf : List Line) (now : ℕ) (old : Left) (place : ℕ) (part : Part) (new : Left) → Move conf now old place part new → Fits old → Fits new
 move_fits conf now old place part new (collects m) f = same_seats old new now (Collect m.who) m.answer m.step (λ n b. refl) (λ k o. refl) m.seats f
-move_fits conf now old place part new (refuses m) f = reseated old new place m.who (Talks m.stream) (Talks m.rest) m.free.at m.seats refl m.world f
-move_fits conf now old place part new (asks m) f = answered_fits conf now _ m.who m.ask part new m.answered (reseated old _ place m.who (Talks m.stream) (Talks m.rest) m.free.at refl refl refl f)
+move_fits conf now old place part new (refuses m) f = reseated old new place m.who (Talks m.stream) (Talks m.rest) m.made_for m.free.at m.seats refl m.world f
+move_fits conf now old place part new (asks m) f = answered_fits conf now _ m.who m.ask part new m.answered (reseated old _ place m.who (Talks m.stream) (Talks m.rest) m.made_for m.free.at refl refl refl f)
 move_fits conf now old place part new (shuts_client m) f =
-    let ra = gone_done old.world now m.client m.answer new.world (seated_client old place m.client (Talks m.stream) m.free.at f) m.step in
+    let ra = gone_done old.world now m.client m.answer new.world (seated_client old place m.client (Talks m.stream) m.made_for m.free.at f) m.step in
     gone_fits old new now m.client (subst (λ (y : Answer). Step old.world now (Gone (Client m.client)) y new.world) ra m.step) m.seats f
-move_fits conf now old place part new (shuts_handler m) f = reseated old new place (Handler m.key) (Talks m.stream) _ m.free.at m.seats refl m.world f
+move_fits conf now old place part new (shuts_handler m) f = reseated old new place (Handler m.key) (Talks m.stream) _ m.made_for m.free.at m.seats refl m.world f
 
 pub move_seated : (conf : List Line) (now : ℕ) (old : Left) (place : ℕ) (part : Part) (new : Left) → Move conf now old place part new → IsSeated old → IsSeated new
 move_seated conf now old place part new m s = seated new (move_fits conf now old place part new m (fits old s))
@@ -50,47 +52,58 @@ moves_seated conf now old (p ∷ ps) new m s = moves_seated conf now m.1 ps new 
 
 -- ---- own steps
 
-kept_place : (more : List ℕ) (p : Place) → is_start (place_with more p) ≡ is_start p
+kept_place : (more : List ℕ) (p : Place) → sort_in (place_with more p) ≡ sort_in p
 kept_place more (Talks stream) = refl
-kept_place more (Starts piped subject) = refl
+kept_place more (Starts piped) = refl
 kept_place more (Pipes bytes) = refl
 
 lengthens_fits : (s : SessionId) (more : List ℕ) (old : Left) (part : Part) (new : Left) → Lengthens s more old part new → Fits old → Fits new
-lengthens_fits s more old part new h f = reseated old new h.reseats.index s h.place (place_with more h.place) h.reseats.at h.reseats.seats (kept_place more h.place) h.world f
+lengthens_fits s more old part new h f = reseated old new h.reseats.index s h.place (place_with more h.place) h.made_for h.reseats.at h.reseats.seats (kept_place more h.place) h.world f
 
 run_fits : (now k : ℕ) (old : Left) (part : Part) (new : Left) → Runs now k old part new → Fits old → Fits new
 run_fits now k old part new h f = by_kind h.piped h.steps.step h.reseats.seats
   where
-    by_kind : (b : Bool) → Step old.world now (Launched k (cond b ran.Piped ran.Plain)) done new.world → new.seats ≡ Rattle.std.specs.Prelude.slice_set old.seats h.reseats.index (seat (Handler k) (cond b (Pipes []) (Talks Rattle.rk_replay.specs.Streams.no_bytes))) → Fits new
-    by_kind true step seats = runs_fits old new now k ran.Piped h.reseats.index _ (Pipes []) refl refl step h.reseats.at seats f
-    by_kind false step seats = runs_fits old new now k ran.Plain h.reseats.index _ (Talks Rattle.rk_replay.specs.Streams.no_bytes) refl refl step h.reseats.at seats f
+    by_kind : (b : Bool) → Step old.world now (Launched k (cond b ran.Piped ran.Plain)) done new.world → new.seats ≡ Rattle.std.specs.Prelude.slice_set old.seats h.reseats.index (seat (Handler k) (cond b (Pipes []) (Talks Rattle.rk_replay.specs.Streams.no_bytes)) (Some h.subject)) → Fits new
+    by_kind true step seats = runs_fits old new now k ran.Piped h.reseats.index _ (Pipes []) h.subject refl step h.reseats.at seats f
+    by_kind false step seats = runs_fits old new now k ran.Plain h.reseats.index _ (Talks Rattle.rk_replay.specs.Streams.no_bytes) h.subject refl step h.reseats.at seats f
 
-begins_fits : (now : ℕ) (h : Happening) (old : Left) (part : Part) (new : Left) → is_misplaced old.world h ≡ false → Begins now h old part new → Fits old → Fits new
-begins_fits now (happening.Accept n) old part new placed (inl h) f = opened_fits old new now n _ placed h.0.step h.1 f
-begins_fits now (happening.Accept n) old part new placed (inr h) f = same_seats old new now (Opened (Client n)) (Refused h.0) h.1.step (λ m b. refl) (λ k o. refl) h.2 f
-begins_fits now (happening.Bytes n bytes) old part new placed h f = lengthens_fits (Client n) bytes old part new h f
-begins_fits now (happening.Gone n) old part new placed h f = gone_fits old new now n h.0.step h.1 f
-begins_fits now (happening.StartResult k Started) old part new placed h f = run_fits now k old part new h f
-begins_fits now (happening.StartResult k Failed) old part new placed h f = ended_fits old new now k (Launched k ran.Failed) (λ n b. refl) (λ q o. refl) h.0.step h.1 f
-begins_fits now (happening.HandlerBytes k bytes) old part new placed h f = lengthens_fits (Handler k) bytes old part new h f
-begins_fits now (happening.HandlerReadFault k) old part new placed h f = ended_fits old new now k _ (λ n b. refl) (λ q o. refl) h.0.step h.1 f
-begins_fits now (happening.HandlerEnded k how) old part new placed h f = ended_fits old new now k _ (λ n b. refl) (λ q o. refl) h.steps.step h.seats f
-begins_fits now (happening.WaitFault k) old part new placed h f = ended_fits old new now k _ (λ n b. refl) (λ q o. refl) h.0.step h.1 f
+-- a command that follows a piped one is plain
+follows_plain : (conf : List Line) (now k : ℕ) (how : How) (payload : Option (List ℕ)) (made_for : Option Subject) (old : Left) (part : Part) (new : Left) → Follows conf now k (Ended k how payload) made_for old part new → Fits old → Fits new
+follows_plain conf now k how payload made_for old part new h f =
+    follows_fits old new now k how payload (negated h.subject) h.step
+    (subst (λ (b : Bool). Adds (seat (Handler k) (Starts b) (Some (negated h.subject))) (without (Handler k) old.seats) new.seats) h.is_command.piped h.adds) f
+
+end_fits : (conf : List Line) (now k : ℕ) (how : How) (payload : Option (List ℕ)) (made_for : Option Subject) (old : Left) (part : Part) (new : Left) → EndsBy conf now k (Ended k how payload) made_for old part new → Fits old → Fits new
+end_fits conf now k how payload made_for old part new (is_last h seats) f = ended_fits old new now k (Ended k how payload) (λ n b. refl) (λ q o. refl) h.step seats f
+end_fits conf now k how payload made_for old part new (is_followed h) f = follows_plain conf now k how payload made_for old part new h f
+end_fits conf now k how payload made_for old part new (is_not_followed h) f = follows_none_fits old new h.mid now k how payload h.first h.second h.seats f
+
+begins_fits : (conf : List Line) (now : ℕ) (h : Happening) (old : Left) (part : Part) (new : Left) → is_misplaced old.world h ≡ false → Begins conf now h old part new → Fits old → Fits new
+begins_fits conf now (happening.Accept n) old part new placed (inl h) f = opened_fits old new now n _ placed h.0.step h.1 f
+begins_fits conf now (happening.Accept n) old part new placed (inr h) f = same_seats old new now (Opened (Client n)) (Refused h.0) h.1.step (λ m b. refl) (λ k o. refl) h.2 f
+begins_fits conf now (happening.Bytes n bytes) old part new placed h f = lengthens_fits (Client n) bytes old part new h f
+begins_fits conf now (happening.Gone n) old part new placed h f = gone_fits old new now n h.0.step h.1 f
+begins_fits conf now (happening.StartResult k Started) old part new placed h f = run_fits now k old part new h f
+begins_fits conf now (happening.StartResult k Failed) old part new placed h f = ended_fits old new now k (Launched k ran.Failed) (λ n b. refl) (λ q o. refl) h.0.step h.1 f
+begins_fits conf now (happening.HandlerBytes k bytes) old part new placed h f = lengthens_fits (Handler k) bytes old part new h f
+begins_fits conf now (happening.HandlerReadFault k) old part new placed h f = end_fits conf now k _ _ _ old part new h.ends f
+begins_fits conf now (happening.HandlerEnded k how) old part new placed h f = end_fits conf now k _ _ _ old part new h.ends f
+begins_fits conf now (happening.WaitFault k) old part new placed h f = end_fits conf now k _ _ _ old part new h.ends f
 
 -- ---- what is served
 
-pub begins_seated : (now : ℕ) (h : Happening) (old : Left) (part : Part) (new : Left) → is_misplaced old.world h ≡ false → Begins now h old part new → IsSeated old → IsSeated new
-begins_seated now h old part new placed b s = seated new (begins_fits now h old part new placed b (fits old s))
+pub begins_seated : (conf : List Line) (now : ℕ) (h : Happening) (old : Left) (part : Part) (new : Left) → is_misplaced old.world h ≡ false → Begins conf now h old part new → IsSeated old → IsSeated new
+begins_seated conf now h old part new placed b s = seated new (begins_fits conf now h old part new placed b (fits old s))
 
 pub acts_seated : (conf : List Line) (old : Left) (now : ℕ) (h : Happening) (outputs : List Output) (steps : List Past) (new : Left) → Acts conf old now h outputs steps new → IsSeated old → IsSeated new
-acts_seated conf old now h outputs steps new a s = moves_seated conf now a.begun a.parts new a.moves (begins_seated now h old a.own a.begun a.in_place a.begins s)
+acts_seated conf old now h outputs steps new a s = moves_seated conf now a.begun a.parts new a.moves (begins_seated conf now h old a.own a.begun a.in_place a.begins s)
 
 pub nothing_seated : (from : Beginning) → IsSeated (nothing from)
 nothing_seated from =
     seated (nothing from)
     (record {
       clients = λ n. sym (ap is_some (get-empty nat_cmp n));
-      kinds = λ k. sym (ap kind_in (get-empty nat_cmp k));
+      kinds = λ k. ap (λ o. agree (kind_in o) None) (get-empty nat_cmp k);
       apart = refl;
       idle = λ k h. ap kind_in (get-empty nat_cmp k);
     })

@@ -12,7 +12,7 @@ use Rattle.rk_message.specs.declared.reply.Reply.TheVariants as reply
 use Rattle.rk_machine.specs.declared.event.Event.TheVariants.{Asked, Launched, Collect, Gone}
 use Rattle.rk_machine.specs.declared.event.Ran.TheVariants as ran
 use Rattle.rk_machine.specs.declared.event.Answer.{Answer}
-use Rattle.rk_machine.specs.declared.event.Answer.TheVariants.{Done, Start, Waiting, Refused}
+use Rattle.rk_machine.specs.declared.event.Answer.TheVariants.{Done, Start, Waiting, Negate, Refused}
 use Rattle.rk_machine.specs.World.{World}
 use Rattle.rk_machine.specs.Steps.{Step}
 use Rattle.rk_machine.specs.Views.{is_ready, has_wait}
@@ -36,6 +36,7 @@ pub no_start : (a : Answer) → ((k : ℕ) (subject : Subject) → a ≡ Start k
 no_start (Start k subject) h = absurd (h k subject refl)
 no_start (Done r) h = refl
 no_start (Waiting k) h = refl
+no_start (Negate k) h = refl
 no_start (Refused e) h = refl
 
 module _ (conf : List Line) (now : ℕ) (old new : Left) (put put' : List Output) (who : SessionId) (ask : Ask) where
@@ -101,63 +102,66 @@ not_ready w s none = by_test (is_ready w s) refl
 
 -- ---- one move
 
-module _ (conf : List Line) (now : ℕ) (old new : Left) (put put' : List Output) (i : ℕ) (who : SessionId) where
-  pub collects_one : (p : Place) → slice_get old.seats i ≡ Some (seat who p) → is_stream p ≡ true → is_ready old.world who ≡ true → (answer : Answer) → Step old.world now (Collect who) answer new.world → new.seats ≡ old.seats → put' ≡ put ++ replies_to who answer → MovesOne conf now i old put new put'
+module _ (conf : List Line) (now : ℕ) (old new : Left) (put put' : List Output) (i : ℕ) (who : SessionId) (made_for : Option Subject) where
+  pub collects_one : (p : Place) → slice_get old.seats i ≡ Some (seat who p made_for) → is_stream p ≡ true → is_ready old.world who ≡ true → (answer : Answer) → Step old.world now (Collect who) answer new.world → new.seats ≡ old.seats → put' ≡ put ++ replies_to who answer → MovesOne conf now i old put new put'
   collects_one (Talks stream) at is ready answer step seats puts = record {
     part = one_step now (Collect who) answer (replies_to who answer);
-    move = collects (record { who = who; stream = stream; at = at; ready = ready; answer = answer; step = step; part_is = refl; seats = seats });
+    move = collects (record { who = who; stream = stream; made_for = made_for; at = at; ready = ready; answer = answer; step = step; part_is = refl; seats = seats });
     outputs = puts;
   }
-  collects_one (Starts piped subject) at is ready answer step seats puts = absurd (cc)
+  collects_one (Starts piped) at is ready answer step seats puts = absurd (cc)
   collects_one (Pipes bytes) at is ready answer step seats puts = absurd (cc)
 
-  pub refuses_one : (p p' : Place) (e : Errno) → slice_get old.seats i ≡ Some (seat who p) → (has_wait old.world who ≡ false) × (is_open p ≡ true) → IsNextAt (message.Refused e) p p' → new.world ≡ old.world → new.seats ≡ slice_set old.seats i (seat who p') → put' ≡ put ++ replies_to who (Refused e) → MovesOne conf now i old put new put'
+  pub refuses_one : (p p' : Place) (e : Errno) → slice_get old.seats i ≡ Some (seat who p made_for) → (has_wait old.world who ≡ false) × (is_open p ≡ true) → IsNextAt (message.Refused e) p p' → new.world ≡ old.world → new.seats ≡ slice_set old.seats i (seat who p' made_for) → put' ≡ put ++ replies_to who (Refused e) → MovesOne conf now i old put new put'
   refuses_one (Talks stream) p' e at free next world seats puts = record {
     part = no_step (reply_to who (reply.Refused e) ∷ []);
     move = refuses (record {
       who = who;
       stream = stream;
       rest = next.0;
+      made_for = made_for;
       free = record { at = at; no_wait = free.0; not_shut = not_false stream.is_shut free.1 };
       body = next.2.0;
       takes = next.2.1;
       error = e;
       refused = next.2.2;
       world = world;
-      seats = seats ∙ ap (λ (p : Place). slice_set old.seats i (seat who p)) next.1;
+      seats = seats ∙ ap (λ (p : Place). slice_set old.seats i (seat who p made_for)) next.1;
       part_is = refl;
     });
     outputs = puts;
   }
-  refuses_one (Starts piped subject) p' e at free next world seats puts = absurd (let h = free.1 in cc)
+  refuses_one (Starts piped) p' e at free next world seats puts = absurd (let h = free.1 in cc)
   refuses_one (Pipes bytes) p' e at free next world seats puts = absurd (let h = free.1 in cc)
 
-  pub asks_one : (p p' : Place) (ask : Ask) → slice_get old.seats i ≡ Some (seat who p) → (has_wait old.world who ≡ false) × (is_open p ≡ true) → IsNextAt (message.Asks ask) p p' → AnswersOne conf now (record { world = old.world; seats = slice_set old.seats i (seat who p') }) who ask put new put' → MovesOne conf now i old put new put'
+  pub asks_one : (p p' : Place) (ask : Ask) → slice_get old.seats i ≡ Some (seat who p made_for) → (has_wait old.world who ≡ false) × (is_open p ≡ true) → IsNextAt (message.Asks ask) p p' → AnswersOne conf now (record { world = old.world; seats = slice_set old.seats i (seat who p' made_for) }) who ask put new put' → MovesOne conf now i old put new put'
   asks_one (Talks stream) p' ask at free next done = record {
     part = done.part;
     move = asks (record {
       who = who;
       stream = stream;
       rest = next.0;
+      made_for = made_for;
       free = record { at = at; no_wait = free.0; not_shut = not_false stream.is_shut free.1 };
       body = next.2.0;
       takes = next.2.1;
       ask = ask;
       spells = next.2.2;
-      answered = subst (λ (p : Place). Answered conf now (record { world = old.world; seats = slice_set old.seats i (seat who p) }) who ask done.part new) next.1 done.answered;
+      answered = subst (λ (p : Place). Answered conf now (record { world = old.world; seats = slice_set old.seats i (seat who p made_for) }) who ask done.part new) next.1 done.answered;
     });
     outputs = done.outputs;
   }
-  asks_one (Starts piped subject) p' ask at free next done = absurd (let h = free.1 in cc)
+  asks_one (Starts piped) p' ask at free next done = absurd (let h = free.1 in cc)
   asks_one (Pipes bytes) p' ask at free next done = absurd (let h = free.1 in cc)
 
-module _ (conf : List Line) (now : ℕ) (old new : Left) (put put' : List Output) (i : ℕ) where
-  pub shuts_client_one : (client : ℕ) (p : Place) → slice_get old.seats i ≡ Some (seat (Client client) p) → HasFaultAt p → (has_wait old.world (Client client) ≡ false) × (is_open p ≡ true) → (answer : Answer) → Step old.world now (Gone (Client client)) answer new.world → new.seats ≡ without (Client client) old.seats → put' ≡ put ++ output.Shut client ∷ [] → MovesOne conf now i old put new put'
+module _ (conf : List Line) (now : ℕ) (old new : Left) (put put' : List Output) (i : ℕ) (made_for : Option Subject) where
+  pub shuts_client_one : (client : ℕ) (p : Place) → slice_get old.seats i ≡ Some (seat (Client client) p made_for) → HasFaultAt p → (has_wait old.world (Client client) ≡ false) × (is_open p ≡ true) → (answer : Answer) → Step old.world now (Gone (Client client)) answer new.world → new.seats ≡ without (Client client) old.seats → put' ≡ put ++ output.Shut client ∷ [] → MovesOne conf now i old put new put'
   shuts_client_one client (Talks stream) at fault free answer step seats puts = record {
     part = one_step now (Gone (Client client)) answer (output.Shut client ∷ []);
     move = shuts_client (record {
       client = client;
       stream = stream;
+      made_for = made_for;
       free = record { at = at; no_wait = free.0; not_shut = not_false stream.is_shut free.1 };
       fault = fault;
       answer = answer;
@@ -167,15 +171,16 @@ module _ (conf : List Line) (now : ℕ) (old new : Left) (put put' : List Output
     });
     outputs = puts;
   }
-  shuts_client_one client (Starts piped subject) at fault free answer step seats puts = absurd fault
+  shuts_client_one client (Starts piped) at fault free answer step seats puts = absurd fault
   shuts_client_one client (Pipes bytes) at fault free answer step seats puts = absurd fault
 
-  pub shuts_handler_one : (key : ℕ) (p : Place) → slice_get old.seats i ≡ Some (seat (Handler key) p) → HasFaultAt p → (has_wait old.world (Handler key) ≡ false) × (is_open p ≡ true) → new.world ≡ old.world → new.seats ≡ slice_set old.seats i (seat (Handler key) (shut_place p)) → put' ≡ put ++ output.ShutHandler key ∷ [] → MovesOne conf now i old put new put'
+  pub shuts_handler_one : (key : ℕ) (p : Place) → slice_get old.seats i ≡ Some (seat (Handler key) p made_for) → HasFaultAt p → (has_wait old.world (Handler key) ≡ false) × (is_open p ≡ true) → new.world ≡ old.world → new.seats ≡ slice_set old.seats i (seat (Handler key) (shut_place p) made_for) → put' ≡ put ++ output.ShutHandler key ∷ [] → MovesOne conf now i old put new put'
   shuts_handler_one key (Talks stream) at fault free world seats puts = record {
     part = no_step (output.ShutHandler key ∷ []);
     move = shuts_handler (record {
       key = key;
       stream = stream;
+      made_for = made_for;
       free = record { at = at; no_wait = free.0; not_shut = not_false stream.is_shut free.1 };
       fault = fault;
       world = world;
@@ -184,7 +189,7 @@ module _ (conf : List Line) (now : ℕ) (old new : Left) (put put' : List Output
     });
     outputs = puts;
   }
-  shuts_handler_one key (Starts piped subject) at fault free world seats puts = absurd fault
+  shuts_handler_one key (Starts piped) at fault free world seats puts = absurd fault
   shuts_handler_one key (Pipes bytes) at fault free world seats puts = absurd fault
 
 -- ---- what stands where no message is taken
@@ -192,25 +197,25 @@ module _ (conf : List Line) (now : ℕ) (old new : Left) (put put' : List Output
 next_same : (p p' : Place) → IsNextAt message.More p p' ⊎ IsNextAt message.Fault p p' → p' ≡ p
 next_same (Talks stream) p' (inl h) = h.1 ∙ ap Talks h.2.0
 next_same (Talks stream) p' (inr h) = h.1 ∙ ap Talks h.2.0
-next_same (Starts piped subject) p' (inl h) = h.1
-next_same (Starts piped subject) p' (inr h) = h.1
+next_same (Starts piped) p' (inl h) = h.1
+next_same (Starts piped) p' (inr h) = h.1
 next_same (Pipes bytes) p' (inl h) = h.1
 next_same (Pipes bytes) p' (inr h) = h.1
 
-pub next_left : (left : Left) (i : ℕ) (who : SessionId) (p p' : Place) → slice_get left.seats i ≡ Some (seat who p) → IsNextAt message.More p p' ⊎ IsNextAt message.Fault p p' → record { world = left.world; seats = slice_set left.seats i (seat who p') } ≡ left
-next_left left i who p p' at next =
+pub next_left : (left : Left) (i : ℕ) (who : SessionId) (made_for : Option Subject) (p p' : Place) → slice_get left.seats i ≡ Some (seat who p made_for) → IsNextAt message.More p p' ⊎ IsNextAt message.Fault p p' → record { world = left.world; seats = slice_set left.seats i (seat who p' made_for) } ≡ left
+next_left left i who made_for p p' at next =
     ap (λ (xs : List Seat). record { world = left.world; seats = xs })
-    (ap (λ (q : Place). slice_set left.seats i (seat who q)) (next_same p p' next) ∙ set_same left.seats i (seat who p) at)
+    (ap (λ (q : Place). slice_set left.seats i (seat who q made_for)) (next_same p p' next) ∙ set_same left.seats i (seat who p made_for) at)
 
 pub has_fault : (p p' : Place) → IsNextAt message.Fault p p' → HasFaultAt p
 has_fault (Talks stream) p' h = h.2.1
-has_fault (Starts piped subject) p' h = absurd (let e = h.0 in cc)
+has_fault (Starts piped) p' h = absurd (let e = h.0 in cc)
 has_fault (Pipes bytes) p' h = absurd (let e = h.0 in cc)
 
-pub rests_more : (left : Left) (i : ℕ) (who : SessionId) (p p' : Place) → slice_get left.seats i ≡ Some (seat who p) → has_wait left.world who ≡ false → IsNextAt message.More p p' → RestsAt left i
-rests_more left i who p p' at none next = rests left i (seat who p) at (by_place p next)
+pub rests_more : (left : Left) (i : ℕ) (who : SessionId) (made_for : Option Subject) (p p' : Place) → slice_get left.seats i ≡ Some (seat who p made_for) → has_wait left.world who ≡ false → IsNextAt message.More p p' → RestsAt left i
+rests_more left i who made_for p p' at none next = rests left i (seat who p made_for) at (by_place p next)
   where
     by_place : (q : Place) → IsNextAt message.More q p' → CannotMove left.world who q
     by_place (Talks stream) h = (not_ready left.world who none, inr (inr h.2.1))
-    by_place (Starts piped subject) h = tt
+    by_place (Starts piped) h = tt
     by_place (Pipes bytes) h = tt

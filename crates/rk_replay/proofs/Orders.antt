@@ -21,11 +21,11 @@ use Rattle.rk_replay.proofs.Standings.{first_at}
 
 -- who moves has a seat there
 mover_of : (conf : List Line) (now : ℕ) (old : Left) (place : ℕ) (part : Part) (new : Left) → Move conf now old place part new → (x : Seat) × (slice_get old.seats place ≡ Some x)
-mover_of conf now old place part new (collects m) = (seat m.who (Talks m.stream), m.at)
-mover_of conf now old place part new (refuses m) = (seat m.who (Talks m.stream), m.free.at)
-mover_of conf now old place part new (asks m) = (seat m.who (Talks m.stream), m.free.at)
-mover_of conf now old place part new (shuts_client m) = (seat (Client m.client) (Talks m.stream), m.free.at)
-mover_of conf now old place part new (shuts_handler m) = (seat (Handler m.key) (Talks m.stream), m.free.at)
+mover_of conf now old place part new (collects m) = (seat m.who (Talks m.stream) m.made_for, m.at)
+mover_of conf now old place part new (refuses m) = (seat m.who (Talks m.stream) m.made_for, m.free.at)
+mover_of conf now old place part new (asks m) = (seat m.who (Talks m.stream) m.made_for, m.free.at)
+mover_of conf now old place part new (shuts_client m) = (seat (Client m.client) (Talks m.stream) m.made_for, m.free.at)
+mover_of conf now old place part new (shuts_handler m) = (seat (Handler m.key) (Talks m.stream) m.made_for, m.free.at)
 
 -- the seats in front of it can't move
 pub moves_next : (conf : List Line) (now i : ℕ) (old : Left) (put : List Output) (new : Left) (put' : List Output) → are_in_order old.seats ≡ true → ((k : ℕ) → k < i → RestsAt old k) → MovesOne conf now i old put new put' → MovesNext conf now old put new put'

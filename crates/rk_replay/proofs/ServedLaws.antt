@@ -14,7 +14,9 @@ use Rattle.rk_replay.specs.declared.happening.StartResult.TheVariants.{Started, 
 use Rattle.rk_replay.specs.declared.output.Output.{Output}
 use Rattle.rk_replay.specs.Left.{Left, Part, nothing}
 use Rattle.rk_replay.specs.Moves.{Answered, tells, starts_one, fails_to_start, Move, collects, refuses, asks, shuts_client, shuts_handler, Moves}
-use Rattle.rk_replay.specs.Begins.{StepsBy, Begins}
+use Rattle.rk_machine.specs.declared.event.Event.{Event}
+use Rattle.rk_macro.specs.declared.subject.Subject.{Subject}
+use Rattle.rk_replay.specs.Begins.{StepsBy, EndsBy, is_last, is_followed, is_not_followed, Begins}
 use Rattle.rk_replay.specs.Served.{Turn, steps_of, ServesBy, Serves, ServedFrom, ServedIsRun}
 
 -- ---- one turn more
@@ -73,17 +75,22 @@ moves_chain conf now old (p ∷ ps) new m = chain_append p.steps (steps_of ps) o
 by_steps : (old : Left) (part : Part) (new : Left) (now : ℕ) (e : _) (a : _) (outputs : List Output) → StepsBy now e a outputs old part new → Chain old.world part.steps new.world
 by_steps old part new now e a outputs h = by_part part _ old.world new.world h.part_is (one_chain old.world new.world _ h.step)
 
-begins_chain : (now : ℕ) (h : Happening) (old : Left) (part : Part) (new : Left) → Begins now h old part new → Chain old.world part.steps new.world
-begins_chain now (happening.Accept n) old part new (inl h) = by_steps old part new now _ _ _ h.0
-begins_chain now (happening.Accept n) old part new (inr h) = by_steps old part new now _ _ _ h.1
-begins_chain now (happening.Bytes n bytes) old part new h = by_part part _ old.world new.world h.part_is h.world
-begins_chain now (happening.Gone n) old part new h = by_steps old part new now _ _ _ h.0
-begins_chain now (happening.StartResult k Started) old part new h = by_steps old part new now _ _ _ h.steps
-begins_chain now (happening.StartResult k Failed) old part new h = by_steps old part new now _ _ _ h.0
-begins_chain now (happening.HandlerBytes k bytes) old part new h = by_part part _ old.world new.world h.part_is h.world
-begins_chain now (happening.HandlerReadFault k) old part new h = by_steps old part new now _ _ _ h.0
-begins_chain now (happening.HandlerEnded k how) old part new h = by_steps old part new now _ _ _ h.steps
-begins_chain now (happening.WaitFault k) old part new h = by_steps old part new now _ _ _ h.0
+ends_chain : (conf : List Line) (now k : ℕ) (event : Event) (made : Option Subject) (old : Left) (part : Part) (new : Left) → EndsBy conf now k event made old part new → Chain old.world part.steps new.world
+ends_chain conf now k event made old part new (is_last h seats) = by_steps old part new now _ _ _ h
+ends_chain conf now k event made old part new (is_followed h) = by_part part _ old.world new.world h.part_is (one_chain old.world new.world _ h.step)
+ends_chain conf now k event made old part new (is_not_followed h) = by_part part _ old.world new.world h.part_is (h.mid, h.first, (new.world, h.second, refl))
+
+begins_chain : (conf : List Line) (now : ℕ) (h : Happening) (old : Left) (part : Part) (new : Left) → Begins conf now h old part new → Chain old.world part.steps new.world
+begins_chain conf now (happening.Accept n) old part new (inl h) = by_steps old part new now _ _ _ h.0
+begins_chain conf now (happening.Accept n) old part new (inr h) = by_steps old part new now _ _ _ h.1
+begins_chain conf now (happening.Bytes n bytes) old part new h = by_part part _ old.world new.world h.part_is h.world
+begins_chain conf now (happening.Gone n) old part new h = by_steps old part new now _ _ _ h.0
+begins_chain conf now (happening.StartResult k Started) old part new h = by_steps old part new now _ _ _ h.steps
+begins_chain conf now (happening.StartResult k Failed) old part new h = by_steps old part new now _ _ _ h.0
+begins_chain conf now (happening.HandlerBytes k bytes) old part new h = by_part part _ old.world new.world h.part_is h.world
+begins_chain conf now (happening.HandlerReadFault k) old part new h = ends_chain conf now k _ _ old part new h.ends
+begins_chain conf now (happening.HandlerEnded k how) old part new h = ends_chain conf now k _ _ old part new h.ends
+begins_chain conf now (happening.WaitFault k) old part new h = ends_chain conf now k _ _ old part new h.ends
 
 -- ---- the steps of a served list
 
@@ -91,7 +98,7 @@ serves_chain : (conf : List Line) (old : Left) (now : ℕ) (h : Happening) (outp
 serves_chain conf old now h None steps new s = subst (λ (es : List Past). Chain old.world es new.world) (sym s.no_steps) (ap (λ (l : Left). l.world) s.same)
 serves_chain conf old now h (Some outputs) steps new s =
     subst (λ (es : List Past). Chain old.world es new.world) (sym s.steps_are)
-    (chain_append s.own.steps (steps_of s.parts) old.world s.begun.world new.world (begins_chain now h old s.own s.begun s.begins) (moves_chain conf now s.begun s.parts new s.moves))
+    (chain_append s.own.steps (steps_of s.parts) old.world s.begun.world new.world (begins_chain conf now h old s.own s.begun s.begins) (moves_chain conf now s.begun s.parts new s.moves))
 
 served_chain : (conf : List Line) (turns : List Turn) (run : List Past) (old new : Left) → ServedFrom conf old turns run new → Chain old.world run new.world
 served_chain conf [] run old new h = subst (λ (es : List Past). Chain old.world es new.world) (sym h.0) (ap (λ (l : Left). l.world) h.1)

@@ -140,12 +140,12 @@ set_past (z ∷ zs) zero y none = absurd (cc)
 set_past (z ∷ zs) (suc i) y none = ap (λ (vs : List Seat). z ∷ vs) (set_past zs i y none)
 
 -- it is the one that was read at its place, with something else
-pub order_reseated : (xs : List Seat) (i : ℕ) (x : Seat) (p : Place) → x ≡ get_or xs i x → are_in_order xs ≡ true → are_in_order (slice_set xs i (seat x.who p)) ≡ true
+pub order_reseated : (xs : List Seat) (i : ℕ) (x : Seat) (p : Place) → x ≡ get_or xs i x → are_in_order xs ≡ true → are_in_order (slice_set xs i (seat x.who p x.subject)) ≡ true
 order_reseated xs i x p read order = by_place (slice_get xs i) refl
   where
-    by_place : (o : Option Seat) → slice_get xs i ≡ o → are_in_order (slice_set xs i (seat x.who p)) ≡ true
-    by_place (Some y) at = order_set xs i y (seat x.who p) at (ap (λ (v : Seat). v.who) (read ∙ (sym (get_read xs i x) ∙ ap (λ (o : Option Seat). unwrap_or o x) at))) ∙ order
-    by_place None at = ap are_in_order (set_past xs i (seat x.who p) at) ∙ order
+    by_place : (o : Option Seat) → slice_get xs i ≡ o → are_in_order (slice_set xs i (seat x.who p x.subject)) ≡ true
+    by_place (Some y) at = order_set xs i y (seat x.who p x.subject) at (ap (λ (v : Seat). v.who) (read ∙ (sym (get_read xs i x) ∙ ap (λ (o : Option Seat). unwrap_or o x) at))) ∙ order
+    by_place None at = ap are_in_order (set_past xs i (seat x.who p x.subject) at) ∙ order
 
 -- ---- who is first
 

@@ -10,6 +10,7 @@ use Rattle.rk_machine.specs.declared.event.Event.TheVariants.{Asked, Launched, C
 use Rattle.rk_machine.specs.declared.event.Ran.TheVariants as ran
 use Rattle.rk_machine.specs.World.{World}
 use Rattle.rk_machine.specs.Views.{has_wait}
+use Rattle.rk_macro.specs.declared.subject.Subject.{Subject}
 use Rattle.rk_machine.specs.Laws.{same_session}
 use Rattle.rk_machine.proofs.Waits.{same-true, same-self}
 use Rattle.rk_replay.specs.declared.seat.Place.{Place}
@@ -22,7 +23,7 @@ use Rattle.rk_replay.specs.Moves.{Answered, tells, starts_one, fails_to_start, M
 use Rattle.rk_replay.specs.Seated.{has_seat, are_apart, IsSeated}
 use Rattle.rk_machine.proofs.Presence.{gains, ready_waits, collect_ends}
 use Rattle.rk_machine.proofs.Idle.{IsIdle, idle_fresh, idle_step}
-use Rattle.rk_replay.proofs.SeatLists.{both, not_false, some_none, kind_at, has_seat_is, at_has, apart_from, some_seat}
+use Rattle.rk_replay.proofs.SeatLists.{both, not_false, some_none, sort_at, has_seat_is, at_has, apart_from, some_seat}
 use Rattle.rk_replay.proofs.Seating.{fits}
 
 -- ---- what is left to do
@@ -33,7 +34,7 @@ bit b = cond b 1 0
 -- each unused byte, the end of the stream, and the wait
 abbrev pub place_weight : World → SessionId → Place → ℕ
 place_weight w who (Talks u) = length u.bytes + (bit (not u.is_shut) + bit (has_wait w who))
-place_weight w who (Starts piped subject) = 0
+place_weight w who (Starts piped) = 0
 place_weight w who (Pipes bytes) = 0
 
 abbrev pub seat_weight : World → Seat → ℕ
@@ -53,7 +54,7 @@ total_le f g [] h = omega arith
 total_le f g (x ∷ xs) h = (let a = h x in let b = total_le f g xs h in omega arith)
 
 -- of all but one who is not there
-total_others : (f g : Seat → ℕ) (xs : List Seat) (s : SessionId) → kind_at xs s ≡ None → ((x : Seat) → same_session x.who s ≡ false → f x ≤ g x) → total f xs ≤ total g xs
+total_others : (f g : Seat → ℕ) (xs : List Seat) (s : SessionId) → sort_at xs s ≡ None → ((x : Seat) → same_session x.who s ≡ false → f x ≤ g x) → total f xs ≤ total g xs
 total_others f g [] s none h = omega arith
 total_others f g (x ∷ xs) s none h = (let apart = apart_from x xs s none in let a = h x apart.0 in let b = total_others f g xs s apart.1 h in omega arith)
 
@@ -62,7 +63,7 @@ total_set : (f g : Seat → ℕ) (xs : List Seat) (i : ℕ) (x y : Seat) → are
 total_set f g [] i x y apart at h less = absurd (cc)
 total_set f g (z ∷ zs) zero x y apart at h less =
     let e : z ≡ x = some_seat at in
-    let none : kind_at zs x.who ≡ None = some_none _ (ap (λ (v : Seat). is_some (kind_at zs v.who)) (sym e) ∙ (sym (has_seat_is zs z.who) ∙ not_false _ (both (not (has_seat zs z.who)) (are_apart zs) apart).0)) in
+    let none : sort_at zs x.who ≡ None = some_none _ (ap (λ (v : Seat). is_some (sort_at zs v.who)) (sym e) ∙ (sym (has_seat_is zs z.who) ∙ not_false _ (both (not (has_seat zs z.who)) (are_apart zs) apart).0)) in
     let rest = total_others f g zs x.who none h in
     let same : g z ≡ g x = ap g e in
     omega arith
@@ -76,8 +77,8 @@ total_set f g (z ∷ zs) (suc i) x y apart at h less =
     other none false e = e
     other none true e =
         absurd
-        (let has : is_some (kind_at zs x.who) ≡ true = at_has zs i x at in
-        let lacks : is_some (kind_at zs x.who) ≡ false = ap (λ v. is_some (kind_at zs v)) (sym (same-true z.who x.who e)) ∙ (sym (has_seat_is zs z.who) ∙ not_false _ none) in
+        (let has : is_some (sort_at zs x.who) ≡ true = at_has zs i x at in
+        let lacks : is_some (sort_at zs x.who) ≡ false = ap (λ v. is_some (sort_at zs v)) (sym (same-true z.who x.who e)) ∙ (sym (has_seat_is zs z.who) ∙ not_false _ none) in
         cc)
 
 -- one seat less
@@ -133,7 +134,7 @@ weighs_le old new x h = by_place x.place
   where
     by_place : (p : Place) → place_weight new x.who p ≤ place_weight old x.who p
     by_place (Talks u) = (let a = bit_le (has_wait new x.who) (has_wait old x.who) h in omega arith)
-    by_place (Starts piped subject) = omega arith
+    by_place (Starts piped) = omega arith
     by_place (Pipes bytes) = omega arith
 
 -- ---- moves
@@ -172,7 +173,7 @@ asked_waits conf now old who ask part new (fails_to_start h) idle s other waits 
     gains old.world now (Asked who ask) _ h.mid h.first (idle_fresh old.world idle) s (other_way s who other) (gains h.mid now (Launched h.key ran.Failed) h.answer new.world h.second (idle_fresh h.mid mid_idle) s refl waits)
 
 -- its seats weigh what those before it do
-asked_weight : (conf : List Line) (now : ℕ) (old : Left) (who : SessionId) (ask : Ask) (part : Part) (new : Left) → Answered conf now old who ask part new → (f : Seat → ℕ) → ((k : ℕ) (piped : Bool) (subject : _) → f (seat (Handler k) (Starts piped subject)) ≡ 0) → total f new.seats ≡ total f old.seats
+asked_weight : (conf : List Line) (now : ℕ) (old : Left) (who : SessionId) (ask : Ask) (part : Part) (new : Left) → Answered conf now old who ask part new → (f : Seat → ℕ) → ((k : ℕ) (piped : Bool) (subject : Subject) → f (seat (Handler k) (Starts piped) (Some subject)) ≡ 0) → total f new.seats ≡ total f old.seats
 asked_weight conf now old who ask part new (tells h) f none = ap (total f) h.seats
 asked_weight conf now old who ask part new (starts_one h) f none = ap (total f) h.seats ∙ total_added f h.before h.after _ (none h.key h.command.piped h.subject) ∙ ap (total f) (sym h.others)
 asked_weight conf now old who ask part new (fails_to_start h) f none = ap (total f) h.seats
@@ -180,7 +181,7 @@ asked_weight conf now old who ask part new (fails_to_start h) f none = ap (total
 pub lighter : (conf : List Line) (now : ℕ) (old : Left) (place : ℕ) (part : Part) (new : Left) → Move conf now old place part new → IsSeated old → weight new < weight old
 lighter conf now old place part new (collects m) s =
     let idle = (fits old s).idle in
-    let less = total_at (seat_weight new.world) (seat_weight old.world) old.seats place (seat m.who (Talks m.stream)) m.at
+    let less = total_at (seat_weight new.world) (seat_weight old.world) old.seats place (seat m.who (Talks m.stream) m.made_for) m.at
     (λ z. weighs_le old.world new.world z (gains old.world now (Collect m.who) m.answer new.world m.step (idle_fresh old.world idle) z.who refl))
     (let after = collect_ends old.world now m.who m.answer new.world m.ready m.step in
     let before = ready_waits old.world m.who m.ready in
@@ -190,18 +191,18 @@ lighter conf now old place part new (collects m) s =
     let same : total (seat_weight new.world) new.seats ≡ total (seat_weight new.world) old.seats = ap (total (seat_weight new.world)) m.seats in
     omega arith
 lighter conf now old place part new (refuses m) s =
-    let less = total_set (seat_weight new.world) (seat_weight old.world) old.seats place (seat m.who (Talks m.stream)) (seat m.who (Talks m.rest)) s.apart m.free.at
+    let less = total_set (seat_weight new.world) (seat_weight old.world) old.seats place (seat m.who (Talks m.stream) m.made_for) (seat m.who (Talks m.rest) m.made_for) s.apart m.free.at
     (λ z _. weighs_le old.world new.world z (same_waits old.world new.world m.world z.who))
     (let few = takes_less m.body m.stream m.rest m.takes in
     let one = bit_one (has_wait new.world m.who) in
     let open_still : bit (not m.rest.is_shut) ≡ bit (not m.stream.is_shut) = ap (λ b. bit (not b)) m.takes.open_still in
     omega arith) in
-    let same : total (seat_weight new.world) new.seats ≡ total (seat_weight new.world) (slice_set old.seats place (seat m.who (Talks m.rest))) = ap (total (seat_weight new.world)) m.seats in
+    let same : total (seat_weight new.world) new.seats ≡ total (seat_weight new.world) (slice_set old.seats place (seat m.who (Talks m.rest) m.made_for)) = ap (total (seat_weight new.world)) m.seats in
     omega arith
 lighter conf now old place part new (asks m) s =
     let idle = (fits old s).idle in
-    let mid : Left = record { world = old.world; seats = slice_set old.seats place (seat m.who (Talks m.rest)) } in
-    let less = total_set (seat_weight new.world) (seat_weight old.world) old.seats place (seat m.who (Talks m.stream)) (seat m.who (Talks m.rest)) s.apart m.free.at
+    let mid : Left = record { world = old.world; seats = slice_set old.seats place (seat m.who (Talks m.rest) m.made_for) } in
+    let less = total_set (seat_weight new.world) (seat_weight old.world) old.seats place (seat m.who (Talks m.stream) m.made_for) (seat m.who (Talks m.rest) m.made_for) s.apart m.free.at
     (λ z other. weighs_le old.world new.world z (asked_waits conf now mid m.who m.ask part new m.answered idle z.who other))
     (let few = takes_less m.body m.stream m.rest m.takes in
     let one = bit_one (has_wait new.world m.who) in
@@ -211,16 +212,16 @@ lighter conf now old place part new (asks m) s =
     omega arith
 lighter conf now old place part new (shuts_client m) s =
     let idle = (fits old s).idle in
-    let less = total_lost (seat_weight new.world) (seat_weight old.world) old.seats place (seat (Client m.client) (Talks m.stream)) m.free.at
+    let less = total_lost (seat_weight new.world) (seat_weight old.world) old.seats place (seat (Client m.client) (Talks m.stream) m.made_for) m.free.at
     (λ z. weighs_le old.world new.world z (gains old.world now (Gone (Client m.client)) m.answer new.world m.step (idle_fresh old.world idle) z.who refl))
     (let one : bit (not m.stream.is_shut) ≡ 1 = ap (λ b. bit (not b)) m.free.not_shut in omega arith) in
     let same : total (seat_weight new.world) new.seats ≡ total (seat_weight new.world) (without (Client m.client) old.seats) = ap (total (seat_weight new.world)) m.seats in
     omega arith
 lighter conf now old place part new (shuts_handler m) s =
-    let less = total_set (seat_weight new.world) (seat_weight old.world) old.seats place (seat (Handler m.key) (Talks m.stream)) (seat (Handler m.key) (Talks (closed m.stream))) s.apart m.free.at
+    let less = total_set (seat_weight new.world) (seat_weight old.world) old.seats place (seat (Handler m.key) (Talks m.stream) m.made_for) (seat (Handler m.key) (Talks (closed m.stream)) m.made_for) s.apart m.free.at
     (λ z _. weighs_le old.world new.world z (same_waits old.world new.world m.world z.who))
     (let one : bit (not m.stream.is_shut) ≡ 1 = ap (λ b. bit (not b)) m.free.not_shut in
     let wait = bit_le (has_wait new.world (Handler m.key)) (has_wait old.world (Handler m.key)) (same_waits old.world new.world m.world (Handler m.key)) in
     omega arith) in
-    let same : total (seat_weight new.world) new.seats ≡ total (seat_weight new.world) (slice_set old.seats place (seat (Handler m.key) (Talks (closed m.stream)))) = ap (total (seat_weight new.world)) m.seats in
+    let same : total (seat_weight new.world) new.seats ≡ total (seat_weight new.world) (slice_set old.seats place (seat (Handler m.key) (Talks (closed m.stream)) m.made_for)) = ap (total (seat_weight new.world)) m.seats in
     omega arith

@@ -4,14 +4,17 @@ use Rattle.rk_names.specs.declared.numbers.SessionId.{SessionId}
 use Rattle.rk_names.specs.declared.numbers.SessionId.TheVariants.{Client, Handler}
 use Rattle.rk_names.specs.declared.errors.Errno.{Errno}
 use Rattle.rk_names.specs.Rules.{payload_fault}
+use Rattle.rk_conf.specs.declared.line.Line.{Line}
+use Rattle.rk_macro.specs.declared.command.Command.{Command}
 use Rattle.rk_macro.specs.declared.subject.Subject.{Subject}
+use Rattle.rk_macro.specs.declared.subject.Op.TheVariants as op
 use Rattle.rk_machine.specs.declared.event.Event.{Event}
 use Rattle.rk_machine.specs.declared.event.Event.TheVariants.{Opened, Launched, Ended, Gone}
 use Rattle.rk_machine.specs.declared.event.Ran.TheVariants as ran
 use Rattle.rk_machine.specs.declared.event.How.{How}
 use Rattle.rk_machine.specs.declared.event.How.TheVariants.{Fault}
 use Rattle.rk_machine.specs.declared.event.Answer.{Answer}
-use Rattle.rk_machine.specs.declared.event.Answer.TheVariants.{Refused}
+use Rattle.rk_machine.specs.declared.event.Answer.TheVariants.{Negate, Refused}
 use Rattle.rk_machine.specs.Allowed.{done}
 use Rattle.rk_machine.specs.World.{World}
 use Rattle.rk_machine.specs.Steps.{Step}
@@ -24,8 +27,9 @@ use Rattle.rk_replay.specs.declared.output.Output.TheVariants as output
 use Rattle.rk_replay.specs.declared.seat.Place.{Place}
 use Rattle.rk_replay.specs.declared.seat.Place.TheVariants.{Talks, Starts, Pipes}
 use Rattle.rk_replay.specs.declared.seat.Seat.{Seat}
+use Rattle.rk_replay.specs.Commands.{IsCommand, HasNoCommand}
 use Rattle.rk_replay.specs.Streams.{no_bytes, lengthened}
-use Rattle.rk_replay.specs.Left.{Left, seat, without, Part, no_step, one_step}
+use Rattle.rk_replay.specs.Left.{Left, seat, without, Part, step, no_step, one_step}
 
 -- ---- where it is out of place
 
@@ -54,18 +58,18 @@ is_misplaced w (happening.WaitFault k) = not (is_running w k)
 
 -- ---- what it does to the seats
 
--- who it is about has this seat, and afterwards has another one
-pub record Reseats (s : SessionId) (old new : List Seat) (place place' : Place) : Type 0 where
+-- who it is about has this, and afterwards has that
+pub record Reseats (s : SessionId) (made_for : Option Subject) (old new : List Seat) (place place' : Place) : Type 0 where
   pub index : ℕ
-  pub at : slice_get old index ≡ Some (seat s place)
-  pub seats : new ≡ slice_set old index (seat s place')
+  pub at : slice_get old index ≡ Some (seat s place made_for)
+  pub seats : new ≡ slice_set old index (seat s place' made_for)
 
 -- one is there, wherever it stands among the others
-pub record Adds (s : SessionId) (place : Place) (old new : List Seat) : Type 0 where
+pub record Adds (x : Seat) (old new : List Seat) : Type 0 where
   pub before : List Seat
   pub after : List Seat
   pub others : old ≡ before ++ after
-  pub seats : new ≡ before ++ seat s place ∷ after
+  pub seats : new ≡ before ++ x ∷ after
 
 -- one step, and what it puts out
 pub record StepsBy (now : ℕ) (event : Event) (answer : Answer) (outputs : List Output) (old : Left) (part : Part) (new : Left) : Type 0 where
@@ -78,11 +82,12 @@ pub record StepsBy (now : ℕ) (event : Event) (answer : Answer) (outputs : List
 abbrev pub place_with : List ℕ → Place → Place
 place_with more (Talks stream) = Talks (lengthened more stream)
 place_with more (Pipes bytes) = Pipes (bytes ++ more)
-place_with more (Starts piped subject) = Starts piped subject
+place_with more (Starts piped) = Starts piped
 
 pub record Lengthens (s : SessionId) (more : List ℕ) (old : Left) (part : Part) (new : Left) : Type 0 where
   pub place : Place
-  pub reseats : Reseats s old.seats new.seats place (place_with more place)
+  pub made_for : Option Subject
+  pub reseats : Reseats s made_for old.seats new.seats place (place_with more place)
   pub world : new.world ≡ old.world
   pub part_is : part ≡ no_step []
 
@@ -91,7 +96,7 @@ pub record Lengthens (s : SessionId) (more : List ℕ) (old : Left) (part : Part
 -- the client is there from now on, with an empty stream; or it is refused, and shut
 abbrev pub Accepts : ℕ → ℕ → Left → Part → Left → Type 0
 Accepts now n old part new =
-    (StepsBy now (Opened (Client n)) done [] old part new × Adds (Client n) (Talks no_bytes) old.seats new.seats)
+    (StepsBy now (Opened (Client n)) done [] old part new × Adds (seat (Client n) (Talks no_bytes) None) old.seats new.seats)
     ⊎ ((e : Errno) × StepsBy now (Opened (Client n)) (Refused e) (output.Shut n ∷ []) old part new × (new.seats ≡ old.seats))
 
 abbrev pub Leaves : ℕ → ℕ → Left → Part → Left → Type 0
@@ -109,7 +114,7 @@ pub record Runs (now k : ℕ) (old : Left) (part : Part) (new : Left) : Type 0 w
   pub piped : Bool
   pub subject : Subject
   pub steps : StepsBy now (Launched k (if piped then ran.Piped else ran.Plain)) done (if piped then callout_to k subject.callout else []) old part new
-  pub reseats : Reseats (Handler k) old.seats new.seats (Starts piped subject) (if piped then Pipes [] else Talks no_bytes)
+  pub reseats : Reseats (Handler k) (Some subject) old.seats new.seats (Starts piped) (if piped then Pipes [] else Talks no_bytes)
 
 abbrev pub FailsToRun : ℕ → ℕ → Left → Part → Left → Type 0
 FailsToRun now k old part new = StepsBy now (Launched k ran.Failed) done [] old part new × (new.seats ≡ without (Handler k) old.seats)
@@ -120,29 +125,64 @@ FailsToRun now k old part new = StepsBy now (Launched k ran.Failed) done [] old 
 abbrev pub payload_in : Place → Option (List ℕ)
 payload_in (Pipes bytes) = if is_none (payload_fault bytes) then Some bytes else None
 payload_in (Talks stream) = None
-payload_in (Starts piped subject) = None
+payload_in (Starts piped) = None
 
--- the handler has ended, with the payload of what it put out
-pub record Finishes (now k : ℕ) (how : How) (old : Left) (part : Part) (new : Left) : Type 0 where
-  pub index : ℕ
-  pub place : Place
-  pub at : slice_get old.seats index ≡ Some (seat (Handler k) place)
-  pub steps : StepsBy now (Ended k how (payload_in place)) done [] old part new
+-- what the handler that follows is made for
+abbrev pub negated : Subject → Subject
+negated s = record s { op = op.Negate }
+
+-- a handler has ended, and another follows: the command of its line is put out
+pub record Follows (conf : List Line) (now k : ℕ) (event : Event) (made_for : Option Subject) (old : Left) (part : Part) (new : Left) : Type 0 where
+  pub subject : Subject
+  pub made : made_for ≡ Some subject
+  pub step : Step old.world now event (Negate k) new.world
+  pub command : Command
+  pub is_command : IsCommand conf new.world now k (negated subject) command
+  pub part_is : part ≡ one_step now event (Negate k) (output.Start k command ∷ [])
+  pub adds : Adds (seat (Handler k) (Starts command.piped) (Some (negated subject))) (without (Handler k) old.seats) new.seats
+
+-- without a command its start fails in the next step
+pub record FollowsNone (conf : List Line) (now k : ℕ) (event : Event) (made_for : Option Subject) (old : Left) (part : Part) (new : Left) : Type 0 where
+  pub subject : Subject
+  pub made : made_for ≡ Some subject
+  pub mid : World
+  pub first : Step old.world now event (Negate k) mid
+  pub no_command : HasNoCommand conf mid now k (negated subject)
+  pub second : Step mid now (Launched k ran.Failed) done new.world
+  pub part_is : part ≡ record { steps = step now event (Negate k) ∷ step now (Launched k ran.Failed) done ∷ []; outputs = [] }
   pub seats : new.seats ≡ without (Handler k) old.seats
 
+-- how the end of a handler is answered
+pub data EndsBy (conf : List Line) (now k : ℕ) (event : Event) (made_for : Option Subject) (old : Left) (part : Part) (new : Left) : Type 0 where
+  is_last : StepsBy now event done [] old part new → new.seats ≡ without (Handler k) old.seats → EndsBy conf now k event made_for old part new
+  is_followed : Follows conf now k event made_for old part new → EndsBy conf now k event made_for old part new
+  is_not_followed : FollowsNone conf now k event made_for old part new → EndsBy conf now k event made_for old part new
+
+-- the handler has ended, with the payload of what it put out
+pub record Finishes (conf : List Line) (now k : ℕ) (how : How) (old : Left) (part : Part) (new : Left) : Type 0 where
+  pub index : ℕ
+  pub place : Place
+  pub made_for : Option Subject
+  pub at : slice_get old.seats index ≡ Some (seat (Handler k) place made_for)
+  pub ends : EndsBy conf now k (Ended k how (payload_in place)) made_for old part new
+
 -- the handler could not be read or waited for
-abbrev pub Breaks : ℕ → ℕ → Left → Part → Left → Type 0
-Breaks now k old part new = StepsBy now (Ended k Fault None) done [] old part new × (new.seats ≡ without (Handler k) old.seats)
+pub record Breaks (conf : List Line) (now k : ℕ) (old : Left) (part : Part) (new : Left) : Type 0 where
+  pub index : ℕ
+  pub place : Place
+  pub made_for : Option Subject
+  pub at : slice_get old.seats index ≡ Some (seat (Handler k) place made_for)
+  pub ends : EndsBy conf now k (Ended k Fault None) made_for old part new
 
 -- ---- by the happening
 
-abbrev pub Begins : ℕ → Happening → Left → Part → Left → Type 0
-Begins now (happening.Accept n) old part new = Accepts now n old part new
-Begins now (happening.Bytes n bytes) old part new = Lengthens (Client n) bytes old part new
-Begins now (happening.Gone n) old part new = Leaves now n old part new
-Begins now (happening.StartResult k Started) old part new = Runs now k old part new
-Begins now (happening.StartResult k Failed) old part new = FailsToRun now k old part new
-Begins now (happening.HandlerBytes k bytes) old part new = Lengthens (Handler k) bytes old part new
-Begins now (happening.HandlerReadFault k) old part new = Breaks now k old part new
-Begins now (happening.HandlerEnded k how) old part new = Finishes now k how old part new
-Begins now (happening.WaitFault k) old part new = Breaks now k old part new
+abbrev pub Begins : List Line → ℕ → Happening → Left → Part → Left → Type 0
+Begins conf now (happening.Accept n) old part new = Accepts now n old part new
+Begins conf now (happening.Bytes n bytes) old part new = Lengthens (Client n) bytes old part new
+Begins conf now (happening.Gone n) old part new = Leaves now n old part new
+Begins conf now (happening.StartResult k Started) old part new = Runs now k old part new
+Begins conf now (happening.StartResult k Failed) old part new = FailsToRun now k old part new
+Begins conf now (happening.HandlerBytes k bytes) old part new = Lengthens (Handler k) bytes old part new
+Begins conf now (happening.HandlerReadFault k) old part new = Breaks conf now k old part new
+Begins conf now (happening.HandlerEnded k how) old part new = Finishes conf now k how old part new
+Begins conf now (happening.WaitFault k) old part new = Breaks conf now k old part new

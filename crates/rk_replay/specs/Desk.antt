@@ -1,5 +1,5 @@
 -- What the calls of a desk do.
-use Rattle.std.specs.Prelude.{◌≡◌, ◌⊎◌, ℕ, Bool, true, false, List, [], ◌∷◌, ◌++◌, Some, IfSome, slice_get}
+use Rattle.std.specs.Prelude.{◌≡◌, ◌⊎◌, ℕ, Bool, true, false, List, [], ◌∷◌, ◌++◌, Option, Some, is_some, IfSome, slice_get}
 use Rattle.std.specs.Bool.{MatchBool}
 use Rattle.rk_names.specs.declared.numbers.SessionId.{SessionId}
 use Rattle.rk_names.specs.declared.numbers.SessionId.TheVariants.{Handler}
@@ -7,7 +7,8 @@ use Rattle.rk_conf.specs.declared.line.Line.{Line}
 use Rattle.rk_macro.specs.declared.command.Command.{Command}
 use Rattle.rk_macro.specs.declared.subject.Subject.{Subject}
 use Rattle.rk_message.specs.declared.ask.Ask.{Ask}
-use Rattle.rk_machine.specs.declared.event.Event.TheVariants.{Launched}
+use Rattle.rk_machine.specs.declared.event.Event.{Event}
+use Rattle.rk_machine.specs.declared.event.Event.TheVariants.{Launched, Ended}
 use Rattle.rk_machine.specs.declared.event.Ran.TheVariants as ran
 use Rattle.rk_machine.specs.declared.event.How.{How}
 use Rattle.rk_machine.specs.declared.event.Answer.{Answer}
@@ -20,10 +21,10 @@ use Rattle.rk_replay.specs.declared.output.Output.TheVariants as output
 use Rattle.rk_replay.specs.declared.seat.Place.TheVariants.{Starts}
 use Rattle.rk_replay.specs.declared.seat.Seat.{Seat}
 use Rattle.rk_replay.specs.declared.desk.Desk.{Desk}
-use Rattle.rk_replay.specs.Left.{Left, seat, Part}
+use Rattle.rk_replay.specs.Left.{Left, seat, without, Part}
 use Rattle.rk_replay.specs.Commands.{IsCommand, HasNoCommand}
 use Rattle.rk_replay.specs.Moves.{Answered, Move, CannotMove}
-use Rattle.rk_replay.specs.Begins.{Adds, Finishes, Begins}
+use Rattle.rk_replay.specs.Begins.{is_running, Adds, EndsBy, Begins}
 use Rattle.rk_replay.specs.Served.{outputs_of}
 use Rattle.rk_replay.specs.Order.{MovesFirst, MovesInOrder}
 use Rattle.rk_replay.specs.Places.{is_open}
@@ -56,9 +57,9 @@ pub record AnswersOne (conf : List Line) (now : ℕ) (old : Left) (who : Session
   pub outputs : put' ≡ put ++ part.outputs
 
 -- the own step of a happening, likewise
-pub record BeginsOne (now : ℕ) (h : Happening) (old : Left) (put : List Output) (new : Left) (put' : List Output) : Type 0 where
+pub record BeginsOne (conf : List Line) (now : ℕ) (h : Happening) (old : Left) (put : List Output) (new : Left) (put' : List Output) : Type 0 where
   pub part : Part
-  pub begins : Begins now h old part new
+  pub begins : Begins conf now h old part new
   pub outputs : put' ≡ put ++ part.outputs
 
 -- the command of a construction that has begun is put out
@@ -66,7 +67,7 @@ pub record PutsCommand (conf : List Line) (now k : ℕ) (subject : Subject) (old
   pub command : Command
   pub is_command : IsCommand conf old.world now k subject command
   pub world : new.world ≡ old.world
-  pub adds : Adds (Handler k) (Starts command.piped subject) old.seats new.seats
+  pub adds : Adds (seat (Handler k) (Starts command.piped) (Some subject)) old.seats new.seats
   pub outputs : put' ≡ put ++ output.Start k command ∷ []
 
 -- or its start fails
@@ -94,14 +95,26 @@ IsFreeAt left i = IfSome (slice_get left.seats i) (λ x. (has_wait left.world x.
 
 -- the construction of k is there, and its command was put out
 abbrev pub IsStartAt : List Seat → ℕ → ℕ → Bool → Type 0
-IsStartAt seats i k piped = (subject : Subject) × (slice_get seats i ≡ Some (seat (Handler k) (Starts piped subject)))
+IsStartAt seats i k piped = (subject : Subject) × (slice_get seats i ≡ Some (seat (Handler k) (Starts piped) (Some subject)))
 
--- a handler has ended, and nothing is put out
-abbrev pub FinishesNow : ℕ → ℕ → How → Left → Left → Type 0
-FinishesNow now k how old new = (part : Part) × (part.outputs ≡ []) × Finishes now k how old part new
+-- the handler of k ran, and has ended with this event; its seat was taken from these
+pub record HasEnded (k : ℕ) (event : Event) (made_for : Option Subject) (seats : List Seat) (left : Left) : Type 0 where
+  pub how : How
+  pub payload : Option (List ℕ)
+  pub event_is : event ≡ Ended k how payload
+  pub ran : is_running left.world k ≡ true
+  pub made : is_some made_for ≡ true
+  pub taken : left.seats ≡ without (Handler k) seats
+
+-- a handler has ended with this event
+pub record EndsOne (conf : List Line) (now k : ℕ) (event : Event) (made_for : Option Subject) (old : Left) (put : List Output) (new : Left) (put' : List Output) : Type 0 where
+  pub part : Part
+  pub ends : EndsBy conf now k event made_for old part new
+  pub outputs : put' ≡ put ++ part.outputs
 
 abbrev pub is_refused : Answer → Bool
 is_refused (answer.Refused e) = true
 is_refused (answer.Done r) = false
 is_refused (answer.Start k subject) = false
 is_refused (answer.Waiting k) = false
+is_refused (answer.Negate k) = false

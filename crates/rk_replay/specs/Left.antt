@@ -2,6 +2,7 @@
 use Rattle.std.specs.Prelude.{ℕ, not, List, [], ◌∷◌, Option, Some, None, filter}
 use Rattle.rk_names.specs.declared.numbers.SessionId.{SessionId}
 use Rattle.rk_names.specs.declared.numbers.SessionId.TheVariants.{Client, Handler}
+use Rattle.rk_macro.specs.declared.subject.Subject.{Subject}
 use Rattle.rk_message.specs.declared.reply.Reply.{Reply}
 use Rattle.rk_message.specs.declared.reply.Reply.TheVariants as reply
 use Rattle.rk_message.specs.Wire.{spelling}
@@ -9,7 +10,7 @@ use Rattle.rk_message.specs.Replies.{reply_message}
 use Rattle.rk_frame.specs.Framing.{frame}
 use Rattle.rk_machine.specs.declared.event.Event.{Event}
 use Rattle.rk_machine.specs.declared.event.Answer.{Answer}
-use Rattle.rk_machine.specs.declared.event.Answer.TheVariants.{Done, Start, Waiting, Refused}
+use Rattle.rk_machine.specs.declared.event.Answer.TheVariants.{Done, Start, Waiting, Refused, Negate}
 use Rattle.rk_machine.specs.World.{World, empty_world}
 use Rattle.rk_machine.specs.Steps.{Beginning, Past}
 use Rattle.rk_machine.specs.Laws.{same_session}
@@ -18,7 +19,8 @@ use Rattle.rk_replay.specs.declared.output.Output.TheVariants as output
 use Rattle.rk_replay.specs.declared.seat.Place.{Place}
 use Rattle.rk_replay.specs.declared.seat.Seat.{Seat}
 
--- the world; each client and each construction with what it has: the unused bytes of its stream, its start, or what it has put out
+-- the world; each client and each construction with what it has: the unused bytes of its stream, its start, or what it has put out; and what a
+-- construction was made for
 pub record Left : Type 0 where
   pub world : World
   pub seats : List Seat
@@ -28,8 +30,8 @@ nothing from = record { world = empty_world from.negative from.first from.stride
 
 -- ---- seats
 
-abbrev pub seat : SessionId → Place → Seat
-seat who place = record { who = who; place = place }
+abbrev pub seat : SessionId → Place → Option Subject → Seat
+seat who place made_for = record { who = who; place = place; subject = made_for }
 
 abbrev pub without : SessionId → List Seat → List Seat
 without s seats = filter (λ x. not (same_session x.who s)) seats
@@ -63,6 +65,7 @@ reply_of (Done r) = Some r
 reply_of (Refused e) = Some (reply.Refused e)
 reply_of (Start k subject) = None
 reply_of (Waiting k) = None
+reply_of (Negate k) = None
 
 abbrev pub told_to : SessionId → Option Reply → List Output
 told_to who None = []

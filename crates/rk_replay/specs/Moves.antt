@@ -1,5 +1,5 @@
 -- The moves of sessions.
-use Rattle.std.specs.Prelude.{◌≡◌, ◌⊎◌, ℕ, Bool, true, false, List, [], ◌∷◌, ◌++◌, Some, slice_get, slice_set}
+use Rattle.std.specs.Prelude.{◌≡◌, ◌⊎◌, ℕ, Bool, true, false, List, [], ◌∷◌, ◌++◌, Option, Some, slice_get, slice_set}
 use Rattle.std.specs.List.{All}
 use Rattle.rk_names.specs.declared.numbers.SessionId.{SessionId}
 use Rattle.rk_names.specs.declared.numbers.SessionId.TheVariants.{Client, Handler}
@@ -12,7 +12,7 @@ use Rattle.rk_macro.specs.declared.subject.Subject.{Subject}
 use Rattle.rk_machine.specs.declared.event.Event.TheVariants.{Asked, Launched, Collect, Gone}
 use Rattle.rk_machine.specs.declared.event.Ran.TheVariants as ran
 use Rattle.rk_machine.specs.declared.event.Answer.{Answer}
-use Rattle.rk_machine.specs.declared.event.Answer.TheVariants.{Done, Start, Waiting, Refused}
+use Rattle.rk_machine.specs.declared.event.Answer.TheVariants.{Done, Start, Waiting, Refused, Negate}
 use Rattle.rk_machine.specs.World.{World}
 use Rattle.rk_machine.specs.Steps.{Step}
 use Rattle.rk_machine.specs.Views.{is_ready, has_wait}
@@ -31,6 +31,7 @@ abbrev pub is_start : Answer → Bool
 is_start (Start k subject) = true
 is_start (Done r) = false
 is_start (Waiting k) = false
+is_start (Negate k) = false
 is_start (Refused e) = false
 
 -- an ask that starts nothing: its reply is put out, unless it waits
@@ -52,7 +53,7 @@ pub record StartsOne (conf : List Line) (now : ℕ) (old : Left) (who : SessionI
   pub before : List Seat
   pub after : List Seat
   pub others : old.seats ≡ before ++ after
-  pub seats : new.seats ≡ before ++ seat (Handler key) (Starts command.piped subject) ∷ after
+  pub seats : new.seats ≡ before ++ seat (Handler key) (Starts command.piped) (Some subject) ∷ after
 
 -- without a command the start fails in the next step
 pub record FailsToStart (conf : List Line) (now : ℕ) (old : Left) (who : SessionId) (ask : Ask) (part : Part) (new : Left) : Type 0 where
@@ -77,8 +78,8 @@ pub data Answered (conf : List Line) (now : ℕ) (old : Left) (who : SessionId) 
 -- ---- the moves of the session at a place
 
 -- the session at the place has a stream, which is not shut, and does not wait
-pub record IsFree (old : Left) (place : ℕ) (who : SessionId) (stream : Unused) : Type 0 where
-  pub at : slice_get old.seats place ≡ Some (seat who (Talks stream))
+pub record IsFree (old : Left) (place : ℕ) (who : SessionId) (stream : Unused) (made_for : Option Subject) : Type 0 where
+  pub at : slice_get old.seats place ≡ Some (seat who (Talks stream) made_for)
   pub no_wait : has_wait old.world who ≡ false
   pub not_shut : stream.is_shut ≡ false
 
@@ -86,7 +87,8 @@ pub record IsFree (old : Left) (place : ℕ) (who : SessionId) (stream : Unused)
 pub record CollectsAt (now : ℕ) (old : Left) (place : ℕ) (part : Part) (new : Left) : Type 0 where
   pub who : SessionId
   pub stream : Unused
-  pub at : slice_get old.seats place ≡ Some (seat who (Talks stream))
+  pub made_for : Option Subject
+  pub at : slice_get old.seats place ≡ Some (seat who (Talks stream) made_for)
   pub ready : is_ready old.world who ≡ true
   pub answer : Answer
   pub step : Step old.world now (Collect who) answer new.world
@@ -98,13 +100,14 @@ pub record RefusesAt (now : ℕ) (old : Left) (place : ℕ) (part : Part) (new :
   pub who : SessionId
   pub stream : Unused
   pub rest : Unused
-  pub free : IsFree old place who stream
+  pub made_for : Option Subject
+  pub free : IsFree old place who stream made_for
   pub body : List ℕ
   pub takes : Takes body stream rest
   pub error : Errno
   pub refused : IsRefusedAs error body
   pub world : new.world ≡ old.world
-  pub seats : new.seats ≡ slice_set old.seats place (seat who (Talks rest))
+  pub seats : new.seats ≡ slice_set old.seats place (seat who (Talks rest) made_for)
   pub part_is : part ≡ no_step (reply_to who (reply.Refused error) ∷ [])
 
 -- any other body is one ask
@@ -112,18 +115,20 @@ pub record AsksAt (conf : List Line) (now : ℕ) (old : Left) (place : ℕ) (par
   pub who : SessionId
   pub stream : Unused
   pub rest : Unused
-  pub free : IsFree old place who stream
+  pub made_for : Option Subject
+  pub free : IsFree old place who stream made_for
   pub body : List ℕ
   pub takes : Takes body stream rest
   pub ask : Ask
   pub spells : Spells ask body
-  pub answered : Answered conf now (record { world = old.world; seats = slice_set old.seats place (seat who (Talks rest)) }) who ask part new
+  pub answered : Answered conf now (record { world = old.world; seats = slice_set old.seats place (seat who (Talks rest) made_for) }) who ask part new
 
 -- a client whose stream has a fault is gone
 pub record ShutsClient (now : ℕ) (old : Left) (place : ℕ) (part : Part) (new : Left) : Type 0 where
   pub client : ℕ
   pub stream : Unused
-  pub free : IsFree old place (Client client) stream
+  pub made_for : Option Subject
+  pub free : IsFree old place (Client client) stream made_for
   pub fault : HasFault stream.bytes
   pub answer : Answer
   pub step : Step old.world now (Gone (Client client)) answer new.world
@@ -134,10 +139,11 @@ pub record ShutsClient (now : ℕ) (old : Left) (place : ℕ) (part : Part) (new
 pub record ShutsHandler (now : ℕ) (old : Left) (place : ℕ) (part : Part) (new : Left) : Type 0 where
   pub key : ℕ
   pub stream : Unused
-  pub free : IsFree old place (Handler key) stream
+  pub made_for : Option Subject
+  pub free : IsFree old place (Handler key) stream made_for
   pub fault : HasFault stream.bytes
   pub world : new.world ≡ old.world
-  pub seats : new.seats ≡ slice_set old.seats place (seat (Handler key) (Talks (closed stream)))
+  pub seats : new.seats ≡ slice_set old.seats place (seat (Handler key) (Talks (closed stream)) made_for)
   pub part_is : part ≡ no_step (output.ShutHandler key ∷ [])
 
 -- one move by the session at a place
@@ -162,7 +168,7 @@ IsIdle w who u = (is_ready w who ≡ false) × ((has_wait w who ≡ true) ⊎ (u
 -- the session of this seat, if it has one, can't move
 abbrev pub CannotMove : World → SessionId → Place → Type 0
 CannotMove w who (Talks stream) = IsIdle w who stream
-CannotMove w who (Starts piped subject) = Unit {0}
+CannotMove w who (Starts piped) = Unit {0}
 CannotMove w who (Pipes bytes) = Unit {0}
 
 -- no session can move

@@ -1,46 +1,56 @@
 -- The seats are those of who is there.
-use Rattle.std.specs.Prelude.{◌≡◌, ℕ, Bool, true, false, not, ◌&&◌, List, [], ◌∷◌, Option, Some, None, is_some, if◌then◌else◌}
+use Rattle.std.specs.Prelude.{◌≡◌, ℕ, Bool, true, false, not, ◌&&◌, List, [], ◌∷◌, Option, Some, None, is_some, slice_get, if◌then◌else◌}
 use Rattle.std.specs.FinSet as set
 use Rattle.rk_names.specs.declared.numbers.SessionId.{SessionId}
 use Rattle.rk_names.specs.declared.numbers.SessionId.TheVariants.{Client, Handler}
+use Rattle.rk_auth.specs.declared.construction.Stage.{Stage}
+use Rattle.rk_auth.specs.declared.construction.Stage.TheVariants.{Starting, Plain, Piped, Negating}
+use Rattle.rk_auth.specs.Sessions.{stage_of}
 use Rattle.rk_machine.specs.Laws.{same_session}
 use Rattle.rk_replay.specs.declared.seat.Place.{Place}
 use Rattle.rk_replay.specs.declared.seat.Place.TheVariants.{Talks, Starts, Pipes}
 use Rattle.rk_replay.specs.declared.seat.Seat.{Seat}
 use Rattle.rk_replay.specs.Left.{Left}
-use Rattle.rk_replay.specs.Begins.{has_client, is_to_start, is_running}
+use Rattle.rk_replay.specs.Begins.{has_client}
 
 -- what a session or construction has
-abbrev pub place_of : List Seat → SessionId → Option Place
-place_of [] s = None
-place_of (x ∷ xs) s = if same_session x.who s then Some x.place else place_of xs s
+abbrev pub seat_of : List Seat → SessionId → Option Seat
+seat_of [] s = None
+seat_of (x ∷ xs) s = if same_session x.who s then Some x else seat_of xs s
 
 abbrev pub has_seat : List Seat → SessionId → Bool
-has_seat xs s = is_some (place_of xs s)
+has_seat xs s = is_some (seat_of xs s)
 
 -- nobody has two
 abbrev pub are_apart : List Seat → Bool
 are_apart [] = true
 are_apart (x ∷ xs) = not (has_seat xs x.who) && are_apart xs
 
--- its handler is still to be started
-abbrev pub is_starts : Option Place → Bool
-is_starts None = false
-is_starts (Some (Starts piped subject)) = true
-is_starts (Some (Talks stream)) = false
-is_starts (Some (Pipes bytes)) = false
+-- one of the seats is its own, and is this
+pub record Sits (s : SessionId) (x : Seat) (seats : List Seat) : Type 0 where
+  pub index : ℕ
+  pub at : slice_get seats index ≡ Some x
+  pub who_is : x.who ≡ s
+  pub seat_is : seat_of seats s ≡ Some x
 
--- its handler runs
-abbrev pub is_runs : Option Place → Bool
-is_runs None = false
-is_runs (Some (Starts piped subject)) = false
-is_runs (Some (Talks stream)) = true
-is_runs (Some (Pipes bytes)) = true
+-- what the handler of a construction in this stage has: a command that was put out, which is piped only where it is the first, a stream, or an output
+abbrev pub has_place : Stage → Place → Bool
+has_place Starting (Starts piped) = true
+has_place Negating (Starts piped) = not piped
+has_place (Plain s) (Talks stream) = true
+has_place Piped (Pipes bytes) = true
+has_place _ _ = false
 
--- each client and each construction has one seat, of the stage that it is in; what was never drawn is no construction
+-- the seat of a construction in this stage has what its handler has, and what it was made for
+abbrev pub fits_stage : Option Stage → Option Seat → Bool
+fits_stage None None = true
+fits_stage None (Some x) = false
+fits_stage (Some st) None = false
+fits_stage (Some st) (Some x) = has_place st x.place && is_some x.subject
+
+-- each client and each construction has one seat, that of the stage that it is in; what was never drawn is no construction
 pub record IsSeated (left : Left) : Type 0 where
   pub clients : (n : ℕ) → has_seat left.seats (Client n) ≡ has_client left.world n
-  pub starts : (k : ℕ) → is_starts (place_of left.seats (Handler k)) ≡ is_to_start left.world k
-  pub runs : (k : ℕ) → is_runs (place_of left.seats (Handler k)) ≡ is_running left.world k
+  pub constructions : (k : ℕ) → fits_stage (stage_of left.world.sessions k) (seat_of left.seats (Handler k)) ≡ true
   pub apart : are_apart left.seats ≡ true
-  pub idle : (k : ℕ) → set.contains left.world.serials.used k ≡ false → (is_to_start left.world k ≡ false) × (is_running left.world k ≡ false)
+  pub idle : (k : ℕ) → set.contains left.world.serials.used k ≡ false → stage_of left.world.sessions k ≡ None

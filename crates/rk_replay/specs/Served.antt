@@ -28,7 +28,7 @@ pub record Acts (conf : List Line) (old : Left) (now : ℕ) (h : Happening) (out
   pub own : Part
   pub begun : Left
   pub parts : List Part
-  pub begins : Begins now h old own begun
+  pub begins : Begins conf now h old own begun
   pub moves : Moves conf now begun parts new
   pub at_rest : IsAtRest new
   pub outputs_are : outputs ≡ own.outputs ++ outputs_of parts

@@ -1,31 +1,33 @@
 //! The own step of a happening, and the moves that follow it.
-ghost use Rattle.std.specs.Prelude.{◌≡◌, true, false, List, [], IfOk, OnOk};
+ghost use Rattle.std.specs.Prelude.{◌≡◌, ℕ, true, false, List, [], IfOk, OnOk};
 ghost use Rattle.rk_names.specs.declared.numbers.SessionId.TheVariants.{Client, Handler};
-ghost use Rattle.rk_machine.specs.declared.event.Event.TheVariants.{Launched, Ended, Gone};
+ghost use Rattle.rk_machine.specs.declared.event.Event.TheVariants.{Launched, Gone};
 ghost use Rattle.rk_machine.specs.declared.event.Ran.TheVariants as ran;
-ghost use Rattle.rk_machine.specs.declared.event.How.TheVariants.{Fault};
 ghost use Rattle.rk_machine.specs.Allowed.{done};
 ghost use Rattle.rk_machine.specs.Steps.{Past};
 ghost use Rattle.rk_replay.specs.declared.happening.Happening.TheVariants as happening;
 ghost use Rattle.rk_replay.specs.declared.happening.StartResult.TheVariants.{Started};
+ghost use Rattle.rk_conf.specs.declared.line.Line.{Line};
+ghost use Rattle.rk_machine.specs.Views.{is_owed};
+ghost use Rattle.rk_replay.specs.declared.seat.Seat.{Seat};
 ghost use Rattle.rk_replay.specs.Left.{no_step, one_step};
-ghost use Rattle.rk_replay.specs.Begins.{has_client, is_to_start, is_running, is_misplaced, Lengthens, Leaves, FailsToRun, Breaks};
+ghost use Rattle.rk_replay.specs.Begins.{has_client, is_to_start, is_running, is_misplaced, Lengthens, Leaves, FailsToRun, negated};
 ghost use Rattle.rk_replay.specs.Order.{ActsInOrder};
-ghost use Rattle.rk_replay.specs.Seated.{IsSeated, has_seat, is_starts, place_of};
-ghost use Rattle.rk_replay.specs.Desk.{left_of, is_refused, BeginsOne, IsStartAt, FinishesNow};
+ghost use Rattle.rk_replay.specs.Seated.{IsSeated, has_seat};
+ghost use Rattle.rk_replay.specs.Desk.{left_of, is_refused, BeginsOne, IsStartAt, HasEnded, EndsOne};
 
 use crate::desk::Desk;
 use crate::happening::{Happening, StartResult};
 use crate::octets::Bytes;
 use crate::output::{Output, Outputs};
-use crate::seat::Place;
+use crate::seat::{Place, Seat};
 use crate::seats;
 use crate::stream::Stream;
 use rk_conf::Conf;
 use rk_core::{Answer, Event, How, Ran};
+use rk_macro::{Op, Subject};
 use rk_names::{Moment, Serial, SessionId};
 use std::alloc::{AllocError, Global};
-use std::mem;
 
 /// Where clients and constructions are.
 impl Desk {
@@ -88,7 +90,7 @@ impl Desk {
         out: &mut Vec<Output>,
     ) -> Result<(), AllocError>
         requires { has_client self.old.book client ≡ false }
-        ensures { OnOk result (BeginsOne now (happening.Accept client) (left_of self.old) out.old.items (left_of self.new) out.new.items) }
+        ensures { (conf : List Line) → OnOk result (BeginsOne conf now (happening.Accept client) (left_of self.old) out.old.items (left_of self.new) out.new.items) }
     {
         let answer = self
             .book
@@ -97,8 +99,12 @@ impl Desk {
             out.push(Output::Shut(client))?;
             return Ok(());
         }
-        let place = Place::Talks(Stream::new(alloc)?);
-        seats::add(&mut self.seats, SessionId::Client(client), place)
+        let seat = Seat {
+            who: SessionId::Client(client),
+            place: Place::Talks(Stream::new(alloc)?),
+            subject: None,
+        };
+        seats::add(&mut self.seats, seat)
     }
 
     /// A client goes.
@@ -120,7 +126,7 @@ impl Desk {
     ) -> Result<(), AllocError>
         requires starts { IsStartAt self.old.seats.items index key false }
         requires owed { is_to_start self.old.book key ≡ true }
-        ensures { (put : List Output) → OnOk result (BeginsOne now (happening.StartResult key Started) (left_of self.old) put (left_of self.new) put) }
+        ensures { (conf : List Line) (put : List Output) → OnOk result (BeginsOne conf now (happening.StartResult key Started) (left_of self.old) put (left_of self.new) put) }
     {
         let place = Place::Talks(Stream::new(alloc)?);
         let _ = self.book.step(now, Event::Launched(key, Ran::Plain));
@@ -138,11 +144,11 @@ impl Desk {
         out: &mut Vec<Output>,
     ) -> Result<(), AllocError>
         requires starts { IsStartAt self.old.seats.items index key true }
-        requires owed { is_to_start self.old.book key ≡ true }
-        ensures { OnOk result (BeginsOne now (happening.StartResult key Started) (left_of self.old) out.old.items (left_of self.new) out.new.items) }
+        requires owed { is_owed self.old.book (Launched key ran.Piped) ≡ true }
+        ensures { (conf : List Line) → OnOk result (BeginsOne conf now (happening.StartResult key Started) (left_of self.old) out.old.items (left_of self.new) out.new.items) }
     {
         let _ = self.book.step(now, Event::Launched(key, Ran::Piped));
-        self.seats[index].place.put_callout(alloc, key, out)?;
+        self.seats[index].put_callout(alloc, key, out)?;
         self.seats[index].place = Place::Pipes(Bytes::new(Vec::new(alloc)));
         Ok(())
     }
@@ -155,9 +161,9 @@ impl Desk {
         key: Serial,
         out: &mut Vec<Output>,
     ) -> Result<(), AllocError>
-        requires starts { is_starts (place_of self.old.seats.items (Handler key)) ≡ true }
+        requires seated { IsSeated (left_of self.old) }
         requires owed { is_to_start self.old.book key ≡ true }
-        ensures { OnOk result (BeginsOne now (happening.StartResult key Started) (left_of self.old) out.old.items (left_of self.new) out.new.items) }
+        ensures { (conf : List Line) → OnOk result (BeginsOne conf now (happening.StartResult key Started) (left_of self.old) out.old.items (left_of self.new) out.new.items) }
     {
         if let Some(index) = seats::index_of(&self.seats, &SessionId::Handler(key)) {
             if self.seats[index].place.is_piped() {
@@ -186,9 +192,9 @@ impl Desk {
         started: StartResult,
         out: &mut Vec<Output>,
     ) -> Result<(), AllocError>
-        requires starts { is_starts (place_of self.old.seats.items (Handler key)) ≡ true }
+        requires seated { IsSeated (left_of self.old) }
         requires owed { is_to_start self.old.book key ≡ true }
-        ensures { OnOk result (BeginsOne now (happening.StartResult key started) (left_of self.old) out.old.items (left_of self.new) out.new.items) }
+        ensures { (conf : List Line) → OnOk result (BeginsOne conf now (happening.StartResult key started) (left_of self.old) out.old.items (left_of self.new) out.new.items) }
     {
         match started {
             StartResult::Started => self.run(alloc, now, key, out),
@@ -199,42 +205,87 @@ impl Desk {
         }
     }
 
-    /// A handler has ended, and what a piped one has put out is its payload.
-    fn finish(&mut self, alloc: Global, now: Moment, key: Serial, how: How)
-        requires seated { has_seat self.old.seats.items (Handler key) ≡ true }
-        requires owed { is_running self.old.book key ≡ true }
-        ensures { FinishesNow now key how (left_of self.old) (left_of self.new) }
+    /// A handler has ended, whose seat was taken away. Where another is to follow it, the command of that one is put out,
+    /// for what the first was made for.
+    fn end(
+        &mut self,
+        alloc: Global,
+        conf: &Conf,
+        now: Moment,
+        event: Event,
+        subject: Option<Subject>,
+        out: &mut Vec<Output>,
+    ) -> Result<(), AllocError>
+        ensures { (k : ℕ) (seats : List Seat) → HasEnded k event subject seats (left_of self.old) →
+            OnOk result (EndsOne conf.now now k event subject (record { world = self.old.book; seats = seats }) out.old.items (left_of self.new) out.new.items) }
     {
-        if let Some(index) = seats::index_of(&self.seats, &SessionId::Handler(key)) {
-            let empty = Place::Pipes(Bytes::new(Vec::new(alloc)));
-            let place = mem::replace(&mut self.seats[index].place, empty);
-            let _ = self
-                .book
-                .step(now, Event::Ended(key, how, place.into_payload()));
-            seats::remove(&mut self.seats, &SessionId::Handler(key));
+        let Answer::Negate(key) = self.book.step(now, event) else {
+            return Ok(());
+        };
+        match subject {
+            Some(subject) => self.start(alloc, conf, now, key, negated(subject), out),
+            None => Ok(()),
+        }
+    }
+
+    /// A handler has ended, and what a piped one has put out is its payload.
+    fn finish(
+        &mut self,
+        alloc: Global,
+        conf: &Conf,
+        now: Moment,
+        key: Serial,
+        how: How,
+        out: &mut Vec<Output>,
+    ) -> Result<(), AllocError>
+        requires seated { IsSeated (left_of self.old) }
+        requires owed { is_running self.old.book key ≡ true }
+        ensures { OnOk result (BeginsOne conf.now now (happening.HandlerEnded key how) (left_of self.old) out.old.items (left_of self.new) out.new.items) }
+    {
+        match seats::take(&mut self.seats, &SessionId::Handler(key)) {
+            Some(seat) => {
+                let Seat { place, subject, .. } = seat;
+                let event = Event::Ended(key, how, place.into_payload());
+                self.end(alloc, conf, now, event, subject, out)
+            }
+            None => Ok(()),
         }
     }
 
     /// A handler could not be read or waited for.
-    fn break_off(&mut self, now: Moment, key: Serial)
-        requires { is_running self.old.book key ≡ true }
-        ensures { Breaks now key (left_of self.old) (one_step now (Ended key Fault None) done []) (left_of self.new) }
+    fn break_off(
+        &mut self,
+        alloc: Global,
+        conf: &Conf,
+        now: Moment,
+        key: Serial,
+        out: &mut Vec<Output>,
+    ) -> Result<(), AllocError>
+        requires seated { IsSeated (left_of self.old) }
+        requires owed { is_running self.old.book key ≡ true }
+        ensures { OnOk result (BeginsOne conf.now now (happening.WaitFault key) (left_of self.old) out.old.items (left_of self.new) out.new.items) }
     {
-        let _ = self.book.step(now, Event::Ended(key, How::Fault, None));
-        seats::remove(&mut self.seats, &SessionId::Handler(key));
+        match seats::take(&mut self.seats, &SessionId::Handler(key)) {
+            Some(seat) => {
+                let event = Event::Ended(key, How::Fault, None);
+                self.end(alloc, conf, now, event, seat.subject, out)
+            }
+            None => Ok(()),
+        }
     }
 
     /// The own step of a happening.
     fn begin(
         &mut self,
         alloc: Global,
+        conf: &Conf,
         now: Moment,
         happening: &Happening,
         out: &mut Vec<Output>,
     ) -> Result<(), AllocError>
         requires seated { IsSeated (left_of self.old) }
         requires placed { is_misplaced self.old.book happening.now ≡ false }
-        ensures { OnOk result (BeginsOne now happening.now (left_of self.old) out.old.items (left_of self.new) out.new.items) }
+        ensures { OnOk result (BeginsOne conf.now now happening.now (left_of self.old) out.old.items (left_of self.new) out.new.items) }
     {
         match happening {
             Happening::Accept(client) => self.accept(alloc, now, *client, out),
@@ -245,19 +296,13 @@ impl Desk {
                 self.leave(now, *client);
                 Ok(())
             }
-            Happening::StartResult(key, started) => {
-                self.launch(alloc, now, *key, *started, out)
-            },
+            Happening::StartResult(key, started) => self.launch(alloc, now, *key, *started, out),
             Happening::HandlerBytes(key, bytes) => {
                 self.lengthen(&SessionId::Handler(*key), bytes.as_slice())
             }
-            Happening::HandlerEnded(key, how) => {
-                self.finish(alloc, now, *key, *how);
-                Ok(())
-            }
+            Happening::HandlerEnded(key, how) => self.finish(alloc, conf, now, *key, *how, out),
             Happening::HandlerReadFault(key) | Happening::WaitFault(key) => {
-                self.break_off(now, *key);
-                Ok(())
+                self.break_off(alloc, conf, now, *key, out)
             }
         }
     }
@@ -275,9 +320,19 @@ impl Desk {
         ensures { IfOk result (λ out. (steps : List Past) × ActsInOrder conf.now (left_of self.old) now happening.now out steps (left_of self.new)) }
     {
         let mut out = Vec::new(alloc);
-        self.begin(alloc, now, happening, &mut out)?;
+        self.begin(alloc, conf, now, happening, &mut out)?;
         self.settle(alloc, conf, now, &mut out)?;
         Ok(Outputs::new(out))
+    }
+}
+
+/// What the handler that follows is made for.
+fn negated(subject: Subject) -> Subject
+    ensures { result ≡ negated subject }
+{
+    Subject {
+        op: Op::Negate,
+        ..subject
     }
 }
 

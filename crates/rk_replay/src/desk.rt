@@ -32,8 +32,8 @@ pub struct Desk {
 impl Desk {
     ghost use Rattle.rk_replay.specs.Desk.{left_of, MovesOne, MovesNext, MovesSome, AnswersOne, StartsNow, TriesAt, IsFreeAt};
 
-    /// Puts out the command of a construction that has begun, or has its start fail.
-    fn start(
+    /// Puts out the command of a construction that has begun, or goes on, or has its start fail.
+    pub fn start(
         &mut self,
         alloc: Global,
         conf: &Conf,
@@ -46,8 +46,12 @@ impl Desk {
     {
         match command_for(alloc, conf, &self.book, now, key, &subject) {
             Some(command) => {
-                let place = Place::Starts(command.piped, subject);
-                seats::add(&mut self.seats, SessionId::Handler(key), place)?;
+                let seat = Seat {
+                    who: SessionId::Handler(key),
+                    place: Place::Starts(command.piped),
+                    subject: Some(subject),
+                };
+                seats::add(&mut self.seats, seat)?;
                 out.push(Output::Start(key, command))?;
                 Ok(())
             }

@@ -169,6 +169,83 @@ fn what_is_misplaced_changes_nothing(rt: HostRuntime) -> Result<(), Fail> {
     check_run(&rt, rt.alloc(), PLAIN, lines.as_slice(), want)
 }
 
+const NEGATED: &[u8] = b"create * * * |/bin/p\nnegate * * * /bin/keyctl negate %k 30 %S";
+
+/// A piped handler fails, and what follows it makes the key negative.
+const FAILED_AND_NEGATED: &[&[u8]] = &[
+    b"100 accept 1",
+    HELLO,
+    REQUEST,
+    b"100 started 3",
+    b"100 ended 3 exit 1",
+    b"100 started 3",
+    b"100 out 3 000000050300000003",
+    b"100 out 3 0000000d05000000030000001e00000000",
+    b"100 ended 3 exit 0",
+];
+
+const FAILED_AND_NEGATED_SAYS: &str = "to 1 000000110200000000000000000000000100000002\n\
+    start 3 piped =/bin/p\n\
+    tohandler 3 78\n\
+    start 3 plain =/bin/keyctl =negate =3 =30 =1\n\
+    tohandler 3 000000050000000000\n\
+    tohandler 3 000000050000000000\n\
+    to 1 00000002037e\n";
+
+/// Plays the lines, as far as there is memory.
+fn play_lines(
+    alloc: Global,
+    conf: &[u8],
+    lines: &[&[u8]],
+    transcript: &mut Transcript,
+) -> Result<(), AllocError> {
+    let conf = Conf::read(alloc, conf).map_err(|_| AllocError)?;
+    let limits = Limits {
+        negative: 60,
+        first: Serial::new(1).ok_or(AllocError)?,
+        stride: 1,
+    };
+    let mut replay = Replay::new(alloc, conf, limits)?;
+    for (i, line) in lines.iter().enumerate() {
+        put_line(alloc, &mut replay, transcript, i as u64 + 1, *line)?;
+    }
+    Ok(())
+}
+
+/// The first line that was not wanted, if there is one.
+fn first_other<'a>(text: &'a str, want: &str) -> Option<&'a str> {
+    for (said, wanted) in text.lines().zip(want.lines()) {
+        if said != wanted {
+            return Some(said);
+        }
+    }
+    None
+}
+
+/// Up to a growth that is refused (`rt try --test --fail-alloc N`) the lines are the same. By itself it shows as a client that is shut,
+/// as ENOMEM, as a command that can't be made, or as the end of all.
+#[test]
+fn growths_of_a_negate_command(rt: HostRuntime) {
+    let alloc = rt.alloc();
+    let mut transcript = Transcript::new(alloc);
+    let played = play_lines(alloc, NEGATED, FAILED_AND_NEGATED, &mut transcript);
+    let text = str::from_utf8(transcript.as_bytes()).unwrap_or("no text");
+    match (first_other(text, FAILED_AND_NEGATED_SAYS), played) {
+        (None, Ok(())) => assert_eq!(rt; text, FAILED_AND_NEGATED_SAYS),
+        (None, Err(AllocError)) => {}
+        (Some(other), Ok(())) => {
+            let shows = [
+                "shut 1",
+                "to 1 00000002030c",
+                "to 1 00000002037e",
+                "tohandler 3 00000002030c",
+            ];
+            assert!(rt; shows.contains(&other), "{other}");
+        }
+        (Some(_), Err(AllocError)) => {}
+    }
+}
+
 #[test]
 fn the_law_runs(rt: HostRuntime) {
     served_is_run();

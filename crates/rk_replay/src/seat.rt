@@ -14,15 +14,15 @@ use std::alloc::{AllocError, Global};
 pub enum Place {
     /// A client, or a plain handler that runs: its stream.
     Talks(Stream),
-    /// A construction whose command was put out and not started yet: whether it is piped, and what it was made for.
-    Starts(bool, Subject),
+    /// A construction whose command was put out and not started yet: whether it is piped.
+    Starts(bool),
     /// A piped handler that runs: what it has put out.
     Pipes(Bytes),
 }
 
 impl Place {
     ghost use Rattle.rk_replay.specs.Begins.{place_with, payload_in};
-    ghost use Rattle.rk_replay.specs.Places.{is_stream, is_open, is_piped, callout_at, shut_place, IsNextAt};
+    ghost use Rattle.rk_replay.specs.Places.{is_stream, is_open, is_piped, shut_place, IsNextAt};
 
     /// Whether it is a stream.
     pub fn is_stream(&self) -> bool
@@ -37,7 +37,7 @@ impl Place {
     {
         match self {
             Place::Talks(stream) => !stream.is_shut(),
-            Place::Starts(_, _) | Place::Pipes(_) => false,
+            Place::Starts(_) | Place::Pipes(_) => false,
         }
     }
 
@@ -48,7 +48,7 @@ impl Place {
         match self {
             Place::Talks(stream) => stream.feed(bytes),
             Place::Pipes(held) => held.extend(bytes),
-            Place::Starts(_, _) => Ok(()),
+            Place::Starts(_) => Ok(()),
         }
     }
 
@@ -57,24 +57,9 @@ impl Place {
         ensures { result ≡ is_piped self.now }
     {
         match self {
-            Place::Starts(piped, _) => *piped,
+            Place::Starts(piped) => *piped,
             Place::Talks(_) | Place::Pipes(_) => false,
         }
-    }
-
-    /// Puts out what the handler of a key is handed as it starts. The only refusal is want of memory.
-    pub fn put_callout(
-        &self,
-        alloc: Global,
-        key: Serial,
-        out: &mut Vec<Output>,
-    ) -> Result<(), AllocError>
-        ensures { OnOk result (out.new.items ≡ out.old.items ++ callout_at key self.now) }
-    {
-        if let Place::Starts(_, subject) = self {
-            put_callout(alloc, key, subject.callout.as_bytes(), out)?;
-        }
-        Ok(())
     }
 
     /// Shuts a stream.
@@ -92,7 +77,7 @@ impl Place {
     {
         match self {
             Place::Pipes(bytes) => Payload::new(bytes.into_vec()).ok(),
-            Place::Talks(_) | Place::Starts(_, _) => None,
+            Place::Talks(_) | Place::Starts(_) => None,
         }
     }
 
@@ -102,7 +87,7 @@ impl Place {
     {
         match self {
             Place::Talks(stream) => stream.next(alloc),
-            Place::Pipes(_) | Place::Starts(_, _) => Ok(Message::More),
+            Place::Pipes(_) | Place::Starts(_) => Ok(Message::More),
         }
     }
 }
@@ -112,6 +97,27 @@ impl Place {
 pub struct Seat {
     pub who: SessionId,
     pub place: Place,
+    /// What a construction was made for. A client has none.
+    pub subject: Option<Subject>,
+}
+
+impl Seat {
+    ghost use Rattle.rk_replay.specs.Places.{callout_of};
+
+    /// Puts out what the handler of a key is handed as it starts. The only refusal is want of memory.
+    pub fn put_callout(
+        &self,
+        alloc: Global,
+        key: Serial,
+        out: &mut Vec<Output>,
+    ) -> Result<(), AllocError>
+        ensures { OnOk result (out.new.items ≡ out.old.items ++ callout_of key self.now.subject) }
+    {
+        match &self.subject {
+            Some(subject) => put_callout(alloc, key, subject.callout.as_bytes(), out),
+            None => Ok(()),
+        }
+    }
 }
 
 /// Puts out a callout, if it says something.

@@ -5,10 +5,10 @@ ghost use Rattle.rk_names.specs.declared.numbers.SessionId.TheVariants.{Client, 
 ghost use Rattle.rk_machine.specs.Laws.{same_session};
 ghost use Rattle.rk_replay.specs.Left.{without};
 ghost use Rattle.rk_replay.specs.Standing.{comes_before, are_in_order};
-ghost use Rattle.rk_replay.specs.Seated.{place_of};
+ghost use Rattle.rk_replay.specs.Seated.{seat_of, are_apart, Sits};
 ghost use Rattle.rk_replay.specs.Begins.{Adds};
 
-use crate::seat::{Place, Seat};
+use crate::seat::Seat;
 use rk_names::SessionId;
 use std::alloc::AllocError;
 
@@ -44,9 +44,9 @@ fn is_handler(who: &SessionId, key: u32) -> bool
 
 /// Where the seat of this one is.
 pub fn index_of(seats: &[Seat], who: &SessionId) -> Option<usize>
-    ensures found { IfSome result (λ i. IfSome (slice_get seats.now i) (λ x. (x.who ≡ who.now) × (place_of seats.now who.now ≡ Some x.place))) }
+    ensures found { IfSome result (λ i. IfSome (slice_get seats.now i) (λ x. (x.who ≡ who.now) × (seat_of seats.now who.now ≡ Some x))) }
     ensures within { IfSome result (λ i. i < length seats.now) }
-    ensures none { IfNone result (place_of seats.now who.now ≡ None) }
+    ensures none { IfNone result (seat_of seats.now who.now ≡ None) }
 {
     for (i, seat) in seats.iter().enumerate() {
         if same(&seat.who, who) {
@@ -78,12 +78,12 @@ fn rank(seats: &[Seat], who: &SessionId) -> usize
 }
 
 /// Puts a seat among the others, at its place in the order.
-pub fn add(seats: &mut Vec<Seat>, who: SessionId, place: Place) -> Result<(), AllocError>
-    ensures adds { OnOk result (Adds who place seats.old.items seats.new.items) }
+pub fn add(seats: &mut Vec<Seat>, seat: Seat) -> Result<(), AllocError>
+    ensures adds { OnOk result (Adds seat seats.old.items seats.new.items) }
     ensures order { are_in_order seats.old.items ≡ true → are_in_order seats.new.items ≡ true }
 {
-    let index = rank(seats, &who);
-    seats.insert(index, Seat { who, place })?;
+    let index = rank(seats, &seat.who);
+    seats.insert(index, seat)?;
     Ok(())
 }
 
@@ -93,4 +93,18 @@ pub fn remove(seats: &mut Vec<Seat>, who: &SessionId)
     ensures order { are_in_order seats.old.items ≡ true → are_in_order seats.new.items ≡ true }
 {
     seats.retain(|seat| !same(&seat.who, who));
+}
+
+/// Takes the seat of this one away.
+pub fn take(seats: &mut Vec<Seat>, who: &SessionId) -> Option<Seat>
+    requires { are_apart seats.old.items ≡ true }
+    ensures found { IfSome result (λ x. Sits who.now x seats.old.items) }
+    ensures rest { IfSome result (λ x. seats.new.items ≡ without who.now seats.old.items) }
+    ensures none { IfNone result (seat_of seats.old.items who.now ≡ None) }
+    ensures order { are_in_order seats.old.items ≡ true → are_in_order seats.new.items ≡ true }
+{
+    match index_of(seats, who) {
+        Some(index) => Some(seats.remove(index)),
+        None => None,
+    }
 }

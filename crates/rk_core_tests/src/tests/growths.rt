@@ -2,7 +2,10 @@
 //!
 //! With ample memory these only play their tables, on two books. They are for runs in which the Nth growth is refused (`rt try --test
 //! --fail-alloc N`): the book that answers ENOMEM is compared with the other one, which has not yet taken the step.
-use super::endings::{CLEARED_IN_THE_MAKING, GONE_WHILE_IT_WAITS, PIPED, PUT_OUT_A_BYTE};
+use super::endings::{
+    CLEARED_IN_THE_MAKING, ENDED_BADLY, FOLLOWED_BY_NONE, GONE_WHILE_IT_WAITS,
+    NEGATED_BY_THE_SECOND, PIPED, PUT_OUT_A_BYTE,
+};
 use super::handlers::{A_HANDLER_ASKS, BOTH_ARE_MADE, BOTH_IN_THE_THREAD_RING};
 use super::keys::{STATES, THE_SAME_NAME_AGAIN};
 use super::requests::{
@@ -240,6 +243,20 @@ fn growths_of_rings_that_are_dropped(rt: HostRuntime) -> Result<(), Fail> {
 #[test]
 fn growths_of_a_piped_handler(rt: HostRuntime) -> Result<(), Fail> {
     play_twice(&rt, rt.alloc(), &[ALONE, PIPED, PUT_OUT_A_BYTE])
+}
+
+#[test]
+fn growths_of_a_second_handler(rt: HostRuntime) -> Result<(), Fail> {
+    play_twice(
+        &rt,
+        rt.alloc(),
+        &[ALONE, PIPED, ENDED_BADLY, FOLLOWED_BY_NONE],
+    )?;
+    play_twice(
+        &rt,
+        rt.alloc(),
+        &[ALONE, PIPED, ENDED_BADLY, NEGATED_BY_THE_SECOND],
+    )
 }
 
 /// Two clients of two users.

@@ -4,11 +4,11 @@ use Rattle.rk_replay.proofs.OwnSteps.{accepted_one, refused_one}
 use Rattle.rk_replay.proofs.desk.Desk.accept.Goals as goal
 
 pub returns : goal.returns
-returns c =
+returns c conf =
     on_ok_weaker c.add.result
-    (λ adds. accepted_one c.args.now c.args.client _ _ _ c.step-answer.result c.step-answer.ensures.step (sym c.is_refused.ensures ∙ c.if-is_refused.false) (rw c.in_ok-new.ensures at adds))
+    (λ adds. accepted_one conf c.args.now c.args.client _ _ _ c.step-answer.result c.step-answer.ensures.step (sym c.is_refused.ensures ∙ c.if-is_refused.false) (rw c.in_ok-new.ensures at adds))
     c.add.ensures.adds
 
 pub returns-then-is_refused : goal.returns-then-is_refused
-returns-then-is_refused c =
-    refused_one c.args.now c.args.client _ _ _ c.step-answer.result c.step-answer.ensures.step (sym c.is_refused.ensures ∙ c.if-is_refused.true) refl _ c.in_ok-push.ensures.items
+returns-then-is_refused c conf =
+    refused_one conf c.args.now c.args.client _ _ _ c.step-answer.result c.step-answer.ensures.step (sym c.is_refused.ensures ∙ c.if-is_refused.true) refl _ c.in_ok-push.ensures.items

@@ -9,7 +9,7 @@ use Rattle.rk_replay.proofs.desk.Desk.act.Goals as goal
 pub settle-requires : goal.settle-requires
 settle-requires c =
     let own = c.in_ok-begin.ensures in
-    begins_seated c.args.now c.args.happening.now (left_of c.args.self.now) own.part _ c.requires.placed own.begins c.requires.seated
+    begins_seated c.args.conf.now c.args.now c.args.happening.now (left_of c.args.self.now) own.part _ c.requires.placed own.begins c.requires.seated
 
 pub returns : goal.returns
 returns c =

@@ -15,5 +15,5 @@ returns c conf =
     let again = slice_get_read c.args.self.now.seats.items _ c.args.index c.index-2.result.now c.args.self.now.seats.ok.0 c.requires.within c.index-2.ensures in
     let same : c.index-2.result.now ≡ x = some_seat (sym again ∙ at) in
     on_ok_weaker c.put_reply.result
-    (λ puts. collects_one conf c.args.now _ _ _ _ c.args.index x.who x.place at can.0 can.1 c.step-answer.result c.step-answer.ensures.step refl (puts ∙ ap (λ (s : Seat). c.args.out.now.items ++ replies_to s.who c.step-answer.result) same))
+    (λ puts. collects_one conf c.args.now _ _ _ _ c.args.index x.who x.subject x.place at can.0 can.1 c.step-answer.result c.step-answer.ensures.step refl (puts ∙ ap (λ (s : Seat). c.args.out.now.items ++ replies_to s.who c.step-answer.result) same))
     c.put_reply.ensures

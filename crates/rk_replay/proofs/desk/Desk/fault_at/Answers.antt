@@ -18,8 +18,8 @@ returns-in_ok-push-in-Client c conf =
     let at = slice_get_read c.args.self.now.seats.items _ c.args.index x c.args.self.now.seats.ok.0 c.requires.within c.index.ensures in
     let free = MatchOption-at_some _ _ x at c.requires.free in
     let fault = MatchOption-at_some _ _ x at c.requires.fault in
-    shuts_client_one conf c.args.now _ _ _ _ c.args.index c.in-Client.client x.place
-    (at ∙ ap (λ (s : SessionId). Some (seat s x.place)) c.in-Client.is) fault
+    shuts_client_one conf c.args.now _ _ _ _ c.args.index x.subject c.in-Client.client x.place
+    (at ∙ ap (λ (s : SessionId). Some (seat s x.place x.subject)) c.in-Client.is) fault
     (ap (λ (s : SessionId). has_wait c.args.self.now.book s) (sym c.in-Client.is) ∙ free.0, free.1)
     c.step.result c.step.ensures.step c.remove.ensures.without c.in_ok-push-in-Client.ensures.items
 
@@ -32,11 +32,11 @@ returns-in_ok-push-in-Handler c conf =
     let who : x.who ≡ Handler c.in-Handler.key = ap (λ (v : Seat). v.who) same ∙ c.in-Handler.is in
     let free = MatchOption-at_some _ _ x at c.requires.free in
     let fault = MatchOption-at_some _ _ x at c.requires.fault in
-    shuts_handler_one conf c.args.now _ _ _ _ c.args.index c.in-Handler.key x.place
-    (at ∙ ap (λ (s : SessionId). Some (seat s x.place)) who) fault
+    shuts_handler_one conf c.args.now _ _ _ _ c.args.index x.subject c.in-Handler.key x.place
+    (at ∙ ap (λ (s : SessionId). Some (seat s x.place x.subject)) who) fault
     (ap (λ (s : SessionId). has_wait c.args.self.now.book s) (sym who) ∙ free.0, free.1)
     refl
-    (ap (λ (s : SessionId). slice_set c.args.self.now.seats.items c.args.index (seat s c.shut.new.self)) who ∙ ap (λ (p : Place). slice_set c.args.self.now.seats.items c.args.index (seat (Handler c.in-Handler.key) p)) c.shut.ensures)
+    (ap (λ (s : SessionId). slice_set c.args.self.now.seats.items c.args.index (seat s c.shut.new.self x.subject)) who ∙ ap (λ (p : Place). slice_set c.args.self.now.seats.items c.args.index (seat (Handler c.in-Handler.key) p x.subject)) c.shut.ensures)
     c.in_ok-push-in-Handler.ensures.items
 
 pub invariant_of-self-in-Handler : goal.invariant_of-self-in-Handler

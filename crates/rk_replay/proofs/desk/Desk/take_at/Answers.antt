@@ -16,7 +16,7 @@ returns-in-More c =
     let at = slice_get_read c.args.self.now.seats.items _ c.args.index x c.args.self.now.seats.ok.0 c.requires.within c.index_mut.ensures.value in
     let free = MatchOption-at_some _ _ x at c.requires.free in
     let next = rw c.in-More.is at c.in_ok-next.ensures in
-    (next_left (left_of c.args.self.now) c.args.index x.who x.place c.next.new.self at (inl next), refl, rests_more (left_of c.args.self.now) c.args.index x.who x.place c.next.new.self at free.0 next)
+    (next_left (left_of c.args.self.now) c.args.index x.who x.subject x.place c.next.new.self at (inl next), refl, rests_more (left_of c.args.self.now) c.args.index x.who x.subject x.place c.next.new.self at free.0 next)
 
 pub returns-in_ok-ask-in-Asks : goal.returns-in_ok-ask-in-Asks
 returns-in_ok-ask-in-Asks c =
@@ -25,9 +25,9 @@ returns-in_ok-ask-in-Asks c =
     let at = slice_get_read seats.items _ c.args.index x seats.ok.0 c.requires.within c.index_mut.ensures.value in
     let free = MatchOption-at_some _ _ x at c.requires.free in
     let next = rw c.in-Asks.is at c.in_ok-next.ensures in
-    let now_there : c.index.result.now ≡ seat x.who c.next.new.self = c.index.ensures ∙ get_or-set_same seats.items c.args.index (seat x.who c.next.new.self) _ (slice_get_within seats.items c.args.index x at) in
-    asks_one c.args.conf.now c.args.now (left_of c.args.self.now) _ _ _ c.args.index x.who x.place c.next.new.self c.in-Asks.ask at free next
-    (subst (λ (s : Seat). AnswersOne c.args.conf.now c.args.now (record { world = c.args.self.now.book; seats = slice_set seats.items c.args.index (seat x.who c.next.new.self) }) s.who c.in-Asks.ask c.args.out.now.items (left_of c.ask.new.self) c.ask.new.out.items) now_there c.in_ok-ask-in-Asks.ensures)
+    let now_there : c.index.result.now ≡ seat x.who c.next.new.self x.subject = c.index.ensures ∙ get_or-set_same seats.items c.args.index (seat x.who c.next.new.self x.subject) _ (slice_get_within seats.items c.args.index x at) in
+    asks_one c.args.conf.now c.args.now (left_of c.args.self.now) _ _ _ c.args.index x.who x.subject x.place c.next.new.self c.in-Asks.ask at free next
+    (subst (λ (s : Seat). AnswersOne c.args.conf.now c.args.now (record { world = c.args.self.now.book; seats = slice_set seats.items c.args.index (seat x.who c.next.new.self x.subject) }) s.who c.in-Asks.ask c.args.out.now.items (left_of c.ask.new.self) c.ask.new.out.items) now_there c.in_ok-ask-in-Asks.ensures)
 
 pub returns-in_ok-put_reply-in-Refused : goal.returns-in_ok-put_reply-in-Refused
 returns-in_ok-put_reply-in-Refused c =
@@ -36,8 +36,8 @@ returns-in_ok-put_reply-in-Refused c =
     let at = slice_get_read seats.items _ c.args.index x seats.ok.0 c.requires.within c.index_mut.ensures.value in
     let free = MatchOption-at_some _ _ x at c.requires.free in
     let next = rw c.in-Refused.is at c.in_ok-next.ensures in
-    let now_there : c.index-in-Refused.result.now ≡ seat x.who c.next.new.self = c.index-in-Refused.ensures ∙ get_or-set_same seats.items c.args.index (seat x.who c.next.new.self) _ (slice_get_within seats.items c.args.index x at) in
-    refuses_one c.args.conf.now c.args.now (left_of c.args.self.now) _ _ _ c.args.index x.who x.place c.next.new.self c.in-Refused.errno at free next refl refl
+    let now_there : c.index-in-Refused.result.now ≡ seat x.who c.next.new.self x.subject = c.index-in-Refused.ensures ∙ get_or-set_same seats.items c.args.index (seat x.who c.next.new.self x.subject) _ (slice_get_within seats.items c.args.index x at) in
+    refuses_one c.args.conf.now c.args.now (left_of c.args.self.now) _ _ _ c.args.index x.who x.subject x.place c.next.new.self c.in-Refused.errno at free next refl refl
     (c.in_ok-put_reply-in-Refused.ensures ∙ ap (λ (s : Seat). c.args.out.now.items ++ replies_to s.who (Refused c.in-Refused.errno)) now_there)
 
 pub returns-in_ok-fault_at-in-Fault : goal.returns-in_ok-fault_at-in-Fault
@@ -47,7 +47,7 @@ returns-in_ok-fault_at-in-Fault c =
     let at = slice_get_read seats.items _ c.args.index x seats.ok.0 c.requires.within c.index_mut.ensures.value in
     let next = rw c.in-Fault.is at c.in_ok-next.ensures in
     subst (λ (l : Left). MovesOne c.args.conf.now c.args.now c.args.index l c.args.out.now.items (left_of c.fault_at.new.self) c.fault_at.new.out.items)
-    (next_left (left_of c.args.self.now) c.args.index x.who x.place c.next.new.self at (inr next))
+    (next_left (left_of c.args.self.now) c.args.index x.who x.subject x.place c.next.new.self at (inr next))
     (c.in_ok-fault_at-in-Fault.ensures c.args.conf.now)
 
 pub invariant_of-self : goal.invariant_of-self
