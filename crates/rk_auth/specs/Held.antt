@@ -8,5 +8,6 @@ pub record Held : Type 0 where
   pub sessions : Sessions
   pub room : ℕ
 
+-- as a row, the form in which a model of a struct sees it
 abbrev pub held_code : Coded Held
 held_code = code_by (Sessions × ℕ) (coded× sessions_code coded_ℕ) (λ h. (h.sessions, h.room)) (λ p. record { sessions = p.0; room = p.1 }) (λ _. refl)

@@ -10,6 +10,7 @@ use Rattle.rk_auth.specs.Sessions.{handler_in}
 abbrev pub waited_key : Construction → Option ℕ
 waited_key c = option_map (λ w. w.key) (option_and_then (λ s. s.wait) (handler_in c.stage))
 
+-- the key on which the handler of k waits
 abbrev pub next_of : map.FinMap nat_cmp Construction → ℕ → Option ℕ
 next_of m k = option_and_then waited_key (map.get m k)
 

@@ -20,16 +20,18 @@ abbrev pub AreAllNew : List NewRing → map.FinMap nat_cmp Ring → Type 0
 AreAllNew [] rings = Unit {0}
 AreAllNew (one ∷ more) rings = (map.get rings one.serial ≡ None) × AreAllNew more (map.insert rings one.serial (empty_ring one.kind one.uid))
 
--- the world with these rings, and these serials
+-- the world with these rings made, and with these serials
 abbrev pub drafted : Drawn → List NewRing → World → World
 drafted serials made w = record w { rings = with_all made w.rings; serials = serials }
 
--- the rings are new, and so is the next one
+-- rings to be made, beside those that are there
 pub record IsDraftOf (serials : Drawn) (made : List NewRing) (rings : map.FinMap nat_cmp Ring) : Type 0 where
+  -- each has a serial that no ring has
   pub new : AreAllNew made rings
+  -- and so has any ring to come, whose serial was not drawn
   pub more : (k : ℕ) → set.contains serials.used k ≡ false → map.get (with_all made rings) k ≡ None
 
--- the ring that is there, or a new one
+-- the ring that is there, where one is given, and else a new one
 abbrev pub MakesOr : Option ℕ → RingKind → ℕ → World → World → ℕ → Type 0
 MakesOr None kind uid old new ring = Makes kind uid old new ring
 MakesOr (Some there) kind uid old new ring = (ring ≡ there) × (new ≡ old)

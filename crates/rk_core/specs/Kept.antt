@@ -6,10 +6,11 @@ use Rattle.rk_rings.specs.Numbered.{Numbered, Rings, rings_seen}
 use Rattle.rk_auth.specs.Sessions.{Sessions}
 use Rattle.rk_machine.specs.World.{World}
 
--- the world of these tables
+-- the world of keys, rings and sessions; a ring is seen as the set of its keys
 abbrev pub world_of : ℕ → Known → Rings → Sessions → World
 world_of negative known rings sessions = record { negative = negative; keys = known.keys; rings = rings_seen rings; serials = known.serials; sessions = sessions }
 
--- each link has the number of its key's name
+-- the keys and the rings agree on names
 pub record IsKept (known : Known) (rings : Rings) : Type 0 where
+  -- each link has the number of its key's name
   pub numbered : (ring k n : ℕ) (r : Numbered) → map.get rings ring ≡ Some r → map.get r.links k ≡ Some n → map.get known.numbers k ≡ Some n

@@ -16,6 +16,7 @@ IsSole w q None m = m ≡ None
 IsSole w q (Some ring) m =
     (p : Standing → Bool) (k : ℕ) → (is_linked w.rings ring k && key_passes w.keys k (answers q p)) ≡ option_map_or (λ one. (k == one.key) && p one.standing) m false
 
+-- the key of the name in each ring of the context
 pub record IsSought (w : World) (q : Query) (s : Sought) : Type 0 where
   pub thread : IsSole w q q.context.thread s.thread
   pub process : IsSole w q q.context.process s.process
@@ -24,25 +25,30 @@ pub record IsSought (w : World) (q : Query) (s : Sought) : Type 0 where
 
 -- ---- what comes of it
 
+-- there is a key, and its standing passes the test
 abbrev pub stands : (Standing → Bool) → Option Match → Bool
 stands p m = option_map_or (λ one. p one.standing) m false
 
--- the key in some ring stands so
+-- the key of the name in some ring of the context stands so
 abbrev pub any_stands : (Standing → Bool) → Sought → Bool
 any_stands p s = stands p s.thread || (stands p s.process || (stands p s.session || stands p s.user))
 
+-- the key, where it stands Positive or Building
 abbrev pub live_key : Option Match → Option ℕ
 live_key m = option_and_then (λ one. if is_live one.standing then Some one.key else None) m
 
+-- the first, and where there is none the second
 abbrev pub or_else : Option ℕ → Option ℕ → Option ℕ
 or_else a b = option_map_or (λ k. Some k) a b
 
--- the first live key
+-- the first key that stands Positive or Building, in the order of search
 abbrev pub hit_in : Sought → Option ℕ
 hit_in s = or_else (live_key s.thread) (or_else (live_key s.process) (or_else (live_key s.session) (live_key s.user)))
 
+-- the first error, in the order of errors, with which a key stands Negative
 abbrev pub block_in : Sought → Option KeyError
 block_in s = find (λ e. any_stands (blocks e) s) errors
 
+-- the first error, in the order of errors, of a key that stands Revoked or Expired
 abbrev pub stale_in : Sought → Option KeyError
 stale_in s = find (λ e. any_stands (is_stale e) s) errors

@@ -7,10 +7,15 @@ use Rattle.rk_auth.specs.Sessions.{unspent}
 use Rattle.rk_machine.specs.World.{World}
 use Rattle.rk_core.specs.Tidy.{StayBut}
 
--- what bears a serial has drawn it, an unspent authority is that of a key under construction, and every key stays
+-- what holds of the world of every book
 pub record IsSound (w : World) : Type 0 where
+  -- no key has a serial that was not drawn
   pub keys : (k : ℕ) → set.contains w.serials.used k ≡ false → map.get w.keys k ≡ None
+  -- nor has a ring
   pub rings : (k : ℕ) → set.contains w.serials.used k ≡ false → map.get w.rings k ≡ None
+  -- nor has a construction
   pub constructions : (k : ℕ) → set.contains w.serials.used k ≡ false → map.get w.sessions.constructions k ≡ None
+  -- the key of an unspent authority is under construction
   pub building : (k : ℕ) → is_some (unspent w.sessions k) ≡ true → key_passes w.keys k is_building ≡ true
+  -- every key has a link or is under construction
   pub tidy : StayBut (λ k. false) w

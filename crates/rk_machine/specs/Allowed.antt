@@ -19,6 +19,7 @@ first_of [] = None
 first_of (None ∷ rest) = first_of rest
 first_of (Some error ∷ rest) = Some error
 
+-- this error, where the test holds
 abbrev pub refused_if : Bool → Errno → Option Errno
 refused_if b error = if b then Some error else None
 

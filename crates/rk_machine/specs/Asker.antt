@@ -28,6 +28,7 @@ client_asker s = option_map (λ c. record { context = c; assumed = None; request
 abbrev pub handler_asker : Session → ℕ → Authority → Asker
 handler_asker s k a = record { context = a.context; assumed = Some k; requestor = Some a.destination; depth = a.depth + 1; setting = s.setting }
 
+-- who acts when a handler asks: its first requester, if it has assumed an authority that is unspent
 abbrev pub assumed_asker : World → SessionId → Session → Option Asker
 assumed_asker w id s = option_and_then (λ k. option_map (handler_asker s k) (assumed_authority w.sessions id)) s.assumed
 
@@ -46,16 +47,17 @@ has_assumed asker k = option_map_or (λ j. j == k) asker.assumed false
 abbrev pub ring_for : World → Asker → ℤ → Option ℕ
 ring_for w asker r = option_and_then (ring_at w.rings asker.context asker.requestor) (place_named r)
 
--- why there is none: no such name, not one of the context, or no such ring
+-- the error where there is none: EINVAL for a number that names no place of a ring, EACCES for a live ring that is not one's own,
+-- else ENOKEY
 abbrev pub no_ring : World → Option Place → Errno
 no_ring w None = errno.Einval
 no_ring w (Some p) = if is_numbered_live w.rings p then errno.Eacces else errno.Enokey
 
--- where a ring has to be there
+-- where a ring has to be named: the error if there is none
 abbrev pub ring_refusal : World → Asker → ℤ → Option Errno
 ring_refusal w asker r = refused_if (is_none (ring_for w asker r)) (no_ring w (place_named r))
 
--- where 0 stands for none
+-- where 0 stands for no ring: the error if another number names none
 abbrev pub ring_or_none_refusal : World → Asker → ℤ → Option Errno
 ring_or_none_refusal w asker (pos n) = if n == 0 then None else ring_refusal w asker (pos n)
 ring_or_none_refusal w asker (negsuc n) = ring_refusal w asker (negsuc n)
@@ -75,16 +77,17 @@ is_reached w c k = list_any (λ ring. is_linked w.rings ring k) (rings_of c)
 abbrev pub is_possessed : World → Asker → ℕ → Bool
 is_possessed w asker k = is_reached w asker.context k || has_assumed asker k
 
--- there is such a key
+-- the key has to be there: EINVAL for a number that is no serial, ENOKEY for a key that is not there
 abbrev pub known_refusal : World → Option ℕ → Option Errno
 known_refusal w None = Some errno.Einval
 known_refusal w (Some k) = refused_if (not (map.contains_key w.keys k)) errno.Enokey
 
+-- the key has to be possessed: EACCES. keyrings(7), "Possession"
 abbrev pub possession_refusal : World → Asker → Option ℕ → Option Errno
 possession_refusal w asker None = None
 possession_refusal w asker (Some k) = refused_if (not (is_possessed w asker k)) errno.Eacces
 
--- a key has to be there and be possessed
+-- a key has to be there, and then to be possessed
 abbrev pub key_refusal : World → Asker → Option ℕ → Option Errno
 key_refusal w asker k = first_of (known_refusal w k ∷ possession_refusal w asker k ∷ [])
 

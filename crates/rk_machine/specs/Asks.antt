@@ -33,6 +33,7 @@ assume_refusal w (Handler own) (pos n) =
 assume_refusal w (Client n) (pos k) = if k == 0 then None else Some errno.Enokey
 assume_refusal w s (negsuc n) = Some errno.Enokey
 
+-- ASSUME: the session has assumed the authority of the key that was named, and none for 0
 abbrev pub Assumes : World → SessionId → ℤ → Answer → World → Type 0
 Assumes old s key answer new =
     Unless (assume_refusal old s key) old answer new
@@ -40,6 +41,7 @@ Assumes old s key answer new =
 
 -- ---- INSTANTIATE, NEGATE, REJECT: keyctl_instantiate(3), keyctl_negate(3), keyctl_reject(3)
 
+-- to complete a key: EPERM if it is not one's own, then the error of a ring that was named, then EDQUOT if that ring is full for it
 abbrev pub completion_refusal : World → Asker → ℤ → ℤ → Option Errno
 completion_refusal w asker key r =
     first_of (own_refusal asker (serial_named key) ∷ ring_or_none_refusal w asker r ∷ full_refusal w (ring_for w asker r) (serial_in key) ∷ [])
@@ -73,10 +75,11 @@ is_acting (ask.Assume key) = false
 is_acting ask.Callout = false
 is_acting _ = true
 
--- behind the gate the session acts for someone
+-- who acts is given to P; where nobody does, EACCES
 abbrev pub Acting : World → SessionId → Answer → World → (Asker → Type 0) → Type 0
 Acting old s answer new P = MatchOption (asker_of old s) (Tells (Refused errno.Eacces) old answer new) P
 
+-- what each ask may be answered, and which world it leaves, once it has passed the gate
 abbrev pub Asking : World → ℕ → SessionId → Ask → Answer → World → Type 0
 Asking old now s (ask.Hello uid gid thread process join) answer new =
     Hellos old s (record { uid = uid; gid = gid; thread = thread; process = process; join = join }) answer new

@@ -19,6 +19,7 @@ use Rattle.rk_machine.specs.declared.event.Answer.TheVariants.{Done}
 use Rattle.rk_machine.specs.World.{World, drawn}
 use Rattle.rk_machine.specs.Allowed.{first_of, refused_if, Leaves, Unless, OrNoMemory}
 
+-- some ring is the user ring of this uid: user-keyring(7)
 abbrev pub has_user_ring : World → ℕ → Bool
 has_user_ring w uid = list_any (λ r. is_users r.kind r.uid uid) (map.values w.rings)
 
@@ -35,7 +36,7 @@ join_refusal w g =
 abbrev pub rings_made : World → Greeting → ℕ
 rings_made w g = cond g.thread 1 0 + cond g.process 1 0 + cond (is_none g.join) 1 0 + cond (has_user_ring w g.uid) 0 1
 
--- at most 1,024 rings, and `left` says whether as many serials are left
+-- the error of the ring to join, then EDQUOT: more than 1,024 rings, or too few serials left (`left` says whether enough are)
 abbrev pub hello_refusal : World → Greeting → Bool → Option Errno
 hello_refusal w g left =
     first_of (join_refusal w g ∷ refused_if (nat_lt 1024 (map.len w.rings + rings_made w g)) errno.Edquot ∷ refused_if (not left) errno.Edquot ∷ [])
@@ -63,16 +64,20 @@ HasUserRing uid old new ring =
     ((r : Ring) × (map.get old.rings ring ≡ Some r) × (is_users r.kind r.uid uid ≡ true) × (new ≡ old))
     ⊎ ((has_user_ring old uid ≡ false) × Makes kind.User uid old new ring)
 
--- drawn in the order thread, process, session, user
+-- the rings of a context are made or found, in the order thread, process, session, user
 pub record MakesRings (g : Greeting) (old new : World) (thread process : Option ℕ) (session user : ℕ) : Type 0 where
+  -- the world with the thread ring
   pub w1 : World
+  -- the world with the process ring, too
   pub w2 : World
+  -- the world with the session ring, too
   pub w3 : World
   pub thread_made : MakesIf g.thread kind.Thread g.uid old w1 thread
   pub process_made : MakesIf g.process kind.Process g.uid w1 w2 process
   pub session_made : HasSessionRing g.join g.uid w2 w3 session
   pub user_made : HasUserRing g.uid w3 new user
 
+-- the client gets a context with these rings, and is answered their numbers: 0 for a thread or process ring that it did not want
 abbrev pub Greets : World → SessionId → Greeting → Answer → World → Type 0
 Greets old s g answer new =
     (thread process : Option ℕ) × (session user : ℕ) × (made : World) × MakesRings g old made thread process session user
@@ -81,6 +86,7 @@ Greets old s g answer new =
       sessions = session_changed s (with_context (record { uid = g.uid; gid = g.gid; thread = thread; process = process; session = session; user = user })) made.sessions;
     }) answer new
 
+-- HELLO is refused, finds no memory, or greets
 unfoldable pub Hellos : World → SessionId → Greeting → Answer → World → Type 0
 Hellos old s g answer new =
     (left : Bool) × Says left (HasSerials old.serials (rings_made old g))

@@ -42,11 +42,13 @@ serial_in key = unwrap_or (serial_named key) 0
 abbrev pub use_refusal : World → ℕ → ℕ → Option Errno
 use_refusal w k now = option_and_then (λ key. option_map key_errno (error_of (standing_of key now))) (map.get w.keys k)
 
+-- the payload of a Positive condition, and no byte for any other
 abbrev pub payload_by : Condition → List ℕ
 payload_by (Positive payload) = payload
 payload_by Building = []
 payload_by (Negative e) = []
 
+-- how a key stands, as DESCRIBE tells it
 abbrev pub state_word : Standing → List ℕ
 state_word standing.Revoked = codes "revoked"
 state_word standing.Expired = codes "expired"
@@ -54,7 +56,7 @@ state_word standing.Building = codes "building"
 state_word standing.Positive = codes "valid"
 state_word (standing.Negative e) = codes "negative"
 
--- type;uid;state;description
+-- what DESCRIBE tells: type;uid;state;description. keyctl_describe(3) tells gid and permissions in place of the state
 abbrev pub description_of : ℕ → Key → List ℕ
 description_of now key =
     key.typ ++ (codes ";" ++ (decimal key.owner ++ (codes ";" ++ (state_word (standing_of key now) ++ (codes ";" ++ key.description)))))
@@ -73,50 +75,57 @@ TellsCallout old s answer new =
     (Tells (Refused errno.Enokey) old answer new)
     (λ a. OrNoMemory old answer new (Tells (Done (Bytes a.callout)) old answer new))
 
+-- READ: a key that isn't there or isn't possessed, the error of one that stands Revoked, Expired or Negative, EBUSY for one under construction
 abbrev pub read_refusal : World → Asker → ℕ → ℤ → Option Errno
 read_refusal w asker now key =
     first_of (key_refusal w asker (serial_named key) ∷ use_refusal w (serial_in key) now
     ∷ refused_if (key_passes w.keys (serial_in key) is_building) errno.Ebusy ∷ [])
 
+-- the number is -7, which stands for the assumed authority: KEY_SPEC_REQKEY_AUTH_KEY of keyctl_read(3)
 abbrev pub is_authority : ℤ → Bool
 is_authority (pos n) = false
 is_authority (negsuc n) = n == 6
 
--- the payload of a key
+-- READ of a number that names a key: its payload
 abbrev pub ReadsKey : World → ℕ → Asker → ℤ → Answer → World → Type 0
 ReadsKey old now asker key answer new =
     Unless (read_refusal old asker now key) old answer new (TellsOf (λ one. payload_by one.condition) old (serial_in key) answer new)
 
--- -7 names the authority that is assumed, and tells its callout
+-- READ: of -7 the callout of the assumed authority, of any other number the payload of the key
 abbrev pub Reads : World → ℕ → SessionId → Asker → ℤ → Answer → World → Type 0
 Reads old now s asker key answer new = MatchBool (is_authority key) (TellsCallout old s answer new) (ReadsKey old now asker key answer new)
 
+-- DESCRIBE of a key that is there and possessed, however it stands
 abbrev pub Describes : World → ℕ → Asker → ℤ → Answer → World → Type 0
 Describes old now asker key answer new =
     Unless (key_refusal old asker (serial_named key)) old answer new (TellsOf (description_of now) old (serial_in key) answer new)
 
 -- ---- REVOKE, TIMEOUT: keyctl_revoke(3), keyctl_set_timeout(3)
 
+-- the key k is changed by f, and nothing else
 abbrev pub with_key_changed : ℕ → (Key → Key) → World → World
 with_key_changed k f w = record w { keys = changed_at k f w.keys }
 
--- a key is revoked once
+-- REVOKE: a key that isn't there or isn't possessed, or EKEYREVOKED for one that is revoked already
 abbrev pub revoke_refusal : World → Asker → ℤ → Option Errno
 revoke_refusal w asker key =
     first_of (key_refusal w asker (serial_named key) ∷ refused_if (key_passes w.keys (serial_in key) is_revoked) errno.Ekeyrevoked ∷ [])
 
+-- REVOKE marks the key
 abbrev pub Revokes : World → Asker → ℤ → Answer → World → Type 0
 Revokes old asker key answer new =
     Unless (revoke_refusal old asker key) old answer new
     (Leaves done (with_key_changed (serial_in key) marked old) answer new)
 
--- the error of the key where it stands Revoked or Expired
+-- the error of a key that stands Revoked or Expired
 abbrev pub over_refusal : World → ℕ → ℕ → Option Errno
 over_refusal w k now = option_and_then (λ key. option_map key_errno (over_error (standing_of key now))) (map.get w.keys k)
 
+-- TIMEOUT: a key that isn't there or isn't possessed, or the error of one that stands Revoked or Expired
 abbrev pub timeout_refusal : World → ℕ → Asker → ℤ → Option Errno
 timeout_refusal w now asker key = first_of (key_refusal w asker (serial_named key) ∷ over_refusal w (serial_in key) now ∷ [])
 
+-- TIMEOUT: the key expires so many seconds from now; 0 takes its expiry away
 abbrev pub TimesOut : World → ℕ → Asker → ℤ → ℕ → Answer → World → Type 0
 TimesOut old now asker key seconds answer new =
     Unless (timeout_refusal old now asker key) old answer new
@@ -124,26 +133,30 @@ TimesOut old now asker key seconds answer new =
 
 -- ---- LINK, UNLINK, CLEAR: keyctl_link(3), keyctl_unlink(3), keyctl_clear(3)
 
+-- LINK: the key, then the ring, then the error of a key that stands Revoked, Expired or Negative, then EDQUOT for a ring that is full for it
 abbrev pub link_refusal : World → ℕ → Asker → ℤ → ℤ → Option Errno
 link_refusal w now asker key r =
     first_of (key_refusal w asker (serial_named key) ∷ ring_refusal w asker r ∷ use_refusal w (serial_in key) now
     ∷ full_refusal w (ring_for w asker r) (serial_in key) ∷ [])
 
+-- LINK: the key is linked in the ring
 abbrev pub LinksIn : World → ℕ → Asker → ℤ → ℤ → Answer → World → Type 0
 LinksIn old now asker key r answer new =
     Unless (link_refusal old now asker key r) old answer new (Settles done (linked_in (ring_for old asker r) (serial_in key) old) answer new)
 
--- the key need not be possessed
+-- UNLINK: a key that isn't there, then the ring, then ENOENT for a key that isn't linked in it. The key need not be possessed
 abbrev pub unlink_refusal : World → Asker → ℤ → ℤ → Option Errno
 unlink_refusal w asker key r =
     first_of (known_refusal w (serial_named key) ∷ ring_refusal w asker r
     ∷ refused_if (not (option_map_or (λ ring. is_linked w.rings ring (serial_in key)) (ring_for w asker r) false)) errno.Enoent ∷ [])
 
+-- UNLINK: the key is not linked in the ring any more
 abbrev pub Unlinks : World → Asker → ℤ → ℤ → Answer → World → Type 0
 Unlinks old asker key r answer new =
     Unless (unlink_refusal old asker key r) old answer new
     (Settles done (unlinked_in (ring_for old asker r) (serial_in key) old) answer new)
 
+-- CLEAR: no key is linked in the ring any more
 abbrev pub Clears : World → Asker → ℤ → Answer → World → Type 0
 Clears old asker r answer new =
     Unless (ring_refusal old asker r) old answer new
@@ -151,12 +164,12 @@ Clears old asker r answer new =
 
 -- ---- DEFAULT: keyctl_set_reqkey_keyring(3)
 
--- -1 keeps the setting, and no other number but that of a setting is one
+-- the setting that DEFAULT asks for: -1 keeps the one before, and any number but that of a setting is none
 abbrev pub setting_asked : ℤ → Setting → Option Setting
 setting_asked (pos n) before = setting_named n
 setting_asked (negsuc n) before = if n == 0 then Some before else None
 
--- the answer is the setting before
+-- DEFAULT: the session has the setting, and is answered the one before
 abbrev pub Defaults : World → SessionId → Asker → ℤ → Answer → World → Type 0
 Defaults old s asker number answer new =
     MatchOption (setting_asked number asker.setting)
@@ -165,18 +178,19 @@ Defaults old s asker number answer new =
 
 -- ---- ADD: add_key(2)
 
--- the uid's 200 keys, no serial left, or the ring full
+-- ADD: the ring, then EDQUOT where the uid has its 200 keys, no serial is left (`left` says whether one is), or the ring is full
 abbrev pub add_refusal : World → Asker → List ℕ → List ℕ → ℤ → Bool → Option Errno
 add_refusal w asker typ description r left =
     first_of (ring_refusal w asker r
     ∷ refused_if (has_all_keys w.keys asker.context.uid || not left || option_map_or (λ ring. is_full_at w ring typ description) (ring_for w asker r) false) errno.Edquot ∷ [])
 
--- always a new key, under any unused serial
+-- a new key with this payload, under any unused serial, always another one than those that are there
 abbrev pub AddsTo : World → Asker → List ℕ → List ℕ → List ℕ → ℕ → Answer → World → Type 0
 AddsTo old asker typ description payload ring answer new =
     (k : ℕ) × IsFresh old.serials k
     × Settles (Done (Number k)) (with_key k (new_key typ description asker.context.uid (Some payload)) ring old) answer new
 
+-- ADD is refused, finds no memory, or makes a key in the ring
 unfoldable pub Adds : World → Asker → List ℕ → List ℕ → List ℕ → ℤ → Answer → World → Type 0
 Adds old asker typ description payload r answer new =
     (left : Bool) × Says left (HasSerials old.serials 1)

@@ -39,6 +39,7 @@ holds_name keys r typ description = list_any (λ k. has_name keys k typ descript
 abbrev pub is_full : map.FinMap nat_cmp Key → List ℕ → List ℕ → Ring → Bool
 is_full keys typ description r = nat_le 256 (set.len r.keys) && not (holds_name keys r typ description)
 
+-- the ring is there, and has no room for a key of that name
 abbrev pub is_full_at : World → ℕ → List ℕ → List ℕ → Bool
 is_full_at w ring typ description = option_map_or (is_full w.keys typ description) (map.get w.rings ring) false
 
@@ -46,7 +47,7 @@ is_full_at w ring typ description = option_map_or (is_full w.keys typ descriptio
 abbrev pub is_full_for : World → ℕ → ℕ → Bool
 is_full_for w ring k = key_passes w.keys k (λ key. is_full_at w ring key.typ key.description)
 
--- there is a ring, and it is full for k
+-- EDQUOT where a ring is named that is full for k
 abbrev pub full_refusal : World → Option ℕ → ℕ → Option Errno
 full_refusal w None k = None
 full_refusal w (Some ring) k = refused_if (is_full_for w ring k) errno.Edquot

@@ -38,7 +38,7 @@ stage_owes (Plain s) = 1 + wait_owes s
 stage_owes Piped = 3
 stage_owes Negating = 2
 
--- by its stage
+-- the same, of a construction by its stage
 abbrev pub construction_owes : Construction → ℕ
 construction_owes c = stage_owes c.stage
 
@@ -71,6 +71,7 @@ abbrev pub start_owes : Answer → ℕ
 start_owes (Start k subject) = 4
 start_owes _ = 0
 
+-- the ask is a REQUEST, which alone may start a construction
 abbrev pub is_request : Ask → Bool
 is_request (ask.Request typ description callout ring) = true
 is_request _ = false
@@ -93,7 +94,7 @@ abbrev pub begun : Answer → ℕ
 begun (Start k subject) = 1
 begun _ = 0
 
--- how many an event ends, where it is answered done
+-- how many an event ends, where it is answered 0
 abbrev pub closes : Event → ℕ
 closes (Launched k ran.Failed) = 1
 closes (Ended k how payload) = 1
@@ -117,7 +118,7 @@ stage_ends (Plain s) = 1
 stage_ends Piped = 2
 stage_ends Negating = 1
 
--- by its stage
+-- the same, of a construction by its stage
 abbrev pub construction_ends : Construction → ℕ
 construction_ends c = stage_ends c.stage
 

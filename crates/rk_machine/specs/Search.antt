@@ -17,9 +17,13 @@ use Rattle.rk_machine.specs.World.{World}
 
 -- what is searched for: in whose rings, which name, and when
 pub record Query : Type 0 where
+  -- in whose rings
   pub context : Context
+  -- the type of the key
   pub typ : List ℕ
+  -- its description
   pub description : List ℕ
+  -- the moment at which it stands
   pub now : ℕ
 
 -- the key has the name, and its standing passes the test
@@ -49,14 +53,15 @@ Hits w q (ring ∷ rings) (Some found) =
 
 -- ---- the errors where there is no hit
 
--- some key in the ring has the name and stands so
+-- some key in this ring has the name, and its standing passes the test
 abbrev pub has_match : World → Query → (Standing → Bool) → ℕ → Bool
 has_match w q p ring = option_map_or (λ r. list_any (λ k. key_passes w.keys k (answers q p)) (set.items r.keys)) (map.get w.rings ring) false
 
--- some match stands so
+-- some key of the name in the rings of the context stands so
 abbrev pub some_match : World → Query → (Standing → Bool) → Bool
 some_match w q p = list_any (has_match w q p) (rings_of q.context)
 
+-- both are the same error
 abbrev pub same_error : KeyError → KeyError → Bool
 same_error error.Revoked error.Revoked = true
 same_error error.Expired error.Expired = true

@@ -12,6 +12,7 @@ use Rattle.rk_keys.specs.Serials.{Drawn, drawn_code, with_drawn}
 use Rattle.rk_rings.specs.Ring.{Ring, ring_code, has_link}
 use Rattle.rk_auth.specs.Sessions.{Sessions, sessions_code, no_sessions}
 
+-- what the machine knows
 pub record World : Type 0 where
   pub negative : ℕ  -- for so many seconds a key is negative whose handler did not complete it
   pub keys : map.FinMap nat_cmp Key
@@ -29,6 +30,7 @@ empty_world negative first stride = record {
   sessions = no_sessions;
 }
 
+-- a world as its five parts in a row, the form in which a model of a struct sees it
 abbrev pub world_code : Coded World
 world_code =
     code_by (ℕ × (map.FinMap nat_cmp Key × (map.FinMap nat_cmp Ring × (Drawn × Sessions))))
