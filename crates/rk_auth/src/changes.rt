@@ -59,7 +59,9 @@ impl ChangeOnce<Session> for DropAssumed {
 /// Lets a session wait for a key.
 #[derive(Clone, Copy)]
 pub struct BeginWait {
+    /// For which key.
     pub key: Serial,
+    /// Whether its request started the construction.
     pub starter: bool,
 }
 
@@ -133,7 +135,9 @@ impl ChangeOnce<Construction> for Spend {
 /// A wait on the key gets the outcome.
 #[derive(Clone, Copy)]
 pub struct Tell {
+    /// The key on which the wait is.
     pub key: Serial,
+    /// What it is told.
     pub outcome: Outcome,
 }
 

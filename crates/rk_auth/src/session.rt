@@ -13,10 +13,11 @@ pub enum Outcome {
 /// A session waits for a key: it asks nothing more until it has collected the outcome.
 #[derive(Clone, Copy, Debug, PartialEq, Eq)]
 pub struct Wait {
+    /// For which key it waits.
     pub key: Serial,
-    /// Whether its request started the construction. A starter is answered when the handler has ended,
-    /// any other when the key is complete.
+    /// Whether its request started the construction. A starter is answered when the handler has ended, any other when the key is complete.
     pub starter: bool,
+    /// `None` until the key is complete, or its handler has ended.
     pub outcome: Option<Outcome>,
 }
 
@@ -29,6 +30,7 @@ pub struct Session {
     pub setting: Setting,
     /// The key whose authority it has assumed. A client never has one.
     pub assumed: Option<Serial>,
+    /// What it waits for; `None` while it may ask.
     pub wait: Option<Wait>,
 }
 

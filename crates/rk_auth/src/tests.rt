@@ -234,8 +234,7 @@ fn faults_have_numbers(rt: HostRuntime) {
     assert_eq!(rt; AuthFault::Circle.errno().number(), 35);
 }
 
-/// Goes well whichever allocation is refused: the call answers it, changes nothing, and goes well when it is
-/// made again.
+/// Goes well whichever allocation is refused: the call answers it, changes nothing, and goes well when it is made again.
 #[test]
 fn a_refused_growth_changes_nothing(rt: HostRuntime) -> Result<(), Fail> {
     let alloc = rt.alloc();

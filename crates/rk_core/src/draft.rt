@@ -16,7 +16,9 @@ use std::alloc::{AllocError, Global};
 /// Rings that are to be made. Nothing of it stands until it is taken.
 #[derive(Drop)]
 pub struct Draft {
+    /// The book's serials, with those of these rings drawn.
     pub serials: Serials,
+    /// The rings, in the order in which they are to be made.
     pub made: Vec<NewRing>,
 }
 

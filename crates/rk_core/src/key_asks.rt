@@ -158,8 +158,7 @@ impl Tables {
         }
     }
 
-    /// Marks a key as revoked (keyctl_revoke(3)). EINVAL, ENOKEY, EACCES where it is not possessed; EKEYREVOKED where it is
-    /// marked already.
+    /// Marks a key as revoked (keyctl_revoke(3)). EINVAL, ENOKEY, EACCES where it is not possessed; EKEYREVOKED where it is marked already.
     pub fn revoke(&mut self, asker: &Asker, number: i32) -> Answer
         ensures { Revokes self.old asker.now number result self.new }
     {

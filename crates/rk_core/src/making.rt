@@ -34,8 +34,7 @@ impl Tables {
         Ok(key)
     }
 
-    /// Makes a key under construction with its authority, and with no link yet. A refused growth changes nothing, and draws
-    /// no serial.
+    /// Makes a key under construction with its authority, and with no link yet. A refused growth changes nothing, and draws no serial.
     pub fn make_construction(
         &mut self,
         typ: TypeName,

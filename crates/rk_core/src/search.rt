@@ -13,16 +13,22 @@ use rk_names::{Context, Description, KeyError, Moment, Serial, TypeName};
 /// The key of the name in a ring, and how it stands.
 #[derive(Clone, Copy, Debug)]
 pub struct Match {
+    /// The key.
     pub key: Serial,
+    /// How it stands at the moment of the search.
     pub standing: Standing,
 }
 
 /// The key of the name in each ring of a context, in the order of search (request_key(2)).
 #[derive(Clone, Copy, Debug)]
 pub struct Sought {
+    /// In the thread ring; `None` where there is no such key, or no such ring.
     pub thread: Option<Match>,
+    /// In the process ring.
     pub process: Option<Match>,
+    /// In the session ring.
     pub session: Option<Match>,
+    /// In the user ring.
     pub user: Option<Match>,
 }
 

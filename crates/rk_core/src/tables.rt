@@ -26,10 +26,15 @@ use std::marker::Model;
 /// The machine's state: keys, rings and sessions.
 #[derive(Drop)]
 pub struct Tables {
+    /// Where memory comes from.
     pub(crate) alloc: Global,
+    /// For so many seconds a key is negative whose handler did not complete it.
     pub(crate) negative: u32,
+    /// The keys, and the serials of keys and rings.
     pub(crate) keys: Keys,
+    /// The rings, and which keys are linked in them.
     pub(crate) rings: Rings,
+    /// The sessions, the constructions and their authorities.
     pub(crate) auths: Auths,
 }
 

@@ -7,8 +7,7 @@ use crate::key::Key;
 use rk_names::{Description, TypeName};
 use rk_table::Table;
 
-/// The place for a name and a serial: the keys before it stand before these in the order. It looks at as many keys as their number can
-/// be halved.
+/// The place for a name and a serial: the keys before it stand before these in the order. It looks at as many keys as their number can be halved.
 pub fn place_of(
     facts: &Table<Key>,
     by_name: &[u32],

@@ -6,7 +6,9 @@ use rk_table::ChangeOnce;
 /// The key gets its condition, and an expiry where one is given.
 #[derive(Drop)]
 pub struct Conclude {
+    /// What the key has come to.
     pub condition: Condition,
+    /// When it expires; `None` leaves the expiry that it has.
     pub expiry: Option<Moment>,
 }
 
@@ -41,7 +43,9 @@ impl ChangeOnce<Key> for Mark {
 /// The key expires so many seconds on, or never for 0.
 #[derive(Drop)]
 pub struct Time {
+    /// From when the seconds count.
     pub now: Moment,
+    /// How many, 0 for never.
     pub seconds: u32,
 }
 

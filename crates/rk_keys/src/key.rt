@@ -16,10 +16,13 @@ pub enum Condition {
 /// What is known of a key.
 #[derive(Debug, Drop)]
 pub struct Key {
+    /// Its type, the first half of its name (add_key(2)).
     pub typ: TypeName,
+    /// Its description, the other half.
     pub description: Description,
     /// The user to whose quota it counts.
     pub owner: u32,
+    /// What it has come to.
     pub condition: Condition,
     /// Marked by REVOKE (keyctl_revoke(3)). The mark stays.
     pub revoked: bool,
@@ -30,10 +33,15 @@ pub struct Key {
 /// What a key is at a moment: a mark of revocation before an expiry, an expiry before its condition.
 #[derive(Clone, Copy, Debug, PartialEq, Eq)]
 pub enum Standing {
+    /// Marked by REVOKE.
     Revoked,
+    /// Its expiry has come.
     Expired,
+    /// Under construction.
     Building,
+    /// Complete, with a payload that may be read.
     Positive,
+    /// Negated or rejected: who asks for it is told this error.
     Negative(KeyError),
 }
 

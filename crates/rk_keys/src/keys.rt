@@ -28,6 +28,7 @@ use std::marker::Model;
 /// `is_full` halves the users; `left`, `serials` and `set_serials` take the same time always.
 #[derive(Drop)]
 pub struct Keys {
+    /// What is known of each key, by its serial.
     facts: Table<Key>,
     /// The number of each key's name.
     numbers: Table<NameNo>,
@@ -35,6 +36,7 @@ pub struct Keys {
     by_name: Vec<u32>,
     /// How many keys each user has.
     counts: Table<u32>,
+    /// Which serials were drawn, and which is the next.
     serials: Serials,
 }
 
@@ -56,8 +58,7 @@ impl Keys {
     /// The most keys of one user (keyrings(7), `/proc/sys/kernel/keys/maxkeys`).
     pub const MAX_PER_USER: usize = 200;
 
-    /// No key, and the serials `first`, `first + stride`, `first + 2 * stride` .., none of them drawn.
-    /// Room is made for the keys of one user.
+    /// No key, and the serials `first`, `first + stride`, `first + 2 * stride` .., none of them drawn. Room is made for the keys of one user.
     pub fn new(alloc: Global, first: Serial, stride: u32) -> Result<Keys, AllocError>
         requires { 1 ≤ stride }
         ensures { IfOk result (λ keys. keys ≡ record { keys = map.empty; numbers = map.empty; serials = record { first = first; stride = stride; used = set.empty } }) }
@@ -97,8 +98,7 @@ impl Keys {
         }
     }
 
-    /// The number of the name: live keys share one exactly where their type and description are
-    /// equal. `None` where no live key has that name.
+    /// The number of the name: live keys share one exactly where their type and description are equal. `None` where no live key has that name.
     pub fn name(&self, typ: &TypeName, description: &Description) -> Option<NameNo>
         ensures naming { IsNaming self.now.keys self.now.numbers }
         ensures none { result ≡ None → (k : ℕ) → has_name self.now.keys k typ.now description.now ≡ false }
@@ -144,10 +144,9 @@ impl Keys {
         self.serials = serials;
     }
 
-    /// Makes a key of this user under the least unused serial, without expiry: under construction, or
-    /// with a payload. Its name has the number of the live keys of that name, else its own serial.
-    /// Refusals: `Quota` exactly where the user has 200 keys or no serial is left (add_key(2), EDQUOT); else
-    /// `NoMemory`. A refusal changes nothing, and draws no serial.
+    /// Makes a key of this user under the least unused serial, without expiry: under construction, or with a payload. Its name has the number of
+    /// the live keys of that name, else its own serial. Refusals: `Quota` exactly where the user has 200 keys or no serial is left (add_key(2),
+    /// EDQUOT); else `NoMemory`. A refusal changes nothing, and draws no serial.
     pub fn make(
         &mut self,
         typ: TypeName,
@@ -205,8 +204,7 @@ impl Keys {
         self.facts.change(key.get(), Conclude { condition, expiry });
     }
 
-    /// Marks the key as revoked (keyctl_revoke(3)). `Own(Revoked)` exactly where it is marked already,
-    /// and then nothing changes.
+    /// Marks the key as revoked (keyctl_revoke(3)). `Own(Revoked)` exactly where it is marked already, and then nothing changes.
     pub fn revoke(&mut self, key: Serial) -> Result<(), KeyFault>
         ensures { MatchBool (key_passes self.old.keys key is_revoked) ((result ≡ Err (KeyFault.Own KeyError.Revoked)) × (self.new ≡ self.old)) (IsOk result × (self.new ≡ with_key_changed key marked self.old)) }
     {

@@ -9,6 +9,7 @@ use rk_table::{ChangeOnce, Table};
 /// The count becomes this one.
 #[derive(Drop)]
 struct Become {
+    /// The new count.
     count: u32,
 }
 

@@ -8,12 +8,13 @@ ghost use Rattle.rk_keys.specs.Serials.{Drawn, HasSerials, IsFresh, IsNext, Exte
 use rk_names::Serial;
 use std::marker::Model;
 
-/// The serials that may be drawn, `first`, `first + stride`, `first + 2 * stride` .. up to
-/// 2,147,483,647, each once (keyrings(7): a serial is a positive integer). A copy draws for itself, so two
-/// copies may draw the same. No call takes memory, and each takes the same time always.
+/// The serials that may be drawn, `first`, `first + stride`, `first + 2 * stride` .. up to 2,147,483,647, each once (keyrings(7): a serial is a
+/// positive integer). A copy draws for itself, so two copies may draw the same. No call takes memory, and each takes the same time always.
 #[derive(Clone, Copy, Debug)]
 pub struct Serials {
+    /// The first of them.
     first: Serial,
+    /// How far each is from the one before, at least 1.
     stride: u32,
     /// How many were drawn.
     count: u32,

@@ -399,8 +399,7 @@ fn faults_are_answered(rt: HostRuntime) -> Result<(), Fail> {
     Ok(())
 }
 
-/// Goes well whichever allocation is refused: the call answers it, changes nothing, and goes well when it is
-/// made again.
+/// Goes well whichever allocation is refused: the call answers it, changes nothing, and goes well when it is made again.
 #[test]
 fn a_refused_growth_changes_nothing(rt: HostRuntime) -> Result<(), Fail> {
     let alloc = rt.alloc();

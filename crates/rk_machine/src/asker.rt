@@ -8,10 +8,15 @@ use rk_names::{Context, Serial, Setting};
 /// would be, and the setting for new keys.
 #[derive(Clone, Copy, Debug)]
 pub struct Asker {
+    /// In whose context it acts: a client in its own, a handler in that of the first requester.
     pub context: Context,
+    /// The key whose authority it has assumed; a client never has one.
     pub assumed: Option<Serial>,
+    /// The destination of that authority, for which the number -8 stands; `None` for a client.
     pub requestor: Option<Serial>,
+    /// The depth of a construction that it would start: 1 for a client.
     pub depth: u32,
+    /// Where its new keys go by default.
     pub setting: Setting,
 }
 

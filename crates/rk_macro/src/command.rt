@@ -7,6 +7,7 @@ use std::marker::Model;
 /// The words of a command, in their order.
 #[derive(Debug, Drop)]
 pub struct Words {
+    /// The words.
     items: Vec<Word>,
 }
 

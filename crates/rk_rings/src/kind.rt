@@ -17,7 +17,10 @@ pub enum RingKind {
 /// A ring to be made, under a serial that no other ring has.
 #[derive(Clone, Copy, Debug, PartialEq, Eq)]
 pub struct NewRing {
+    /// Its serial.
     pub serial: Serial,
+    /// What it is for.
     pub kind: RingKind,
+    /// Whose it is.
     pub uid: u32,
 }

@@ -2,28 +2,24 @@
 //!
 //! # Purpose
 //!
-//! [`Rings`] holds the live rings by their serials: whose each is (keyrings(7), "Anchoring keys"), and the
-//! keys that are linked in it. It knows a key by its serial and by the number of its name, which live keys
-//! share exactly where their type and description are equal, so it tells names apart without reading them.
-//! It answers where a key of a name is found in the rings of a context, which ring an ask means, and where
-//! a new key goes.
+//! [`Rings`] holds the live rings by their serials: whose each is (keyrings(7), "Anchoring keys"), and the keys that are linked in it. It knows a
+//! key by its serial and by the number of its name, which live keys share exactly where their type and description are equal, so it tells names
+//! apart without reading them. It answers where a key of a name is found in the rings of a context, which ring an ask means, and where a new key
+//! goes.
 //!
 //! # What it promises
 //!
-//! Its clauses speak of one value: a finite map from serials to rings, each with its kind, its user and a
-//! finite map from keys to numbers. No ring ever has two keys of one name, so the key of a name that a look-up
-//! finds is the only one there. A link takes the place of another key of that name in the ring, and changes
-//! nothing for a key that is there. A ring has at most 256 links, there are at most 1,024 rings, and
-//! `Full` comes exactly where a limit would be passed. Each refusal comes exactly in its case and changes
-//! nothing. Only `make` takes memory: it makes several rings or none, each with the room for its links, so no
-//! later call can want any.
+//! Its clauses speak of one value: a finite map from serials to rings, each with its kind, its user and a finite map from keys to numbers. No ring
+//! ever has two keys of one name, so the key of a name that a look-up finds is the only one there. A link takes the place of another key of that
+//! name in the ring, and changes nothing for a key that is there. A ring has at most 256 links, there are at most 1,024 rings, and `Full` comes
+//! exactly where a limit would be passed. Each refusal comes exactly in its case and changes nothing. Only `make` takes memory: it makes several
+//! rings or none, each with the room for its links, so no later call can want any.
 //!
 //! # An example
 //!
-//! `make` of the ring 3, a session ring of the user 1000; `link` of the key 7 with the name 1 in it, and of the
-//! key 8 with the name 1: `holds(3, 7)` is now false, `holds(3, 8)` true. `at` with the place `Session` answers
-//! 3 for a context whose session ring is 3, and `NoRing` after `drop_ring(3)`; `choose` then answers the context's
-//! user ring.
+//! `make` of the ring 3, a session ring of the user 1000; `link` of the key 7 with the name 1 in it, and of the key 8 with the name 1: `holds(3,
+//! 7)` is now false, `holds(3, 8)` true. `at` with the place `Session` answers 3 for a context whose session ring is 3, and `NoRing` after
+//! `drop_ring(3)`; `choose` then answers the context's user ring.
 //!
 //! # How it is built
 //!

@@ -3,8 +3,7 @@ ghost use Rattle.std.specs.Prelude.{◌≡◌};
 
 use rk_names::Serial;
 
-/// A ring as an ask names it: 0 for none, a special number, or a serial (keyctl(2), "Key serial
-/// numbers"; keyrings(7), "Possession").
+/// A ring as an ask names it: 0 for none, a special number, or a serial (keyctl(2), "Key serial numbers"; keyrings(7), "Possession").
 #[derive(Clone, Copy, Debug, PartialEq, Eq)]
 pub enum Place {
     /// 0.

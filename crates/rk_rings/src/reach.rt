@@ -14,9 +14,13 @@ use rk_names::{Context, NameNo, Serial, Setting};
 /// The keys of one name in the rings of a context, in the order of search (request_key(2)).
 #[derive(Clone, Copy, Debug, PartialEq, Eq)]
 pub struct Matches {
+    /// In the thread ring.
     pub thread: Option<Serial>,
+    /// In the process ring.
     pub process: Option<Serial>,
+    /// In the session ring.
     pub session: Option<Serial>,
+    /// In the user ring.
     pub user: Option<Serial>,
 }
 
@@ -72,9 +76,8 @@ impl Rings {
 
     /// The ring that an ask means by a place. It takes no memory.
     ///
-    /// `Elsewhere` exactly for the serial of a live ring that is not one of the context; `NoRing` for
-    /// `Nowhere`, and where the ring is absent or was dropped. The requestor's ring is the destination of the
-    /// request that is acted for (`KEY_SPEC_REQUESTOR_KEYRING`).
+    /// `Elsewhere` exactly for the serial of a live ring that is not one of the context; `NoRing` for `Nowhere`, and where the ring is absent or
+    /// was dropped. The requestor's ring is the destination of the request that is acted for (`KEY_SPEC_REQUESTOR_KEYRING`).
     pub fn at(
         &self,
         context: &Context,
@@ -130,9 +133,8 @@ impl Rings {
         }
     }
 
-    /// Where a new key goes when a request names no ring: the first live ring in the order requestor,
-    /// thread, process, session, user, from the setting on (keyctl(2), `KEYCTL_SET_REQKEY_KEYRING`). It
-    /// takes no memory.
+    /// Where a new key goes when a request names no ring: the first live ring in the order requestor, thread, process, session, user, from the
+    /// setting on (keyctl(2), `KEYCTL_SET_REQKEY_KEYRING`). It takes no memory.
     pub fn choose(&self, context: &Context, requestor: Option<Serial>, setting: Setting) -> Serial
         ensures { result ≡ default_ring self.now context.now requestor setting }
     {

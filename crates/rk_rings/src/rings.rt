@@ -22,6 +22,7 @@ pub const MAX_RINGS: usize = 1_024;
 /// it walks over the links of that ring.
 #[derive(Drop)]
 pub struct Rings {
+    /// Each ring by its serial.
     rows: Table<Row>,
 }
 

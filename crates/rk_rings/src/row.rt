@@ -13,8 +13,11 @@ pub const MAX_LINKS: usize = 256;
 /// One ring: whose it is, and the keys that are linked in it with the numbers of their names.
 #[derive(Drop)]
 pub struct Row {
+    /// What it is for.
     kind: RingKind,
+    /// Whose it is.
     uid: u32,
+    /// The number of each key's name, by the key's serial.
     links: Table<NameNo>,
 }
 
@@ -107,8 +110,7 @@ impl Row {
         Serial::new(self.links.find(&IsThere)?)
     }
 
-    /// Links a key of that name, in the place of another of that name. It takes no memory, and changes
-    /// nothing where the key is linked already.
+    /// Links a key of that name, in the place of another of that name. It takes no memory, and changes nothing where the key is linked already.
     pub fn link(&mut self, key: Serial, name: NameNo)
         requires { (map.contains_key self.old.links key ≡ false) → is_full (Some name) self.old ≡ false }
         ensures { self.new ≡ linked key name self.old }
