@@ -28,7 +28,7 @@
 //! in each ring of a context. `completion`, `making`, `sessions` and `draft` are what the asks are made of; `hello`, `request`, `completing`, `key_asks`
 //! and `ring_asks` are the asks; `asks` is the gate and the dispatch, `steps` the six events, `views` what is told without a step.
 //!
-//! What holds of every world (`proofs/Sound.antt`) is proved over the twenty or so kinds of step into which rk_machine takes a step apart.
+//! What holds of every world (`proofs/Stepping/StepsKeepSound.antt`) is proved over the twenty or so kinds of step into which rk_machine takes a step apart.
 #![tactic(auto)]
 
 mod asks;

@@ -32,10 +32,10 @@
 //! `event` has what happens and what is answered, `copying` and `equality` copy and compare them, `greeting` and `asker` have what the definitions
 //! of the asks speak of, `owing` counts what is owed, and `laws` has the one call that promises the laws.
 //!
-//! `proofs/Effects.antt` turns a step inside out once: whatever step the machine may take is one of some twenty, each with what it found and what it
-//! leaves. Every law is proved over these (`proofs/Lawful.antt`), and so is what others hold of every step: which constructions and clients there
-//! are after it (`proofs/Stages.antt`, `proofs/Presence.antt`), that what was never drawn is none (`proofs/Idle.antt`), and what is owed
-//! (`proofs/Recorded.antt`).
+//! `proofs/Effects/KindsOfStep.antt` turns a step inside out once: whatever step the machine may take is one of some twenty, each with what it found and what it
+//! leaves. Every law is proved over these (`proofs/EveryRun/KeepsLaws.antt`), and so is what others hold of every step: which constructions and clients there
+//! are after it (`proofs/Effects/StagesByStep.antt`, `proofs/Effects/ClientsByStep.antt`), that what was never drawn is none (`proofs/Effects/UndrawnIsIdle.antt`), and what is owed
+//! (`proofs/OwedSteps/EachRecorded.antt`).
 #![tactic(auto)]
 
 mod asker;

@@ -25,7 +25,7 @@ use Rattle.rk_replay.specs.Moves.{Move, collects, refuses, asks, shuts_client, s
 use Rattle.rk_replay.specs.Begins.{has_client, is_misplaced, Adds, Lengthens, Runs, negated, Follows, EndsBy, is_last, is_followed, is_not_followed, Begins, place_with}
 use Rattle.rk_replay.specs.Served.{Acts}
 use Rattle.rk_replay.specs.Seated.{IsSeated}
-use Rattle.rk_machine.proofs.Stages.{kind_in}
+use Rattle.rk_machine.proofs.Effects.StagesByStep.{kind_in}
 use Rattle.rk_replay.proofs.SeatLists.{sort_in, at_has}
 use Rattle.rk_replay.proofs.Seating.{agree, Fits, fits, seated, same_seats, reseated, opened_fits, gone_fits, gone_done, ended_fits, runs_fits, follows_fits, follows_none_fits, answered_fits}
 

@@ -27,7 +27,7 @@ use Rattle.rk_replay.specs.Commands.{IsCommand}
 use Rattle.rk_replay.specs.Moves.{is_start, Answered, tells, starts_one, fails_to_start, collects, refuses, asks, shuts_client, shuts_handler, CannotMove}
 use Rattle.rk_replay.specs.Places.{is_stream, is_open, IsNextAt, HasFaultAt, shut_place}
 use Rattle.rk_replay.specs.Desk.{MovesOne, AnswersOne, StartsNow, RestsAt}
-use Rattle.rk_machine.proofs.Presence.{ready_waits}
+use Rattle.rk_machine.proofs.Effects.ClientsByStep.{ready_waits}
 use Rattle.rk_replay.proofs.SeatLists.{not_false, some_seat}
 
 -- ---- one ask

@@ -23,7 +23,7 @@ use Rattle.rk_machine.specs.Views.{is_owed}
 use Rattle.rk_machine.specs.Completion.{condition_after, ended}
 use Rattle.rk_conf.specs.declared.line.Line.{Line}
 use Rattle.std.specs.Bool.{MatchBool}
-use Rattle.rk_machine.proofs.Refusals.{unless, or_memory}
+use Rattle.rk_machine.proofs.Found.Refusals.{unless, or_memory}
 use Rattle.rk_replay.specs.declared.happening.Happening.{Happening}
 use Rattle.rk_replay.specs.declared.happening.Happening.TheVariants as happening
 use Rattle.rk_replay.specs.declared.happening.StartResult.TheVariants.{Started}

@@ -5,7 +5,7 @@ use Rattle.std.specs.List.{remove}
 use Rattle.rk_names.specs.declared.numbers.SessionId.{SessionId}
 use Rattle.rk_macro.specs.declared.subject.Subject.{Subject}
 use Rattle.rk_machine.specs.Laws.{same_session}
-use Rattle.rk_machine.proofs.Waits.{same-true, same-self}
+use Rattle.rk_machine.proofs.Effects.WaitsAfter.{same-true, same-self}
 use Rattle.rk_replay.specs.declared.seat.Place.{Place}
 use Rattle.rk_replay.specs.declared.seat.Place.TheVariants.{Talks, Starts, Pipes}
 use Rattle.rk_replay.specs.declared.seat.Seat.{Seat}

@@ -25,7 +25,7 @@ use Rattle.rk_machine.specs.Allowed.{done, refused_if}
 use Rattle.rk_machine.specs.Steps.{Beginning, Past, Step, may_launch}
 use Rattle.rk_machine.specs.Views.{is_owed}
 use Rattle.rk_machine.specs.Laws.{same_session}
-use Rattle.rk_machine.proofs.Effects.{effect}
+use Rattle.rk_machine.proofs.Effects.KindsOfStep.{effect}
 use Rattle.rk_replay.specs.declared.seat.Place.{Place}
 use Rattle.rk_replay.specs.declared.seat.Place.TheVariants.{Talks, Starts, Pipes}
 use Rattle.rk_replay.specs.declared.seat.Seat.{Seat}
@@ -33,10 +33,10 @@ use Rattle.rk_replay.specs.Left.{Left, seat, without, Part}
 use Rattle.rk_replay.specs.Moves.{is_start as is_start_of, Answered, tells, starts_one, fails_to_start}
 use Rattle.rk_replay.specs.Begins.{has_client, Adds}
 use Rattle.rk_replay.specs.Seated.{seat_of, has_place, fits_stage, are_apart, IsSeated}
-use Rattle.rk_machine.proofs.Stages.{Kind, to_start, talks, pipes, to_follow, kind, kind_in, kind_of, is_due, kind_after, kinds, launched_kind}
-use Rattle.rk_machine.proofs.Presence.{is_client, client_after, clients}
-use Rattle.rk_machine.proofs.Idle.{IsIdle, idle_step, start_draws, launch_kind}
-use Rattle.rk_machine.proofs.Waits.{same-self}
+use Rattle.rk_machine.proofs.Effects.StagesByStep.{Kind, to_start, talks, pipes, to_follow, kind, kind_in, kind_of, is_due, kind_after, kinds, launched_kind}
+use Rattle.rk_machine.proofs.Effects.ClientsByStep.{is_client, client_after, clients}
+use Rattle.rk_machine.proofs.Effects.UndrawnIsIdle.{IsIdle, idle_step, start_draws, launch_kind}
+use Rattle.rk_machine.proofs.Effects.WaitsAfter.{same-self}
 use Rattle.rk_replay.proofs.SeatLists.{some_none, Sort, starts_piped, starts_plain, has_stream, has_output, unmade, sort_in, sort, sort_at, sort_at_is, has_seat_is, sort_added, sort_without, sort_kept, sort_set, apart_added, apart_without, apart_set}
 
 -- ---- the stage of a construction and what its handler does

@@ -7,7 +7,7 @@ use Rattle.rk_message.specs.declared.ask.Ask.{Ask}
 use Rattle.rk_conf.specs.declared.line.Line.{Line}
 use Rattle.rk_machine.specs.World.{World}
 use Rattle.rk_machine.specs.Steps.{Beginning, Past, Step, Run}
-use Rattle.rk_machine.proofs.Lawful.{lawful}
+use Rattle.rk_machine.proofs.EveryRun.KeepsLaws.{lawful}
 use Rattle.rk_replay.specs.declared.happening.Happening.{Happening}
 use Rattle.rk_replay.specs.declared.happening.Happening.TheVariants as happening
 use Rattle.rk_replay.specs.declared.happening.StartResult.TheVariants.{Started, Failed}

@@ -12,7 +12,7 @@ use Rattle.rk_machine.specs.World.{World}
 use Rattle.rk_machine.specs.Views.{has_wait}
 use Rattle.rk_macro.specs.declared.subject.Subject.{Subject}
 use Rattle.rk_machine.specs.Laws.{same_session}
-use Rattle.rk_machine.proofs.Waits.{same-true, same-self}
+use Rattle.rk_machine.proofs.Effects.WaitsAfter.{same-true, same-self}
 use Rattle.rk_replay.specs.declared.seat.Place.{Place}
 use Rattle.rk_replay.specs.declared.seat.Place.TheVariants.{Talks, Starts, Pipes}
 use Rattle.rk_replay.specs.declared.seat.Seat.{Seat}
@@ -21,8 +21,8 @@ use Rattle.rk_replay.specs.Streams.{closed, Takes}
 use Rattle.rk_replay.specs.Left.{Left, seat, without, Part}
 use Rattle.rk_replay.specs.Moves.{Answered, tells, starts_one, fails_to_start, Move, collects, refuses, asks, shuts_client, shuts_handler}
 use Rattle.rk_replay.specs.Seated.{has_seat, are_apart, IsSeated}
-use Rattle.rk_machine.proofs.Presence.{gains, ready_waits, collect_ends}
-use Rattle.rk_machine.proofs.Idle.{IsIdle, idle_fresh, idle_step}
+use Rattle.rk_machine.proofs.Effects.ClientsByStep.{gains, ready_waits, collect_ends}
+use Rattle.rk_machine.proofs.Effects.UndrawnIsIdle.{IsIdle, idle_fresh, idle_step}
 use Rattle.rk_replay.proofs.SeatLists.{both, not_false, some_none, sort_at, has_seat_is, at_has, apart_from, some_seat}
 use Rattle.rk_replay.proofs.Seating.{fits}
 

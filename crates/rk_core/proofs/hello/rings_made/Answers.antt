@@ -1,7 +1,7 @@
 use mir.Val.{bool_byte}
 use Rattle.std.proofs.Common.{◌≡◌, Bool, true, false, cond, not, ◌+◌, sym, ap, ◌∙◌, refl}
 use Rattle.std.specs.Prelude.{is_none}
-use Rattle.rk_core.proofs.UserRings.{count_made}
+use Rattle.rk_core.proofs.Greetings.UserRing.{count_made}
 use Rattle.rk_core.proofs.hello.rings_made.Goals as goal
 
 one_if : (b : Bool) → bool_byte b ≡ cond b 1 0

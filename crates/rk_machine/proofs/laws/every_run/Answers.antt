@@ -1,9 +1,9 @@
-use Rattle.rk_machine.proofs.Once.{each_once}
-use Rattle.rk_machine.proofs.Outcomes.{each_outcome}
-use Rattle.rk_machine.proofs.Own.{each_own}
-use Rattle.rk_machine.proofs.Roots.{each_rooted}
-use Rattle.rk_machine.proofs.Circles.{never_circle}
-use Rattle.rk_machine.proofs.Depths.{never_deep}
+use Rattle.rk_machine.proofs.OneConstruction.EachOnce.{each_once}
+use Rattle.rk_machine.proofs.OneOutcome.EachOutcome.{each_outcome}
+use Rattle.rk_machine.proofs.OwnAuthority.EachOwn.{each_own}
+use Rattle.rk_machine.proofs.FirstRequester.EachRooted.{each_rooted}
+use Rattle.rk_machine.proofs.NoCircle.NeverCircle.{never_circle}
+use Rattle.rk_machine.proofs.NoCircle.NeverDeep.{never_deep}
 use Rattle.rk_machine.proofs.laws.every_run.Goals as goal
 
 pub returns-clause-one_construction : goal.returns-clause-one_construction

@@ -1,6 +1,6 @@
 use Rattle.std.proofs.Common.{refl, sym, ◌∙◌, add-one}
 use Rattle.std.proofs.lemmas.Option.{slice_get_read}
-use Rattle.rk_machine.proofs.Waits.{same-true}
+use Rattle.rk_machine.proofs.Effects.WaitsAfter.{same-true}
 use Rattle.rk_replay.proofs.SeatLists.{seat_more, seat_found}
 use Rattle.rk_replay.proofs.seats.index_of.Goals as goal
 

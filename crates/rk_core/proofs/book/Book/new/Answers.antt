@@ -1,4 +1,4 @@
-use Rattle.rk_core.proofs.Sound.{empty_sound}
+use Rattle.rk_core.proofs.Stepping.StepsKeepSound.{empty_sound}
 use Rattle.rk_core.proofs.book.Book.new.Goals as goal
 
 pub invariant_of-result : goal.invariant_of-result

@@ -1,7 +1,7 @@
 use Rattle.std.proofs.Common.{sym, subst}
 use Rattle.rk_machine.specs.Steps.{Past, Run}
-use Rattle.rk_machine.proofs.Lawful.{continues}
-use Rattle.rk_core.proofs.Sound.{step_sound}
+use Rattle.rk_machine.proofs.EveryRun.KeepsLaws.{continues}
+use Rattle.rk_core.proofs.Stepping.StepsKeepSound.{step_sound}
 use Rattle.rk_core.proofs.book.Book.step.Goals as goal
 
 pub invariant_of-self : goal.invariant_of-self

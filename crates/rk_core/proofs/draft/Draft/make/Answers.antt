@@ -1,5 +1,5 @@
 use Rattle.rk_rings.specs.declared.kind.NewRing.{NewRing}
-use Rattle.rk_core.proofs.Drafting.{makes_one, draft_more}
+use Rattle.rk_core.proofs.Greetings.RingsFromADraft.{makes_one, draft_more}
 use Rattle.rk_core.proofs.draft.Draft.make.Goals as goal
 
 pub returns-clause-makes : goal.returns-clause-makes

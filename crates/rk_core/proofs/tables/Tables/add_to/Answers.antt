@@ -2,7 +2,7 @@ use Rattle.std.proofs.Common.{ap}
 use Rattle.std.specs.Prelude.{Some}
 use Rattle.rk_keys.specs.Known.{new_key}
 use Rattle.rk_machine.specs.World.{World}
-use Rattle.rk_core.proofs.Starting.{new_known, others_stay, has_room}
+use Rattle.rk_core.proofs.Requests.NewKey.{new_known, others_stay, has_room}
 use Rattle.rk_core.proofs.tables.Tables.add_to.Goals as goal
 
 pub link_tidily-requires-clause-known : goal.link_tidily-requires-clause-known

@@ -1,5 +1,5 @@
 use Rattle.std.proofs.Common.{sym, ◌∙◌}
-use Rattle.rk_core.proofs.Stepping.{ask_refused, ask_answered}
+use Rattle.rk_core.proofs.Stepping.StepByParts.{ask_refused, ask_answered}
 use Rattle.rk_core.proofs.tables.Tables.asked.Goals as goal
 
 pub returns-in-Some : goal.returns-in-Some

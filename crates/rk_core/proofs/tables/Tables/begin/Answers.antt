@@ -9,7 +9,7 @@ use Rattle.rk_machine.specs.Links.{linked_in}
 use Rattle.rk_machine.specs.Search.{Query}
 use Rattle.rk_machine.specs.Request.{waiting, subject_of}
 use Rattle.rk_machine.specs.declared.event.Answer.TheVariants.{Start}
-use Rattle.rk_core.proofs.Starting.{new_known, others_stay, has_room, leads_nowhere}
+use Rattle.rk_core.proofs.Requests.NewKey.{new_known, others_stay, has_room, leads_nowhere}
 use Rattle.rk_core.proofs.tables.Tables.begin.Goals as goal
 
 pub link_tidily-requires-clause-known : goal.link_tidily-requires-clause-known

@@ -2,7 +2,7 @@ use Rattle.std.proofs.Common.{false, sym, ◌∙◌, subst}
 use Rattle.std.specs.Prelude.{Some}
 use Rattle.rk_machine.specs.Links.{unlinked_in}
 use Rattle.rk_core.specs.Tidy.{StayBut}
-use Rattle.rk_core.proofs.Cleared.{tidied_stay, still_to_clear, fewer_links, all_cleared}
+use Rattle.rk_core.proofs.Vanishing.ClearedRing.{tidied_stay, still_to_clear, fewer_links, all_cleared}
 use Rattle.rk_core.proofs.tables.Tables.clear_tidily.Goals as goal
 
 pub loop-key-smaller : goal.loop-key-smaller

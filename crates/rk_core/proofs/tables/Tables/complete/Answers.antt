@@ -14,8 +14,8 @@ use Rattle.rk_auth.specs.Changes.{spent, all_told}
 use Rattle.rk_machine.specs.World.{World}
 use Rattle.rk_core.specs.Kept.{world_of}
 use Rattle.rk_machine.specs.Completion.{outcome_of, completed, announced}
-use Rattle.rk_machine.proofs.Gets.{get_changed_at}
-use Rattle.rk_core.proofs.Stays.{tied_itself}
+use Rattle.rk_machine.proofs.Found.InMaps.{get_changed_at}
+use Rattle.rk_core.proofs.LinksAndNames.LinksAfter.{tied_itself}
 use Rattle.rk_core.proofs.tables.Tables.complete.Goals as goal
 
 -- a key that is there is completed, and its waits are told

@@ -8,8 +8,8 @@ use Rattle.rk_machine.specs.Asker.{serial_named, ring_for}
 use Rattle.rk_machine.specs.Asks.{completion_refusal, Completes}
 use Rattle.rk_machine.specs.Completion.{completed}
 use Rattle.rk_core.specs.Tidy.{StayBut}
-use Rattle.rk_core.proofs.Tidied.{link_stay, completed_stay}
-use Rattle.rk_core.proofs.Concluding.{completes_so}
+use Rattle.rk_core.proofs.Vanishing.WhichMayVanish.{link_stay, completed_stay}
+use Rattle.rk_core.proofs.Completions.CompletionByParts.{completes_so}
 use Rattle.rk_core.proofs.tables.Tables.complete_key.Goals as goal
 
 pub settle_both-requires : goal.settle_both-requires

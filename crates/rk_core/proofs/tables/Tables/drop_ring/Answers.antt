@@ -4,8 +4,8 @@ use Rattle.rk_rings.specs.Numbered.{rings_seen}
 use Rattle.rk_machine.specs.World.{World}
 use Rattle.rk_core.specs.Kept.{world_of}
 use Rattle.rk_core.specs.Tidy.{without_ring}
-use Rattle.rk_core.proofs.Kept.{kept_drop, either_way}
-use Rattle.rk_core.proofs.Linked.{drop_seen}
+use Rattle.rk_core.proofs.LinksAndNames.NumbersKept.{kept_drop, either_way}
+use Rattle.rk_core.proofs.LinksAndNames.LinksByNumber.{drop_seen}
 use Rattle.rk_core.proofs.tables.Tables.drop_ring.Goals as goal
 
 pub invariant_of-self : goal.invariant_of-self

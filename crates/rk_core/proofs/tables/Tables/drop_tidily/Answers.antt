@@ -1,6 +1,6 @@
 use Rattle.std.proofs.Common.{◌∙◌, ap}
 use Rattle.rk_core.specs.Tidy.{without_ring}
-use Rattle.rk_core.proofs.Tidied.{drop_tidies}
+use Rattle.rk_core.proofs.Vanishing.WhichMayVanish.{drop_tidies}
 use Rattle.rk_core.proofs.tables.Tables.drop_tidily.Goals as goal
 
 pub returns : goal.returns

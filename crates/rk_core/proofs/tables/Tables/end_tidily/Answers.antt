@@ -1,6 +1,6 @@
 use Rattle.std.proofs.Common.{◌∙◌, ap}
 use Rattle.rk_core.specs.Tidy.{settled_at}
-use Rattle.rk_core.proofs.Tidied.{end_tidies}
+use Rattle.rk_core.proofs.Vanishing.WhichMayVanish.{end_tidies}
 use Rattle.rk_core.proofs.tables.Tables.end_tidily.Goals as goal
 
 pub returns : goal.returns

@@ -7,8 +7,8 @@ use Rattle.rk_machine.specs.World.{World}
 use Rattle.rk_machine.specs.declared.greeting.Greeting.{Greeting}
 use Rattle.rk_machine.specs.Hello.{MakesIf, HasSessionRing, HasUserRing}
 use Rattle.rk_core.specs.Drafts.{drafted}
-use Rattle.rk_core.proofs.Drafting.{start_draft, nothing_drafted}
-use Rattle.rk_core.proofs.UserRings.{KeepsUsers, keeps_all, keeps_if, keeps_session, joined_or_made, user_made}
+use Rattle.rk_core.proofs.Greetings.RingsFromADraft.{start_draft, nothing_drafted}
+use Rattle.rk_core.proofs.Greetings.UserRing.{KeepsUsers, keeps_all, keeps_if, keeps_session, joined_or_made, user_made}
 use Rattle.rk_core.proofs.tables.Tables.greet.Goals as goal
 
 pub take-requires-clause-draft : goal.take-requires-clause-draft

@@ -1,8 +1,8 @@
 use Rattle.std.proofs.Common.{ap, ◌∙◌}
 use Rattle.rk_machine.specs.World.{World}
 use Rattle.rk_machine.specs.Links.{is_full_at}
-use Rattle.rk_core.proofs.NamesOf.{by_name}
-use Rattle.rk_core.proofs.Linked.{full_alike}
+use Rattle.rk_core.proofs.LinksAndNames.KeysOfAName.{by_name}
+use Rattle.rk_core.proofs.LinksAndNames.LinksByNumber.{full_alike}
 use Rattle.rk_core.proofs.tables.Tables.is_full_at.Goals as goal
 
 pub returns : goal.returns

@@ -1,5 +1,5 @@
 use Rattle.std.proofs.Common.{sym, ◌∙◌}
-use Rattle.rk_core.proofs.Leaving.{leaves_alone, leaves_with}
+use Rattle.rk_core.proofs.Vanishing.LeavingClient.{leaves_alone, leaves_with}
 use Rattle.rk_core.proofs.tables.Tables.leave.Goals as goal
 
 pub returns-in-None : goal.returns-in-None

@@ -9,10 +9,10 @@ use Rattle.rk_rings.specs.Numbered.{rings_seen}
 use Rattle.rk_machine.specs.World.{World}
 use Rattle.rk_core.specs.Kept.{world_of}
 use Rattle.rk_machine.specs.Links.{rings_changed, linked_in, full_refusal, is_full_at}
-use Rattle.rk_core.proofs.Kept.{kept_link, either_way}
-use Rattle.rk_machine.proofs.Refusals.{if_none}
-use Rattle.rk_core.proofs.NamesOf.{key_of}
-use Rattle.rk_core.proofs.Linked.{link_seen}
+use Rattle.rk_core.proofs.LinksAndNames.NumbersKept.{kept_link, either_way}
+use Rattle.rk_machine.proofs.Found.Refusals.{if_none}
+use Rattle.rk_core.proofs.LinksAndNames.KeysOfAName.{key_of}
+use Rattle.rk_core.proofs.LinksAndNames.LinksByNumber.{link_seen}
 use Rattle.rk_core.proofs.tables.Tables.link.Goals as goal
 
 pub invariant_of-self : goal.invariant_of-self

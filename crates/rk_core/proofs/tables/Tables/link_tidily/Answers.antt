@@ -3,7 +3,7 @@ use Rattle.std.specs.Prelude.{nat_eq}
 use Rattle.std.specs.Option.{option_map_or}
 use Rattle.rk_machine.specs.World.{tidied}
 use Rattle.rk_core.specs.Tidy.{StayBut}
-use Rattle.rk_core.proofs.Tidied.{link_stay}
+use Rattle.rk_core.proofs.Vanishing.WhichMayVanish.{link_stay}
 use Rattle.rk_core.proofs.tables.Tables.link_tidily.Goals as goal
 
 pub settle_both-requires : goal.settle_both-requires

@@ -6,7 +6,7 @@ use Rattle.rk_keys.specs.Known.{new_key}
 use Rattle.rk_rings.specs.Ring.{has_link}
 use Rattle.rk_rings.proofs.Seen.{has_link-rings_seen}
 use Rattle.rk_machine.specs.World.{World}
-use Rattle.rk_core.proofs.Kept.{kept_make, no_number, not_held}
+use Rattle.rk_core.proofs.LinksAndNames.NumbersKept.{kept_make, no_number, not_held}
 use Rattle.rk_core.proofs.tables.Tables.make_key.Goals as goal
 
 pub invariant_of-self-2 : goal.invariant_of-self-2

@@ -1,7 +1,7 @@
 use Rattle.std.proofs.Common.{sym, ap, ◌∙◌, refl, inl, inr}
 use Rattle.rk_names.specs.Numbers.{key_errno}
 use Rattle.rk_machine.specs.Search.{Query}
-use Rattle.rk_core.proofs.Requesting.{told_error, start_refused, start_allowed}
+use Rattle.rk_core.proofs.Requests.RequestByParts.{told_error, start_refused, start_allowed}
 use Rattle.rk_core.proofs.tables.Tables.miss.Goals as goal
 
 pub returns-in-None : goal.returns-in-None

@@ -3,7 +3,7 @@ use Rattle.std.specs.Prelude.{option_map}
 use Rattle.rk_names.specs.Numbers.{key_errno}
 use Rattle.rk_machine.specs.Allowed.{first_of}
 use Rattle.rk_core.specs.Sought.{block_in}
-use Rattle.rk_machine.proofs.Refusals.{only_one}
+use Rattle.rk_machine.proofs.Found.Refusals.{only_one}
 use Rattle.rk_core.proofs.tables.Tables.new_refusal.Goals as goal
 
 pub returns-in-None-clause-is : goal.returns-in-None-clause-is

@@ -3,7 +3,7 @@ use Rattle.std.specs.Prelude.{Option, option_and_then}
 use Rattle.std.specs.Option.{option_copied}
 use Rattle.std.specs.FinMap as map
 use Rattle.rk_machine.specs.Views.{positive}
-use Rattle.rk_core.proofs.Peeking.{peeks}
+use Rattle.rk_core.proofs.Searching.WhatIsPeeked.{peeks}
 use Rattle.rk_core.proofs.tables.Tables.peek.Goals as goal
 
 pub returns-in-None-hit : goal.returns-in-None-hit

@@ -6,8 +6,8 @@ use Rattle.rk_rings.specs.Places.{rings_of}
 use Rattle.rk_machine.specs.Search.{Query, Hits}
 use Rattle.rk_machine.specs.Asker.{ring_for, ring_or_none_refusal}
 use Rattle.rk_machine.specs.Request.{destination_of, Meets, Misses}
-use Rattle.rk_core.proofs.Requesting.{requested}
-use Rattle.rk_core.proofs.Hits.{hits_of, hit_known}
+use Rattle.rk_core.proofs.Requests.RequestByParts.{requested}
+use Rattle.rk_core.proofs.Searching.WhatIsHit.{hits_of, hit_known}
 use Rattle.rk_core.proofs.tables.Tables.request.Goals as goal
 
 pub meet-requires-clause-known : goal.meet-requires-clause-known

@@ -4,7 +4,7 @@ use Rattle.std.specs.Option.{option_map_or}
 use Rattle.rk_machine.specs.World.{World}
 use Rattle.rk_core.specs.Kept.{world_of}
 use Rattle.rk_core.specs.Tidy.{rival_in}
-use Rattle.rk_core.proofs.Linked.{rival_seen, last_false}
+use Rattle.rk_core.proofs.LinksAndNames.LinksByNumber.{rival_seen, last_false}
 use Rattle.rk_core.proofs.tables.Tables.rival.Goals as goal
 
 and_true : (b : Bool) → (b && not false) ≡ b

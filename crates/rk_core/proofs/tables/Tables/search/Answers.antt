@@ -9,8 +9,8 @@ use Rattle.rk_machine.specs.World.{World}
 use Rattle.rk_machine.specs.Search.{Query}
 use Rattle.rk_core.specs.Sought.{IsSole}
 use Rattle.rk_core.specs.declared.search.Match.{Match}
-use Rattle.rk_core.proofs.NamesOf.{IsNameOf, by_name}
-use Rattle.rk_core.proofs.Sole.{found_sole}
+use Rattle.rk_core.proofs.LinksAndNames.KeysOfAName.{IsNameOf, by_name}
+use Rattle.rk_core.proofs.LinksAndNames.SoleKeyOfAName.{found_sole}
 use Rattle.rk_core.proofs.tables.Tables.search.Goals as goal
 
 pub returns : goal.returns

@@ -5,7 +5,7 @@ use Rattle.rk_rings.specs.Numbered.{is_held}
 use Rattle.rk_rings.proofs.Seen.{has_link-rings_seen}
 use Rattle.rk_machine.specs.World.{World}
 use Rattle.rk_core.specs.Kept.{IsKept}
-use Rattle.rk_core.proofs.Kept.{kept_forget}
+use Rattle.rk_core.proofs.LinksAndNames.NumbersKept.{kept_forget}
 use Rattle.rk_core.proofs.tables.Tables.settle.Goals as goal
 
 pub invariant_of-self : goal.invariant_of-self

@@ -2,7 +2,7 @@ use Rattle.std.proofs.Common.{ℕ, false, ap, ◌∙◌, subst, ◌||◌}
 use Rattle.std.specs.Prelude.{Option, nat_eq}
 use Rattle.std.specs.Option.{option_map_or}
 use Rattle.rk_core.specs.Tidy.{StayBut, settled_at}
-use Rattle.rk_core.proofs.Tidy.{one_settles, two_settle}
+use Rattle.rk_core.proofs.Vanishing.OneByOne.{one_settles, two_settle}
 use Rattle.rk_core.proofs.tables.Tables.settle_both.Goals as goal
 
 pub returns-in-Some : goal.returns-in-Some

@@ -5,8 +5,8 @@ use Rattle.rk_rings.specs.Numbered.{rings_seen, AreNew}
 use Rattle.rk_machine.specs.World.{World}
 use Rattle.rk_core.specs.Kept.{IsKept, world_of}
 use Rattle.rk_core.specs.Drafts.{with_all, AreAllNew, drafted}
-use Rattle.rk_core.proofs.Kept.{kept_rings, kept_numbers}
-use Rattle.rk_core.proofs.Drafting.{all_new, with_all_seen}
+use Rattle.rk_core.proofs.LinksAndNames.NumbersKept.{kept_rings, kept_numbers}
+use Rattle.rk_core.proofs.Greetings.RingsFromADraft.{all_new, with_all_seen}
 use Rattle.rk_core.proofs.tables.Tables.take.Goals as goal
 
 pub make-requires : goal.make-requires

@@ -6,8 +6,8 @@ use Rattle.rk_rings.specs.Numbered.{rings_seen}
 use Rattle.rk_machine.specs.World.{World}
 use Rattle.rk_core.specs.Kept.{world_of}
 use Rattle.rk_machine.specs.Links.{unlinked_in}
-use Rattle.rk_core.proofs.Kept.{kept_unlink, either_way}
-use Rattle.rk_core.proofs.Linked.{unlink_seen}
+use Rattle.rk_core.proofs.LinksAndNames.NumbersKept.{kept_unlink, either_way}
+use Rattle.rk_core.proofs.LinksAndNames.LinksByNumber.{unlink_seen}
 use Rattle.rk_core.proofs.tables.Tables.unlink.Goals as goal
 
 pub invariant_of-self : goal.invariant_of-self

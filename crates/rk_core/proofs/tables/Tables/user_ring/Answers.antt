@@ -1,6 +1,6 @@
 use Rattle.std.proofs.Common.{ap}
 use Rattle.rk_machine.specs.World.{World}
-use Rattle.rk_core.proofs.UserRings.{user_seen}
+use Rattle.rk_core.proofs.Greetings.UserRing.{user_seen}
 use Rattle.rk_core.proofs.tables.Tables.user_ring.Goals as goal
 
 pub returns : goal.returns

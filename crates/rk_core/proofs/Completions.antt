@@ -1,0 +1,2 @@
+-- An ask that completes a key.
+pub mod CompletionByParts

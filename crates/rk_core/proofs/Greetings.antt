@@ -1,0 +1,4 @@
+-- HELLO and its rings.
+pub mod RingsFromADraft
+pub mod UserRing
+pub mod HelloTakesNothing

@@ -1,0 +1,3 @@
+-- A request, and the key that it makes.
+pub mod NewKey
+pub mod RequestByParts

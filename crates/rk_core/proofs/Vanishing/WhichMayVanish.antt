@@ -1,0 +1,123 @@
+-- Which keys may vanish after a change of the world.
+use Rattle.std.proofs.Common.{◌≡◌, ℕ, Bool, true, false, cond, not, ◌&&◌, ◌||◌, refl, sym, ap, ◌∙◌}
+use Rattle.std.specs.Prelude.{Option, Some, None, nat_eq, option_map, unwrap_or, is_some}
+use Rattle.std.specs.Cmp.{nat_cmp_total}
+use Rattle.std.specs.FinMap as map
+use Rattle.std.proofs.lemmas.Bool.{both_ways}
+use Rattle.std.proofs.lemmas.Cmp.{nat_eq_equiv}
+use Rattle.rk_table.specs.Maps.{changed_at}
+use Rattle.rk_keys.specs.declared.key.Condition.{Condition}
+use Rattle.rk_keys.specs.Key.{key_passes, is_building, is_rival}
+use Rattle.rk_keys.specs.Known.{concluded}
+use Rattle.rk_auth.specs.Sessions.{unspent}
+use Rattle.rk_rings.specs.Ring.{Ring, is_linked, has_link, without_links}
+use Rattle.rk_machine.specs.World.{World, tidied}
+use Rattle.rk_machine.specs.Links.{linked_in, unlinked_in, cleared_in}
+use Rattle.rk_machine.specs.Completion.{completed, ended, keys_ended, expiry_after}
+use Rattle.rk_core.specs.Tidy.{stays, StayBut, settled_at, without_ring, rival_in}
+use Rattle.rk_machine.proofs.Found.InMaps.{get_changed_at, get_removed}
+use Rattle.rk_core.proofs.LinksAndNames.LinksAfter.{links_kept, stays_linked, stays_unlinked, cleared_alike}
+use Rattle.rk_core.proofs.Vanishing.OneByOne.{same_keys, get_tidied, one_settles, stays_by}
+
+-- ---- what a key's staying rests on
+
+or_cases : {P : Type 0} (a b : Bool) → (a || b) ≡ true → (a ≡ true → P) → (b ≡ true → P) → P
+or_cases true b h f g = f refl
+or_cases false b h f g = g h
+
+or_left : (a b : Bool) → a ≡ true → (a || b) ≡ true
+or_left a b h = ap (λ x. x || b) h
+
+or_right : (a b : Bool) → b ≡ true → (a || b) ≡ true
+or_right true b h = refl
+or_right false b h = h
+
+-- a key stays that keeps a link, or its condition
+pub still_stays : (old new : World) (k : ℕ) → (has_link old.rings k ≡ true → has_link new.rings k ≡ true) → map.get new.keys k ≡ map.get old.keys k → stays old k ≡ true → stays new k ≡ true
+still_stays old new k links keys h =
+    or_cases (has_link old.rings k) (key_passes old.keys k is_building) h
+    (λ a. or_left (has_link new.rings k) (key_passes new.keys k is_building) (links a))
+    (λ b. or_right (has_link new.rings k) (key_passes new.keys k is_building) (ap (λ o. unwrap_or (option_map is_building o) false) keys ∙ b))
+
+-- ---- a link is put in
+
+and_true : (a b c : Bool) → ((not a && b) && c) ≡ false → a ≡ false → b ≡ true → c ≡ false
+and_true a b c h na tb = sym (ap (λ x. (not x && true) && c) na) ∙ ap (λ x. (not a && x) && c) (sym tb) ∙ h
+
+-- those that do not give way stay
+pub link_stay : (w : World) (ring : Option ℕ) (k : ℕ) (rival : ℕ → Bool) → ((j : ℕ) → rival_in w ring k j ≡ rival j) → StayBut (λ j. nat_eq j k) w → StayBut (λ j. rival j || nat_eq j k) (linked_in ring k w)
+link_stay w None k rival is h = λ j key there other. h j key there (second (rival j) (nat_eq j k) other)
+  where
+    second : (a b : Bool) → (a || b) ≡ false → b ≡ false
+    second true b h = absurd (both_ways _ h refl)
+    second false b h = h
+link_stay w (Some ring) k rival is h = λ j key there other.
+    still_stays w (linked_in (Some ring) k w) j
+    (links_kept w.rings (linked_in (Some ring) k w).rings j (λ q. stays_linked w.rings ring (is_rival w.keys k) k q j (and_true (is_linked w.rings ring k) (is_linked w.rings ring j) (is_rival w.keys k j) (is j ∙ first (rival j) (nat_eq j k) other))))
+    refl (h j key there (second (rival j) (nat_eq j k) other))
+  where
+    first : (a b : Bool) → (a || b) ≡ false → a ≡ false
+    first true b h = h
+    first false b h = refl
+
+    second : (a b : Bool) → (a || b) ≡ false → b ≡ false
+    second true b h = absurd (both_ways _ h refl)
+    second false b h = h
+
+-- ---- a link is taken out
+
+unlink_stay : (w : World) (ring k : ℕ) → StayBut (λ j. false) w → StayBut (λ j. nat_eq j k) (unlinked_in (Some ring) k w)
+unlink_stay w ring k h = λ j key there other.
+    still_stays w (unlinked_in (Some ring) k w) j
+    (links_kept w.rings (unlinked_in (Some ring) k w).rings j (λ q. stays_unlinked w.rings ring k q j (nat_eq_equiv.symm k j ∙ other))) refl (h j key there refl)
+
+pub unlink_tidies : (w : World) (ring k : ℕ) → StayBut (λ j. false) w → settled_at k (unlinked_in (Some ring) k w) ≡ tidied (unlinked_in (Some ring) k w)
+unlink_tidies w ring k h = one_settles (unlinked_in (Some ring) k w) k (unlink_stay w ring k h)
+
+-- ---- a key is completed, or its construction ends
+
+-- another key is as before
+pub other_key : (w : World) (now k : ℕ) (condition : Condition) (j : ℕ) → nat_eq j k ≡ false → map.get (keys_ended now k condition w) j ≡ map.get w.keys j
+other_key w now k condition j other = by_unspent (is_some (unspent w.sessions k))
+  where
+    by_unspent : (b : Bool) → map.get (cond b (changed_at k (concluded condition (expiry_after condition now w.negative)) w.keys) w.keys) j ≡ map.get w.keys j
+    by_unspent true =
+        get_changed_at k (concluded condition (expiry_after condition now w.negative)) w.keys j
+        ∙ ap (λ b. cond b (option_map (concluded condition (expiry_after condition now w.negative)) (map.get w.keys j)) (map.get w.keys j)) (nat_eq_equiv.symm k j ∙ other)
+    by_unspent false = refl
+
+pub end_tidies : (w : World) (now k : ℕ) (condition : Condition) → StayBut (λ j. false) w → settled_at k (ended now k condition w) ≡ tidied (ended now k condition w)
+end_tidies w now k condition h =
+    one_settles (ended now k condition w) k (λ j key there other.
+    let same : map.get (ended now k condition w).keys j ≡ map.get w.keys j = other_key w now k condition j other in
+    stays_by (ended now k condition w) w j refl same ∙ h j key (sym same ∙ there) refl)
+
+-- where every key but some stays, they may vanish after k is completed, and k
+pub completed_stay : (w : World) (now k : ℕ) (condition : Condition) (end : Option ℕ) (some : ℕ → Bool) → StayBut (λ j. some j || nat_eq j k) w → StayBut (λ j. some j || nat_eq j k) (completed now k condition end w)
+completed_stay w now k condition end some h = λ j key there other.
+    let same : map.get (completed now k condition end w).keys j ≡ map.get w.keys j = get_changed_at k (concluded condition end) w.keys j ∙ ap (λ b. cond b (option_map (concluded condition end) (map.get w.keys j)) (map.get w.keys j)) (nat_eq_equiv.symm k j ∙ second (some j) (nat_eq j k) other) in
+    stays_by (completed now k condition end w) w j refl same ∙ h j key (sym same ∙ there) other
+  where
+    second : (a b : Bool) → (a || b) ≡ false → b ≡ false
+    second true b h = absurd (both_ways _ h refl)
+    second false b h = h
+
+-- ---- a ring is dropped
+
+pub drop_tidies : (w : World) (ring : ℕ) → without_ring ring (tidied (cleared_in (Some ring) w)) ≡ tidied (without_ring ring w)
+drop_tidies w ring = λ i. record w { keys = keys i; rings = rings i }
+  where
+    keys : (tidied (cleared_in (Some ring) w)).keys ≡ (tidied (without_ring ring w)).keys
+    keys = same_keys (tidied (cleared_in (Some ring) w)).keys (tidied (without_ring ring w)).keys (λ q.
+        get_tidied (cleared_in (Some ring) w) q ∙ ap (λ b. cond (b || key_passes w.keys q is_building) (map.get w.keys q) None) (cleared_alike w.rings ring q) ∙ sym (get_tidied (without_ring ring w) q))
+
+    rings : map.remove (changed_at ring without_links w.rings) ring ≡ map.remove w.rings ring
+    rings = map.same_map nat_cmp_total map.nat_cmp-IsAntisymmetric _ _ (λ q.
+        get_removed (changed_at ring without_links w.rings) ring q
+        ∙ ap (cond (nat_eq ring q) None) (get_changed_at ring without_links w.rings q)
+        ∙ by_ring (nat_eq ring q) (map.get w.rings q)
+        ∙ sym (get_removed w.rings ring q))
+      where
+        by_ring : (b : Bool) (o : Option Ring) → cond b None (cond b (option_map without_links o) o) ≡ cond b None o
+        by_ring true o = refl
+        by_ring false o = refl

@@ -1,0 +1,80 @@
+-- Which keys are under construction, after each thing that a step may do.
+use Rattle.std.proofs.Common.{◌≡◌, ℕ, Bool, true, false, cond, ◌||◌, refl, sym, ap, ◌∙◌}
+use Rattle.std.specs.Prelude.{Option, Some, None, nat_eq, unwrap_or, option_map}
+use Rattle.std.specs.Option.{option_map_or}
+use Rattle.std.specs.Ordering.{nat_cmp}
+use Rattle.std.specs.FinMap as map
+use Rattle.rk_table.specs.Maps.{changed_at, kept_where}
+use Rattle.rk_keys.specs.declared.key.Key.{Key}
+use Rattle.rk_keys.specs.declared.key.Condition.{Condition}
+use Rattle.rk_keys.specs.declared.key.Condition.TheVariants.{Building, Positive, Negative}
+use Rattle.rk_keys.specs.Key.{key_passes, is_building, builds}
+use Rattle.rk_keys.specs.Known.{concluded}
+use Rattle.rk_rings.specs.Ring.{Ring, has_link}
+use Rattle.rk_machine.specs.World.{World}
+use Rattle.rk_machine.proofs.Found.InMaps.{get_inserted, get_changed_at, get_kept_where}
+use Rattle.rk_machine.proofs.Effects.KindsOfStep.{is_final, IsMild}
+
+abbrev pub built_at : map.FinMap nat_cmp Key → ℕ → Bool
+built_at keys k = key_passes keys k is_building
+
+abbrev pub is_built : World → ℕ → Bool
+is_built w k = built_at w.keys k
+
+abbrev pub built_in : Option Key → Bool
+built_in o = unwrap_or (option_map is_building o) false
+
+-- such a key is there
+pub key_there : (keys : map.FinMap nat_cmp Key) (k : ℕ) → built_at keys k ≡ true → (key : Key) × (map.get keys k ≡ Some key)
+key_there keys k h = found (map.get keys k) h
+  where
+    found : (o : Option Key) → built_in o ≡ true → (key : Key) × (o ≡ Some key)
+    found None h = absurd (cc)
+    found (Some key) h = (key, refl)
+
+-- what is tidied away was not under construction
+kept_key : (linked : Bool) (key : Key) (b : Bool) → is_building key ≡ b → built_in (cond (linked || b) (Some key) None) ≡ is_building key
+kept_key true key b e = refl
+kept_key false key true e = refl
+kept_key false key false e = sym e
+
+kept_in : (linked : Bool) (o : Option Key) → built_in (cond (option_map_or (λ key. linked || is_building key) o false) o None) ≡ built_in o
+kept_in linked None = refl
+kept_in linked (Some key) = kept_key linked key (is_building key) refl
+
+pub built_tidied : (rings : map.FinMap nat_cmp Ring) (keys : map.FinMap nat_cmp Key) (k : ℕ) → built_at (kept_where (λ k key. has_link rings k || is_building key) keys) k ≡ built_at keys k
+built_tidied rings keys k = ap built_in (get_kept_where (λ k key. has_link rings k || is_building key) keys k) ∙ kept_in (has_link rings k) (map.get keys k)
+
+put_in : (b : Bool) (key : Key) (o : Option Key) → built_in (cond b (Some key) o) ≡ cond b (is_building key) (built_in o)
+put_in true key o = refl
+put_in false key o = refl
+
+-- a new key
+pub built_put : (k : ℕ) (key : Key) (keys : map.FinMap nat_cmp Key) (j : ℕ) → built_at (map.insert keys k key) j ≡ cond (nat_eq k j) (is_building key) (built_at keys j)
+built_put k key keys j = ap built_in (get_inserted keys k key j) ∙ put_in (nat_eq k j) key (map.get keys j)
+
+-- a change that leaves its condition
+mild_in : (b : Bool) (f : Key → Key) (o : Option Key) → IsMild f → built_in (cond b (option_map f o) o) ≡ built_in o
+mild_in true f None mild = refl
+mild_in true f (Some key) mild = ap builds (mild.condition key)
+mild_in false f o mild = refl
+
+pub built_marked : (k : ℕ) (f : Key → Key) → IsMild f → (keys : map.FinMap nat_cmp Key) (j : ℕ) → built_at (changed_at k f keys) j ≡ built_at keys j
+built_marked k f mild keys j = ap built_in (get_changed_at k f keys j) ∙ mild_in (nat_eq k j) f (map.get keys j) mild
+
+-- it gets its condition
+final_key : (condition : Condition) (end : Option ℕ) (key : Key) → is_final condition ≡ true → is_building (concluded condition end key) ≡ false
+final_key Building end key h = absurd (cc)
+final_key (Positive payload) None key h = refl
+final_key (Positive payload) (Some t) key h = refl
+final_key (Negative error) None key h = refl
+final_key (Negative error) (Some t) key h = refl
+
+final_in : (b : Bool) (condition : Condition) (end : Option ℕ) (o : Option Key) → is_final condition ≡ true → built_in (cond b (option_map (concluded condition end) o) o) ≡ cond b false (built_in o)
+final_in true condition end None h = refl
+final_in true condition end (Some key) h = final_key condition end key h
+final_in false condition end o h = refl
+
+pub built_concluded : (k : ℕ) (condition : Condition) (end : Option ℕ) → is_final condition ≡ true → (keys : map.FinMap nat_cmp Key) (j : ℕ)
+    → built_at (changed_at k (concluded condition end) keys) j ≡ cond (nat_eq k j) false (built_at keys j)
+built_concluded k condition end final keys j = ap built_in (get_changed_at k (concluded condition end) keys j) ∙ final_in (nat_eq k j) condition end (map.get keys j) final

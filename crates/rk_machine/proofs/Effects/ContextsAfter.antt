@@ -1,0 +1,79 @@
+-- The context of each client, after each thing that a step may do.
+use Rattle.std.proofs.Common.{◌≡◌, ℕ, Bool, true, false, cond, refl, sym, ap, ◌∙◌}
+use Rattle.std.specs.Prelude.{Option, Some, None, nat_eq, is_none, is_some, option_map, option_and_then}
+use Rattle.std.specs.Option.{option_map_or}
+use Rattle.std.specs.Ordering.{nat_cmp}
+use Rattle.std.specs.FinMap as map
+use Rattle.std.proofs.lemmas.Bool.{eqb-true}
+use Rattle.rk_names.specs.declared.context.Context.{Context}
+use Rattle.rk_names.specs.declared.numbers.SessionId.{SessionId}
+use Rattle.rk_names.specs.declared.numbers.SessionId.TheVariants.{Client, Handler}
+use Rattle.rk_keys.specs.declared.key.Key.{Key}
+use Rattle.rk_keys.specs.declared.key.Condition.{Condition}
+use Rattle.rk_auth.specs.declared.session.Session.{Session}
+use Rattle.rk_auth.specs.Sessions.{Sessions, new_session, unspent}
+use Rattle.rk_auth.specs.Changes.{session_changed, with_context, with_client, without_client, all_told, told, spent}
+use Rattle.rk_machine.specs.World.{World}
+use Rattle.rk_machine.specs.Completion.{announced, outcome_of, sessions_ended, keys_ended}
+use Rattle.rk_machine.proofs.Found.InMaps.{get_inserted, get_removed, get_changed_at, get_changed_all}
+
+abbrev context_in : Option Session → Option Context
+context_in o = option_and_then (λ one. one.context) o
+
+abbrev pub context_at : Sessions → ℕ → Option Context
+context_at a n = context_in (map.get a.clients n)
+
+-- ---- changes that leave it
+
+kept : (f : Session → Session) → ((s : Session) → (f s).context ≡ s.context) → (b : Bool) (o : Option Session) → context_in (cond b (option_map f o) o) ≡ context_in o
+kept f h true None = refl
+kept f h true (Some s) = h s
+kept f h false o = refl
+
+pub context_kept : (id : SessionId) (f : Session → Session) → ((s : Session) → (f s).context ≡ s.context) → (a : Sessions) (n : ℕ) → context_at (session_changed id f a) n ≡ context_at a n
+context_kept (Client m) f h a n = ap context_in (get_changed_at m f a.clients n) ∙ kept f h (nat_eq m n) (map.get a.clients n)
+context_kept (Handler k) f h a n = refl
+
+pub context_announced : (now k : ℕ) (keys : map.FinMap nat_cmp Key) (a : Sessions) (n : ℕ) → context_at (announced now k keys a) n ≡ context_at a n
+context_announced now k keys a n = told_or_not (map.get keys k)
+  where
+    told_or_not : (o : Option Key) → context_at (option_map_or (λ key. all_told k (outcome_of k key now) a) o a) n ≡ context_at a n
+    told_or_not None = refl
+    told_or_not (Some key) = ap context_in (get_changed_all (told k (outcome_of k key now)) a.clients n) ∙ kept (told k (outcome_of k key now)) (λ s. refl) true (map.get a.clients n)
+
+pub context_ended : (now k : ℕ) (condition : Condition) (w : World) (n : ℕ) → context_at (sessions_ended now k condition w) n ≡ context_at w.sessions n
+context_ended now k condition w n = spent_or_not (is_some (unspent w.sessions k))
+  where
+    spent_or_not : (b : Bool) → context_at (cond b (announced now k (keys_ended now k condition w) (spent k w.sessions)) w.sessions) n ≡ context_at w.sessions n
+    spent_or_not true = context_announced now k (keys_ended now k condition w) (spent k w.sessions) n
+    spent_or_not false = refl
+
+came_in : (b : Bool) (o : Option Session) → (b ≡ true → o ≡ None) → context_in (cond b (Some new_session) o) ≡ context_in o
+came_in true o new = sym (ap context_in (new refl))
+came_in false o new = refl
+
+-- a client that comes has none yet
+pub context_came : (m : ℕ) (a : Sessions) (n : ℕ) → map.get a.clients m ≡ None → context_at (with_client m a) n ≡ context_at a n
+context_came m a n new = ap context_in (get_inserted a.clients m new_session n) ∙ came_in (nat_eq m n) (map.get a.clients n) (λ same. ap (map.get a.clients) (sym (eqb-true m n same)) ∙ new)
+
+-- ---- changes of it
+
+given_in : (c : Context) (b : Bool) (o : Option Session) → (b ≡ true → is_none o ≡ false) → context_in (cond b (option_map (with_context c) o) o) ≡ cond b (Some c) (context_in o)
+given_in c true None there = absurd (none_there (there refl))
+  where
+    none_there : true ≡ false → ⊥
+    none_there e = cc
+given_in c true (Some s) there = refl
+given_in c false o there = refl
+
+pub context_given : (m : ℕ) (c : Context) (a : Sessions) (n : ℕ) → is_none (map.get a.clients m) ≡ false → context_at (session_changed (Client m) (with_context c) a) n ≡ cond (nat_eq m n) (Some c) (context_at a n)
+context_given m c a n there =
+    ap context_in (get_changed_at m (with_context c) a.clients n)
+    ∙ given_in c (nat_eq m n) (map.get a.clients n) (λ same. ap (λ j. is_none (map.get a.clients j)) (sym (eqb-true m n same)) ∙ there)
+
+gone_in : (b : Bool) (o : Option Session) → context_in (cond b None o) ≡ cond b None (context_in o)
+gone_in true o = refl
+gone_in false o = refl
+
+pub context_gone : (m : ℕ) (a : Sessions) (n : ℕ) → context_at (without_client m a) n ≡ cond (nat_eq m n) None (context_at a n)
+context_gone m a n = ap context_in (get_removed a.clients m n) ∙ gone_in (nat_eq m n) (map.get a.clients n)

@@ -1,0 +1,61 @@
+-- Which rings there are, and of what kind, after each thing that a step may do.
+use Rattle.std.proofs.Common.{◌≡◌, ℕ, Bool, true, false, cond, refl, ap, ◌∙◌}
+use Rattle.std.specs.Prelude.{Option, Some, None, nat_eq, not, option_map}
+use Rattle.std.specs.Option.{option_map_or}
+use Rattle.std.specs.Ordering.{nat_cmp}
+use Rattle.std.specs.FinMap as map
+use Rattle.rk_table.specs.Maps.{kept_where}
+use Rattle.rk_rings.specs.declared.kind.RingKind.{RingKind}
+use Rattle.rk_rings.specs.declared.kind.RingKind.TheVariants as kind
+use Rattle.rk_rings.specs.Ring.{Ring}
+use Rattle.rk_machine.specs.World.{World}
+use Rattle.rk_machine.specs.Links.{rings_changed}
+use Rattle.rk_machine.proofs.Found.InMaps.{get_inserted, get_changed_at, get_kept_where}
+
+abbrev kind_in : Option Ring → Option RingKind
+kind_in o = option_map (λ r. r.kind) o
+
+-- the kind of a ring, where there is one
+abbrev pub kind_of : map.FinMap nat_cmp Ring → ℕ → Option RingKind
+kind_of rings r = kind_in (map.get rings r)
+
+abbrev pub kind_at : World → ℕ → Option RingKind
+kind_at w r = kind_of w.rings r
+
+-- user rings stay: user-keyring(7)
+abbrev pub is_users_kind : RingKind → Bool
+is_users_kind kind.User = true
+is_users_kind kind.Thread = false
+is_users_kind kind.Process = false
+is_users_kind kind.Session = false
+
+-- ---- links
+
+kept_in : (b : Bool) (f : Ring → Ring) (o : Option Ring) → ((r : Ring) → (f r).kind ≡ r.kind) → kind_in (cond b (option_map f o) o) ≡ kind_in o
+kept_in true f None keeps = refl
+kept_in true f (Some r) keeps = ap (λ (k : RingKind). Some k) (keeps r)
+kept_in false f o keeps = refl
+
+-- a change of what is linked in a ring
+pub kind_linked : (ring : Option ℕ) (f : Ring → Ring) → ((r : Ring) → (f r).kind ≡ r.kind) → (rings : map.FinMap nat_cmp Ring) (q : ℕ) → kind_of (rings_changed ring f rings) q ≡ kind_of rings q
+kind_linked None f keeps rings q = refl
+kind_linked (Some ring) f keeps rings q = ap kind_in (get_changed_at ring f rings q) ∙ kept_in (nat_eq ring q) f (map.get rings q) keeps
+
+-- ---- rings come and go
+
+made_in : (b : Bool) (r : Ring) (o : Option Ring) → kind_in (cond b (Some r) o) ≡ cond b (Some r.kind) (kind_in o)
+made_in true r o = refl
+made_in false r o = refl
+
+pub kind_made : (ring : ℕ) (r : Ring) (rings : map.FinMap nat_cmp Ring) (q : ℕ) → kind_of (map.insert rings ring r) q ≡ cond (nat_eq ring q) (Some r.kind) (kind_of rings q)
+kind_made ring r rings q = ap kind_in (get_inserted rings ring r q) ∙ made_in (nat_eq ring q) r (map.get rings q)
+
+dropped_in : (b : Bool) (o : Option Ring) → kind_in (cond (option_map_or (λ (r : Ring). not b) o false) o None) ≡ cond b None (kind_in o)
+dropped_in true None = refl
+dropped_in true (Some r) = refl
+dropped_in false None = refl
+dropped_in false (Some r) = refl
+
+-- the rings that pass a test are dropped
+pub kind_dropped : (goes : ℕ → Bool) (rings : map.FinMap nat_cmp Ring) (q : ℕ) → kind_of (kept_where (λ ring r. not (goes ring)) rings) q ≡ cond (goes q) None (kind_of rings q)
+kind_dropped goes rings q = ap kind_in (get_kept_where (λ ring r. not (goes ring)) rings q) ∙ dropped_in (goes q) (map.get rings q)

@@ -1,0 +1,217 @@
+-- How far each construction is, and which clients are there, after each step of the machine.
+use Rattle.std.proofs.Common.{◌≡◌, ◌⊎◌, ℕ, Bool, true, false, cond, ◌&&◌, refl, sym, ap, ◌∙◌, inl, inr}
+use Rattle.std.specs.Prelude.{Option, Some, None, nat_eq, is_some, option_map}
+use Rattle.std.specs.Option.{option_map_or}
+use Rattle.std.specs.Ordering.{nat_cmp}
+use Rattle.std.specs.FinMap as map
+use Rattle.std.proofs.lemmas.Bool.{eqb-true}
+use Rattle.rk_names.specs.declared.numbers.SessionId.{SessionId}
+use Rattle.rk_names.specs.declared.numbers.SessionId.TheVariants.{Client, Handler}
+use Rattle.rk_names.specs.declared.errors.Errno.{Errno}
+use Rattle.rk_names.specs.declared.errors.KeyError.TheVariants as error
+use Rattle.rk_keys.specs.declared.key.Key.{Key}
+use Rattle.rk_keys.specs.declared.key.Condition.{Condition}
+use Rattle.rk_keys.specs.declared.key.Condition.TheVariants.{Negative}
+use Rattle.rk_auth.specs.declared.session.Session.{Session}
+use Rattle.rk_auth.specs.declared.session.Outcome.{Outcome}
+use Rattle.rk_auth.specs.declared.construction.Stage.{Stage}
+use Rattle.rk_auth.specs.declared.construction.Stage.TheVariants.{Starting, Plain, Piped, Negating}
+use Rattle.rk_auth.specs.declared.construction.Authority.{Authority}
+use Rattle.rk_auth.specs.declared.construction.Construction.{Construction}
+use Rattle.rk_auth.specs.Sessions.{Sessions, new_session, stage_of, unspent}
+use Rattle.rk_auth.specs.Changes.{session_changed, in_handler, in_stage, in_new_stage, launched, spent, without_authority, with_construction, all_told, told, with_context, with_assumed}
+use Rattle.rk_machine.specs.declared.event.Event.{Event}
+use Rattle.rk_machine.specs.declared.event.Event.TheVariants.{Opened, Asked, Launched, Ended, Collect, Gone}
+use Rattle.rk_machine.specs.declared.event.Ran.{Ran}
+use Rattle.rk_machine.specs.declared.event.Ran.TheVariants as ran
+use Rattle.rk_machine.specs.declared.event.Answer.{Answer}
+use Rattle.rk_machine.specs.declared.event.Answer.TheVariants.{Start, Refused}
+use Rattle.rk_machine.specs.World.{World, tidied}
+use Rattle.rk_machine.specs.Links.{unlinked_in, cleared_in}
+use Rattle.rk_machine.specs.Completion.{announced, outcome_of, sessions_ended, keys_ended, ended}
+use Rattle.rk_machine.specs.Laws.{is_done}
+use Rattle.rk_machine.specs.Owing.{is_followed}
+use Rattle.rk_machine.proofs.Found.InMaps.{get_inserted, get_removed, get_changed_at, get_changed_all}
+use Rattle.rk_machine.proofs.Effects.KindsOfStep.{Effect, refused, still, took, came, went, greets, begins, joins, links, unlinks, marks, tells, sets, adds, assumes, concludes, ran_plain, ran_piped, negates, failed, finished}
+use Rattle.rk_machine.proofs.Effects.HelloChanges.{greeted_sessions}
+
+-- ---- constructions, by their stages
+
+pub data Kind : Type 0 where
+  to_start : Kind  -- its handler is to be started
+  talks : Kind  -- a plain handler runs
+  pipes : Kind  -- a piped one runs
+  to_follow : Kind  -- a piped one failed, and another is to be started
+
+abbrev pub kind : Stage → Kind
+kind Starting = to_start
+kind (Plain s) = talks
+kind Piped = pipes
+kind Negating = to_follow
+
+abbrev pub kind_in : Option Construction → Option Kind
+kind_in o = option_map (λ c. kind c.stage) o
+
+abbrev pub kind_of : Sessions → ℕ → Option Kind
+kind_of a k = kind_in (map.get a.constructions k)
+
+-- a handler is to be started, be it the first or another
+abbrev pub is_due : Option Kind → Bool
+is_due (Some to_start) = true
+is_due (Some talks) = false
+is_due (Some pipes) = false
+is_due (Some to_follow) = true
+is_due None = false
+
+-- the first
+abbrev pub is_first_due : Option Kind → Bool
+is_first_due (Some to_start) = true
+is_first_due (Some talks) = false
+is_first_due (Some pipes) = false
+is_first_due (Some to_follow) = false
+is_first_due None = false
+
+abbrev pub may_find : Ran → Option Kind → Bool
+may_find ran.Plain o = is_due o
+may_find ran.Piped o = is_first_due o
+may_find ran.Failed o = is_due o
+
+staged : (f : Session → Session) (st : Stage) → kind (in_stage f st) ≡ kind st
+staged f Starting = refl
+staged f (Plain s) = refl
+staged f Piped = refl
+staged f Negating = refl
+
+kept_at : (f : Construction → Construction) → ((c : Construction) → kind (f c).stage ≡ kind c.stage) → (b : Bool) (o : Option Construction) → kind_in (cond b (option_map f o) o) ≡ kind_in o
+kept_at f h true None = refl
+kept_at f h true (Some c) = ap (λ (x : Kind). Some x) (h c)
+kept_at f h false o = refl
+
+kept_all : (f : Construction → Construction) → ((c : Construction) → kind (f c).stage ≡ kind c.stage) → (o : Option Construction) → kind_in (option_map f o) ≡ kind_in o
+kept_all f h None = refl
+kept_all f h (Some c) = ap (λ (x : Kind). Some x) (h c)
+
+kind_changed : (s : SessionId) (f : Session → Session) (a : Sessions) (q : ℕ) → kind_of (session_changed s f a) q ≡ kind_of a q
+kind_changed (Client n) f a q = refl
+kind_changed (Handler k) f a q = ap kind_in (get_changed_at k (in_handler f) a.constructions q) ∙ kept_at (in_handler f) (λ c. staged f c.stage) (nat_eq k q) (map.get a.constructions q)
+
+kind_told : (k : ℕ) (o : Outcome) (a : Sessions) (q : ℕ) → kind_of (all_told k o a) q ≡ kind_of a q
+kind_told k o a q = ap kind_in (get_changed_all (in_handler (told k o)) a.constructions q) ∙ kept_all (in_handler (told k o)) (λ c. staged (told k o) c.stage) (map.get a.constructions q)
+
+kind_spent : (k : ℕ) (a : Sessions) (q : ℕ) → kind_of (spent k a) q ≡ kind_of a q
+kind_spent k a q = ap kind_in (get_changed_at k without_authority a.constructions q) ∙ kept_at without_authority (λ c. staged (with_assumed None) c.stage) (nat_eq k q) (map.get a.constructions q)
+
+kind_announced : (now k : ℕ) (keys : map.FinMap nat_cmp Key) (a : Sessions) (q : ℕ) → kind_of (announced now k keys a) q ≡ kind_of a q
+kind_announced now k keys a q = told_or_not (map.get keys k)
+  where
+    told_or_not : (o : Option Key) → kind_of (option_map_or (λ key. all_told k (outcome_of k key now) a) o a) q ≡ kind_of a q
+    told_or_not None = refl
+    told_or_not (Some key) = kind_told k (outcome_of k key now) a q
+
+kind_settled : (now k : ℕ) (condition : Condition) (w : World) (q : ℕ) → kind_of (sessions_ended now k condition w) q ≡ kind_of w.sessions q
+kind_settled now k condition w q = spent_or_not (is_some (unspent w.sessions k))
+  where
+    spent_or_not : (b : Bool) → kind_of (cond b (announced now k (keys_ended now k condition w) (spent k w.sessions)) w.sessions) q ≡ kind_of w.sessions q
+    spent_or_not true = kind_announced now k (keys_ended now k condition w) (spent k w.sessions) q ∙ kind_spent k w.sessions q
+    spent_or_not false = refl
+
+gone_in : (b : Bool) (o : Option Construction) → kind_in (cond b None o) ≡ cond b None (kind_in o)
+gone_in true o = refl
+gone_in false o = refl
+
+kind_ended : (now k : ℕ) (condition : Condition) (w : World) (q : ℕ) → kind_of (ended now k condition w).sessions q ≡ cond (nat_eq k q) None (kind_of w.sessions q)
+kind_ended now k condition w q =
+    ap kind_in (get_removed (sessions_ended now k condition w).constructions k q)
+    ∙ gone_in (nat_eq k q) (map.get (sessions_ended now k condition w).constructions q) ∙ ap (cond (nat_eq k q) None) (kind_settled now k condition w q)
+
+issued_in : (authority : Authority) (b : Bool) (o : Option Construction) → kind_in (cond b (Some (record { stage = Starting; authority = Some authority })) o) ≡ cond b (Some to_start) (kind_in o)
+issued_in authority true o = refl
+issued_in authority false o = refl
+
+kind_issued : (k : ℕ) (authority : Authority) (a : Sessions) (q : ℕ) → kind_of (with_construction k authority a) q ≡ cond (nat_eq k q) (Some to_start) (kind_of a q)
+kind_issued k authority a q = ap kind_in (get_inserted a.constructions k _ q) ∙ issued_in authority (nat_eq k q) (map.get a.constructions q)
+
+-- a construction that is there is in the stage from now on
+launched_in : (st : Stage) (b : Bool) (o : Option Construction) → (b ≡ true → is_some o ≡ true) → kind_in (cond b (option_map (in_new_stage st) o) o) ≡ cond b (Some (kind st)) (kind_in o)
+launched_in st true None there = absurd (let e = there refl in cc)
+launched_in st true (Some c) there = refl
+launched_in st false o there = refl
+
+stage_there : (a : Sessions) (k : ℕ) (st : Stage) → stage_of a k ≡ Some st → is_some (map.get a.constructions k) ≡ true
+stage_there a k st h = found (map.get a.constructions k) h
+  where
+    found : (o : Option Construction) → option_map (λ c. c.stage) o ≡ Some st → is_some o ≡ true
+    found None e = absurd (cc)
+    found (Some c) e = refl
+
+pub stage_kind : (a : Sessions) (k : ℕ) (st : Stage) → stage_of a k ≡ Some st → kind_of a k ≡ Some (kind st)
+stage_kind a k st h = found (map.get a.constructions k) h
+  where
+    found : (o : Option Construction) → option_map (λ c. c.stage) o ≡ Some st → kind_in o ≡ Some (kind st)
+    found None e = absurd (cc)
+    found (Some c) e = ap (λ (o : Option Stage). option_map kind o) e
+
+kind_launched : (k : ℕ) (st was : Stage) (a : Sessions) (q : ℕ) → stage_of a k ≡ Some was → kind_of (launched k st a) q ≡ cond (nat_eq k q) (Some (kind st)) (kind_of a q)
+kind_launched k st was a q is =
+    ap kind_in (get_changed_at k (in_new_stage st) a.constructions q)
+    ∙ launched_in st (nat_eq k q) (map.get a.constructions q) (λ same. ap (λ i. is_some (map.get a.constructions i)) (sym (eqb-true k q same)) ∙ stage_there a k was is)
+
+-- ---- after each step
+
+-- what a launch leaves of a construction
+abbrev pub launched_kind : Ran → Option Kind
+launched_kind ran.Plain = Some talks
+launched_kind ran.Piped = Some pipes
+launched_kind ran.Failed = None
+
+abbrev pub kind_after : ℕ → Event → Answer → Option Kind → Option Kind
+kind_after q (Asked s x) (Start k subject) o = cond (nat_eq k q) (Some to_start) o
+kind_after q (Launched k r) a o = cond (is_done a && nat_eq k q) (launched_kind r) o
+kind_after q (Ended k how payload) a o = cond (is_done a && nat_eq k q) None (cond (is_followed a && nat_eq k q) (Some to_follow) o)
+kind_after q e a o = o
+
+refused_kind : (q : ℕ) (e : Event) (error : Errno) (o : Option Kind) → kind_after q e (Refused error) o ≡ o
+refused_kind q (Opened s) error o = refl
+refused_kind q (Asked s x) error o = refl
+refused_kind q (Launched k r) error o = refl
+refused_kind q (Ended k how payload) error o = refl
+refused_kind q (Collect s) error o = refl
+refused_kind q (Gone s) error o = refl
+
+module _ (new : World) (q : ℕ) (e given : Event) (a answer : Answer) (o : Option Kind) where
+  -- a step whose event and answer are known
+  by_step : e ≡ given → a ≡ answer → kind_of new.sessions q ≡ kind_after q given answer o → kind_of new.sessions q ≡ kind_after q e a o
+  by_step ev ra h = h ∙ sym (ap (λ y. kind_after q y a o) ev ∙ ap (λ y. kind_after q given y o) ra)
+
+at_world : (new mid : World) (q : ℕ) (o : Option Kind) → new ≡ mid → kind_of mid.sessions q ≡ o → kind_of new.sessions q ≡ o
+at_world new mid q o e h = ap (λ (w : World). kind_of w.sessions q) e ∙ h
+
+unlinked_kind : (old new : World) (ring : Option ℕ) (k q : ℕ) → (new ≡ tidied (unlinked_in ring k old)) ⊎ (new ≡ tidied (cleared_in ring old)) → kind_of new.sessions q ≡ kind_of old.sessions q
+unlinked_kind old new ring k q (inl h) = at_world new _ q _ h refl
+unlinked_kind old new ring k q (inr h) = at_world new _ q _ h refl
+
+pub kinds : (old : World) (now : ℕ) (e : Event) (a : Answer) (new : World) → Effect old now e a new → (q : ℕ) → kind_of new.sessions q ≡ kind_after q e a (kind_of old.sessions q)
+kinds old now e a new (refused error ra w free) q =
+    ap (λ (v : World). kind_of v.sessions q) w ∙ sym (ap (λ y. kind_after q e y (kind_of old.sessions q)) ra ∙ refused_kind q e error _)
+kinds old now e a new (still s wait ev is ready ra w) q = by_step new q e _ a _ _ ev ra (at_world new _ q _ w refl)
+kinds old now e a new (took s wait outcome ev is ready ra w) q = by_step new q e (Collect s) a a _ ev refl (at_world new _ q _ w (kind_changed s _ old.sessions q))
+kinds old now e a new (came n ev fresh ra w) q = by_step new q e _ a _ _ ev ra (at_world new _ q _ w refl)
+kinds old now e a new (went n ev there ra w) q = by_step new q e _ a _ _ ev ra (at_world new _ q _ w refl)
+kinds old now e a new (greets n uid gid thread process join ev can none joined h) q =
+    by_step new q e _ a _ _ ev h.6.0 (at_world new _ q _ h.6.1 (kind_changed (Client n) (with_context (record { uid = uid; gid = gid; thread = h.0; process = h.1; session = h.2; user = h.3 })) h.4.sessions q ∙ ap (λ (s : Sessions). kind_of s q) (greeted_sessions _ old h.4 h.0 h.1 h.2 h.3 h.5)))
+kinds old now e a new (begins s asker typ description callout r ring k ev can is depth fresh ra w) q = by_step new q e _ a _ _ ev ra (at_world new _ q _ w (kind_changed s _ _ q ∙ kind_issued k _ old.sessions q))
+kinds old now e a new (joins s x ring k ev asks can building apart ra w) q = by_step new q e _ a _ _ ev ra (at_world new _ q _ w (kind_changed s _ old.sessions q))
+kinds old now e a new (links s x ring k n ev completes_none not_assume ra w) q = by_step new q e _ a _ _ ev ra (at_world new _ q _ w refl)
+kinds old now e a new (unlinks s x ring k ev completes_none not_assume ra w) q = by_step new q e _ a _ _ ev ra (unlinked_kind old new ring k q w)
+kinds old now e a new (marks s x k f ev completes_none not_assume mild ra w) q = by_step new q e _ a _ _ ev ra (at_world new _ q _ w refl)
+kinds old now e a new (tells s x bytes ev ra w) q = by_step new q e _ a _ _ ev ra (at_world new _ q _ w refl)
+kinds old now e a new (sets s x setting n ev completes_none not_assume can ra w) q = by_step new q e _ a _ _ ev ra (at_world new _ q _ w (kind_changed s _ old.sessions q))
+kinds old now e a new (adds s asker typ description payload r ring k ev fresh ra w) q = by_step new q e _ a _ _ ev ra (at_world new _ q _ w refl)
+kinds old now e a new (assumes s key ev can none ra w) q = by_step new q e _ a _ _ ev ra (at_world new _ q _ w (kind_changed s _ old.sessions q))
+kinds old now e a new (concludes s x asker ring k condition end ev which can is own final ra w) q =
+    by_step new q e _ a _ _ ev ra (at_world new _ q _ w (kind_announced now k _ (spent k old.sessions) q ∙ kind_spent k old.sessions q))
+kinds old now e a new (ran_plain k st ev is launches ra w) q = by_step new q e _ a _ _ ev ra (at_world new _ q _ w (kind_launched k (Plain new_session) st old.sessions q is))
+kinds old now e a new (ran_piped k ev is ra w) q = by_step new q e _ a _ _ ev ra (at_world new _ q _ w (kind_launched k Piped Starting old.sessions q is))
+kinds old now e a new (negates k how payload ev is fails ra w) q = by_step new q e _ a _ _ ev ra (at_world new _ q _ w (kind_launched k Negating Piped old.sessions q is))
+kinds old now e a new (failed k st ev is launches ra w) q = by_step new q e _ a _ _ ev ra (at_world new _ q _ w (kind_ended now k (Negative error.NoKey) old q))
+kinds old now e a new (finished k how payload st condition ev is running final ra w) q = by_step new q e _ a _ _ ev ra (at_world new _ q _ w (kind_ended now k condition old q))

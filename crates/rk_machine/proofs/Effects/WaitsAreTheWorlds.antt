@@ -1,0 +1,271 @@
+-- In every run the waits that the list tells are those of the world.
+use Rattle.std.proofs.Common.{◌≡◌, ◌⊎◌, ℕ, Bool, true, false, cond, ◌||◌, ◌&&◌, List, refl, sym, ap, ◌∙◌, inl, inr}
+use Rattle.std.specs.Prelude.{Option, Some, None, nat_eq, not, is_some, is_none, option_map, option_and_then}
+use Rattle.std.specs.Option.{option_map_or}
+use Rattle.std.specs.FinMap as map
+use Rattle.std.specs.Ordering.{nat_cmp}
+use Rattle.std.proofs.lemmas.Bool.{eqb-true}
+use Rattle.rk_names.specs.declared.errors.Errno.{Errno}
+use Rattle.rk_names.specs.declared.errors.KeyError.TheVariants as error
+use Rattle.rk_names.specs.declared.numbers.SessionId.{SessionId}
+use Rattle.rk_names.specs.declared.numbers.SessionId.TheVariants.{Client, Handler}
+use Rattle.rk_message.specs.declared.ask.Ask.{Ask}
+use Rattle.rk_message.specs.declared.ask.Ask.TheVariants as ask
+use Rattle.rk_message.specs.declared.reply.Reply.{Reply}
+use Rattle.rk_keys.specs.declared.key.Key.{Key}
+use Rattle.rk_keys.specs.declared.key.Condition.{Condition}
+use Rattle.rk_keys.specs.declared.key.Condition.TheVariants.{Negative}
+use Rattle.rk_auth.specs.declared.session.Outcome.{Outcome}
+use Rattle.rk_auth.specs.declared.session.Outcome.TheVariants.{Found, Failed}
+use Rattle.rk_auth.specs.declared.construction.Stage.{Stage}
+use Rattle.rk_auth.specs.declared.construction.Stage.TheVariants.{Starting, Plain, Piped, Negating}
+use Rattle.rk_auth.specs.declared.construction.Construction.{Construction}
+use Rattle.rk_auth.specs.Sessions.{is_to_launch, Sessions, new_session, session_of, wait_of, stage_of, handler_in, unspent}
+use Rattle.rk_auth.specs.declared.construction.Authority.{Authority}
+use Rattle.rk_auth.specs.Changes.{spent, with_construction, all_told, with_context, with_setting, with_assumed}
+use Rattle.rk_machine.specs.declared.event.Event.{Event}
+use Rattle.rk_machine.specs.declared.event.Event.TheVariants.{Opened, Asked, Launched, Ended, Collect, Gone}
+use Rattle.rk_machine.specs.declared.event.Ran.TheVariants as ran
+use Rattle.rk_machine.specs.declared.event.How.{How}
+use Rattle.rk_machine.specs.declared.event.Answer.{Answer}
+use Rattle.rk_machine.specs.declared.event.Answer.TheVariants.{Done, Waiting, Refused, Negate}
+use Rattle.rk_machine.specs.World.{World, tidied}
+use Rattle.rk_machine.specs.Allowed.{done}
+use Rattle.rk_machine.specs.Links.{unlinked_in, cleared_in}
+use Rattle.rk_machine.specs.Completion.{announced, outcome_of, sessions_ended, keys_ended, ended}
+use Rattle.rk_machine.specs.Steps.{Past, told_as}
+use Rattle.rk_machine.specs.Laws.{same_session, is_done, is_waiting, wait_begun, is_wait_ended}
+use Rattle.rk_machine.proofs.Found.InMaps.{get_inserted}
+use Rattle.rk_machine.proofs.Found.Refusals.{none_is, and_false}
+use Rattle.rk_machine.proofs.Effects.KindsOfStep.{Effect, refused, still, took, came, went, greets, begins, joins, links, unlinks, marks, tells, sets, adds, assumes, concludes, ran_plain, ran_piped, negates, failed, finished}
+use Rattle.rk_machine.proofs.Effects.HelloChanges.{greeted_sessions}
+use Rattle.rk_machine.proofs.Effects.DrawnSerials.{is_drawn}
+use Rattle.rk_machine.proofs.Effects.WaitsAfter.{same-true, flag, flag_in, flag_of, flag_kept, flag_collected, flag_begun, flag_told, flag_spent, flag_launched, flag_removed, flag_issued, flag_came, flag_went}
+
+abbrev pub step : ℕ → Event → Answer → Past
+step now e a = record { now = now; event = e; answer = a }
+
+-- the wait of s after a step, by the one before
+abbrev pub after : ℕ → SessionId → Event → Answer → Option (ℕ × Bool) → Option (ℕ × Bool)
+after now s e a r = option_map_or (λ w. Some w) (wait_begun s e a) (cond (is_wait_ended s (step now e a)) None r)
+
+-- ---- the list's side
+
+or_false : (a : Bool) → (a || false) ≡ a
+or_false true = refl
+or_false false = refl
+
+quiet_after : (now : ℕ) (s : SessionId) (e : Event) (a : Answer) (r : Option (ℕ × Bool)) → wait_begun s e a ≡ None → is_wait_ended s (step now e a) ≡ false → after now s e a r ≡ r
+quiet_after now s e a r begun over = λ i. option_map_or (λ w. Some w) (begun i) (cond (over i) None r)
+
+cleared_after : (now : ℕ) (s : SessionId) (e : Event) (a : Answer) (b : Bool) (r : Option (ℕ × Bool)) → wait_begun s e a ≡ None → is_wait_ended s (step now e a) ≡ b → after now s e a r ≡ cond b None r
+cleared_after now s e a b r begun over = λ i. option_map_or (λ w. Some w) (begun i) (cond (over i) None r)
+
+chosen : (b : Bool) (v : ℕ × Bool) (r : Option (ℕ × Bool)) → option_map_or (λ w. Some w) (cond b (Some v) None) r ≡ cond b (Some v) r
+chosen true v r = refl
+chosen false v r = refl
+
+pub begun_refused : (s : SessionId) (e : Event) (error : Errno) → wait_begun s e (Refused error) ≡ None
+begun_refused s (Asked t x) error = refl
+begun_refused s _ error = refl
+
+begun_done : (s : SessionId) (e : Event) (reply : Reply) → wait_begun s e (Done reply) ≡ None
+begun_done s (Asked t x) reply = refl
+begun_done s _ reply = refl
+
+-- an ask ends no wait
+over_asked : (now : ℕ) (s t : SessionId) (x : Ask) (a : Answer) → is_wait_ended s (step now (Asked t x) a) ≡ false
+over_asked now (Client n) t x a = ap (λ b. b || false) (and_false (is_done a) false refl)
+over_asked now (Handler k) t x a = λ i. and_false (is_done a) false refl i || and_false (is_done a) false refl i
+
+module _ (now : ℕ) (s : SessionId) (r : Option (ℕ × Bool)) where
+  asked_done : (e : Event) (a : Answer) (t : SessionId) (x : Ask) (reply : Reply) → e ≡ Asked t x → a ≡ Done reply → after now s e a r ≡ r
+  asked_done e a t x reply ev ra = ap (λ y. after now s y a r) ev ∙ ap (λ y. after now s (Asked t x) y r) ra ∙ quiet_after now s (Asked t x) (Done reply) r refl (over_asked now s t x (Done reply))
+
+  asked_begun : (e : Event) (a : Answer) (t : SessionId) (x : Ask) (v : ℕ × Bool) → e ≡ Asked t x → wait_begun s (Asked t x) a ≡ cond (same_session t s) (Some v) None → after now s e a r ≡ cond (same_session t s) (Some v) r
+  asked_begun e a t x v ev begun =
+      ap (λ y. after now s y a r) ev ∙ (λ i. option_map_or (λ w. Some w) (begun i) (cond (over_asked now s t x a i) None r)) ∙ chosen (same_session t s) v r
+
+over_other : (now : ℕ) (s : SessionId) (n : ℕ) → is_wait_ended s (step now (Opened (Client n)) done) ≡ false
+over_other now (Client m) n = refl
+over_other now (Handler k) n = refl
+
+over_gone : (now : ℕ) (s : SessionId) (n : ℕ) → is_wait_ended s (step now (Gone (Client n)) done) ≡ same_session (Client n) s
+over_gone now (Client m) n = or_false (same_session (Client n) (Client m))
+over_gone now (Handler k) n = refl
+
+folded : (b p q : Bool) → p ≡ false → q ≡ false → (b && true || p || q) ≡ b
+folded true p q np nq = refl
+folded false p q np nq = λ i. np i || nq i
+
+told_quiet : (o : Outcome) → is_waiting (told_as o) ≡ false
+told_quiet (Found k) = refl
+told_quiet (Failed e) = refl
+
+over_collected : (now : ℕ) (s t : SessionId) (o : Outcome) → is_wait_ended s (step now (Collect t) (told_as o)) ≡ same_session t s
+over_collected now (Client n) t o =
+    ap (λ b. same_session t (Client n) && not b || (is_done (told_as o) && false) || false) (told_quiet o) ∙ folded (same_session t (Client n)) _ false (and_false (is_done (told_as o)) false refl) refl
+over_collected now (Handler k) t o =
+    ap (λ b. same_session t (Handler k) && not b || (is_done (told_as o) && false) || (is_done (told_as o) && false)) (told_quiet o)
+    ∙ folded (same_session t (Handler k)) _ _ (and_false (is_done (told_as o)) false refl) (and_false (is_done (told_as o)) false refl)
+
+begun_told : (s t : SessionId) (o : Outcome) → wait_begun s (Collect t) (told_as o) ≡ None
+begun_told s t o = refl
+
+-- a refusal ends no wait, but for a collect of a session that has none
+refused_after : (now : ℕ) (s : SessionId) (e : Event) (error : Errno) (r : Option (ℕ × Bool)) → ((t : SessionId) → e ≡ Collect t → same_session t s ≡ true → r ≡ None) → after now s e (Refused error) r ≡ r
+refused_after now s e error r free = cleared_after now s e (Refused error) _ r (begun_refused s e error) refl ∙ emptied e refl s refl
+  where
+    none_or : (b : Bool) → (b ≡ true → r ≡ None) → cond b None r ≡ r
+    none_or true h = sym (h refl)
+    none_or false h = refl
+
+    emptied : (y : Event) → e ≡ y → (z : SessionId) → s ≡ z → cond (is_wait_ended s (step now e (Refused error))) None r ≡ r
+    emptied y ey (Client m) ez = ap (λ v. cond (is_wait_ended v (step now e (Refused error))) None r) ez ∙ ap (λ v. cond (is_wait_ended (Client m) (step now v (Refused error))) None r) ey ∙ client y ey
+      where
+        client : (y : Event) → e ≡ y → cond (is_wait_ended (Client m) (step now y (Refused error))) None r ≡ r
+        client (Collect t) ey = ap (λ b. cond b None r) (folded (same_session t (Client m)) false false refl refl) ∙ none_or (same_session t (Client m)) (λ same. free t ey (ap (same_session t) ez ∙ same))
+        client _ ey = refl
+    emptied y ey (Handler k) ez = ap (λ v. cond (is_wait_ended v (step now e (Refused error))) None r) ez ∙ ap (λ v. cond (is_wait_ended (Handler k) (step now v (Refused error))) None r) ey ∙ handler y ey
+      where
+        handler : (y : Event) → e ≡ y → cond (is_wait_ended (Handler k) (step now y (Refused error))) None r ≡ r
+        handler (Collect t) ey = ap (λ b. cond b None r) (folded (same_session t (Handler k)) false false refl refl) ∙ none_or (same_session t (Handler k)) (λ same. free t ey (ap (same_session t) ez ∙ same))
+        handler _ ey = refl
+
+-- ---- the world's side
+
+flag_at : (new mid : World) (s : SessionId) (o : Option (ℕ × Bool)) → new ≡ mid → flag_of mid.sessions s ≡ o → flag_of new.sessions s ≡ o
+flag_at new mid s o e h = ap (λ (w : World). flag_of w.sessions s) e ∙ h
+
+flag_announced : (now k : ℕ) (keys : map.FinMap nat_cmp Key) (a : Sessions) (s : SessionId) → flag_of (announced now k keys a) s ≡ flag_of a s
+flag_announced now k keys a s = told_or_not (map.get keys k)
+  where
+    told_or_not : (o : Option Key) → flag_of (option_map_or (λ key. all_told k (outcome_of k key now) a) o a) s ≡ flag_of a s
+    told_or_not None = refl
+    told_or_not (Some key) = flag_told k (outcome_of k key now) a s
+
+flag_settled : (now k : ℕ) (condition : Condition) (w : World) (s : SessionId) → flag_of (sessions_ended now k condition w) s ≡ flag_of w.sessions s
+flag_settled now k condition w s = spent_or_not (is_some (unspent w.sessions k))
+  where
+    spent_or_not : (b : Bool) → flag_of (cond b (announced now k (keys_ended now k condition w) (spent k w.sessions)) w.sessions) s ≡ flag_of w.sessions s
+    spent_or_not true = flag_announced now k (keys_ended now k condition w) (spent k w.sessions) s ∙ flag_spent k w.sessions s
+    spent_or_not false = refl
+
+flag_ended : (now k : ℕ) (condition : Condition) (w : World) (s : SessionId) → flag_of (ended now k condition w).sessions s ≡ cond (same_session (Handler k) s) None (flag_of w.sessions s)
+flag_ended now k condition w s = flag_removed k (sessions_ended now k condition w) s ∙ ap (cond (same_session (Handler k) s) None) (flag_settled now k condition w s)
+
+none_flag : (a : Sessions) (t : SessionId) → wait_of a t ≡ None → flag_of a t ≡ None
+none_flag a t h = ap (option_map flag) h
+
+-- a construction without a session of its handler
+-- (one that is to be started, or is piped)
+no_flag : (a : Sessions) (k : ℕ) (is : Stage) → handler_in is ≡ None → stage_of a k ≡ Some is → flag_of a (Handler k) ≡ None
+no_flag a k is none h = found (map.get a.constructions k) h
+  where
+    by_stage : (st : Stage) → Some st ≡ Some is → flag_in (handler_in st) ≡ None
+    by_stage st e = ap (λ (o : Option Stage). flag_in (option_and_then handler_in o)) e ∙ ap flag_in none
+
+    found : (o : Option Construction) → option_map (λ c. c.stage) o ≡ Some is → flag_in (option_and_then (λ c. handler_in c.stage) o) ≡ None
+    found None e = absurd (cc)
+    found (Some c) e = by_stage c.stage e
+
+none_or_same : (b : Bool) (r : Option (ℕ × Bool)) → (b ≡ true → r ≡ None) → cond b None r ≡ r
+none_or_same true r h = sym (h refl)
+none_or_same false r h = refl
+
+unlinked_flag : (old new : World) (ring : Option ℕ) (k : ℕ) (s : SessionId) → (new ≡ tidied (unlinked_in ring k old)) ⊎ (new ≡ tidied (cleared_in ring old)) → flag_of new.sessions s ≡ flag_of old.sessions s
+unlinked_flag old new ring k s (inl h) = flag_at new _ s _ h refl
+unlinked_flag old new ring k s (inr h) = flag_at new _ s _ h refl
+
+launched_after : (now k : ℕ) (s : SessionId) (r : Option (ℕ × Bool)) → after now s (Launched k ran.Plain) done r ≡ r
+launched_after now k (Client n) r = refl
+launched_after now k (Handler j) r = refl
+
+piped_after : (now k : ℕ) (s : SessionId) (r : Option (ℕ × Bool)) → after now s (Launched k ran.Piped) done r ≡ r
+piped_after now k (Client n) r = refl
+piped_after now k (Handler j) r = refl
+
+negated_after : (now k : ℕ) (how : How) (payload : Option (List ℕ)) (s : SessionId) (r : Option (ℕ × Bool)) → after now s (Ended k how payload) (Negate k) r ≡ r
+negated_after now k how payload (Client n) r = refl
+negated_after now k how payload (Handler j) r = refl
+
+-- a handler that is to be started has none
+waiting_handler : (st : Stage) → is_to_launch (Some st) ≡ true → handler_in st ≡ None
+waiting_handler Starting h = refl
+waiting_handler (Plain s) h = absurd (cc)
+waiting_handler Piped h = refl
+waiting_handler Negating h = refl
+
+failed_after : (now k : ℕ) (s : SessionId) (r : Option (ℕ × Bool)) → after now s (Launched k ran.Failed) done r ≡ cond (same_session (Handler k) s) None r
+failed_after now k (Client n) r = refl
+failed_after now k (Handler j) r = refl
+
+finished_after : (now k : ℕ) (how : How) (payload : Option (List ℕ)) (s : SessionId) (r : Option (ℕ × Bool)) → after now s (Ended k how payload) done r ≡ cond (same_session (Handler k) s) None r
+finished_after now k how payload (Client n) r = refl
+finished_after now k how payload (Handler j) r = refl
+
+still_after : (now : ℕ) (s t : SessionId) (k : ℕ) (r : Option (ℕ × Bool)) → after now s (Collect t) (Waiting k) r ≡ r
+still_after now (Client n) t k r = ap (λ b. option_map_or (λ w. Some w) None (cond (b || false || false) None r)) (and_false (same_session t (Client n)) false refl)
+still_after now (Handler j) t k r = ap (λ b. option_map_or (λ w. Some w) None (cond (b || false || false) None r)) (and_false (same_session t (Handler j)) false refl)
+
+-- not drawn: no construction
+abbrev pub IdleFresh : World → Type 0
+IdleFresh w = (k : ℕ) → is_drawn w k ≡ false → map.get w.sessions.constructions k ≡ None
+
+-- who is there is there beside a new construction
+pub there_issued : (k : ℕ) (authority : Authority) (a : Sessions) (t : SessionId) → map.get a.constructions k ≡ None → is_none (session_of a t) ≡ false → is_none (session_of (with_construction k authority a) t) ≡ false
+there_issued k authority a (Client n) new h = h
+there_issued k authority a (Handler j) new h =
+    ap (λ o. is_none (option_and_then (λ (c : Construction). handler_in c.stage) o)) (get_inserted a.constructions k _ j) ∙ kept (nat_eq k j) refl
+  where
+    kept : (b : Bool) → nat_eq k j ≡ b → is_none (option_and_then (λ (c : Construction). handler_in c.stage) (cond b (Some (record { stage = Starting; authority = Some authority })) (map.get a.constructions j))) ≡ false
+    kept true same = let none : session_of a (Handler j) ≡ None = ap (λ i. option_and_then (λ (c : Construction). handler_in c.stage) (map.get a.constructions i)) (sym (eqb-true k j same)) ∙ ap (option_and_then (λ (c : Construction). handler_in c.stage)) new in ap is_none (sym none) ∙ h
+    kept false other = h
+
+pub tied : (old : World) (now : ℕ) (e : Event) (a : Answer) (new : World) → Effect old now e a new → IdleFresh old → (s : SessionId) → flag_of new.sessions s ≡ after now s e a (flag_of old.sessions s)
+tied old now e a new (refused error ra w free) idle s =
+    ap (λ (v : World). flag_of v.sessions s) w
+    ∙ sym (ap (λ y. after now s e y (flag_of old.sessions s)) ra ∙ refused_after now s e error _ (λ t ev same. ap (flag_of old.sessions) (sym (same-true t s same)) ∙ none_flag old.sessions t (free t ev)))
+tied old now e a new (still t wait ev is ready ra w) idle s =
+    ap (λ (v : World). flag_of v.sessions s) w ∙ sym (ap (λ y. after now s y a (flag_of old.sessions s)) ev ∙ ap (λ y. after now s (Collect t) y (flag_of old.sessions s)) ra ∙ still_after now s t wait.key _)
+tied old now e a new (took t wait outcome ev is ready ra w) idle s =
+    flag_at new _ s _ w (flag_collected t old.sessions s)
+    ∙ sym (ap (λ y. after now s y a (flag_of old.sessions s)) ev ∙ ap (λ y. after now s (Collect t) y (flag_of old.sessions s)) ra ∙ cleared_after now s (Collect t) (told_as outcome) _ _ (begun_told s t outcome) (over_collected now s t outcome))
+tied old now e a new (came n ev fresh ra w) idle s =
+    flag_at new _ s _ w (flag_came n old.sessions s (none_is (map.get old.sessions.clients n) fresh))
+    ∙ sym (ap (λ y. after now s y a (flag_of old.sessions s)) ev ∙ ap (λ y. after now s (Opened (Client n)) y (flag_of old.sessions s)) ra ∙ quiet_after now s (Opened (Client n)) done _ refl (over_other now s n))
+tied old now e a new (went n ev there ra w) idle s =
+    flag_at new _ s _ w (flag_went n old.sessions s)
+    ∙ sym (ap (λ y. after now s y a (flag_of old.sessions s)) ev ∙ ap (λ y. after now s (Gone (Client n)) y (flag_of old.sessions s)) ra ∙ cleared_after now s (Gone (Client n)) done _ _ refl (over_gone now s n))
+tied old now e a new (greets n uid gid thread process join ev can none joined h) idle s =
+    flag_at new _ s _ h.6.1 (flag_kept (Client n) (with_context (record { uid = uid; gid = gid; thread = h.0; process = h.1; session = h.2; user = h.3 })) (λ x. refl) h.4.sessions s ∙ ap (λ (x : Sessions). flag_of x s) (greeted_sessions _ old h.4 h.0 h.1 h.2 h.3 h.5))
+    ∙ sym (asked_done now s _ e a (Client n) (ask.Hello uid gid thread process join) _ ev h.6.0)
+tied old now e a new (begins t asker typ description callout r ring k ev can is depth fresh ra w) idle s =
+    flag_at new _ s _ w (flag_begun t k true _ s (there_issued k _ old.sessions t (idle k fresh.unused) can.there) ∙ ap (cond (same_session t s) (Some (k, true))) (flag_issued k _ old.sessions s (idle k fresh.unused)))
+    ∙ sym (asked_begun now s _ e a t _ (k, true) ev (ap (λ y. wait_begun s (Asked t (ask.Request typ description (Some callout) r)) y) ra))
+tied old now e a new (joins t x ring k ev asks can building apart ra w) idle s =
+    flag_at new _ s _ w (flag_begun t k false old.sessions s can.there) ∙ sym (asked_begun now s _ e a t x (k, false) ev (ap (λ y. wait_begun s (Asked t x) y) ra))
+tied old now e a new (links t x ring k n ev completes_none not_assume ra w) idle s = flag_at new _ s _ w refl ∙ sym (asked_done now s _ e a t x _ ev ra)
+tied old now e a new (unlinks t x ring k ev completes_none not_assume ra w) idle s = unlinked_flag old new ring k s w ∙ sym (asked_done now s _ e a t x _ ev ra)
+tied old now e a new (marks t x k f ev completes_none not_assume mild ra w) idle s = flag_at new _ s _ w refl ∙ sym (asked_done now s _ e a t x _ ev ra)
+tied old now e a new (tells t x bytes ev ra w) idle s = ap (λ (v : World). flag_of v.sessions s) w ∙ sym (asked_done now s _ e a t x _ ev ra)
+tied old now e a new (sets t x setting n ev completes_none not_assume can ra w) idle s = flag_at new _ s _ w (flag_kept t (with_setting setting) (λ x. refl) old.sessions s) ∙ sym (asked_done now s _ e a t x _ ev ra)
+tied old now e a new (adds t asker typ description payload r ring k ev fresh ra w) idle s = flag_at new _ s _ w refl ∙ sym (asked_done now s _ e a t _ _ ev ra)
+tied old now e a new (assumes t key ev can none ra w) idle s = flag_at new _ s _ w (flag_kept t (with_assumed _) (λ x. refl) old.sessions s) ∙ sym (asked_done now s _ e a t _ _ ev ra)
+tied old now e a new (concludes t x asker ring k condition end ev which can is own final ra w) idle s =
+    flag_at new _ s _ w (flag_announced now k _ (spent k old.sessions) s ∙ flag_spent k old.sessions s) ∙ sym (asked_done now s _ e a t x _ ev ra)
+tied old now e a new (ran_plain k st ev is launches ra w) idle s =
+    flag_at new _ s _ w (flag_launched k (Plain new_session) refl old.sessions s ∙ none_or_same (same_session (Handler k) s) _ (λ same. ap (flag_of old.sessions) (sym (same-true (Handler k) s same)) ∙ no_flag old.sessions k st (waiting_handler st launches) is))
+    ∙ sym (ap (λ y. after now s y a (flag_of old.sessions s)) ev ∙ ap (λ y. after now s (Launched k ran.Plain) y (flag_of old.sessions s)) ra ∙ launched_after now k s _)
+tied old now e a new (ran_piped k ev is ra w) idle s =
+    flag_at new _ s _ w (flag_launched k Piped refl old.sessions s ∙ none_or_same (same_session (Handler k) s) _ (λ same. ap (flag_of old.sessions) (sym (same-true (Handler k) s same)) ∙ no_flag old.sessions k Starting refl is))
+    ∙ sym (ap (λ y. after now s y a (flag_of old.sessions s)) ev ∙ ap (λ y. after now s (Launched k ran.Piped) y (flag_of old.sessions s)) ra ∙ piped_after now k s _)
+tied old now e a new (negates k how payload ev is fails ra w) idle s =
+    flag_at new _ s _ w (flag_launched k Negating refl old.sessions s ∙ none_or_same (same_session (Handler k) s) _ (λ same. ap (flag_of old.sessions) (sym (same-true (Handler k) s same)) ∙ no_flag old.sessions k Piped refl is))
+    ∙ sym (ap (λ y. after now s y a (flag_of old.sessions s)) ev ∙ ap (λ y. after now s (Ended k how payload) y (flag_of old.sessions s)) ra ∙ negated_after now k how payload s _)
+tied old now e a new (failed k st ev is launches ra w) idle s =
+    flag_at new _ s _ w (flag_ended now k (Negative error.NoKey) old s)
+    ∙ sym (ap (λ y. after now s y a (flag_of old.sessions s)) ev ∙ ap (λ y. after now s (Launched k ran.Failed) y (flag_of old.sessions s)) ra ∙ failed_after now k s _)
+tied old now e a new (finished k how payload st condition ev is running final ra w) idle s =
+    flag_at new _ s _ w (flag_ended now k condition old s)
+    ∙ sym (ap (λ y. after now s y a (flag_of old.sessions s)) ev ∙ ap (λ y. after now s (Ended k how payload) y (flag_of old.sessions s)) ra ∙ finished_after now k how payload s _)

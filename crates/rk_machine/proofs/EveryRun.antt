@@ -1,0 +1,2 @@
+-- All laws together.
+pub mod KeepsLaws

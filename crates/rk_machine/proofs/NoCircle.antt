@@ -1,0 +1,3 @@
+-- No circle of waits, and no deep chain of starts.
+pub mod NeverCircle
+pub mod NeverDeep

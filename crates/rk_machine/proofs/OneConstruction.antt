@@ -1,0 +1,2 @@
+-- One construction: each happens once, in order.
+pub mod EachOnce

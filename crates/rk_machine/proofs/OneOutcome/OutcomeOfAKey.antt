@@ -1,0 +1,146 @@
+-- The outcome of one key, and what a step makes of it.
+use Rattle.std.proofs.Common.{◌≡◌, ℕ, Bool, true, false, List, ◌∷◌, refl, sym, ap, ◌∙◌, subst, inl, inr}
+use Rattle.std.specs.Prelude.{Option, Some, None, is_some, option_map, option_and_then}
+use Rattle.std.specs.Option.{option_map_or}
+use Rattle.std.specs.FinMap as map
+use Rattle.rk_auth.specs.declared.session.Outcome.{Outcome}
+use Rattle.rk_auth.specs.declared.construction.Construction.{Construction}
+use Rattle.rk_machine.specs.declared.event.Answer.{Answer}
+use Rattle.rk_machine.specs.World.{World}
+use Rattle.rk_machine.specs.Steps.{Past, told_as}
+use Rattle.rk_machine.specs.Laws.{never, is_completion, is_ending, wait_collected, EachToldOf, IsOutcome}
+use Rattle.rk_machine.proofs.Effects.DrawnSerials.{is_drawn}
+use Rattle.rk_machine.proofs.Effects.SerialsStayDrawn.{KeepsDrawn}
+use Rattle.rk_machine.proofs.Effects.StagesAfter.{Shape, shape, shape_of, as_spent}
+use Rattle.rk_machine.proofs.Effects.OfOneConstruction.{Tests, tests, Turn, quiet, starts, launched_now, negated_now, failed_now, ended_now, completed_now, assumed_now, IsOwnAsk, Good}
+use Rattle.rk_machine.proofs.OneConstruction.EachOnce.{Tied, clash, some_shape, never_more}
+use Rattle.rk_machine.proofs.Effects.AuthoritiesAfter.{is_unspent}
+use Rattle.rk_machine.proofs.Effects.BuildingAfter.{is_built}
+use Rattle.rk_machine.proofs.OneOutcome.WhoIsTold.{Still, stays, is_new, IsOpen}
+use Rattle.rk_machine.proofs.Found.Options.{none_some, some_none, some_same}
+
+-- ---- one key and its verdict, which is its outcome or none yet
+
+-- what is so of one key
+pub record Judged (past : List Past) (w : World) (k : ℕ) (verdict : Option Outcome) : Type 0 where
+  pub builds : is_unspent w k ≡ true → is_built w k ≡ true
+  pub settled : (o : Outcome) → verdict ≡ Some o → (is_drawn w k ≡ true) × (is_built w k ≡ false) × IsOutcome k (told_as o)
+  pub spent : (x : Shape) → shape_of w.sessions k ≡ Some x → x.unspent ≡ false → verdict ≡ None → ⊥
+  pub silent : verdict ≡ None → never (is_completion k) past × never (is_ending k) past
+  pub told : (a : Answer) → ((o : Outcome) → verdict ≡ Some o → a ≡ told_as o) → EachToldOf k a past
+
+pub unspent_is : (w : World) (k : ℕ) → is_unspent w k ≡ option_map_or (λ (x : Shape). x.unspent) (shape_of w.sessions k) false
+unspent_is w k = found (map.get w.sessions.constructions k)
+  where
+    found : (o : Option Construction) → is_some (option_and_then (λ c. c.authority) o) ≡ option_map_or (λ (x : Shape). x.unspent) (option_map shape o) false
+    found None = refl
+    found (Some c) = refl
+
+-- ---- one step of one key
+
+-- the key keeps its verdict, or gets one
+pub data Ruled (old new : World) (k : ℕ) (before after : Option Outcome) : Type 0 where
+  as_it_was : after ≡ before → Still old new k → Ruled old new k before after
+  it_is_told : (o : Outcome) → before ≡ None → after ≡ Some o → IsOutcome k (told_as o) → is_unspent old k ≡ true → is_unspent new k ≡ false → is_built new k ≡ false → Ruled old new k before after
+
+module _ (old : World) (s : Past) (new : World) (before : List Past) (k : ℕ) where
+  abbrev pub TurnOf : Type 0
+  TurnOf = Turn k (is_drawn old k) (is_drawn new k) (IsOwnAsk k s.event) (tests k s.event s.answer) (shape_of old.sessions k) (shape_of new.sessions k)
+
+  unspent_old : (x : Shape) → shape_of old.sessions k ≡ Some x → is_unspent old k ≡ x.unspent
+  unspent_old x is = unspent_is old k ∙ ap (λ (o : Option Shape). option_map_or (λ (x : Shape). x.unspent) o false) is
+
+  -- an authority is spent only by a step that tells the outcome
+  not_lost : (x : Shape) (o : Option Shape) → Tied k before (shape_of old.sessions k) (is_drawn old k) → Still old new k → shape_of old.sessions k ≡ Some x → x.unspent ≡ true → shape_of new.sessions k ≡ o
+      → option_map_or (λ (x : Shape). x.unspent) o false ≡ false → ⊥
+  not_lost x o tie (stays b u) is free at gone =
+      clash (is_unspent new k) (unspent_is new k ∙ ap (λ (o : Option Shape). option_map_or (λ (x : Shape). x.unspent) o false) at ∙ gone) (u ∙ unspent_old x is ∙ free)
+  not_lost x o tie (is_new fresh b) is free at gone = none_some (sym (tie.idle fresh) ∙ is)
+
+  module _ (tie : Tied k before (shape_of old.sessions k) (is_drawn old k)) (good : Good k (shape_of old.sessions k)) (verdict : Option Outcome)
+      (spent : (x : Shape) → shape_of old.sessions k ≡ Some x → x.unspent ≡ false → verdict ≡ None → ⊥) where
+    -- who has no outcome was not ended
+    not_ended : (x : Shape) (b : Bool) → Still old new k → verdict ≡ None → shape_of old.sessions k ≡ Some x → shape_of new.sessions k ≡ None → x.unspent ≡ b → ⊥
+    not_ended x true same none is at free = not_lost x None tie same is free at refl
+    not_ended x false same none is at free = spent x is free none
+
+    quiet_tests : TurnOf → Still old new k → verdict ≡ None → (is_completion k s ≡ false) × (is_ending k s ≡ false)
+    quiet_tests (quiet t n) same none = (ap (λ (x : Tests). x.completion) t, ap (λ (x : Tests). x.ending) t)
+    quiet_tests (starts fresh after t n) same none = (ap (λ (x : Tests). x.completion) t, ap (λ (x : Tests). x.ending) t)
+    quiet_tests (launched_now x st t is waits runs firsts n) same none = (ap (λ (x : Tests). x.completion) t, ap (λ (x : Tests). x.ending) t)
+    quiet_tests (negated_now x t is runs firsts free n) same none = (ap (λ (x : Tests). x.completion) t, ap (λ (x : Tests). x.ending) t)
+    quiet_tests (failed_now x t is waits n) same none = absurd (not_ended x x.unspent same none is n refl)
+    quiet_tests (ended_now x t is runs n) same none = absurd (not_ended x x.unspent same none is n refl)
+    quiet_tests (completed_now x asks t is own n) same none = absurd (not_lost x (Some (as_spent x)) tie same is (good x k is own).1 n refl)
+    quiet_tests (assumed_now x key m t named is runs own n) same none = (ap (λ (x : Tests). x.completion) t, ap (λ (x : Tests). x.ending) t)
+
+    still_spent : TurnOf → Still old new k → (y : Shape) → shape_of new.sessions k ≡ Some y → y.unspent ≡ false → verdict ≡ None → ⊥
+    still_spent (quiet t n) same y at free none = spent y (sym n ∙ at) free none
+    still_spent (starts fresh after t n) same y at free none = clash y.unspent free (ap (λ (z : Shape). z.unspent) (some_shape (sym at ∙ n)))
+    still_spent (launched_now x st t is waits runs firsts n) same y at free none = spent x is (ap (λ (z : Shape). z.unspent) (some_shape (sym n ∙ at)) ∙ free) none
+    still_spent (negated_now x t is runs firsts unspent n) same y at free none = spent x is (ap (λ (z : Shape). z.unspent) (some_shape (sym n ∙ at)) ∙ free) none
+    still_spent (failed_now x t is waits n) same y at free none = none_some (sym n ∙ at)
+    still_spent (ended_now x t is runs n) same y at free none = none_some (sym n ∙ at)
+    still_spent (completed_now x asks t is own n) same y at free none = not_lost x (Some (as_spent x)) tie same is (good x k is own).1 n refl
+    still_spent (assumed_now x key m t named is runs own n) same y at free none = spent x is (ap (λ (z : Shape). z.unspent) (some_shape (sym n ∙ at)) ∙ free) none
+
+-- ---- what is so of a key after a step
+
+undrawn : (w : World) (past : List Past) (k : ℕ) → Tied k past (shape_of w.sessions k) (is_drawn w k) → is_unspent w k ≡ true → is_drawn w k ≡ true
+undrawn w past k tie free = by_drawn (is_drawn w k) refl
+  where
+    by_drawn : (b : Bool) → is_drawn w k ≡ b → b ≡ true
+    by_drawn true e = refl
+    by_drawn false e = absurd (clash (is_unspent w k) (unspent_is w k ∙ ap (λ (o : Option Shape). option_map_or (λ (x : Shape). x.unspent) o false) (tie.idle e)) free)
+
+-- an open key has no outcome
+pub no_verdict : (w : World) (past : List Past) (k : ℕ) (verdict : Option Outcome) → Judged past w k verdict → IsOpen w k → verdict ≡ None
+no_verdict w past k verdict j open_key = by_verdict verdict refl
+  where
+    settled_open : (o : Outcome) → verdict ≡ Some o → IsOpen w k → ⊥
+    settled_open o is (inl fresh) = clash _ fresh (j.settled o is).0
+    settled_open o is (inr built) = clash _ (j.settled o is).1 built
+
+    by_verdict : (v : Option Outcome) → verdict ≡ v → v ≡ None
+    by_verdict None is = refl
+    by_verdict (Some o) is = absurd (settled_open o is open_key)
+
+stays_drawn : (old new : World) (k : ℕ) → KeepsDrawn old new → is_drawn old k ≡ true → is_drawn new k ≡ true
+stays_drawn old new k keeps is = by_drawn (is_drawn new k) refl
+  where
+    by_drawn : (b : Bool) → is_drawn new k ≡ b → b ≡ true
+    by_drawn true e = refl
+    by_drawn false e = absurd (clash _ (keeps k e) is)
+
+module _ (old : World) (s : Past) (new : World) (before : List Past) (k : ℕ) (tie : Tied k before (shape_of old.sessions k) (is_drawn old k)) (good : Good k (shape_of old.sessions k))
+    (turn : TurnOf old s new before k) (keeps : KeepsDrawn old new) (v : Option Outcome) (j : Judged before old k v)
+    (collected : wait_collected s before ≡ Some k → (o : Outcome) × (v ≡ Some o) × (s.answer ≡ told_as o)) where
+  more_told : (u : Option Outcome) → ((o : Outcome) → v ≡ Some o → u ≡ Some o) → (a : Answer) → ((o : Outcome) → u ≡ Some o → a ≡ told_as o) → EachToldOf k a (s ∷ before)
+  more_told u kept a h = (λ is. let c = collected is in c.2 ∙ sym (h c.0 (kept c.0 c.1)), j.told a (λ o is. h o (kept o is)))
+
+  built_still : Still old new k → is_drawn old k ≡ true → is_built old k ≡ false → is_built new k ≡ false
+  built_still (stays b u) drawn is = b ∙ is
+  built_still (is_new fresh b) drawn is = absurd (clash _ fresh drawn)
+
+  builds_still : Still old new k → is_unspent new k ≡ true → is_built new k ≡ true
+  builds_still (stays b u) free = b ∙ j.builds (sym u ∙ free)
+  builds_still (is_new fresh b) free = b free
+
+  pub judged_on : (u : Option Outcome) → Ruled old new k v u → Judged (s ∷ before) new k u
+  judged_on u (as_it_was same is) = record {
+    builds = builds_still is;
+    settled = λ o at. let t = j.settled o (sym same ∙ at) in (stays_drawn old new k keeps t.0, built_still is t.0 t.1, t.2);
+    spent = λ x at free none. still_spent old s new before k tie good v j.spent turn is x at free (sym same ∙ none);
+    silent = λ none.
+        let quiet_now = quiet_tests old s new before k tie good v j.spent turn is (sym same ∙ none) in
+        let rest = j.silent (sym same ∙ none) in
+        (never_more (is_completion k) s before quiet_now.0 rest.0, never_more (is_ending k) s before quiet_now.1 rest.1);
+    told = more_told u (λ o at. same ∙ at);
+  }
+  judged_on u (it_is_told o open_before is outcome free gone built) = record {
+    builds = λ f. absurd (clash _ gone f);
+    settled = λ p at. (stays_drawn old new k keeps (undrawn old before k tie free), built, subst (λ (x : Outcome). IsOutcome k (told_as x)) (some_same (sym is ∙ at)) outcome);
+    spent = λ x at f none. some_none (sym is ∙ none);
+    silent = λ none. absurd (some_none (sym is ∙ none));
+    told = more_told u (λ p at. absurd (none_some (sym open_before ∙ at)));
+  }

@@ -1,0 +1,5 @@
+-- What is owed, and what each step changes of it.
+pub mod WeightsOfMaps
+pub mod OwedAfter
+pub mod OwedByStep
+pub mod EachRecorded

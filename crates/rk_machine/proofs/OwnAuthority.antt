@@ -1,0 +1,2 @@
+-- Own authority: a completion is its own handler's.
+pub mod EachOwn
