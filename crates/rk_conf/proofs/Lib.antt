@@ -1,5 +1,3 @@
-pub mod TextRules
-pub mod Cuts
 pub mod Macros
 pub mod Readings
 pub mod Choices

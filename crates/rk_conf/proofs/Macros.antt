@@ -4,14 +4,14 @@ use Rattle.std.specs.Prelude.{nat_eq, is_none, if◌then◌else◌}
 use Rattle.std.proofs.lemmas.List.{drop_all}
 use Rattle.std.proofs.lemmas.List.Sums.{position_or_len_is}
 use Rattle.std.proofs.lemmas.Bool.Decides.{nat_tests}
-use Rattle.rk_names.specs.Rules.{is_text, type_fault, description_fault}
+use Rattle.rk_text.specs.Text.{is_text, begins_with}
+use Rattle.rk_names.specs.Rules.{type_fault, description_fault}
 use Rattle.rk_conf.specs.declared.argument.Wanted.{Wanted}
 use Rattle.rk_conf.specs.Macros.{wanted_of, argument_of, macro_of}
 use Rattle.rk_conf.specs.declared.argument.Argument.TheVariants as argument
 use Rattle.std.proofs.lemmas.Bool.{eqb-true}
 use Rattle.std.proofs.lemmas.Str.{IsCharBoundary-after_ascii}
-use Rattle.rk_conf.proofs.TextRules.{is_text-parts}
-use Rattle.rk_conf.specs.Text.{begins_with}
+use Rattle.rk_text.proofs.TextRules.{is_text-parts}
 
 -- the wanted key of a type and a description
 made : List ℕ → List ℕ → Option Wanted

@@ -1,11 +1,11 @@
 -- What a line says, and why it is refused.
 use Rattle.std.specs.Prelude.{ℕ, List, ◌∷◌, length, drop, not, Option, Some, None, is_none, Bool, nat_lt, if◌then◌else◌}
 use Rattle.std.specs.List.{filter_map, list_any}
-use Rattle.rk_names.specs.Rules.{is_text}
+use Rattle.rk_text.specs.Text.{is_text, begins_with}
 use Rattle.rk_conf.specs.declared.fault.ConfKind.{ConfKind}
 use Rattle.rk_conf.specs.declared.fault.ConfKind.TheVariants.{TooLong, BadByte, TooFewFields, ProgNotAbsolute, BadMacro}
 use Rattle.rk_conf.specs.declared.line.Line.{Line}
-use Rattle.rk_conf.specs.Text.{begins_with, fields_of}
+use Rattle.rk_conf.specs.Text.{fields_of}
 use Rattle.rk_conf.specs.Macros.{argument_of}
 
 -- the program without its leading `|`

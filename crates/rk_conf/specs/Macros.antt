@@ -5,7 +5,7 @@ use Rattle.rk_names.specs.Rules.{type_fault, description_fault}
 use Rattle.rk_conf.specs.declared.argument.Wanted.{Wanted}
 use Rattle.rk_conf.specs.declared.argument.Argument.{Argument}
 use Rattle.rk_conf.specs.declared.argument.Argument.TheVariants as argument
-use Rattle.rk_conf.specs.Text.{begins_with}
+use Rattle.rk_text.specs.Text.{begins_with}
 
 -- the macro of one letter, which stands behind a `%`
 abbrev pub letter_macro : ℕ → Option Argument

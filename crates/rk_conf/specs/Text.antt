@@ -1,28 +1,13 @@
--- How a text is cut into lines, and a line into fields.
-use Rattle.std.specs.Prelude.{ℕ, List, [], ◌∷◌, Bool, true, false, not, ◌||◌, ◌==◌, filter}
-use Rattle.std.specs.List.{slice_split, enumerate_from}
+-- Which lines of a configuration say something, and the fields of a line.
+use Rattle.std.specs.Prelude.{ℕ, List, [], ◌∷◌, Bool, true, not, filter}
+use Rattle.std.specs.List.{enumerate_from}
+use Rattle.rk_text.specs.declared.space.Space.TheVariants as space
+use Rattle.rk_text.specs.Text as text
+use Rattle.rk_text.specs.Text.{begins_with, lines_of}
 
--- space, tab, vertical tab, form feed or carriage return
-abbrev pub is_space : ℕ → Bool
-is_space b = b == 32 || b == 9 || b == 11 || b == 12 || b == 13
-
--- the first byte is this one
-abbrev pub begins_with : ℕ → List ℕ → Bool
-begins_with b [] = false
-begins_with b (x ∷ xs) = x == b
-
--- what stands between the newlines
-abbrev pub lines_of : List ℕ → List (List ℕ)
-lines_of text = slice_split (λ b. b == 10) text
-
--- there is a first byte
-abbrev pub has_bytes : List ℕ → Bool
-has_bytes [] = false
-has_bytes (x ∷ xs) = true
-
--- what stands between the white space
-unfoldable pub fields_of : List ℕ → List (List ℕ)
-fields_of line = filter has_bytes (slice_split is_space line)
+-- the fields of a line stand between any white space
+abbrev pub fields_of : List ℕ → List (List ℕ)
+fields_of line = text.fields_of space.Any line
 
 -- a blank line, or one whose first byte behind white space is `#`
 abbrev pub is_comment : List (List ℕ) → Bool

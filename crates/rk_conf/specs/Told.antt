@@ -1,6 +1,6 @@
 -- What a borrowed argument stands for.
 use Rattle.std.specs.Prelude.{◌≡◌, true}
-use Rattle.rk_names.specs.Rules.{is_text}
+use Rattle.rk_text.specs.Text.{is_text}
 use Rattle.rk_conf.specs.declared.argument.Argument.{Argument}
 use Rattle.rk_conf.specs.declared.argument.Argument.TheVariants as argument
 use Rattle.rk_conf.specs.declared.told.Told.{Told}

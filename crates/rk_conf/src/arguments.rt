@@ -1,13 +1,13 @@
 //! The arguments of a line.
 ghost use Rattle.std.specs.Prelude.{◌≡◌, true, IfOk};
 ghost use Rattle.std.specs.List.{filter_map, list_any};
-ghost use Rattle.rk_names.specs.Rules.{is_text};
+ghost use Rattle.rk_text.specs.Text.{is_text};
 ghost use Rattle.rk_conf.specs.Text.{fields_of};
 ghost use Rattle.rk_conf.specs.Macros.{argument_of};
 
 use crate::argument::Argument;
-use crate::text::cut_field;
 use crate::told::Told;
+use rk_text::{Space, cut_field};
 use std::alloc::{AllocError, Global};
 use std::marker::Model;
 
@@ -41,7 +41,7 @@ impl Arguments {
     {
         let mut items = Vec::new(alloc);
         let mut rest = text;
-        while let Some((field, after)) = cut_field(rest) {
+        while let Some((field, after)) = cut_field(rest, Space::Any) {
             if let Some(told) = Told::read(field) {
                 items.push(told.copied(alloc)?)?;
             }

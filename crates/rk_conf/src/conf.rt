@@ -10,8 +10,8 @@ ghost use Rattle.rk_conf.specs.Choice.{IsChosen, PicksOne};
 use crate::fault::{ConfFault, ConfKind};
 use crate::line::Line;
 use crate::parts::Parts;
-use crate::text::{begins_with, cut_field, cut_line};
 use rk_names::{Callout, Description, TypeName};
+use rk_text::{Space, begins_with, cut_field, cut_line};
 use std::alloc::Global;
 use std::marker::Model;
 
@@ -113,7 +113,7 @@ fn no_memory(line: usize) -> ConfFault
 fn is_comment(line: &[u8]) -> bool
     ensures { result ≡ is_comment (fields_of line.now) }
 {
-    match cut_field(line) {
+    match cut_field(line, Space::Any) {
         Some((field, _)) => begins_with(b'#', field),
         None => true,
     }

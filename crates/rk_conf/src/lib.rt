@@ -19,7 +19,7 @@
 //!
 //! # How it is built
 //!
-//! `text` cuts a text into lines and a line into fields. `told` reads one argument and `parts` one line on the borrowed
+//! `rk_text` cuts a text into lines and a line into fields. `told` reads one argument and `parts` one line on the borrowed
 //! bytes; both take no memory. `argument`, `arguments`, `line` and `word` are the values that are kept, and `conf` reads
 //! the text twice: once for its first fault, and then, if it has none, for its lines.
 #![tactic(auto)]
@@ -31,7 +31,6 @@ mod fault;
 mod line;
 mod parts;
 mod program;
-mod text;
 mod told;
 mod word;
 

@@ -1,12 +1,11 @@
 //! A line, read and not copied yet.
 ghost use Rattle.std.specs.Prelude.{◌≡◌, ℕ, true, Some, None, IfOk, IfErr};
-ghost use Rattle.rk_names.specs.Rules.{is_text};
+ghost use Rattle.rk_text.specs.Text.{is_text};
 ghost use Rattle.rk_conf.specs.Text.{fields_of};
 
 use crate::fault::ConfKind;
 use crate::program::{has_bad_macro, path_of};
-use crate::text::{begins_with, cut_field};
-use crate::word::is_text;
+use rk_text::{Space, begins_with, cut_field, is_text};
 
 /// The longest line, its newline not counted.
 pub const MAX_LINE: usize = 8_192;
@@ -59,11 +58,11 @@ impl<'a> Parts<'a> {
         ensures parts { IfOk result (λ p. (n : ℕ) → line_of n (fields_of line.now) ≡ Some (line_told n p)) }
         ensures err { IfErr result (λ k. fields_fault (fields_of line.now) ≡ Some k) }
     {
-        let (op, rest) = cut_field(line).ok_or(ConfKind::TooFewFields)?;
-        let (typ, rest) = cut_field(rest).ok_or(ConfKind::TooFewFields)?;
-        let (desc, rest) = cut_field(rest).ok_or(ConfKind::TooFewFields)?;
-        let (callout, rest) = cut_field(rest).ok_or(ConfKind::TooFewFields)?;
-        let (prog, args) = cut_field(rest).ok_or(ConfKind::TooFewFields)?;
+        let (op, rest) = cut_field(line, Space::Any).ok_or(ConfKind::TooFewFields)?;
+        let (typ, rest) = cut_field(rest, Space::Any).ok_or(ConfKind::TooFewFields)?;
+        let (desc, rest) = cut_field(rest, Space::Any).ok_or(ConfKind::TooFewFields)?;
+        let (callout, rest) = cut_field(rest, Space::Any).ok_or(ConfKind::TooFewFields)?;
+        let (prog, args) = cut_field(rest, Space::Any).ok_or(ConfKind::TooFewFields)?;
         let (piped, prog) = path_of(prog);
         if !begins_with(b'/', prog) {
             return Err(ConfKind::ProgNotAbsolute);

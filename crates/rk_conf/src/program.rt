@@ -1,12 +1,12 @@
 //! The program of a line and what stands behind it.
 ghost use Rattle.std.specs.Prelude.{◌≡◌, true};
 ghost use Rattle.std.specs.List.{list_any};
-ghost use Rattle.rk_names.specs.Rules.{is_text};
-ghost use Rattle.rk_conf.specs.Text.{begins_with, fields_of};
+ghost use Rattle.rk_text.specs.Text.{is_text, begins_with};
+ghost use Rattle.rk_conf.specs.Text.{fields_of};
 ghost use Rattle.rk_conf.specs.Lines.{path_of, is_bad_macro};
 
-use crate::text::{begins_with, cut_field};
 use crate::told::Told;
+use rk_text::{Space, begins_with, cut_field};
 
 /// Whether the program has a leading `|`, and the program without it.
 pub fn path_of(prog: &[u8]) -> (bool, &[u8])
@@ -26,7 +26,7 @@ pub fn has_bad_macro(args: &[u8]) -> bool
     ensures { result ≡ list_any is_bad_macro (fields_of args.now) }
 {
     let mut rest = args;
-    while let Some((field, after)) = cut_field(rest) {
+    while let Some((field, after)) = cut_field(rest, Space::Any) {
         if Told::read(field).is_none() {
             return true;
         }

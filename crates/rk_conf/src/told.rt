@@ -1,13 +1,14 @@
 //! An argument of a line, read and not copied yet.
 ghost use Rattle.std.specs.Prelude.{◌≡◌, ◌≢◌, ◌<◌, ◌≤◌, ℕ, ◌&&◌, is_none, length, slice_index, true, Some, None, IfOk, IfSome, MatchOption, option_map, option_copied};
-ghost use Rattle.rk_names.specs.Rules.{is_text, type_fault, description_fault};
+ghost use Rattle.rk_text.specs.Text.{is_text};
+ghost use Rattle.rk_names.specs.Rules.{type_fault, description_fault};
 ghost use Rattle.rk_conf.specs.Macros.{argument_of, macro_of, letter_macro, payload_macro, wanted_of, in_braces};
 ghost use Rattle.rk_conf.specs.Told.{argument_told, IsTextTold};
 
 use crate::argument::{Argument, Wanted};
-use crate::text::begins_with;
 use crate::word::Word;
 use rk_names::{Description, TypeName};
+use rk_text::begins_with;
 use std::alloc::{AllocError, Global};
 
 /// An argument that borrows the line that it was read from.

@@ -1,7 +1,8 @@
 //! Words: text without a zero byte.
 ghost use Rattle.std.specs.Prelude.{◌≡◌, ◌↔◌, IfOk, IfSome, IfNone, IsTrue, true, false, if◌then◌else◌, Some, None, length};
-ghost use Rattle.rk_names.specs.Rules.{is_text};
+ghost use Rattle.rk_text.specs.Text.{is_text};
 
+use rk_text::is_text;
 use std::alloc::{AllocError, Global};
 use std::marker::Model;
 
@@ -15,7 +16,7 @@ pub struct Word {
 
 impl Model for Word {
     ghost use Rattle.std.specs.Prelude.{◌≡◌, List, ℕ, true};
-    ghost use Rattle.rk_names.specs.Rules.{is_text};
+    ghost use Rattle.rk_text.specs.Text.{is_text};
 
     ghost Value = { List ℕ };
 
@@ -61,16 +62,5 @@ impl Word {
         ensures text { is_text self.now ≡ true }
     {
         &self.bytes
-    }
-}
-
-/// Whether the bytes are UTF-8 without a zero byte.
-pub fn is_text(bytes: &[u8]) -> bool
-    ensures { result ≡ is_text bytes.now }
-{
-    let has_zero = bytes.contains(&0);
-    match str::from_utf8(bytes) {
-        Ok(_) => !has_zero,
-        Err(_) => false,
     }
 }

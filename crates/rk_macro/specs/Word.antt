@@ -1,7 +1,7 @@
 -- One word of a command.
 use Rattle.std.specs.Prelude.{◌≡◌, ◌+◌, ◌<◌, ◌≤◌, ℕ, List, length, true, false, Option, Some, None, Result, Ok, Err, alloc_error}
 use Rattle.std.specs.declared.alloc.AllocError.{AllocError}
-use Rattle.rk_names.specs.Rules.{is_text}
+use Rattle.rk_text.specs.Text.{is_text}
 use Rattle.rk_macro.specs.declared.fault.ExpandFault.{ExpandFault}
 use Rattle.rk_macro.specs.declared.fault.ExpandFault.TheVariants.{NoKey, NotText, TooLong, NoMemory}
 

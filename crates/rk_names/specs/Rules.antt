@@ -1,14 +1,10 @@
 -- The rules of names and payloads, each as the first fault of the bytes.
-use Rattle.std.specs.Prelude.{◌≡◌, ℕ, List, length, Bool, ◌&&◌, not, Option, Some, None, slice_index, nat_lt, nat_eq, ◌==◌, if◌then◌else◌}
-use Rattle.std.specs.List.{list_any}
-use Rattle.std.specs.Str.{is_utf8}
+use Rattle.std.specs.Prelude.{◌≡◌, ℕ, List, length, Option, Some, None, slice_index, nat_lt, ◌==◌, if◌then◌else◌}
+use Rattle.rk_text.specs.Text.{is_text}
 use Rattle.rk_names.specs.declared.errors.NameFault.{NameFault}
 use Rattle.rk_names.specs.declared.errors.NameFault.TheVariants.{Empty, TooLong, Dot, Byte, NoMemory}
 
--- UTF-8 without a zero byte: what a C string of text can hold
-unfoldable pub is_text : List ℕ → Bool
-is_text bytes = not (list_any (λ b. nat_eq b 0) bytes) && is_utf8 bytes
-
+-- text is UTF-8 without a zero byte
 abbrev pub text_fault : List ℕ → Option NameFault
 text_fault bytes = if is_text bytes then None else Some Byte
 

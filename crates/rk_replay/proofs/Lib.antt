@@ -2,7 +2,6 @@ pub mod Heads
 pub mod Bodies
 pub mod Scripts
 pub mod LinesLeft
-pub mod Cuts
 pub mod Numbers
 pub mod ServedLaws
 pub mod Turns

@@ -2,7 +2,7 @@
 use Rattle.std.proofs.Common.{◌≡◌, ℕ, suc, ◌+◌, ◌<◌, ◌^◌, List, [], ◌∷◌, length, map, Option, Some, None, Result, Ok, Err, ap, arith}
 use Rattle.std.specs.Prelude.{MatchOption, IfSome, OnOk}
 use Rattle.std.specs.Borrow.{Bor}
-use Rattle.rk_conf.specs.Text.{lines_of}
+use Rattle.rk_text.specs.Text.{lines_of}
 use Rattle.rk_replay.specs.Reading.{reading_of}
 use Rattle.rk_replay.specs.Playing.{readings_left, bytes_left}
 

@@ -10,7 +10,7 @@ use Rattle.rk_conf.specs.declared.fault.ConfKind.TheVariants.{NoMemory}
 use Rattle.rk_conf.specs.declared.line.Line.{Line}
 use Rattle.rk_conf.specs.Faults.{IsFaultFor}
 use Rattle.rk_conf.specs.Reading.{faults_of, lines_told}
-use Rattle.rk_conf.specs.Text.{lines_of}
+use Rattle.rk_text.specs.Text.{lines_of}
 use Rattle.rk_machine.specs.Steps.{Beginning}
 use Rattle.rk_replay.specs.declared.playing.Head.{Head}
 use Rattle.rk_replay.specs.declared.reading.Reading.{Reading}

@@ -3,7 +3,7 @@ use Rattle.std.specs.Prelude.{◌≡◌, ℕ, ◌+◌, suc, List, [], ◌∷◌,
 use Rattle.std.specs.Borrow.{Bor}
 use Rattle.std.specs.List.{flat_map, filter_map, list_all}
 use Rattle.rk_conf.specs.declared.line.Line.{Line}
-use Rattle.rk_conf.specs.Text.{lines_of}
+use Rattle.rk_text.specs.Text.{lines_of}
 use Rattle.rk_machine.specs.Steps.{Beginning, Past}
 use Rattle.rk_replay.specs.declared.output.Output.{Output}
 use Rattle.rk_replay.specs.declared.playing.Head.{Head}

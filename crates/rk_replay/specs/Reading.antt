@@ -10,7 +10,7 @@ use Rattle.rk_replay.specs.declared.verb.Verb.{Verb}
 use Rattle.rk_replay.specs.declared.verb.Verb.TheVariants as verb
 use Rattle.rk_replay.specs.declared.reading.Reading.{Reading}
 use Rattle.rk_replay.specs.declared.reading.Reading.TheVariants.{Blank, Conf, Negative, Happens, Wrong}
-use Rattle.rk_conf.specs.Text.{begins_with}
+use Rattle.rk_text.specs.Text.{begins_with}
 use Rattle.rk_replay.specs.Text.{past_space, fields_of}
 use Rattle.rk_replay.specs.Values.{moment_of, seconds_of, client_of, key_of, status_of, bytes_of}
 use Rattle.rk_replay.specs.Verbs.{verb_of}

@@ -5,7 +5,7 @@ use Rattle.rk_machine.specs.Steps.{Beginning}
 use Rattle.rk_replay.specs.declared.happening.Happening.{Happening}
 use Rattle.rk_replay.specs.declared.reading.Reading.{Reading}
 use Rattle.rk_replay.specs.declared.reading.Reading.TheVariants.{Blank, Conf, Negative, Happens, Wrong}
-use Rattle.rk_conf.specs.Text.{lines_of}
+use Rattle.rk_text.specs.Text.{lines_of}
 use Rattle.rk_replay.specs.Reading.{reading_of}
 use Rattle.rk_replay.specs.Writing.{line_text}
 

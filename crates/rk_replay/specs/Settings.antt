@@ -1,6 +1,6 @@
 -- What one line of a script's head sets.
 use Rattle.std.specs.Prelude.{◌≡◌, ℕ, List, ◌++◌, if◌then◌else◌}
-use Rattle.rk_conf.specs.Text.{has_bytes}
+use Rattle.rk_text.specs.Text.{has_bytes}
 use Rattle.rk_replay.specs.declared.reading.Reading.{Reading}
 use Rattle.rk_replay.specs.declared.reading.Reading.TheVariants.{Blank, Conf, Negative, Happens, Wrong}
 use Rattle.rk_replay.specs.declared.settings.Settings.{Settings}

@@ -5,7 +5,7 @@ use Rattle.std.specs.List.{list_all}
 use Rattle.std.specs.Char.{is_ascii_digit}
 use Rattle.std.specs.Str.Parse.{digits_value}
 use Rattle.hex.specs.Hex.{decode_of}
-use Rattle.rk_conf.specs.Text.{has_bytes}
+use Rattle.rk_text.specs.Text.{has_bytes}
 use Rattle.rk_names.specs.Numbers.{serial_of}
 
 -- one decimal digit or more, and no sign

@@ -8,8 +8,8 @@ ghost use Rattle.rk_replay.specs.declared.field.Misread.TheVariants.{NoMemory};
 
 use crate::number::number;
 use crate::octets::Bytes;
-use crate::text::cut_field;
 use hex::FromHexError;
+use rk_text::{Space, cut_field};
 use std::alloc::{AllocError, Global};
 
 /// Why fields say nothing.
@@ -33,14 +33,14 @@ impl From<AllocError> for Misread {
 pub fn word(fields: &[u8]) -> Result<(&[u8], &[u8]), Misread>
     ensures { Gives (λ x. (x.0.now, fields_of x.1.now)) result (first_as Some (fields_of fields.now)) }
 {
-    cut_field(fields).ok_or(Misread::NotALine)
+    cut_field(fields, Space::Blank).ok_or(Misread::NotALine)
 }
 
 /// No field is left.
 pub fn end(fields: &[u8]) -> Result<(), Misread>
     ensures { Gives (λ x. x) result (alone tt (fields_of fields.now)) }
 {
-    match cut_field(fields) {
+    match cut_field(fields, Space::Blank) {
         None => Ok(()),
         Some(_) => Err(Misread::NotALine),
     }

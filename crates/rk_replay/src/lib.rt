@@ -26,7 +26,7 @@
 //!
 //! # How it is built
 //!
-//! `script` reads and writes the streams, `settings` holds what the head of a script sets, and `playing` goes through its lines. `text`,
+//! `script` reads and writes the streams, `settings` holds what the head of a script sets, and `playing` goes through its lines.
 //! `number`, `field` and `verb` read a line from its front, each in time in proportion to what it reads. `stream` cuts
 //! frames and reads asks, `seat` and `seats` say who is there, `command` makes the words of a command, `desk` moves sessions, and
 //! `acting` takes the own step of a happening. Each move makes the rest lighter: fewer unused bytes, a stream that is shut, or a
@@ -51,7 +51,6 @@ mod seat;
 mod seats;
 mod settings;
 mod stream;
-mod text;
 mod transcript;
 mod verb;
 

@@ -13,10 +13,10 @@ use crate::output::Output;
 use crate::reading::Reading;
 use crate::replay::Replay;
 use crate::settings::Settings;
-use crate::text::cut_line;
 use crate::transcript::{LineFault, Transcript};
 use rk_conf::{Conf, ConfFault, ConfKind};
 use rk_names::Moment;
+use rk_text::cut_line;
 use std::alloc::{AllocError, Global};
 
 /// The head of a script, and where it ends.

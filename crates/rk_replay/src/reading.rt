@@ -8,9 +8,9 @@ ghost use Rattle.rk_replay.specs.Fields.{Gives};
 use crate::field::{self, Misread};
 use crate::happening::Happening;
 use crate::octets::Bytes;
-use crate::text::{cut_field, skip_space};
 use crate::verb;
 use rk_names::Moment;
+use rk_text::{Space, cut_field, skip_space};
 use std::alloc::{AllocError, Global};
 
 /// The longest line, its newline not counted.
@@ -66,14 +66,14 @@ impl Reading {
 fn conf_text(line: &[u8]) -> Option<&[u8]>
     ensures { option_copied result ≡ conf_text line.now }
 {
-    skip_space(line).strip_prefix(b"conf ")
+    skip_space(line, Space::Blank).strip_prefix(b"conf ")
 }
 
 /// What a line says that is neither too long, nor a comment, nor one of the configuration.
 fn read_fields(alloc: Global, line: &[u8]) -> Result<Reading, Misread>
     ensures { Gives (λ r. r) result (told_by (fields_of line.now)) }
 {
-    match cut_field(line) {
+    match cut_field(line, Space::Blank) {
         None => Ok(Reading::Blank),
         Some((word, rest)) => {
             if word == b"negative".as_slice() {

@@ -1,5 +1,5 @@
 use Rattle.std.proofs.Common.{◌≡◌, ◌∙◌, true, sym, subst, List, ℕ, arith}
-use Rattle.rk_names.specs.Rules.{is_text}
+use Rattle.rk_text.specs.Text.{is_text}
 use Rattle.rk_macro.proofs.Texts.{decimal_text}
 use Rattle.rk_macro.proofs.word.number.Goals as goal
 

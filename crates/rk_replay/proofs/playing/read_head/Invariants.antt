@@ -1,5 +1,5 @@
 use Rattle.std.proofs.Common.{◌+◌, ◌<◌, ◌^◌, map}
-use Rattle.rk_conf.specs.Text.{lines_of}
+use Rattle.rk_text.specs.Text.{lines_of}
 use Rattle.rk_replay.specs.Reading.{reading_of}
 use Rattle.rk_replay.specs.Playing.{readings_left, bytes_left}
 use Rattle.rk_replay.proofs.Scripts.{Heard}

@@ -1,6 +1,6 @@
 use Rattle.std.proofs.Common.{◌≡◌, ◌++◌, true, length}
 use Rattle.std.specs.List.{filter_map}
-use Rattle.rk_names.specs.Rules.{is_text}
+use Rattle.rk_text.specs.Text.{is_text}
 use Rattle.rk_conf.specs.Text.{fields_of}
 use Rattle.rk_conf.specs.Macros.{argument_of}
 use Rattle.rk_conf.proofs.arguments.Arguments.read.Given as goal

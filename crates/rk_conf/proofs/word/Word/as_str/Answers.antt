@@ -1,6 +1,6 @@
 use Rattle.std.proofs.Common.{◌≡◌, List, ℕ, true, sym, subst}
-use Rattle.rk_names.specs.Rules.{is_text}
-use Rattle.rk_conf.proofs.TextRules.{is_text-IsUtf8}
+use Rattle.rk_text.specs.Text.{is_text}
+use Rattle.rk_text.proofs.TextRules.{is_text-IsUtf8}
 use Rattle.rk_conf.proofs.word.Word.as_str.Goals as goal
 
 pub unreachable-requires : goal.unreachable-requires

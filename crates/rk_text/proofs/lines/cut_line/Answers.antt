@@ -1,6 +1,6 @@
 use Rattle.std.proofs.Common.{◌+◌, arith}
-use Rattle.rk_conf.proofs.Cuts.{last_line, first_line, from_place}
-use Rattle.rk_conf.proofs.text.cut_line.Goals as goal
+use Rattle.rk_text.proofs.Cuts.{last_line, first_line, from_place}
+use Rattle.rk_text.proofs.lines.cut_line.Goals as goal
 
 pub returns-then-end-text-clause-cut : goal.returns-then-end-text-clause-cut
 returns-then-end-text-clause-cut c = last_line c.args.text.now c.line_len-end.result c.if-end-text.true c.line_len-end.ensures.before

@@ -1,7 +1,7 @@
 use Rattle.std.proofs.Common.{ap, ◌∙◌}
 use Rattle.std.specs.Prelude.{not}
-use Rattle.rk_conf.proofs.TextRules.{is_text-utf8, is_text-not}
-use Rattle.rk_conf.proofs.word.is_text.Goals as goal
+use Rattle.rk_text.proofs.TextRules.{is_text-utf8, is_text-not}
+use Rattle.rk_text.proofs.text.is_text.Goals as goal
 
 pub returns-in-Ok : goal.returns-in-Ok
 returns-in-Ok c = ap not c.contains-has_zero.ensures.value ∙ is_text-utf8 _ c.in-Ok.ensures.cases.1

@@ -1,1 +1,2 @@
 pub mod TextRules
+pub mod Cuts
