@@ -3,13 +3,12 @@ use Rattle.std.proofs.Common.{◌≡◌, ◌≢◌, ℕ, ◌+◌, ◌<◌, ◌�
 use Rattle.std.specs.Prelude.{nat_eq, is_none, if◌then◌else◌}
 use Rattle.std.proofs.lemmas.List.{drop_all}
 use Rattle.std.proofs.lemmas.List.Sums.{position_or_len_is}
-use Rattle.std.proofs.lemmas.Bool.Decides.{nat_tests}
 use Rattle.rk_text.specs.Text.{is_text, begins_with}
 use Rattle.rk_names.specs.Rules.{type_fault, description_fault}
 use Rattle.rk_conf.specs.declared.argument.Wanted.{Wanted}
 use Rattle.rk_conf.specs.Macros.{wanted_of, argument_of, macro_of}
 use Rattle.rk_conf.specs.declared.argument.Argument.TheVariants as argument
-use Rattle.std.proofs.lemmas.Bool.{eqb-true}
+use Rattle.std.proofs.lemmas.Bool.{eqb-true, ne_eqb}
 use Rattle.std.proofs.lemmas.Str.{IsCharBoundary-after_ascii}
 use Rattle.rk_text.proofs.TextRules.{is_text-parts}
 
@@ -17,13 +16,10 @@ use Rattle.rk_text.proofs.TextRules.{is_text-parts}
 made : List ℕ → List ℕ → Option Wanted
 made typ desc = if is_none (type_fault typ) && is_none (description_fault desc) then Some (record { typ = typ; desc = desc }) else None
 
-differs : (a b : ℕ) → a ≢ b → nat_eq a b ≡ false
-differs a b n = grind (arith, nat_tests)
-
 cut_is : (name : List ℕ) (n : ℕ) → n ≤ length name → ((k : ℕ) → k < n → get_or name k 0 ≢ 58) → (n < length name → get_or name n 0 ≡ 58) → wanted_of name ≡ made (take n name) (drop (n + 1) name)
 unfolding made
 cut_is name n le before at =
-    let e = position_or_len_is (λ b. nat_eq b 58) name n 0 le (λ k lt. differs (get_or name k 0) 58 (before k lt)) (λ lt. eq-eqb (get_or name n 0) 58 (at lt)) in
+    let e = position_or_len_is (λ b. nat_eq b 58) name n 0 le (λ k lt. ne_eqb (get_or name k 0) 58 (before k lt)) (λ lt. eq-eqb (get_or name n 0) 58 (at lt)) in
     let P : ℕ → Type 0 = λ i. wanted_of name ≡ made (take i name) (drop (i + 1) name) in
     subst P e refl
 

@@ -1,27 +1,17 @@
 -- What the length at the front says of a frame there.
-use Rattle.std.proofs.Common.{◌≡◌, ℕ, ◌+◌, ◌-◌, ◌<◌, ◌≤◌, ◌^◌, List, ◌++◌, length, get_or, take, drop, refl, sym, ap, subst, ◌∙◌, append_assoc, arith}
+use Rattle.std.proofs.Common.{◌≡◌, ℕ, ◌+◌, ◌-◌, ◌<◌, ◌≤◌, ◌^◌, List, ◌++◌, length, take, drop, refl, sym, ap, subst, ◌∙◌, append_assoc, arith}
 use Rattle.std.specs.Int.{w32, to_be_bytes, from_be_bytes}
 use Rattle.std.proofs.lemmas.Bool.{cases_lt}
 use Rattle.std.proofs.lemmas.Bool.Decides.{nat_tests}
-use Rattle.std.proofs.lemmas.List.{take_at, drop_at, take-append-le, take-append-drop, drop-drop, length-append, length-take, length-drop, get_or-take, get_or-drop, get_or_past}
+use Rattle.std.proofs.lemmas.List.{take_at, drop_at, take-append-le, take-append-drop, drop-drop, length-append, length-take}
 use Rattle.std.proofs.lemmas.Nat.{be_bytes_4, from_be_bytes-to_be_bytes_4}
 use Rattle.std.proofs.Common.{inl, inr, Some, None}
-use Rattle.std.proofs.Math.Seq.{take-length}
+use Rattle.rk_lemmas.proofs.Lists.{IsBytes, IsBytes-take}
 use Rattle.rk_frame.specs.declared.fault.FrameFault.{FrameFault}
 use Rattle.rk_frame.specs.Framing.{IsBody, frame, HasNoFrame, fault_of}
 
-abbrev pub IsBytes : List ℕ → Type 0
-IsBytes bytes = (i : ℕ) → get_or bytes i 0 < 256
-
 abbrev pub front_len : List ℕ → ℕ
 front_len bytes = from_be_bytes w32 (take 4 bytes)
-
-pub IsBytes-take : (n : ℕ) (bytes : List ℕ) → IsBytes bytes → IsBytes (take n bytes)
-IsBytes-take n bytes h i =
-    elim (cases_lt i n) [
-      | inl lt ↦ rw (get_or-take n bytes i 0 lt) (h i)
-      | inr le ↦ rw (get_or_past (take n bytes) i 0 (omega (arith, length-take n bytes))) (omega arith)
-    ]
 
 header_len : (n : ℕ) → length (to_be_bytes w32 n) ≡ 4
 header_len n = refl
@@ -66,10 +56,6 @@ is_frame bytes n fits e long enough =
     let parts : to_be_bytes w32 n ++ (take n (drop 4 bytes) ++ drop (4 + n) bytes) ≡ bytes = ap (λ (h : List ℕ). h ++ (take n (drop 4 bytes) ++ drop (4 + n) bytes)) header ∙ ap (λ (t : List ℕ). take 4 bytes ++ t) tail ∙ take-append-drop 4 bytes in
     sym parts ∙ sym (append_assoc (to_be_bytes w32 n) (take n (drop 4 bytes)) (drop (4 + n) bytes)) ∙ ap (λ (k : ℕ). (to_be_bytes w32 k ++ take n (drop 4 bytes)) ++ drop (4 + n) bytes) (sym len)
 
--- the bytes from t on
-pub tail_of : (xs : List ℕ) (t : ℕ) → take (length xs - t) (drop t xs) ≡ drop t xs
-tail_of xs t = ap (λ (m : ℕ). take m (drop t xs)) (sym (length-drop t xs)) ∙ take-length (drop t xs)
-
 -- the frame at the front of what a buffer holds from t on
 pub front_at : (xs : List ℕ) (t n : ℕ) (front held body : List ℕ) → front ≡ drop t xs → held ≡ drop t xs → IsBody (take n (drop 4 front)) → front ≡ frame (take n (drop 4 front)) ++ drop (4 + n) front
     → body ≡ take (t + 4 + n - (t + 4)) (drop (t + 4) xs) → IsBody body × (held ≡ frame body ++ drop (t + 4 + n) xs)
@@ -80,9 +66,6 @@ front_at xs t n front held body f h fits whole b =
     let rest-is : drop (4 + n) front ≡ drop (t + 4 + n) xs = ap (drop (4 + n)) f ∙ drop-drop (4 + n) t xs ∙ ap (λ (m : ℕ). drop m xs) m in
     let P : List ℕ → Type 0 = λ y. IsBody y × (held ≡ frame y ++ drop (t + 4 + n) xs) in
     subst P (sym body-is) (fits, h ∙ sym f ∙ whole ∙ ap (λ (y : List ℕ). frame (take n (drop 4 front)) ++ y) rest-is)
-
-pub IsBytes-drop : (n : ℕ) (bytes : List ℕ) → IsBytes bytes → IsBytes (drop n bytes)
-IsBytes-drop n bytes h i = rw get_or-drop (h (n + i))
 
 -- a frame at the front is no fault
 pub fault_of-frame : (bytes body more : List ℕ) → IsBody body → bytes ≡ frame body ++ more → fault_of bytes ≡ None

@@ -8,7 +8,8 @@ use Rattle.rk_frame.specs.declared.fault.FrameFault.{FrameFault}
 use Rattle.rk_frame.specs.Framing.{IsBody, frame, HasNoFrame, Splits, fault_of}
 use Rattle.rk_frame.specs.Calls.{Call, Make, Fed, Gave, Waited, Failed, stream_of, bodies_of}
 use Rattle.rk_frame.specs.Laws.{HasOneReading, HasAReading, HandsOutInOrder, HasHandedOutAll, IsFedOrFails, answer_at_end, AnswersTheNext, KeepsItsFault}
-use Rattle.rk_frame.proofs.Lengths.{IsBytes, IsBytes-drop, front_len, shows, none_short, none_empty, none_long, none_cut, is_frame, fault-append, fault_of-frame}
+use Rattle.rk_lemmas.proofs.Lists.{IsBytes, IsBytes-drop}
+use Rattle.rk_frame.proofs.Lengths.{front_len, shows, none_short, none_empty, none_long, none_cut, is_frame, fault-append, fault_of-frame}
 
 -- two frames at the front of one stream are one
 pub one_frame : (a b x y : List ℕ) → IsBody a → IsBody b → frame a ++ x ≡ frame b ++ y → (a ≡ b) × (x ≡ y)

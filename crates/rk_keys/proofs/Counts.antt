@@ -7,19 +7,12 @@ use Rattle.std.specs.Cmp.{nat_cmp_total}
 use Rattle.std.specs.FinMap as map
 use Rattle.std.proofs.lemmas.Bool.{cases_eq}
 use Rattle.rk_table.specs.Maps.{kept_where}
+use Rattle.rk_table.proofs.Gets.{get_kept_where, none_kept}
 use Rattle.rk_keys.specs.declared.key.Key.{Key}
 use Rattle.rk_keys.specs.Known.{keys_of}
 use Rattle.rk_keys.proofs.Held.{at_new, at_other}
 
 module _ {V : Type 0} where
-  get-kept_where : (p : ℕ → V → Bool) (m : map.FinMap nat_cmp V) (q : ℕ) → map.get (kept_where p m) q ≡ cond (option_map_or (p q) (map.get m q) false) (map.get m q) None
-  get-kept_where p m q =
-      let test : ℕ → Bool = λ k. option_map_or (p k) (map.get m k) false in
-      map.get-retain_keys m test q (λ x t. ap test (sym (map.nat_cmp-IsAntisymmetric q x t)))
-
-  pub none_kept : (p : ℕ → V → Bool) (m : map.FinMap nat_cmp V) (k : ℕ) → map.get m k ≡ None → map.get (kept_where p m) k ≡ None
-  none_kept p m k none = get-kept_where p m k ∙ ap (λ (o : Option V). cond (option_map_or (p k) o false) o None) none
-
   put_if : (b : Bool) (m : map.FinMap nat_cmp V) (k : ℕ) (v : V) (q : ℕ) → map.get m k ≡ None → q ≡ k → cond b (Some v) None ≡ map.get (cond b (map.insert m k v) m) q
   put_if true m k v q none e = sym (at_new m k v q e)
   put_if false m k v q none e = sym (ap (map.get m) e ∙ none)
@@ -31,14 +24,14 @@ module _ {V : Type 0} where
   kept_where-insert : (p : ℕ → V → Bool) (m : map.FinMap nat_cmp V) (k : ℕ) (v : V) → map.get m k ≡ None
       → kept_where p (map.insert m k v) ≡ cond (p k v) (map.insert (kept_where p m) k v) (kept_where p m)
   kept_where-insert p m k v none = map.same_map nat_cmp_total map.nat_cmp-IsAntisymmetric _ _ (λ q.
-      get-kept_where p (map.insert m k v) q
+      get_kept_where p (map.insert m k v) q
       ∙ elim (cases_eq q k) [
         | inl e ↦
             ap (λ (o : Option V). cond (option_map_or (p q) o false) o None) (at_new m k v q e)
             ∙ ap (λ n. cond (p n v) (Some v) None) e ∙ put_if (p k v) (kept_where p m) k v q (none_kept p m k none) e
         | inr ne ↦
             ap (λ (o : Option V). cond (option_map_or (p q) o false) o None) (at_other m k v q ne)
-            ∙ sym (get-kept_where p m q) ∙ same_if (p k v) (kept_where p m) k v q ne
+            ∙ sym (get_kept_where p m q) ∙ same_if (p k v) (kept_where p m) k v q ne
       ])
 
   len-put_if : (b : Bool) (m : map.FinMap nat_cmp V) (k : ℕ) (v : V) → map.get m k ≡ None → map.len (cond b (map.insert m k v) m) ≡ cond b (map.len m + 1) (map.len m)

@@ -1,10 +1,11 @@
 -- Serials drawn in rising order: the next is above all that were drawn.
-use Rattle.std.proofs.Common.{◌≡◌, ◌∙◌, ap, sym, subst, ℕ, zero, suc, ◌+◌, ◌*◌, ◌-◌, ◌^◌, ◌<◌, ◌≤◌, arith, add-one, false, true, ◌||◌, refl, Bool, ltb, cond, min}
+use Rattle.std.proofs.Common.{◌≡◌, ◌∙◌, ap, sym, subst, ℕ, zero, suc, ◌+◌, ◌*◌, ◌-◌, ◌^◌, ◌<◌, ◌≤◌, arith, add-one, false, true, ◌||◌, refl, ltb, cond, min}
 use Rattle.std.specs.Prelude.{nat_eq, Option, Some, None, MatchOption, is_some}
 use Rattle.std.specs.Ordering.{nat_cmp, eq_by_cmp}
 use Rattle.std.specs.Cmp.{nat_cmp_total}
 use Rattle.std.specs.FinSet.{contains, contains-insert}
 use Rattle.std.proofs.lemmas.Bool.{eq-eqb, eqb-true, both_ways, ltb-false, ltb-true}
+use Rattle.std.proofs.Math.Bool.{or-true}
 use Rattle.std.proofs.Math.Nat.{mul-le-mul_left}
 use Rattle.rk_names.specs.Numbers.{serial_of}
 use Rattle.rk_table.specs.Says.{Says}
@@ -13,10 +14,6 @@ use Rattle.rk_keys.specs.Drawing.{first_of_form, drawn_in_order, not_below}
 use Rattle.rk_table.proofs.Entries.{tie}
 
 -- ---- what is among the first n
-
-or-true : (a : Bool) → (a || true) ≡ true
-or-true true = refl
-or-true false = refl
 
 is_below : (first stride n m : ℕ) → m < n → contains (first_of_form first stride n) (first + stride * m) ≡ true
 is_below first stride zero m h = absurd (omega arith)

@@ -1,9 +1,9 @@
 -- What a draw leaves, for those who draw: the next serial is fresh, and one fewer is left.
-use Rattle.std.proofs.Common.{◌≡◌, ◌∙◌, ap, sym, ℕ, zero, suc, ◌+◌, ◌<◌, ◌≤◌, arith, add-one, subst, false, true, ◌||◌, Bool, refl}
+use Rattle.std.proofs.Common.{◌≡◌, ◌∙◌, ap, sym, ℕ, zero, suc, ◌+◌, ◌<◌, ◌≤◌, arith, add-one, subst, false, ◌||◌, refl}
 use Rattle.std.specs.Ordering.{nat_cmp, eq_by_cmp}
 use Rattle.std.specs.Cmp.{nat_cmp_total}
 use Rattle.std.specs.FinSet.{contains, insert, contains-insert}
-use Rattle.std.proofs.lemmas.Bool.{ne_eqb}
+use Rattle.std.proofs.lemmas.Bool.{ne_eqb, or_parts}
 use Rattle.rk_table.proofs.Entries.{tie}
 use Rattle.rk_keys.specs.Serials.{Drawn, IsDrawable, IsFresh, HasFrom, HasSerials, IsNext, Extends, with_drawn}
 
@@ -15,14 +15,10 @@ IsNext-IsFresh d k first next = record { positive = omega (arith, next.drawable.
 pub IsNext-HasSerials : (d : Drawn) (k : ℕ) → IsNext d k → HasSerials d 1
 IsNext-HasSerials d k next = (k, omega arith, next.drawable, tt)
 
-neither : (a b : Bool) → (a || b) ≡ false → b ≡ false
-neither true b e = absurd (cc)
-neither false b e = e
-
 -- what was drawn before stays drawn
 pub Extends-with_drawn : (d : Drawn) (k : ℕ) → Extends d (with_drawn k d)
 Extends-with_drawn d k =
-    (refl, refl, λ q e. neither (eq_by_cmp nat_cmp q k) (contains d.used q) (sym (contains-insert nat_cmp_total d.used k q) ∙ e))
+    (refl, refl, λ q e. (or_parts (eq_by_cmp nat_cmp q k) (contains d.used q) (sym (contains-insert nat_cmp_total d.used k q) ∙ e)).1)
 
 still_unused : (d : Drawn) (k j : ℕ) → k < j → contains d.used j ≡ false → contains (insert d.used k) j ≡ false
 still_unused d k j less e =

@@ -1,7 +1,6 @@
 -- What is known of the keys holds together through each change.
-use Rattle.std.proofs.Common.{◌≡◌, ◌∙◌, ap, sym, subst, refl, ℕ, Bool, true, false, cond, inl, inr}
+use Rattle.std.proofs.Common.{◌≡◌, ◌∙◌, ap, sym, refl, ℕ, Bool, true, false, cond, inl, inr}
 use Rattle.std.specs.Prelude.{Option, Some, None, ◌==◌, is_some, nat_eq, option_map}
-use Rattle.std.specs.Option.{option_map_or}
 use Rattle.std.specs.Ordering.{nat_cmp, eq_by_cmp}
 use Rattle.std.specs.Cmp.{nat_cmp_total, nat_eq_equiv}
 use Rattle.std.specs.FinMap as map
@@ -9,7 +8,7 @@ use Rattle.std.specs.FinSet as set
 use Rattle.std.proofs.lemmas.Bool.{eq-eqb, ne_eqb, both_ways, cases_eq, or_parts}
 use Rattle.std.proofs.lemmas.Option.{none-some, same_Some}
 use Rattle.rk_table.proofs.Entries.{tie}
-use Rattle.rk_table.specs.Maps.{changed_at}
+use Rattle.rk_table.proofs.Gets.{get_changed_at, contains_key_changed_at}
 use Rattle.rk_keys.specs.declared.key.Key.{Key}
 use Rattle.rk_keys.specs.declared.key.Condition.{Condition}
 use Rattle.rk_keys.specs.Key.{have_one_name}
@@ -17,7 +16,7 @@ use Rattle.rk_keys.specs.Serials.{Drawn, with_drawn}
 use Rattle.rk_keys.specs.Known.{Known, IsNaming, IsHeld, with_key_changed, without_key, concluded, marked, timed}
 use Rattle.rk_keys.proofs.Names.{SharesNumber, have_one_name-sym, have_one_name-refl, have_one_name-same, stays_drawn}
 
--- ---- a map with one entry put in, taken out or changed
+-- ---- a map with one entry put in or taken out
 
 module _ {V : Type 0} where
   pub at_new : (m : map.FinMap nat_cmp V) (k : ℕ) (v : V) (q : ℕ) → q ≡ k → map.get (map.insert m k v) q ≡ Some v
@@ -38,32 +37,6 @@ module _ {V : Type 0} where
   no_value : (f : V → V) (b : Bool) → None ≡ cond b (option_map f None) None
   no_value f true = refl
   no_value f false = refl
-
-  changed_by : (m : map.FinMap nat_cmp V) (k : ℕ) (f : V → V) (o : Option V) (q : ℕ) → map.get m k ≡ o
-      → map.get (option_map_or (λ v. map.insert m k (f v)) o m) q ≡ cond (nat_eq k q) (option_map f (map.get m q)) (map.get m q)
-  changed_by m k f None q is = elim (cases_eq k q) [
-    | inl e ↦ subst (λ (o : Option V). o ≡ cond (nat_eq k q) (option_map f o) o) (sym (ap (map.get m) (sym e) ∙ is)) (no_value f (nat_eq k q))
-    | inr ne ↦ sym (ap (λ b. cond b (option_map f (map.get m q)) (map.get m q)) (ne_eqb k q ne))
-  ]
-  changed_by m k f (Some v) q is = elim (cases_eq k q) [
-    | inl e ↦
-        at_new m k (f v) q (sym e)
-        ∙ sym (ap (λ b. cond b (option_map f (map.get m q)) (map.get m q)) (eq-eqb k q e) ∙ ap (option_map f) (ap (map.get m) (sym e) ∙ is))
-    | inr ne ↦ at_other m k (f v) q (λ e. ne (sym e)) ∙ sym (ap (λ b. cond b (option_map f (map.get m q)) (map.get m q)) (ne_eqb k q ne))
-  ]
-
-  -- at the key it is the changed value, elsewhere the old one
-  pub get-changed_at : (m : map.FinMap nat_cmp V) (k : ℕ) (f : V → V) (q : ℕ) → map.get (changed_at k f m) q ≡ cond (nat_eq k q) (option_map f (map.get m q)) (map.get m q)
-  get-changed_at m k f q = changed_by m k f (map.get m k) q refl
-
-  as_before : (f : V → V) (b : Bool) (o : Option V) → is_some (cond b (option_map f o) o) ≡ is_some o
-  as_before f true None = refl
-  as_before f true (Some v) = refl
-  as_before f false o = refl
-
-  -- the same keys have a value
-  pub contains_key-changed_at : (m : map.FinMap nat_cmp V) (k : ℕ) (f : V → V) (q : ℕ) → map.contains_key (changed_at k f m) q ≡ map.contains_key m q
-  contains_key-changed_at m k f q = ap is_some (get-changed_at m k f q) ∙ as_before f (nat_eq k q) (map.get m q)
 
 -- ---- what holds
 
@@ -95,13 +68,13 @@ no_key f b o e = ap (λ (p : Option Key). cond b (option_map f p) p) e ∙ sym (
 pub held_changed : (known : Known) (k : ℕ) (f : Key → Key) → KeepsName f → IsHeld known → IsHeld (with_key_changed k f known)
 held_changed known k f keeps held = record {
   naming = record {
-    each = λ q. held.naming.each q ∙ sym (contains_key-changed_at known.keys k f q);
+    each = λ q. held.naming.each q ∙ sym (contains_key_changed_at k f known.keys q);
     shared = λ i j a b m n ia jb im jn.
-        let x = named_by f (nat_eq k i) (map.get known.keys i) a keeps (sym (get-changed_at known.keys k f i) ∙ ia) in
-        let y = named_by f (nat_eq k j) (map.get known.keys j) b keeps (sym (get-changed_at known.keys k f j) ∙ jb) in
+        let x = named_by f (nat_eq k i) (map.get known.keys i) a keeps (sym (get_changed_at k f known.keys i) ∙ ia) in
+        let y = named_by f (nat_eq k j) (map.get known.keys j) b keeps (sym (get_changed_at k f known.keys j) ∙ jb) in
         held.naming.shared i j x.0 y.0 m n x.1 y.1 im jn ∙ have_one_name-same x.0 y.0 a b x.2 x.3 y.2 y.3;
   };
-  drawn = λ q e. get-changed_at known.keys k f q ∙ no_key f (nat_eq k q) (map.get known.keys q) (held.drawn q e);
+  drawn = λ q e. get_changed_at k f known.keys q ∙ no_key f (nat_eq k q) (map.get known.keys q) (held.drawn q e);
   numbered = held.numbered;
 }
 

@@ -12,13 +12,14 @@ use Rattle.std.specs.FinMap as map
 use Rattle.std.proofs.lemmas.Bool.{eq-eqb, ne_eqb, both_ways, cases_lt, cases_eq, and_from, and_parts, false_from_ne_true}
 use Rattle.std.proofs.lemmas.Bool.Decides.{nat_tests}
 use Rattle.std.proofs.lemmas.Slice.Eq.{bytes_eq-Decides}
+use Rattle.rk_lemmas.proofs.Options.{passing}
+use Rattle.rk_table.proofs.Gets.{get_changed_at, contains_key_changed_at}
 use Rattle.rk_table.specs.Maps.{changed_at}
 use Rattle.rk_keys.specs.declared.key.Key.{Key}
 use Rattle.rk_keys.specs.Key.{has_name, is_named}
 use Rattle.rk_keys.specs.Spots.{Spot, spot_cmp, spot_of, IsPlaceFor, IsIndex}
-use Rattle.rk_keys.proofs.Names.{passing}
-use Rattle.rk_keys.proofs.Held.{KeepsName, at_new, at_other, left_in, taken_out, get-changed_at, contains_key-changed_at}
-use Rattle.rk_keys.proofs.Rising.{place_in, is_in, any_put, any_other, any_gone, all_stay, turned, greater, rise_at, own_place, rise_same, rise_filtered, rise_put, without_at}
+use Rattle.rk_keys.proofs.Held.{KeepsName, at_new, at_other, left_in, taken_out}
+use Rattle.rk_keys.proofs.Rising.{place_in, is_in, not_less, any_put, any_other, any_gone, all_stay, turned, greater, rise_at, own_place, rise_same, rise_filtered, rise_put, without_at}
 
 pub spots_total : IsTotalOrder spot_cmp
 spots_total = then_total (on_total (λ (s : Spot). s.0) nat_list_cmp_total) (then_total (on_total (λ (s : Spot). s.1) nat_list_cmp_total) (on_total (λ (s : Spot). s.2) nat_cmp_total))
@@ -39,9 +40,6 @@ name_ties Equal Less c d e f = absurd (cc)
 name_ties Equal Equal c d e f = (refl, refl)
 name_ties Equal Greater c d e f = absurd (cc)
 name_ties Greater b c d e f = absurd (cc)
-
-not_less : (r : Ordering) → r ≡ Less → is_lt r ≡ false → ⊥
-not_less r e f = cc
 
 same_bytes : (xs ys : List ℕ) → slice_cmp nat_cmp xs ys ≡ Equal → xs ≡ ys
 same_bytes xs ys e = map.slice_cmp-IsAntisymmetric map.nat_cmp-IsAntisymmetric xs ys e
@@ -99,7 +97,7 @@ module _ (keys : map.FinMap nat_cmp Key) where
       map.nat_cmp-IsAntisymmetric x s.2 parts.2
 
   spot_stays : (k : ℕ) (f : Key → Key) → KeepsName f → (x : ℕ) → spot_of keys x ≡ spot_of (changed_at k f keys) x
-  spot_stays k f keeps x = sym (ap (spot_by x) (get-changed_at keys k f x) ∙ by_parts f keeps x (nat_eq k x) (map.get keys x))
+  spot_stays k f keeps x = sym (ap (spot_by x) (get_changed_at k f keys x) ∙ by_parts f keeps x (nat_eq k x) (map.get keys x))
 
 -- ---- what is found
 
@@ -205,7 +203,7 @@ module _ (keys : map.FinMap nat_cmp Key) (ks : List ℕ) (index : IsIndex keys k
   pub index_changed : (k : ℕ) (f : Key → Key) → KeepsName f → IsIndex (changed_at k f keys) ks
   index_changed k f keeps = record {
     rise = rise_same spots_total (spot_of keys) (spot_of (changed_at k f keys)) ks (λ i d _. spot_stays keys k f keeps (get_or ks i d)) index.rise;
-    same = λ q. index.same q ∙ sym (contains_key-changed_at keys k f q);
+    same = λ q. index.same q ∙ sym (contains_key_changed_at k f keys q);
   }
 
 pub index_empty : IsIndex map.empty []

@@ -1,12 +1,14 @@
 -- Names: which keys have one, and which number it has.
-use Rattle.std.proofs.Common.{◌≡◌, ◌∙◌, ap, sym, refl, ℕ, Bool, true, false, ◌&&◌, ◌||◌, List, inl, inr}
+use Rattle.std.proofs.Common.{◌≡◌, ◌∙◌, ap, sym, refl, ℕ, true, false, ◌&&◌, ◌||◌, List, inl, inr}
 use Rattle.std.specs.Prelude.{bytes_eq, Option, Some, None, ◌==◌, option_map, unwrap_or, IfSome}
 use Rattle.std.specs.Ordering.{nat_cmp, eq_by_cmp}
 use Rattle.std.specs.FinMap as map
 use Rattle.std.specs.FinSet as set
-use Rattle.std.specs.Cmp.{nat_cmp_total}
+use Rattle.std.specs.Cmp.{nat_cmp_total, both_ways as same_answer}
+use Rattle.std.proofs.Math.Bool.{or-true}
 use Rattle.std.proofs.lemmas.Bool.{and_parts, and_from, eq-eqb, ne_eqb, both_ways}
 use Rattle.std.proofs.lemmas.Slice.Eq.{bytes_eq-Decides}
+use Rattle.rk_lemmas.proofs.Options.{passing}
 use Rattle.rk_table.proofs.Entries.{tie}
 use Rattle.rk_keys.specs.declared.key.Key.{Key}
 use Rattle.rk_keys.specs.Serials.{Drawn}
@@ -14,14 +16,9 @@ use Rattle.rk_keys.specs.Key.{is_named, have_one_name, has_name}
 use Rattle.rk_keys.specs.Known.{IsNaming, IsHeld, Known}
 use Rattle.rk_keys.specs.Names.{IsNumberFor}
 
-agree : (a b : Bool) → (a ≡ true → b ≡ true) → (b ≡ true → a ≡ true) → a ≡ b
-agree true b ab ba = sym (ab refl)
-agree false true ab ba = ba refl
-agree false false ab ba = refl
-
 bytes_eq-sym : (xs ys : List ℕ) → bytes_eq xs ys ≡ bytes_eq ys xs
 bytes_eq-sym xs ys =
-    agree (bytes_eq xs ys) (bytes_eq ys xs)
+    same_answer (bytes_eq xs ys) (bytes_eq ys xs)
     (λ e. (bytes_eq-Decides ys xs).1 (sym ((bytes_eq-Decides xs ys).0 e)))
     (λ e. (bytes_eq-Decides xs ys).1 (sym ((bytes_eq-Decides ys xs).0 e)))
 
@@ -40,10 +37,6 @@ have_one_name-same a b c d at ad bt bd =
     ∙ ap (λ t. bytes_eq c.typ b.typ && bytes_eq t b.description) ad
     ∙ ap (λ t. bytes_eq c.typ t && bytes_eq c.description b.description) bt
     ∙ ap (λ t. bytes_eq c.typ d.typ && bytes_eq c.description t) bd
-
-pub passing : (p : Key → Bool) (o : Option Key) → unwrap_or (option_map p o) false ≡ true → (a : Key) × (o ≡ Some a) × (p a ≡ true)
-passing p None e = absurd (cc)
-passing p (Some a) e = (a, refl, e)
 
 -- a number that this key shares with those of its name, and with no other
 pub record SharesNumber (keys : map.FinMap nat_cmp Key) (numbers : map.FinMap nat_cmp ℕ) (key : Key) (n : ℕ) : Type 0 where
@@ -71,10 +64,6 @@ number_of_new_name known key k held unused none = record {
 }
 
 -- ---- what a draw leaves drawn
-
-or-true : (a : Bool) → (a || true) ≡ true
-or-true true = refl
-or-true false = refl
 
 pub stays_drawn : (d : Drawn) (k q : ℕ) → set.contains d.used q ≡ true → set.contains (set.insert d.used k) q ≡ true
 stays_drawn d k q e = set.contains-insert nat_cmp_total d.used k q ∙ ap (λ b. eq_by_cmp nat_cmp q k || b) e ∙ or-true _

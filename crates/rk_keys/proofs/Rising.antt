@@ -7,13 +7,19 @@ use Rattle.std.specs.Ordering.{is_lt, ordering_reverse}
 use Rattle.std.specs.Cmp.{IsTotalOrder, tied_itself}
 use Rattle.std.specs.declared.cmp.Ordering.{Ordering}
 use Rattle.std.specs.declared.cmp.Ordering.TheVariants.{Less, Equal, Greater}
+use Rattle.std.proofs.Math.Bool.{or-true}
 use Rattle.std.proofs.lemmas.Bool.{eq-eqb, ne_eqb, eqb-true, cases_lt}
+use Rattle.rk_lemmas.proofs.Bools.{or_swap}
 use Rattle.rk_keys.specs.Spots.{AreAfter, Rise, IsPlaceFor}
 
 less : (r : Ordering) → is_lt r ≡ true → r ≡ Less
 less Less e = refl
 less Equal e = absurd (cc)
 less Greater e = absurd (cc)
+
+-- no order is less and not less
+pub not_less : (r : Ordering) → r ≡ Less → is_lt r ≡ false → ⊥
+not_less r e f = cc
 
 pub greater : (r : Ordering) → is_lt r ≡ false → r ≢ Equal → r ≡ Greater
 greater Less e ne = absurd (cc)
@@ -33,15 +39,7 @@ place_in q (k ∷ ks) e =
 pub is_in : (ks : List ℕ) (i d : ℕ) → i < length ks → list_any (λ x. nat_eq x (get_or ks i d)) ks ≡ true
 is_in [] i d lt = absurd (omega arith)
 is_in (k ∷ ks) zero d lt = ap (λ b. b || list_any (λ x. nat_eq x k) ks) (eq-eqb k k refl)
-is_in (k ∷ ks) (suc i) d lt = ap (λ b. nat_eq k (get_or ks i d) || b) (is_in ks i d (omega arith)) ∙ or-true (nat_eq k (get_or ks i d)) where
-  or-true : (a : Bool) → (a || true) ≡ true
-  or-true true = refl
-  or-true false = refl
-
-or_swap : (a b c : Bool) → (a || (b || c)) ≡ (b || (a || c))
-or_swap true true c = refl
-or_swap true false c = refl
-or_swap false b c = refl
+is_in (k ∷ ks) (suc i) d lt = ap (λ b. nat_eq k (get_or ks i d) || b) (is_in ks i d (omega arith)) ∙ or-true (nat_eq k (get_or ks i d))
 
 pub any_put : (p : ℕ → Bool) (ks : List ℕ) (i k : ℕ) → list_any p (insert_at ks i k) ≡ (p k || list_any p ks)
 any_put p ks zero k = refl
@@ -110,13 +108,10 @@ module _ {S : Type 0} {R : S → S → Ordering} (o : IsTotalOrder R) where
     | inr above ↦ elim (cases_lt p i) [
       | inl later ↦
           let first : R (f (get_or ks p d)) (f k) ≡ Less = ap (λ x. R (f (get_or ks p d)) (f x)) (sym at) ∙ rise_at f ks h p i d later lt in
-          absurd (clash _ first (place.from p d (omega arith) (omega (arith, later, lt))))
+          absurd (not_less _ first (place.from p d (omega arith) (omega (arith, later, lt))))
       | inr not_later ↦ omega (arith, above, not_later)
     ]
   ]
-    where
-      clash : (r : Ordering) → r ≡ Less → is_lt r ≡ false → ⊥
-      clash r e f = cc
 
   -- ---- what keeps the order
   after_same : (f g : ℕ → S) (s : S) (ks : List ℕ) → ((i d : ℕ) → i < length ks → f (get_or ks i d) ≡ g (get_or ks i d)) → AreAfter R f s ks → AreAfter R g s ks

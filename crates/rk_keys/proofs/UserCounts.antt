@@ -12,8 +12,9 @@ use Rattle.rk_keys.specs.declared.key.Key.{Key}
 use Rattle.rk_keys.specs.declared.key.Condition.{Condition}
 use Rattle.rk_keys.specs.Known.{keys_of, has_all_keys, concluded}
 use Rattle.rk_keys.specs.Owners.{count_at, AreCounts}
-use Rattle.rk_keys.proofs.Held.{at_new, at_other, left_in, taken_out, get-changed_at}
-use Rattle.rk_keys.proofs.Counts.{keys_of-insert, none_kept}
+use Rattle.rk_keys.proofs.Held.{at_new, at_other, left_in, taken_out}
+use Rattle.rk_table.proofs.Gets.{get_changed_at, none_kept}
+use Rattle.rk_keys.proofs.Counts.{keys_of-insert}
 
 -- ---- one count changed
 
@@ -40,7 +41,7 @@ had n (Some m) h = refl
 -- a count that is there becomes another
 pub count_become : (m : map.FinMap nat_cmp ℕ) (owner n uid : ℕ) → is_some (map.get m owner) ≡ true → count_at (changed_at owner (λ _. n) m) uid ≡ cond (nat_eq owner uid) n (count_at m uid)
 count_become m owner n uid h =
-    ap (λ o. unwrap_or o 0) (get-changed_at m owner (λ _. n) uid) ∙ elim (cases_eq owner uid) [
+    ap (λ o. unwrap_or o 0) (get_changed_at owner (λ _. n) m uid) ∙ elim (cases_eq owner uid) [
       | inl e ↦
           ap (λ b. unwrap_or (cond b (option_map (λ _. n) (map.get m uid)) (map.get m uid)) 0) (eq-eqb owner uid e)
           ∙ had n (map.get m uid) (ap (λ u. is_some (map.get m u)) (sym e) ∙ h)

@@ -1,40 +1,18 @@
 -- All rings, after one of them has changed.
 use Rattle.std.proofs.Common.{◌≡◌, ℕ, ◌+◌, ◌-◌, ◌≤◌, Bool, true, false, cond, refl, ap, sym, ◌∙◌, subst, arith, lit≤}
-use Rattle.std.specs.Prelude.{Option, Some, None, is_some, MatchOption}
+use Rattle.std.specs.Prelude.{Option, Some, None, is_some, nat_eq, MatchOption}
 use Rattle.std.specs.Option.{option_map, option_map_or}
 use Rattle.std.specs.Ordering.{nat_cmp, eq_by_cmp}
 use Rattle.std.specs.Cmp.{nat_cmp_total}
-use Rattle.std.specs.FinMap.{FinMap, get, len, insert, remove, empty, contains_key, get-insert, get-remove, get-empty, len-insert, len-remove, len-empty}
+use Rattle.std.specs.FinMap.{FinMap, get, len, insert, remove, empty, contains_key, get-remove, get-empty, len-insert, len-remove, len-empty}
 use Rattle.rk_table.specs.Maps.{changed_at}
+use Rattle.rk_table.proofs.Gets.{get_changed_at, contains_key_changed_at}
 use Rattle.rk_table.proofs.Once.{FindsEntry}
 use Rattle.rk_rings.specs.Numbered.{Numbered, Rings, AreSerials, HasEachNameOnce, HaveEachNameOnce, IsMatch}
-use Rattle.rk_rings.proofs.Finds.{tied, no_entry}
+use Rattle.rk_rings.proofs.Finds.{no_entry}
 use Rattle.rk_rings.proofs.Links.{serials_within, serials-remove, serials-empty}
 
 module _ {X : Type 0} where
-  changed_here : (f : X → X) (b : Bool) (v : X) (o : Option X) → (b ≡ true → o ≡ Some v) → cond b (Some (f v)) o ≡ cond b (option_map f o) o
-  changed_here f true v o h = sym (ap (option_map f) (h refl))
-  changed_here f false v o h = refl
-
-  not_here : (f : X → X) (b : Bool) (o : Option X) → (b ≡ true → o ≡ None) → o ≡ cond b (option_map f o) o
-  not_here f true o h = h refl ∙ sym (ap (option_map f) (h refl))
-  not_here f false o h = refl
-
-  pub get-changed_at : (k : ℕ) (f : X → X) (m : FinMap nat_cmp X) (q : ℕ) → get (changed_at k f m) q ≡ cond (eq_by_cmp nat_cmp q k) (option_map f (get m q)) (get m q)
-  get-changed_at k f m q =
-      elim (get m k) as (λ o. get m k ≡ o → get (option_map_or (λ v. insert m k (f v)) o m) q ≡ cond (eq_by_cmp nat_cmp q k) (option_map f (get m q)) (get m q)) [
-        | None ↦ λ e. not_here f _ (get m q) (λ t. ap (get m) (tied q k t) ∙ e)
-        | Some v ↦ λ e. get-insert nat_cmp_total m k (f v) q ∙ changed_here f _ v (get m q) (λ t. ap (get m) (tied q k t) ∙ e)
-      ] refl
-
-  mapped_there : (f : X → X) (b : Bool) (o : Option X) → is_some (cond b (option_map f o) o) ≡ is_some o
-  mapped_there f false o = refl
-  mapped_there f true None = refl
-  mapped_there f true (Some x) = refl
-
-  pub contains_key-changed_at : (k : ℕ) (f : X → X) (m : FinMap nat_cmp X) (q : ℕ) → contains_key (changed_at k f m) q ≡ contains_key m q
-  contains_key-changed_at k f m q = ap is_some (get-changed_at k f m q) ∙ mapped_there f _ (get m q)
-
   pub len-changed_at : (k : ℕ) (f : X → X) (m : FinMap nat_cmp X) → len (changed_at k f m) ≡ len m
   len-changed_at k f m =
       elim (get m k) as (λ o. get m k ≡ o → len (option_map_or (λ v. insert m k (f v)) o m) ≡ len m) [
@@ -57,7 +35,7 @@ abbrev pub KeepsOnce : (Numbered → Numbered) → Type 0
 KeepsOnce f = (r : Numbered) → HasEachNameOnce r.links → HasEachNameOnce (f r).links
 
 once-changed_at : (k : ℕ) (f : Numbered → Numbered) (m : Rings) → KeepsOnce f → HaveEachNameOnce m → HaveEachNameOnce (changed_at k f m)
-once-changed_at k f m fair once q r there = by_ring (eq_by_cmp nat_cmp q k) (get m q) refl (sym (get-changed_at k f m q) ∙ there)
+once-changed_at k f m fair once q r there = by_ring (nat_eq k q) (get m q) refl (sym (get_changed_at k f m q) ∙ there)
   where
     by_ring : (b : Bool) (o : Option Numbered) → get m q ≡ o → cond b (option_map f o) o ≡ Some r → HasEachNameOnce r.links
     by_ring false o is e = once q r (is ∙ e)
@@ -70,7 +48,7 @@ pub rows-changed_at : (k : ℕ) (f : Numbered → Numbered) (m n : Rings) → n 
 rows-changed_at k f m n is fair h =
     subst AreRows (sym is) (
       subst (λ x. x ≤ 1024) (sym (len-changed_at k f m)) h.0,
-      serials_within (changed_at k f m) m (λ q there. sym (contains_key-changed_at k f m q) ∙ there) h.1,
+      serials_within (changed_at k f m) m (λ q there. sym (contains_key_changed_at k f m q) ∙ there) h.1,
       once-changed_at k f m fair h.2,
     )
 

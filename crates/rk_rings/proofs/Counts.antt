@@ -3,17 +3,14 @@ use Rattle.std.proofs.Common.{◌≡◌, ℕ, zero, suc, ◌+◌, ◌-◌, ◌<�
 use Rattle.std.specs.Prelude.{Option, Some, None, is_some}
 use Rattle.std.specs.Ordering.{nat_cmp, eq_by_cmp}
 use Rattle.std.specs.Cmp.{nat_cmp_total}
-use Rattle.std.specs.FinMap.{FinMap, get, entries, len, find, remove, contains_key, get-remove, get-empty, get-entries, len-entries, len-remove, empty_of_len}
-use Rattle.std.proofs.lemmas.Bool.{both_ways}
+use Rattle.std.specs.FinMap.{FinMap, get, entries, len, find, remove, contains_key, get-remove, get-entries, len-entries, len-remove}
+use Rattle.std.proofs.lemmas.Bool.{both_ways, and_from}
+use Rattle.rk_lemmas.proofs.Maps.{map_not_empty}
 use Rattle.rk_rings.proofs.Finds.{tied, tied_itself}
 
 both_kept : (t x y : Bool) → (x ≡ true → y ≡ true) → (not t && x) ≡ true → (not t && y) ≡ true
 both_kept true x y h is = is
 both_kept false x y h is = h is
-
-and_true : (a b : Bool) → a ≡ true → b ≡ true → (a && b) ≡ true
-and_true true b p q = q
-and_true false b p q = p
 
 module _ {X : Type 0} where
   head_there : (es : List (ℕ × X)) → 0 < length es → (q : ℕ) × (is_some (find nat_cmp q es) ≡ true)
@@ -26,13 +23,9 @@ module _ {X : Type 0} where
       let at = head_there (entries m) (omega (arith, h, len-entries m)) in
       (at.0, ap is_some (get-entries m at.0) ∙ at.1)
 
-  not_empty : (m : FinMap nat_cmp X) (q n : ℕ) → contains_key m q ≡ true → len m ≡ n → 0 < n
-  not_empty m q zero h e = absurd (both_ways _ (ap (λ x. contains_key x q) (empty_of_len m e) ∙ ap is_some (get-empty nat_cmp q)) h)
-  not_empty m q (suc n) h e = omega arith
-
   -- a map with a key is not empty
   pub has_some : (m : FinMap nat_cmp X) (q : ℕ) → contains_key m q ≡ true → 0 < len m
-  has_some m q h = not_empty m q (len m) h refl
+  has_some m q h = map_not_empty m q (len m) h refl
 
   pub one_less : (m : FinMap nat_cmp X) (q : ℕ) → contains_key m q ≡ true → len (remove m q) + 1 ≡ len m
   one_less m q h =
@@ -75,5 +68,5 @@ module _ {X : Type 0} where
   -- and fewer, where it lacks one of them
   pub fewer : (a b : FinMap nat_cmp X) (k : ℕ) → IsWithin a b → contains_key a k ≡ false → contains_key b k ≡ true → len a < len b
   fewer a b k h lacks has =
-      let le : len a ≤ len (remove b k) = no_more a (remove b k) (λ q is. contains_key-remove b k q ∙ and_true _ _ (apart q k a lacks is) (h q is)) in
+      let le : len a ≤ len (remove b k) = no_more a (remove b k) (λ q is. contains_key-remove b k q ∙ and_from _ _ (apart q k a lacks is) (h q is)) in
       omega (arith, le, one_less b k has)

@@ -1,6 +1,6 @@
 -- What some entry of a map passes, and what stands at a key.
 use Rattle.std.proofs.Common.{◌≡◌, ◌≢◌, ℕ, Bool, true, false, cond, ◌&&◌, ◌||◌, T, List, [], ◌∷◌, refl, ap, sym, ◌∙◌}
-use Rattle.std.specs.Prelude.{Option, Some, None, is_some}
+use Rattle.std.specs.Prelude.{Option, Some, None}
 use Rattle.std.specs.Prelude.{map as list_map}
 use Rattle.std.specs.List.{list_any}
 use Rattle.std.specs.Ordering.{nat_cmp, eq_by_cmp, is_lt, is_eq}
@@ -9,6 +9,7 @@ use Rattle.std.specs.declared.cmp.Ordering.TheVariants.{Less, Equal, Greater}
 use Rattle.std.specs.FinMap.{FinMap, get, entries, values, find, is_sorted, entries_sorted, get-entries}
 use Rattle.std.specs.FinMap.Entries.{below_all}
 use Rattle.std.proofs.lemmas.Bool.{both_ways, eqb-true, eq-eqb}
+use Rattle.std.proofs.lemmas.Option.{none-some}
 use Rattle.rk_table.proofs.Once.{HasEachOnce}
 use Rattle.rk_table.proofs.Entries.{tie}
 
@@ -32,14 +33,7 @@ tied q k t = sym (eqb-true k q (sym (tie q k) ∙ t))
 pub tied_itself : (q : ℕ) → eq_by_cmp nat_cmp q q ≡ true
 tied_itself q = tie q q ∙ eq-eqb q q refl
 
-pub is_there : {A : Type 0} (o : Option A) → is_some o ≡ true → (x : A) × (o ≡ Some x)
-is_there None h = absurd (both_ways false refl h)
-is_there (Some x) h = (x, refl)
-
 module _ {X : Type 0} where
-  some_not_none : (x : X) → Some x ≢ None
-  some_not_none x e = cc
-
   none_above : (x : ℕ) (es : List (ℕ × X)) → T (below_all nat_cmp x es) → find nat_cmp x es ≡ None
   none_above x [] h = refl
   none_above x (e ∷ es) h = ap (λ b. cond b (Some e.1) (find nat_cmp x es)) (not_tied (nat_cmp x e.0) (first _ _ h)) ∙ none_above x es (second _ _ h)
@@ -71,7 +65,7 @@ module _ {X : Type 0} where
     f.0,
     f.1,
     elim (eq_by_cmp nat_cmp f.0 e.0) as (λ b. eq_by_cmp nat_cmp f.0 e.0 ≡ b → cond b (Some e.1) (find nat_cmp f.0 es) ≡ Some f.1) [
-      | true ↦ λ t. absurd (some_not_none f.1 (sym f.2 ∙ ap (λ k. find nat_cmp k es) (tied f.0 e.0 t) ∙ none))
+      | true ↦ λ t. absurd (none-some f.1 (sym (ap (λ k. find nat_cmp k es) (tied f.0 e.0 t) ∙ none) ∙ f.2))
       | false ↦ λ t. f.2
     ] refl,
     f.3,

@@ -5,10 +5,11 @@ use Rattle.std.specs.Option.{option_map_or}
 use Rattle.std.specs.List.{list_any}
 use Rattle.std.specs.Ordering.{nat_cmp, eq_by_cmp}
 use Rattle.std.specs.Cmp.{nat_cmp_total}
-use Rattle.std.specs.FinMap.{FinMap, get, values, len, insert, remove, empty, contains_key, get-insert, get-empty, get-retain_keys, same_map, nat_cmp-IsAntisymmetric}
+use Rattle.std.specs.FinMap.{FinMap, get, values, len, insert, remove, empty, contains_key, get-insert, get-empty, same_map, nat_cmp-IsAntisymmetric}
 use Rattle.std.proofs.lemmas.Bool.{both_ways, eqb-true, eq-eqb, le-ltb, ne_eqb, leb-false, not-false}
 use Rattle.rk_names.specs.Numbers.{serial_of}
 use Rattle.rk_table.specs.Maps.{kept_where}
+use Rattle.rk_table.proofs.Gets.{get_kept_where}
 use Rattle.rk_table.proofs.Once.{FindsEntry}
 use Rattle.rk_rings.specs.Numbered.{Numbered, AreSerials, has_number, is_full}
 use Rattle.rk_rings.proofs.Finds.{tied, no_entry, entry_found, any_value}
@@ -30,24 +31,19 @@ second_true true b h = absurd (both_ways false refl h)
 second_true false b h = h
 
 module _ {X : Type 0} where
-  pub get-kept_where : (p : ℕ → X → Bool) (m : FinMap nat_cmp X) (q : ℕ) → get (kept_where p m) q ≡ cond (option_map_or (p q) (get m q) false) (get m q) None
-  get-kept_where p m q =
-      let test : ℕ → Bool = λ k. option_map_or (p k) (get m k) false in
-      get-retain_keys m test q (λ x t. ap test (sym (nat_cmp-IsAntisymmetric q x t)))
-
   pub kept_within : (p : ℕ → X → Bool) (m : FinMap nat_cmp X) → IsWithin (kept_where p m) m
-  kept_within p m q h = if_some (p q) (get m q) (ap is_some (sym (get-kept_where p m q)) ∙ h)
+  kept_within p m q h = if_some (p q) (get m q) (ap is_some (sym (get_kept_where p m q)) ∙ h)
 
   pub rest_within : (m : FinMap nat_cmp X) (k : ℕ) → IsWithin (remove m k) m
   rest_within m k q h = second_true _ _ (sym (contains_key-remove m k q) ∙ h)
 
   pub none_kept : (m : FinMap nat_cmp X) → kept_where (λ _ _. false) m ≡ empty
-  none_kept m = same_map nat_cmp_total nat_cmp-IsAntisymmetric _ _ (λ q. get-kept_where (λ _ _. false) m q ∙ none_passes (get m q) ∙ sym (get-empty nat_cmp q))
+  none_kept m = same_map nat_cmp_total nat_cmp-IsAntisymmetric _ _ (λ q. get_kept_where (λ _ _. false) m q ∙ none_passes (get m q) ∙ sym (get-empty nat_cmp q))
 
   -- an entry that does not pass is one that goes
   pub fewer_kept : (p : ℕ → X → Bool) (m : FinMap nat_cmp X) (k : ℕ) (v : X) → get m k ≡ Some v → p k v ≡ false → len (kept_where p m) < len m
   fewer_kept p m k v there fails =
-      fewer (kept_where p m) m k (kept_within p m) (ap is_some (get-kept_where p m k) ∙ not_kept (p k) (get m k) v there fails) (ap is_some there)
+      fewer (kept_where p m) m k (kept_within p m) (ap is_some (get_kept_where p m k) ∙ not_kept (p k) (get m k) v there fails) (ap is_some there)
 
   -- ---- numbers that are serials
 

@@ -9,7 +9,7 @@ use Rattle.std.proofs.lemmas.Bool.{both_ways, eq-eqb}
 use Rattle.rk_table.specs.Maps.{kept_where}
 use Rattle.rk_rings.specs.Numbered.{Numbered, HasEachNameOnce, links_with, linked_in_room, is_full, unlinked, cleared}
 use Rattle.rk_rings.proofs.Finds.{tied}
-use Rattle.rk_rings.proofs.Links.{get-kept_where}
+use Rattle.rk_table.proofs.Gets.{get_kept_where}
 
 -- ---- a link is put in
 
@@ -29,7 +29,7 @@ link_is links k n j m e = by_key (eq_by_cmp nat_cmp j k) refl (sym (map.get-inse
     by_key : (b : Bool) → eq_by_cmp nat_cmp j k ≡ b → cond b (Some n) (map.get (kept_where (λ j m. not (nat_eq m n)) links) j) ≡ Some m
         → ((j ≡ k) × (m ≡ n)) ⊎ ((map.get links j ≡ Some m) × (nat_eq m n ≡ false))
     by_key true t e = let same : m ≡ n = cc in inl (tied j k t, same)
-    by_key false t e = inr (kept_is n (map.get links j) m (sym (get-kept_where (λ j m. not (nat_eq m n)) links j) ∙ e))
+    by_key false t e = inr (kept_is n (map.get links j) m (sym (get_kept_where (λ j m. not (nat_eq m n)) links j) ∙ e))
 
 -- a link is the new one, or was there
 pub new_or_there : (links : map.FinMap nat_cmp ℕ) (k n j m : ℕ) → map.get (links_with k n links) j ≡ Some m → (map.get links j ≡ Some m) ⊎ ((j ≡ k) × (m ≡ n))

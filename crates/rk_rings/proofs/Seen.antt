@@ -1,39 +1,28 @@
 -- Rings as they are seen without the numbers of names.
-use Rattle.std.proofs.Common.{◌≡◌, ℕ, zero, suc, ◌-◌, ◌<◌, Bool, true, false, cond, not, ◌&&◌, ◌||◌, List, [], ◌∷◌, refl, ap, sym, ◌∙◌, arith}
+use Rattle.std.proofs.Common.{◌≡◌, ℕ, zero, suc, ◌-◌, Bool, true, false, cond, not, ◌&&◌, ◌||◌, List, [], ◌∷◌, refl, ap, sym, ◌∙◌, arith}
 use Rattle.std.specs.Prelude.{Option, Some, None, is_some, nat_eq}
 use Rattle.std.specs.Prelude.{map as list_map}
 use Rattle.std.specs.Option.{option_map, option_map_or}
 use Rattle.std.specs.List.{list_any}
 use Rattle.std.specs.Ordering.{nat_cmp, eq_by_cmp}
-use Rattle.std.specs.Cmp.{nat_cmp_total}
+use Rattle.std.specs.Cmp.{nat_cmp_total, both_ways as same_answer}
 use Rattle.std.specs.FinMap as map
 use Rattle.std.specs.FinSet as set
 use Rattle.std.proofs.lemmas.Bool.{both_ways, eq-eqb}
 use Rattle.rk_table.specs.Maps.{changed_at, kept_where}
+use Rattle.rk_lemmas.proofs.Options.{is_some-option_map, made_of}
+use Rattle.rk_lemmas.proofs.Maps.{set_not_empty}
 use Rattle.rk_table.proofs.Entries.{get_in, tie}
+use Rattle.rk_table.proofs.Gets.{get_kept_where}
 use Rattle.rk_rings.specs.declared.kind.NewRing.{NewRing}
 use Rattle.rk_rings.specs.Ring.{Ring, empty_ring, is_linked, has_link, with_link, without_link}
 use Rattle.rk_rings.specs.Numbered.{Numbered, Rings, ring_seen, rings_seen, holds, is_held, linked, unlinked, new_ring}
 use Rattle.rk_rings.proofs.Finds.{tied, some_entry, entry_found, any_value}
 use Rattle.rk_rings.proofs.Counts.{some_key, one_less, contains_key-remove}
-use Rattle.rk_rings.proofs.Links.{get-kept_where}
-
-same_answer : (a b : Bool) → (a ≡ true → b ≡ true) → (b ≡ true → a ≡ true) → a ≡ b
-same_answer true b f g = sym (f refl)
-same_answer false true f g = g refl
-same_answer false false f g = refl
-
-there_alike : {A B : Type 0} (f : A → B) (o : Option A) → is_some (option_map f o) ≡ is_some o
-there_alike f None = refl
-there_alike f (Some x) = refl
 
 map_or : {A B : Type 0} (f : A → B) (p : B → Bool) (t : A → Bool) → ((x : A) → p (f x) ≡ t x) → (o : Option A) → option_map_or p (option_map f o) false ≡ option_map_or t o false
 map_or f p t h None = refl
 map_or f p t h (Some x) = h x
-
-some_of : {A B : Type 0} (f : A → B) (o : Option A) (y : B) → option_map f o ≡ Some y → (x : A) × (o ≡ Some x) × (f x ≡ y)
-some_of f None y e = absurd (cc)
-some_of f (Some x) y e = (x, refl, cc)
 
 module _ {A B : Type 0} (f : A → B) where
   found_alike : (q : ℕ) (es : List (ℕ × A)) → map.find nat_cmp q (list_map (λ e. (e.0, f e.1)) es) ≡ option_map f (map.find nat_cmp q es)
@@ -57,7 +46,7 @@ get-rings_seen m q =
     get_in (list_map (λ e. (e.0, ring_seen e.1)) (map.entries m)) q ∙ found_alike ring_seen q (map.entries m) ∙ ap (option_map ring_seen) (sym (map.get-entries m q))
 
 pub contains_key-rings_seen : (m : Rings) (q : ℕ) → map.contains_key (rings_seen m) q ≡ map.contains_key m q
-contains_key-rings_seen m q = ap is_some (get-rings_seen m q) ∙ there_alike ring_seen (map.get m q)
+contains_key-rings_seen m q = ap is_some (get-rings_seen m q) ∙ is_some-option_map ring_seen (map.get m q)
 
 same_rings : (m n : map.FinMap nat_cmp Ring) → ((q : ℕ) → map.get m q ≡ map.get n q) → m ≡ n
 same_rings m n h = map.same_map nat_cmp_total map.nat_cmp-IsAntisymmetric m n h
@@ -108,7 +97,7 @@ any-rings_seen p t alike m =
     ∙ same_answer _ _
     (λ is.
     let f = entry_found (λ (e : ℕ × Ring). p e.1) (rings_seen m) is in
-    let r = some_of ring_seen (map.get m f.0) f.1 (sym (get-rings_seen m f.0) ∙ f.2) in
+    let r = made_of ring_seen (map.get m f.0) f.1 (sym (get-rings_seen m f.0) ∙ f.2) in
     some_entry (λ (e : ℕ × Numbered). t e.1) m f.0 r.0 r.1 (sym (alike r.0) ∙ ap p r.2 ∙ f.3))
     (λ is.
     let f = entry_found (λ (e : ℕ × Numbered). t e.1) m is in
@@ -157,7 +146,7 @@ new_links gives_way k n r h q =
     ∙ elim (eq_by_cmp nat_cmp q k) as (λ b. eq_by_cmp nat_cmp q k ≡ b → (b || map.contains_key (kept_where (λ j m. not (nat_eq m n)) r.links) q) ≡ ((b || map.contains_key r.links q) && not (gives_way q))) [
       | true ↦ λ t. sym (ap not (ap gives_way (tied q k t) ∙ h.0))
       | false ↦ λ t.
-          ap is_some (get-kept_where (λ j m. not (nat_eq m n)) r.links q)
+          ap is_some (get_kept_where (λ j m. not (nat_eq m n)) r.links q)
           ∙ stays (λ m. nat_eq m n) (map.get r.links q) (gives_way q) (λ m there. h.1 q m there (λ same. both_ways _ t (tie q k ∙ eq-eqb k q (sym same))))
     ] refl
 
@@ -180,10 +169,6 @@ ring_seen-linked gives_way k n r h =
 
 -- ---- how many links
 
-not_empty : (s : set.FinSet nat_cmp) (q n : ℕ) → set.contains s q ≡ true → set.len s ≡ n → 0 < n
-not_empty s q zero h e = absurd (both_ways _ (ap (λ t. set.contains t q) (set.empty_of_len s e) ∙ set.contains-empty nat_cmp q) h)
-not_empty s q (suc n) h e = omega arith
-
 as_many : (n : ℕ) (m : map.FinMap nat_cmp ℕ) (s : set.FinSet nat_cmp) → map.len m ≡ n → ((q : ℕ) → set.contains s q ≡ map.contains_key m q) → set.len s ≡ n
 as_many zero m s e h =
     ap set.len (same_keys s set.empty (λ q. h q ∙ ap (λ x. map.contains_key x q) (map.empty_of_len m e) ∙ ap is_some (map.get-empty nat_cmp q) ∙ sym (set.contains-empty nat_cmp q))) ∙ set.len-empty nat_cmp
@@ -193,7 +178,7 @@ as_many (suc n) m s e h =
     let rest : set.len (set.remove s k.0) ≡ n =
     as_many n (map.remove m k.0) (set.remove s k.0) (omega (arith, one_less m k.0 k.1, e)) (λ q.
     set.contains-remove nat_cmp_total s k.0 q ∙ ap (λ b. not (eq_by_cmp nat_cmp q k.0) && b) (h q) ∙ sym (contains_key-remove m k.0 q)) in
-    omega (arith, one, rest, not_empty s k.0 (set.len s) (h k.0 ∙ k.1) refl)
+    omega (arith, one, rest, set_not_empty s k.0 (set.len s) (h k.0 ∙ k.1) refl)
 
 -- a ring has as many links as keys that are seen
 pub len-ring_seen : (r : Numbered) → set.len (ring_seen r).keys ≡ map.len r.links

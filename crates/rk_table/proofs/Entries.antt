@@ -89,14 +89,14 @@ module _ {X : Type 0} where
   find_changed f q [] = refl
   find_changed f q (e ∷ es) = ap (cond (eq_by_cmp nat_cmp q e.0) (Some (f e.1))) (find_changed f q es) ∙ mapped f (eq_by_cmp nat_cmp q e.0) e.1 (find nat_cmp q es)
 
-  pub get-changed_all : (f : X → X) (m : FinMap nat_cmp X) (q : ℕ) → get (changed_all f m) q ≡ option_map f (get m q)
-  get-changed_all f m q =
+  pub get_changed_all : (f : X → X) (m : FinMap nat_cmp X) (q : ℕ) → get (changed_all f m) q ≡ option_map f (get m q)
+  get_changed_all f m q =
       get_in (list_map (λ e. (e.0, f e.1)) (entries m)) q ∙ find_changed f q (entries m) ∙ ap (option_map f) (sym (get-entries m q))
 
   pub changed_in_all : (f : X → X) (es : List (ℕ × X)) (m : FinMap nat_cmp X) → from_entries es ≡ m → from_entries {R = nat_cmp} (list_map (λ e. (e.0, f e.1)) es) ≡ changed_all f m
   changed_in_all f es m view = same_map nat_cmp_total nat_cmp-IsAntisymmetric _ _ (λ q.
       get_in (list_map (λ e. (e.0, f e.1)) es) q ∙ find_changed f q es ∙ ap (option_map f) (sym (get_in es q) ∙ ap (λ n. get n q) view)
-      ∙ sym (get-changed_all f m q))
+      ∙ sym (get_changed_all f m q))
 
   pub one_more_entry : (f : X → X) (xs es : List (ℕ × X)) (i : ℕ) (d : ℕ × X) (v : X) → i < length xs → es ≡ changed_front (λ e. (e.0, f e.1)) xs i → v ≡ f (get_or es i d).1
       → set es i ((get_or es i d).0, v) ≡ changed_front (λ e. (e.0, f e.1)) xs (i + 1)

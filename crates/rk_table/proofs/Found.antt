@@ -9,6 +9,7 @@ use Rattle.std.specs.Cmp.{nat_cmp_total}
 use Rattle.std.specs.FinMap.{FinMap, from_entries, get, insert, find, remove, get-insert, same_map, nat_cmp-IsAntisymmetric}
 use Rattle.std.proofs.lemmas.Bool.{eq-eqb, ne_eqb, eqb-true, cases_lt}
 use Rattle.std.proofs.lemmas.Bool.Decides.{nat_tests}
+use Rattle.std.proofs.lemmas.Option.{none-some}
 use Rattle.std.proofs.lemmas.Cmp.{ranked}
 use Rattle.rk_table.specs.Entries.{KeysRise, IsAt, IsGapFor}
 use Rattle.rk_table.specs.Maps.{changed_at}
@@ -16,9 +17,6 @@ use Rattle.rk_table.proofs.Entries.{tie, get_in, removed, swap_tests, shadow}
 use Rattle.rk_table.proofs.Rising.{rising_at, not_in_above}
 
 module _ {X : Type 0} where
-  pub some_not_none : (x : X) → Some x ≢ None
-  some_not_none x e = cc
-
   -- no entry before place i has the key
   abbrev pub NoKeyBefore : List (ℕ × X) → ℕ → ℕ → Type 0
   NoKeyBefore es k i = (j : ℕ) (d : ℕ × X) → j < i → (get_or es j d).0 ≢ k
@@ -80,7 +78,7 @@ module _ {X : Type 0} where
 
   pub nowhere : (es : List (ℕ × X)) (k i : ℕ) → KeysRise es → get (from_entries {R = nat_cmp} es) k ≡ None → IsAt es k i → ⊥
   nowhere [] k i h new at = omega (arith, at.in_range)
-  nowhere (x ∷ es) k i h new at = some_not_none (get_or (x ∷ es) i x).1 (sym (found_at (x ∷ es) k i x h at) ∙ new)
+  nowhere (x ∷ es) k i h new at = none-some (get_or (x ∷ es) i x).1 (sym new ∙ found_at (x ∷ es) k i x h at)
 
   -- the comparisons with k rise along the entries, as a search by halves asks
   comparisons_rise : (es : List (ℕ × X)) (k : ℕ) → KeysRise es → IsNonDecreasingBy (λ e. ordering_index (nat_cmp e.0 k)) es

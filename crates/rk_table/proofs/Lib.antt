@@ -2,3 +2,4 @@ pub mod Entries
 pub mod Rising
 pub mod Found
 pub mod Once
+pub mod Gets

@@ -11,21 +11,18 @@ use Rattle.std.specs.Cmp.{nat_cmp_total}
 use Rattle.std.specs.FinMap.{FinMap, from_entries, get, find, empty, len, entries, len-empty, len-insert, get-entries, entries-insert, get-retain_keys, len-entries, same_map, nat_cmp-IsAntisymmetric}
 use Rattle.std.specs.FinMap.Entries.{put, by_order}
 use Rattle.std.proofs.lemmas.Bool.{both_ways, eqb-true, eq-eqb}
+use Rattle.std.proofs.lemmas.Option.{none-some}
+use Rattle.rk_lemmas.proofs.Bools.{or_swap}
 use Rattle.rk_table.specs.Maps.{kept_where}
 use Rattle.rk_table.specs.Entries.{AreAbove, KeysRise}
 use Rattle.rk_table.proofs.Entries.{tie, get_in}
 use Rattle.rk_table.proofs.Rising.{not_in_above}
-use Rattle.rk_table.proofs.Found.{find_none, some_not_none}
+use Rattle.rk_table.proofs.Found.{find_none}
 
 -- no key stands twice
 abbrev pub HasEachOnce : {V : Type 0} → List (ℕ × V) → Type 0
 HasEachOnce [] = Unit {0}
 HasEachOnce (e ∷ es) = (find nat_cmp e.0 es ≡ None) × HasEachOnce es
-
-or_swap : (a b c : Bool) → (a || (b || c)) ≡ (b || (a || c))
-or_swap true true c = refl
-or_swap true false c = refl
-or_swap false b c = refl
 
 no_length : {A : Type 0} (es : List A) → length es ≡ 0 → es ≡ []
 no_length [] e = refl
@@ -48,7 +45,7 @@ module _ {X : Type 0} where
   any_put p k v (e ∷ es) h =
       elim (nat_cmp k e.0) as (λ r. nat_cmp k e.0 ≡ r → list_any p (by_order r ((k, v) ∷ e ∷ es) ((e.0, v) ∷ es) (e ∷ put nat_cmp k v es)) ≡ (p (k, v) || (p e || list_any p es))) [
         | Less ↦ λ r. refl
-        | Equal ↦ λ r. absurd (some_not_none e.1 (sym (ap (λ o. cond (is_eq o) (Some e.1) (find nat_cmp k es)) r) ∙ h))
+        | Equal ↦ λ r. absurd (none-some e.1 (sym h ∙ ap (λ o. cond (is_eq o) (Some e.1) (find nat_cmp k es)) r))
         | Greater ↦ λ r. ap (λ b. p e || b) (any_put p k v es (sym (ap (λ o. cond (is_eq o) (Some e.1) (find nat_cmp k es)) r) ∙ h)) ∙ or_swap (p e) (p (k, v)) _
       ] refl
 
@@ -71,7 +68,7 @@ module _ {X : Type 0} where
   none_left p q [] h = refl
   none_left p q (e ∷ es) h =
       elim (eq_by_cmp nat_cmp q e.0) as (λ t. eq_by_cmp nat_cmp q e.0 ≡ t → cond t (Some e.1) (find nat_cmp q es) ≡ None → find nat_cmp q (cond (p e) (e ∷ filter p es) (filter p es)) ≡ None) [
-        | true ↦ λ t h. absurd (some_not_none e.1 h)
+        | true ↦ λ t h. absurd (none-some e.1 (sym h))
         | false ↦ λ t h. elim (p e) as (λ b. find nat_cmp q (cond b (e ∷ filter p es) (filter p es)) ≡ None) [
           | true ↦ ap (λ b. cond b (Some e.1) (find nat_cmp q (filter p es))) t ∙ none_left p q es h
           | false ↦ none_left p q es h

@@ -1,5 +1,5 @@
 -- Lines and fields, cut off one after the other.
-use Rattle.std.proofs.Common.{◌≡◌, ◌≢◌, ℕ, zero, suc, ◌+◌, ◌-◌, ◌<◌, ◌≤◌, List, [], ◌∷◌, ◌++◌, length, take, drop, get_or, Bool, true, false, refl, sym, ap, ◌∙◌, subst, inl, inr, arith, drop-cons, add-one, length-drop, eq-eqb}
+use Rattle.std.proofs.Common.{◌≡◌, ◌≢◌, ℕ, zero, suc, ◌+◌, ◌<◌, ◌≤◌, List, [], ◌∷◌, ◌++◌, length, take, drop, get_or, Bool, true, false, refl, sym, ap, ◌∙◌, subst, inl, inr, arith, drop-cons, add-one, eq-eqb}
 use Rattle.std.specs.Prelude.{nat_eq, filter}
 use Rattle.std.specs.List.{slice_split, All, AllByRecursion}
 use Rattle.std.specs.Str.{IsUtf8, IsCharBoundary}
@@ -7,17 +7,13 @@ use Rattle.std.proofs.lemmas.List.{take-append-drop, get_or-take, take_all, drop
 use Rattle.std.proofs.lemmas.List.Elements.{All-from_get_or, recursion_from_All}
 use Rattle.std.proofs.lemmas.List.Splits.{slice_split_none, slice_split_at, slice_split-cons_yes}
 use Rattle.std.proofs.lemmas.List.Sums.{prefix_len_is}
-use Rattle.std.proofs.lemmas.Bool.{cases_lt, eqb-true}
+use Rattle.std.proofs.lemmas.Bool.{cases_lt, eqb-true, ne_eqb}
 use Rattle.std.proofs.lemmas.Bool.Decides.{nat_tests}
 use Rattle.std.proofs.lemmas.Str.{IsCharBoundary-start, IsCharBoundary-end, IsCharBoundary-before_ascii, IsCharBoundary-after_ascii}
 use Rattle.rk_text.specs.declared.space.Space.{Space}
 use Rattle.rk_text.specs.declared.space.Space.TheVariants.{Blank, Any}
 use Rattle.rk_text.specs.Text.{is_text, is_space, past_space, has_bytes, lines_of, fields_of}
 use Rattle.rk_text.proofs.TextRules.{is_text-parts}
-
--- what `&text[n..]` is
-pub from_place : (xs : List ℕ) (n : ℕ) → take (length xs - n) (drop n xs) ≡ drop n xs
-from_place xs n = take_all (length xs - n) (drop n xs) (omega (arith, length-drop n xs))
 
 -- a fact of each place of a front, as a fact of the front
 front_all : (P : ℕ → Type 0) (xs : List ℕ) (n : ℕ) → ((k : ℕ) → k < n → P (get_or xs k 0)) → All P (take n xs)
@@ -29,18 +25,15 @@ at_place xs n h =
     let rest : drop n xs ≡ get_or xs n 0 ∷ drop (n + 1) xs = rw (add-one, drop-cons xs n 0) in
     sym (take-append-drop n xs) ∙ ap (λ (t : List ℕ). take n xs ++ t) rest
 
-eq_false : (a b : ℕ) → a ≢ b → nat_eq a b ≡ false
-eq_false a b n = grind (arith, nat_tests)
-
 pub last_line : (text : List ℕ) (n : ℕ) → n ≡ length text → ((k : ℕ) → k < n → get_or text k 0 ≢ 10) → lines_of text ≡ text ∷ []
 last_line text n e h =
     let whole : take n text ≡ text = take_all n text (omega arith) in
     let P : List ℕ → Type 0 = λ t. All (λ b. nat_eq b 10 ≡ false) t in
-    slice_split_none (λ b. nat_eq b 10) text (subst P whole (front_all (λ b. nat_eq b 10 ≡ false) text n (λ k lt. eq_false (get_or text k 0) 10 (h k lt))))
+    slice_split_none (λ b. nat_eq b 10) text (subst P whole (front_all (λ b. nat_eq b 10 ≡ false) text n (λ k lt. ne_eqb (get_or text k 0) 10 (h k lt))))
 
 pub first_line : (text : List ℕ) (n : ℕ) → n < length text → ((k : ℕ) → k < n → get_or text k 0 ≢ 10) → get_or text n 0 ≡ 10 → lines_of text ≡ take n text ∷ lines_of (drop (n + 1) text)
 first_line text n lt h e =
-    let apart = front_all (λ b. nat_eq b 10 ≡ false) text n (λ k lt. eq_false (get_or text k 0) 10 (h k lt)) in
+    let apart = front_all (λ b. nat_eq b 10 ≡ false) text n (λ k lt. ne_eqb (get_or text k 0) 10 (h k lt)) in
     let here : nat_eq (get_or text n 0) 10 ≡ true = eq-eqb (get_or text n 0) 10 e in
     ap lines_of (at_place text n lt) ∙ slice_split_at (λ b. nat_eq b 10) (take n text) (get_or text n 0) (drop (n + 1) text) apart here
 

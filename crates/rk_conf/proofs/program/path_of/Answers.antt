@@ -1,5 +1,5 @@
 use Rattle.std.proofs.Common.{sym, ◌∙◌, lit<}
-use Rattle.rk_text.proofs.Cuts.{from_place}
+use Rattle.rk_lemmas.proofs.Lists.{from_place}
 use Rattle.rk_conf.proofs.Macros.{after_byte}
 use Rattle.rk_conf.proofs.program.path_of.Goals as goal
 

@@ -1,5 +1,5 @@
 use Rattle.std.proofs.Common.{◌+◌, sym, ◌∙◌}
-use Rattle.rk_text.proofs.Cuts.{from_place}
+use Rattle.rk_lemmas.proofs.Lists.{from_place}
 use Rattle.rk_conf.proofs.Macros.{none_wanted, some_wanted, bad_names}
 use Rattle.rk_conf.proofs.told.wanted_of.Goals as goal
 

@@ -1,4 +1,5 @@
-use Rattle.rk_text.proofs.Cuts.{skipped, skipped_text, space_before, from_place}
+use Rattle.rk_lemmas.proofs.Lists.{from_place}
+use Rattle.rk_text.proofs.Cuts.{skipped, skipped_text, space_before}
 use Rattle.rk_text.proofs.fields.skip_space.Goals as goal
 
 pub returns-clause-past : goal.returns-clause-past

@@ -1,5 +1,6 @@
 use Rattle.std.proofs.Common.{◌+◌, arith}
-use Rattle.rk_text.proofs.Cuts.{last_line, first_line, from_place}
+use Rattle.rk_lemmas.proofs.Lists.{from_place}
+use Rattle.rk_text.proofs.Cuts.{last_line, first_line}
 use Rattle.rk_text.proofs.lines.cut_line.Goals as goal
 
 pub returns-then-end-text-clause-cut : goal.returns-then-end-text-clause-cut

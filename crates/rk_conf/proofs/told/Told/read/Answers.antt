@@ -1,5 +1,5 @@
 use Rattle.std.proofs.Common.{lit<, sym, ◌∙◌}
-use Rattle.rk_text.proofs.Cuts.{from_place}
+use Rattle.rk_lemmas.proofs.Lists.{from_place}
 use Rattle.rk_conf.proofs.Macros.{argument-macro, argument-literal, after_byte}
 use Rattle.rk_conf.proofs.told.Told.read.Goals as goal
 

@@ -1,0 +1,4 @@
+pub mod Bools
+pub mod Options
+pub mod Lists
+pub mod Maps
