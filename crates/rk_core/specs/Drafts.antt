@@ -31,6 +31,10 @@ pub record IsDraftOf (serials : Drawn) (made : List NewRing) (rings : map.FinMap
   -- and so has any ring to come, whose serial was not drawn
   pub more : (k : ℕ) → set.contains serials.used k ≡ false → map.get (with_all made rings) k ≡ None
 
+-- whatever rings the one draft is beside, the other is a draft beside them, too
+abbrev pub StaysDraft : Drawn → List NewRing → Drawn → List NewRing → Type 0
+StaysDraft serials made more all = (rings : map.FinMap nat_cmp Ring) → IsDraftOf serials made rings → IsDraftOf more all rings
+
 -- the ring that is there, where one is given, and else a new one
 abbrev pub MakesOr : Option ℕ → RingKind → ℕ → World → World → ℕ → Type 0
 MakesOr None kind uid old new ring = Makes kind uid old new ring

@@ -1,12 +1,9 @@
 //! Rings that are to be made, with the serials drawn for them.
 ghost use Rattle.std.specs.Prelude.{◌≡◌, ◌+◌, ℕ, cond, is_none, [], IfOk};
-ghost use Rattle.std.specs.Ordering.{nat_cmp};
-ghost use Rattle.std.specs.FinMap as map;
 ghost use Rattle.rk_keys.specs.Serials.{HasSerials, Extends};
-ghost use Rattle.rk_rings.specs.Ring.{Ring};
 ghost use Rattle.rk_machine.specs.World.{World};
 ghost use Rattle.rk_machine.specs.Hello.{Makes, MakesIf};
-ghost use Rattle.rk_core.specs.Drafts.{drafted, IsDraftOf, MakesOr};
+ghost use Rattle.rk_core.specs.Drafts.{drafted, StaysDraft, MakesOr};
 
 use rk_keys::Serials;
 use rk_names::Serial;
@@ -36,9 +33,10 @@ impl Draft {
     /// One ring more, under the least unused serial.
     fn make(&mut self, kind: RingKind, uid: u32) -> Result<Serial, AllocError>
         requires { HasSerials self.old.serials 1 }
-        ensures makes { IfOk result (λ ring. (w : World) → Makes kind uid (drafted self.old.serials self.old.made.items w) (drafted self.new.serials self.new.made.items w) ring) }
+        ensures makes { IfOk result (λ ring. (w : World)
+            → Makes kind uid (drafted self.old.serials self.old.made.items w) (drafted self.new.serials self.new.made.items w) ring) }
         ensures left { IfOk result (λ _. (n : ℕ) → HasSerials self.old.serials (n + 1) → HasSerials self.new.serials n) }
-        ensures draft { IfOk result (λ _. (rings : map.FinMap nat_cmp Ring) → IsDraftOf self.old.serials self.old.made.items rings → IsDraftOf self.new.serials self.new.made.items rings) }
+        ensures draft { IfOk result (λ _. StaysDraft self.old.serials self.old.made.items self.new.serials self.new.made.items) }
         ensures extends { Extends self.old.serials self.new.serials }
     {
         let Some(serial) = self.serials.draw() else {
@@ -56,9 +54,10 @@ impl Draft {
         uid: u32,
     ) -> Result<Option<Serial>, AllocError>
         requires { HasSerials self.old.serials (cond wanted 1 0) }
-        ensures makes { IfOk result (λ ring. (w : World) → MakesIf wanted kind uid (drafted self.old.serials self.old.made.items w) (drafted self.new.serials self.new.made.items w) ring) }
+        ensures makes { IfOk result (λ ring. (w : World)
+            → MakesIf wanted kind uid (drafted self.old.serials self.old.made.items w) (drafted self.new.serials self.new.made.items w) ring) }
         ensures left { IfOk result (λ _. (n : ℕ) → HasSerials self.old.serials (n + cond wanted 1 0) → HasSerials self.new.serials n) }
-        ensures draft { IfOk result (λ _. (rings : map.FinMap nat_cmp Ring) → IsDraftOf self.old.serials self.old.made.items rings → IsDraftOf self.new.serials self.new.made.items rings) }
+        ensures draft { IfOk result (λ _. StaysDraft self.old.serials self.old.made.items self.new.serials self.new.made.items) }
         ensures extends { Extends self.old.serials self.new.serials }
     {
         if !wanted {
@@ -75,9 +74,10 @@ impl Draft {
         uid: u32,
     ) -> Result<Serial, AllocError>
         requires { HasSerials self.old.serials (cond (is_none there.now) 1 0) }
-        ensures makes { IfOk result (λ ring. (w : World) → MakesOr there.now kind uid (drafted self.old.serials self.old.made.items w) (drafted self.new.serials self.new.made.items w) ring) }
+        ensures makes { IfOk result (λ ring. (w : World)
+            → MakesOr there.now kind uid (drafted self.old.serials self.old.made.items w) (drafted self.new.serials self.new.made.items w) ring) }
         ensures left { IfOk result (λ _. (n : ℕ) → HasSerials self.old.serials (n + cond (is_none there.now) 1 0) → HasSerials self.new.serials n) }
-        ensures draft { IfOk result (λ _. (rings : map.FinMap nat_cmp Ring) → IsDraftOf self.old.serials self.old.made.items rings → IsDraftOf self.new.serials self.new.made.items rings) }
+        ensures draft { IfOk result (λ _. StaysDraft self.old.serials self.old.made.items self.new.serials self.new.made.items) }
         ensures extends { Extends self.old.serials self.new.serials }
     {
         match there {

@@ -150,7 +150,8 @@ fn answered(bytes: Vec<u8>) -> Answer
 
 impl Tables {
     fn mark(&mut self, key: Serial) -> Option<Errno>
-        ensures { MatchBool (key_passes self.old.keys key is_revoked) ((result ≡ Some Errno.Ekeyrevoked) × (self.new ≡ self.old)) ((result ≡ None) × (self.new ≡ with_key_changed key marked self.old)) }
+        ensures { MatchBool (key_passes self.old.keys key is_revoked) ((result ≡ Some Errno.Ekeyrevoked) × (self.new ≡ self.old))
+            ((result ≡ None) × (self.new ≡ with_key_changed key marked self.old)) }
     {
         match self.keys.revoke(key) {
             Ok(()) => None,
@@ -172,7 +173,8 @@ impl Tables {
     }
 
     fn set_expiry(&mut self, now: Moment, key: Serial, seconds: u32) -> Option<Errno>
-        ensures { MatchOption (over_refusal self.old key now) ((result ≡ None) × (self.new ≡ with_key_changed key (timed now seconds) self.old)) (λ e. (result ≡ Some e) × (self.new ≡ self.old)) }
+        ensures { MatchOption (over_refusal self.old key now) ((result ≡ None) × (self.new ≡ with_key_changed key (timed now seconds) self.old))
+            (λ e. (result ≡ Some e) × (self.new ≡ self.old)) }
     {
         match self.keys.set_expiry(key, now, seconds) {
             Ok(()) => None,

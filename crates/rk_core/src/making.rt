@@ -23,7 +23,9 @@ impl Tables {
         payload: Payload,
     ) -> Result<Serial, AllocError>
         requires sound { IsSound self.old }
-        ensures ok { IfOk result (λ k. self.new ≡ record (drawn k self.old) { keys = map.insert self.old.keys k (new_key typ description owner (Some payload)) }) }
+        ensures ok { IfOk result (λ k. self.new ≡ record (drawn k self.old) {
+          keys = map.insert self.old.keys k (new_key typ description owner (Some payload));
+        }) }
         ensures fresh { IfOk result (λ k. IsFresh self.old.serials k) }
         ensures unlinked { IfOk result (λ k. has_link self.old.rings k ≡ false) }
         ensures err { OnErr result (self.new ≡ self.old) }
@@ -43,7 +45,10 @@ impl Tables {
     ) -> Result<Serial, AllocError>
         requires sound { IsSound self.old }
         requires shallow { authority.depth < 9 }
-        ensures ok { IfOk result (λ k. self.new ≡ record (drawn k self.old) { keys = map.insert self.old.keys k (new_key typ description authority.context.uid None); sessions = with_construction k authority self.old.sessions }) }
+        ensures ok { IfOk result (λ k. self.new ≡ record (drawn k self.old) {
+          keys = map.insert self.old.keys k (new_key typ description authority.context.uid None);
+          sessions = with_construction k authority self.old.sessions;
+        }) }
         ensures fresh { IfOk result (λ k. IsFresh self.old.serials k) }
         ensures unlinked { IfOk result (λ k. has_link self.old.rings k ≡ false) }
         ensures err { OnErr result (self.new ≡ self.old) }

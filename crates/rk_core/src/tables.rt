@@ -252,7 +252,9 @@ impl Tables {
         requestor: Option<Serial>,
         place: Place,
     ) -> Result<Serial, RingFault>
-        ensures { MatchResult result (λ ring. ring_at self.now.rings context.now requestor place ≡ Some ring) (λ f. (ring_at self.now.rings context.now requestor place ≡ None) × (f ≡ (if is_numbered_live self.now.rings place then RingFault.Elsewhere else RingFault.NoRing))) }
+        ensures { MatchResult result (λ ring. ring_at self.now.rings context.now requestor place ≡ Some ring)
+            (λ f. (ring_at self.now.rings context.now requestor place ≡ None)
+            × (f ≡ (if is_numbered_live self.now.rings place then RingFault.Elsewhere else RingFault.NoRing))) }
     {
         self.rings.at(context, requestor, place)
     }

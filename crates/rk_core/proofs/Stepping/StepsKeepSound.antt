@@ -24,13 +24,13 @@ use Rattle.rk_auth.specs.declared.construction.Construction.{Construction}
 use Rattle.rk_auth.specs.declared.construction.Stage.TheVariants.{Plain, Piped, Negating}
 use Rattle.rk_keys.specs.Known.{new_key}
 use Rattle.rk_machine.specs.Links.{linked_in, unlinked_in, cleared_in}
-use Rattle.rk_machine.specs.Request.{waiting, started, with_key}
+use Rattle.rk_machine.specs.Request.{query, waiting, started, with_key}
 use Rattle.rk_machine.specs.KeyAsks.{with_key_changed}
 use Rattle.rk_machine.specs.Steps.{Step, gone}
 use Rattle.rk_machine.proofs.Effects.BuildingAfter.{built_marked}
 use Rattle.rk_core.proofs.Vanishing.WhichMayVanish.{still_stays}
 use Rattle.rk_core.proofs.Stepping.UnspentIsBuilding.{building_after}
-use Rattle.rk_machine.proofs.Effects.KindsOfStep.{Effect, effect, IsMild, query, authority_for, refused, still, took, came, went, greets, begins, joins, links, unlinks, marks, tells, sets, adds, assumes, concludes, ran_plain, ran_piped, negates, failed, finished}
+use Rattle.rk_machine.proofs.Effects.KindsOfStep.{Effect, effect, IsMild, authority_for, refused, still, took, came, went, greets, begins, joins, links, unlinks, marks, tells, sets, adds, assumes, concludes, ran_plain, ran_piped, negates, failed, finished}
 use Rattle.rk_machine.proofs.Found.InMaps.{get_changed_at}
 use Rattle.rk_machine.proofs.Effects.DrawnSerials.{is_drawn}
 use Rattle.rk_machine.proofs.Effects.SerialsStayDrawn.{keeps_drawn}

@@ -36,13 +36,13 @@ use Rattle.rk_machine.specs.Allowed.{done}
 use Rattle.rk_machine.specs.Asker.{serial_named}
 use Rattle.rk_machine.specs.Links.{linked_in, unlinked_in, cleared_in}
 use Rattle.rk_machine.specs.Completion.{completed, ended}
-use Rattle.rk_machine.specs.Request.{waiting, started, with_key, subject_of}
+use Rattle.rk_machine.specs.Request.{query, waiting, started, with_key, subject_of}
 use Rattle.rk_machine.specs.KeyAsks.{with_key_changed}
 use Rattle.rk_machine.specs.Steps.{Step, negating, opened, gone, collected, told_as}
 use Rattle.rk_machine.specs.Views.{is_owed, is_ready}
 use Rattle.rk_machine.specs.Laws.{same_session}
 use Rattle.rk_machine.specs.Owing.{wait_owes, client_owes, stage_owes, construction_owes, places, owed_to, owed, whose, start_owes, is_request, need}
-use Rattle.rk_machine.proofs.Effects.KindsOfStep.{Effect, CanAsk, query, authority_for, effect, refused, still, took, came, went, greets, begins, joins, links, unlinks, marks, tells, sets, adds, assumes, concludes, ran_plain, ran_piped, negates, failed, finished}
+use Rattle.rk_machine.proofs.Effects.KindsOfStep.{Effect, CanAsk, authority_for, effect, refused, still, took, came, went, greets, begins, joins, links, unlinks, marks, tells, sets, adds, assumes, concludes, ran_plain, ran_piped, negates, failed, finished}
 use Rattle.rk_machine.proofs.Effects.HelloChanges.{greeted_sessions}
 use Rattle.rk_machine.proofs.Effects.WaitsAreTheWorlds.{IdleFresh, there_issued}
 use Rattle.rk_machine.proofs.Effects.WaitsAfter.{same-true, same-self, session_of_changed}
