@@ -26,7 +26,8 @@ same_key m k own e = subst (λ x. LeadsIn m k x) (eqb-true k own e) (at_own k)
 
 -- ---- what the walk finds is there
 
-sound_step : (m : FinMap nat_cmp Construction) (n k own : ℕ) (o : Option ℕ) → ((j : ℕ) → leads_within m n j own ≡ true → LeadsIn m j own) → next_of m k ≡ o → option_map_or (λ j. leads_within m n j own) o false ≡ true → LeadsIn m k own
+sound_step : (m : FinMap nat_cmp Construction) (n k own : ℕ) (o : Option ℕ) → ((j : ℕ) → leads_within m n j own ≡ true → LeadsIn m j own) → next_of m k ≡ o
+    → option_map_or (λ j. leads_within m n j own) o false ≡ true → LeadsIn m k own
 sound_step m n k own None again is e = absurd (both_ways false refl e)
 sound_step m n k own (Some j) again is e = by_next k j is (again j e)
 
@@ -53,7 +54,8 @@ kept_next m k j i is =
       | false ↦ λ t. sym (removed_other m k j t) ∙ is
     ] refl
 
-cut_step : (m : FinMap nat_cmp Construction) (k first : ℕ) → next_of m k ≡ Some first → (j own i : ℕ) → next_of m j ≡ Some i → LeadsIn (remove m k) i own ⊎ LeadsIn (remove m k) first own → LeadsIn (remove m k) j own ⊎ LeadsIn (remove m k) first own
+cut_step : (m : FinMap nat_cmp Construction) (k first : ℕ) → next_of m k ≡ Some first → (j own i : ℕ) → next_of m j ≡ Some i
+    → LeadsIn (remove m k) i own ⊎ LeadsIn (remove m k) first own → LeadsIn (remove m k) j own ⊎ LeadsIn (remove m k) first own
 cut_step m k first is j own i next (inr there) = inr there
 cut_step m k first is j own i next (inl there) =
     elim (nat_eq k j) as (λ b. nat_eq k j ≡ b → LeadsIn (remove m k) j own ⊎ LeadsIn (remove m k) first own) [
@@ -65,11 +67,13 @@ cut_step m k first is j own i next (inl there) =
     ] refl
 
 -- a chain need not pass a key twice: its last part begins at the key after k
-cut : (m : FinMap nat_cmp Construction) (k first : ℕ) → next_of m k ≡ Some first → (j own : ℕ) → LeadsIn m j own → LeadsIn (remove m k) j own ⊎ LeadsIn (remove m k) first own
+cut : (m : FinMap nat_cmp Construction) (k first : ℕ) → next_of m k ≡ Some first → (j own : ℕ) → LeadsIn m j own
+    → LeadsIn (remove m k) j own ⊎ LeadsIn (remove m k) first own
 cut m k first is j own (at_own i) = inl (at_own i)
 cut m k first is j own (by_next j' i next rest) = cut_step m k first is j own i next (cut m k first is i own rest)
 
-more_step : (m : FinMap nat_cmp Construction) (k n j own : ℕ) (o : Option ℕ) → ((i : ℕ) → leads_within (remove m k) n i own ≡ true → leads_within m n i own ≡ true) → next_of (remove m k) j ≡ o
+more_step : (m : FinMap nat_cmp Construction) (k n j own : ℕ) (o : Option ℕ)
+    → ((i : ℕ) → leads_within (remove m k) n i own ≡ true → leads_within m n i own ≡ true) → next_of (remove m k) j ≡ o
     → option_map_or (λ i. leads_within (remove m k) n i own) o false ≡ true → option_map_or (λ i. leads_within m n i own) (next_of m j) false ≡ true
 more_step m k n j own None again is e = absurd (both_ways false refl e)
 more_step m k n j own (Some i) again is e = ap (λ o. option_map_or (λ i. leads_within m n i own) o false) (kept_next m k j i is) ∙ again i e
@@ -77,7 +81,8 @@ more_step m k n j own (Some i) again is e = ap (λ o. option_map_or (λ i. leads
 more : (m : FinMap nat_cmp Construction) (k n j own : ℕ) → leads_within (remove m k) n j own ≡ true → leads_within m n j own ≡ true
 more m k zero j own e = e
 more m k (suc n) j own e =
-    elim (nat_eq j own) as (λ b. (b || option_map_or (λ i. leads_within (remove m k) n i own) (next_of (remove m k) j) false) ≡ true → (b || option_map_or (λ i. leads_within m n i own) (next_of m j) false) ≡ true) [
+    elim (nat_eq j own) as (λ b. (b || option_map_or (λ i. leads_within (remove m k) n i own) (next_of (remove m k) j) false) ≡ true
+    → (b || option_map_or (λ i. leads_within m n i own) (next_of m j) false) ≡ true) [
       | true ↦ λ e. refl
       | false ↦ λ e. more_step m k n j own (next_of (remove m k) j) (λ i. more m k n i own) refl e
     ] e
@@ -116,7 +121,8 @@ walk_says m k own true is = walk_sound m (len m) k own (sym is)
 walk_says m k own false is = λ leads. both_ways _ (sym is) (walk_complete (len m) m (omega arith) k own leads)
 
 -- one step of the walk
-pub walked : (m : FinMap nat_cmp Construction) (n left k own j : ℕ) (r : Bool) → n ≡ suc left → (k ≡ own → ⊥) → Some j ≡ next_of m k → leads_within m n k own ≡ r → leads_within m left j own ≡ r
+pub walked : (m : FinMap nat_cmp Construction) (n left k own j : ℕ) (r : Bool) → n ≡ suc left → (k ≡ own → ⊥) → Some j ≡ next_of m k
+    → leads_within m n k own ≡ r → leads_within m left j own ≡ r
 walked m n left k own j r e other is h =
     ap (λ o. option_map_or (λ i. leads_within m left i own) o false) is
     ∙ sym (ap (λ b. b || option_map_or (λ i. leads_within m left i own) (next_of m k) false) (ne_eqb k own other))
@@ -126,7 +132,9 @@ walked m n left k own j r e other is h =
 
 -- a handler's wait is the one that its construction shows
 next_is : (a : Sessions) (k : ℕ) → next_key a k ≡ next_of a.constructions k
-next_is a k = elim (map.get a.constructions k) as (λ o. option_map (λ w. w.key) (option_and_then (λ s. s.wait) (option_and_then (λ c. handler_in c.stage) o)) ≡ option_and_then waited_key o) [ None ↦ refl | Some c ↦ refl ]
+next_is a k =
+    elim (map.get a.constructions k) as (λ o. option_map (λ w. w.key) (option_and_then (λ s. s.wait) (option_and_then (λ c. handler_in c.stage) o))
+    ≡ option_and_then waited_key o) [ None ↦ refl | Some c ↦ refl ]
 
 to_own : (a : Sessions) (k own : ℕ) → LeadsIn a.constructions k own → Leads a k (Handler own)
 to_own a k own (at_own j) = its_own j

@@ -31,19 +31,26 @@ grows_twice a b c f g = record { links = λ ring k l. g.links ring k (f.links ri
 
 made : (kind : RingKind) (uid : ℕ) (old new : World) (ring : ℕ) → Makes kind uid old new ring → RingsFree old → KeepsDrawn old new → Grows old new
 made kind uid old new ring h free keeps = record {
-  links = λ r k l. ap (λ (w : World). is_linked w.rings r k) h.1 ∙ ap (has_key k) (get_inserted old.rings ring (empty_ring kind uid) r) ∙ by_ring r k l (nat_eq ring r) refl;
-  free = λ q n. ap (λ (w : World). map.get w.rings q) h.1 ∙ none_inserted old.rings ring (empty_ring kind uid) q (apart ring q old (sym (ap (λ (w : World). is_drawn w q) h.1) ∙ n)) (free q (keeps q n));
+  links =
+      λ r k l. ap (λ (w : World). is_linked w.rings r k) h.1 ∙ ap (has_key k) (get_inserted old.rings ring (empty_ring kind uid) r)
+      ∙ by_ring r k l (nat_eq ring r) refl;
+  free =
+      λ q n. ap (λ (w : World). map.get w.rings q) h.1 ∙ none_inserted old.rings ring (empty_ring kind uid) q
+      (apart ring q old (sym (ap (λ (w : World). is_drawn w q) h.1) ∙ n)) (free q (keeps q n));
 }
   where
-    by_ring : (r k : ℕ) → is_linked old.rings r k ≡ true → (b : Bool) → nat_eq ring r ≡ b → has_key k (cond b (Some (empty_ring kind uid)) (map.get old.rings r)) ≡ true
+    by_ring : (r k : ℕ) → is_linked old.rings r k ≡ true → (b : Bool) → nat_eq ring r ≡ b
+        → has_key k (cond b (Some (empty_ring kind uid)) (map.get old.rings r)) ≡ true
     by_ring r k l true t = absurd (both_ways _ (ap (has_key k) (ap (map.get old.rings) (sym (eqb-true ring r t)) ∙ free ring h.0.unused)) l)
     by_ring r k l false t = l
 
-made_if : (b : Bool) (kind : RingKind) (uid : ℕ) (old new : World) (ring : Option ℕ) → MakesIf b kind uid old new ring → RingsFree old → KeepsDrawn old new → Grows old new
+made_if : (b : Bool) (kind : RingKind) (uid : ℕ) (old new : World) (ring : Option ℕ) → MakesIf b kind uid old new ring → RingsFree old → KeepsDrawn old new
+    → Grows old new
 made_if false kind uid old new ring h free keeps = grows_not old new h.1 free
 made_if true kind uid old new ring h free keeps = made kind uid old new h.0 h.2 free keeps
 
-session_made : (join : Option ℕ) (uid : ℕ) (old new : World) (ring : ℕ) → HasSessionRing join uid old new ring → RingsFree old → KeepsDrawn old new → Grows old new
+session_made : (join : Option ℕ) (uid : ℕ) (old new : World) (ring : ℕ) → HasSessionRing join uid old new ring → RingsFree old → KeepsDrawn old new
+    → Grows old new
 session_made None uid old new ring h free keeps = made kind.Session uid old new ring h free keeps
 session_made (Some join) uid old new ring h free keeps = grows_not old new h.1 free
 
@@ -51,10 +58,15 @@ user_made : (uid : ℕ) (old new : World) (ring : ℕ) → HasUserRing uid old n
 user_made uid old new ring (inl h) free keeps = grows_not old new h.3 free
 user_made uid old new ring (inr h) free keeps = made kind.User uid old new ring h.1 free keeps
 
-pub rings_grow : (g : Greeting) (old new : World) (thread process : Option ℕ) (session user : ℕ) → MakesRings g old new thread process session user → RingsFree old → Grows old new
+pub rings_grow : (g : Greeting) (old new : World) (thread process : Option ℕ) (session user : ℕ) → MakesRings g old new thread process session user
+    → RingsFree old → Grows old new
 rings_grow g old new thread process session user h free =
-    let one : Grows old h.w1 = made_if g.thread kind.Thread g.uid old h.w1 thread h.thread_made free (if_drawn g.thread kind.Thread g.uid old h.w1 thread h.thread_made) in
-    let two : Grows h.w1 h.w2 = made_if g.process kind.Process g.uid h.w1 h.w2 process h.process_made one.free (if_drawn g.process kind.Process g.uid h.w1 h.w2 process h.process_made) in
-    let three : Grows h.w2 h.w3 = session_made g.join g.uid h.w2 h.w3 session h.session_made two.free (session_drawn g.join g.uid h.w2 h.w3 session h.session_made) in
+    let one : Grows old h.w1 =
+    made_if g.thread kind.Thread g.uid old h.w1 thread h.thread_made free (if_drawn g.thread kind.Thread g.uid old h.w1 thread h.thread_made) in
+    let two : Grows h.w1 h.w2 =
+    made_if g.process kind.Process g.uid h.w1 h.w2 process h.process_made one.free
+    (if_drawn g.process kind.Process g.uid h.w1 h.w2 process h.process_made) in
+    let three : Grows h.w2 h.w3 =
+    session_made g.join g.uid h.w2 h.w3 session h.session_made two.free (session_drawn g.join g.uid h.w2 h.w3 session h.session_made) in
     let four : Grows h.w3 new = user_made g.uid h.w3 new user h.user_made three.free (user_drawn g.uid h.w3 new user h.user_made) in
     grows_twice old h.w1 new one (grows_twice h.w1 h.w2 new two (grows_twice h.w2 h.w3 new three four))

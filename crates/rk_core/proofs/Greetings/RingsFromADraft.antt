@@ -35,7 +35,8 @@ none_of : {A B : Type 0} (f : A → B) (o : Option A) → option_map f o ≡ Non
 none_of f None e = refl
 none_of f (Some x) e = absurd (cc)
 
-one_seen : (m : Rings) (one : NewRing) → rings_seen (map.insert m one.serial (new_ring one)) ≡ map.insert (rings_seen m) one.serial (empty_ring one.kind one.uid)
+one_seen : (m : Rings) (one : NewRing) → rings_seen (map.insert m one.serial (new_ring one))
+    ≡ map.insert (rings_seen m) one.serial (empty_ring one.kind one.uid)
 one_seen m one = rings_seen-insert m one.serial (new_ring one) ∙ ap (map.insert (rings_seen m) one.serial) (ring_seen-new_ring one)
 
 -- what is new among the rings that are seen is new
@@ -52,25 +53,29 @@ with_all_seen (one ∷ more) m = with_all_seen more (map.insert m one.serial (ne
 
 -- ---- one more ring in a draft
 
-with_all_push : (made : List NewRing) (m : map.FinMap nat_cmp Ring) (one : NewRing) → with_all (made ++ one ∷ []) m ≡ map.insert (with_all made m) one.serial (empty_ring one.kind one.uid)
+with_all_push : (made : List NewRing) (m : map.FinMap nat_cmp Ring) (one : NewRing)
+    → with_all (made ++ one ∷ []) m ≡ map.insert (with_all made m) one.serial (empty_ring one.kind one.uid)
 with_all_push [] m one = refl
 with_all_push (first ∷ more) m one = with_all_push more (map.insert m first.serial (empty_ring first.kind first.uid)) one
 
-all_new_push : (made : List NewRing) (m : map.FinMap nat_cmp Ring) (one : NewRing) → AreAllNew made m → map.get (with_all made m) one.serial ≡ None → AreAllNew (made ++ one ∷ []) m
+all_new_push : (made : List NewRing) (m : map.FinMap nat_cmp Ring) (one : NewRing) → AreAllNew made m → map.get (with_all made m) one.serial ≡ None
+    → AreAllNew (made ++ one ∷ []) m
 all_new_push [] m one h none = (none, tt)
 all_new_push (first ∷ more) m one h none = (h.0, all_new_push more (map.insert m first.serial (empty_ring first.kind first.uid)) one h.1 none)
 
 -- a serial that is unused after a ring was made is neither the ring's, nor was it used before
 pub not_used : (d : Drawn) (k q : ℕ) → set.contains (with_drawn k d).used q ≡ false → (nat_eq k q ≡ false) × (set.contains d.used q ≡ false)
 not_used d k q h =
-    let e : (nat_eq k q || set.contains d.used q) ≡ false = sym (ap (λ b. b || set.contains d.used q) (tie q k)) ∙ sym (set.contains-insert nat_cmp_total d.used k q) ∙ h in
+    let e : (nat_eq k q || set.contains d.used q) ≡ false =
+    sym (ap (λ b. b || set.contains d.used q) (tie q k)) ∙ sym (set.contains-insert nat_cmp_total d.used k q) ∙ h in
     (or_left (nat_eq k q) (set.contains d.used q) e, or_right (nat_eq k q) (set.contains d.used q) e)
 
 -- a serial without a ring is still without one, where it is not the new ring's
 pub still_none : (rings : map.FinMap nat_cmp Ring) (k q : ℕ) (r : Ring) → nat_eq k q ≡ false → map.get rings q ≡ None → map.get (map.insert rings k r) q ≡ None
 still_none rings k q r other none = get_inserted rings k r q ∙ ap (λ b. cond b (Some r) (map.get rings q)) other ∙ none
 
-pub draft_more : (old new : Drawn) (made more : List NewRing) (rings : map.FinMap nat_cmp Ring) (one : NewRing) → IsFresh old one.serial → new ≡ with_drawn one.serial old → more ≡ made ++ one ∷ []
+pub draft_more : (old new : Drawn) (made more : List NewRing) (rings : map.FinMap nat_cmp Ring) (one : NewRing) → IsFresh old one.serial
+    → new ≡ with_drawn one.serial old → more ≡ made ++ one ∷ []
     → IsDraftOf old made rings → IsDraftOf new more rings
 draft_more old new made more rings one fresh n m f =
     let added : IsDraftOf (with_drawn one.serial old) (made ++ one ∷ []) rings = record {
@@ -82,15 +87,18 @@ draft_more old new made more rings one fresh n m f =
     } in
     subst (λ (s : Drawn). IsDraftOf s more rings) (sym n) (subst (λ es. IsDraftOf (with_drawn one.serial old) es rings) (sym m) added)
 
-pub makes_one : (old new : Drawn) (made more : List NewRing) (one : NewRing) → IsFresh old one.serial → new ≡ with_drawn one.serial old → more ≡ made ++ one ∷ []
+pub makes_one : (old new : Drawn) (made more : List NewRing) (one : NewRing) → IsFresh old one.serial → new ≡ with_drawn one.serial old
+    → more ≡ made ++ one ∷ []
     → (w : World) → Makes one.kind one.uid (drafted old made w) (drafted new more w) one.serial
 makes_one old new made more one fresh n m w =
-    let rings : with_all more w.rings ≡ map.insert (with_all made w.rings) one.serial (empty_ring one.kind one.uid) = ap (λ es. with_all es w.rings) m ∙ with_all_push made w.rings one in
+    let rings : with_all more w.rings ≡ map.insert (with_all made w.rings) one.serial (empty_ring one.kind one.uid) =
+    ap (λ es. with_all es w.rings) m ∙ with_all_push made w.rings one in
     (fresh, λ i. record w { serials = n i; rings = rings i })
 
 -- ---- an empty draft
 
-pub start_draft : (serials : Drawn) (made : List NewRing) (w : World) → serials ≡ w.serials → made ≡ [] → ((k : ℕ) → set.contains w.serials.used k ≡ false → map.get w.rings k ≡ None)
+pub start_draft : (serials : Drawn) (made : List NewRing) (w : World) → serials ≡ w.serials → made ≡ []
+    → ((k : ℕ) → set.contains w.serials.used k ≡ false → map.get w.rings k ≡ None)
     → IsDraftOf serials made w.rings
 start_draft serials made w s m unused =
     subst (λ es. IsDraftOf serials es w.rings) (sym m) (record { new = tt; more = λ k h. unused k (ap (λ (d : Drawn). set.contains d.used k) (sym s) ∙ h) })

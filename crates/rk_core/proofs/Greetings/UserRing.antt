@@ -44,7 +44,8 @@ passed p (Some x) h = (x, refl, h)
 
 -- the user ring that is found among the rings with numbers
 pub user_seen : (m : Rings) (uid : ℕ) (o : Option ℕ)
-    → MatchOption o ((k : ℕ) (r : Numbered) → map.get m k ≡ Some r → is_user_ring uid r ≡ false) (λ k. option_map_or (is_user_ring uid) (map.get m k) false ≡ true)
+    → MatchOption o ((k : ℕ) (r : Numbered) → map.get m k ≡ Some r → is_user_ring uid r ≡ false)
+    (λ k. option_map_or (is_user_ring uid) (map.get m k) false ≡ true)
     → (w : World) → rings_seen m ≡ w.rings → IsUserRing w uid o
 user_seen m uid None none w e = no_user w uid (λ k r there is.
     let x = some_of ring_seen (map.get m k) r (sym (get-rings_seen m k) ∙ ap (λ (n : map.FinMap nat_cmp Ring). map.get n k) e ∙ there) in
@@ -58,7 +59,8 @@ made_or_there : (w : World) (uid : ℕ) (o : Option ℕ) → IsUserRing w uid o 
 made_or_there w uid None none = ap (λ b. cond b 0 1) (sym none)
 made_or_there w uid (Some k) found = ap (λ b. cond b 0 1) (sym (user_there w uid k found.0 found.1 found.2))
 
-pub count_made : (w : World) (g : Greeting) (o : Option ℕ) → IsUserRing w g.uid o → cond g.thread 1 0 + cond g.process 1 0 + cond (is_none g.join) 1 0 + cond (is_none o) 1 0 ≡ rings_made w g
+pub count_made : (w : World) (g : Greeting) (o : Option ℕ) → IsUserRing w g.uid o
+    → cond g.thread 1 0 + cond g.process 1 0 + cond (is_none g.join) 1 0 + cond (is_none o) 1 0 ≡ rings_made w g
 count_made w g o is = ap (λ n. cond g.thread 1 0 + cond g.process 1 0 + cond (is_none g.join) 1 0 + n) (made_or_there w g.uid o is)
 
 -- ---- the other rings are no user rings
@@ -75,7 +77,8 @@ keeps_all uid w unused = record { there = λ k r h. h; users = λ k r h is. h; u
 same_world : (uid : ℕ) (old mid new : World) → new ≡ mid → KeepsUsers uid old mid → KeepsUsers uid old new
 same_world uid old mid new e h = subst (KeepsUsers uid old) (sym e) h
 
-made : (kind : RingKind) (uid : ℕ) → is_users kind uid uid ≡ false → (old mid new : World) (ring : ℕ) → Makes kind uid mid new ring → KeepsUsers uid old mid → KeepsUsers uid old new
+made : (kind : RingKind) (uid : ℕ) → is_users kind uid uid ≡ false → (old mid new : World) (ring : ℕ) → Makes kind uid mid new ring → KeepsUsers uid old mid
+    → KeepsUsers uid old new
 made kind uid other old mid new ring m h = same_world uid old _ new m.1 (record {
   there = λ k r at.
       get_inserted mid.rings ring (empty_ring kind uid) k
@@ -90,28 +93,33 @@ made kind uid other old mid new ring m h = same_world uid old _ new m.1 (record 
     not_there : (k : ℕ) (r : Ring) → map.get mid.rings k ≡ Some r → map.get mid.rings k ≡ None → ⊥
     not_there k r at none = let no : None ≡ Some r = sym none ∙ at in absurd (cc)
 
-    by_key : (k : ℕ) (r : Ring) (b : Bool) → cond b (Some (empty_ring kind uid)) (map.get mid.rings k) ≡ Some r → is_users r.kind r.uid uid ≡ true → map.get old.rings k ≡ Some r
+    by_key : (k : ℕ) (r : Ring) (b : Bool) → cond b (Some (empty_ring kind uid)) (map.get mid.rings k) ≡ Some r → is_users r.kind r.uid uid ≡ true
+        → map.get old.rings k ≡ Some r
     by_key k r true e is =
         let same : empty_ring kind uid ≡ r = cc in
         absurd (both_ways _ other (ap (λ (r : Ring). is_users r.kind r.uid uid) same ∙ is))
     by_key k r false e is = h.users k r e is
 
-pub keeps_if : (b : Bool) (kind : RingKind) (uid : ℕ) → is_users kind uid uid ≡ false → (old mid new : World) (ring : Option ℕ) → MakesIf b kind uid mid new ring → KeepsUsers uid old mid
+pub keeps_if : (b : Bool) (kind : RingKind) (uid : ℕ) → is_users kind uid uid ≡ false → (old mid new : World) (ring : Option ℕ)
+    → MakesIf b kind uid mid new ring → KeepsUsers uid old mid
     → KeepsUsers uid old new
 keeps_if false kind uid other old mid new ring m h = same_world uid old mid new m.1 h
 keeps_if true kind uid other old mid new ring m h = made kind uid other old mid new m.0 m.2 h
 
-pub keeps_session : (join : Option ℕ) (uid : ℕ) (old mid new : World) (ring : ℕ) → HasSessionRing join uid mid new ring → KeepsUsers uid old mid → KeepsUsers uid old new
+pub keeps_session : (join : Option ℕ) (uid : ℕ) (old mid new : World) (ring : ℕ) → HasSessionRing join uid mid new ring → KeepsUsers uid old mid
+    → KeepsUsers uid old new
 keeps_session None uid old mid new ring m h = made kind.Session uid refl old mid new ring m h
 keeps_session (Some join) uid old mid new ring m h = same_world uid old mid new m.1 h
 
 -- ---- what is drafted, as HELLO says it
 
-pub joined_or_made : (join : Option ℕ) (uid : ℕ) (old new : World) (ring : ℕ) → MakesOr join kind.Session uid old new ring → HasSessionRing join uid old new ring
+pub joined_or_made : (join : Option ℕ) (uid : ℕ) (old new : World) (ring : ℕ) → MakesOr join kind.Session uid old new ring
+    → HasSessionRing join uid old new ring
 joined_or_made None uid old new ring h = h
 joined_or_made (Some join) uid old new ring h = h
 
 -- the user ring that was there before the others were made, or a new one
-pub user_made : (uid : ℕ) (old mid new : World) (o : Option ℕ) (ring : ℕ) → IsUserRing old uid o → KeepsUsers uid old mid → MakesOr o kind.User uid mid new ring → HasUserRing uid mid new ring
+pub user_made : (uid : ℕ) (old mid new : World) (o : Option ℕ) (ring : ℕ) → IsUserRing old uid o → KeepsUsers uid old mid → MakesOr o kind.User uid mid new ring
+    → HasUserRing uid mid new ring
 user_made uid old mid new None ring none h m = inr (no_user mid uid (λ k r at is. both_ways _ none (user_there old uid k r (h.users k r at is) is)), m)
 user_made uid old mid new (Some there) ring found h m = inl (found.0, ap (map.get mid.rings) m.0 ∙ h.there there found.0 found.1, found.2, m.1)

@@ -27,11 +27,13 @@ passing : (p : Key → Bool) (o : Option Key) → unwrap_or (option_map p o) fal
 passing p None e = absurd (both_ways false refl e)
 passing p (Some a) e = (a, refl, e)
 
-named_so : (keys : map.FinMap nat_cmp Key) (k : ℕ) (key : Key) (typ description : List ℕ) → map.get keys k ≡ Some key → has_name keys k typ description ≡ is_named typ description key
+named_so : (keys : map.FinMap nat_cmp Key) (k : ℕ) (key : Key) (typ description : List ℕ) → map.get keys k ≡ Some key
+    → has_name keys k typ description ≡ is_named typ description key
 named_so keys k key typ description is = ap (λ o. unwrap_or (option_map (is_named typ description) o) false) is
 
 -- the number of one key of the name
-pub by_namesake : (known : Known) (typ description : List ℕ) (q n : ℕ) → IsNaming known.keys known.numbers → has_name known.keys q typ description ≡ true → map.get known.numbers q ≡ Some n
+pub by_namesake : (known : Known) (typ description : List ℕ) (q n : ℕ) → IsNaming known.keys known.numbers → has_name known.keys q typ description ≡ true
+    → map.get known.numbers q ≡ Some n
     → IsNameOf known typ description (Some n)
 by_namesake known typ description q n naming named number = λ k m is.
     let b = key_of known k m naming is in

@@ -36,7 +36,8 @@ linked_somewhere rings k h =
     (f.0, ap (has_key k) f.2 ∙ f.3)
 
 -- whoever keeps each link of a key keeps one
-pub links_kept : (old new : Rings) (k : ℕ) → ((ring : ℕ) → is_linked old ring k ≡ true → is_linked new ring k ≡ true) → has_link old k ≡ true → has_link new k ≡ true
+pub links_kept : (old new : Rings) (k : ℕ) → ((ring : ℕ) → is_linked old ring k ≡ true → is_linked new ring k ≡ true) → has_link old k ≡ true
+    → has_link new k ≡ true
 links_kept old new k keeps h = let l = linked_somewhere old k h in link_somewhere new l.0 k (keeps l.0 l.1)
 
 pub same_answer : (a b : Bool) → (a ≡ true → b ≡ true) → (b ≡ true → a ≡ true) → a ≡ b
@@ -57,14 +58,17 @@ at_changed true f (Some r) k keeps h = keeps r h refl
 at_changed false f o k keeps h = h
 
 -- a link that the change of its ring keeps is there
-pub link_stays : (rings : Rings) (ring : ℕ) (f : Ring → Ring) (q k : ℕ) → ((r : Ring) → set.contains r.keys k ≡ true → nat_eq ring q ≡ true → set.contains (f r).keys k ≡ true)
+pub link_stays : (rings : Rings) (ring : ℕ) (f : Ring → Ring) (q k : ℕ)
+    → ((r : Ring) → set.contains r.keys k ≡ true → nat_eq ring q ≡ true → set.contains (f r).keys k ≡ true)
     → is_linked rings q k ≡ true → is_linked (changed_at ring f rings) q k ≡ true
 link_stays rings ring f q k keeps h =
     ap (has_key k) (get_changed_at ring f rings q) ∙ at_changed (nat_eq ring q) f (map.get rings q) k keeps h
 
-put_in : (gives_way : ℕ → Bool) (k : ℕ) (r : Ring) (j : ℕ) → set.contains r.keys j ≡ true → (set.contains r.keys k ≡ false → gives_way j ≡ false) → set.contains (with_link gives_way k r).keys j ≡ true
+put_in : (gives_way : ℕ → Bool) (k : ℕ) (r : Ring) (j : ℕ) → set.contains r.keys j ≡ true → (set.contains r.keys k ≡ false → gives_way j ≡ false)
+    → set.contains (with_link gives_way k r).keys j ≡ true
 put_in gives_way k r j there free =
-    elim (set.contains r.keys k) as (λ b. (b ≡ false → gives_way j ≡ false) → set.contains (cond b r.keys (set.retain (set.insert r.keys k) (λ i. not (gives_way i)))) j ≡ true) [
+    elim (set.contains r.keys k) as (λ b. (b ≡ false → gives_way j ≡ false)
+    → set.contains (cond b r.keys (set.retain (set.insert r.keys k) (λ i. not (gives_way i)))) j ≡ true) [
       | true ↦ λ _. there
       | false ↦ λ free.
           set.contains-retain (set.insert r.keys k) (λ i. not (gives_way i)) j (λ x t. ap (λ i. not (gives_way i)) (sym (set.nat_cmp-IsAntisymmetric j x t)))
@@ -77,16 +81,20 @@ put_in gives_way k r j there free =
     kept_both false = refl
 
 -- a link to a key that does not give way
-pub stays_linked : (rings : Rings) (ring : ℕ) (gives_way : ℕ → Bool) (k q j : ℕ) → (is_linked rings ring k ≡ false → is_linked rings ring j ≡ true → gives_way j ≡ false)
+pub stays_linked : (rings : Rings) (ring : ℕ) (gives_way : ℕ → Bool) (k q j : ℕ)
+    → (is_linked rings ring k ≡ false → is_linked rings ring j ≡ true → gives_way j ≡ false)
     → is_linked rings q j ≡ true → is_linked (changed_at ring (with_link gives_way k) rings) q j ≡ true
 stays_linked rings ring gives_way k q j free h = by_ring (map.get rings q) refl
   where
-    at_ring : (r : Ring) → map.get rings q ≡ Some r → (x : Ring) → set.contains x.keys j ≡ true → nat_eq ring q ≡ true → x ≡ r → set.contains (with_link gives_way k x).keys j ≡ true
+    at_ring : (r : Ring) → map.get rings q ≡ Some r → (x : Ring) → set.contains x.keys j ≡ true → nat_eq ring q ≡ true → x ≡ r
+        → set.contains (with_link gives_way k x).keys j ≡ true
     at_ring r is x there same e =
         let here : map.get rings ring ≡ Some r = ap (map.get rings) (eqb-true ring q same) ∙ is in
-        put_in gives_way k x j there (λ not_there. free (ap (has_key k) here ∙ ap (λ (y : Ring). set.contains y.keys k) (sym e) ∙ not_there) (ap (has_key j) here ∙ ap (λ (y : Ring). set.contains y.keys j) (sym e) ∙ there))
+        put_in gives_way k x j there (λ not_there. free (ap (has_key k) here ∙ ap (λ (y : Ring). set.contains y.keys k) (sym e) ∙ not_there)
+        (ap (has_key j) here ∙ ap (λ (y : Ring). set.contains y.keys j) (sym e) ∙ there))
 
-    by_option : (b : Bool) (o : Option Ring) → has_key j o ≡ true → ((r : Ring) → o ≡ Some r → b ≡ true → set.contains (with_link gives_way k r).keys j ≡ true) → has_key j (cond b (option_map (with_link gives_way k) o) o) ≡ true
+    by_option : (b : Bool) (o : Option Ring) → has_key j o ≡ true → ((r : Ring) → o ≡ Some r → b ≡ true → set.contains (with_link gives_way k r).keys j ≡ true)
+        → has_key j (cond b (option_map (with_link gives_way k) o) o) ≡ true
     by_option true None there keeps = there
     by_option true (Some r) there keeps = keeps r refl refl
     by_option false o there keeps = there
@@ -97,7 +105,8 @@ stays_linked rings ring gives_way k q j free h = by_ring (map.get rings q) refl
         ∙ by_option (nat_eq ring q) (map.get rings q) h (λ r there same. at_ring r there r (ap (has_key j) (sym there) ∙ h) same refl)
 
 -- a link to another key
-pub stays_unlinked : (rings : Rings) (ring k q j : ℕ) → nat_eq k j ≡ false → is_linked rings q j ≡ true → is_linked (changed_at ring (without_link k) rings) q j ≡ true
+pub stays_unlinked : (rings : Rings) (ring k q j : ℕ) → nat_eq k j ≡ false → is_linked rings q j ≡ true
+    → is_linked (changed_at ring (without_link k) rings) q j ≡ true
 stays_unlinked rings ring k q j other h =
     link_stays rings ring (without_link k) q j (λ r there same. set.contains-remove nat_cmp_total r.keys k j ∙ (λ i. not ((tie j k ∙ other) i) && there i)) h
 

@@ -27,7 +27,8 @@ use Rattle.rk_core.proofs.LinksAndNames.KeysOfAName.{IsNameOf, by_key, gives_way
 
 -- ---- a link is put in
 
-way : (known : Known) (rings : Rings) (ring k n : ℕ) (r : Numbered) → IsNaming known.keys known.numbers → IsKept known rings → map.get known.numbers k ≡ Some n → map.get rings ring ≡ Some r
+way : (known : Known) (rings : Rings) (ring k n : ℕ) (r : Numbered) → IsNaming known.keys known.numbers → IsKept known rings → map.get known.numbers k ≡ Some n
+    → map.get rings ring ≡ Some r
     → GivesWay (is_rival known.keys k) k n r
 way known rings ring k n r naming kept number there = (
   gives_way_by known k n k n naming number number ∙ ap (λ b. not b && nat_eq n n) (eq-eqb k k refl),
@@ -37,7 +38,8 @@ way known rings ring k n r naming kept number there = (
 pub seen_linked : (known : Known) (rings : Rings) (ring k n : ℕ) → IsNaming known.keys known.numbers → IsKept known rings → map.get known.numbers k ≡ Some n
     → rings_seen (changed_at ring (linked k n) rings) ≡ changed_at ring (with_link (is_rival known.keys k) k) (rings_seen rings)
 seen_linked known rings ring k n naming kept number =
-    rings_seen-changed_at ring (linked k n) (with_link (is_rival known.keys k) k) rings (λ r there. ring_seen-linked (is_rival known.keys k) k n r (way known rings ring k n r naming kept number there))
+    rings_seen-changed_at ring (linked k n) (with_link (is_rival known.keys k) k) rings
+    (λ r there. ring_seen-linked (is_rival known.keys k) k n r (way known rings ring k n r naming kept number there))
 
 -- ---- where there is room
 
@@ -60,7 +62,8 @@ item_passes p s k there is = among p k is (set.items s) (sym (set.contains-items
 one_of : (p : ℕ → Bool) (ks : List ℕ) → list_any p ks ≡ true → (k : ℕ) × (list_any (eq_by_cmp nat_cmp k) ks ≡ true) × (p k ≡ true)
 one_of p [] h = absurd (both_ways false refl h)
 one_of p (j ∷ ks) h =
-    elim (p j) as (λ b. p j ≡ b → (b || list_any p ks) ≡ true → (k : ℕ) × ((eq_by_cmp nat_cmp k j || list_any (eq_by_cmp nat_cmp k) ks) ≡ true) × (p k ≡ true)) [
+    elim (p j) as (λ b. p j ≡ b → (b || list_any p ks) ≡ true → (k : ℕ) × ((eq_by_cmp nat_cmp k j || list_any (eq_by_cmp nat_cmp k) ks) ≡ true)
+    × (p k ≡ true)) [
       | true ↦ λ t h. (j, ap (λ b. b || list_any (eq_by_cmp nat_cmp j) ks) (tied_itself j), t)
       | false ↦ λ t h. let f = one_of p ks h in (f.0, ap (λ b. eq_by_cmp nat_cmp f.0 j || b) f.1 ∙ or_true (eq_by_cmp nat_cmp f.0 j), f.2)
     ] refl h
@@ -72,36 +75,44 @@ pub some_there : {A : Type 0} (o : Option A) → is_some o ≡ true → (x : A) 
 some_there None h = absurd (both_ways false refl h)
 some_there (Some x) h = (x, refl)
 
-holds_alike : (known : Known) (rings : Rings) (ring : ℕ) (r : Numbered) (typ description : List ℕ) (name : Option ℕ) → IsKept known rings → IsNameOf known typ description name → map.get rings ring ≡ Some r
+holds_alike : (known : Known) (rings : Rings) (ring : ℕ) (r : Numbered) (typ description : List ℕ) (name : Option ℕ) → IsKept known rings
+    → IsNameOf known typ description name → map.get rings ring ≡ Some r
     → option_map_or (has_number r) name false ≡ holds_name known.keys (ring_seen r) typ description
 holds_alike known rings ring r typ description name kept names there = same_answer _ _ (has name names) (λ h.
     let f = passing_item (λ k. has_name known.keys k typ description) (ring_seen r).keys h in
     let m = some_there (map.get r.links f.0) (sym (contains-ring_seen r f.0) ∙ f.1) in
     number name f.0 m.0 m.1 (sym (names f.0 m.0 (kept.numbered ring f.0 m.0 r there m.1)) ∙ f.2))
   where
-    has : (name : Option ℕ) → IsNameOf known typ description name → option_map_or (has_number r) name false ≡ true → holds_name known.keys (ring_seen r) typ description ≡ true
+    has : (name : Option ℕ) → IsNameOf known typ description name → option_map_or (has_number r) name false ≡ true
+        → holds_name known.keys (ring_seen r) typ description ≡ true
     has None names h = absurd (both_ways false refl h)
     has (Some n) names h =
         let f = entry_found (λ (e : ℕ × ℕ). nat_eq e.1 n) r.links (sym (any_value (λ m. nat_eq m n) r.links) ∙ h) in
-        item_passes (λ k. has_name known.keys k typ description) (ring_seen r).keys f.0 (contains-ring_seen r f.0 ∙ ap is_some f.2) (names f.0 f.1 (kept.numbered ring f.0 f.1 r there f.2) ∙ f.3)
+        item_passes (λ k. has_name known.keys k typ description) (ring_seen r).keys f.0 (contains-ring_seen r f.0 ∙ ap is_some f.2)
+        (names f.0 f.1 (kept.numbered ring f.0 f.1 r there f.2) ∙ f.3)
 
-    number : (name : Option ℕ) (k m : ℕ) → map.get r.links k ≡ Some m → option_map_or (λ n. nat_eq m n) name false ≡ true → option_map_or (has_number r) name false ≡ true
+    number : (name : Option ℕ) (k m : ℕ) → map.get r.links k ≡ Some m → option_map_or (λ n. nat_eq m n) name false ≡ true
+        → option_map_or (has_number r) name false ≡ true
     number None k m is h = h
     number (Some n) k m is h = any_value (λ m. nat_eq m n) r.links ∙ some_entry (λ (e : ℕ × ℕ). nat_eq e.1 n) r.links k m is h
 
 -- a ring is full by the number of a name where it is full by the name
-pub full_alike : (known : Known) (rings : Rings) (ring : ℕ) (typ description : List ℕ) (name : Option ℕ) → IsKept known rings → IsNameOf known typ description name
+pub full_alike : (known : Known) (rings : Rings) (ring : ℕ) (typ description : List ℕ) (name : Option ℕ) → IsKept known rings
+    → IsNameOf known typ description name
     → numbered.is_full_at rings ring name ≡ option_map_or (is_full known.keys typ description) (map.get (rings_seen rings) ring) false
-full_alike known rings ring typ description name kept names = by_ring (map.get rings ring) refl ∙ sym (ap (λ o. option_map_or (is_full known.keys typ description) o false) (get-rings_seen rings ring))
+full_alike known rings ring typ description name kept names =
+    by_ring (map.get rings ring) refl ∙ sym (ap (λ o. option_map_or (is_full known.keys typ description) o false) (get-rings_seen rings ring))
   where
-    by_ring : (o : Option Numbered) → map.get rings ring ≡ o → option_map_or (numbered.is_full name) o false ≡ option_map_or (is_full known.keys typ description) (option_map ring_seen o) false
+    by_ring : (o : Option Numbered) → map.get rings ring ≡ o
+        → option_map_or (numbered.is_full name) o false ≡ option_map_or (is_full known.keys typ description) (option_map ring_seen o) false
     by_ring None is = refl
     by_ring (Some r) is = λ i. nat_le 256 (sym (len-ring_seen r) i) && not (holds_alike known rings ring r typ description name kept names is i)
 
 -- ---- the call that links
 
 not_there : (rings : Rings) (ring k : ℕ) (f : Ring → Ring) → map.contains_key rings ring ≡ false → changed_at ring f (rings_seen rings) ≡ rings_seen rings
-not_there rings ring k f h = ap (λ o. option_map_or (λ v. map.insert (rings_seen rings) ring (f v)) o (rings_seen rings)) (get-rings_seen rings ring ∙ none (map.get rings ring) h)
+not_there rings ring k f h =
+    ap (λ o. option_map_or (λ v. map.insert (rings_seen rings) ring (f v)) o (rings_seen rings)) (get-rings_seen rings ring ∙ none (map.get rings ring) h)
   where
     none : (o : Option Numbered) → is_some o ≡ false → option_map ring_seen o ≡ None
     none None h = refl
@@ -109,22 +120,28 @@ not_there rings ring k f h = ap (λ o. option_map_or (λ v. map.insert (rings_se
 
 -- where the ring has room for the key, the key is linked, or there is no ring
 pub link_seen : (known : Known) (rings new : Rings) (ring k n : ℕ) (key : Key) (r : Result ⊤ RingFault) → IsNaming known.keys known.numbers → IsKept known rings
-    → map.get known.keys k ≡ Some key → map.get known.numbers k ≡ Some n → option_map_or (is_full known.keys key.typ key.description) (map.get (rings_seen rings) ring) false ≡ false
+    → map.get known.keys k ≡ Some key → map.get known.numbers k ≡ Some n
+    → option_map_or (is_full known.keys key.typ key.description) (map.get (rings_seen rings) ring) false ≡ false
     → OnOk r (new ≡ changed_at ring (linked k n) rings) → OnErr r (new ≡ rings) → ((r ≡ Err fault.NoRing) ↔ (map.contains_key rings ring ≡ false))
-    → ((r ≡ Err fault.Full) ↔ ((numbered.is_full_at rings ring (Some n) ≡ true) × (holds rings ring k ≡ false))) → IfErr r (λ f. (f ≡ fault.NoRing) ⊎ (f ≡ fault.Full))
+    → ((r ≡ Err fault.Full) ↔ ((numbered.is_full_at rings ring (Some n) ≡ true) × (holds rings ring k ≡ false)))
+    → IfErr r (λ f. (f ≡ fault.NoRing) ⊎ (f ≡ fault.Full))
     → rings_seen new ≡ changed_at ring (with_link (is_rival known.keys k) k) (rings_seen rings)
-link_seen known rings new ring k n key (Ok x) naming kept there number room ok err none full others = ap rings_seen ok ∙ seen_linked known rings ring k n naming kept number
+link_seen known rings new ring k n key (Ok x) naming kept there number room ok err none full others =
+    ap rings_seen ok ∙ seen_linked known rings ring k n naming kept number
 link_seen known rings new ring k n key (Err f) naming kept there number room ok err none full others = by_fault others
   where
     by_fault : (f ≡ fault.NoRing) ⊎ (f ≡ fault.Full) → rings_seen new ≡ changed_at ring (with_link (is_rival known.keys k) k) (rings_seen rings)
     by_fault (inl e) = ap rings_seen err ∙ sym (not_there rings ring k (with_link (is_rival known.keys k) k) (none.0 (ap (λ (x : RingFault). Err x) e)))
     by_fault (inr e) =
-        absurd (both_ways _ room (sym (full_alike known rings ring key.typ key.description (Some n) kept (by_key known k n key naming there number)) ∙ (full.0 (ap (λ (x : RingFault). Err x) e)).0))
+        absurd (both_ways _ room (sym (full_alike known rings ring key.typ key.description (Some n) kept (by_key known k n key naming there number))
+        ∙ (full.0 (ap (λ (x : RingFault). Err x) e)).0))
 
 -- ---- the key that gives way
 
-pub linked_is : (rings : Rings) (ring k : ℕ) (r : Numbered) (o : Option ℕ) → map.get rings ring ≡ Some r → map.get r.links k ≡ o → is_linked (rings_seen rings) ring k ≡ is_some o
-linked_is rings ring k r o there is = is_linked-rings_seen rings ring k ∙ ap (λ x. option_map_or (λ (r : Numbered). map.contains_key r.links k) x false) there ∙ ap is_some is
+pub linked_is : (rings : Rings) (ring k : ℕ) (r : Numbered) (o : Option ℕ) → map.get rings ring ≡ Some r → map.get r.links k ≡ o
+    → is_linked (rings_seen rings) ring k ≡ is_some o
+linked_is rings ring k r o there is =
+    is_linked-rings_seen rings ring k ∙ ap (λ x. option_map_or (λ (r : Numbered). map.contains_key r.links k) x false) there ∙ ap is_some is
 
 pub not_linked : (rings : Rings) (ring k : ℕ) → map.get rings ring ≡ None → is_linked (rings_seen rings) ring k ≡ false
 not_linked rings ring k none = is_linked-rings_seen rings ring k ∙ ap (λ x. option_map_or (λ (r : Numbered). map.contains_key r.links k) x false) none
@@ -137,13 +154,15 @@ pub last_false : (a b : Bool) → b ≡ false → (a && b) ≡ false
 last_false true b h = h
 last_false false b h = refl
 
-module _ (known : Known) (rings : Rings) (ring k n : ℕ) (naming : IsNaming known.keys known.numbers) (kept : IsKept known rings) (number : map.get known.numbers k ≡ Some n) where
+module _ (known : Known) (rings : Rings) (ring k n : ℕ) (naming : IsNaming known.keys known.numbers) (kept : IsKept known rings)
+    (number : map.get known.numbers k ≡ Some n) where
   -- in the ring, where j has this number, and f is the one key of the number n
   one_match : (r : Numbered) (f j m : ℕ) → map.get rings ring ≡ Some r → map.get r.links f ≡ Some n
       → ((i : ℕ) → map.get r.links i ≡ Some n → i ≡ f) → map.get r.links j ≡ Some m
       → ((not (is_linked (rings_seen rings) ring k) && is_linked (rings_seen rings) ring j) && is_rival known.keys k j) ≡ (nat_eq j f && not (nat_eq f k))
   one_match r f j m there match sole link =
-      (λ i. (not (is_linked (rings_seen rings) ring k) && linked_is rings ring j r (Some m) there link i) && gives_way_by known k n j m naming number (kept.numbered ring j m r there link) i)
+      (λ i. (not (is_linked (rings_seen rings) ring k) && linked_is rings ring j r (Some m) there link i)
+      && gives_way_by known k n j m naming number (kept.numbered ring j m r there link) i)
       ∙ by_match (nat_eq j f) refl
     where
       self_or_not : (b : Bool) → nat_eq f k ≡ b → ((not (is_linked (rings_seen rings) ring k) && true) && (not b && true)) ≡ not b
@@ -157,47 +176,58 @@ module _ (known : Known) (rings : Rings) (ring k n : ℕ) (naming : IsNaming kno
               let same : Some x.0 ≡ Some n = sym (kept.numbered ring k x.0 r there x.1) ∙ number in
               absurd (both_ways _ t (ap (λ q. nat_eq f q) (sole k (x.1 ∙ same)) ∙ eq-eqb f f refl))
 
-      by_match : (b : Bool) → nat_eq j f ≡ b → ((not (is_linked (rings_seen rings) ring k) && true) && (not (nat_eq j k) && nat_eq m n)) ≡ (b && not (nat_eq f k))
+      by_match : (b : Bool) → nat_eq j f ≡ b → ((not (is_linked (rings_seen rings) ring k) && true) && (not (nat_eq j k) && nat_eq m n))
+          ≡ (b && not (nat_eq f k))
       by_match true t =
           let e : j ≡ f = eqb-true j f t in
           let same : Some m ≡ Some n = sym link ∙ ap (map.get r.links) e ∙ match in
           let mn : m ≡ n = cc in
-          (λ i. (not (is_linked (rings_seen rings) ring k) && true) && (not (nat_eq (e i) k) && (ap (λ x. nat_eq x n) mn ∙ eq-eqb n n refl) i)) ∙ self_or_not (nat_eq f k) refl
+          (λ i. (not (is_linked (rings_seen rings) ring k) && true) && (not (nat_eq (e i) k) && (ap (λ x. nat_eq x n) mn ∙ eq-eqb n n refl) i))
+          ∙ self_or_not (nat_eq f k) refl
       by_match false t =
           last_false (not (is_linked (rings_seen rings) ring k) && true) (not (nat_eq j k) && nat_eq m n)
           (last_false (not (nat_eq j k)) (nat_eq m n) (ne_eqb m n (λ e. both_ways _ t (eq-eqb j f (sole j (link ∙ ap (λ (x : ℕ). Some x) e))))))
 
   -- what is found by the number is what gives way, where it is another key
   pub rival_seen : (found : Option ℕ) → IsMatch rings n (Some ring) found → (j : ℕ)
-      → ((not (is_linked (rings_seen rings) ring k) && is_linked (rings_seen rings) ring j) && is_rival known.keys k j) ≡ option_map_or (λ f. nat_eq j f && not (nat_eq f k)) found false
+      → ((not (is_linked (rings_seen rings) ring k) && is_linked (rings_seen rings) ring j) && is_rival known.keys k j)
+      ≡ option_map_or (λ f. nat_eq j f && not (nat_eq f k)) found false
   rival_seen (Some f) h j = by_link (map.get h.0.links j) refl
     where
       by_link : (o : Option ℕ) → map.get h.0.links j ≡ o
           → ((not (is_linked (rings_seen rings) ring k) && is_linked (rings_seen rings) ring j) && is_rival known.keys k j) ≡ (nat_eq j f && not (nat_eq f k))
       by_link None is =
-          both_false (not (is_linked (rings_seen rings) ring k)) (is_linked (rings_seen rings) ring j) (is_rival known.keys k j) (linked_is rings ring j h.0 None h.1 is)
+          both_false (not (is_linked (rings_seen rings) ring k)) (is_linked (rings_seen rings) ring j) (is_rival known.keys k j)
+          (linked_is rings ring j h.0 None h.1 is)
           ∙ ap (λ b. b && not (nat_eq f k)) (sym (ne_eqb j f (λ e. let no : None ≡ Some n = sym is ∙ ap (map.get h.0.links) e ∙ h.2 in absurd (cc))))
       by_link (Some m) is = one_match h.0 f j m h.1 h.2 h.3 is
   rival_seen None h j = by_ring (map.get rings ring) refl
     where
       by_link : (r : Numbered) → map.get rings ring ≡ Some r → (o : Option ℕ) → map.get r.links j ≡ o
           → ((not (is_linked (rings_seen rings) ring k) && is_linked (rings_seen rings) ring j) && is_rival known.keys k j) ≡ false
-      by_link r there None is = both_false (not (is_linked (rings_seen rings) ring k)) (is_linked (rings_seen rings) ring j) (is_rival known.keys k j) (linked_is rings ring j r None there is)
+      by_link r there None is =
+          both_false (not (is_linked (rings_seen rings) ring k)) (is_linked (rings_seen rings) ring j) (is_rival known.keys k j)
+          (linked_is rings ring j r None there is)
       by_link r there (Some m) is =
           last_false (not (is_linked (rings_seen rings) ring k) && is_linked (rings_seen rings) ring j) (is_rival known.keys k j)
-          (gives_way_by known k n j m naming number (kept.numbered ring j m r there is) ∙ last_false (not (nat_eq j k)) (nat_eq m n) (ne_eqb m n (λ e. h r there j (is ∙ ap (λ (x : ℕ). Some x) e))))
+          (gives_way_by known k n j m naming number (kept.numbered ring j m r there is)
+          ∙ last_false (not (nat_eq j k)) (nat_eq m n) (ne_eqb m n (λ e. h r there j (is ∙ ap (λ (x : ℕ). Some x) e))))
 
-      by_ring : (o : Option Numbered) → map.get rings ring ≡ o → ((not (is_linked (rings_seen rings) ring k) && is_linked (rings_seen rings) ring j) && is_rival known.keys k j) ≡ false
-      by_ring None none = both_false (not (is_linked (rings_seen rings) ring k)) (is_linked (rings_seen rings) ring j) (is_rival known.keys k j) (not_linked rings ring j none)
+      by_ring : (o : Option Numbered) → map.get rings ring ≡ o
+          → ((not (is_linked (rings_seen rings) ring k) && is_linked (rings_seen rings) ring j) && is_rival known.keys k j) ≡ false
+      by_ring None none =
+          both_false (not (is_linked (rings_seen rings) ring k)) (is_linked (rings_seen rings) ring j) (is_rival known.keys k j) (not_linked rings ring j none)
       by_ring (Some r) there = by_link r there (map.get r.links j) refl
 
 -- ---- the calls that take links out
 
 pub unlink_seen : (rings new : Rings) (ring k : ℕ) (r : Result ⊤ RingFault) → is_linked (rings_seen rings) ring k ≡ true
     → OnOk r (new ≡ changed_at ring (unlinked k) rings) → ((r ≡ Err fault.NoRing) ↔ (map.contains_key rings ring ≡ false))
-    → ((r ≡ Err fault.NotLinked) ↔ ((map.contains_key rings ring ≡ true) × (holds rings ring k ≡ false))) → IfErr r (λ f. (f ≡ fault.NoRing) ⊎ (f ≡ fault.NotLinked))
+    → ((r ≡ Err fault.NotLinked) ↔ ((map.contains_key rings ring ≡ true) × (holds rings ring k ≡ false)))
+    → IfErr r (λ f. (f ≡ fault.NoRing) ⊎ (f ≡ fault.NotLinked))
     → rings_seen new ≡ changed_at ring (without_link k) (rings_seen rings)
-unlink_seen rings new ring k (Ok x) there ok none missing others = ap rings_seen ok ∙ rings_seen-changed_at ring (unlinked k) (without_link k) rings (λ r _. ring_seen-unlinked k r)
+unlink_seen rings new ring k (Ok x) there ok none missing others =
+    ap rings_seen ok ∙ rings_seen-changed_at ring (unlinked k) (without_link k) rings (λ r _. ring_seen-unlinked k r)
 unlink_seen rings new ring k (Err f) there ok none missing others = absurd (by_fault others)
   where
     linked_there : (o : Option Numbered) → option_map_or (λ (r : Numbered). map.contains_key r.links k) o false ≡ true → is_some o ≡ false → ⊥
@@ -208,16 +238,21 @@ unlink_seen rings new ring k (Err f) there ok none missing others = absurd (by_f
     by_fault (inl e) = linked_there (map.get rings ring) (sym (is_linked-rings_seen rings ring k) ∙ there) (none.0 (ap (λ (x : RingFault). Err x) e))
     by_fault (inr e) = both_ways _ (missing.0 (ap (λ (x : RingFault). Err x) e)).1 (sym (is_linked-rings_seen rings ring k) ∙ there)
 
-pub drop_seen : (rings new : Rings) (ring : ℕ) (r : Result ⊤ RingFault) → OnOk r (new ≡ map.remove rings ring) → OnErr r (new ≡ rings) → ((r ≡ Err fault.NoRing) ↔ (map.contains_key rings ring ≡ false))
+pub drop_seen : (rings new : Rings) (ring : ℕ) (r : Result ⊤ RingFault) → OnOk r (new ≡ map.remove rings ring) → OnErr r (new ≡ rings)
+    → ((r ≡ Err fault.NoRing) ↔ (map.contains_key rings ring ≡ false))
     → IfErr r (λ f. f ≡ fault.NoRing) → rings_seen new ≡ map.remove (rings_seen rings) ring
 drop_seen rings new ring (Ok x) ok err none others = ap rings_seen ok ∙ rings_seen-remove rings ring
 drop_seen rings new ring (Err f) ok err none others =
     ap rings_seen err
-    ∙ map.same_map nat_cmp_total map.nat_cmp-IsAntisymmetric _ _ (λ q. by_key q (nat_eq ring q) refl (map.get (rings_seen rings) q) refl ∙ sym (get_removed (rings_seen rings) ring q))
+    ∙ map.same_map nat_cmp_total map.nat_cmp-IsAntisymmetric _ _
+    (λ q. by_key q (nat_eq ring q) refl (map.get (rings_seen rings) q) refl ∙ sym (get_removed (rings_seen rings) ring q))
   where
-    by_key : (q : ℕ) (b : Bool) → nat_eq ring q ≡ b → (o : Option Ring) → map.get (rings_seen rings) q ≡ o → map.get (rings_seen rings) q ≡ cond b None (map.get (rings_seen rings) q)
+    by_key : (q : ℕ) (b : Bool) → nat_eq ring q ≡ b → (o : Option Ring) → map.get (rings_seen rings) q ≡ o
+        → map.get (rings_seen rings) q ≡ cond b None (map.get (rings_seen rings) q)
     by_key q false t o is = refl
     by_key q true t None is = is
     by_key q true t (Some r) is =
-        let gone : map.contains_key (rings_seen rings) q ≡ false = ap (map.contains_key (rings_seen rings)) (sym (eqb-true ring q t)) ∙ contains_key-rings_seen rings ring ∙ none.0 (ap (λ (x : RingFault). Err x) others) in
+        let gone : map.contains_key (rings_seen rings) q ≡ false =
+        ap (map.contains_key (rings_seen rings)) (sym (eqb-true ring q t)) ∙ contains_key-rings_seen rings ring
+        ∙ none.0 (ap (λ (x : RingFault). Err x) others) in
         absurd (both_ways _ gone (ap is_some is))

@@ -30,10 +30,12 @@ some_of : {A B : Type 0} (f : A → B) (o : Option A) (y : B) → option_map f o
 some_of f None y e = absurd (cc)
 some_of f (Some x) y e = (x, refl, cc)
 
-pub kept_changed : (known : Known) (rings : Rings) (ring : ℕ) (f : Numbered → Numbered) → IsFair known f → IsKept known rings → IsKept known (changed_at ring f rings)
+pub kept_changed : (known : Known) (rings : Rings) (ring : ℕ) (f : Numbered → Numbered) → IsFair known f → IsKept known rings
+    → IsKept known (changed_at ring f rings)
 kept_changed known rings ring f fair h = record {
   numbered = λ q k n r there link.
-      by_ring q (nat_eq ring q) r (λ old is e. by_link q k n old is (fair.numbers old k n (ap (λ (x : Numbered). map.get x.links k) e ∙ link))) (λ is. h.numbered q k n r is link)
+      by_ring q (nat_eq ring q) r (λ old is e. by_link q k n old is (fair.numbers old k n (ap (λ (x : Numbered). map.get x.links k) e ∙ link)))
+      (λ is. h.numbered q k n r is link)
       (sym (get_changed_at ring f rings q) ∙ there);
 }
   where
@@ -42,7 +44,8 @@ kept_changed known rings ring f fair h = record {
     by_ring q true r changed same e = let o = some_of f (map.get rings q) r e in changed o.0 o.1 o.2
     by_ring q false r changed same e = same e
 
-    by_link : (q k n : ℕ) (old : Numbered) → map.get rings q ≡ Some old → (map.get old.links k ≡ Some n) ⊎ (map.get known.numbers k ≡ Some n) → map.get known.numbers k ≡ Some n
+    by_link : (q k n : ℕ) (old : Numbered) → map.get rings q ≡ Some old → (map.get old.links k ≡ Some n) ⊎ (map.get known.numbers k ≡ Some n)
+        → map.get known.numbers k ≡ Some n
     by_link q k n old is (inl e) = h.numbered q k n old is e
     by_link q k n old is (inr e) = e
 
@@ -58,11 +61,13 @@ fair_link known k n is = record {
 fair_unlink : (known : Known) (k : ℕ) → IsFair known (unlinked k)
 fair_unlink known k = record { numbers = λ r j m e. inl (left_there r.links k j m e) }
 
-pub kept_link : (known : Known) (rings new : Rings) (ring k n : ℕ) → map.get known.numbers k ≡ Some n → (new ≡ changed_at ring (linked k n) rings) ⊎ (new ≡ rings) → IsKept known rings → IsKept known new
+pub kept_link : (known : Known) (rings new : Rings) (ring k n : ℕ) → map.get known.numbers k ≡ Some n
+    → (new ≡ changed_at ring (linked k n) rings) ⊎ (new ≡ rings) → IsKept known rings → IsKept known new
 kept_link known rings new ring k n is (inl e) h = subst (IsKept known) (sym e) (kept_changed known rings ring (linked k n) (fair_link known k n is) h)
 kept_link known rings new ring k n is (inr e) h = subst (IsKept known) (sym e) h
 
-pub kept_unlink : (known : Known) (rings new : Rings) (ring k : ℕ) → (new ≡ changed_at ring (unlinked k) rings) ⊎ (new ≡ rings) → IsKept known rings → IsKept known new
+pub kept_unlink : (known : Known) (rings new : Rings) (ring k : ℕ) → (new ≡ changed_at ring (unlinked k) rings) ⊎ (new ≡ rings) → IsKept known rings
+    → IsKept known new
 kept_unlink known rings new ring k (inl e) h = subst (IsKept known) (sym e) (kept_changed known rings ring (unlinked k) (fair_unlink known k) h)
 kept_unlink known rings new ring k (inr e) h = subst (IsKept known) (sym e) h
 
@@ -80,7 +85,8 @@ kept_one known rings wanted h = record {
       (sym (get_inserted rings wanted.serial (new_ring wanted) q) ∙ there);
 }
   where
-    by_key : {P : Type 0} (q : ℕ) (b : Bool) (r : Numbered) → (new_ring wanted ≡ r → P) → (map.get rings q ≡ Some r → P) → cond b (Some (new_ring wanted)) (map.get rings q) ≡ Some r → P
+    by_key : {P : Type 0} (q : ℕ) (b : Bool) (r : Numbered) → (new_ring wanted ≡ r → P) → (map.get rings q ≡ Some r → P)
+        → cond b (Some (new_ring wanted)) (map.get rings q) ≡ Some r → P
     by_key q true r new same e = let is : new_ring wanted ≡ r = cc in new is
     by_key q false r new same e = same e
 
@@ -98,26 +104,31 @@ kept_numbers known new rings e h = record {
 -- a link to a key, in some ring
 pub held_by : (rings : Rings) (ring k n : ℕ) (r : Numbered) → map.get rings ring ≡ Some r → map.get r.links k ≡ Some n → is_held rings k ≡ true
 held_by rings ring k n r there link =
-    any_value (λ (r : Numbered). map.contains_key r.links k) rings ∙ some_entry (λ (e : ℕ × Numbered). map.contains_key e.1.links k) rings ring r there (ap is_some link)
+    any_value (λ (r : Numbered). map.contains_key r.links k) rings ∙ some_entry (λ (e : ℕ × Numbered). map.contains_key e.1.links k) rings ring r there
+    (ap is_some link)
 
 pub kept_forget : (known : Known) (rings : Rings) (k : ℕ) → is_held rings k ≡ false → IsKept known rings → IsKept (without_key k known) rings
 kept_forget known rings k free h = record {
   numbered = λ q j n r there link. get_removed known.numbers k j ∙ by_key q j n r there link (nat_eq k j) refl;
 }
   where
-    by_key : (q j n : ℕ) (r : Numbered) → map.get rings q ≡ Some r → map.get r.links j ≡ Some n → (b : Bool) → nat_eq k j ≡ b → cond b None (map.get known.numbers j) ≡ Some n
+    by_key : (q j n : ℕ) (r : Numbered) → map.get rings q ≡ Some r → map.get r.links j ≡ Some n → (b : Bool) → nat_eq k j ≡ b
+        → cond b None (map.get known.numbers j) ≡ Some n
     by_key q j n r there link true t = absurd (both_ways _ free (ap (is_held rings) (eqb-true k j t) ∙ held_by rings q j n r there link))
     by_key q j n r there link false t = h.numbered q j n r there link
 
 -- a new key has no link yet
-pub kept_make : (known new : Known) (rings : Rings) (k : ℕ) (key : Key) → map.get known.numbers k ≡ None → Makes known k key new → IsKept known rings → IsKept new rings
+pub kept_make : (known new : Known) (rings : Rings) (k : ℕ) (key : Key) → map.get known.numbers k ≡ None → Makes known k key new → IsKept known rings
+    → IsKept new rings
 kept_make known new rings k key none makes h = record {
   numbered = λ q j n r there link.
       ap (λ (m : map.FinMap nat_cmp ℕ). map.get m j) makes.numbers ∙ get_inserted known.numbers k makes.number j ∙ by_key q j n r there link (nat_eq k j) refl;
 }
   where
-    by_key : (q j n : ℕ) (r : Numbered) → map.get rings q ≡ Some r → map.get r.links j ≡ Some n → (b : Bool) → nat_eq k j ≡ b → cond b (Some makes.number) (map.get known.numbers j) ≡ Some n
-    by_key q j n r there link true t = let e : None ≡ Some n = sym none ∙ ap (map.get known.numbers) (eqb-true k j t) ∙ h.numbered q j n r there link in absurd (cc)
+    by_key : (q j n : ℕ) (r : Numbered) → map.get rings q ≡ Some r → map.get r.links j ≡ Some n → (b : Bool) → nat_eq k j ≡ b
+        → cond b (Some makes.number) (map.get known.numbers j) ≡ Some n
+    by_key q j n r there link true t =
+        let e : None ≡ Some n = sym none ∙ ap (map.get known.numbers) (eqb-true k j t) ∙ h.numbered q j n r there link in absurd (cc)
     by_key q j n r there link false t = h.numbered q j n r there link
 
 -- what has no number is no key, and has no link
@@ -138,6 +149,7 @@ not_held known rings k h none = by_test (is_held rings k) refl
     by_test : (b : Bool) → is_held rings k ≡ b → is_held rings k ≡ false
     by_test false t = t
     by_test true t =
-        let f = entry_found (λ (e : ℕ × Numbered). map.contains_key e.1.links k) rings (sym (any_value (λ (r : Numbered). map.contains_key r.links k) rings) ∙ t) in
+        let f =
+        entry_found (λ (e : ℕ × Numbered). map.contains_key e.1.links k) rings (sym (any_value (λ (r : Numbered). map.contains_key r.links k) rings) ∙ t) in
         let n = there (map.get f.1.links k) f.3 in
         let no : None ≡ Some n.0 = sym none ∙ h.numbered f.0 k n.0 f.1 f.2 n.1 in absurd (cc)

@@ -27,7 +27,8 @@ module _ (known : Known) (rings : Rings) (q : Query) (naming : IsNaming known.ke
   passes p k = key_passes known.keys k (answers q p)
 
   -- what a key passes goes by its number
-  passes_by : (n : ℕ) → IsNameOf known q.typ q.description (Some n) → (p : Standing → Bool) (k m : ℕ) (key : Key) → map.get known.numbers k ≡ Some m → map.get known.keys k ≡ Some key
+  passes_by : (n : ℕ) → IsNameOf known q.typ q.description (Some n) → (p : Standing → Bool) (k m : ℕ) (key : Key) → map.get known.numbers k ≡ Some m
+      → map.get known.keys k ≡ Some key
       → passes p k ≡ (nat_eq m n && p (standing_of key q.now))
   passes_by n names p k m key number is =
       ap (λ o. unwrap_or (option_map (answers q p) o) false) is
@@ -41,7 +42,8 @@ module _ (known : Known) (rings : Rings) (q : Query) (naming : IsNaming known.ke
       by_key (Some key) h = ap (λ b. b && p (standing_of key q.now)) h
 
   module _ (w : World) (keys : known.keys ≡ w.keys) (seen : rings_seen rings ≡ w.rings) where
-    to_world : (p : Standing → Bool) (ring k : ℕ) → (is_linked w.rings ring k && key_passes w.keys k (answers q p)) ≡ (is_linked (rings_seen rings) ring k && passes p k)
+    to_world : (p : Standing → Bool) (ring k : ℕ) → (is_linked w.rings ring k && key_passes w.keys k (answers q p))
+        ≡ (is_linked (rings_seen rings) ring k && passes p k)
     to_world p ring k = λ i. is_linked (sym seen i) ring k && key_passes (sym keys i) k (answers q p)
 
     -- no key has the name
@@ -51,10 +53,12 @@ module _ (known : Known) (rings : Rings) (q : Query) (naming : IsNaming known.ke
 
     found_at : (n : ℕ) → IsNameOf known q.typ q.description (Some n) → (ring f : ℕ) (r : Numbered) → map.get rings ring ≡ Some r → map.get r.links f ≡ Some n
         → ((j : ℕ) → map.get r.links j ≡ Some n → j ≡ f)
-        → (kf : Key) → map.get known.keys f ≡ Some kf → (p : Standing → Bool) (k : ℕ) → (is_linked (rings_seen rings) ring k && passes p k) ≡ (nat_eq k f && p (standing_of kf q.now))
+        → (kf : Key) → map.get known.keys f ≡ Some kf → (p : Standing → Bool) (k : ℕ)
+        → (is_linked (rings_seen rings) ring k && passes p k) ≡ (nat_eq k f && p (standing_of kf q.now))
     found_at n names ring f r there match sole kf is p k = by_link (map.get r.links k) refl
       where
-        by_key : (b : Bool) → nat_eq k f ≡ b → (m : ℕ) → map.get r.links k ≡ Some m → (key : Key) → map.get known.keys k ≡ Some key → (nat_eq m n && p (standing_of key q.now)) ≡ (b && p (standing_of kf q.now))
+        by_key : (b : Bool) → nat_eq k f ≡ b → (m : ℕ) → map.get r.links k ≡ Some m → (key : Key) → map.get known.keys k ≡ Some key
+            → (nat_eq m n && p (standing_of key q.now)) ≡ (b && p (standing_of kf q.now))
         by_key true t m link key there_is =
             let e : k ≡ f = eqb-true k f t in
             let same : Some m ≡ Some n = sym link ∙ ap (map.get r.links) e ∙ match in
@@ -68,30 +72,35 @@ module _ (known : Known) (rings : Rings) (q : Query) (naming : IsNaming known.ke
         by_link : (o : Option ℕ) → map.get r.links k ≡ o → (is_linked (rings_seen rings) ring k && passes p k) ≡ (nat_eq k f && p (standing_of kf q.now))
         by_link None link =
             ap (λ b. b && passes p k) (linked_is rings ring k r None there link)
-            ∙ ap (λ b. b && p (standing_of kf q.now)) (sym (ne_eqb k f (λ e. let no : None ≡ Some n = sym link ∙ ap (map.get r.links) e ∙ match in absurd (cc))))
+            ∙ ap (λ b. b && p (standing_of kf q.now)) (sym (ne_eqb k f
+            (λ e. let no : None ≡ Some n = sym link ∙ ap (map.get r.links) e ∙ match in absurd (cc))))
         by_link (Some m) link =
             let number : map.get known.numbers k ≡ Some m = kept.numbered ring k m r there link in
             let key = key_of known k m naming number in
             (λ i. linked_is rings ring k r (Some m) there link i && passes_by n names p k m key.0 number key.1 i) ∙ by_key (nat_eq k f) refl m link key.0 key.1
 
     -- what is found by the number is the one key of the name
-    pub found_sole : (n : ℕ) → IsNameOf known q.typ q.description (Some n) → (ring found : Option ℕ) → IsMatch rings n ring found → IsSole w q ring (matched known q.now found)
+    pub found_sole : (n : ℕ) → IsNameOf known q.typ q.description (Some n) → (ring found : Option ℕ) → IsMatch rings n ring found
+        → IsSole w q ring (matched known q.now found)
     found_sole n names None found h = ap (matched known q.now) h
     found_sole n names (Some ring) (Some f) h =
         let number : map.get known.numbers f ≡ Some n = kept.numbered ring f n h.0 h.1 h.2 in
         let kf = key_of known f n naming number in
         λ p k.
         to_world p ring k ∙ found_at n names ring f h.0 h.1 h.2 h.3 kf.0 kf.1 p k
-        ∙ ap (λ o. option_map_or (λ (one : Match). nat_eq k one.key && p one.standing) (option_map (λ (key : Key). record { key = f; standing = standing_of key q.now }) o) false) (sym kf.1)
+        ∙ ap (λ o. option_map_or (λ (one : Match). nat_eq k one.key && p one.standing)
+        (option_map (λ (key : Key). record { key = f; standing = standing_of key q.now }) o) false) (sym kf.1)
     found_sole n names (Some ring) None h = λ p k. to_world p ring k ∙ by_ring p k (map.get rings ring) refl
       where
-        by_link : (p : Standing → Bool) (k : ℕ) (r : Numbered) → map.get rings ring ≡ Some r → (o : Option ℕ) → map.get r.links k ≡ o → (is_linked (rings_seen rings) ring k && passes p k) ≡ false
+        by_link : (p : Standing → Bool) (k : ℕ) (r : Numbered) → map.get rings ring ≡ Some r → (o : Option ℕ) → map.get r.links k ≡ o
+            → (is_linked (rings_seen rings) ring k && passes p k) ≡ false
         by_link p k r there None link = ap (λ b. b && passes p k) (linked_is rings ring k r None there link)
         by_link p k r there (Some m) link =
             let number : map.get known.numbers k ≡ Some m = kept.numbered ring k m r there link in
             let key = key_of known k m naming number in
             last_false (is_linked (rings_seen rings) ring k) (passes p k)
-            (passes_by n names p k m key.0 number key.1 ∙ ap (λ b. b && p (standing_of key.0 q.now)) (ne_eqb m n (λ e. h r there k (link ∙ ap (λ (x : ℕ). Some x) e))))
+            (passes_by n names p k m key.0 number key.1 ∙ ap (λ b. b && p (standing_of key.0 q.now))
+            (ne_eqb m n (λ e. h r there k (link ∙ ap (λ (x : ℕ). Some x) e))))
 
         by_ring : (p : Standing → Bool) (k : ℕ) (o : Option Numbered) → map.get rings ring ≡ o → (is_linked (rings_seen rings) ring k && passes p k) ≡ false
         by_ring p k None none = ap (λ b. b && passes p k) (not_linked rings ring k none)

@@ -30,10 +30,13 @@ use Rattle.rk_core.proofs.LinksAndNames.LinksByNumber.{item_passes, passing_item
 
 module _ (old new : World) (k : ℕ) (one : Key) (keys : new.keys ≡ map.insert old.keys k one) (rings : new.rings ≡ old.rings) where
   new_there : map.get new.keys k ≡ Some one
-  new_there = ap (λ (m : map.FinMap nat_cmp Key). map.get m k) keys ∙ get_inserted old.keys k one k ∙ ap (λ b. cond b (Some one) (map.get old.keys k)) (tied_itself k)
+  new_there =
+      ap (λ (m : map.FinMap nat_cmp Key). map.get m k) keys ∙ get_inserted old.keys k one k ∙ ap (λ b. cond b (Some one) (map.get old.keys k)) (tied_itself k)
 
   old_there : (j : ℕ) → nat_eq j k ≡ false → map.get new.keys j ≡ map.get old.keys j
-  old_there j other = ap (λ (m : map.FinMap nat_cmp Key). map.get m j) keys ∙ get_inserted old.keys k one j ∙ ap (λ b. cond b (Some one) (map.get old.keys j)) (nat_eq_equiv.symm k j ∙ other)
+  old_there j other =
+      ap (λ (m : map.FinMap nat_cmp Key). map.get m j) keys ∙ get_inserted old.keys k one j
+      ∙ ap (λ b. cond b (Some one) (map.get old.keys j)) (nat_eq_equiv.symm k j ∙ other)
 
   pub new_known : map.contains_key new.keys k ≡ true
   new_known = ap is_some new_there
@@ -45,12 +48,14 @@ module _ (old new : World) (k : ℕ) (one : Key) (keys : new.keys ≡ map.insert
   -- a ring has room for it where it had for its name
   module _ (unlinked : has_link old.rings k ≡ false) where
     not_in : (ring : ℕ) (r : Ring) (j : ℕ) → map.get old.rings ring ≡ Some r → set.contains r.keys j ≡ true → nat_eq j k ≡ false
-    not_in ring r j is there = ne_eqb j k (λ e. both_ways _ unlinked (link_somewhere old.rings ring k (ap (has_key k) is ∙ ap (set.contains r.keys) (sym e) ∙ there)))
+    not_in ring r j is there =
+        ne_eqb j k (λ e. both_ways _ unlinked (link_somewhere old.rings ring k (ap (has_key k) is ∙ ap (set.contains r.keys) (sym e) ∙ there)))
 
     named_alike : (typ description : List ℕ) (j : ℕ) → nat_eq j k ≡ false → has_name new.keys j typ description ≡ has_name old.keys j typ description
     named_alike typ description j other = ap (λ o. unwrap_or (option_map (is_named typ description) o) false) (old_there j other)
 
-    held_alike : (typ description : List ℕ) (ring : ℕ) (r : Ring) → map.get old.rings ring ≡ Some r → holds_name new.keys r typ description ≡ holds_name old.keys r typ description
+    held_alike : (typ description : List ℕ) (ring : ℕ) (r : Ring) → map.get old.rings ring ≡ Some r
+        → holds_name new.keys r typ description ≡ holds_name old.keys r typ description
     held_alike typ description ring r is = same_answer _ _
         (λ h.
         let f = passing_item (λ j. has_name new.keys j typ description) r.keys h in
@@ -60,23 +65,30 @@ module _ (old new : World) (k : ℕ) (one : Key) (keys : new.keys ≡ map.insert
         item_passes (λ j. has_name new.keys j typ description) r.keys f.0 f.1 (named_alike typ description f.0 (not_in ring r f.0 is f.1) ∙ f.2))
 
     full_as_before : (typ description : List ℕ) (ring : ℕ) → is_full_at new ring typ description ≡ is_full_at old ring typ description
-    full_as_before typ description ring = ap (λ (m : map.FinMap nat_cmp Ring). option_map_or (is_full new.keys typ description) (map.get m ring) false) rings ∙ by_ring (map.get old.rings ring) refl
+    full_as_before typ description ring =
+        ap (λ (m : map.FinMap nat_cmp Ring). option_map_or (is_full new.keys typ description) (map.get m ring) false) rings
+        ∙ by_ring (map.get old.rings ring) refl
       where
-        by_ring : (o : Option Ring) → map.get old.rings ring ≡ o → option_map_or (is_full new.keys typ description) o false ≡ option_map_or (is_full old.keys typ description) o false
+        by_ring : (o : Option Ring) → map.get old.rings ring ≡ o
+            → option_map_or (is_full new.keys typ description) o false ≡ option_map_or (is_full old.keys typ description) o false
         by_ring None is = refl
         by_ring (Some r) is = ap (λ b. nat_le 256 (set.len r.keys) && not b) (held_alike typ description ring r is)
 
     pub has_room : (ring : ℕ) → is_full_at old ring one.typ one.description ≡ false → refused_if (is_full_for new ring k) errno.Edquot ≡ None
     has_room ring room =
-        ap (λ b. refused_if b errno.Edquot) (ap (λ o. unwrap_or (option_map (λ (key : Key). is_full_at new ring key.typ key.description) o) false) new_there ∙ full_as_before one.typ one.description ring ∙ room)
+        ap (λ b. refused_if b errno.Edquot) (ap (λ o. unwrap_or (option_map (λ (key : Key). is_full_at new ring key.typ key.description) o) false) new_there
+        ∙ full_as_before one.typ one.description ring ∙ room)
 
 -- ---- whoever waits for it waits for no one else
 
 no_handler : (a : Sessions) (k : ℕ) (authority : Authority) → session_of (with_construction k authority a) (Handler k) ≡ None
 no_handler a k authority =
-    ap (option_and_then (λ (c : Construction). handler_in c.stage)) (get_inserted a.constructions k (record { stage = Starting; authority = Some authority }) k ∙ ap (λ b. cond b (Some (record { stage = Starting; authority = Some authority })) (map.get a.constructions k)) (tied_itself k))
+    ap (option_and_then (λ (c : Construction). handler_in c.stage))
+    (get_inserted a.constructions k (record { stage = Starting; authority = Some authority }) k
+    ∙ ap (λ b. cond b (Some (record { stage = Starting; authority = Some authority })) (map.get a.constructions k)) (tied_itself k))
 
-pub leads_nowhere : (a : Sessions) (k : ℕ) (authority : Authority) (s : SessionId) → map.get a.constructions k ≡ None → is_some (session_of a s) ≡ true → ¬ (Leads (with_construction k authority a) k s)
+pub leads_nowhere : (a : Sessions) (k : ℕ) (authority : Authority) (s : SessionId) → map.get a.constructions k ≡ None → is_some (session_of a s) ≡ true
+    → ¬ (Leads (with_construction k authority a) k s)
 leads_nowhere a k authority s none there (its_own j) = both_ways _ (ap (λ o. is_some (option_and_then (λ (c : Construction). handler_in c.stage) o)) none) there
 leads_nowhere a k authority s none there (further i j next rest) =
     let no : None ≡ Some j = sym (ap (λ o. option_map (λ w. w.key) (option_and_then (λ one. one.wait) o)) (no_handler a k authority)) ∙ next in absurd (cc)

@@ -29,20 +29,23 @@ module _ (old : World) (s : SessionId) (asker : Asker) (q : Query) (ring : ℕ) 
   same_refusal left = ap (λ o. first_of (option_map key_errno o ∷ start_refusal old asker q ring left ∷ [])) (sym (block_as old q sought found))
 
   -- without a callout
-  pub told_error : (callout : Option (List ℕ)) (told : Errno) → callout ≡ None → told ≡ key_errno (unwrap_or (block_in sought) (unwrap_or (stale_in sought) error.NoKey)) → Misses old s asker q callout ring (Refused told) old
+  pub told_error : (callout : Option (List ℕ)) (told : Errno) → callout ≡ None
+      → told ≡ key_errno (unwrap_or (block_in sought) (unwrap_or (stale_in sought) error.NoKey)) → Misses old s asker q callout ring (Refused told) old
   told_error callout told none is =
       subst (λ (o : Option (List ℕ)). Misses old s asker q o ring (Refused told) old) (sym none)
       (ap (λ (e : Errno). Refused e) (is ∙ (λ i. key_errno (unwrap_or (sym (block_as old q sought found) i) (sym (stale_as old q sought found) i)))), refl)
 
   -- no construction may start
-  pub start_refused : (callout : Option (List ℕ)) (info : List ℕ) (left : Bool) (error : Errno) → callout ≡ Some info → Says left (HasSerials old.serials 1) → refusal left ≡ Some error
+  pub start_refused : (callout : Option (List ℕ)) (info : List ℕ) (left : Bool) (error : Errno) → callout ≡ Some info → Says left (HasSerials old.serials 1)
+      → refusal left ≡ Some error
       → Misses old s asker q callout ring (Refused error) old
   start_refused callout info left error some says is =
       subst (λ (o : Option (List ℕ)). Misses old s asker q o ring (Refused error) old) (sym some)
       (left, says, unless_some _ error old _ (sym (same_refusal left) ∙ is))
 
   -- one starts, or there is no memory
-  pub start_allowed : (callout : Option (List ℕ)) (info : List ℕ) (left : Bool) (a : Answer) (new : World) → callout ≡ Some info → Says left (HasSerials old.serials 1) → refusal left ≡ None
+  pub start_allowed : (callout : Option (List ℕ)) (info : List ℕ) (left : Bool) (a : Answer) (new : World) → callout ≡ Some info
+      → Says left (HasSerials old.serials 1) → refusal left ≡ None
       → OrNoMemory old a new (Begins old s q info asker.depth ring a new) → Misses old s asker q callout ring a new
   start_allowed callout info left a new some says none begun =
       subst (λ (o : Option (List ℕ)). Misses old s asker q o ring a new) (sym some)
@@ -50,10 +53,13 @@ module _ (old : World) (s : SessionId) (asker : Asker) (q : Query) (ring : ℕ) 
 
 -- ---- what the search found
 
-pub requested : (old : World) (now : ℕ) (s : SessionId) (asker : Asker) (typ description : List ℕ) (callout : Option (List ℕ)) (r : ℤ) (a : Answer) (new : World) (found : Option ℕ)
+pub requested : (old : World) (now : ℕ) (s : SessionId) (asker : Asker) (typ description : List ℕ) (callout : Option (List ℕ)) (r : ℤ) (a : Answer)
+    (new : World) (found : Option ℕ)
     → ring_or_none_refusal old asker r ≡ None
     → Hits old (record { context = asker.context; typ = typ; description = description; now = now }) (rings_of asker.context) found
-    → MatchOption found (Misses old s asker (record { context = asker.context; typ = typ; description = description; now = now }) callout (destination_of old asker r) a new) (λ k. Meets old s k (ring_for old asker r) a new)
+    → MatchOption found (Misses old s asker (record { context = asker.context; typ = typ; description = description; now = now }) callout
+    (destination_of old asker r) a new) (λ k. Meets old s k (ring_for old asker r) a new)
     → Requests old now s asker typ description callout r a new
 unfolding Requests
-requested old now s asker typ description callout r a new found none hits rest = unless_none (ring_or_none_refusal old asker r) old a new _ none (found, hits, rest)
+requested old now s asker typ description callout r a new found none hits rest =
+    unless_none (ring_or_none_refusal old asker r) old a new _ none (found, hits, rest)

@@ -31,7 +31,8 @@ module _ (w : World) (q : Query) where
   no_hit ring rings None none h = (none, h)
   no_hit ring rings (Some k) none h = inr (none, h)
 
-  one_ring : (ring : ℕ) (rings : List ℕ) (m : Option Match) (rest : Option ℕ) → IsSole w q (Some ring) m → Hits w q rings rest → Hits w q (ring ∷ rings) (or_else (live_key m) rest)
+  one_ring : (ring : ℕ) (rings : List ℕ) (m : Option Match) (rest : Option ℕ) → IsSole w q (Some ring) m → Hits w q rings rest
+      → Hits w q (ring ∷ rings) (or_else (live_key m) rest)
   one_ring ring rings None rest sole h = no_hit ring rings rest (λ k. sole is_live k) h
   one_ring ring rings (Some one) rest sole h =
       elim (is_live one.standing) as (λ b. is_live one.standing ≡ b → Hits w q (ring ∷ rings) (or_else (cond b (Some one.key) None) rest)) [
@@ -43,14 +44,16 @@ module _ (w : World) (q : Query) where
       never true = refl
       never false = refl
 
-  maybe_ring : (o : Option ℕ) (rings : List ℕ) (m : Option Match) (rest : Option ℕ) → IsSole w q o m → Hits w q rings rest → Hits w q (option_to_list o ++ rings) (or_else (live_key m) rest)
+  maybe_ring : (o : Option ℕ) (rings : List ℕ) (m : Option Match) (rest : Option ℕ) → IsSole w q o m → Hits w q rings rest
+      → Hits w q (option_to_list o ++ rings) (or_else (live_key m) rest)
   maybe_ring None rings None rest sole h = h
   maybe_ring None rings (Some one) rest sole h = absurd (let no : Some one ≡ None = sole in cc)
   maybe_ring (Some ring) rings m rest sole h = one_ring ring rings m rest sole h
 
   pub hits_of : (s : Sought) → IsSought w q s → Hits w q (rings_of q.context) (hit_in s)
   hits_of s h =
-      maybe_ring q.context.thread (option_to_list q.context.process ++ (q.context.session ∷ q.context.user ∷ [])) s.thread (or_else (live_key s.process) (or_else (live_key s.session) (live_key s.user))) h.thread
+      maybe_ring q.context.thread (option_to_list q.context.process ++ (q.context.session ∷ q.context.user ∷ [])) s.thread
+      (or_else (live_key s.process) (or_else (live_key s.session) (live_key s.user))) h.thread
       (maybe_ring q.context.process (q.context.session ∷ q.context.user ∷ []) s.process (or_else (live_key s.session) (live_key s.user)) h.process
       (one_ring q.context.session (q.context.user ∷ []) s.session (live_key s.user) h.session
       (last (or_none (live_key s.user)) (one_ring q.context.user [] s.user None h.user refl))))
@@ -74,8 +77,10 @@ module _ (w : World) (q : Query) where
       elim (is_live one.standing) as (λ b. is_live one.standing ≡ b → cond b (Some one.key) None ≡ Some k → map.contains_key w.keys k ≡ true) [
         | true ↦ λ t e.
             let same : one.key ≡ k = cc in
-            let both : (is_linked w.rings ring one.key && key_passes w.keys one.key (answers q is_live)) ≡ true = sole is_live one.key ∙ (λ i. tied_itself one.key i && t i) in
-            ap (map.contains_key w.keys) (sym same) ∙ passes_known (answers q is_live) one.key (and_parts (is_linked w.rings ring one.key) (key_passes w.keys one.key (answers q is_live)) both).1
+            let both : (is_linked w.rings ring one.key && key_passes w.keys one.key (answers q is_live)) ≡ true =
+            sole is_live one.key ∙ (λ i. tied_itself one.key i && t i) in
+            ap (map.contains_key w.keys) (sym same) ∙ passes_known (answers q is_live) one.key
+            (and_parts (is_linked w.rings ring one.key) (key_passes w.keys one.key (answers q is_live)) both).1
         | false ↦ λ t e. absurd (let no : None ≡ Some k = e in cc)
       ] refl e
 
@@ -94,7 +99,8 @@ module _ (w : World) (q : Query) where
       by_process (inl e) = live_known q.context.process s.process k h.process e
       by_process (inr e) = by_session (either_of (live_key s.session) (live_key s.user) k e)
 
-      by_thread : (live_key s.thread ≡ Some k) ⊎ (or_else (live_key s.process) (or_else (live_key s.session) (live_key s.user)) ≡ Some k) → map.contains_key w.keys k ≡ true
+      by_thread : (live_key s.thread ≡ Some k) ⊎ (or_else (live_key s.process) (or_else (live_key s.session) (live_key s.user)) ≡ Some k)
+          → map.contains_key w.keys k ≡ true
       by_thread (inl e) = live_known q.context.thread s.thread k h.thread e
       by_thread (inr e) = by_process (either_of (live_key s.process) (or_else (live_key s.session) (live_key s.user)) k e)
 
@@ -107,15 +113,19 @@ module _ (w : World) (q : Query) where
       stands_so k None h = h
       stands_so k (Some one) h = (and_parts (nat_eq k one.key) (p one.standing) h).1
 
-      forward : (o : Option Ring) → map.get w.rings ring ≡ o → option_map_or (λ (r : Ring). list_any (λ k. key_passes w.keys k (answers q p)) (set.items r.keys)) o false ≡ true → stands p m ≡ true
+      forward : (o : Option Ring) → map.get w.rings ring ≡ o
+          → option_map_or (λ (r : Ring). list_any (λ k. key_passes w.keys k (answers q p)) (set.items r.keys)) o false ≡ true → stands p m ≡ true
       forward None is h = absurd (both_ways false refl h)
       forward (Some r) is h =
           let f = passing_item (λ k. key_passes w.keys k (answers q p)) r.keys h in
           stands_so f.0 m (sym (sole p f.0) ∙ (λ i. (ap (has_key f.0) is ∙ f.1) i && f.2 i))
 
-      by_ring : (one : Match) → (is_linked w.rings ring one.key && key_passes w.keys one.key (answers q p)) ≡ true → (o : Option Ring) → map.get w.rings ring ≡ o
+      by_ring : (one : Match) → (is_linked w.rings ring one.key && key_passes w.keys one.key (answers q p)) ≡ true → (o : Option Ring)
+          → map.get w.rings ring ≡ o
           → option_map_or (λ (r : Ring). list_any (λ k. key_passes w.keys k (answers q p)) (set.items r.keys)) o false ≡ true
-      by_ring one h None is = absurd (both_ways false refl (sym (ap (has_key one.key) is) ∙ (and_parts (is_linked w.rings ring one.key) (key_passes w.keys one.key (answers q p)) h).0))
+      by_ring one h None is =
+          absurd (both_ways false refl (sym (ap (has_key one.key) is)
+          ∙ (and_parts (is_linked w.rings ring one.key) (key_passes w.keys one.key (answers q p)) h).0))
       by_ring one h (Some r) is =
           let both = and_parts (is_linked w.rings ring one.key) (key_passes w.keys one.key (answers q p)) h in
           item_passes (λ k. key_passes w.keys k (answers q p)) r.keys one.key (sym (ap (has_key one.key) is) ∙ both.0) both.1
@@ -124,7 +134,8 @@ module _ (w : World) (q : Query) where
       backward None sole h = absurd (both_ways false refl h)
       backward (Some one) sole h = by_ring one (sole p one.key ∙ (λ i. tied_itself one.key i && h i)) (map.get w.rings ring) refl
 
-  maybe_matches : (p : Standing → Bool) (o : Option ℕ) (rings : List ℕ) (m : Option Match) → IsSole w q o m → list_any (has_match w q p) (option_to_list o ++ rings) ≡ (stands p m || list_any (has_match w q p) rings)
+  maybe_matches : (p : Standing → Bool) (o : Option ℕ) (rings : List ℕ) (m : Option Match) → IsSole w q o m
+      → list_any (has_match w q p) (option_to_list o ++ rings) ≡ (stands p m || list_any (has_match w q p) rings)
   maybe_matches p None rings None sole = refl
   maybe_matches p None rings (Some one) sole = absurd (let no : Some one ≡ None = sole in cc)
   maybe_matches p (Some ring) rings m sole = ap (λ b. b || list_any (has_match w q p) rings) (matches_as p ring m sole)

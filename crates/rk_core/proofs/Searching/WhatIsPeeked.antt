@@ -16,5 +16,7 @@ pub peeks : (w : World) (k : ℕ) (typ description : List ℕ) (now : ℕ) (a : 
     → IsSought w (record { context = a.context; typ = typ; description = description; now = now }) s
     → seen ≡ option_and_then (λ j. option_and_then (λ key. positive key.condition) (map.get w.keys j)) (hit_in s) → Peeks w k typ description now seen
 peeks w k typ description now a s seen is found e =
-    subst (λ (o : Option Authority). MatchOption o (seen ≡ None) (λ a. (hit : Option ℕ) × Hits w (record { context = a.context; typ = typ; description = description; now = now }) (rings_of a.context) hit × (seen ≡ option_and_then (λ j. option_and_then (λ key. positive key.condition) (map.get w.keys j)) hit)))
+    subst (λ (o : Option Authority). MatchOption o (seen ≡ None)
+    (λ a. (hit : Option ℕ) × Hits w (record { context = a.context; typ = typ; description = description; now = now }) (rings_of a.context) hit
+    × (seen ≡ option_and_then (λ j. option_and_then (λ key. positive key.condition) (map.get w.keys j)) hit)))
     (sym is) (hit_in s, hits_of w (record { context = a.context; typ = typ; description = description; now = now }) s found, e)

@@ -32,13 +32,15 @@ pub ask_refused : (old : World) (now : ℕ) (s : SessionId) (x : Ask) (e : Errno
 unfolding Step
 ask_refused old now s x e is = unless_some (ask_refusal old s x) e old _ is
 
-pub ask_answered : (old : World) (now : ℕ) (s : SessionId) (x : Ask) (a : Answer) (new : World) → ask_refusal old s x ≡ None → Asking old now s x a new → Step old now (Asked s x) a new
+pub ask_answered : (old : World) (now : ℕ) (s : SessionId) (x : Ask) (a : Answer) (new : World) → ask_refusal old s x ≡ None → Asking old now s x a new
+    → Step old now (Asked s x) a new
 unfolding Step
 ask_answered old now s x a new none h = unless_none (ask_refusal old s x) old a new _ none h
 
 -- ---- a handler starts, and ends
 
-pub launches : (old : World) (now k : ℕ) (r : Ran) (a : Answer) (new : World) → may_launch r (stage_of old.sessions k) ≡ true → a ≡ done → new ≡ tidied (launched now k r old) → Step old now (Launched k r) a new
+pub launches : (old : World) (now k : ℕ) (r : Ran) (a : Answer) (new : World) → may_launch r (stage_of old.sessions k) ≡ true → a ≡ done
+    → new ≡ tidied (launched now k r old) → Step old now (Launched k r) a new
 unfolding Step
 launches old now k r a new may ra left =
     unless_none (refused_if (not (may_launch r (stage_of old.sessions k))) errno.Einval) old a new _ (ap (λ b. refused_if (not b) errno.Einval) may) (ra, left)
@@ -57,20 +59,23 @@ chosen_off P Q true is h = absurd (both_ways true is refl)
 chosen_off P Q false is h = h
 
 -- the end of a handler that no other follows, and of one that another follows
-pub ends_last : (old : World) (now k : ℕ) (how : How) (payload : Option (List ℕ)) (st : Stage) (a : Answer) (new : World) → is_running (Some st) ≡ true → follows (unspent old.sessions k) st (condition_after st how payload) ≡ false → a ≡ done
+pub ends_last : (old : World) (now k : ℕ) (how : How) (payload : Option (List ℕ)) (st : Stage) (a : Answer) (new : World) → is_running (Some st) ≡ true
+    → follows (unspent old.sessions k) st (condition_after st how payload) ≡ false → a ≡ done
     → new ≡ tidied (ended now k (condition_after st how payload) old) → Ends old now k how payload (Some st) a new
 ends_last old now k how payload Starting a new runs last ra left = absurd (both_ways false refl runs)
 ends_last old now k how payload Negating a new runs last ra left = absurd (both_ways false refl runs)
 ends_last old now k how payload (Plain s) a new runs last ra left = (ra, left)
 ends_last old now k how payload Piped a new runs last ra left = chosen_off _ _ (would_negate old k how payload) last (ra, left)
 
-pub ends_followed : (old : World) (now k : ℕ) (how : How) (payload : Option (List ℕ)) (st : Stage) (a : Answer) (new : World) → follows (unspent old.sessions k) st (condition_after st how payload) ≡ true → a ≡ Negate k → new ≡ negating k old
+pub ends_followed : (old : World) (now k : ℕ) (how : How) (payload : Option (List ℕ)) (st : Stage) (a : Answer) (new : World)
+    → follows (unspent old.sessions k) st (condition_after st how payload) ≡ true → a ≡ Negate k → new ≡ negating k old
     → Ends old now k how payload (Some st) a new
 ends_followed old now k how payload Starting a new more ra left = absurd (both_ways false refl more)
 ends_followed old now k how payload Negating a new more ra left = absurd (both_ways false refl more)
 ends_followed old now k how payload (Plain s) a new more ra left = absurd (both_ways false refl more)
 ends_followed old now k how payload Piped a new more ra left = chosen_on _ _ (would_negate old k how payload) more (ra, left)
 
-pub ends : (old : World) (now k : ℕ) (how : How) (payload : Option (List ℕ)) (st : Stage) (a : Answer) (new : World) → stage_of old.sessions k ≡ Some st → Ends old now k how payload (Some st) a new → Step old now (Ended k how payload) a new
+pub ends : (old : World) (now k : ℕ) (how : How) (payload : Option (List ℕ)) (st : Stage) (a : Answer) (new : World) → stage_of old.sessions k ≡ Some st
+    → Ends old now k how payload (Some st) a new → Step old now (Ended k how payload) a new
 unfolding Step
 ends old now k how payload st a new is h = subst (λ o. Ends old now k how payload o a new) (sym is) h

@@ -25,7 +25,9 @@ use Rattle.rk_machine.proofs.Effects.DrawnSerials.{is_drawn, drawn_is}
 
 module _ {V : Type 0} where
   pub none_changed : (k : ℕ) (f : V → V) (m : map.FinMap nat_cmp V) (q : ℕ) → map.get m q ≡ None → map.get (changed_at k f m) q ≡ None
-  none_changed k f m q none = get_changed_at k f m q ∙ ap (λ o. cond (nat_eq k q) (option_map f o) o) none ∙ elim (nat_eq k q) as (λ b. ◌≡◌ {A = Option V} (cond b None None) None) [ true ↦ refl | false ↦ refl ]
+  none_changed k f m q none =
+      get_changed_at k f m q ∙ ap (λ o. cond (nat_eq k q) (option_map f o) o) none
+      ∙ elim (nat_eq k q) as (λ b. ◌≡◌ {A = Option V} (cond b None None) None) [ true ↦ refl | false ↦ refl ]
 
   pub none_changed_all : (f : V → V) (m : map.FinMap nat_cmp V) (q : ℕ) → map.get m q ≡ None → map.get (changed_all f m) q ≡ None
   none_changed_all f m q none = get_changed_all f m q ∙ ap (option_map f) none
@@ -34,7 +36,9 @@ module _ {V : Type 0} where
   none_kept p m q none = get_kept_where p m q ∙ ap (λ o. cond (option_map_or (p q) o false) o None) none
 
   pub none_removed : (m : map.FinMap nat_cmp V) (k q : ℕ) → map.get m q ≡ None → map.get (map.remove m k) q ≡ None
-  none_removed m k q none = get_removed m k q ∙ ap (cond (nat_eq k q) None) none ∙ elim (nat_eq k q) as (λ b. ◌≡◌ {A = Option V} (cond b None None) None) [ true ↦ refl | false ↦ refl ]
+  none_removed m k q none =
+      get_removed m k q ∙ ap (cond (nat_eq k q) None) none ∙ elim (nat_eq k q) as
+      (λ b. ◌≡◌ {A = Option V} (cond b None None) None) [ true ↦ refl | false ↦ refl ]
 
   pub none_inserted : (m : map.FinMap nat_cmp V) (k : ℕ) (v : V) (q : ℕ) → nat_eq k q ≡ false → map.get m q ≡ None → map.get (map.insert m k v) q ≡ None
   none_inserted m k v q other none = get_inserted m k v q ∙ (λ i. cond (other i) (Some v) (none i))
@@ -64,7 +68,8 @@ free_announced now k keys a q none =
 pub free_concluded : (now k : ℕ) (keys : map.FinMap nat_cmp Key) (a : Sessions) (q : ℕ) → IsFree a q → IsFree (announced now k keys (spent k a)) q
 free_concluded now k keys a q none = free_announced now k keys (spent k a) q (free_spent k a q none)
 
-pub free_ended : (now k : ℕ) (condition : Condition) (w : World) (q : ℕ) → IsFree w.sessions q → IsFree (without_construction k (sessions_ended now k condition w)) q
+pub free_ended : (now k : ℕ) (condition : Condition) (w : World) (q : ℕ) → IsFree w.sessions q
+    → IsFree (without_construction k (sessions_ended now k condition w)) q
 free_ended now k condition w q none =
     none_removed (sessions_ended now k condition w).constructions k q (
     elim (is_some (unspent w.sessions k)) as (λ b. IsFree (cond b (announced now k (keys_ended now k condition w) (spent k w.sessions)) w.sessions) q) [
@@ -74,14 +79,16 @@ free_ended now k condition w q none =
 
 pub none_ended : (now k : ℕ) (condition : Condition) (w : World) (q : ℕ) → map.get w.keys q ≡ None → map.get (keys_ended now k condition w) q ≡ None
 none_ended now k condition w q none =
-    elim (is_some (unspent w.sessions k)) as (λ b. map.get (cond b (changed_at k (concluded condition (expiry_after condition now w.negative)) w.keys) w.keys) q ≡ None) [
+    elim (is_some (unspent w.sessions k)) as (λ b. map.get (cond b (changed_at k (concluded condition (expiry_after condition now w.negative)) w.keys) w.keys) q
+    ≡ None) [
       | true ↦ none_changed k (concluded condition (expiry_after condition now w.negative)) w.keys q none
       | false ↦ none
     ]
 
 -- ---- rings
 
-pub none_linked : (ring : Option ℕ) (f : Ring → Ring) (rings : map.FinMap nat_cmp Ring) (q : ℕ) → map.get rings q ≡ None → map.get (rings_changed ring f rings) q ≡ None
+pub none_linked : (ring : Option ℕ) (f : Ring → Ring) (rings : map.FinMap nat_cmp Ring) (q : ℕ) → map.get rings q ≡ None
+    → map.get (rings_changed ring f rings) q ≡ None
 none_linked None f rings q none = none
 none_linked (Some ring) f rings q none = none_changed ring f rings q none
 

@@ -41,7 +41,8 @@ no_link_more w ring q k h = by_ring (nat_eq ring q) (map.get w.rings q) (sym (ap
     by_ring false o h = h
 
 stays_uncleared : (w : World) (ring k : ℕ) → stays (cleared_in (Some ring) w) k ≡ true → stays w k ≡ true
-stays_uncleared w ring k h = still_stays (cleared_in (Some ring) w) w k (links_kept (cleared_in (Some ring) w).rings w.rings k (λ q. no_link_more w ring q k)) refl h
+stays_uncleared w ring k h =
+    still_stays (cleared_in (Some ring) w) w k (links_kept (cleared_in (Some ring) w).rings w.rings k (λ q. no_link_more w ring q k)) refl h
 
 none_or_none : (b : Bool) → ◌≡◌ {A = Option Key} (cond b None None) None
 none_or_none true = refl
@@ -61,7 +62,8 @@ cleared_tidied w ring = λ i. record (cleared_in (Some ring) w) {
       get_tidied (cleared_in (Some ring) (tidied w)) q ∙ by_test q (stays w q) refl ∙ sym (get_tidied (cleared_in (Some ring) w) q)) i;
 }
   where
-    by_test : (q : ℕ) (b : Bool) → stays w q ≡ b → cond (stays (cleared_in (Some ring) (tidied w)) q) (map.get (tidied w).keys q) None ≡ cond (stays (cleared_in (Some ring) w) q) (map.get w.keys q) None
+    by_test : (q : ℕ) (b : Bool) → stays w q ≡ b → cond (stays (cleared_in (Some ring) (tidied w)) q) (map.get (tidied w).keys q) None
+        ≡ cond (stays (cleared_in (Some ring) w) q) (map.get w.keys q) None
     by_test q true t =
         let same : map.get (tidied w).keys q ≡ map.get w.keys q = get_tidied w q ∙ ap (λ b. cond b (map.get w.keys q) None) t in
         λ i. cond (stays_by (cleared_in (Some ring) (tidied w)) (cleared_in (Some ring) w) q refl same i) (same i) None
@@ -73,7 +75,9 @@ cleared_tidied w ring = λ i. record (cleared_in (Some ring) w) {
 -- a link that goes first goes all the same
 cleared_unlinked : (w : World) (ring k : ℕ) → cleared_in (Some ring) (unlinked_in (Some ring) k w) ≡ cleared_in (Some ring) w
 cleared_unlinked w ring k = λ i. record w {
-  rings = map.same_map nat_cmp_total map.nat_cmp-IsAntisymmetric (changed_at ring without_links (changed_at ring (without_link k) w.rings)) (changed_at ring without_links w.rings) (λ q.
+  rings =
+      map.same_map nat_cmp_total map.nat_cmp-IsAntisymmetric (changed_at ring without_links (changed_at ring (without_link k) w.rings))
+      (changed_at ring without_links w.rings) (λ q.
       get_changed_at ring without_links (changed_at ring (without_link k) w.rings) q
       ∙ ap (λ o. cond (nat_eq ring q) (option_map without_links o) o) (get_changed_at ring (without_link k) w.rings q)
       ∙ by_ring (nat_eq ring q) (map.get w.rings q)
@@ -81,12 +85,14 @@ cleared_unlinked w ring k = λ i. record w {
 }
   where
     by_ring : (b : Bool) (o : Option Ring)
-        → cond b (option_map without_links (cond b (option_map (without_link k) o) o)) (cond b (option_map (without_link k) o) o) ≡ cond b (option_map without_links o) o
+        → cond b (option_map without_links (cond b (option_map (without_link k) o) o)) (cond b (option_map (without_link k) o) o)
+        ≡ cond b (option_map without_links o) o
     by_ring true None = refl
     by_ring true (Some r) = refl
     by_ring false o = refl
 
-pub still_to_clear : (w new : World) (ring k : ℕ) → new ≡ tidied (unlinked_in (Some ring) k w) → tidied (cleared_in (Some ring) new) ≡ tidied (cleared_in (Some ring) w)
+pub still_to_clear : (w new : World) (ring k : ℕ) → new ≡ tidied (unlinked_in (Some ring) k w)
+    → tidied (cleared_in (Some ring) new) ≡ tidied (cleared_in (Some ring) w)
 still_to_clear w new ring k e =
     ap (λ (v : World). tidied (cleared_in (Some ring) v)) e ∙ cleared_tidied (unlinked_in (Some ring) k w) ring ∙ ap tidied (cleared_unlinked w ring k)
 
@@ -99,7 +105,8 @@ not_empty : (s : set.FinSet nat_cmp) (k n : ℕ) → set.contains s k ≡ true �
 not_empty s k zero h e = absurd (both_ways _ (ap (λ t. set.contains t k) (set.empty_of_len s e) ∙ set.contains-empty nat_cmp k) h)
 not_empty s k (suc n) h e = omega arith
 
-pub fewer_links : (w new : World) (ring k : ℕ) → is_linked w.rings ring k ≡ true → new ≡ tidied (unlinked_in (Some ring) k w) → links_of new ring < links_of w ring
+pub fewer_links : (w new : World) (ring k : ℕ) → is_linked w.rings ring k ≡ true → new ≡ tidied (unlinked_in (Some ring) k w)
+    → links_of new ring < links_of w ring
 fewer_links w new ring k h e = by_ring (map.get w.rings ring) refl h
   where
     by_ring : (o : Option Ring) → map.get w.rings ring ≡ o → has_key k o ≡ true → links_of new ring < links_of w ring
@@ -107,9 +114,11 @@ fewer_links w new ring k h e = by_ring (map.get w.rings ring) refl h
     by_ring (Some r) is h =
         let after : map.get new.rings ring ≡ Some (without_link k r) =
         ap (λ (v : World). map.get v.rings ring) e ∙ get_changed_at ring (without_link k) w.rings ring
-        ∙ ap (λ b. cond b (option_map (without_link k) (map.get w.rings ring)) (map.get w.rings ring)) (tied_itself ring) ∙ ap (option_map (without_link k)) is in
+        ∙ ap (λ b. cond b (option_map (without_link k) (map.get w.rings ring)) (map.get w.rings ring)) (tied_itself ring)
+        ∙ ap (option_map (without_link k)) is in
         let now : links_of new ring ≡ set.len r.keys - 1 =
-        ap (λ o. option_map_or (λ (x : Ring). set.len x.keys) o 0) after ∙ set.len-remove nat_cmp_total r.keys k ∙ ap (λ b. cond b (set.len r.keys - 1) (set.len r.keys)) h in
+        ap (λ o. option_map_or (λ (x : Ring). set.len x.keys) o 0) after ∙ set.len-remove nat_cmp_total r.keys k
+        ∙ ap (λ b. cond b (set.len r.keys - 1) (set.len r.keys)) h in
         let before : links_of w ring ≡ set.len r.keys = ap (λ o. option_map_or (λ (x : Ring). set.len x.keys) o 0) is in
         omega (arith, now, before, not_empty r.keys k (set.len r.keys) h refl)
 
@@ -117,7 +126,9 @@ fewer_links w new ring k h e = by_ring (map.get w.rings ring) refl h
 
 cleared_now : (w : World) (ring : ℕ) → ((k : ℕ) → is_linked w.rings ring k ≡ false) → cleared_in (Some ring) w ≡ w
 cleared_now w ring none = λ i. record w {
-  rings = map.same_map nat_cmp_total map.nat_cmp-IsAntisymmetric (changed_at ring without_links w.rings) w.rings (λ q. get_changed_at ring without_links w.rings q ∙ by_ring q (nat_eq ring q) refl (map.get w.rings q) refl) i;
+  rings =
+      map.same_map nat_cmp_total map.nat_cmp-IsAntisymmetric (changed_at ring without_links w.rings) w.rings
+      (λ q. get_changed_at ring without_links w.rings q ∙ by_ring q (nat_eq ring q) refl (map.get w.rings q) refl) i;
 }
   where
     by_ring : (q : ℕ) (b : Bool) → nat_eq ring q ≡ b → (o : Option Ring) → map.get w.rings q ≡ o → cond b (option_map without_links o) o ≡ o
@@ -125,8 +136,10 @@ cleared_now w ring none = λ i. record w {
     by_ring q true t None is = refl
     by_ring q true t (Some r) is =
         let here : map.get w.rings ring ≡ Some r = ap (map.get w.rings) (eqb-true ring q t) ∙ is in
-        ap (λ s. Some (record r { keys = s })) (set.same_set nat_cmp_total set.nat_cmp-IsAntisymmetric set.empty r.keys (λ k. set.contains-empty nat_cmp k ∙ sym (sym (ap (has_key k) here) ∙ none k)))
+        ap (λ s. Some (record r { keys = s })) (set.same_set nat_cmp_total set.nat_cmp-IsAntisymmetric set.empty r.keys
+        (λ k. set.contains-empty nat_cmp k ∙ sym (sym (ap (has_key k) here) ∙ none k)))
 
-pub all_cleared : (w first : World) (ring : ℕ) → StayBut (λ j. false) w → ((k : ℕ) → is_linked w.rings ring k ≡ false) → tidied (cleared_in (Some ring) w) ≡ tidied (cleared_in (Some ring) first)
+pub all_cleared : (w first : World) (ring : ℕ) → StayBut (λ j. false) w → ((k : ℕ) → is_linked w.rings ring k ≡ false)
+    → tidied (cleared_in (Some ring) w) ≡ tidied (cleared_in (Some ring) first)
     → w ≡ tidied (cleared_in (Some ring) first)
 all_cleared w first ring tidy none same = sym (all_stay w tidy) ∙ ap tidied (sym (cleared_now w ring none)) ∙ same

@@ -46,10 +46,13 @@ none_or_none false = refl
 
 without_tidied : (w : World) (o : Option ℕ) → tidied (without_if o (tidied w)) ≡ tidied (without_if o w)
 without_tidied w o = λ i. record (without_if o w) {
-  keys = same_keys (tidied (without_if o (tidied w))).keys (tidied (without_if o w)).keys (λ q. get_tidied (without_if o (tidied w)) q ∙ by_test q (stays w q) refl ∙ sym (get_tidied (without_if o w) q)) i;
+  keys =
+      same_keys (tidied (without_if o (tidied w))).keys (tidied (without_if o w)).keys
+      (λ q. get_tidied (without_if o (tidied w)) q ∙ by_test q (stays w q) refl ∙ sym (get_tidied (without_if o w) q)) i;
 }
   where
-    by_test : (q : ℕ) (b : Bool) → stays w q ≡ b → cond (stays (without_if o (tidied w)) q) (map.get (tidied w).keys q) None ≡ cond (stays (without_if o w) q) (map.get w.keys q) None
+    by_test : (q : ℕ) (b : Bool) → stays w q ≡ b → cond (stays (without_if o (tidied w)) q) (map.get (tidied w).keys q) None
+        ≡ cond (stays (without_if o w) q) (map.get w.keys q) None
     by_test q true t =
         let same : map.get (tidied w).keys q ≡ map.get w.keys q = get_tidied w q ∙ ap (λ b. cond b (map.get w.keys q) None) t in
         λ i. cond (stays_by (without_if o (tidied w)) (without_if o w) q refl same i) (same i) None
@@ -97,15 +100,18 @@ rings_go : (w : World) (n : ℕ) (c : Context) → context_of w n ≡ Some c
     → removed_if (session_goes (is_shared w.sessions n c.session) c.session) (removed_if c.process (removed_if c.thread w.rings)) ≡ rings_without n w
 rings_go w n c is = same_rings _ _ (λ q.
     get_removed_if (session_goes (is_shared w.sessions n c.session) c.session) (removed_if c.process (removed_if c.thread w.rings)) q
-    ∙ (λ i. cond (session_is (is_shared w.sessions n c.session) c.session q i) None ((get_removed_if c.process (removed_if c.thread w.rings) q ∙ ap (cond (is_ring c.process q) None) (get_removed_if c.thread w.rings q)) i))
+    ∙ (λ i. cond (session_is (is_shared w.sessions n c.session) c.session q i) None
+    ((get_removed_if c.process (removed_if c.thread w.rings) q ∙ ap (cond (is_ring c.process q) None) (get_removed_if c.thread w.rings q)) i))
     ∙ those_left (is_ring c.thread q) (is_ring c.process q) (nat_eq c.session q && not (is_shared w.sessions n c.session)) (map.get w.rings q)
-    ∙ ap (λ (o : Option Context). cond (option_map_or (λ _. not (option_map_or (λ (x : Context). goes_with w n x q) o false)) (map.get w.rings q) false) (map.get w.rings q) None) (sym is)
+    ∙ ap (λ (o : Option Context). cond (option_map_or (λ _. not (option_map_or (λ (x : Context). goes_with w n x q) o false)) (map.get w.rings q) false)
+    (map.get w.rings q) None) (sym is)
     ∙ sym (get_kept_where (λ ring r. not (option_map_or (λ (x : Context). goes_with w n x ring) (context_of w n) false)) w.rings q))
 
 none_go : (w : World) (n : ℕ) → context_of w n ≡ None → rings_without n w ≡ w.rings
 none_go w n none = same_rings _ _ (λ q.
     get_kept_where (λ ring r. not (option_map_or (λ (x : Context). goes_with w n x ring) (context_of w n) false)) w.rings q
-    ∙ ap (λ (o : Option Context). cond (option_map_or (λ _. not (option_map_or (λ (x : Context). goes_with w n x q) o false)) (map.get w.rings q) false) (map.get w.rings q) None) none
+    ∙ ap (λ (o : Option Context). cond (option_map_or (λ _. not (option_map_or (λ (x : Context). goes_with w n x q) o false)) (map.get w.rings q) false)
+    (map.get w.rings q) None) none
     ∙ all_kept (map.get w.rings q))
   where
     all_kept : (o : Option Ring) → cond (option_map_or (λ _. true) o false) o None ≡ o
@@ -114,20 +120,29 @@ none_go w n none = same_rings _ _ (λ q.
 
 -- ---- the client goes
 
-pub leaves_alone : (w : World) (n : ℕ) → context_of w n ≡ None → StayBut (λ k. false) w → ◌≡◌ {A = World} (record w { sessions = without_client n w.sessions }) (tidied (gone n w))
+pub leaves_alone : (w : World) (n : ℕ) → context_of w n ≡ None → StayBut (λ k. false) w
+    → ◌≡◌ {A = World} (record w { sessions = without_client n w.sessions }) (tidied (gone n w))
 leaves_alone w n none tidy =
     (λ i. record (sym (all_stay w tidy) i) { sessions = without_client n w.sessions })
-    ∙ (λ i. record w { keys = kept_where (λ k one. has_link (sym (none_go w n none) i) k || is_building one) w.keys; rings = sym (none_go w n none) i; sessions = without_client n w.sessions })
+    ∙ (λ i. record w {
+      keys = kept_where (λ k one. has_link (sym (none_go w n none) i) k || is_building one) w.keys;
+      rings = sym
+          (none_go w n none) i;
+      sessions = without_client n w.sessions;
+    })
 
-pub leaves_with : (w w1 w2 w3 : World) (n : ℕ) (c : Context) (session : Option ℕ) → context_of w n ≡ Some c → w1 ≡ tidied (without_if c.thread w) → w2 ≡ tidied (without_if c.process w1) → w3 ≡ tidied (without_if session w2)
-    → session ≡ session_goes (is_shared w.sessions n c.session) c.session → ◌≡◌ {A = World} (record w3 { sessions = without_client n w3.sessions }) (tidied (gone n w))
+pub leaves_with : (w w1 w2 w3 : World) (n : ℕ) (c : Context) (session : Option ℕ) → context_of w n ≡ Some c → w1 ≡ tidied (without_if c.thread w)
+    → w2 ≡ tidied (without_if c.process w1) → w3 ≡ tidied (without_if session w2)
+    → session ≡ session_goes (is_shared w.sessions n c.session) c.session
+    → ◌≡◌ {A = World} (record w3 { sessions = without_client n w3.sessions }) (tidied (gone n w))
 leaves_with w w1 w2 w3 n c session is one two three goes =
     let last : Option ℕ = session_goes (is_shared w.sessions n c.session) c.session in
     let u : World = without_if last (without_if c.process (without_if c.thread w)) in
     let all : w3 ≡ tidied u =
     three ∙ (λ i. tidied (without_if (goes i) (two i))) ∙ without_tidied (without_if c.process w1) last
     ∙ ap (λ (v : World). tidied (without_if last (without_if c.process v))) one
-    ∙ sym (without_tidied (without_if c.process (tidied (without_if c.thread w))) last) ∙ ap (λ (v : World). tidied (without_if last v)) (without_tidied (without_if c.thread w) c.process)
+    ∙ sym (without_tidied (without_if c.process (tidied (without_if c.thread w))) last)
+    ∙ ap (λ (v : World). tidied (without_if last v)) (without_tidied (without_if c.thread w) c.process)
     ∙ without_tidied (without_if c.process (without_if c.thread w)) last in
     let rings : u.rings ≡ rings_without n w = rings_go w n c is in
     (λ i. record (all i) { sessions = without_client n (all i).sessions })

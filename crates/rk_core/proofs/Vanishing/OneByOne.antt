@@ -19,7 +19,8 @@ same_keys m n h = map.same_map nat_cmp_total map.nat_cmp-IsAntisymmetric m n h
 
 -- ---- what is found after
 
-tidied_at : (a : Bool) (o : Option Key) → cond (option_map_or (λ key. a || is_building key) o false) o None ≡ cond (a || unwrap_or (option_map is_building o) false) o None
+tidied_at : (a : Bool) (o : Option Key) → cond (option_map_or (λ key. a || is_building key) o false) o None
+    ≡ cond (a || unwrap_or (option_map is_building o) false) o None
 tidied_at true None = refl
 tidied_at false None = refl
 tidied_at a (Some key) = refl
@@ -51,11 +52,13 @@ found_or_none false (Some key) h = absurd (both_ways false refl (h key refl))
 
 -- where every key stays, nothing vanishes
 pub all_stay : (w : World) → StayBut (λ j. false) w → tidied w ≡ w
-all_stay w h = λ i. record w { keys = same_keys (tidied w).keys w.keys (λ q. get_tidied w q ∙ found_or_none (stays w q) (map.get w.keys q) (λ key is. h q key is refl)) i }
+all_stay w h =
+    λ i. record w { keys = same_keys (tidied w).keys w.keys (λ q. get_tidied w q ∙ found_or_none (stays w q) (map.get w.keys q) (λ key is. h q key is refl)) i }
 
 -- where every key but one stays, that one is taken away, or stays
 pub one_settles : (w : World) (k : ℕ) → StayBut (λ j. nat_eq j k) w → settled_at k w ≡ tidied w
-one_settles w k h = λ i. record w { keys = same_keys (settled_at k w).keys (tidied w).keys (λ q. get_settled k w q ∙ by_key q (nat_eq k q) refl ∙ sym (get_tidied w q)) i }
+one_settles w k h =
+    λ i. record w { keys = same_keys (settled_at k w).keys (tidied w).keys (λ q. get_settled k w q ∙ by_key q (nat_eq k q) refl ∙ sym (get_tidied w q)) i }
   where
     itself : (b : Bool) (o : Option Key) → cond (not b) None o ≡ cond b o None
     itself true o = refl
@@ -73,7 +76,11 @@ stays_by v w q rings keys = λ i. has_link (rings i) q || unwrap_or (option_map 
 
 -- one that is taken away first vanishes all the same
 pub settles_first : (w : World) (r : ℕ) → tidied (settled_at r w) ≡ tidied w
-settles_first w r = λ i. record w { keys = same_keys (tidied (settled_at r w)).keys (tidied w).keys (λ q. get_tidied (settled_at r w) q ∙ by_key q (nat_eq r q && not (stays w r)) refl ∙ sym (get_tidied w q)) i }
+settles_first w r =
+    λ i. record w {
+      keys = same_keys (tidied (settled_at r w)).keys (tidied w).keys
+          (λ q. get_tidied (settled_at r w) q ∙ by_key q (nat_eq r q && not (stays w r)) refl ∙ sym (get_tidied w q)) i;
+    }
   where
     gone : (q : ℕ) (a b : Bool) → nat_eq r q ≡ a → stays w r ≡ b → (a && not b) ≡ true → stays w q ≡ false
     gone q true true t s h = absurd (both_ways false refl h)
@@ -84,7 +91,8 @@ settles_first w r = λ i. record w { keys = same_keys (tidied (settled_at r w)).
     none true = refl
     none false = refl
 
-    by_key : (q : ℕ) (b : Bool) → (nat_eq r q && not (stays w r)) ≡ b → cond (stays (settled_at r w) q) (map.get (settled_at r w).keys q) None ≡ cond (stays w q) (map.get w.keys q) None
+    by_key : (q : ℕ) (b : Bool) → (nat_eq r q && not (stays w r)) ≡ b
+        → cond (stays (settled_at r w) q) (map.get (settled_at r w).keys q) None ≡ cond (stays w q) (map.get w.keys q) None
     by_key q true t =
         ap (λ o. cond (stays (settled_at r w) q) o None) (get_settled r w q ∙ ap (λ b. cond b None (map.get w.keys q)) t) ∙ none (stays (settled_at r w) q)
         ∙ ap (λ b. cond b (map.get w.keys q) None) (sym (gone q (nat_eq r q) (stays w r) refl refl t))
@@ -98,7 +106,8 @@ left_stay w r k h j key is other = by_key (nat_eq r j && not (stays w r)) refl
   where
     not_gone : (b : Bool) → cond (nat_eq r j && not b) None (map.get w.keys j) ≡ Some key → stays w r ≡ b → nat_eq j r ≡ true → stays w j ≡ true
     not_gone true e s t = ap (stays w) (eqb-true j r t) ∙ s
-    not_gone false e s t = let no : cond (nat_eq r j && true) None (map.get w.keys j) ≡ Some key = e in absurd (gone (nat_eq r j) (nat_eq_equiv.symm r j ∙ t) no)
+    not_gone false e s t =
+        let no : cond (nat_eq r j && true) None (map.get w.keys j) ≡ Some key = e in absurd (gone (nat_eq r j) (nat_eq_equiv.symm r j ∙ t) no)
       where
         gone : (b : Bool) → b ≡ true → cond (b && true) None (map.get w.keys j) ≡ Some key → ⊥
         gone true t e = cc

@@ -33,7 +33,8 @@ or_right true b h = refl
 or_right false b h = h
 
 -- a key stays that keeps a link, or its condition
-pub still_stays : (old new : World) (k : ℕ) → (has_link old.rings k ≡ true → has_link new.rings k ≡ true) → map.get new.keys k ≡ map.get old.keys k → stays old k ≡ true → stays new k ≡ true
+pub still_stays : (old new : World) (k : ℕ) → (has_link old.rings k ≡ true → has_link new.rings k ≡ true) → map.get new.keys k ≡ map.get old.keys k
+    → stays old k ≡ true → stays new k ≡ true
 still_stays old new k links keys h =
     or_cases (has_link old.rings k) (key_passes old.keys k is_building) h
     (λ a. or_left (has_link new.rings k) (key_passes new.keys k is_building) (links a))
@@ -45,7 +46,8 @@ and_true : (a b c : Bool) → ((not a && b) && c) ≡ false → a ≡ false → 
 and_true a b c h na tb = sym (ap (λ x. (not x && true) && c) na) ∙ ap (λ x. (not a && x) && c) (sym tb) ∙ h
 
 -- those that do not give way stay
-pub link_stay : (w : World) (ring : Option ℕ) (k : ℕ) (rival : ℕ → Bool) → ((j : ℕ) → rival_in w ring k j ≡ rival j) → StayBut (λ j. nat_eq j k) w → StayBut (λ j. rival j || nat_eq j k) (linked_in ring k w)
+pub link_stay : (w : World) (ring : Option ℕ) (k : ℕ) (rival : ℕ → Bool) → ((j : ℕ) → rival_in w ring k j ≡ rival j) → StayBut (λ j. nat_eq j k) w
+    → StayBut (λ j. rival j || nat_eq j k) (linked_in ring k w)
 link_stay w None k rival is h = λ j key there other. h j key there (second (rival j) (nat_eq j k) other)
   where
     second : (a b : Bool) → (a || b) ≡ false → b ≡ false
@@ -53,7 +55,8 @@ link_stay w None k rival is h = λ j key there other. h j key there (second (riv
     second false b h = h
 link_stay w (Some ring) k rival is h = λ j key there other.
     still_stays w (linked_in (Some ring) k w) j
-    (links_kept w.rings (linked_in (Some ring) k w).rings j (λ q. stays_linked w.rings ring (is_rival w.keys k) k q j (and_true (is_linked w.rings ring k) (is_linked w.rings ring j) (is_rival w.keys k j) (is j ∙ first (rival j) (nat_eq j k) other))))
+    (links_kept w.rings (linked_in (Some ring) k w).rings j (λ q. stays_linked w.rings ring (is_rival w.keys k) k q j
+    (and_true (is_linked w.rings ring k) (is_linked w.rings ring j) (is_rival w.keys k j) (is j ∙ first (rival j) (nat_eq j k) other))))
     refl (h j key there (second (rival j) (nat_eq j k) other))
   where
     first : (a b : Bool) → (a || b) ≡ false → a ≡ false
@@ -69,7 +72,8 @@ link_stay w (Some ring) k rival is h = λ j key there other.
 unlink_stay : (w : World) (ring k : ℕ) → StayBut (λ j. false) w → StayBut (λ j. nat_eq j k) (unlinked_in (Some ring) k w)
 unlink_stay w ring k h = λ j key there other.
     still_stays w (unlinked_in (Some ring) k w) j
-    (links_kept w.rings (unlinked_in (Some ring) k w).rings j (λ q. stays_unlinked w.rings ring k q j (nat_eq_equiv.symm k j ∙ other))) refl (h j key there refl)
+    (links_kept w.rings (unlinked_in (Some ring) k w).rings j (λ q. stays_unlinked w.rings ring k q j (nat_eq_equiv.symm k j ∙ other))) refl
+    (h j key there refl)
 
 pub unlink_tidies : (w : World) (ring k : ℕ) → StayBut (λ j. false) w → settled_at k (unlinked_in (Some ring) k w) ≡ tidied (unlinked_in (Some ring) k w)
 unlink_tidies w ring k h = one_settles (unlinked_in (Some ring) k w) k (unlink_stay w ring k h)
@@ -83,19 +87,24 @@ other_key w now k condition j other = by_unspent (is_some (unspent w.sessions k)
     by_unspent : (b : Bool) → map.get (cond b (changed_at k (concluded condition (expiry_after condition now w.negative)) w.keys) w.keys) j ≡ map.get w.keys j
     by_unspent true =
         get_changed_at k (concluded condition (expiry_after condition now w.negative)) w.keys j
-        ∙ ap (λ b. cond b (option_map (concluded condition (expiry_after condition now w.negative)) (map.get w.keys j)) (map.get w.keys j)) (nat_eq_equiv.symm k j ∙ other)
+        ∙ ap (λ b. cond b (option_map (concluded condition (expiry_after condition now w.negative)) (map.get w.keys j)) (map.get w.keys j))
+        (nat_eq_equiv.symm k j ∙ other)
     by_unspent false = refl
 
-pub end_tidies : (w : World) (now k : ℕ) (condition : Condition) → StayBut (λ j. false) w → settled_at k (ended now k condition w) ≡ tidied (ended now k condition w)
+pub end_tidies : (w : World) (now k : ℕ) (condition : Condition) → StayBut (λ j. false) w
+    → settled_at k (ended now k condition w) ≡ tidied (ended now k condition w)
 end_tidies w now k condition h =
     one_settles (ended now k condition w) k (λ j key there other.
     let same : map.get (ended now k condition w).keys j ≡ map.get w.keys j = other_key w now k condition j other in
     stays_by (ended now k condition w) w j refl same ∙ h j key (sym same ∙ there) refl)
 
 -- where every key but some stays, they may vanish after k is completed, and k
-pub completed_stay : (w : World) (now k : ℕ) (condition : Condition) (end : Option ℕ) (some : ℕ → Bool) → StayBut (λ j. some j || nat_eq j k) w → StayBut (λ j. some j || nat_eq j k) (completed now k condition end w)
+pub completed_stay : (w : World) (now k : ℕ) (condition : Condition) (end : Option ℕ) (some : ℕ → Bool) → StayBut (λ j. some j || nat_eq j k) w
+    → StayBut (λ j. some j || nat_eq j k) (completed now k condition end w)
 completed_stay w now k condition end some h = λ j key there other.
-    let same : map.get (completed now k condition end w).keys j ≡ map.get w.keys j = get_changed_at k (concluded condition end) w.keys j ∙ ap (λ b. cond b (option_map (concluded condition end) (map.get w.keys j)) (map.get w.keys j)) (nat_eq_equiv.symm k j ∙ second (some j) (nat_eq j k) other) in
+    let same : map.get (completed now k condition end w).keys j ≡ map.get w.keys j =
+    get_changed_at k (concluded condition end) w.keys j ∙ ap (λ b. cond b (option_map (concluded condition end) (map.get w.keys j)) (map.get w.keys j))
+    (nat_eq_equiv.symm k j ∙ second (some j) (nat_eq j k) other) in
     stays_by (completed now k condition end w) w j refl same ∙ h j key (sym same ∙ there) other
   where
     second : (a b : Bool) → (a || b) ≡ false → b ≡ false
@@ -109,7 +118,8 @@ drop_tidies w ring = λ i. record w { keys = keys i; rings = rings i }
   where
     keys : (tidied (cleared_in (Some ring) w)).keys ≡ (tidied (without_ring ring w)).keys
     keys = same_keys (tidied (cleared_in (Some ring) w)).keys (tidied (without_ring ring w)).keys (λ q.
-        get_tidied (cleared_in (Some ring) w) q ∙ ap (λ b. cond (b || key_passes w.keys q is_building) (map.get w.keys q) None) (cleared_alike w.rings ring q) ∙ sym (get_tidied (without_ring ring w) q))
+        get_tidied (cleared_in (Some ring) w) q ∙ ap (λ b. cond (b || key_passes w.keys q is_building) (map.get w.keys q) None) (cleared_alike w.rings ring q)
+        ∙ sym (get_tidied (without_ring ring w) q))
 
     rings : map.remove (changed_at ring without_links w.rings) ring ≡ map.remove w.rings ring
     rings = map.same_map nat_cmp_total map.nat_cmp-IsAntisymmetric _ _ (λ q.

@@ -12,4 +12,5 @@ returns-in-Client c h = no_client _ _ _ (subst (Leads c.args.self.now.sessions c
 pub returns-in-Handler : goal.returns-in-Handler
 returns-in-Handler c =
     subst (λ s. Says c.leads.result (Leads c.args.self.now.sessions c.args.key s)) (sym c.in-Handler.is)
-    (walk_tells _ _ _ _ (c.leads.ensures ∙ ap (λ h. leads_within h.sessions.constructions (map.len h.sessions.constructions) c.args.key c.in-Handler.own) c.self.view_is))
+    (walk_tells _ _ _ _ (c.leads.ensures ∙ ap (λ h. leads_within h.sessions.constructions
+    (map.len h.sessions.constructions) c.args.key c.in-Handler.own) c.self.view_is))

@@ -18,4 +18,5 @@ link_tidily-requires-clause-tidy c =
 pub link_tidily-requires-clause-room : goal.link_tidily-requires-clause-room
 link_tidily-requires-clause-room c =
     has_room c.args.self.now c.make_key.new.self c.in_ok-key.key (new_key c.args.typ c.args.description c.args.asker.now.context.uid (Some c.args.payload))
-    (ap (λ (w : World). w.keys) c.in_ok-key.ensures.ok) (ap (λ (w : World). w.rings) c.in_ok-key.ensures.ok) c.in_ok-key.ensures.unlinked c.args.ring c.requires.room
+    (ap (λ (w : World). w.keys) c.in_ok-key.ensures.ok) (ap (λ
+    (w : World). w.rings) c.in_ok-key.ensures.ok) c.in_ok-key.ensures.unlinked c.args.ring c.requires.room

@@ -6,4 +6,5 @@ pub returns-in-Some : goal.returns-in-Some
 returns-in-Some c = ask_refused c.args.self.now c.args.now c.args.id.now c.args.ask c.in-Some.error (sym c.ask_refusal.ensures ∙ c.in-Some.is)
 
 pub returns : goal.returns
-returns c = ask_answered c.args.self.now c.args.now c.args.id.now c.args.ask c.ask.result c.ask.new.self (sym c.ask_refusal.ensures ∙ c.in_default.is) c.ask.ensures
+returns c =
+    ask_answered c.args.self.now c.args.now c.args.id.now c.args.ask c.ask.result c.ask.new.self (sym c.ask_refusal.ensures ∙ c.in_default.is) c.ask.ensures

@@ -25,13 +25,17 @@ link_tidily-requires-clause-tidy c =
 pub link_tidily-requires-clause-room : goal.link_tidily-requires-clause-room
 link_tidily-requires-clause-room c =
     has_room c.args.self.now c.make_construction.new.self c.in_ok-key.key (new_key c.args.typ c.args.description c.args.asker.now.context.uid None)
-    (ap (λ (w : World). w.keys) c.in_ok-key.ensures.ok) (ap (λ (w : World). w.rings) c.in_ok-key.ensures.ok) c.in_ok-key.ensures.unlinked c.args.ring c.requires.room
+    (ap (λ (w : World). w.keys) c.in_ok-key.ensures.ok) (ap (λ
+    (w : World). w.rings) c.in_ok-key.ensures.ok) c.in_ok-key.ensures.unlinked c.args.ring c.requires.room
 
 pub wait-requires : goal.wait-requires
 wait-requires c =
-    let authority : Authority = record { context = c.args.asker.now.context; destination = c.args.ring; callout = c.args.callout; depth = c.args.asker.now.depth } in
-    subst (λ (a : Sessions). ¬ (Leads a c.in_ok-key.key c.args.id.now)) (sym (ap (λ (w : World). w.sessions) (c.link_tidily.ensures) ∙ ap (λ (w : World). w.sessions) c.in_ok-key.ensures.ok))
-    (leads_nowhere c.args.self.now.sessions c.in_ok-key.key authority c.args.id.now (c.requires.sound.constructions c.in_ok-key.key c.in_ok-key.ensures.fresh.unused) c.requires.there)
+    let authority : Authority =
+    record { context = c.args.asker.now.context; destination = c.args.ring; callout = c.args.callout; depth = c.args.asker.now.depth } in
+    subst (λ (a : Sessions). ¬ (Leads a c.in_ok-key.key c.args.id.now))
+    (sym (ap (λ (w : World). w.sessions) (c.link_tidily.ensures) ∙ ap (λ (w : World). w.sessions) c.in_ok-key.ensures.ok))
+    (leads_nowhere c.args.self.now.sessions c.in_ok-key.key authority c.args.id.now
+    (c.requires.sound.constructions c.in_ok-key.key c.in_ok-key.ensures.fresh.unused) c.requires.there)
 
 pub returns-clause-ok : goal.returns-clause-ok
 returns-clause-ok c =
@@ -43,6 +47,7 @@ returns-clause-ok c =
         λ i. Start k ((
             c.subject-subject.ensures c.args.now
             ∙ (λ j. subject_of (c.in_ok-key.ensures.ok j) k (record q { typ = c.in_ok-told_typ.ensures.cases j; description = c.in_ok-told_description.ensures.cases j }) (c.in_ok-told_callout.ensures.cases j))) i),
-        c.wait.ensures ∙ ap (waiting c.args.id.now k true) (c.link_tidily.ensures ∙ ap (λ (w : World). tidied (linked_in (Some c.args.ring) k w)) c.in_ok-key.ensures.ok),
+        c.wait.ensures ∙ ap (waiting c.args.id.now k true) (c.link_tidily.ensures
+            ∙ ap (λ (w : World). tidied (linked_in (Some c.args.ring) k w)) c.in_ok-key.ensures.ok),
       ),
     )

@@ -9,7 +9,9 @@ use Rattle.rk_core.proofs.LinksAndNames.LinksByNumber.{drop_seen}
 use Rattle.rk_core.proofs.tables.Tables.drop_ring.Goals as goal
 
 pub invariant_of-self : goal.invariant_of-self
-invariant_of-self c = kept_drop c.self.inside.keys c.self.inside.rings c.drop_ring.new.self c.args.ring (either_way c.drop_ring.result _ _ c.drop_ring.ensures.ok c.drop_ring.ensures.err) c.self.invariant
+invariant_of-self c =
+    kept_drop c.self.inside.keys c.self.inside.rings c.drop_ring.new.self c.args.ring
+    (either_way c.drop_ring.result _ _ c.drop_ring.ensures.ok c.drop_ring.ensures.err) c.self.invariant
 
 pub returns : goal.returns
 returns c =

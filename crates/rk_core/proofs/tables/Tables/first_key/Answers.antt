@@ -7,7 +7,8 @@ use Rattle.rk_machine.specs.World.{World}
 use Rattle.rk_core.proofs.tables.Tables.first_key.Goals as goal
 
 -- what holds of one test holds of one that answers alike
-alike : (p q : ℕ → Bool) (o : Option ℕ) → ((k : ℕ) → q k ≡ p k) → MatchOption o ((k : ℕ) → p k ≡ false) (λ k. p k ≡ true) → MatchOption o ((k : ℕ) → q k ≡ false) (λ k. q k ≡ true)
+alike : (p q : ℕ → Bool) (o : Option ℕ) → ((k : ℕ) → q k ≡ p k) → MatchOption o ((k : ℕ) → p k ≡ false) (λ k. p k ≡ true)
+    → MatchOption o ((k : ℕ) → q k ≡ false) (λ k. q k ≡ true)
 alike p q None same h = λ k. same k ∙ h k
 alike p q (Some k) same h = same k ∙ h
 

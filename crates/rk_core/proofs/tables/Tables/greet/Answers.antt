@@ -29,14 +29,17 @@ returns-clause-ok c =
     let made : World = drafted c.make_or-2.new.self.serials c.make_or-2.new.self.made.items old in
     let thread : MakesIf g.thread kind.Thread g.uid old w1 c.in_ok-thread.thread =
     subst (λ (w : World). MakesIf g.thread kind.Thread g.uid w w1 c.in_ok-thread.thread)
-    (nothing_drafted c.in_ok-draft.draft.serials c.in_ok-draft.draft.made.items old c.in_ok-draft.ensures.0 c.in_ok-draft.ensures.1) (c.in_ok-thread.ensures.makes old) in
+    (nothing_drafted c.in_ok-draft.draft.serials c.in_ok-draft.draft.made.items old c.in_ok-draft.ensures.0 c.in_ok-draft.ensures.1)
+    (c.in_ok-thread.ensures.makes old) in
     let process : MakesIf g.process kind.Process g.uid w1 w2 c.in_ok-process.process = c.in_ok-process.ensures.makes old in
-    let session : HasSessionRing g.join g.uid w2 w3 c.in_ok-session.session = joined_or_made g.join g.uid w2 w3 c.in_ok-session.session (c.in_ok-session.ensures.makes old) in
+    let session : HasSessionRing g.join g.uid w2 w3 c.in_ok-session.session =
+    joined_or_made g.join g.uid w2 w3 c.in_ok-session.session (c.in_ok-session.ensures.makes old) in
     let keeps : KeepsUsers g.uid old w3 =
     keeps_session g.join g.uid old w2 w3 c.in_ok-session.session session
     (keeps_if g.process kind.Process g.uid refl old w1 w2 c.in_ok-process.process process
     (keeps_if g.thread kind.Thread g.uid refl old old w1 c.in_ok-thread.thread thread (keeps_all g.uid old c.requires.sound.rings))) in
-    let user : HasUserRing g.uid w3 made c.in_ok-user.user = user_made g.uid old w3 made c.args.there.now c.in_ok-user.user c.requires.user keeps (c.in_ok-user.ensures.makes old) in (
+    let user : HasUserRing g.uid w3 made c.in_ok-user.user =
+    user_made g.uid old w3 made c.args.there.now c.in_ok-user.user c.requires.user keeps (c.in_ok-user.ensures.makes old) in (
       c.in_ok-thread.thread,
       c.in_ok-process.process,
       c.in_ok-session.session,

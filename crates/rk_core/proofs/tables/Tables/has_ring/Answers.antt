@@ -5,4 +5,5 @@ use Rattle.rk_machine.specs.World.{World}
 use Rattle.rk_core.proofs.tables.Tables.has_ring.Goals as goal
 
 pub returns : goal.returns
-returns c = c.contains.ensures ∙ sym (contains_key-rings_seen c.self.inside.rings c.args.ring) ∙ ap (λ (w : World). map.contains_key w.rings c.args.ring) c.self.view_is
+returns c =
+    c.contains.ensures ∙ sym (contains_key-rings_seen c.self.inside.rings c.args.ring) ∙ ap (λ (w : World). map.contains_key w.rings c.args.ring) c.self.view_is

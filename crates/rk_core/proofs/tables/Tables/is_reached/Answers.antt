@@ -14,4 +14,6 @@ seen_any m k [] = refl
 seen_any m k (ring ∷ rings) = λ i. sym (is_linked-rings_seen m ring k) i || seen_any m k rings i
 
 pub returns : goal.returns
-returns c = c.is_reached.ensures ∙ seen_any c.self.inside.rings c.args.key (rings_of c.args.context.now) ∙ ap (λ (w : World). is_reached w c.args.context.now c.args.key) c.self.view_is
+returns c =
+    c.is_reached.ensures ∙ seen_any c.self.inside.rings c.args.key (rings_of c.args.context.now)
+    ∙ ap (λ (w : World). is_reached w c.args.context.now c.args.key) c.self.view_is

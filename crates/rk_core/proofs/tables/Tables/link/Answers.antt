@@ -17,11 +17,13 @@ use Rattle.rk_core.proofs.tables.Tables.link.Goals as goal
 
 pub invariant_of-self : goal.invariant_of-self
 invariant_of-self c =
-    kept_link c.self.inside.keys c.self.inside.rings c.link.new.self c.in-Some.ring c.args.key c.in-Some-number.name (sym c.number.ensures.number ∙ c.in-Some-number.is)
+    kept_link c.self.inside.keys c.self.inside.rings c.link.new.self c.in-Some.ring c.args.key c.in-Some-number.name
+    (sym c.number.ensures.number ∙ c.in-Some-number.is)
     (either_way c.link.result _ _ c.link.ensures.ok c.link.ensures.err) c.self.invariant
 
 -- the ring has room for the key
-has_room : (w v : World) (ring : Option ℕ) (r k : ℕ) (key : Key) → v ≡ w → ring ≡ Some r → full_refusal w ring k ≡ None → map.get v.keys k ≡ Some key → is_full_at v r key.typ key.description ≡ false
+has_room : (w v : World) (ring : Option ℕ) (r k : ℕ) (key : Key) → v ≡ w → ring ≡ Some r → full_refusal w ring k ≡ None → map.get v.keys k ≡ Some key
+    → is_full_at v r key.typ key.description ≡ false
 has_room w v ring r k key same is none there =
     sym (ap (λ o. unwrap_or (option_map (λ (key : Key). is_full_at v r key.typ key.description) o) false) there)
     ∙ if_none _ errno.Edquot (ap (λ (x : World). full_refusal x (Some r) k) same ∙ sym (ap (λ (o : Option ℕ). full_refusal w o k) is) ∙ none)

@@ -7,7 +7,8 @@ use Rattle.rk_core.proofs.tables.Tables.miss.Goals as goal
 pub returns-in-None : goal.returns-in-None
 returns-in-None c =
     let q : Query = record { context = c.args.asker.now.context; typ = c.args.typ; description = c.args.description; now = c.args.now } in
-    told_error c.args.self.now c.args.id.now c.args.asker.now q c.args.ring c.args.sought.now c.requires.sought c.args.callout c.errno.result c.in-None.is (c.errno.ensures ∙ ap key_errno c.miss.ensures)
+    told_error c.args.self.now c.args.id.now c.args.asker.now q c.args.ring c.args.sought.now c.requires.sought c.args.callout c.errno.result c.in-None.is
+    (c.errno.ensures ∙ ap key_errno c.miss.ensures)
 
 pub returns-in-Some-refusal : goal.returns-in-Some-refusal
 returns-in-Some-refusal c =

@@ -8,10 +8,14 @@ use Rattle.rk_core.proofs.tables.Tables.peek.Goals as goal
 
 pub returns-in-None-hit : goal.returns-in-None-hit
 returns-in-None-hit c =
-    peeks c.args.self.now c.args.key c.args.typ.now c.args.description.now c.args.now c.in-Some.authority.now c.search-sought.result _ (sym c.unspent.ensures ∙ ap option_copied c.in-Some.is) c.search-sought.ensures
-    (ap (λ (o : Option ℕ). option_and_then (λ j. option_and_then (λ key. positive key.condition) (map.get c.args.self.now.keys j)) o) (sym c.in-None-hit.is ∙ c.hit.ensures))
+    peeks c.args.self.now c.args.key c.args.typ.now c.args.description.now c.args.now c.in-Some.authority.now c.search-sought.result _
+    (sym c.unspent.ensures ∙ ap option_copied c.in-Some.is) c.search-sought.ensures
+    (ap (λ (o : Option ℕ). option_and_then (λ j. option_and_then (λ key. positive key.condition) (map.get c.args.self.now.keys j)) o)
+    (sym c.in-None-hit.is ∙ c.hit.ensures))
 
 pub returns-in-Some-hit : goal.returns-in-Some-hit
 returns-in-Some-hit c =
-    peeks c.args.self.now c.args.key c.args.typ.now c.args.description.now c.args.now c.in-Some.authority.now c.search-sought.result _ (sym c.unspent.ensures ∙ ap option_copied c.in-Some.is) c.search-sought.ensures
-    (c.positive.ensures ∙ ap (λ (o : Option ℕ). option_and_then (λ j. option_and_then (λ key. positive key.condition) (map.get c.args.self.now.keys j)) o) (sym c.in-Some-hit.is ∙ c.hit.ensures))
+    peeks c.args.self.now c.args.key c.args.typ.now c.args.description.now c.args.now c.in-Some.authority.now c.search-sought.result _
+    (sym c.unspent.ensures ∙ ap option_copied c.in-Some.is) c.search-sought.ensures
+    (c.positive.ensures ∙ ap (λ (o : Option ℕ). option_and_then (λ j. option_and_then (λ key. positive key.condition) (map.get c.args.self.now.keys j)) o)
+    (sym c.in-Some-hit.is ∙ c.hit.ensures))

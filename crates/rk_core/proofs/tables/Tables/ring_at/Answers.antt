@@ -13,8 +13,10 @@ At result there numbered =
 
 pub returns : goal.returns
 returns c =
-    let one : ring_at c.self.inside.rings c.args.context.now c.args.requestor c.args.place ≡ ring_at c.args.self.now.rings c.args.context.now c.args.requestor c.args.place =
-    sym (ring_at-rings_seen c.self.inside.rings c.args.context.now c.args.requestor c.args.place) ∙ ap (λ (w : World). ring_at w.rings c.args.context.now c.args.requestor c.args.place) c.self.view_is in
+    let one : ring_at c.self.inside.rings c.args.context.now c.args.requestor c.args.place
+    ≡ ring_at c.args.self.now.rings c.args.context.now c.args.requestor c.args.place =
+    sym (ring_at-rings_seen c.self.inside.rings c.args.context.now c.args.requestor c.args.place)
+    ∙ ap (λ (w : World). ring_at w.rings c.args.context.now c.args.requestor c.args.place) c.self.view_is in
     let two : is_numbered_live c.self.inside.rings c.args.place ≡ is_numbered_live c.args.self.now.rings c.args.place =
     sym (is_numbered_live-rings_seen c.self.inside.rings c.args.place) ∙ ap (λ (w : World). is_numbered_live w.rings c.args.place) c.self.view_is in
     subst (λ (b : Bool). At c.at.result (ring_at c.args.self.now.rings c.args.context.now c.args.requestor c.args.place) b) two

@@ -15,14 +15,16 @@ pub returns-then-eq : goal.returns-then-eq
 returns-then-eq c = λ j.
     let before : World = world_of c.self.inside.negative c.self.inside.keys c.self.inside.rings c.self.inside.auths.sessions in
     (λ i. rival_in (sym c.self.view_is i) (c.in-Some.is i) c.args.key j)
-    ∙ rival_seen c.self.inside.keys c.self.inside.rings c.in-Some.ring c.args.key c.in_ok-name.name c.number.ensures.naming c.self.invariant (sym c.in_ok-name.ensures.number) c.find_in.result c.find_in.ensures j
+    ∙ rival_seen c.self.inside.keys c.self.inside.rings c.in-Some.ring c.args.key c.in_ok-name.name c.number.ensures.naming c.self.invariant
+    (sym c.in_ok-name.ensures.number) c.find_in.result c.find_in.ensures j
     ∙ ap (λ (o : Option ℕ). option_map_or (λ f. nat_eq j f && not (nat_eq f c.args.key)) o false) c.in-Some-find_in.is
     ∙ last_false (nat_eq j c.in-Some-find_in.rival) (not (nat_eq c.in-Some-find_in.rival c.args.key)) (ap not (sym c.eq.ensures ∙ c.if-eq.true))
 
 pub returns-else-eq : goal.returns-else-eq
 returns-else-eq c = λ j.
     (λ i. rival_in (sym c.self.view_is i) (c.in-Some.is i) c.args.key j)
-    ∙ rival_seen c.self.inside.keys c.self.inside.rings c.in-Some.ring c.args.key c.in_ok-name.name c.number.ensures.naming c.self.invariant (sym c.in_ok-name.ensures.number) c.find_in.result c.find_in.ensures j
+    ∙ rival_seen c.self.inside.keys c.self.inside.rings c.in-Some.ring c.args.key c.in_ok-name.name c.number.ensures.naming c.self.invariant
+    (sym c.in_ok-name.ensures.number) c.find_in.result c.find_in.ensures j
     ∙ ap (λ (o : Option ℕ). option_map_or (λ f. nat_eq j f && not (nat_eq f c.args.key)) o false) c.in-Some-find_in.is
     ∙ ap (λ b. nat_eq j c.in-Some-find_in.rival && not b) (sym c.eq.ensures ∙ c.if-eq.false)
     ∙ and_true (nat_eq j c.in-Some-find_in.rival)
@@ -30,5 +32,6 @@ returns-else-eq c = λ j.
 pub returns-in-None : goal.returns-in-None
 returns-in-None c = λ j.
     (λ i. rival_in (sym c.self.view_is i) (c.in-Some.is i) c.args.key j)
-    ∙ rival_seen c.self.inside.keys c.self.inside.rings c.in-Some.ring c.args.key c.in_ok-name.name c.number.ensures.naming c.self.invariant (sym c.in_ok-name.ensures.number) c.find_in.result c.find_in.ensures j
+    ∙ rival_seen c.self.inside.keys c.self.inside.rings c.in-Some.ring c.args.key c.in_ok-name.name c.number.ensures.naming c.self.invariant
+    (sym c.in_ok-name.ensures.number) c.find_in.result c.find_in.ensures j
     ∙ ap (λ (o : Option ℕ). option_map_or (λ f. nat_eq j f && not (nat_eq f c.args.key)) o false) c.in-None.is

@@ -21,10 +21,13 @@ returns c =
     (by_name c.self.inside.keys c.args.typ.now c.args.description.now c.name.result c.name.ensures.naming c.name.ensures.none c.name.ensures.some) in
     let keys : c.self.inside.keys.keys ≡ c.args.self.now.keys = ap (λ (w : World). w.keys) c.self.view_is in
     let seen : rings_seen c.self.inside.rings ≡ c.args.self.now.rings = ap (λ (w : World). w.rings) c.self.view_is in
-    let sole : (ring found : Option ℕ) (m : Option Match) → m ≡ option_and_then (λ k. option_map (λ (key : Key). record { key = k; standing = standing_of key c.args.now }) (map.get c.args.self.now.keys k)) found
+    let sole : (ring found : Option ℕ) (m : Option Match)
+    → m ≡ option_and_then (λ k. option_map (λ (key : Key). record { key = k; standing = standing_of key c.args.now })
+    (map.get c.args.self.now.keys k)) found
     → IsMatch c.self.inside.rings c.in-Some.name ring found → IsSole c.args.self.now q ring m =
     λ ring found m is h.
-    subst (IsSole c.args.self.now q ring) (sym (is ∙ ap (λ (ks : map.FinMap nat_cmp Key). option_and_then (λ k. option_map (λ (key : Key). record { key = k; standing = standing_of key c.args.now }) (map.get ks k)) found) (sym keys)))
+    subst (IsSole c.args.self.now q ring) (sym (is ∙ ap (λ (ks : map.FinMap nat_cmp Key). option_and_then
+    (λ k. option_map (λ (key : Key). record { key = k; standing = standing_of key c.args.now }) (map.get ks k)) found) (sym keys)))
     (found_sole c.self.inside.keys c.self.inside.rings q c.name.ensures.naming c.self.invariant c.args.self.now keys seen c.in-Some.name names ring found h) in
     record {
       thread = sole c.args.context.now.thread c.find-found.result.thread c.match_of.result c.match_of.ensures c.find-found.ensures.thread;

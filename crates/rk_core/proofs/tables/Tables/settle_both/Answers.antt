@@ -8,9 +8,11 @@ use Rattle.rk_core.proofs.tables.Tables.settle_both.Goals as goal
 pub returns-in-Some : goal.returns-in-Some
 returns-in-Some c =
     c.settle-in-Some.ensures ∙ ap (settled_at c.args.key) c.settle.ensures
-    ∙ two_settle c.args.self.now c.in-Some.rival c.args.key (subst (λ (o : Option ℕ). StayBut (λ j. option_map_or (λ r. nat_eq j r) o false || nat_eq j c.args.key) c.args.self.now) c.in-Some.is c.requires)
+    ∙ two_settle c.args.self.now c.in-Some.rival c.args.key (subst
+    (λ (o : Option ℕ). StayBut (λ j. option_map_or (λ r. nat_eq j r) o false || nat_eq j c.args.key) c.args.self.now) c.in-Some.is c.requires)
 
 pub returns-in-None : goal.returns-in-None
 returns-in-None c =
     c.settle-in-None.ensures
-    ∙ one_settles c.args.self.now c.args.key (subst (λ (o : Option ℕ). StayBut (λ j. option_map_or (λ r. nat_eq j r) o false || nat_eq j c.args.key) c.args.self.now) c.in-None.is c.requires)
+    ∙ one_settles c.args.self.now c.args.key (subst (λ (o : Option ℕ). StayBut
+    (λ j. option_map_or (λ r. nat_eq j r) o false || nat_eq j c.args.key) c.args.self.now) c.in-None.is c.requires)

@@ -12,7 +12,8 @@ use Rattle.rk_core.proofs.tables.Tables.take.Goals as goal
 pub make-requires : goal.make-requires
 make-requires c =
     subst (λ (made : List NewRing). AreNew made c.self.inside.rings) (sym c.deref.ensures.value)
-    (all_new c.args.draft.made.items c.self.inside.rings (subst (AreAllNew c.args.draft.made.items) (sym (ap (λ (w : World). w.rings) c.self.view_is)) c.requires.draft.new))
+    (all_new c.args.draft.made.items c.self.inside.rings (subst (AreAllNew c.args.draft.made.items)
+    (sym (ap (λ (w : World). w.rings) c.self.view_is)) c.requires.draft.new))
 
 pub invariant_of-self : goal.invariant_of-self
 invariant_of-self c =
@@ -23,7 +24,8 @@ pub returns-in-Ok-clause-ok : goal.returns-in-Ok-clause-ok
 returns-in-Ok-clause-ok c =
     let before : World = world_of c.self.inside.negative c.self.inside.keys c.self.inside.rings c.self.inside.auths.sessions in
     let seen : rings_seen c.make.new.self ≡ with_all c.args.draft.made.items before.rings =
-    ap rings_seen c.in-Ok.ensures.ok ∙ with_all_seen c.deref.result.now c.self.inside.rings ∙ ap (λ (made : List NewRing). with_all made before.rings) c.deref.ensures.value in
+    ap rings_seen c.in-Ok.ensures.ok ∙ with_all_seen c.deref.result.now c.self.inside.rings
+    ∙ ap (λ (made : List NewRing). with_all made before.rings) c.deref.ensures.value in
     (λ i. world_of c.self.inside.negative (c.set_serials.ensures i) c.make.new.self c.self.inside.auths.sessions)
     ∙ (λ i. record before { rings = seen i; serials = c.args.draft.serials })
     ∙ ap (drafted c.args.draft.serials c.args.draft.made.items) c.self.view_is
