@@ -78,7 +78,12 @@ clear_after old now e a new (begins s asker typ description callout r ring k ev 
       constructions = free_changed s _ _ q (none_inserted old.sessions.constructions k _ q other c.constructions);
     })
 clear_after old now e a new (joins s x ring k ev asks can building way ra w) h q n c =
-    as_clear new _ q w (record { keys = none_kept _ old.keys q c.keys; rings = none_linked ring _ old.rings q c.rings; constructions = free_changed s _ old.sessions q c.constructions })
+    as_clear new _ q w (record {
+      keys = none_kept _ old.keys q c.keys;
+      rings = none_linked ring _ old.rings q c.rings;
+      constructions = free_changed s _
+          old.sessions q c.constructions;
+    })
 clear_after old now e a new (links s x ring k m ev completes_none not_assume ra w) h q n c =
     as_clear new _ q w (record { keys = none_kept _ old.keys q c.keys; rings = none_linked ring _ old.rings q c.rings; constructions = c.constructions })
 clear_after old now e a new (unlinks s x ring k ev completes_none not_assume ra (inl w)) h q n c =
@@ -119,7 +124,12 @@ clear_after old now e a new (failed k st ev is launching ra w) h q n c =
           (Negative error.NoKey) old q c.constructions;
     })
 clear_after old now e a new (finished k how payload st condition ev is runs final ra w) h q n c =
-    as_clear new _ q w (record { keys = none_kept _ _ q (none_ended now k condition old q c.keys); rings = c.rings; constructions = free_ended now k condition old q c.constructions })
+    as_clear new _ q w (record {
+      keys = none_kept _ _ q (none_ended now k condition old q c.keys);
+      rings = c.rings;
+      constructions = free_ended now k condition
+          old q c.constructions;
+    })
 
 -- ---- every key stays
 

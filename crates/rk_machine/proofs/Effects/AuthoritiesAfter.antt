@@ -28,17 +28,20 @@ is_unspent w k = is_some (unspent w.sessions k)
 
 -- ---- changes that leave it
 
-kept : (f : Construction → Construction) → ((c : Construction) → (f c).authority ≡ c.authority) → (b : Bool) (o : Option Construction) → authority_in (cond b (option_map f o) o) ≡ authority_in o
+kept : (f : Construction → Construction) → ((c : Construction) → (f c).authority ≡ c.authority) → (b : Bool) (o : Option Construction)
+    → authority_in (cond b (option_map f o) o) ≡ authority_in o
 kept f h true None = refl
 kept f h true (Some c) = h c
 kept f h false o = refl
 
 pub unspent_changed : (id : SessionId) (f : Session → Session) (a : Sessions) (q : ℕ) → unspent (session_changed id f a) q ≡ unspent a q
 unspent_changed (Client n) f a q = refl
-unspent_changed (Handler k) f a q = ap authority_in (get_changed_at k (in_handler f) a.constructions q) ∙ kept (in_handler f) (λ c. refl) (nat_eq k q) (map.get a.constructions q)
+unspent_changed (Handler k) f a q =
+    ap authority_in (get_changed_at k (in_handler f) a.constructions q) ∙ kept (in_handler f) (λ c. refl) (nat_eq k q) (map.get a.constructions q)
 
 pub unspent_told : (k : ℕ) (o : Outcome) (a : Sessions) (q : ℕ) → unspent (all_told k o a) q ≡ unspent a q
-unspent_told k o a q = ap authority_in (get_changed_all (in_handler (told k o)) a.constructions q) ∙ kept (in_handler (told k o)) (λ c. refl) true (map.get a.constructions q)
+unspent_told k o a q =
+    ap authority_in (get_changed_all (in_handler (told k o)) a.constructions q) ∙ kept (in_handler (told k o)) (λ c. refl) true (map.get a.constructions q)
 
 pub unspent_announced : (now k : ℕ) (keys : map.FinMap nat_cmp Key) (a : Sessions) (q : ℕ) → unspent (announced now k keys a) q ≡ unspent a q
 unspent_announced now k keys a q = told_or_not (map.get keys k)
@@ -48,7 +51,8 @@ unspent_announced now k keys a q = told_or_not (map.get keys k)
     told_or_not (Some key) = unspent_told k (outcome_of k key now) a q
 
 pub unspent_launched : (k : ℕ) (st : Stage) (a : Sessions) (q : ℕ) → unspent (launched k st a) q ≡ unspent a q
-unspent_launched k st a q = ap authority_in (get_changed_at k (in_new_stage st) a.constructions q) ∙ kept (in_new_stage st) (λ c. refl) (nat_eq k q) (map.get a.constructions q)
+unspent_launched k st a q =
+    ap authority_in (get_changed_at k (in_new_stage st) a.constructions q) ∙ kept (in_new_stage st) (λ c. refl) (nat_eq k q) (map.get a.constructions q)
 
 -- ---- changes of it
 
@@ -60,7 +64,8 @@ spent_in false o = refl
 pub unspent_spent : (k : ℕ) (a : Sessions) (q : ℕ) → unspent (spent k a) q ≡ cond (nat_eq k q) None (unspent a q)
 unspent_spent k a q = ap authority_in (get_changed_at k without_authority a.constructions q) ∙ spent_in (nat_eq k q) (map.get a.constructions q)
 
-pub unspent_concluded : (now k : ℕ) (keys : map.FinMap nat_cmp Key) (a : Sessions) (q : ℕ) → unspent (announced now k keys (spent k a)) q ≡ cond (nat_eq k q) None (unspent a q)
+pub unspent_concluded : (now k : ℕ) (keys : map.FinMap nat_cmp Key) (a : Sessions) (q : ℕ)
+    → unspent (announced now k keys (spent k a)) q ≡ cond (nat_eq k q) None (unspent a q)
 unspent_concluded now k keys a q = unspent_announced now k keys (spent k a) q ∙ unspent_spent k a q
 
 removed_in : (b : Bool) (o : Option Construction) → authority_in (cond b None o) ≡ cond b None (authority_in o)
@@ -74,16 +79,21 @@ twice : {A : Type 0} (b : Bool) (o : Option A) → cond b None (cond b None o) �
 twice true o = refl
 twice false o = refl
 
-pub unspent_ended : (now k : ℕ) (condition : Condition) (w : World) (q : ℕ) → unspent (ended now k condition w).sessions q ≡ cond (nat_eq k q) None (unspent w.sessions q)
+pub unspent_ended : (now k : ℕ) (condition : Condition) (w : World) (q : ℕ)
+    → unspent (ended now k condition w).sessions q ≡ cond (nat_eq k q) None (unspent w.sessions q)
 unspent_ended now k condition w q = unspent_removed k (sessions_ended now k condition w) q ∙ spent_or_not (is_some (unspent w.sessions k))
   where
-    spent_or_not : (b : Bool) → cond (nat_eq k q) None (unspent (cond b (announced now k (keys_ended now k condition w) (spent k w.sessions)) w.sessions) q) ≡ cond (nat_eq k q) None (unspent w.sessions q)
-    spent_or_not true = ap (cond (nat_eq k q) None) (unspent_concluded now k (keys_ended now k condition w) w.sessions q) ∙ twice (nat_eq k q) (unspent w.sessions q)
+    spent_or_not : (b : Bool) → cond (nat_eq k q) None (unspent (cond b (announced now k (keys_ended now k condition w) (spent k w.sessions)) w.sessions) q)
+        ≡ cond (nat_eq k q) None (unspent w.sessions q)
+    spent_or_not true =
+        ap (cond (nat_eq k q) None) (unspent_concluded now k (keys_ended now k condition w) w.sessions q) ∙ twice (nat_eq k q) (unspent w.sessions q)
     spent_or_not false = refl
 
-issued_in : (b : Bool) (authority : Authority) (o : Option Construction) → authority_in (cond b (Some (record { stage = Starting; authority = Some authority })) o) ≡ cond b (Some authority) (authority_in o)
+issued_in : (b : Bool) (authority : Authority) (o : Option Construction)
+    → authority_in (cond b (Some (record { stage = Starting; authority = Some authority })) o) ≡ cond b (Some authority) (authority_in o)
 issued_in true authority o = refl
 issued_in false authority o = refl
 
-pub unspent_issued : (k : ℕ) (authority : Authority) (a : Sessions) (q : ℕ) → unspent (with_construction k authority a) q ≡ cond (nat_eq k q) (Some authority) (unspent a q)
+pub unspent_issued : (k : ℕ) (authority : Authority) (a : Sessions) (q : ℕ)
+    → unspent (with_construction k authority a) q ≡ cond (nat_eq k q) (Some authority) (unspent a q)
 unspent_issued k authority a q = ap authority_in (get_inserted a.constructions k _ q) ∙ issued_in (nat_eq k q) authority (map.get a.constructions q)

@@ -42,7 +42,8 @@ kept_in : (linked : Bool) (o : Option Key) → built_in (cond (option_map_or (λ
 kept_in linked None = refl
 kept_in linked (Some key) = kept_key linked key (is_building key) refl
 
-pub built_tidied : (rings : map.FinMap nat_cmp Ring) (keys : map.FinMap nat_cmp Key) (k : ℕ) → built_at (kept_where (λ k key. has_link rings k || is_building key) keys) k ≡ built_at keys k
+pub built_tidied : (rings : map.FinMap nat_cmp Ring) (keys : map.FinMap nat_cmp Key) (k : ℕ)
+    → built_at (kept_where (λ k key. has_link rings k || is_building key) keys) k ≡ built_at keys k
 built_tidied rings keys k = ap built_in (get_kept_where (λ k key. has_link rings k || is_building key) keys k) ∙ kept_in (has_link rings k) (map.get keys k)
 
 put_in : (b : Bool) (key : Key) (o : Option Key) → built_in (cond b (Some key) o) ≡ cond b (is_building key) (built_in o)
@@ -50,7 +51,8 @@ put_in true key o = refl
 put_in false key o = refl
 
 -- a new key
-pub built_put : (k : ℕ) (key : Key) (keys : map.FinMap nat_cmp Key) (j : ℕ) → built_at (map.insert keys k key) j ≡ cond (nat_eq k j) (is_building key) (built_at keys j)
+pub built_put : (k : ℕ) (key : Key) (keys : map.FinMap nat_cmp Key) (j : ℕ)
+    → built_at (map.insert keys k key) j ≡ cond (nat_eq k j) (is_building key) (built_at keys j)
 built_put k key keys j = ap built_in (get_inserted keys k key j) ∙ put_in (nat_eq k j) key (map.get keys j)
 
 -- a change that leaves its condition
@@ -70,11 +72,13 @@ final_key (Positive payload) (Some t) key h = refl
 final_key (Negative error) None key h = refl
 final_key (Negative error) (Some t) key h = refl
 
-final_in : (b : Bool) (condition : Condition) (end : Option ℕ) (o : Option Key) → is_final condition ≡ true → built_in (cond b (option_map (concluded condition end) o) o) ≡ cond b false (built_in o)
+final_in : (b : Bool) (condition : Condition) (end : Option ℕ) (o : Option Key) → is_final condition ≡ true
+    → built_in (cond b (option_map (concluded condition end) o) o) ≡ cond b false (built_in o)
 final_in true condition end None h = refl
 final_in true condition end (Some key) h = final_key condition end key h
 final_in false condition end o h = refl
 
 pub built_concluded : (k : ℕ) (condition : Condition) (end : Option ℕ) → is_final condition ≡ true → (keys : map.FinMap nat_cmp Key) (j : ℕ)
     → built_at (changed_at k (concluded condition end) keys) j ≡ cond (nat_eq k j) false (built_at keys j)
-built_concluded k condition end final keys j = ap built_in (get_changed_at k (concluded condition end) keys j) ∙ final_in (nat_eq k j) condition end (map.get keys j) final
+built_concluded k condition end final keys j =
+    ap built_in (get_changed_at k (concluded condition end) keys j) ∙ final_in (nat_eq k j) condition end (map.get keys j) final

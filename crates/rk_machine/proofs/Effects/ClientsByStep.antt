@@ -91,41 +91,57 @@ refused_client n (Collect s) error b = refl
 refused_client n (Gone (Client m)) error b = refl
 refused_client n (Gone (Handler k)) error b = refl
 
-by_step : (new : World) (n : ℕ) (e given : Event) (a answer : Answer) (b : Bool) → e ≡ given → a ≡ answer → is_client new.sessions n ≡ client_after n given answer b → is_client new.sessions n ≡ client_after n e a b
+by_step : (new : World) (n : ℕ) (e given : Event) (a answer : Answer) (b : Bool) → e ≡ given → a ≡ answer
+    → is_client new.sessions n ≡ client_after n given answer b → is_client new.sessions n ≡ client_after n e a b
 by_step new n e given a answer b ev ra h = h ∙ sym (ap (λ y. client_after n y a b) ev ∙ ap (λ y. client_after n given y b) ra)
 
 at_world : (new mid : World) (n : ℕ) (b : Bool) → new ≡ mid → is_client mid.sessions n ≡ b → is_client new.sessions n ≡ b
 at_world new mid n b e h = ap (λ (w : World). is_client w.sessions n) e ∙ h
 
-unlinked_client : (old new : World) (ring : Option ℕ) (k n : ℕ) → (new ≡ tidied (unlinked_in ring k old)) ⊎ (new ≡ tidied (cleared_in ring old)) → is_client new.sessions n ≡ is_client old.sessions n
+unlinked_client : (old new : World) (ring : Option ℕ) (k n : ℕ) → (new ≡ tidied (unlinked_in ring k old)) ⊎ (new ≡ tidied (cleared_in ring old))
+    → is_client new.sessions n ≡ is_client old.sessions n
 unlinked_client old new ring k n (inl h) = at_world new _ n _ h refl
 unlinked_client old new ring k n (inr h) = at_world new _ n _ h refl
 
-pub clients : (old : World) (now : ℕ) (e : Event) (a : Answer) (new : World) → Effect old now e a new → (n : ℕ) → is_client new.sessions n ≡ client_after n e a (is_client old.sessions n)
+pub clients : (old : World) (now : ℕ) (e : Event) (a : Answer) (new : World) → Effect old now e a new → (n : ℕ)
+    → is_client new.sessions n ≡ client_after n e a (is_client old.sessions n)
 clients old now e a new (refused error ra w free) n =
     ap (λ (v : World). is_client v.sessions n) w ∙ sym (ap (λ y. client_after n e y (is_client old.sessions n)) ra ∙ refused_client n e error _)
 clients old now e a new (still s wait ev is ready ra w) n = by_step new n e _ a _ _ ev ra (at_world new _ n _ w refl)
-clients old now e a new (took s wait outcome ev is ready ra w) n = by_step new n e (Collect s) a a _ ev refl (at_world new _ n _ w (client_changed s _ old.sessions n))
-clients old now e a new (came m ev fresh ra w) n = by_step new n e _ a _ _ ev ra (at_world new _ n _ w (ap is_some (get_inserted old.sessions.clients m new_session n) ∙ came_in (nat_eq m n) (map.get old.sessions.clients n)))
-clients old now e a new (went m ev there ra w) n = by_step new n e _ a _ _ ev ra (at_world new _ n _ w (ap is_some (get_removed old.sessions.clients m n) ∙ went_in (nat_eq m n) (map.get old.sessions.clients n)))
+clients old now e a new (took s wait outcome ev is ready ra w) n =
+    by_step new n e (Collect s) a a _ ev refl (at_world new _ n _ w (client_changed s _ old.sessions n))
+clients old now e a new (came m ev fresh ra w) n =
+    by_step new n e _ a _ _ ev ra (at_world new _ n _ w (ap is_some (get_inserted old.sessions.clients m new_session n)
+    ∙ came_in (nat_eq m n) (map.get old.sessions.clients n)))
+clients old now e a new (went m ev there ra w) n =
+    by_step new n e _ a _ _ ev ra (at_world new _ n _ w (ap is_some (get_removed old.sessions.clients m n)
+    ∙ went_in (nat_eq m n) (map.get old.sessions.clients n)))
 clients old now e a new (greets m uid gid thread process join ev can none joined h) n =
     by_step new n e _ a _ _ ev h.6.0
-    (at_world new _ n _ h.6.1 (client_changed (Client m) (with_context (record { uid = uid; gid = gid; thread = h.0; process = h.1; session = h.2; user = h.3 })) h.4.sessions n ∙ ap (λ (s : Sessions). is_client s n) (greeted_sessions _ old h.4 h.0 h.1 h.2 h.3 h.5)))
-clients old now e a new (begins s asker typ description callout r ring k ev can is depth fresh ra w) n = by_step new n e _ a _ _ ev ra (at_world new _ n _ w (client_changed s _ _ n))
-clients old now e a new (joins s x ring k ev asks can building apart ra w) n = by_step new n e _ a _ _ ev ra (at_world new _ n _ w (client_changed s _ old.sessions n))
+    (at_world new _ n _ h.6.1 (client_changed (Client m) (with_context
+    (record { uid = uid; gid = gid; thread = h.0; process = h.1; session = h.2; user = h.3 })) h.4.sessions n
+    ∙ ap (λ (s : Sessions). is_client s n) (greeted_sessions _ old h.4 h.0 h.1 h.2 h.3 h.5)))
+clients old now e a new (begins s asker typ description callout r ring k ev can is depth fresh ra w) n =
+    by_step new n e _ a _ _ ev ra (at_world new _ n _ w (client_changed s _ _ n))
+clients old now e a new (joins s x ring k ev asks can building apart ra w) n =
+    by_step new n e _ a _ _ ev ra (at_world new _ n _ w (client_changed s _ old.sessions n))
 clients old now e a new (links s x ring k m ev completes_none not_assume ra w) n = by_step new n e _ a _ _ ev ra (at_world new _ n _ w refl)
 clients old now e a new (unlinks s x ring k ev completes_none not_assume ra w) n = by_step new n e _ a _ _ ev ra (unlinked_client old new ring k n w)
 clients old now e a new (marks s x k f ev completes_none not_assume mild ra w) n = by_step new n e _ a _ _ ev ra (at_world new _ n _ w refl)
 clients old now e a new (tells s x bytes ev ra w) n = by_step new n e _ a _ _ ev ra (at_world new _ n _ w refl)
-clients old now e a new (sets s x setting m ev completes_none not_assume can ra w) n = by_step new n e _ a _ _ ev ra (at_world new _ n _ w (client_changed s _ old.sessions n))
+clients old now e a new (sets s x setting m ev completes_none not_assume can ra w) n =
+    by_step new n e _ a _ _ ev ra (at_world new _ n _ w (client_changed s _ old.sessions n))
 clients old now e a new (adds s asker typ description payload r ring k ev fresh ra w) n = by_step new n e _ a _ _ ev ra (at_world new _ n _ w refl)
 clients old now e a new (assumes s key ev can none ra w) n = by_step new n e _ a _ _ ev ra (at_world new _ n _ w (client_changed s _ old.sessions n))
-clients old now e a new (concludes s x asker ring k condition end ev which can is own final ra w) n = by_step new n e _ a _ _ ev ra (at_world new _ n _ w (client_announced now k _ (spent k old.sessions) n))
+clients old now e a new (concludes s x asker ring k condition end ev which can is own final ra w) n =
+    by_step new n e _ a _ _ ev ra (at_world new _ n _ w (client_announced now k _ (spent k old.sessions) n))
 clients old now e a new (ran_plain k st ev is launches ra w) n = by_step new n e _ a _ _ ev ra (at_world new _ n _ w refl)
 clients old now e a new (ran_piped k ev is ra w) n = by_step new n e _ a _ _ ev ra (at_world new _ n _ w refl)
 clients old now e a new (negates k how payload ev is fails ra w) n = by_step new n e _ a _ _ ev ra (at_world new _ n _ w refl)
-clients old now e a new (failed k st ev is launches ra w) n = by_step new n e _ a _ _ ev ra (at_world new _ n _ w (client_ended now k (Negative error.NoKey) old n))
-clients old now e a new (finished k how payload st condition ev is running final ra w) n = by_step new n e _ a _ _ ev ra (at_world new _ n _ w (client_ended now k condition old n))
+clients old now e a new (failed k st ev is launches ra w) n =
+    by_step new n e _ a _ _ ev ra (at_world new _ n _ w (client_ended now k (Negative error.NoKey) old n))
+clients old now e a new (finished k how payload st condition ev is running final ra w) n =
+    by_step new n e _ a _ _ ev ra (at_world new _ n _ w (client_ended now k condition old n))
 
 -- ---- who waits
 
@@ -154,12 +170,15 @@ still_some true o h = absurd (cc)
 still_some false o h = h
 
 -- only who asks may wait from a step on
-pub gains : (old : World) (now : ℕ) (e : Event) (a : Answer) (new : World) → Step old now e a new → IdleFresh old → (s : SessionId) → asks_by s e ≡ false → has_wait new s ≡ true → has_wait old s ≡ true
+pub gains : (old : World) (now : ℕ) (e : Event) (a : Answer) (new : World) → Step old now e a new → IdleFresh old → (s : SessionId) → asks_by s e ≡ false
+    → has_wait new s ≡ true → has_wait old s ≡ true
 gains old now e a new h idle s quiet waits =
     let is = tied old now e a new (effect old now e a new h) idle s in
     let left : after now s e a (flag_of old.sessions s) ≡ cond (is_wait_ended s (step now e a)) None (flag_of old.sessions s) =
-    ap (λ (o : Option (ℕ × Bool)). option_map_or (λ w. Some w) o (cond (is_wait_ended s (step now e a)) None (flag_of old.sessions s))) (none_begun s e a quiet) in
-    let some : is_some (cond (is_wait_ended s (step now e a)) None (flag_of old.sessions s)) ≡ true = ap is_some (sym (is ∙ left)) ∙ sym (waits_flag new s) ∙ waits in
+    ap (λ (o : Option (ℕ × Bool)). option_map_or (λ w. Some w) o (cond (is_wait_ended s (step now e a)) None (flag_of old.sessions s)))
+    (none_begun s e a quiet) in
+    let some : is_some (cond (is_wait_ended s (step now e a)) None (flag_of old.sessions s)) ≡ true =
+    ap is_some (sym (is ∙ left)) ∙ sym (waits_flag new s) ∙ waits in
     waits_flag old s ∙ still_some (is_wait_ended s (step now e a)) (flag_of old.sessions s) some
 
 -- what may be collected is a wait
@@ -178,9 +197,12 @@ own_cleared old new s e =
     no_flag new s (ap (λ (w : World). flag_of w.sessions s) e ∙ flag_collected s old.sessions s ∙ ap (λ b. cond b None (flag_of old.sessions s)) (same-self s))
 
 -- a collect of what may be collected ends the wait
-pub collect_ends : (old : World) (now : ℕ) (s : SessionId) (a : Answer) (new : World) → is_ready old s ≡ true → Step old now (Collect s) a new → has_wait new s ≡ false
+pub collect_ends : (old : World) (now : ℕ) (s : SessionId) (a : Answer) (new : World) → is_ready old s ≡ true → Step old now (Collect s) a new
+    → has_wait new s ≡ false
 unfolding Step
 collect_ends old now s a new ready h =
-    by_option (wait_of old.sessions s) _ _ _ (λ none _. absurd (let e : is_ready old s ≡ false = ap (λ (o : Option Wait). is_some (option_and_then (ready_outcome old.sessions) o)) none in cc)) (λ wait is g.
+    by_option (wait_of old.sessions s) _ _ _ (λ none _. absurd
+    (let e : is_ready old s ≡ false = ap (λ (o : Option Wait). is_some (option_and_then (ready_outcome old.sessions) o)) none in cc)) (λ wait is g.
     by_option (ready_outcome old.sessions wait) _ _ _
-    (λ none _. absurd (let e : is_ready old s ≡ false = ap (λ (o : Option Wait). is_some (option_and_then (ready_outcome old.sessions) o)) is ∙ ap is_some none in cc)) (λ outcome _ f. own_cleared old new s f.1) g) h
+    (λ none _. absurd (let e : is_ready old s ≡ false = ap (λ (o : Option Wait). is_some (option_and_then (ready_outcome old.sessions) o)) is
+    ∙ ap is_some none in cc)) (λ outcome _ f. own_cleared old new s f.1) g) h

@@ -25,12 +25,14 @@ context_at a n = context_in (map.get a.clients n)
 
 -- ---- changes that leave it
 
-kept : (f : Session → Session) → ((s : Session) → (f s).context ≡ s.context) → (b : Bool) (o : Option Session) → context_in (cond b (option_map f o) o) ≡ context_in o
+kept : (f : Session → Session) → ((s : Session) → (f s).context ≡ s.context) → (b : Bool) (o : Option Session)
+    → context_in (cond b (option_map f o) o) ≡ context_in o
 kept f h true None = refl
 kept f h true (Some s) = h s
 kept f h false o = refl
 
-pub context_kept : (id : SessionId) (f : Session → Session) → ((s : Session) → (f s).context ≡ s.context) → (a : Sessions) (n : ℕ) → context_at (session_changed id f a) n ≡ context_at a n
+pub context_kept : (id : SessionId) (f : Session → Session) → ((s : Session) → (f s).context ≡ s.context) → (a : Sessions) (n : ℕ)
+    → context_at (session_changed id f a) n ≡ context_at a n
 context_kept (Client m) f h a n = ap context_in (get_changed_at m f a.clients n) ∙ kept f h (nat_eq m n) (map.get a.clients n)
 context_kept (Handler k) f h a n = refl
 
@@ -39,7 +41,9 @@ context_announced now k keys a n = told_or_not (map.get keys k)
   where
     told_or_not : (o : Option Key) → context_at (option_map_or (λ key. all_told k (outcome_of k key now) a) o a) n ≡ context_at a n
     told_or_not None = refl
-    told_or_not (Some key) = ap context_in (get_changed_all (told k (outcome_of k key now)) a.clients n) ∙ kept (told k (outcome_of k key now)) (λ s. refl) true (map.get a.clients n)
+    told_or_not (Some key) =
+        ap context_in (get_changed_all (told k (outcome_of k key now)) a.clients n)
+        ∙ kept (told k (outcome_of k key now)) (λ s. refl) true (map.get a.clients n)
 
 pub context_ended : (now k : ℕ) (condition : Condition) (w : World) (n : ℕ) → context_at (sessions_ended now k condition w) n ≡ context_at w.sessions n
 context_ended now k condition w n = spent_or_not (is_some (unspent w.sessions k))
@@ -54,11 +58,14 @@ came_in false o new = refl
 
 -- a client that comes has none yet
 pub context_came : (m : ℕ) (a : Sessions) (n : ℕ) → map.get a.clients m ≡ None → context_at (with_client m a) n ≡ context_at a n
-context_came m a n new = ap context_in (get_inserted a.clients m new_session n) ∙ came_in (nat_eq m n) (map.get a.clients n) (λ same. ap (map.get a.clients) (sym (eqb-true m n same)) ∙ new)
+context_came m a n new =
+    ap context_in (get_inserted a.clients m new_session n) ∙ came_in (nat_eq m n) (map.get a.clients n)
+    (λ same. ap (map.get a.clients) (sym (eqb-true m n same)) ∙ new)
 
 -- ---- changes of it
 
-given_in : (c : Context) (b : Bool) (o : Option Session) → (b ≡ true → is_none o ≡ false) → context_in (cond b (option_map (with_context c) o) o) ≡ cond b (Some c) (context_in o)
+given_in : (c : Context) (b : Bool) (o : Option Session) → (b ≡ true → is_none o ≡ false)
+    → context_in (cond b (option_map (with_context c) o) o) ≡ cond b (Some c) (context_in o)
 given_in c true None there = absurd (none_there (there refl))
   where
     none_there : true ≡ false → ⊥
@@ -66,7 +73,8 @@ given_in c true None there = absurd (none_there (there refl))
 given_in c true (Some s) there = refl
 given_in c false o there = refl
 
-pub context_given : (m : ℕ) (c : Context) (a : Sessions) (n : ℕ) → is_none (map.get a.clients m) ≡ false → context_at (session_changed (Client m) (with_context c) a) n ≡ cond (nat_eq m n) (Some c) (context_at a n)
+pub context_given : (m : ℕ) (c : Context) (a : Sessions) (n : ℕ) → is_none (map.get a.clients m) ≡ false
+    → context_at (session_changed (Client m) (with_context c) a) n ≡ cond (nat_eq m n) (Some c) (context_at a n)
 context_given m c a n there =
     ap context_in (get_changed_at m (with_context c) a.clients n)
     ∙ given_in c (nat_eq m n) (map.get a.clients n) (λ same. ap (λ j. is_none (map.get a.clients j)) (sym (eqb-true m n same)) ∙ there)

@@ -63,7 +63,8 @@ module _ (c : Context) where
       by_origin r k (inl is) = f.made r k is
       by_origin r k (inr new) = inr (f.keeps r new.0, new.1)
 
-  module _ (ring_kind : RingKind) (uid : ℕ) (old new : World) (ring : ℕ) (h : Makes ring_kind uid old new ring) (sound : Sound old) (own : (is_users_kind ring_kind ≡ true) ⊎ Has c ring ring_kind) where
+  module _ (ring_kind : RingKind) (uid : ℕ) (old new : World) (ring : ℕ) (h : Makes ring_kind uid old new ring) (sound : Sound old)
+      (own : (is_users_kind ring_kind ≡ true) ⊎ Has c ring ring_kind) where
     kind_after : (r : ℕ) → kind_at new r ≡ cond (nat_eq ring r) (Some ring_kind) (kind_at old r)
     kind_after r = ap (λ (w : World). kind_at w r) h.1 ∙ kind_made ring (empty_ring ring_kind uid) old.rings r
 
@@ -81,7 +82,8 @@ module _ (c : Context) where
         → (kind_at old r ≡ Some k) ⊎ ((is_drawn old r ≡ false) × ((is_users_kind k ≡ true) ⊎ Has c r k))
     made_by r k true same is = inr (
       ap (is_drawn old) (sym (eqb-true ring r same)) ∙ h.0.unused,
-      subst (λ (x : RingKind). (is_users_kind x ≡ true) ⊎ Has c r x) (some_same is) (subst (λ (n : ℕ). (is_users_kind ring_kind ≡ true) ⊎ Has c n ring_kind) (eqb-true ring r same) own),
+      subst (λ (x : RingKind). (is_users_kind x ≡ true) ⊎ Has c r x) (some_same is)
+          (subst (λ (n : ℕ). (is_users_kind ring_kind ≡ true) ⊎ Has c n ring_kind) (eqb-true ring r same) own),
     )
     made_by r k false other is = inl is
 
@@ -90,7 +92,8 @@ module _ (c : Context) where
       sound = record {
         zero = kind_after 0 ∙ ap (λ b. cond b (Some ring_kind) (kind_at old 0)) (ne_eqb ring 0 not_zero) ∙ sound.zero;
         drawn = λ r is. let none = sym (drawn_after r) ∙ is in
-            kind_after r ∙ ap (λ b. cond b (Some ring_kind) (kind_at old r)) (or_left (nat_eq ring r) (is_drawn old r) none) ∙ sound.drawn r (or_right (nat_eq ring r) (is_drawn old r) none);
+            kind_after r ∙ ap (λ b. cond b (Some ring_kind) (kind_at old r)) (or_left (nat_eq ring r) (is_drawn old r) none)
+            ∙ sound.drawn r (or_right (nat_eq ring r) (is_drawn old r) none);
       };
       stays = λ r k is. kind_after r ∙ stays_by r k (nat_eq ring r) refl is;
       made = λ r k is. made_by r k (nat_eq ring r) refl (sym (kind_after r) ∙ is);
@@ -117,7 +120,9 @@ no_number e = cc
 
 -- a ring that may be joined is there, and a session ring
 joined_ring : (w : World) (g : Greeting) → join_refusal w g ≡ None → (j : ℕ) → g.join ≡ Some j → kind_at w j ≡ Some kind.Session
-joined_ring w g none j is = by_ring (map.get w.rings j) (sym (ap (λ o. option_map_or (λ join. option_map_or (λ r. refused_if (not (is_sessions r.kind r.uid g.uid)) errno.Eacces) (map.get w.rings join) (Some errno.Enokey)) o None) is) ∙ none)
+joined_ring w g none j is =
+    by_ring (map.get w.rings j) (sym (ap (λ o. option_map_or
+    (λ join. option_map_or (λ r. refused_if (not (is_sessions r.kind r.uid g.uid)) errno.Eacces) (map.get w.rings join) (Some errno.Enokey)) o None) is) ∙ none)
   where
     by_kind : (k : RingKind) (owner : ℕ) → is_sessions k owner g.uid ≡ true → k ≡ kind.Session
     by_kind kind.Session owner h = refl
@@ -125,12 +130,14 @@ joined_ring w g none j is = by_ring (map.get w.rings j) (sym (ap (λ o. option_m
     by_kind kind.Process owner h = absurd (true_false (sym h))
     by_kind kind.User owner h = absurd (true_false (sym h))
 
-    by_ring : (o : Option Ring) → option_map_or (λ r. refused_if (not (is_sessions r.kind r.uid g.uid)) errno.Eacces) o (Some errno.Enokey) ≡ None → option_map (λ r. r.kind) o ≡ Some kind.Session
+    by_ring : (o : Option Ring) → option_map_or (λ r. refused_if (not (is_sessions r.kind r.uid g.uid)) errno.Eacces) o (Some errno.Enokey) ≡ None
+        → option_map (λ r. r.kind) o ≡ Some kind.Session
     by_ring None h = absurd (cc)
     by_ring (Some r) h = ap (λ (k : RingKind). Some k) (by_kind r.kind r.uid (not_not _ (if_none _ errno.Eacces h)))
 
 module _ (c : Context) where
-  if_made : (b : Bool) (k : RingKind) (uid : ℕ) (old new : World) (ring : Option ℕ) → MakesIf b k uid old new ring → Sound old → ((r : ℕ) → ring ≡ Some r → Has c r k)
+  if_made : (b : Bool) (k : RingKind) (uid : ℕ) (old new : World) (ring : Option ℕ) → MakesIf b k uid old new ring → Sound old
+      → ((r : ℕ) → ring ≡ Some r → Has c r k)
       → Grown c old new × ((r : ℕ) → ring ≡ Some r → (kind_at new r ≡ Some k) × (is_drawn old r ≡ false))
   if_made false k uid old new ring h s own = (unmoved c old new h.1 s, λ r is. absurd (no_number (sym h.0 ∙ is)))
   if_made true k uid old new ring h s own = (
@@ -140,9 +147,11 @@ module _ (c : Context) where
         (ap (kind_at new) (sym same) ∙ made_there c k uid old new h.0 h.2 s (inr (own h.0 h.1)), ap (is_drawn old) (sym same) ∙ h.2.0.unused),
   )
 
-  session_made : (join : Option ℕ) (uid : ℕ) (old new : World) (ring : ℕ) → HasSessionRing join uid old new ring → Sound old → ((j : ℕ) → join ≡ Some j → kind_at old j ≡ Some kind.Session) → Has c ring kind.Session
+  session_made : (join : Option ℕ) (uid : ℕ) (old new : World) (ring : ℕ) → HasSessionRing join uid old new ring → Sound old
+      → ((j : ℕ) → join ≡ Some j → kind_at old j ≡ Some kind.Session) → Has c ring kind.Session
       → Grown c old new × (kind_at new ring ≡ Some kind.Session)
-  session_made None uid old new ring h s joined own = (one_made c kind.Session uid old new ring h s (inr own), made_there c kind.Session uid old new ring h s (inr own))
+  session_made None uid old new ring h s joined own =
+      (one_made c kind.Session uid old new ring h s (inr own), made_there c kind.Session uid old new ring h s (inr own))
   session_made (Some j) uid old new ring h s joined own =
       (unmoved c old new h.1 s, ap (λ (w : World). kind_at w ring) h.1 ∙ ap (kind_at old) h.0 ∙ joined j refl)
 
@@ -153,25 +162,31 @@ module _ (c : Context) where
 abbrev pub greeted_as : Greeting → Option ℕ → Option ℕ → ℕ → ℕ → Context
 greeted_as g thread process session user = record { uid = g.uid; gid = g.gid; thread = thread; process = process; session = session; user = user }
 
-pub made_all : (g : Greeting) (old new : World) (thread process : Option ℕ) (session user : ℕ) → MakesRings g old new thread process session user → Sound old → join_refusal old g ≡ None
+pub made_all : (g : Greeting) (old new : World) (thread process : Option ℕ) (session user : ℕ) → MakesRings g old new thread process session user → Sound old
+    → join_refusal old g ≡ None
     → Made (greeted_as g thread process session user) old new
 made_all g old new thread process session user h sound free =
     let c : Context = greeted_as g thread process session user in
     let one = if_made c g.thread kind.Thread g.uid old h.w1 thread h.thread_made sound (λ r is. its_thread refl is) in
     let two = if_made c g.process kind.Process g.uid h.w1 h.w2 process h.process_made one.0.sound (λ r is. its_process refl is) in
     let to_two : Grown c old h.w2 = both c old h.w1 h.w2 one.0 two.0 in
-    let three = session_made c g.join g.uid h.w2 h.w3 session h.session_made two.0.sound (λ j is. to_two.stays j kind.Session (joined_ring old g free j is)) (its_session refl refl) in
+    let three =
+    session_made c g.join g.uid h.w2 h.w3 session h.session_made two.0.sound (λ j is. to_two.stays j kind.Session (joined_ring old g free j is))
+    (its_session refl refl) in
     let four : Grown c h.w3 new = user_made c g.uid h.w3 new user h.user_made three.0.sound in
     let from_two : Grown c h.w2 new = both c h.w2 h.w3 new three.0 four in
     let from_one : Grown c h.w1 new = both c h.w1 h.w2 new two.0 from_two in
     record {
       grown = both c old h.w1 new one.0 from_one;
-      lives = λ r k has. living r k has (λ is. from_one.stays r kind.Thread (one.1 r is).0) (λ is. from_two.stays r kind.Process (two.1 r is).0) (four.stays session kind.Session three.1);
+      lives =
+          λ r k has. living r k has (λ is. from_one.stays r kind.Thread (one.1 r is).0) (λ is. from_two.stays r kind.Process (two.1 r is).0)
+          (four.stays session kind.Session three.1);
       thread_new = λ r is. sound.drawn r (one.1 r is).1;
       process_new = λ r is. sound.drawn r (one.0.keeps r (two.1 r is).1);
     }
   where
-    living : (r : ℕ) (k : RingKind) → Has (greeted_as g thread process session user) r k → (thread ≡ Some r → kind_at new r ≡ Some kind.Thread) → (process ≡ Some r → kind_at new r ≡ Some kind.Process)
+    living : (r : ℕ) (k : RingKind) → Has (greeted_as g thread process session user) r k → (thread ≡ Some r → kind_at new r ≡ Some kind.Thread)
+        → (process ≡ Some r → kind_at new r ≡ Some kind.Process)
         → kind_at new session ≡ Some kind.Session → kind_at new r ≡ Some k
     living r k (its_thread same is) as_thread as_process as_session = as_thread is ∙ ap (λ (x : RingKind). Some x) (sym same)
     living r k (its_process same is) as_thread as_process as_session = as_process is ∙ ap (λ (x : RingKind). Some x) (sym same)

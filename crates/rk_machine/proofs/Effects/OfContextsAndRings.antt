@@ -69,15 +69,20 @@ pub data Move (old : World) (e : Event) (a : Answer) (new : World) : Type 0 wher
   -- nothing of it
   rests : IsCalm e a → NoStart e a → SameRings old new → SameContexts old new → NoNewAuthority old new → Move old e a new
   -- a construction starts, in the asker's context and at its depth
-  one_starts : (t : SessionId) (x : Ask) (asker : Asker) (k : ℕ) (q : Query) (callout : List ℕ) (authority : Authority) → e ≡ Asked t x → a ≡ Start k (subject_of old k q callout)
-      → asker_of old t ≡ Some asker → nat_le 9 asker.depth ≡ false → q.context ≡ asker.context → authority.context ≡ asker.context → authority.depth ≡ asker.depth → SameRings old new → SameContexts old new
+  one_starts : (t : SessionId) (x : Ask) (asker : Asker) (k : ℕ) (q : Query) (callout : List ℕ) (authority : Authority) → e ≡ Asked t x
+      → a ≡ Start k (subject_of old k q callout)
+      → asker_of old t ≡ Some asker → nat_le 9 asker.depth ≡ false → q.context ≡ asker.context → authority.context ≡ asker.context
+      → authority.depth ≡ asker.depth → SameRings old new → SameContexts old new
       → ((j : ℕ) → unspent new.sessions j ≡ cond (nat_eq k j) (Some authority) (unspent old.sessions j)) → Move old e a new
   -- client n gets its context
-  one_comes : (n : ℕ) (c : Context) → ((m : ℕ) → hello_in m e a ≡ cond (nat_eq n m) (Some (root_in c)) None) → ((m : ℕ) → (is_done a && goes e (Client m)) ≡ false) → NoStart e a
-      → context_at old.sessions n ≡ None → ((m : ℕ) → context_at new.sessions m ≡ cond (nat_eq n m) (Some c) (context_at old.sessions m)) → (Sound old → Made c old new) → NoNewAuthority old new → Move old e a new
+  one_comes : (n : ℕ) (c : Context) → ((m : ℕ) → hello_in m e a ≡ cond (nat_eq n m) (Some (root_in c)) None)
+      → ((m : ℕ) → (is_done a && goes e (Client m)) ≡ false) → NoStart e a
+      → context_at old.sessions n ≡ None → ((m : ℕ) → context_at new.sessions m ≡ cond (nat_eq n m) (Some c) (context_at old.sessions m))
+      → (Sound old → Made c old new) → NoNewAuthority old new → Move old e a new
   -- client n goes
   one_goes : (n : ℕ) → ((m : ℕ) → hello_in m e a ≡ None) → ((m : ℕ) → (is_done a && goes e (Client m)) ≡ nat_eq n m) → NoStart e a
-      → ((m : ℕ) → context_at new.sessions m ≡ cond (nat_eq n m) None (context_at old.sessions m)) → ((r : ℕ) → kind_at new r ≡ cond (goes_in old n r) None (kind_at old r)) → NoNewAuthority old new → Move old e a new
+      → ((m : ℕ) → context_at new.sessions m ≡ cond (nat_eq n m) None (context_at old.sessions m))
+      → ((r : ℕ) → kind_at new r ≡ cond (goes_in old n r) None (kind_at old r)) → NoNewAuthority old new → Move old e a new
 
 -- ---- the list's side
 
@@ -130,10 +135,13 @@ module _ (old new mid : World) (w : new ≡ mid) where
 
   -- sessions are left
   in_rings : (e : Event) (a : Answer) → IsCalm e a → NoStart e a → SameRings old mid → mid.sessions ≡ old.sessions → Move old e a new
-  in_rings e a quiet none rings same = rests quiet none (rings_at rings) (contexts_at (λ n. ap (λ (s : Sessions). context_at s n) same)) (authorities_at (λ k. ap (λ (s : Sessions). unspent s k) same))
+  in_rings e a quiet none rings same =
+      rests quiet none (rings_at rings) (contexts_at (λ n. ap (λ (s : Sessions). context_at s n) same))
+      (authorities_at (λ k. ap (λ (s : Sessions). unspent s k) same))
 
   -- one session is changed, and not its context
-  in_session : (e : Event) (a : Answer) → IsCalm e a → NoStart e a → (id : SessionId) (f : Session → Session) → ((s : Session) → (f s).context ≡ s.context) → SameRings old mid
+  in_session : (e : Event) (a : Answer) → IsCalm e a → NoStart e a → (id : SessionId) (f : Session → Session) → ((s : Session) → (f s).context ≡ s.context)
+      → SameRings old mid
       → mid.sessions ≡ session_changed id f old.sessions → Move old e a new
   in_session e a quiet none id f keeps rings same =
       rests quiet none (rings_at rings) (contexts_at (λ n. ap (λ (s : Sessions). context_at s n) same ∙ context_kept id f keeps old.sessions n))
@@ -143,7 +151,9 @@ module _ (old new mid : World) (w : new ≡ mid) where
 made_as : (old new mid : World) (c : Context) {a : Sessions} → new ≡ record mid { sessions = a } → Made c old mid → Made c old new
 made_as old new mid c {a} w h =
     subst (λ (v : World). Made c old v) (sym w) (record {
-      grown = record { sound = record { zero = h.grown.sound.zero; drawn = h.grown.sound.drawn }; stays = h.grown.stays; made = h.grown.made; keeps = h.grown.keeps };
+      grown = record {
+        sound = record { zero = h.grown.sound.zero; drawn = h.grown.sound.drawn }; stays = h.grown.stays; made = h.grown.made; keeps = h.grown.keeps;
+      };
       lives = h.lives;
       thread_new = h.thread_new;
       process_new = h.process_new;
@@ -151,42 +161,51 @@ made_as old new mid c {a} w h =
 
 -- ---- each step
 
-unlinked : (old new : World) (e : Event) (a : Answer) (ring : Option ℕ) (k : ℕ) → IsCalm e a → NoStart e a → (new ≡ tidied (unlinked_in ring k old)) ⊎ (new ≡ tidied (cleared_in ring old)) → Move old e a new
+unlinked : (old new : World) (e : Event) (a : Answer) (ring : Option ℕ) (k : ℕ) → IsCalm e a → NoStart e a
+    → (new ≡ tidied (unlinked_in ring k old)) ⊎ (new ≡ tidied (cleared_in ring old)) → Move old e a new
 unlinked old new e a ring k quiet none (inl w) = in_rings old new _ w e a quiet none (kind_linked ring (without_link k) (λ r. refl) old.rings) refl
 unlinked old new e a ring k quiet none (inr w) = in_rings old new _ w e a quiet none (kind_linked ring without_links (λ r. refl) old.rings) refl
 
 pub move : (old : World) (now : ℕ) (e : Event) (a : Answer) (new : World) → Effect old now e a new → Move old e a new
 move old now e a new (refused error ra w free) =
-    in_rings old new old w e a (calm e e a _ refl ra (λ n. no_hello n e (Refused error) refl) (λ n. refl)) (not_started e e a _ refl ra (λ k. no_starter k e error)) (λ r. refl) refl
+    in_rings old new old w e a (calm e e a _ refl ra (λ n. no_hello n e (Refused error) refl) (λ n. refl))
+    (not_started e e a _ refl ra (λ k. no_starter k e error)) (λ r. refl) refl
 move old now e a new (still t wait ev is ready ra w) =
     in_rings old new old w e a (calm_else e _ a ev (λ n. refl) (λ n. refl)) (not_started e _ a a ev refl (λ k. refl)) (λ r. refl) refl
 move old now e a new (took t wait outcome ev is ready ra w) =
-    in_session old new _ w e a (calm_else e _ a ev (λ n. refl) (λ n. refl)) (not_started e _ a a ev refl (λ k. refl)) t (with_wait None) (λ s. refl) (λ r. refl) refl
+    in_session old new _ w e a (calm_else e _ a ev (λ n. refl) (λ n. refl)) (not_started e _ a a ev refl (λ k. refl)) t (with_wait None) (λ s. refl)
+    (λ r. refl) refl
 move old now e a new (came n ev fresh ra w) =
     rests (calm_else e _ a ev (λ n. refl) (λ n. refl)) (not_started e _ a a ev refl (λ k. refl)) (rings_at old new _ w (λ r. refl))
     (contexts_at old new _ w (λ m. context_came n old.sessions m (none_is (map.get old.sessions.clients n) fresh))) (authorities_at old new _ w (λ k. refl))
 move old now e a new (went n ev there ra w) =
     one_goes n (λ m. ap (λ y. hello_in m y a) ev) (λ m. (λ i. is_done (ra i) && goes (ev i) (Client m))) (not_started e _ a a ev refl (λ k. refl))
-    (λ m. ap (λ (v : World). context_at v.sessions m) w ∙ context_gone n old.sessions m) (λ r. ap (λ (v : World). kind_at v r) w ∙ kind_dropped (goes_in old n) old.rings r) (authorities_at old new _ w (λ k. refl))
+    (λ m. ap (λ (v : World). context_at v.sessions m) w ∙ context_gone n old.sessions m)
+    (λ r. ap (λ (v : World). kind_at v r) w ∙ kind_dropped (goes_in old n) old.rings r) (authorities_at old new _ w (λ k. refl))
 move old now e a new (greets n uid gid thread process join ev can none joined h) =
     let g : Greeting = record { uid = uid; gid = gid; thread = thread; process = process; join = join } in
     let c : Context = greeted_as g h.0 h.1 h.2 h.3 in
     let same : h.4.sessions ≡ old.sessions = greeted_sessions g old h.4 h.0 h.1 h.2 h.3 h.5 in
     one_comes n c (λ m. (λ i. hello_in m (ev i) (h.6.0 i))) (λ m. (λ i. is_done (h.6.0 i) && goes (ev i) (Client m)))
     (not_started e _ a _ ev h.6.0 (λ k. refl)) (no_context old n none)
-    (λ m. ap (λ (v : World). context_at v.sessions m) h.6.1 ∙ ap (λ (s : Sessions). context_at (session_changed (Client n) (with_context c) s) m) same ∙ context_given n c old.sessions m can.there)
+    (λ m. ap (λ (v : World). context_at v.sessions m) h.6.1 ∙ ap (λ (s : Sessions). context_at (session_changed (Client n) (with_context c) s) m) same
+    ∙ context_given n c old.sessions m can.there)
     (λ sound. made_as old new h.4 c h.6.1 (made_all g old h.4 h.0 h.1 h.2 h.3 h.5 sound joined))
     (authorities_at old new _ h.6.1 (λ k. unspent_changed (Client n) (with_context c) h.4.sessions k ∙ ap (λ (s : Sessions). unspent s k) same))
 move old now e a new (begins t asker typ description callout r ring k ev can is depth fresh ra w) =
     let authority : Authority = authority_for asker typ description now callout ring in
     one_starts t _ asker k (query asker typ description now) callout authority ev ra is depth refl refl refl
-    (rings_at old new _ w (kind_linked (Some ring) _ (λ r. refl) old.rings)) (contexts_at old new _ w (context_kept t _ (λ s. refl) (with_construction k authority old.sessions)))
-    (λ j. ap (λ (v : World). unspent v.sessions j) w ∙ unspent_changed t _ (with_construction k authority old.sessions) j ∙ unspent_issued k authority old.sessions j)
+    (rings_at old new _ w (kind_linked (Some ring) _ (λ r. refl) old.rings))
+    (contexts_at old new _ w (context_kept t _ (λ s. refl) (with_construction k authority old.sessions)))
+    (λ j. ap (λ (v : World). unspent v.sessions j) w ∙ unspent_changed t _ (with_construction k authority old.sessions) j
+    ∙ unspent_issued k authority old.sessions j)
 move old now e a new (joins t x ring k ev asks can building apart ra w) =
-    in_session old new _ w e a (calm_asked e a _ t x ev ra refl) (not_started e _ a _ ev ra (λ k. refl)) t _ (λ s. refl) (kind_linked ring _ (λ r. refl) old.rings) refl
+    in_session old new _ w e a (calm_asked e a _ t x ev ra refl) (not_started e _ a _ ev ra (λ k. refl)) t _ (λ s. refl)
+    (kind_linked ring _ (λ r. refl) old.rings) refl
 move old now e a new (links t x ring k n ev completes_none not_assume ra w) =
     in_rings old new _ w e a (calm_asked e a _ t x ev ra refl) (not_started e _ a _ ev ra (λ k. refl)) (kind_linked ring _ (λ r. refl) old.rings) refl
-move old now e a new (unlinks t x ring k ev completes_none not_assume ra w) = unlinked old new e a ring k (calm_asked e a _ t x ev ra refl) (not_started e _ a _ ev ra (λ k. refl)) w
+move old now e a new (unlinks t x ring k ev completes_none not_assume ra w) =
+    unlinked old new e a ring k (calm_asked e a _ t x ev ra refl) (not_started e _ a _ ev ra (λ k. refl)) w
 move old now e a new (marks t x k f ev completes_none not_assume mild ra w) =
     in_rings old new _ w e a (calm_asked e a _ t x ev ra refl) (not_started e _ a _ ev ra (λ k. refl)) (λ r. refl) refl
 move old now e a new (tells t x bytes ev ra w) =

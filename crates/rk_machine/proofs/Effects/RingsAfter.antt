@@ -37,7 +37,8 @@ kept_in true f (Some r) keeps = ap (λ (k : RingKind). Some k) (keeps r)
 kept_in false f o keeps = refl
 
 -- a change of what is linked in a ring
-pub kind_linked : (ring : Option ℕ) (f : Ring → Ring) → ((r : Ring) → (f r).kind ≡ r.kind) → (rings : map.FinMap nat_cmp Ring) (q : ℕ) → kind_of (rings_changed ring f rings) q ≡ kind_of rings q
+pub kind_linked : (ring : Option ℕ) (f : Ring → Ring) → ((r : Ring) → (f r).kind ≡ r.kind) → (rings : map.FinMap nat_cmp Ring) (q : ℕ)
+    → kind_of (rings_changed ring f rings) q ≡ kind_of rings q
 kind_linked None f keeps rings q = refl
 kind_linked (Some ring) f keeps rings q = ap kind_in (get_changed_at ring f rings q) ∙ kept_in (nat_eq ring q) f (map.get rings q) keeps
 
@@ -47,7 +48,8 @@ made_in : (b : Bool) (r : Ring) (o : Option Ring) → kind_in (cond b (Some r) o
 made_in true r o = refl
 made_in false r o = refl
 
-pub kind_made : (ring : ℕ) (r : Ring) (rings : map.FinMap nat_cmp Ring) (q : ℕ) → kind_of (map.insert rings ring r) q ≡ cond (nat_eq ring q) (Some r.kind) (kind_of rings q)
+pub kind_made : (ring : ℕ) (r : Ring) (rings : map.FinMap nat_cmp Ring) (q : ℕ)
+    → kind_of (map.insert rings ring r) q ≡ cond (nat_eq ring q) (Some r.kind) (kind_of rings q)
 kind_made ring r rings q = ap kind_in (get_inserted rings ring r q) ∙ made_in (nat_eq ring q) r (map.get rings q)
 
 dropped_in : (b : Bool) (o : Option Ring) → kind_in (cond (option_map_or (λ (r : Ring). not b) o false) o None) ≡ cond b None (kind_in o)
@@ -57,5 +59,6 @@ dropped_in false None = refl
 dropped_in false (Some r) = refl
 
 -- the rings that pass a test are dropped
-pub kind_dropped : (goes : ℕ → Bool) (rings : map.FinMap nat_cmp Ring) (q : ℕ) → kind_of (kept_where (λ ring r. not (goes ring)) rings) q ≡ cond (goes q) None (kind_of rings q)
+pub kind_dropped : (goes : ℕ → Bool) (rings : map.FinMap nat_cmp Ring) (q : ℕ)
+    → kind_of (kept_where (λ ring r. not (goes ring)) rings) q ≡ cond (goes q) None (kind_of rings q)
 kind_dropped goes rings q = ap kind_in (get_kept_where (λ ring r. not (goes ring)) rings q) ∙ dropped_in (goes q) (map.get rings q)

@@ -41,7 +41,8 @@ pub user_drawn : (uid : ℕ) (old new : World) (ring : ℕ) → HasUserRing uid 
 user_drawn uid old new ring (inl h) = same_world old old new h.3 (λ q n. n)
 user_drawn uid old new ring (inr h) = made kind.User uid old new ring h.1
 
-greeted : (g : Greeting) (old new : World) (thread process : Option ℕ) (session user : ℕ) → MakesRings g old new thread process session user → KeepsDrawn old new
+greeted : (g : Greeting) (old new : World) (thread process : Option ℕ) (session user : ℕ) → MakesRings g old new thread process session user
+    → KeepsDrawn old new
 greeted g old new thread process session user h q n =
     if_drawn g.thread kind.Thread g.uid old h.w1 thread h.thread_made q
     (if_drawn g.process kind.Process g.uid h.w1 h.w2 process h.process_made q

@@ -64,24 +64,28 @@ kept_assumed f h Piped = refl
 kept_assumed f h Negating = refl
 
 kept_shape : (f : Session → Session) → KeepsAssumed f → (c : Construction) → shape (in_handler f c) ≡ shape c
-kept_shape f h c = λ i. record { starting = kept_stage f c.stage i; first = kept_first f c.stage i; unspent = is_some c.authority; assumed = kept_assumed f h c.stage i }
+kept_shape f h c =
+    λ i. record { starting = kept_stage f c.stage i; first = kept_first f c.stage i; unspent = is_some c.authority; assumed = kept_assumed f h c.stage i }
 
 kept_all : (f : Session → Session) → KeepsAssumed f → (o : Option Construction) → option_map shape (option_map (in_handler f) o) ≡ option_map shape o
 kept_all f h None = refl
 kept_all f h (Some c) = ap (λ (s : Shape). Some s) (kept_shape f h c)
 
-kept_at : (f : Session → Session) → KeepsAssumed f → (b : Bool) (o : Option Construction) → option_map shape (cond b (option_map (in_handler f) o) o) ≡ option_map shape o
+kept_at : (f : Session → Session) → KeepsAssumed f → (b : Bool) (o : Option Construction)
+    → option_map shape (cond b (option_map (in_handler f) o) o) ≡ option_map shape o
 kept_at f h true o = kept_all f h o
 kept_at f h false o = refl
 
 -- a session is changed
 pub shape_session : (s : SessionId) (f : Session → Session) → KeepsAssumed f → (a : Sessions) (q : ℕ) → shape_of (session_changed s f a) q ≡ shape_of a q
 shape_session (Client n) f h a q = refl
-shape_session (Handler k) f h a q = ap (option_map shape) (get_changed_at k (in_handler f) a.constructions q) ∙ kept_at f h (nat_eq k q) (map.get a.constructions q)
+shape_session (Handler k) f h a q =
+    ap (option_map shape) (get_changed_at k (in_handler f) a.constructions q) ∙ kept_at f h (nat_eq k q) (map.get a.constructions q)
 
 -- every wait on a key is told
 pub shape_told : (k : ℕ) (outcome : Outcome) (a : Sessions) (q : ℕ) → shape_of (all_told k outcome a) q ≡ shape_of a q
-shape_told k outcome a q = ap (option_map shape) (get_changed_all (in_handler (told k outcome)) a.constructions q) ∙ kept_all (told k outcome) (λ s. refl) (map.get a.constructions q)
+shape_told k outcome a q =
+    ap (option_map shape) (get_changed_all (in_handler (told k outcome)) a.constructions q) ∙ kept_all (told k outcome) (λ s. refl) (map.get a.constructions q)
 
 -- ---- what its handler assumes
 
@@ -94,19 +98,30 @@ pub shape_assumed : (k : ℕ) (o : Option ℕ) (a : Sessions) (q : ℕ) (s : Ses
     → shape_of (session_changed (Handler k) (with_assumed o) a) q ≡ cond (nat_eq k q) (option_map (as_assumed o) (shape_of a q)) (shape_of a q)
 shape_assumed k o a q s is =
     ap (option_map shape) (get_changed_at k (in_handler (with_assumed o)) a.constructions q)
-    ∙ elim (nat_eq k q) as (λ b. nat_eq k q ≡ b → option_map shape (cond b (option_map (in_handler (with_assumed o)) (map.get a.constructions q)) (map.get a.constructions q)) ≡ cond b (option_map (as_assumed o) (shape_of a q)) (shape_of a q)) [
-      | true ↦ λ same. here (map.get a.constructions q) (ap (λ j. option_and_then (λ c. handler_in c.stage) (map.get a.constructions j)) (sym (eqb-true k q same)) ∙ is)
+    ∙ elim (nat_eq k q) as (λ b. nat_eq k q ≡ b → option_map shape
+    (cond b (option_map (in_handler (with_assumed o)) (map.get a.constructions q)) (map.get a.constructions q))
+    ≡ cond b (option_map (as_assumed o) (shape_of a q)) (shape_of a q)) [
+      | true ↦ λ same. here (map.get a.constructions q) (ap (λ j. option_and_then (λ c. handler_in c.stage) (map.get a.constructions j))
+          (sym (eqb-true k q same)) ∙ is)
       | false ↦ λ _. refl
     ] refl
   where
     staged : (c : Construction) (st : Stage) → handler_in st ≡ Some s
-        → ◌≡◌ {A = Shape} (record { starting = is_to_launch (Some (in_stage (with_assumed o) st)); first = is_first (in_stage (with_assumed o) st); unspent = is_some c.authority; assumed = assumed_in (in_stage (with_assumed o) st) }) (record { starting = is_to_launch (Some st); first = is_first st; unspent = is_some c.authority; assumed = o })
+        → ◌≡◌ {A = Shape} (record {
+          starting = is_to_launch (Some (in_stage (with_assumed o) st));
+          first = is_first
+              (in_stage (with_assumed o) st);
+          unspent = is_some c.authority;
+          assumed = assumed_in (in_stage (with_assumed o) st);
+        })
+        (record { starting = is_to_launch (Some st); first = is_first st; unspent = is_some c.authority; assumed = o })
     staged c Starting e = absurd (cc)
     staged c (Plain t) e = refl
     staged c Piped e = absurd (cc)
     staged c Negating e = absurd (cc)
 
-    here : (x : Option Construction) → option_and_then (λ c. handler_in c.stage) x ≡ Some s → option_map shape (option_map (in_handler (with_assumed o)) x) ≡ option_map (as_assumed o) (option_map shape x)
+    here : (x : Option Construction) → option_and_then (λ c. handler_in c.stage) x ≡ Some s
+        → option_map shape (option_map (in_handler (with_assumed o)) x) ≡ option_map (as_assumed o) (option_map shape x)
     here None e = refl
     here (Some c) e = ap (λ (y : Shape). Some y) (staged c c.stage e)
 
@@ -126,9 +141,17 @@ dropped Piped = refl
 dropped Negating = refl
 
 spent_shape : (c : Construction) → shape (without_authority c) ≡ as_spent (shape c)
-spent_shape c = λ i. record { starting = kept_stage (with_assumed None) c.stage i; first = kept_first (with_assumed None) c.stage i; unspent = false; assumed = dropped c.stage i }
+spent_shape c =
+    λ i. record {
+      starting = kept_stage (with_assumed None) c.stage i;
+      first = kept_first
+          (with_assumed None) c.stage i;
+      unspent = false;
+      assumed = dropped c.stage i;
+    }
 
-spent_at : (b : Bool) (o : Option Construction) → option_map shape (cond b (option_map without_authority o) o) ≡ cond b (option_map as_spent (option_map shape o)) (option_map shape o)
+spent_at : (b : Bool) (o : Option Construction) → option_map shape (cond b (option_map without_authority o) o)
+    ≡ cond b (option_map as_spent (option_map shape o)) (option_map shape o)
 spent_at true None = refl
 spent_at true (Some c) = ap (λ (s : Shape). Some s) (spent_shape c)
 spent_at false o = refl
@@ -139,11 +162,14 @@ shape_spent k a q = ap (option_map shape) (get_changed_at k without_authority a.
 launched_at : (st : Stage) → assumed_in st ≡ None → (b : Bool) (o : Option Construction)
     → option_map shape (cond b (option_map (in_new_stage st) o) o) ≡ cond b (option_map (as_staged st) (option_map shape o)) (option_map shape o)
 launched_at st free true None = refl
-launched_at st free true (Some c) = ap (λ (s : Shape). Some s) (λ i. record { starting = is_to_launch (Some st); first = is_first st; unspent = is_some c.authority; assumed = free i })
+launched_at st free true (Some c) =
+    ap (λ (s : Shape). Some s) (λ i. record { starting = is_to_launch (Some st); first = is_first st; unspent = is_some c.authority; assumed = free i })
 launched_at st free false o = refl
 
-pub shape_launched : (k : ℕ) (st : Stage) (a : Sessions) (q : ℕ) → assumed_in st ≡ None → shape_of (launched k st a) q ≡ cond (nat_eq k q) (option_map (as_staged st) (shape_of a q)) (shape_of a q)
-shape_launched k st a q free = ap (option_map shape) (get_changed_at k (in_new_stage st) a.constructions q) ∙ launched_at st free (nat_eq k q) (map.get a.constructions q)
+pub shape_launched : (k : ℕ) (st : Stage) (a : Sessions) (q : ℕ) → assumed_in st ≡ None
+    → shape_of (launched k st a) q ≡ cond (nat_eq k q) (option_map (as_staged st) (shape_of a q)) (shape_of a q)
+shape_launched k st a q free =
+    ap (option_map shape) (get_changed_at k (in_new_stage st) a.constructions q) ∙ launched_at st free (nat_eq k q) (map.get a.constructions q)
 
 removed_at : (b : Bool) (o : Option Construction) → option_map shape (cond b None o) ≡ cond b None (option_map shape o)
 removed_at true o = refl
@@ -161,5 +187,6 @@ issued_at : (b : Bool) (authority : Authority) (o : Option Construction)
 issued_at true authority o = refl
 issued_at false authority o = refl
 
-pub shape_issued : (k : ℕ) (authority : Authority) (a : Sessions) (q : ℕ) → shape_of (with_construction k authority a) q ≡ cond (nat_eq k q) (Some first_shape) (shape_of a q)
+pub shape_issued : (k : ℕ) (authority : Authority) (a : Sessions) (q : ℕ)
+    → shape_of (with_construction k authority a) q ≡ cond (nat_eq k q) (Some first_shape) (shape_of a q)
 shape_issued k authority a q = ap (option_map shape) (get_inserted a.constructions k _ q) ∙ issued_at (nat_eq k q) authority (map.get a.constructions q)

@@ -82,24 +82,31 @@ staged f (Plain s) = refl
 staged f Piped = refl
 staged f Negating = refl
 
-kept_at : (f : Construction → Construction) → ((c : Construction) → kind (f c).stage ≡ kind c.stage) → (b : Bool) (o : Option Construction) → kind_in (cond b (option_map f o) o) ≡ kind_in o
+kept_at : (f : Construction → Construction) → ((c : Construction) → kind (f c).stage ≡ kind c.stage) → (b : Bool) (o : Option Construction)
+    → kind_in (cond b (option_map f o) o) ≡ kind_in o
 kept_at f h true None = refl
 kept_at f h true (Some c) = ap (λ (x : Kind). Some x) (h c)
 kept_at f h false o = refl
 
-kept_all : (f : Construction → Construction) → ((c : Construction) → kind (f c).stage ≡ kind c.stage) → (o : Option Construction) → kind_in (option_map f o) ≡ kind_in o
+kept_all : (f : Construction → Construction) → ((c : Construction) → kind (f c).stage ≡ kind c.stage) → (o : Option Construction)
+    → kind_in (option_map f o) ≡ kind_in o
 kept_all f h None = refl
 kept_all f h (Some c) = ap (λ (x : Kind). Some x) (h c)
 
 kind_changed : (s : SessionId) (f : Session → Session) (a : Sessions) (q : ℕ) → kind_of (session_changed s f a) q ≡ kind_of a q
 kind_changed (Client n) f a q = refl
-kind_changed (Handler k) f a q = ap kind_in (get_changed_at k (in_handler f) a.constructions q) ∙ kept_at (in_handler f) (λ c. staged f c.stage) (nat_eq k q) (map.get a.constructions q)
+kind_changed (Handler k) f a q =
+    ap kind_in (get_changed_at k (in_handler f) a.constructions q) ∙ kept_at (in_handler f) (λ c. staged f c.stage) (nat_eq k q) (map.get a.constructions q)
 
 kind_told : (k : ℕ) (o : Outcome) (a : Sessions) (q : ℕ) → kind_of (all_told k o a) q ≡ kind_of a q
-kind_told k o a q = ap kind_in (get_changed_all (in_handler (told k o)) a.constructions q) ∙ kept_all (in_handler (told k o)) (λ c. staged (told k o) c.stage) (map.get a.constructions q)
+kind_told k o a q =
+    ap kind_in (get_changed_all (in_handler (told k o)) a.constructions q) ∙ kept_all (in_handler (told k o)) (λ c. staged (told k o) c.stage)
+    (map.get a.constructions q)
 
 kind_spent : (k : ℕ) (a : Sessions) (q : ℕ) → kind_of (spent k a) q ≡ kind_of a q
-kind_spent k a q = ap kind_in (get_changed_at k without_authority a.constructions q) ∙ kept_at without_authority (λ c. staged (with_assumed None) c.stage) (nat_eq k q) (map.get a.constructions q)
+kind_spent k a q =
+    ap kind_in (get_changed_at k without_authority a.constructions q) ∙ kept_at without_authority (λ c. staged (with_assumed None) c.stage) (nat_eq k q)
+    (map.get a.constructions q)
 
 kind_announced : (now k : ℕ) (keys : map.FinMap nat_cmp Key) (a : Sessions) (q : ℕ) → kind_of (announced now k keys a) q ≡ kind_of a q
 kind_announced now k keys a q = told_or_not (map.get keys k)
@@ -119,20 +126,24 @@ gone_in : (b : Bool) (o : Option Construction) → kind_in (cond b None o) ≡ c
 gone_in true o = refl
 gone_in false o = refl
 
-kind_ended : (now k : ℕ) (condition : Condition) (w : World) (q : ℕ) → kind_of (ended now k condition w).sessions q ≡ cond (nat_eq k q) None (kind_of w.sessions q)
+kind_ended : (now k : ℕ) (condition : Condition) (w : World) (q : ℕ)
+    → kind_of (ended now k condition w).sessions q ≡ cond (nat_eq k q) None (kind_of w.sessions q)
 kind_ended now k condition w q =
     ap kind_in (get_removed (sessions_ended now k condition w).constructions k q)
     ∙ gone_in (nat_eq k q) (map.get (sessions_ended now k condition w).constructions q) ∙ ap (cond (nat_eq k q) None) (kind_settled now k condition w q)
 
-issued_in : (authority : Authority) (b : Bool) (o : Option Construction) → kind_in (cond b (Some (record { stage = Starting; authority = Some authority })) o) ≡ cond b (Some to_start) (kind_in o)
+issued_in : (authority : Authority) (b : Bool) (o : Option Construction)
+    → kind_in (cond b (Some (record { stage = Starting; authority = Some authority })) o) ≡ cond b (Some to_start) (kind_in o)
 issued_in authority true o = refl
 issued_in authority false o = refl
 
-kind_issued : (k : ℕ) (authority : Authority) (a : Sessions) (q : ℕ) → kind_of (with_construction k authority a) q ≡ cond (nat_eq k q) (Some to_start) (kind_of a q)
+kind_issued : (k : ℕ) (authority : Authority) (a : Sessions) (q : ℕ)
+    → kind_of (with_construction k authority a) q ≡ cond (nat_eq k q) (Some to_start) (kind_of a q)
 kind_issued k authority a q = ap kind_in (get_inserted a.constructions k _ q) ∙ issued_in authority (nat_eq k q) (map.get a.constructions q)
 
 -- a construction that is there is in the stage from now on
-launched_in : (st : Stage) (b : Bool) (o : Option Construction) → (b ≡ true → is_some o ≡ true) → kind_in (cond b (option_map (in_new_stage st) o) o) ≡ cond b (Some (kind st)) (kind_in o)
+launched_in : (st : Stage) (b : Bool) (o : Option Construction) → (b ≡ true → is_some o ≡ true)
+    → kind_in (cond b (option_map (in_new_stage st) o) o) ≡ cond b (Some (kind st)) (kind_in o)
 launched_in st true None there = absurd (let e = there refl in cc)
 launched_in st true (Some c) there = refl
 launched_in st false o there = refl
@@ -151,10 +162,12 @@ stage_kind a k st h = found (map.get a.constructions k) h
     found None e = absurd (cc)
     found (Some c) e = ap (λ (o : Option Stage). option_map kind o) e
 
-kind_launched : (k : ℕ) (st was : Stage) (a : Sessions) (q : ℕ) → stage_of a k ≡ Some was → kind_of (launched k st a) q ≡ cond (nat_eq k q) (Some (kind st)) (kind_of a q)
+kind_launched : (k : ℕ) (st was : Stage) (a : Sessions) (q : ℕ) → stage_of a k ≡ Some was
+    → kind_of (launched k st a) q ≡ cond (nat_eq k q) (Some (kind st)) (kind_of a q)
 kind_launched k st was a q is =
     ap kind_in (get_changed_at k (in_new_stage st) a.constructions q)
-    ∙ launched_in st (nat_eq k q) (map.get a.constructions q) (λ same. ap (λ i. is_some (map.get a.constructions i)) (sym (eqb-true k q same)) ∙ stage_there a k was is)
+    ∙ launched_in st (nat_eq k q) (map.get a.constructions q)
+    (λ same. ap (λ i. is_some (map.get a.constructions i)) (sym (eqb-true k q same)) ∙ stage_there a k was is)
 
 -- ---- after each step
 
@@ -186,32 +199,43 @@ module _ (new : World) (q : ℕ) (e given : Event) (a answer : Answer) (o : Opti
 at_world : (new mid : World) (q : ℕ) (o : Option Kind) → new ≡ mid → kind_of mid.sessions q ≡ o → kind_of new.sessions q ≡ o
 at_world new mid q o e h = ap (λ (w : World). kind_of w.sessions q) e ∙ h
 
-unlinked_kind : (old new : World) (ring : Option ℕ) (k q : ℕ) → (new ≡ tidied (unlinked_in ring k old)) ⊎ (new ≡ tidied (cleared_in ring old)) → kind_of new.sessions q ≡ kind_of old.sessions q
+unlinked_kind : (old new : World) (ring : Option ℕ) (k q : ℕ) → (new ≡ tidied (unlinked_in ring k old)) ⊎ (new ≡ tidied (cleared_in ring old))
+    → kind_of new.sessions q ≡ kind_of old.sessions q
 unlinked_kind old new ring k q (inl h) = at_world new _ q _ h refl
 unlinked_kind old new ring k q (inr h) = at_world new _ q _ h refl
 
-pub kinds : (old : World) (now : ℕ) (e : Event) (a : Answer) (new : World) → Effect old now e a new → (q : ℕ) → kind_of new.sessions q ≡ kind_after q e a (kind_of old.sessions q)
+pub kinds : (old : World) (now : ℕ) (e : Event) (a : Answer) (new : World) → Effect old now e a new → (q : ℕ)
+    → kind_of new.sessions q ≡ kind_after q e a (kind_of old.sessions q)
 kinds old now e a new (refused error ra w free) q =
     ap (λ (v : World). kind_of v.sessions q) w ∙ sym (ap (λ y. kind_after q e y (kind_of old.sessions q)) ra ∙ refused_kind q e error _)
 kinds old now e a new (still s wait ev is ready ra w) q = by_step new q e _ a _ _ ev ra (at_world new _ q _ w refl)
-kinds old now e a new (took s wait outcome ev is ready ra w) q = by_step new q e (Collect s) a a _ ev refl (at_world new _ q _ w (kind_changed s _ old.sessions q))
+kinds old now e a new (took s wait outcome ev is ready ra w) q =
+    by_step new q e (Collect s) a a _ ev refl (at_world new _ q _ w (kind_changed s _ old.sessions q))
 kinds old now e a new (came n ev fresh ra w) q = by_step new q e _ a _ _ ev ra (at_world new _ q _ w refl)
 kinds old now e a new (went n ev there ra w) q = by_step new q e _ a _ _ ev ra (at_world new _ q _ w refl)
 kinds old now e a new (greets n uid gid thread process join ev can none joined h) q =
-    by_step new q e _ a _ _ ev h.6.0 (at_world new _ q _ h.6.1 (kind_changed (Client n) (with_context (record { uid = uid; gid = gid; thread = h.0; process = h.1; session = h.2; user = h.3 })) h.4.sessions q ∙ ap (λ (s : Sessions). kind_of s q) (greeted_sessions _ old h.4 h.0 h.1 h.2 h.3 h.5)))
-kinds old now e a new (begins s asker typ description callout r ring k ev can is depth fresh ra w) q = by_step new q e _ a _ _ ev ra (at_world new _ q _ w (kind_changed s _ _ q ∙ kind_issued k _ old.sessions q))
-kinds old now e a new (joins s x ring k ev asks can building apart ra w) q = by_step new q e _ a _ _ ev ra (at_world new _ q _ w (kind_changed s _ old.sessions q))
+    by_step new q e _ a _ _ ev h.6.0 (at_world new _ q _ h.6.1
+    (kind_changed (Client n) (with_context (record { uid = uid; gid = gid; thread = h.0; process = h.1; session = h.2; user = h.3 })) h.4.sessions q
+    ∙ ap (λ (s : Sessions). kind_of s q) (greeted_sessions _ old h.4 h.0 h.1 h.2 h.3 h.5)))
+kinds old now e a new (begins s asker typ description callout r ring k ev can is depth fresh ra w) q =
+    by_step new q e _ a _ _ ev ra (at_world new _ q _ w (kind_changed s _ _ q ∙ kind_issued k _ old.sessions q))
+kinds old now e a new (joins s x ring k ev asks can building apart ra w) q =
+    by_step new q e _ a _ _ ev ra (at_world new _ q _ w (kind_changed s _ old.sessions q))
 kinds old now e a new (links s x ring k n ev completes_none not_assume ra w) q = by_step new q e _ a _ _ ev ra (at_world new _ q _ w refl)
 kinds old now e a new (unlinks s x ring k ev completes_none not_assume ra w) q = by_step new q e _ a _ _ ev ra (unlinked_kind old new ring k q w)
 kinds old now e a new (marks s x k f ev completes_none not_assume mild ra w) q = by_step new q e _ a _ _ ev ra (at_world new _ q _ w refl)
 kinds old now e a new (tells s x bytes ev ra w) q = by_step new q e _ a _ _ ev ra (at_world new _ q _ w refl)
-kinds old now e a new (sets s x setting n ev completes_none not_assume can ra w) q = by_step new q e _ a _ _ ev ra (at_world new _ q _ w (kind_changed s _ old.sessions q))
+kinds old now e a new (sets s x setting n ev completes_none not_assume can ra w) q =
+    by_step new q e _ a _ _ ev ra (at_world new _ q _ w (kind_changed s _ old.sessions q))
 kinds old now e a new (adds s asker typ description payload r ring k ev fresh ra w) q = by_step new q e _ a _ _ ev ra (at_world new _ q _ w refl)
 kinds old now e a new (assumes s key ev can none ra w) q = by_step new q e _ a _ _ ev ra (at_world new _ q _ w (kind_changed s _ old.sessions q))
 kinds old now e a new (concludes s x asker ring k condition end ev which can is own final ra w) q =
     by_step new q e _ a _ _ ev ra (at_world new _ q _ w (kind_announced now k _ (spent k old.sessions) q ∙ kind_spent k old.sessions q))
-kinds old now e a new (ran_plain k st ev is launches ra w) q = by_step new q e _ a _ _ ev ra (at_world new _ q _ w (kind_launched k (Plain new_session) st old.sessions q is))
+kinds old now e a new (ran_plain k st ev is launches ra w) q =
+    by_step new q e _ a _ _ ev ra (at_world new _ q _ w (kind_launched k (Plain new_session) st old.sessions q is))
 kinds old now e a new (ran_piped k ev is ra w) q = by_step new q e _ a _ _ ev ra (at_world new _ q _ w (kind_launched k Piped Starting old.sessions q is))
-kinds old now e a new (negates k how payload ev is fails ra w) q = by_step new q e _ a _ _ ev ra (at_world new _ q _ w (kind_launched k Negating Piped old.sessions q is))
+kinds old now e a new (negates k how payload ev is fails ra w) q =
+    by_step new q e _ a _ _ ev ra (at_world new _ q _ w (kind_launched k Negating Piped old.sessions q is))
 kinds old now e a new (failed k st ev is launches ra w) q = by_step new q e _ a _ _ ev ra (at_world new _ q _ w (kind_ended now k (Negative error.NoKey) old q))
-kinds old now e a new (finished k how payload st condition ev is running final ra w) q = by_step new q e _ a _ _ ev ra (at_world new _ q _ w (kind_ended now k condition old q))
+kinds old now e a new (finished k how payload st condition ev is running final ra w) q =
+    by_step new q e _ a _ _ ev ra (at_world new _ q _ w (kind_ended now k condition old q))

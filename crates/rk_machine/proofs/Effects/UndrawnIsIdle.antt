@@ -51,7 +51,8 @@ told_no_start (Failed x) k subject e = cc
 pub start_key : {j k : ℕ} {s t : Subject} → ◌≡◌ {A = Answer} (Start j s) (Start k t) → j ≡ k
 start_key e = cc
 
-pub start_draws : (old : World) (now : ℕ) (e : Event) (a : Answer) (new : World) → Effect old now e a new → (k : ℕ) (subject : Subject) → a ≡ Start k subject → (is_drawn old k ≡ false) × (is_drawn new k ≡ true)
+pub start_draws : (old : World) (now : ℕ) (e : Event) (a : Answer) (new : World) → Effect old now e a new → (k : ℕ) (subject : Subject) → a ≡ Start k subject
+    → (is_drawn old k ≡ false) × (is_drawn new k ≡ true)
 start_draws old now e a new (refused error ra w free) k subject h = absurd (cc)
 start_draws old now e a new (still s wait ev is ready ra w) k subject h = absurd (cc)
 start_draws old now e a new (took s wait outcome ev is ready ra w) k subject h = absurd (told_no_start outcome k subject (sym ra ∙ h))
@@ -119,21 +120,24 @@ found_some ran.Plain None h = absurd (true_false (sym h))
 found_some ran.Piped None h = absurd (true_false (sym h))
 found_some ran.Failed None h = absurd (true_false (sym h))
 
-pub launch_finds : (old : World) (now k : ℕ) (r : Ran) (a : Answer) (new : World) → Step old now (Launched k r) a new → is_done a ≡ true → may_find r (kind_of old.sessions k) ≡ true
+pub launch_finds : (old : World) (now k : ℕ) (r : Ran) (a : Answer) (new : World) → Step old now (Launched k r) a new → is_done a ≡ true
+    → may_find r (kind_of old.sessions k) ≡ true
 unfolding Step
 launch_finds old now k r a new h d =
     unless (refused_if (not (may_launch r (stage_of old.sessions k))) errno.Einval) old a new _ _ (λ error ra same. absurd (not_done a error ra d))
     (λ none g. sym (launch_kind old k r) ∙ not_not _ (if_none _ errno.Einval none)) h
 
 -- another handler follows a piped one alone
-follow_stage : (old : World) (now k : ℕ) (how : How) (payload : Option (List ℕ)) (st : Option Stage) (a : Answer) (new : World) → stage_of old.sessions k ≡ st → Ends old now k how payload st a new → is_followed a ≡ true → stage_of old.sessions k ≡ Some Piped
+follow_stage : (old : World) (now k : ℕ) (how : How) (payload : Option (List ℕ)) (st : Option Stage) (a : Answer) (new : World) → stage_of old.sessions k ≡ st
+    → Ends old now k how payload st a new → is_followed a ≡ true → stage_of old.sessions k ≡ Some Piped
 follow_stage old now k how payload None a new is h f = absurd (true_false (sym f ∙ ap is_followed h.0))
 follow_stage old now k how payload (Some Starting) a new is h f = absurd (true_false (sym f ∙ ap is_followed h.0))
 follow_stage old now k how payload (Some Negating) a new is h f = absurd (true_false (sym f ∙ ap is_followed h.0))
 follow_stage old now k how payload (Some (Plain s)) a new is h f = absurd (true_false (sym f ∙ ap is_followed h.0))
 follow_stage old now k how payload (Some Piped) a new is h f = is
 
-pub follow_finds : (old : World) (now k : ℕ) (how : How) (payload : Option (List ℕ)) (a : Answer) (new : World) → Step old now (Ended k how payload) a new → is_followed a ≡ true → kind_of old.sessions k ≡ Some pipes
+pub follow_finds : (old : World) (now k : ℕ) (how : How) (payload : Option (List ℕ)) (a : Answer) (new : World) → Step old now (Ended k how payload) a new
+    → is_followed a ≡ true → kind_of old.sessions k ≡ Some pipes
 unfolding Step
 follow_finds old now k how payload a new h f = stage_kind old.sessions k Piped (follow_stage old now k how payload (stage_of old.sessions k) a new refl h f)
 
@@ -152,21 +156,24 @@ idle_step old now e a new h idle k undrawn =
   where
     started : (s : SessionId) (x : Ask) (j : ℕ) (subject : Subject) → a ≡ Start j subject → (b : Bool) → nat_eq j k ≡ b → cond b (Some to_start) None ≡ None
     started s x j subject ra true same =
-        absurd (let t = (start_draws old now e a new (effect old now e a new h) j subject ra).1 in let f : is_drawn new j ≡ false = ap (is_drawn new) (eqb-true j k same) ∙ undrawn in cc)
+        absurd (let t = (start_draws old now e a new (effect old now e a new h) j subject ra).1 in let f : is_drawn new j
+        ≡ false = ap (is_drawn new) (eqb-true j k same) ∙ undrawn in cc)
     started s x j subject ra false same = refl
 
     never_launched : (j : ℕ) (r : Ran) → e ≡ Launched j r → is_done a ≡ true → nat_eq j k ≡ true → ⊥
     never_launched j r ev d same =
         let P : Event → Type 0 = λ y. Step old now y a new in
         let found : may_find r (kind_of old.sessions j) ≡ true = launch_finds old now j r a new (subst P ev h) d in
-        let none : kind_of old.sessions j ≡ None = ap (kind_of old.sessions) (eqb-true j k same) ∙ idle k (keeps_drawn old now e a new (effect old now e a new h) k undrawn) in
+        let none : kind_of old.sessions j ≡ None =
+        ap (kind_of old.sessions) (eqb-true j k same) ∙ idle k (keeps_drawn old now e a new (effect old now e a new h) k undrawn) in
         true_false (sym (found_some r _ found) ∙ ap is_some none)
 
     never_followed : (j : ℕ) (how : How) (payload : Option (List ℕ)) → e ≡ Ended j how payload → is_followed a ≡ true → nat_eq j k ≡ true → ⊥
     never_followed j how payload ev f same =
         let P : Event → Type 0 = λ y. Step old now y a new in
         let found : kind_of old.sessions j ≡ Some pipes = follow_finds old now j how payload a new (subst P ev h) f in
-        let none : kind_of old.sessions j ≡ None = ap (kind_of old.sessions) (eqb-true j k same) ∙ idle k (keeps_drawn old now e a new (effect old now e a new h) k undrawn) in
+        let none : kind_of old.sessions j ≡ None =
+        ap (kind_of old.sessions) (eqb-true j k same) ∙ idle k (keeps_drawn old now e a new (effect old now e a new h) k undrawn) in
         true_false (ap is_some (sym found ∙ none))
 
     by_event : (y : Event) (b : Answer) → e ≡ y → a ≡ b → kind_after k y b None ≡ None
@@ -176,7 +183,8 @@ idle_step old now e a new h idle k undrawn =
     by_event (Asked s x) (Negate j) ev ra = refl
     by_event (Asked s x) (Refused error) ev ra = refl
     by_event (Launched j r) b ev ra = none_chosen (is_done b) (nat_eq j k) _ (λ d same. never_launched j r ev (ap is_done ra ∙ d) same)
-    by_event (Ended j how payload) b ev ra = ended_none (is_done b && nat_eq j k) (is_followed b) (nat_eq j k) (λ f same. never_followed j how payload ev (ap is_followed ra ∙ f) same)
+    by_event (Ended j how payload) b ev ra =
+        ended_none (is_done b && nat_eq j k) (is_followed b) (nat_eq j k) (λ f same. never_followed j how payload ev (ap is_followed ra ∙ f) same)
       where
         ended_none : (d f same : Bool) → (f ≡ true → same ≡ true → ⊥) → ◌≡◌ {A = Option Kind} (cond d None (cond (f && same) (Some to_follow) None)) None
         ended_none true f same h = refl

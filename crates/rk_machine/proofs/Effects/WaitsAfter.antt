@@ -51,7 +51,8 @@ staged f (Plain s) = refl
 staged f Piped = refl
 staged f Negating = refl
 
-handled : (f : Session → Session) (b : Bool) (o : Option Construction) → in_construction (cond b (option_map (in_handler f) o) o) ≡ cond b (option_map f (in_construction o)) (in_construction o)
+handled : (f : Session → Session) (b : Bool) (o : Option Construction)
+    → in_construction (cond b (option_map (in_handler f) o) o) ≡ cond b (option_map f (in_construction o)) (in_construction o)
 handled f true None = refl
 handled f true (Some c) = staged f c.stage
 handled f false o = refl
@@ -61,7 +62,8 @@ pub session_of_changed : (id : SessionId) (f : Session → Session) (a : Session
 session_of_changed (Client n) f a (Client m) = get_changed_at n f a.clients m
 session_of_changed (Client n) f a (Handler j) = refl
 session_of_changed (Handler k) f a (Client m) = refl
-session_of_changed (Handler k) f a (Handler j) = ap in_construction (get_changed_at k (in_handler f) a.constructions j) ∙ handled f (nat_eq k j) (map.get a.constructions j)
+session_of_changed (Handler k) f a (Handler j) =
+    ap in_construction (get_changed_at k (in_handler f) a.constructions j) ∙ handled f (nat_eq k j) (map.get a.constructions j)
 
 -- a change that leaves the wait
 abbrev pub KeepsWait : (Session → Session) → Type 0
@@ -80,7 +82,8 @@ waitless true None = refl
 waitless true (Some s) = refl
 waitless false o = refl
 
-pub wait_collected : (id : SessionId) (a : Sessions) (s : SessionId) → wait_of (session_changed id (with_wait None) a) s ≡ cond (same_session id s) None (wait_of a s)
+pub wait_collected : (id : SessionId) (a : Sessions) (s : SessionId)
+    → wait_of (session_changed id (with_wait None) a) s ≡ cond (same_session id s) None (wait_of a s)
 wait_collected id a s = ap wait_in (session_of_changed id (with_wait None) a s) ∙ waitless (same_session id s) (session_of a s)
 
 begun_in : (w : Wait) (o : Option Session) → is_none o ≡ false → wait_in (option_map (with_wait (Some w)) o) ≡ Some w
@@ -91,7 +94,8 @@ pub wait_begun : (id : SessionId) (w : Wait) (a : Sessions) (s : SessionId) → 
     → wait_of (session_changed id (with_wait (Some w)) a) s ≡ cond (same_session id s) (Some w) (wait_of a s)
 wait_begun id w a s there =
     ap wait_in (session_of_changed id (with_wait (Some w)) a s)
-    ∙ elim (same_session id s) as (λ t. same_session id s ≡ t → wait_in (cond t (option_map (with_wait (Some w)) (session_of a s)) (session_of a s)) ≡ cond t (Some w) (wait_of a s)) [
+    ∙ elim (same_session id s) as (λ t. same_session id s ≡ t → wait_in (cond t (option_map (with_wait (Some w)) (session_of a s)) (session_of a s))
+    ≡ cond t (Some w) (wait_of a s)) [
       | true ↦ λ same. begun_in w (session_of a s) (ap (λ x. is_none (session_of a x)) (sym (same-true id s same)) ∙ there)
       | false ↦ λ _. refl
     ] refl
@@ -102,13 +106,15 @@ told_in : (k : ℕ) (o : Outcome) (x : Option Session) → wait_in (option_map (
 told_in k o None = refl
 told_in k o (Some s) = refl
 
-told_handler : (k : ℕ) (o : Outcome) (x : Option Construction) → wait_in (in_construction (option_map (in_handler (told k o)) x)) ≡ option_map (told_wait k o) (wait_in (in_construction x))
+told_handler : (k : ℕ) (o : Outcome) (x : Option Construction)
+    → wait_in (in_construction (option_map (in_handler (told k o)) x)) ≡ option_map (told_wait k o) (wait_in (in_construction x))
 told_handler k o None = refl
 told_handler k o (Some c) = ap wait_in (staged (told k o) c.stage) ∙ told_in k o (handler_in c.stage)
 
 pub wait_told : (k : ℕ) (o : Outcome) (a : Sessions) (s : SessionId) → wait_of (all_told k o a) s ≡ option_map (told_wait k o) (wait_of a s)
 wait_told k o a (Client n) = ap wait_in (get_changed_all (told k o) a.clients n) ∙ told_in k o (map.get a.clients n)
-wait_told k o a (Handler j) = ap (λ x. wait_in (in_construction x)) (get_changed_all (in_handler (told k o)) a.constructions j) ∙ told_handler k o (map.get a.constructions j)
+wait_told k o a (Handler j) =
+    ap (λ x. wait_in (in_construction x)) (get_changed_all (in_handler (told k o)) a.constructions j) ∙ told_handler k o (map.get a.constructions j)
 
 unassumed : (o : Option Session) → wait_in (option_map (with_assumed None) o) ≡ wait_in o
 unassumed None = refl
@@ -121,18 +127,22 @@ spent_in false o = refl
 
 pub wait_spent : (k : ℕ) (a : Sessions) (s : SessionId) → wait_of (spent k a) s ≡ wait_of a s
 wait_spent k a (Client n) = refl
-wait_spent k a (Handler j) = ap (λ x. wait_in (in_construction x)) (get_changed_at k without_authority a.constructions j) ∙ spent_in (nat_eq k j) (map.get a.constructions j)
+wait_spent k a (Handler j) =
+    ap (λ x. wait_in (in_construction x)) (get_changed_at k without_authority a.constructions j) ∙ spent_in (nat_eq k j) (map.get a.constructions j)
 
 -- ---- constructions
 
-launched_in : (st : Stage) → wait_in (handler_in st) ≡ None → (b : Bool) (o : Option Construction) → wait_in (in_construction (cond b (option_map (in_new_stage st) o) o)) ≡ cond b None (wait_in (in_construction o))
+launched_in : (st : Stage) → wait_in (handler_in st) ≡ None → (b : Bool) (o : Option Construction)
+    → wait_in (in_construction (cond b (option_map (in_new_stage st) o) o)) ≡ cond b None (wait_in (in_construction o))
 launched_in st h true None = refl
 launched_in st h true (Some c) = h
 launched_in st h false o = refl
 
-pub wait_launched : (k : ℕ) (st : Stage) → wait_in (handler_in st) ≡ None → (a : Sessions) (s : SessionId) → wait_of (launched k st a) s ≡ cond (same_session (Handler k) s) None (wait_of a s)
+pub wait_launched : (k : ℕ) (st : Stage) → wait_in (handler_in st) ≡ None → (a : Sessions) (s : SessionId)
+    → wait_of (launched k st a) s ≡ cond (same_session (Handler k) s) None (wait_of a s)
 wait_launched k st h a (Client n) = refl
-wait_launched k st h a (Handler j) = ap (λ x. wait_in (in_construction x)) (get_changed_at k (in_new_stage st) a.constructions j) ∙ launched_in st h (nat_eq k j) (map.get a.constructions j)
+wait_launched k st h a (Handler j) =
+    ap (λ x. wait_in (in_construction x)) (get_changed_at k (in_new_stage st) a.constructions j) ∙ launched_in st h (nat_eq k j) (map.get a.constructions j)
 
 removed_in : (b : Bool) (o : Option Construction) → wait_in (in_construction (cond b None o)) ≡ cond b None (wait_in (in_construction o))
 removed_in true o = refl
@@ -147,7 +157,8 @@ issued_in : (b : Bool) (authority : Authority) (o : Option Construction) → (b 
 issued_in true authority o new = sym (ap (λ x. wait_in (in_construction x)) (new refl))
 issued_in false authority o new = refl
 
-pub wait_issued : (k : ℕ) (authority : Authority) (a : Sessions) (s : SessionId) → map.get a.constructions k ≡ None → wait_of (with_construction k authority a) s ≡ wait_of a s
+pub wait_issued : (k : ℕ) (authority : Authority) (a : Sessions) (s : SessionId) → map.get a.constructions k ≡ None
+    → wait_of (with_construction k authority a) s ≡ wait_of a s
 wait_issued k authority a (Client n) new = refl
 wait_issued k authority a (Handler j) new =
     ap (λ x. wait_in (in_construction x)) (get_inserted a.constructions k _ j)
@@ -161,7 +172,9 @@ came_in false o new = refl
 
 pub wait_came : (n : ℕ) (a : Sessions) (s : SessionId) → map.get a.clients n ≡ None → wait_of (with_client n a) s ≡ wait_of a s
 wait_came n a (Handler j) new = refl
-wait_came n a (Client m) new = ap wait_in (get_inserted a.clients n new_session m) ∙ came_in (nat_eq n m) (map.get a.clients m) (λ same. ap (map.get a.clients) (sym (eqb-true n m same)) ∙ new)
+wait_came n a (Client m) new =
+    ap wait_in (get_inserted a.clients n new_session m) ∙ came_in (nat_eq n m) (map.get a.clients m)
+    (λ same. ap (map.get a.clients) (sym (eqb-true n m same)) ∙ new)
 
 went_in : (b : Bool) (o : Option Session) → wait_in (cond b None o) ≡ cond b None (wait_in o)
 went_in true o = refl
@@ -188,7 +201,8 @@ told_flag k o (Some w) = refl
 pub flag_kept : (id : SessionId) (f : Session → Session) → KeepsWait f → (a : Sessions) (s : SessionId) → flag_of (session_changed id f a) s ≡ flag_of a s
 flag_kept id f h a s = ap (option_map flag) (wait_kept id f h a s)
 
-pub flag_collected : (id : SessionId) (a : Sessions) (s : SessionId) → flag_of (session_changed id (with_wait None) a) s ≡ cond (same_session id s) None (flag_of a s)
+pub flag_collected : (id : SessionId) (a : Sessions) (s : SessionId)
+    → flag_of (session_changed id (with_wait None) a) s ≡ cond (same_session id s) None (flag_of a s)
 flag_collected id a s = ap (option_map flag) (wait_collected id a s) ∙ cleared (same_session id s) (wait_of a s)
 
 pub flag_begun : (id : SessionId) (k : ℕ) (b : Bool) (a : Sessions) (s : SessionId) → is_none (session_of a id) ≡ false
@@ -208,13 +222,15 @@ no_wait_in st h = none_flag (wait_in (handler_in st)) h
     none_flag None h = refl
     none_flag (Some w) h = absurd (cc)
 
-pub flag_launched : (k : ℕ) (st : Stage) → flag_in (handler_in st) ≡ None → (a : Sessions) (s : SessionId) → flag_of (launched k st a) s ≡ cond (same_session (Handler k) s) None (flag_of a s)
+pub flag_launched : (k : ℕ) (st : Stage) → flag_in (handler_in st) ≡ None → (a : Sessions) (s : SessionId)
+    → flag_of (launched k st a) s ≡ cond (same_session (Handler k) s) None (flag_of a s)
 flag_launched k st h a s = ap (option_map flag) (wait_launched k st (no_wait_in st h) a s) ∙ cleared (same_session (Handler k) s) (wait_of a s)
 
 pub flag_removed : (k : ℕ) (a : Sessions) (s : SessionId) → flag_of (without_construction k a) s ≡ cond (same_session (Handler k) s) None (flag_of a s)
 flag_removed k a s = ap (option_map flag) (wait_removed k a s) ∙ cleared (same_session (Handler k) s) (wait_of a s)
 
-pub flag_issued : (k : ℕ) (authority : Authority) (a : Sessions) (s : SessionId) → map.get a.constructions k ≡ None → flag_of (with_construction k authority a) s ≡ flag_of a s
+pub flag_issued : (k : ℕ) (authority : Authority) (a : Sessions) (s : SessionId) → map.get a.constructions k ≡ None
+    → flag_of (with_construction k authority a) s ≡ flag_of a s
 flag_issued k authority a s new = ap (option_map flag) (wait_issued k authority a s new)
 
 pub flag_came : (n : ℕ) (a : Sessions) (s : SessionId) → map.get a.clients n ≡ None → flag_of (with_client n a) s ≡ flag_of a s

@@ -55,10 +55,12 @@ or_false : (a : Bool) → (a || false) ≡ a
 or_false true = refl
 or_false false = refl
 
-quiet_after : (now : ℕ) (s : SessionId) (e : Event) (a : Answer) (r : Option (ℕ × Bool)) → wait_begun s e a ≡ None → is_wait_ended s (step now e a) ≡ false → after now s e a r ≡ r
+quiet_after : (now : ℕ) (s : SessionId) (e : Event) (a : Answer) (r : Option (ℕ × Bool)) → wait_begun s e a ≡ None → is_wait_ended s (step now e a) ≡ false
+    → after now s e a r ≡ r
 quiet_after now s e a r begun over = λ i. option_map_or (λ w. Some w) (begun i) (cond (over i) None r)
 
-cleared_after : (now : ℕ) (s : SessionId) (e : Event) (a : Answer) (b : Bool) (r : Option (ℕ × Bool)) → wait_begun s e a ≡ None → is_wait_ended s (step now e a) ≡ b → after now s e a r ≡ cond b None r
+cleared_after : (now : ℕ) (s : SessionId) (e : Event) (a : Answer) (b : Bool) (r : Option (ℕ × Bool)) → wait_begun s e a ≡ None
+    → is_wait_ended s (step now e a) ≡ b → after now s e a r ≡ cond b None r
 cleared_after now s e a b r begun over = λ i. option_map_or (λ w. Some w) (begun i) (cond (over i) None r)
 
 chosen : (b : Bool) (v : ℕ × Bool) (r : Option (ℕ × Bool)) → option_map_or (λ w. Some w) (cond b (Some v) None) r ≡ cond b (Some v) r
@@ -80,9 +82,12 @@ over_asked now (Handler k) t x a = λ i. and_false (is_done a) false refl i || a
 
 module _ (now : ℕ) (s : SessionId) (r : Option (ℕ × Bool)) where
   asked_done : (e : Event) (a : Answer) (t : SessionId) (x : Ask) (reply : Reply) → e ≡ Asked t x → a ≡ Done reply → after now s e a r ≡ r
-  asked_done e a t x reply ev ra = ap (λ y. after now s y a r) ev ∙ ap (λ y. after now s (Asked t x) y r) ra ∙ quiet_after now s (Asked t x) (Done reply) r refl (over_asked now s t x (Done reply))
+  asked_done e a t x reply ev ra =
+      ap (λ y. after now s y a r) ev ∙ ap (λ y. after now s (Asked t x) y r) ra
+      ∙ quiet_after now s (Asked t x) (Done reply) r refl (over_asked now s t x (Done reply))
 
-  asked_begun : (e : Event) (a : Answer) (t : SessionId) (x : Ask) (v : ℕ × Bool) → e ≡ Asked t x → wait_begun s (Asked t x) a ≡ cond (same_session t s) (Some v) None → after now s e a r ≡ cond (same_session t s) (Some v) r
+  asked_begun : (e : Event) (a : Answer) (t : SessionId) (x : Ask) (v : ℕ × Bool) → e ≡ Asked t x
+      → wait_begun s (Asked t x) a ≡ cond (same_session t s) (Some v) None → after now s e a r ≡ cond (same_session t s) (Some v) r
   asked_begun e a t x v ev begun =
       ap (λ y. after now s y a r) ev ∙ (λ i. option_map_or (λ w. Some w) (begun i) (cond (over_asked now s t x a i) None r)) ∙ chosen (same_session t s) v r
 
@@ -104,7 +109,8 @@ told_quiet (Failed e) = refl
 
 over_collected : (now : ℕ) (s t : SessionId) (o : Outcome) → is_wait_ended s (step now (Collect t) (told_as o)) ≡ same_session t s
 over_collected now (Client n) t o =
-    ap (λ b. same_session t (Client n) && not b || (is_done (told_as o) && false) || false) (told_quiet o) ∙ folded (same_session t (Client n)) _ false (and_false (is_done (told_as o)) false refl) refl
+    ap (λ b. same_session t (Client n) && not b || (is_done (told_as o) && false) || false) (told_quiet o)
+    ∙ folded (same_session t (Client n)) _ false (and_false (is_done (told_as o)) false refl) refl
 over_collected now (Handler k) t o =
     ap (λ b. same_session t (Handler k) && not b || (is_done (told_as o) && false) || (is_done (told_as o) && false)) (told_quiet o)
     ∙ folded (same_session t (Handler k)) _ _ (and_false (is_done (told_as o)) false refl) (and_false (is_done (told_as o)) false refl)
@@ -113,7 +119,8 @@ begun_told : (s t : SessionId) (o : Outcome) → wait_begun s (Collect t) (told_
 begun_told s t o = refl
 
 -- a refusal ends no wait, but for a collect of a session that has none
-refused_after : (now : ℕ) (s : SessionId) (e : Event) (error : Errno) (r : Option (ℕ × Bool)) → ((t : SessionId) → e ≡ Collect t → same_session t s ≡ true → r ≡ None) → after now s e (Refused error) r ≡ r
+refused_after : (now : ℕ) (s : SessionId) (e : Event) (error : Errno) (r : Option (ℕ × Bool))
+    → ((t : SessionId) → e ≡ Collect t → same_session t s ≡ true → r ≡ None) → after now s e (Refused error) r ≡ r
 refused_after now s e error r free = cleared_after now s e (Refused error) _ r (begun_refused s e error) refl ∙ emptied e refl s refl
   where
     none_or : (b : Bool) → (b ≡ true → r ≡ None) → cond b None r ≡ r
@@ -121,15 +128,23 @@ refused_after now s e error r free = cleared_after now s e (Refused error) _ r (
     none_or false h = refl
 
     emptied : (y : Event) → e ≡ y → (z : SessionId) → s ≡ z → cond (is_wait_ended s (step now e (Refused error))) None r ≡ r
-    emptied y ey (Client m) ez = ap (λ v. cond (is_wait_ended v (step now e (Refused error))) None r) ez ∙ ap (λ v. cond (is_wait_ended (Client m) (step now v (Refused error))) None r) ey ∙ client y ey
+    emptied y ey (Client m) ez =
+        ap (λ v. cond (is_wait_ended v (step now e (Refused error))) None r) ez
+        ∙ ap (λ v. cond (is_wait_ended (Client m) (step now v (Refused error))) None r) ey ∙ client y ey
       where
         client : (y : Event) → e ≡ y → cond (is_wait_ended (Client m) (step now y (Refused error))) None r ≡ r
-        client (Collect t) ey = ap (λ b. cond b None r) (folded (same_session t (Client m)) false false refl refl) ∙ none_or (same_session t (Client m)) (λ same. free t ey (ap (same_session t) ez ∙ same))
+        client (Collect t) ey =
+            ap (λ b. cond b None r) (folded (same_session t (Client m)) false false refl refl)
+            ∙ none_or (same_session t (Client m)) (λ same. free t ey (ap (same_session t) ez ∙ same))
         client _ ey = refl
-    emptied y ey (Handler k) ez = ap (λ v. cond (is_wait_ended v (step now e (Refused error))) None r) ez ∙ ap (λ v. cond (is_wait_ended (Handler k) (step now v (Refused error))) None r) ey ∙ handler y ey
+    emptied y ey (Handler k) ez =
+        ap (λ v. cond (is_wait_ended v (step now e (Refused error))) None r) ez
+        ∙ ap (λ v. cond (is_wait_ended (Handler k) (step now v (Refused error))) None r) ey ∙ handler y ey
       where
         handler : (y : Event) → e ≡ y → cond (is_wait_ended (Handler k) (step now y (Refused error))) None r ≡ r
-        handler (Collect t) ey = ap (λ b. cond b None r) (folded (same_session t (Handler k)) false false refl refl) ∙ none_or (same_session t (Handler k)) (λ same. free t ey (ap (same_session t) ez ∙ same))
+        handler (Collect t) ey =
+            ap (λ b. cond b None r) (folded (same_session t (Handler k)) false false refl refl)
+            ∙ none_or (same_session t (Handler k)) (λ same. free t ey (ap (same_session t) ez ∙ same))
         handler _ ey = refl
 
 -- ---- the world's side
@@ -151,8 +166,10 @@ flag_settled now k condition w s = spent_or_not (is_some (unspent w.sessions k))
     spent_or_not true = flag_announced now k (keys_ended now k condition w) (spent k w.sessions) s ∙ flag_spent k w.sessions s
     spent_or_not false = refl
 
-flag_ended : (now k : ℕ) (condition : Condition) (w : World) (s : SessionId) → flag_of (ended now k condition w).sessions s ≡ cond (same_session (Handler k) s) None (flag_of w.sessions s)
-flag_ended now k condition w s = flag_removed k (sessions_ended now k condition w) s ∙ ap (cond (same_session (Handler k) s) None) (flag_settled now k condition w s)
+flag_ended : (now k : ℕ) (condition : Condition) (w : World) (s : SessionId)
+    → flag_of (ended now k condition w).sessions s ≡ cond (same_session (Handler k) s) None (flag_of w.sessions s)
+flag_ended now k condition w s =
+    flag_removed k (sessions_ended now k condition w) s ∙ ap (cond (same_session (Handler k) s) None) (flag_settled now k condition w s)
 
 none_flag : (a : Sessions) (t : SessionId) → wait_of a t ≡ None → flag_of a t ≡ None
 none_flag a t h = ap (option_map flag) h
@@ -173,7 +190,8 @@ none_or_same : (b : Bool) (r : Option (ℕ × Bool)) → (b ≡ true → r ≡ N
 none_or_same true r h = sym (h refl)
 none_or_same false r h = refl
 
-unlinked_flag : (old new : World) (ring : Option ℕ) (k : ℕ) (s : SessionId) → (new ≡ tidied (unlinked_in ring k old)) ⊎ (new ≡ tidied (cleared_in ring old)) → flag_of new.sessions s ≡ flag_of old.sessions s
+unlinked_flag : (old new : World) (ring : Option ℕ) (k : ℕ) (s : SessionId) → (new ≡ tidied (unlinked_in ring k old)) ⊎ (new ≡ tidied (cleared_in ring old))
+    → flag_of new.sessions s ≡ flag_of old.sessions s
 unlinked_flag old new ring k s (inl h) = flag_at new _ s _ h refl
 unlinked_flag old new ring k s (inr h) = flag_at new _ s _ h refl
 
@@ -200,72 +218,99 @@ failed_after : (now k : ℕ) (s : SessionId) (r : Option (ℕ × Bool)) → afte
 failed_after now k (Client n) r = refl
 failed_after now k (Handler j) r = refl
 
-finished_after : (now k : ℕ) (how : How) (payload : Option (List ℕ)) (s : SessionId) (r : Option (ℕ × Bool)) → after now s (Ended k how payload) done r ≡ cond (same_session (Handler k) s) None r
+finished_after : (now k : ℕ) (how : How) (payload : Option (List ℕ)) (s : SessionId) (r : Option (ℕ × Bool))
+    → after now s (Ended k how payload) done r ≡ cond (same_session (Handler k) s) None r
 finished_after now k how payload (Client n) r = refl
 finished_after now k how payload (Handler j) r = refl
 
 still_after : (now : ℕ) (s t : SessionId) (k : ℕ) (r : Option (ℕ × Bool)) → after now s (Collect t) (Waiting k) r ≡ r
-still_after now (Client n) t k r = ap (λ b. option_map_or (λ w. Some w) None (cond (b || false || false) None r)) (and_false (same_session t (Client n)) false refl)
-still_after now (Handler j) t k r = ap (λ b. option_map_or (λ w. Some w) None (cond (b || false || false) None r)) (and_false (same_session t (Handler j)) false refl)
+still_after now (Client n) t k r =
+    ap (λ b. option_map_or (λ w. Some w) None (cond (b || false || false) None r)) (and_false (same_session t (Client n)) false refl)
+still_after now (Handler j) t k r =
+    ap (λ b. option_map_or (λ w. Some w) None (cond (b || false || false) None r)) (and_false (same_session t (Handler j)) false refl)
 
 -- not drawn: no construction
 abbrev pub IdleFresh : World → Type 0
 IdleFresh w = (k : ℕ) → is_drawn w k ≡ false → map.get w.sessions.constructions k ≡ None
 
 -- who is there is there beside a new construction
-pub there_issued : (k : ℕ) (authority : Authority) (a : Sessions) (t : SessionId) → map.get a.constructions k ≡ None → is_none (session_of a t) ≡ false → is_none (session_of (with_construction k authority a) t) ≡ false
+pub there_issued : (k : ℕ) (authority : Authority) (a : Sessions) (t : SessionId) → map.get a.constructions k ≡ None → is_none (session_of a t) ≡ false
+    → is_none (session_of (with_construction k authority a) t) ≡ false
 there_issued k authority a (Client n) new h = h
 there_issued k authority a (Handler j) new h =
     ap (λ o. is_none (option_and_then (λ (c : Construction). handler_in c.stage) o)) (get_inserted a.constructions k _ j) ∙ kept (nat_eq k j) refl
   where
-    kept : (b : Bool) → nat_eq k j ≡ b → is_none (option_and_then (λ (c : Construction). handler_in c.stage) (cond b (Some (record { stage = Starting; authority = Some authority })) (map.get a.constructions j))) ≡ false
-    kept true same = let none : session_of a (Handler j) ≡ None = ap (λ i. option_and_then (λ (c : Construction). handler_in c.stage) (map.get a.constructions i)) (sym (eqb-true k j same)) ∙ ap (option_and_then (λ (c : Construction). handler_in c.stage)) new in ap is_none (sym none) ∙ h
+    kept : (b : Bool) → nat_eq k j ≡ b → is_none (option_and_then (λ (c : Construction). handler_in c.stage)
+        (cond b (Some (record { stage = Starting; authority = Some authority })) (map.get a.constructions j))) ≡ false
+    kept true same =
+        let none : session_of a (Handler j) ≡ None = ap (λ i. option_and_then (λ (c : Construction). handler_in c.stage) (map.get a.constructions i))
+        (sym (eqb-true k j same)) ∙ ap (option_and_then (λ (c : Construction). handler_in c.stage)) new in ap is_none (sym none) ∙ h
     kept false other = h
 
-pub tied : (old : World) (now : ℕ) (e : Event) (a : Answer) (new : World) → Effect old now e a new → IdleFresh old → (s : SessionId) → flag_of new.sessions s ≡ after now s e a (flag_of old.sessions s)
+pub tied : (old : World) (now : ℕ) (e : Event) (a : Answer) (new : World) → Effect old now e a new → IdleFresh old → (s : SessionId)
+    → flag_of new.sessions s ≡ after now s e a (flag_of old.sessions s)
 tied old now e a new (refused error ra w free) idle s =
     ap (λ (v : World). flag_of v.sessions s) w
-    ∙ sym (ap (λ y. after now s e y (flag_of old.sessions s)) ra ∙ refused_after now s e error _ (λ t ev same. ap (flag_of old.sessions) (sym (same-true t s same)) ∙ none_flag old.sessions t (free t ev)))
+    ∙ sym (ap (λ y. after now s e y (flag_of old.sessions s)) ra ∙ refused_after now s e error _
+    (λ t ev same. ap (flag_of old.sessions) (sym (same-true t s same)) ∙ none_flag old.sessions t (free t ev)))
 tied old now e a new (still t wait ev is ready ra w) idle s =
-    ap (λ (v : World). flag_of v.sessions s) w ∙ sym (ap (λ y. after now s y a (flag_of old.sessions s)) ev ∙ ap (λ y. after now s (Collect t) y (flag_of old.sessions s)) ra ∙ still_after now s t wait.key _)
+    ap (λ (v : World). flag_of v.sessions s) w ∙ sym (ap (λ y. after now s y a (flag_of old.sessions s)) ev
+    ∙ ap (λ y. after now s (Collect t) y (flag_of old.sessions s)) ra ∙ still_after now s t wait.key _)
 tied old now e a new (took t wait outcome ev is ready ra w) idle s =
     flag_at new _ s _ w (flag_collected t old.sessions s)
-    ∙ sym (ap (λ y. after now s y a (flag_of old.sessions s)) ev ∙ ap (λ y. after now s (Collect t) y (flag_of old.sessions s)) ra ∙ cleared_after now s (Collect t) (told_as outcome) _ _ (begun_told s t outcome) (over_collected now s t outcome))
+    ∙ sym (ap (λ y. after now s y a (flag_of old.sessions s)) ev ∙ ap (λ y. after now s (Collect t) y (flag_of old.sessions s)) ra
+    ∙ cleared_after now s (Collect t) (told_as outcome) _ _ (begun_told s t outcome) (over_collected now s t outcome))
 tied old now e a new (came n ev fresh ra w) idle s =
     flag_at new _ s _ w (flag_came n old.sessions s (none_is (map.get old.sessions.clients n) fresh))
-    ∙ sym (ap (λ y. after now s y a (flag_of old.sessions s)) ev ∙ ap (λ y. after now s (Opened (Client n)) y (flag_of old.sessions s)) ra ∙ quiet_after now s (Opened (Client n)) done _ refl (over_other now s n))
+    ∙ sym (ap (λ y. after now s y a (flag_of old.sessions s)) ev ∙ ap (λ y. after now s (Opened (Client n)) y (flag_of old.sessions s)) ra
+    ∙ quiet_after now s (Opened (Client n)) done _ refl (over_other now s n))
 tied old now e a new (went n ev there ra w) idle s =
     flag_at new _ s _ w (flag_went n old.sessions s)
-    ∙ sym (ap (λ y. after now s y a (flag_of old.sessions s)) ev ∙ ap (λ y. after now s (Gone (Client n)) y (flag_of old.sessions s)) ra ∙ cleared_after now s (Gone (Client n)) done _ _ refl (over_gone now s n))
+    ∙ sym (ap (λ y. after now s y a (flag_of old.sessions s)) ev ∙ ap (λ y. after now s (Gone (Client n)) y (flag_of old.sessions s)) ra
+    ∙ cleared_after now s (Gone (Client n)) done _ _ refl (over_gone now s n))
 tied old now e a new (greets n uid gid thread process join ev can none joined h) idle s =
-    flag_at new _ s _ h.6.1 (flag_kept (Client n) (with_context (record { uid = uid; gid = gid; thread = h.0; process = h.1; session = h.2; user = h.3 })) (λ x. refl) h.4.sessions s ∙ ap (λ (x : Sessions). flag_of x s) (greeted_sessions _ old h.4 h.0 h.1 h.2 h.3 h.5))
+    flag_at new _ s _ h.6.1 (flag_kept (Client n) (with_context (record { uid = uid; gid = gid; thread = h.0; process = h.1; session = h.2; user = h.3 }))
+    (λ x. refl) h.4.sessions s ∙ ap (λ (x : Sessions). flag_of x s) (greeted_sessions _ old h.4 h.0 h.1 h.2 h.3 h.5))
     ∙ sym (asked_done now s _ e a (Client n) (ask.Hello uid gid thread process join) _ ev h.6.0)
 tied old now e a new (begins t asker typ description callout r ring k ev can is depth fresh ra w) idle s =
-    flag_at new _ s _ w (flag_begun t k true _ s (there_issued k _ old.sessions t (idle k fresh.unused) can.there) ∙ ap (cond (same_session t s) (Some (k, true))) (flag_issued k _ old.sessions s (idle k fresh.unused)))
+    flag_at new _ s _ w (flag_begun t k true _ s (there_issued k _ old.sessions t (idle k fresh.unused) can.there)
+    ∙ ap (cond (same_session t s) (Some (k, true))) (flag_issued k _ old.sessions s (idle k fresh.unused)))
     ∙ sym (asked_begun now s _ e a t _ (k, true) ev (ap (λ y. wait_begun s (Asked t (ask.Request typ description (Some callout) r)) y) ra))
 tied old now e a new (joins t x ring k ev asks can building apart ra w) idle s =
-    flag_at new _ s _ w (flag_begun t k false old.sessions s can.there) ∙ sym (asked_begun now s _ e a t x (k, false) ev (ap (λ y. wait_begun s (Asked t x) y) ra))
+    flag_at new _ s _ w (flag_begun t k false old.sessions s can.there) ∙ sym
+    (asked_begun now s _ e a t x (k, false) ev (ap (λ y. wait_begun s (Asked t x) y) ra))
 tied old now e a new (links t x ring k n ev completes_none not_assume ra w) idle s = flag_at new _ s _ w refl ∙ sym (asked_done now s _ e a t x _ ev ra)
 tied old now e a new (unlinks t x ring k ev completes_none not_assume ra w) idle s = unlinked_flag old new ring k s w ∙ sym (asked_done now s _ e a t x _ ev ra)
 tied old now e a new (marks t x k f ev completes_none not_assume mild ra w) idle s = flag_at new _ s _ w refl ∙ sym (asked_done now s _ e a t x _ ev ra)
 tied old now e a new (tells t x bytes ev ra w) idle s = ap (λ (v : World). flag_of v.sessions s) w ∙ sym (asked_done now s _ e a t x _ ev ra)
-tied old now e a new (sets t x setting n ev completes_none not_assume can ra w) idle s = flag_at new _ s _ w (flag_kept t (with_setting setting) (λ x. refl) old.sessions s) ∙ sym (asked_done now s _ e a t x _ ev ra)
+tied old now e a new (sets t x setting n ev completes_none not_assume can ra w) idle s =
+    flag_at new _ s _ w (flag_kept t (with_setting setting) (λ x. refl) old.sessions s) ∙ sym (asked_done now s _ e a t x _ ev ra)
 tied old now e a new (adds t asker typ description payload r ring k ev fresh ra w) idle s = flag_at new _ s _ w refl ∙ sym (asked_done now s _ e a t _ _ ev ra)
-tied old now e a new (assumes t key ev can none ra w) idle s = flag_at new _ s _ w (flag_kept t (with_assumed _) (λ x. refl) old.sessions s) ∙ sym (asked_done now s _ e a t _ _ ev ra)
+tied old now e a new (assumes t key ev can none ra w) idle s =
+    flag_at new _ s _ w (flag_kept t (with_assumed _) (λ x. refl) old.sessions s) ∙ sym (asked_done now s _ e a t _ _ ev ra)
 tied old now e a new (concludes t x asker ring k condition end ev which can is own final ra w) idle s =
     flag_at new _ s _ w (flag_announced now k _ (spent k old.sessions) s ∙ flag_spent k old.sessions s) ∙ sym (asked_done now s _ e a t x _ ev ra)
 tied old now e a new (ran_plain k st ev is launches ra w) idle s =
-    flag_at new _ s _ w (flag_launched k (Plain new_session) refl old.sessions s ∙ none_or_same (same_session (Handler k) s) _ (λ same. ap (flag_of old.sessions) (sym (same-true (Handler k) s same)) ∙ no_flag old.sessions k st (waiting_handler st launches) is))
-    ∙ sym (ap (λ y. after now s y a (flag_of old.sessions s)) ev ∙ ap (λ y. after now s (Launched k ran.Plain) y (flag_of old.sessions s)) ra ∙ launched_after now k s _)
+    flag_at new _ s _ w (flag_launched k (Plain new_session) refl old.sessions s
+    ∙ none_or_same (same_session (Handler k) s) _ (λ same. ap (flag_of old.sessions) (sym (same-true (Handler k) s same))
+    ∙ no_flag old.sessions k st (waiting_handler st launches) is))
+    ∙ sym (ap (λ y. after now s y a (flag_of old.sessions s)) ev ∙ ap (λ y. after now s (Launched k ran.Plain) y (flag_of old.sessions s)) ra
+    ∙ launched_after now k s _)
 tied old now e a new (ran_piped k ev is ra w) idle s =
-    flag_at new _ s _ w (flag_launched k Piped refl old.sessions s ∙ none_or_same (same_session (Handler k) s) _ (λ same. ap (flag_of old.sessions) (sym (same-true (Handler k) s same)) ∙ no_flag old.sessions k Starting refl is))
-    ∙ sym (ap (λ y. after now s y a (flag_of old.sessions s)) ev ∙ ap (λ y. after now s (Launched k ran.Piped) y (flag_of old.sessions s)) ra ∙ piped_after now k s _)
+    flag_at new _ s _ w (flag_launched k Piped refl old.sessions s ∙ none_or_same (same_session (Handler k) s) _
+    (λ same. ap (flag_of old.sessions) (sym (same-true (Handler k) s same)) ∙ no_flag old.sessions k Starting refl is))
+    ∙ sym (ap (λ y. after now s y a (flag_of old.sessions s)) ev ∙ ap (λ y. after now s (Launched k ran.Piped) y (flag_of old.sessions s)) ra
+    ∙ piped_after now k s _)
 tied old now e a new (negates k how payload ev is fails ra w) idle s =
-    flag_at new _ s _ w (flag_launched k Negating refl old.sessions s ∙ none_or_same (same_session (Handler k) s) _ (λ same. ap (flag_of old.sessions) (sym (same-true (Handler k) s same)) ∙ no_flag old.sessions k Piped refl is))
-    ∙ sym (ap (λ y. after now s y a (flag_of old.sessions s)) ev ∙ ap (λ y. after now s (Ended k how payload) y (flag_of old.sessions s)) ra ∙ negated_after now k how payload s _)
+    flag_at new _ s _ w (flag_launched k Negating refl old.sessions s ∙ none_or_same (same_session (Handler k) s) _
+    (λ same. ap (flag_of old.sessions) (sym (same-true (Handler k) s same)) ∙ no_flag old.sessions k Piped refl is))
+    ∙ sym (ap (λ y. after now s y a (flag_of old.sessions s)) ev ∙ ap (λ y. after now s (Ended k how payload) y (flag_of old.sessions s)) ra
+    ∙ negated_after now k how payload s _)
 tied old now e a new (failed k st ev is launches ra w) idle s =
     flag_at new _ s _ w (flag_ended now k (Negative error.NoKey) old s)
-    ∙ sym (ap (λ y. after now s y a (flag_of old.sessions s)) ev ∙ ap (λ y. after now s (Launched k ran.Failed) y (flag_of old.sessions s)) ra ∙ failed_after now k s _)
+    ∙ sym (ap (λ y. after now s y a (flag_of old.sessions s)) ev ∙ ap (λ y. after now s (Launched k ran.Failed) y (flag_of old.sessions s)) ra
+    ∙ failed_after now k s _)
 tied old now e a new (finished k how payload st condition ev is running final ra w) idle s =
     flag_at new _ s _ w (flag_ended now k condition old s)
-    ∙ sym (ap (λ y. after now s y a (flag_of old.sessions s)) ev ∙ ap (λ y. after now s (Ended k how payload) y (flag_of old.sessions s)) ra ∙ finished_after now k how payload s _)
+    ∙ sym (ap (λ y. after now s y a (flag_of old.sessions s)) ev ∙ ap (λ y. after now s (Ended k how payload) y (flag_of old.sessions s)) ra
+    ∙ finished_after now k how payload s _)

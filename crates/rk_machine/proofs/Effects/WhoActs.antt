@@ -30,7 +30,8 @@ client_acts w n asker is = by_session (map.get w.sessions.clients n) is
         let same : as_client s c ≡ asker = some_same e in
         (ap (λ (x : Asker). Some x.context) same, sym (ap (λ (x : Asker). x.depth) same))
 
-    by_session : (o : Option Session) → option_and_then client_asker o ≡ Some asker → (option_and_then (λ (one : Session). one.context) o ≡ Some asker.context) × (asker.depth ≡ 1)
+    by_session : (o : Option Session) → option_and_then client_asker o ≡ Some asker
+        → (option_and_then (λ (one : Session). one.context) o ≡ Some asker.context) × (asker.depth ≡ 1)
     by_session None e = absurd (none_some e)
     by_session (Some s) e = by_context s s.context e
 
@@ -52,7 +53,8 @@ no_context w n none = by_session (map.get w.sessions.clients n) none
 assumes_own : (a : Sessions) (j k : ℕ) → Goods a → option_and_then (λ (s : Session). s.assumed) (session_of a (Handler j)) ≡ Some k → k ≡ j
 assumes_own a j k good h = in_construction (map.get a.constructions j) refl h
   where
-    in_construction : (o : Option Construction) → map.get a.constructions j ≡ o → option_and_then (λ (s : Session). s.assumed) (option_and_then (λ c. handler_in c.stage) o) ≡ Some k → k ≡ j
+    in_construction : (o : Option Construction) → map.get a.constructions j ≡ o
+        → option_and_then (λ (s : Session). s.assumed) (option_and_then (λ c. handler_in c.stage) o) ≡ Some k → k ≡ j
     in_construction None is e = absurd (none_some e)
     in_construction (Some c) is e = (good j (shape c) k (ap (option_map shape) is) e).0
 
@@ -74,7 +76,8 @@ handler_acts w j asker good h = acting (session_of w.sessions (Handler j)) refl 
     assuming s None is e = absurd (none_some e)
     assuming s (Some k) is e =
         by_authority s k (unspent w.sessions j)
-        (ap (λ o. option_map (handler_asker s k) o) (sym (ap (option_and_then (unspent w.sessions)) is ∙ ap (unspent w.sessions) (assumes_own w.sessions j k good is))) ∙ e)
+        (ap (λ o. option_map (handler_asker s k) o) (sym (ap (option_and_then (unspent w.sessions)) is
+        ∙ ap (unspent w.sessions) (assumes_own w.sessions j k good is))) ∙ e)
 
     acting : (o : Option Session) → session_of w.sessions (Handler j) ≡ o
         → option_and_then (λ s. option_and_then (λ k. option_map (handler_asker s k) (assumed_authority w.sessions (Handler j))) s.assumed) o ≡ Some asker

@@ -25,5 +25,6 @@ lawful from (s ∷ before) w run = (
 )
 
 -- a step more makes a run that obeys them
-pub continues : (from : Beginning) (past : List Past) (old new : World) (s : Past) → Run from past old → Step old s.now s.event s.answer new → ContinuesTo from (s ∷ past) new
+pub continues : (from : Beginning) (past : List Past) (old new : World) (s : Past) → Run from past old → Step old s.now s.event s.answer new
+    → ContinuesTo from (s ∷ past) new
 continues from past old new s run step = let longer : Run from (s ∷ past) new = (old, run, step) in (longer, lawful from (s ∷ past) new longer)

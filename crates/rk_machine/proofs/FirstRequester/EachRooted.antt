@@ -51,10 +51,12 @@ pub record KnowsRoots (past : List Past) (w : World) : Type 0 where
 -- ---- the list's side
 
 module _ (s : Past) (before : List Past) where
-  root_later : (k : ℕ) (o : Option SessionId) → starter_in k s.event s.answer ≡ o → root_of (s ∷ before) (Handler k) ≡ option_map_or (λ t. root_of before t) o (root_of before (Handler k))
+  root_later : (k : ℕ) (o : Option SessionId) → starter_in k s.event s.answer ≡ o
+      → root_of (s ∷ before) (Handler k) ≡ option_map_or (λ t. root_of before t) o (root_of before (Handler k))
   root_later k o is = ap (λ v. option_map_or (λ t. root_of before t) v (root_of before (Handler k))) is
 
-  root_client : (n : ℕ) (o : Option Root) → hello_in n s.event s.answer ≡ o → root_of (s ∷ before) (Client n) ≡ option_map_or (λ r. Some r) o (root_of before (Client n))
+  root_client : (n : ℕ) (o : Option Root) → hello_in n s.event s.answer ≡ o
+      → root_of (s ∷ before) (Client n) ≡ option_map_or (λ r. Some r) o (root_of before (Client n))
   root_client n o is = ap (λ v. option_map_or (λ r. Some r) v (root_of before (Client n))) is
 
   holds_after : (n ring : ℕ) (gone : Bool) (o : Option Root) → (is_done s.answer && goes s.event (Client n)) ≡ gone → hello_in n s.event s.answer ≡ o
@@ -74,9 +76,11 @@ asker_root past w (Handler j) asker good known is =
 
 -- ---- each step
 
-module _ (old : World) (s : Past) (new : World) (before : List Past) (good : Goods old.sessions) (keeps : KeepsDrawn old new) (known : KnowsRoots before old) where
+module _ (old : World) (s : Past) (new : World) (before : List Past) (good : Goods old.sessions) (keeps : KeepsDrawn old new)
+    (known : KnowsRoots before old) where
   -- an authority that was there keeps its root, where no start is of its key
-  still_rooted : (k : ℕ) (one : Authority) → starter_in k s.event s.answer ≡ None → ((r : ℕ) (j : RingKind) → is_drawn old r ≡ true → kind_at new r ≡ Some j → kind_at old r ≡ Some j)
+  still_rooted : (k : ℕ) (one : Authority) → starter_in k s.event s.answer ≡ None
+      → ((r : ℕ) (j : RingKind) → is_drawn old r ≡ true → kind_at new r ≡ Some j → kind_at old r ≡ Some j)
       → unspent old.sessions k ≡ Some one → (root_of (s ∷ before) (Handler k) ≡ Some (root_in one.context)) × Fits new one.context
   still_rooted k one none fewer is =
       let was = known.authorities k one is in
@@ -86,17 +90,22 @@ module _ (old : World) (s : Past) (new : World) (before : List Past) (good : Goo
       → (n : ℕ) (c : Context) → context_at new.sessions n ≡ Some c → root_of (s ∷ before) (Client n) ≡ Some (root_in c)
   clients_rest hello contexts n c is = root_client s before n None (hello n) ∙ known.rooted n c (sym (contexts n) ∙ is)
 
-  holders_rest : IsCalm s.event s.answer → ((n : ℕ) → context_at new.sessions n ≡ context_at old.sessions n) → (n ring : ℕ) → holds n ring (s ∷ before) ≡ holds_in (context_at new.sessions n) ring
-  holders_rest quiet contexts n ring = holds_after s before n ring false None (quiet.gone n) (quiet.hello n) ∙ known.holders n ring ∙ ap (λ o. holds_in o ring) (sym (contexts n))
+  holders_rest : IsCalm s.event s.answer → ((n : ℕ) → context_at new.sessions n ≡ context_at old.sessions n) → (n ring : ℕ)
+      → holds n ring (s ∷ before) ≡ holds_in (context_at new.sessions n) ring
+  holders_rest quiet contexts n ring =
+      holds_after s before n ring false None (quiet.gone n) (quiet.hello n) ∙ known.holders n ring ∙ ap (λ o. holds_in o ring) (sym (contexts n))
 
   -- an authority that comes has its asker's context
-  begun_rooted : (t : SessionId) (q : ℕ) (x : Ask) (asker : Asker) (subject : Subject) (authority : Authority) → s.event ≡ Asked t x → s.answer ≡ Start q subject → asker_of old t ≡ Some asker
+  begun_rooted : (t : SessionId) (q : ℕ) (x : Ask) (asker : Asker) (subject : Subject) (authority : Authority) → s.event ≡ Asked t x
+      → s.answer ≡ Start q subject → asker_of old t ≡ Some asker
       → authority.context ≡ asker.context → ((r : ℕ) (j : RingKind) → is_drawn old r ≡ true → kind_at new r ≡ Some j → kind_at old r ≡ Some j)
-      → (k : ℕ) (one : Authority) (b : Bool) → nat_eq q k ≡ b → cond b (Some authority) (unspent old.sessions k) ≡ Some one → (root_of (s ∷ before) (Handler k) ≡ Some (root_in one.context)) × Fits new one.context
+      → (k : ℕ) (one : Authority) (b : Bool) → nat_eq q k ≡ b → cond b (Some authority) (unspent old.sessions k) ≡ Some one
+      → (root_of (s ∷ before) (Handler k) ≡ Some (root_in one.context)) × Fits new one.context
   begun_rooted t q x asker subject authority ev ra is same fewer k one true at own =
       let by = asker_root before old t asker good known is in
       let context : asker.context ≡ one.context = sym same ∙ ap (λ (a : Authority). a.context) (some_same own) in (
-        root_later s before k (Some t) ((λ i. starter_in k (ev i) (ra i)) ∙ ap (λ b. cond b (Some t) None) at) ∙ by.0 ∙ ap (λ (c : Context). Some (root_in c)) context,
+        root_later s before k (Some t) ((λ i. starter_in k (ev i) (ra i)) ∙ ap (λ b. cond b (Some t) None) at) ∙ by.0
+            ∙ ap (λ (c : Context). Some (root_in c)) context,
         fits_on old new one.context keeps fewer (subst (λ (c : Context). Fits old c) context by.1),
       )
   begun_rooted t q x asker subject authority ev ra is same fewer k one false at own =
@@ -104,15 +113,19 @@ module _ (old : World) (s : Past) (new : World) (before : List Past) (good : Goo
 
   -- the client that said HELLO has the root that it was told, and the others theirs
   clients_come : (n : ℕ) (c : Context) → ((m : ℕ) → hello_in m s.event s.answer ≡ cond (nat_eq n m) (Some (root_in c)) None)
-      → (m : ℕ) (d : Context) (b : Bool) → nat_eq n m ≡ b → cond b (Some c) (context_at old.sessions m) ≡ Some d → root_of (s ∷ before) (Client m) ≡ Some (root_in d)
+      → (m : ℕ) (d : Context) (b : Bool) → nat_eq n m ≡ b → cond b (Some c) (context_at old.sessions m) ≡ Some d
+      → root_of (s ∷ before) (Client m) ≡ Some (root_in d)
   clients_come n c hello m d true at is =
       root_client s before m (Some (root_in c)) (hello m ∙ ap (λ b. cond b (Some (root_in c)) None) at) ∙ ap (λ (x : Context). Some (root_in x)) (some_same is)
   clients_come n c hello m d false at is = root_client s before m None (hello m ∙ ap (λ b. cond b (Some (root_in c)) None) at) ∙ known.rooted m d is
 
-  holders_come : (n : ℕ) (c : Context) → ((m : ℕ) → hello_in m s.event s.answer ≡ cond (nat_eq n m) (Some (root_in c)) None) → ((m : ℕ) → (is_done s.answer && goes s.event (Client m)) ≡ false)
+  holders_come : (n : ℕ) (c : Context) → ((m : ℕ) → hello_in m s.event s.answer ≡ cond (nat_eq n m) (Some (root_in c)) None)
+      → ((m : ℕ) → (is_done s.answer && goes s.event (Client m)) ≡ false)
       → (m ring : ℕ) (b : Bool) → nat_eq n m ≡ b → holds m ring (s ∷ before) ≡ holds_in (cond b (Some c) (context_at old.sessions m)) ring
-  holders_come n c hello gone m ring true at = holds_after s before m ring false (Some (root_in c)) (gone m) (hello m ∙ ap (λ b. cond b (Some (root_in c)) None) at)
-  holders_come n c hello gone m ring false at = holds_after s before m ring false None (gone m) (hello m ∙ ap (λ b. cond b (Some (root_in c)) None) at) ∙ known.holders m ring
+  holders_come n c hello gone m ring true at =
+      holds_after s before m ring false (Some (root_in c)) (gone m) (hello m ∙ ap (λ b. cond b (Some (root_in c)) None) at)
+  holders_come n c hello gone m ring false at =
+      holds_after s before m ring false None (gone m) (hello m ∙ ap (λ b. cond b (Some (root_in c)) None) at) ∙ known.holders m ring
 
   -- a ring of old comes under no serial again
   not_again : (c : Context) → Made c old new → (r : ℕ) (k : RingKind) → is_drawn old r ≡ true → kind_at new r ≡ Some k → kind_at old r ≡ Some k
@@ -122,7 +135,8 @@ module _ (old : World) (s : Past) (new : World) (before : List Past) (good : Goo
       by_origin (inl was) = was
       by_origin (inr comes) = absurd (clash _ comes.0 drawn)
 
-  clients_go : (n m : ℕ) (d : Context) (b : Bool) → ((m : ℕ) → hello_in m s.event s.answer ≡ None) → cond b None (context_at old.sessions m) ≡ Some d → root_of (s ∷ before) (Client m) ≡ Some (root_in d)
+  clients_go : (n m : ℕ) (d : Context) (b : Bool) → ((m : ℕ) → hello_in m s.event s.answer ≡ None) → cond b None (context_at old.sessions m) ≡ Some d
+      → root_of (s ∷ before) (Client m) ≡ Some (root_in d)
   clients_go n m d true hello is = absurd (none_some is)
   clients_go n m d false hello is = root_client s before m None (hello m) ∙ known.rooted m d is
 
@@ -145,7 +159,8 @@ module _ (old : World) (s : Past) (new : World) (before : List Past) (good : Goo
         rooted = clients_rest quiet.hello contexts;
         holders = holders_rest quiet contexts;
         authorities = λ k one at.
-            begun_rooted t q x asker (subject_of old q query callout) authority ev ra is context (λ r j drawn here. sym (rings r) ∙ here) k one (nat_eq q k) refl (sym (issued k) ∙ at);
+            begun_rooted t q x asker (subject_of old q query callout) authority ev ra is context (λ r j drawn here. sym (rings r) ∙ here) k one
+            (nat_eq q k) refl (sym (issued k) ∙ at);
       }
   roots_after (one_comes n c hello gone none fresh contexts made authorities) = record {
     held = held_comes old new n c fresh contexts (made known.held.sound) known.held;
@@ -157,7 +172,8 @@ module _ (old : World) (s : Past) (new : World) (before : List Past) (good : Goo
     held = held_goes old new n contexts rings keeps known.held;
     rooted = λ m d is. clients_go n m d (nat_eq n m) hello (sym (contexts m) ∙ is);
     holders = λ m ring. holders_go n m ring (nat_eq n m) (gone m) (hello m) ∙ ap (λ o. holds_in o ring) (sym (contexts m));
-    authorities = λ k one is. still_rooted k one (none k) (λ r j drawn at. was_some (goes_in old n r) (kind_at old r) j (sym (rings r) ∙ at)) (authorities k one is);
+    authorities =
+        λ k one is. still_rooted k one (none k) (λ r j drawn at. was_some (goes_in old n r) (kind_at old r) j (sym (rings r) ∙ at)) (authorities k one is);
   }
 
   -- ---- the law
@@ -220,12 +236,16 @@ roots_known from [] w run = subst (λ (v : World). KnowsRoots [] v) (sym run) (n
 roots_known from (s ∷ before) w run =
     let known = roots_known from before run.0 run.1 in
     let is = effect run.0 s.now s.event s.answer w run.2 in
-    roots_after run.0 s w before (knows from before run.0 run.1).0 (keeps_drawn run.0 s.now s.event s.answer w is) known (move run.0 s.now s.event s.answer w is)
+    roots_after run.0 s w before (knows from before run.0 run.1).0 (keeps_drawn run.0 s.now s.event s.answer w is) known
+    (move run.0 s.now s.event s.answer w is)
 
 -- each start has the context of its root
 pub each_rooted : (from : Beginning) (past : List Past) (w : World) → Run from past w → EachRooted past
 each_rooted from [] w run = tt
 each_rooted from (s ∷ before) w run =
     let known = roots_known from before run.0 run.1 in
-    let is = effect run.0 s.now s.event s.answer w run.2 in
-    (rooted_in run.0 s w before (knows from before run.0 run.1).0 (keeps_drawn run.0 s.now s.event s.answer w is) known (move run.0 s.now s.event s.answer w is), each_rooted from before run.0 run.1)
+    let is = effect run.0 s.now s.event s.answer w run.2 in (
+      rooted_in run.0 s w before (knows from before run.0 run.1).0 (keeps_drawn run.0 s.now s.event s.answer w is) known
+          (move run.0 s.now s.event s.answer w is),
+      each_rooted from before run.0 run.1,
+    )

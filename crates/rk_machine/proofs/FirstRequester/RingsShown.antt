@@ -46,7 +46,8 @@ named o r is = ap (λ p. unwrap_or p 0 == r) is ∙ eq-eqb r r refl
 answered : (c : Context) (r : ℕ) (k : RingKind) → Has c r k → has_ring (root_in c) r ≡ true
 answered c r k (its_thread same is) = first_true (unwrap_or c.thread 0 == r) _ (named c.thread r is)
 answered c r k (its_process same is) = second_true (unwrap_or c.thread 0 == r) _ (first_true (unwrap_or c.process 0 == r) _ (named c.process r is))
-answered c r k (its_session same is) = second_true (unwrap_or c.thread 0 == r) _ (second_true (unwrap_or c.process 0 == r) _ (first_true (c.session == r) _ (eq-eqb c.session r is)))
+answered c r k (its_session same is) =
+    second_true (unwrap_or c.thread 0 == r) _ (second_true (unwrap_or c.process 0 == r) _ (first_true (c.session == r) _ (eq-eqb c.session r is)))
 
 not_none : (o : Option ℕ) (r : ℕ) → (r ≡ 0 → ⊥) → unwrap_or o 0 ≡ r → o ≡ Some r
 not_none None r positive is = absurd (positive (sym is))
@@ -55,7 +56,8 @@ not_none (Some q) r positive is = ap (λ (n : ℕ). Some n) is
 has_answered : (c : Context) (r : ℕ) → (r ≡ 0 → ⊥) → has_ring (root_in c) r ≡ true → (k : RingKind) × Has c r k
 has_answered c r positive h = by_tests (unwrap_or c.thread 0 == r) (unwrap_or c.process 0 == r) (c.session == r) refl refl refl h
   where
-    by_tests : (t p s : Bool) → (unwrap_or c.thread 0 == r) ≡ t → (unwrap_or c.process 0 == r) ≡ p → (c.session == r) ≡ s → (t || (p || (s || false))) ≡ true → (k : RingKind) × Has c r k
+    by_tests : (t p s : Bool) → (unwrap_or c.thread 0 == r) ≡ t → (unwrap_or c.process 0 == r) ≡ p → (c.session == r) ≡ s → (t || (p || (s || false))) ≡ true
+        → (k : RingKind) × Has c r k
     by_tests true p s thread process session h = (kind.Thread, its_thread refl (not_none c.thread r positive (eqb-true _ r thread)))
     by_tests false true s thread process session h = (kind.Process, its_process refl (not_none c.process r positive (eqb-true _ r process)))
     by_tests false false true thread process session h = (kind.Session, its_session refl (eqb-true c.session r session))
@@ -93,7 +95,8 @@ client_fits w n c h is r k has =
     }
 
 -- and stay so while none comes under their serials
-pub fits_on : (old new : World) (c : Context) → KeepsDrawn old new → ((r : ℕ) (k : RingKind) → is_drawn old r ≡ true → kind_at new r ≡ Some k → kind_at old r ≡ Some k) → Fits old c → Fits new c
+pub fits_on : (old new : World) (c : Context) → KeepsDrawn old new
+    → ((r : ℕ) (k : RingKind) → is_drawn old r ≡ true → kind_at new r ≡ Some k → kind_at old r ≡ Some k) → Fits old c → Fits new c
 fits_on old new c keeps fewer fits r k has =
     let was = fits r k has in
     record {

@@ -52,19 +52,23 @@ held_same old new rings contexts keeps h = record {
 
 -- ---- a client gets its context
 
-module _ (old new : World) (n : ℕ) (c : Context) (none : context_at old.sessions n ≡ None) (contexts : (m : ℕ) → context_at new.sessions m ≡ cond (nat_eq n m) (Some c) (context_at old.sessions m))
+module _ (old new : World) (n : ℕ) (c : Context) (none : context_at old.sessions n ≡ None)
+    (contexts : (m : ℕ) → context_at new.sessions m ≡ cond (nat_eq n m) (Some c) (context_at old.sessions m))
     (made : Made c old new) (h : Held old) where
   -- whose context it is
   whose : (m : ℕ) (d : Context) → context_at new.sessions m ≡ Some d → ((n ≡ m) × (c ≡ d)) ⊎ (context_at old.sessions m ≡ Some d)
   whose m d is = by_number (nat_eq n m) refl (sym (contexts m) ∙ is)
     where
-      by_number : (b : Bool) → nat_eq n m ≡ b → cond b (Some c) (context_at old.sessions m) ≡ Some d → ((n ≡ m) × (c ≡ d)) ⊎ (context_at old.sessions m ≡ Some d)
+      by_number : (b : Bool) → nat_eq n m ≡ b → cond b (Some c) (context_at old.sessions m) ≡ Some d
+          → ((n ≡ m) × (c ≡ d)) ⊎ (context_at old.sessions m ≡ Some d)
       by_number true same e = inl (eqb-true n m same, some_same e)
       by_number false other e = inr e
 
   new_rings : (d e : Context) (r : ℕ) (m : ℕ) → c ≡ d → context_at old.sessions m ≡ Some e → Share d e r → ⊥
-  new_rings d e r m same is (inl both) = none_some (sym (made.thread_new r (ap (λ (x : Context). x.thread) same ∙ both.0)) ∙ h.lives m e is r kind.Thread (its_thread refl both.1))
-  new_rings d e r m same is (inr both) = none_some (sym (made.process_new r (ap (λ (x : Context). x.process) same ∙ both.0)) ∙ h.lives m e is r kind.Process (its_process refl both.1))
+  new_rings d e r m same is (inl both) =
+      none_some (sym (made.thread_new r (ap (λ (x : Context). x.thread) same ∙ both.0)) ∙ h.lives m e is r kind.Thread (its_thread refl both.1))
+  new_rings d e r m same is (inr both) =
+      none_some (sym (made.process_new r (ap (λ (x : Context). x.process) same ∙ both.0)) ∙ h.lives m e is r kind.Process (its_process refl both.1))
 
   turned : (d e : Context) (r : ℕ) → Share d e r → Share e d r
   turned d e r (inl both) = inl (both.1, both.0)
@@ -74,7 +78,8 @@ module _ (old new : World) (n : ℕ) (c : Context) (none : context_at old.sessio
   living m d (inl its) r k has = made.lives r k (subst (λ (x : Context). Has x r k) (sym its.1) has)
   living m d (inr was) r k has = made.grown.stays r k (h.lives m d was r k has)
 
-  apart : (l m : ℕ) (d e : Context) (r : ℕ) → ((n ≡ l) × (c ≡ d)) ⊎ (context_at old.sessions l ≡ Some d) → ((n ≡ m) × (c ≡ e)) ⊎ (context_at old.sessions m ≡ Some e) → Share d e r → l ≡ m
+  apart : (l m : ℕ) (d e : Context) (r : ℕ) → ((n ≡ l) × (c ≡ d)) ⊎ (context_at old.sessions l ≡ Some d)
+      → ((n ≡ m) × (c ≡ e)) ⊎ (context_at old.sessions m ≡ Some e) → Share d e r → l ≡ m
   apart l m d e r (inl one) (inl two) share = sym one.0 ∙ two.0
   apart l m d e r (inl one) (inr two) share = absurd (new_rings d e r m one.1 two share)
   apart l m d e r (inr one) (inl two) share = absurd (new_rings e d r l two.1 one (turned d e r share))
@@ -91,7 +96,8 @@ module _ (old new : World) (n : ℕ) (c : Context) (none : context_at old.sessio
   its_own r k stays (inl users) = absurd (clash (is_users_kind k) stays users)
   its_own r k stays (inr has) = (n, c, contexts n ∙ ap (λ b. cond b (Some c) (context_at old.sessions n)) (eq-eqb n n refl), has)
 
-  holding : (r : ℕ) (k : RingKind) → is_users_kind k ≡ false → (kind_at old r ≡ Some k) ⊎ ((is_drawn old r ≡ false) × ((is_users_kind k ≡ true) ⊎ Has c r k)) → IsHeld new r k
+  holding : (r : ℕ) (k : RingKind) → is_users_kind k ≡ false → (kind_at old r ≡ Some k) ⊎ ((is_drawn old r ≡ false) × ((is_users_kind k ≡ true) ⊎ Has c r k))
+      → IsHeld new r k
   holding r k stays (inl was) = let by = h.kept r k was stays in (by.0, by.1, still_there by.0 by.1 by.2, by.3)
   holding r k stays (inr comes) = its_own r k stays comes.1
 
@@ -150,21 +156,26 @@ shared_by a n m c r other is same = by_shared (is_shared a n r) refl
     by_shared : (b : Bool) → is_shared a n r ≡ b → b ≡ true
     by_shared true e = refl
     by_shared false e = absurd (clash _ (no_entry _ a.clients e m there.0 there.1)
-        ((λ i. not (nat_eq_equiv.symm m n i) && option_map_or (λ (x : Context). x.session == r) (there.2 i) false) ∙ (λ i. not (other i) && eq-eqb c.session r same i)))
+        ((λ i. not (nat_eq_equiv.symm m n i) && option_map_or (λ (x : Context). x.session == r) (there.2 i) false)
+        ∙ (λ i. not (other i) && eq-eqb c.session r same i)))
 
 -- where it is shared, another client has it
 sharer : (a : Sessions) (n r : ℕ) → is_shared a n r ≡ true → (m : ℕ) × (c : Context) × (nat_eq n m ≡ false) × (context_at a m ≡ Some c) × (c.session ≡ r)
 sharer a n r is = by_entry found.0 found.1 found.2 found.3
   where
-    found : (m : ℕ) × (s : Session) × (map.get a.clients m ≡ Some s) × ((not (nat_eq m n) && option_map_or (λ (c : Context). c.session == r) s.context false) ≡ true)
+    found : (m : ℕ) × (s : Session) × (map.get a.clients m ≡ Some s)
+        × ((not (nat_eq m n) && option_map_or (λ (c : Context). c.session == r) s.context false) ≡ true)
     found = some_entry (λ (e : ℕ × Session). not (nat_eq e.0 n) && option_map_or (λ (c : Context). c.session == r) e.1.context false) a.clients is
 
-    by_context : (m : ℕ) (s : Session) (o : Option Context) → map.get a.clients m ≡ Some s → s.context ≡ o → nat_eq m n ≡ false → option_map_or (λ (c : Context). c.session == r) o false ≡ true
+    by_context : (m : ℕ) (s : Session) (o : Option Context) → map.get a.clients m ≡ Some s → s.context ≡ o → nat_eq m n ≡ false
+        → option_map_or (λ (c : Context). c.session == r) o false ≡ true
         → (m : ℕ) × (c : Context) × (nat_eq n m ≡ false) × (context_at a m ≡ Some c) × (c.session ≡ r)
     by_context m s None at context other e = absurd (false_true e)
-    by_context m s (Some c) at context other e = (m, c, nat_eq_equiv.symm n m ∙ other, ap (option_and_then (λ (one : Session). one.context)) at ∙ context, eqb-true c.session r e)
+    by_context m s (Some c) at context other e =
+        (m, c, nat_eq_equiv.symm n m ∙ other, ap (option_and_then (λ (one : Session). one.context)) at ∙ context, eqb-true c.session r e)
 
-    by_entry : (m : ℕ) (s : Session) → map.get a.clients m ≡ Some s → (not (nat_eq m n) && option_map_or (λ (c : Context). c.session == r) s.context false) ≡ true
+    by_entry : (m : ℕ) (s : Session) → map.get a.clients m ≡ Some s
+        → (not (nat_eq m n) && option_map_or (λ (c : Context). c.session == r) s.context false) ≡ true
         → (m : ℕ) × (c : Context) × (nat_eq n m ≡ false) × (context_at a m ≡ Some c) × (c.session ≡ r)
     by_entry m s at e = by_number (nat_eq m n) refl e
       where
@@ -199,7 +210,8 @@ module _ (old new : World) (n : ℕ) (contexts : (m : ℕ) → context_at new.se
       no_process : (d : Context) → context_at old.sessions n ≡ Some d → is_ring d.process r ≡ true → ⊥
       no_process d at e = let own = ring_is d.process r e in not_alone d at (inr (own, has_process c r (both_have d kind.Process at (its_process refl own))))
 
-      session_stays : (d : Context) (b : Bool) → context_at old.sessions n ≡ Some d → (d.session == r) ≡ b → (b && not (is_shared old.sessions n d.session)) ≡ false
+      session_stays : (d : Context) (b : Bool) → context_at old.sessions n ≡ Some d → (d.session == r) ≡ b
+          → (b && not (is_shared old.sessions n d.session)) ≡ false
       session_stays d true at e =
           let own : d.session ≡ r = eqb-true d.session r e in
           ap not (shared_by old.sessions n m c d.session other is (has_session c r (both_have d kind.Session at (its_session refl own)) ∙ sym own))
@@ -207,10 +219,13 @@ module _ (old new : World) (n : ℕ) (contexts : (m : ℕ) → context_at new.se
 
       by_context : (o : Option Context) → context_at old.sessions n ≡ o → option_map_or (λ c. goes_with old n c r) o false ≡ false
       by_context None at = refl
-      by_context (Some d) at = (λ i. not_true (is_ring d.thread r) (no_thread d at) i || not_true (is_ring d.process r) (no_process d at) i || session_stays d (d.session == r) at refl i)
+      by_context (Some d) at =
+          (λ i. not_true (is_ring d.thread r) (no_thread d at) i || not_true (is_ring d.process r) (no_process d at) i || session_stays d
+          (d.session == r) at refl i)
 
   -- a ring that does not go has another client
-  passed_on : (r : ℕ) (k : RingKind) (d : Context) → goes_in old n r ≡ false → context_at old.sessions n ≡ Some d → Has d r k → (m : ℕ) × (c : Context) × (nat_eq n m ≡ false) × (context_at old.sessions m ≡ Some c) × Has c r k
+  passed_on : (r : ℕ) (k : RingKind) (d : Context) → goes_in old n r ≡ false → context_at old.sessions n ≡ Some d → Has d r k
+      → (m : ℕ) × (c : Context) × (nat_eq n m ≡ false) × (context_at old.sessions m ≡ Some c) × Has c r k
   passed_on r k d stays at has = by_ring has
     where
       stays_with : goes_with old n d r ≡ false
@@ -224,7 +239,9 @@ module _ (old new : World) (n : ℕ) (contexts : (m : ℕ) → context_at new.se
         where
           by_test : (b : Bool) → is_shared old.sessions n r ≡ b → b ≡ true
           by_test true e = refl
-          by_test false e = absurd (clash _ (or_right (is_ring d.thread r || is_ring d.process r) _ stays_with) ((λ i. eq-eqb d.session r same i && not (is_shared old.sessions n (same i))) ∙ ap not e))
+          by_test false e =
+              absurd (clash _ (or_right (is_ring d.thread r || is_ring d.process r) _ stays_with)
+              ((λ i. eq-eqb d.session r same i && not (is_shared old.sessions n (same i))) ∙ ap not e))
 
       by_ring : Has d r k → (m : ℕ) × (c : Context) × (nat_eq n m ≡ false) × (context_at old.sessions m ≡ Some c) × Has c r k
       by_ring (its_thread same is) = absurd (clash _ (or_left (is_ring d.thread r) _ own_stay) (is_ring_of d.thread r is))
@@ -238,7 +255,9 @@ module _ (old new : World) (n : ℕ) (contexts : (m : ℕ) → context_at new.se
       remains m c other is = contexts m ∙ ap (λ b. cond b None (context_at old.sessions m)) other ∙ is
 
       by_number : (b : Bool) → nat_eq n by.0 ≡ b → IsHeld new r k
-      by_number true same = let one = passed_on r k by.1 stays (ap (context_at old.sessions) (eqb-true n by.0 same) ∙ by.2) by.3 in (one.0, one.1, remains one.0 one.1 one.2 one.3, one.4)
+      by_number true same =
+          let one = passed_on r k by.1 stays (ap (context_at old.sessions) (eqb-true n by.0 same) ∙ by.2) by.3 in
+          (one.0, one.1, remains one.0 one.1 one.2 one.3, one.4)
       by_number false other = (by.0, by.1, remains by.0 by.1 other by.2, by.3)
 
   none_at : (r : ℕ) (b : Bool) → kind_at old r ≡ None → cond b None (kind_at old r) ≡ None
@@ -254,7 +273,12 @@ module _ (old new : World) (n : ℕ) (contexts : (m : ℕ) → context_at new.se
 
   pub held_goes : Held new
   held_goes = record {
-    sound = record { zero = rings 0 ∙ none_at 0 (goes_in old n 0) h.sound.zero; drawn = λ r is. rings r ∙ none_at r (goes_in old n r) (h.sound.drawn r (keeps r is)) };
+    sound =
+        record {
+          zero = rings 0 ∙ none_at 0 (goes_in old n 0) h.sound.zero;
+          drawn = λ r is. rings r
+              ∙ none_at r (goes_in old n r) (h.sound.drawn r (keeps r is));
+        };
     lives = λ m c is r k has.
         let was = others m c is in
         rings r ∙ ap (λ b. cond b None (kind_at old r)) (not_going m c r k was.0 was.1 has) ∙ h.lives m c was.1 r k has;

@@ -46,11 +46,13 @@ if_none false error h = refl
 
 -- ---- what was not refused
 
-pub unless : (r : Option Errno) (old : World) (a : Answer) (new : World) (P X : Type 0) → ((error : Errno) → a ≡ Refused error → new ≡ old → X) → (r ≡ None → P → X) → Unless r old a new P → X
+pub unless : (r : Option Errno) (old : World) (a : Answer) (new : World) (P X : Type 0) → ((error : Errno) → a ≡ Refused error → new ≡ old → X)
+    → (r ≡ None → P → X) → Unless r old a new P → X
 unless None old a new P X out on h = on refl h
 unless (Some error) old a new P X out on h = out error h.0 h.1
 
-pub or_memory : (old : World) (a : Answer) (new : World) (P X : Type 0) → ((error : Errno) → a ≡ Refused error → new ≡ old → X) → (P → X) → OrNoMemory old a new P → X
+pub or_memory : (old : World) (a : Answer) (new : World) (P X : Type 0) → ((error : Errno) → a ≡ Refused error → new ≡ old → X) → (P → X)
+    → OrNoMemory old a new P → X
 or_memory old a new P X out on (inl h) = out errno.Enomem h.0 h.1
 or_memory old a new P X out on (inr h) = on h
 

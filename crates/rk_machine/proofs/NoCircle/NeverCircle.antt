@@ -56,7 +56,8 @@ module _ (f g : SessionId → Option ℕ) (s0 : SessionId) (k0 : ℕ) where
   one_next k (inl same) = inr (inl same.0, inl (ap Handler (sym same.1)))
   one_next k (inr e) = inl (next k e)
 
-  one_later : {s t : SessionId} (k : ℕ) → ((s ≡ s0) × (k ≡ k0)) ⊎ (f s ≡ Some k) → Follows f (Handler k) t ⊎ (Reaches f (Handler k) s0 × Reaches f (Handler k0) t)
+  one_later : {s t : SessionId} (k : ℕ) → ((s ≡ s0) × (k ≡ k0)) ⊎ (f s ≡ Some k)
+      → Follows f (Handler k) t ⊎ (Reaches f (Handler k) s0 × Reaches f (Handler k0) t)
       → Follows f s t ⊎ (Reaches f s s0 × Reaches f (Handler k0) t)
   one_later {s} {t} k (inl same) (inl rest) = inr (inl same.0, inr (subst (λ (n : ℕ). Follows f (Handler n) t) same.1 rest))
   one_later k (inl same) (inr both) = inr (inl same.0, both.1)
@@ -114,10 +115,12 @@ is_there None e h = cc
 is_there (Some s) e h = cc
 
 -- the handler of a key that was never drawn is not there
-new_not_reached : (w : World) (k : ℕ) (t : SessionId) → map.get w.sessions.constructions k ≡ None → is_none (session_of w.sessions t) ≡ false → Reaches (waits_in w) (Handler k) t → ⊥
+new_not_reached : (w : World) (k : ℕ) (t : SessionId) → map.get w.sessions.constructions k ≡ None → is_none (session_of w.sessions t) ≡ false
+    → Reaches (waits_in w) (Handler k) t → ⊥
 new_not_reached w k t none there (inl same) =
     is_there (session_of w.sessions t) (ap (session_of w.sessions) (sym same) ∙ ap (option_and_then (λ (c : Construction). handler_in c.stage)) none) there
-new_not_reached w k t none there (inr h) = no_follow (waits_in w) (ap (λ o. key_in (flag_in (option_and_then (λ (c : Construction). handler_in c.stage) o))) none) h
+new_not_reached w k t none there (inr h) =
+    no_follow (waits_in w) (ap (λ o. key_in (flag_in (option_and_then (λ (c : Construction). handler_in c.stage) o))) none) h
 
 -- ---- each step
 
@@ -131,19 +134,22 @@ data Begun (old : World) (e : Event) (a : Answer) : Type 0 where
   one_begun : (t : SessionId) (k : ℕ) (b : Bool) → ((s : SessionId) → wait_begun s e a ≡ cond (same_session t s) (Some (k, b)) None)
       → (Reaches (waits_in old) (Handler k) t → ⊥) → Begun old e a
 
-module _ (old : World) (now : ℕ) (e : Event) (a : Answer) (new : World) (ties : (s : SessionId) → flag_of new.sessions s ≡ after now s e a (flag_of old.sessions s)) where
+module _ (old : World) (now : ℕ) (e : Event) (a : Answer) (new : World)
+    (ties : (s : SessionId) → flag_of new.sessions s ≡ after now s e a (flag_of old.sessions s)) where
   -- by the waits before the step
   by_before : (s : SessionId) (k : ℕ) → wait_begun s e a ≡ None → waits_in new s ≡ Some k → waits_in old s ≡ Some k
   by_before s k none h =
       cleared_keys (is_wait_ended s (step now e a)) (flag_of old.sessions s) k
-      (sym (ap (λ o. key_in (option_map_or (λ w. Some w) o (cond (is_wait_ended s (step now e a)) None (flag_of old.sessions s)))) none) ∙ sym (ap key_in (ties s)) ∙ h)
+      (sym (ap (λ o. key_in (option_map_or (λ w. Some w) o (cond (is_wait_ended s (step now e a)) None (flag_of old.sessions s)))) none)
+      ∙ sym (ap key_in (ties s)) ∙ h)
 
   by_begun : (t s : SessionId) (m k : ℕ) (b : Bool) (same : Bool) → same_session t s ≡ same → wait_begun s e a ≡ cond same (Some (m, b)) None
       → waits_in new s ≡ Some k → ((s ≡ t) × (k ≡ m)) ⊎ (waits_in old s ≡ Some k)
   by_begun t s m k b true is begun h =
       inl (
         sym (same-true t s is),
-        sym (some_same (sym (ap (λ o. key_in (option_map_or (λ w. Some w) o (cond (is_wait_ended s (step now e a)) None (flag_of old.sessions s)))) begun) ∙ sym (ap key_in (ties s)) ∙ h)),
+        sym (some_same (sym (ap (λ o. key_in (option_map_or (λ w. Some w) o (cond (is_wait_ended s (step now e a)) None (flag_of old.sessions s)))) begun)
+            ∙ sym (ap key_in (ties s)) ∙ h)),
       )
   by_begun t s m k b false is begun h = inr (by_before s k begun h)
 
@@ -208,13 +214,15 @@ waits_known from (s ∷ before) w run =
     let known = waits_known from before run.0 run.1 in
     let is = effect run.0 s.now s.event s.answer w run.2 in
     let idle = idle_known from before run.0 run.1 in
-    let ties : (t : SessionId) → flag_of w.sessions t ≡ after s.now t s.event s.answer (flag_of run.0.sessions t) = tied run.0 s.now s.event s.answer w is idle in
+    let ties : (t : SessionId) → flag_of w.sessions t ≡ after s.now t s.event s.answer (flag_of run.0.sessions t) =
+    tied run.0 s.now s.event s.answer w is idle in
     record {
       same = λ t. ties t ∙ ap (after s.now t s.event s.answer) (known.same t);
       free = free_after run.0 s.now s.event s.answer w ties (begun_by run.0 s.now s.event s.answer w is idle) known.free;
     }
 
-follows_waits : (past : List Past) (w : World) → ((s : SessionId) → flag_of w.sessions s ≡ waited s past) → {s t : SessionId} → WaitsFor past s t → Follows (waits_in w) s t
+follows_waits : (past : List Past) (w : World) → ((s : SessionId) → flag_of w.sessions s ≡ waited s past) → {s t : SessionId} → WaitsFor past s t
+    → Follows (waits_in w) s t
 follows_waits past w same (at_once k starter h) = next k (ap key_in (same _ ∙ h))
 follows_waits past w same (and_further k starter h rest) = later k (ap key_in (same _ ∙ h)) (follows_waits past w same rest)
 

@@ -57,11 +57,13 @@ in_all : (q : ℕ) (p : Past → Bool) (past : List Past) → happened p (since_
 in_all q p [] h = absurd (clash _ refl h)
 in_all q p (s ∷ before) h = by_test (is_negate q s) (λ g. in_all q p before g) h
   where
-    further : (happened p (since_negate q before) → happened p before) → (b : Bool) → (b ≡ true → happened p (s ∷ before)) → (b || list_any p (since_negate q before)) ≡ true → happened p (s ∷ before)
+    further : (happened p (since_negate q before) → happened p before) → (b : Bool) → (b ≡ true → happened p (s ∷ before))
+        → (b || list_any p (since_negate q before)) ≡ true → happened p (s ∷ before)
     further all true here h = here refl
     further all false here h = happened_more p s before (all h)
 
-    by_test : (b : Bool) → (happened p (since_negate q before) → happened p before) → list_any p (cond b [] (s ∷ since_negate q before)) ≡ true → happened p (s ∷ before)
+    by_test : (b : Bool) → (happened p (since_negate q before) → happened p before) → list_any p (cond b [] (s ∷ since_negate q before)) ≡ true
+        → happened p (s ∷ before)
     by_test true all h = absurd (clash _ refl h)
     by_test false all h = further all (p s) (λ now. happened_now p s before now) h
 
@@ -69,7 +71,8 @@ in_all q p (s ∷ before) h = by_test (is_negate q s) (λ g. in_all q p before g
 
 pub record Tied (q : ℕ) (past : List Past) (o : Option Shape) (drawn : Bool) : Type 0 where
   pub idle : drawn ≡ false → o ≡ None
-  pub fresh : drawn ≡ false → never (is_start q) past × never (is_launch q) (since_negate q past) × never (is_completion q) past × never (is_ending q) past × never (is_negate q) past
+  pub fresh : drawn ≡ false → never (is_start q) past × never (is_launch q) (since_negate q past) × never (is_completion q) past × never (is_ending q) past
+      × never (is_negate q) past
   pub there : (x : Shape) → o ≡ Some x → happened (is_start q) past × never (is_ending q) past
   pub starting : (x : Shape) → o ≡ Some x → x.starting ≡ true → never (is_launch q) (since_negate q past)
   pub running : (x : Shape) → o ≡ Some x → x.starting ≡ false → happened (is_launch q) (since_negate q past)
@@ -109,7 +112,8 @@ module _ (q : ℕ) (s : Past) (before : List Past) where
 
   -- a construction of the same stage and authority has the same past, and one step more that is nothing to it
   rested : (o n : Option Shape) (d dn : Bool) (m : Option ℤ) → tests q s.event s.answer ≡ record none_of { assumed = m } → (dn ≡ false → d ≡ false)
-      → ((y : Shape) → n ≡ Some y → (x : Shape) × (o ≡ Some x) × (y.starting ≡ x.starting) × (y.first ≡ x.first) × (y.unspent ≡ true → x.unspent ≡ true)) → Tied q before o d → Tied q (s ∷ before) n dn
+      → ((y : Shape) → n ≡ Some y → (x : Shape) × (o ≡ Some x) × (y.starting ≡ x.starting) × (y.first ≡ x.first) × (y.unspent ≡ true → x.unspent ≡ true))
+      → Tied q before o d → Tied q (s ∷ before) n dn
   rested o n d dn m t less like h =
       let st : is_start q s ≡ false = ap (λ (x : Tests). x.start) t in
       let ng : is_negate q s ≡ false = ap (λ (x : Tests). x.negate) t in
@@ -118,7 +122,15 @@ module _ (q : ℕ) (s : Past) (before : List Past) where
       let en : is_ending q s ≡ false = ap (λ (x : Tests). x.ending) t in
       record {
         idle = λ e. none_left n (λ y is. no_shape (sym (h.idle (less e)) ∙ (like y is).1));
-        fresh = λ e. let f = h.fresh (less e) in (more (is_start q) st f.0, never_since q s before (is_launch q) ng la f.1, more (is_completion q) co f.2, more (is_ending q) en f.3, more (is_negate q) ng f.4);
+        fresh =
+            λ e. let f = h.fresh (less e) in (
+              more (is_start q) st f.0,
+              never_since q s before (is_launch q) ng la f.1,
+              more (is_completion q) co f.2,
+              more
+                  (is_ending q) en f.3,
+              more (is_negate q) ng f.4,
+            );
         there = λ y is. let l = like y is in let f = h.there l.0 l.1 in (still_so (is_start q) f.0, more (is_ending q) en f.1);
         starting = λ y is e. let l = like y is in never_since q s before (is_launch q) ng la (h.starting l.0 l.1 (sym l.2 ∙ e));
         running = λ y is e. let l = like y is in still_since q s before (is_launch q) ng (h.running l.0 l.1 (sym l.2 ∙ e));
@@ -130,7 +142,8 @@ module _ (q : ℕ) (s : Past) (before : List Past) where
   started_before d o h started e = clash _ (h.fresh e).0 started
 
   -- a construction that is no longer there
-  left_tied : (o n : Option Shape) (d dn : Bool) → (dn ≡ false → d ≡ false) → Tied q before o d → happened (is_start q) before → n ≡ None → Tied q (s ∷ before) n dn
+  left_tied : (o n : Option Shape) (d dn : Bool) → (dn ≡ false → d ≡ false) → Tied q before o d → happened (is_start q) before → n ≡ None
+      → Tied q (s ∷ before) n dn
   left_tied o n d dn less h started new = record {
     idle = λ e. absurd (started_before d o h started (less e));
     fresh = λ e. absurd (started_before d o h started (less e));
@@ -141,11 +154,22 @@ module _ (q : ℕ) (s : Past) (before : List Past) where
     unspent = λ y at e. absurd (no_shape (sym new ∙ at));
   }
 
-  once : (o n : Option Shape) (d dn : Bool) → (dn ≡ false → d ≡ false) → Good q o → Turn q d dn (IsOwnAsk q s.event) (tests q s.event s.answer) o n → Tied q before o d
+  once : (o n : Option Shape) (d dn : Bool) → (dn ≡ false → d ≡ false) → Good q o → Turn q d dn (IsOwnAsk q s.event) (tests q s.event s.answer) o n
+      → Tied q before o d
       → OnceFor q s before × Tied q (s ∷ before) n dn
   once o n d dn less good (quiet t same) h = (nothing _ t, rested o n d dn _ t less (λ y is. (y, sym same ∙ is, refl, refl, λ e. e)) h)
-  once o n d dn less good (assumed_now x key m t named is run own new) h =
-      (nothing _ t, rested o n d dn _ t less (λ y at. let e : as_assumed m x ≡ y = some_shape (sym new ∙ at) in (x, is, ap (λ (z : Shape). z.starting) (sym e), ap (λ (z : Shape). z.first) (sym e), λ u. ap (λ (z : Shape). z.unspent) e ∙ u)) h)
+  once o n d dn less good (assumed_now x key m t named is run own new) h = (
+    nothing _ t,
+    rested o n d dn _ t less (λ y at. let e : as_assumed m x
+        ≡ y = some_shape (sym new ∙ at) in (
+          x,
+          is,
+          ap (λ (z : Shape). z.starting) (sym e),
+          ap (λ (z : Shape). z.first) (sym e),
+          λ u. ap
+              (λ (z : Shape). z.unspent) e ∙ u,
+        )) h,
+  )
   once o n d dn less good (starts fresh after t new) h =
       let f = h.fresh fresh in
       let la : is_launch q s ≡ false = ap (λ (x : Tests). x.launch) t in
@@ -153,7 +177,14 @@ module _ (q : ℕ) (s : Past) (before : List Past) where
       let co : is_completion q s ≡ false = ap (λ (x : Tests). x.completion) t in
       let en : is_ending q s ≡ false = ap (λ (x : Tests). x.ending) t in
       let st : is_start q s ≡ true = ap (λ (x : Tests). x.start) t in (
-        record { start = λ _. f.0; launch = λ e. absurd (clash _ la e); negate = λ e. absurd (clash _ ng e); completion = λ e. absurd (clash _ co e); ending = λ e. absurd (clash _ en e) },
+        record {
+          start = λ _. f.0;
+          launch = λ e. absurd (clash _ la e);
+          negate = λ e. absurd (clash _ ng e);
+          completion = λ e. absurd
+              (clash _ co e);
+          ending = λ e. absurd (clash _ en e);
+        },
         record {
           idle = λ e. absurd (clash _ e after);
           fresh = λ e. absurd (clash _ e after);
@@ -172,7 +203,14 @@ module _ (q : ℕ) (s : Past) (before : List Past) where
       let co : is_completion q s ≡ false = ap (λ (x : Tests). x.completion) t in
       let en : is_ending q s ≡ false = ap (λ (x : Tests). x.ending) t in
       let same : (y : Shape) → n ≡ Some y → as_staged stage x ≡ y = λ y at. some_shape (sym new ∙ at) in (
-        record { start = λ e. absurd (clash _ st e); launch = λ _. (f.0, h.starting x is waits, f.1); negate = λ e. absurd (clash _ ng e); completion = λ e. absurd (clash _ co e); ending = λ e. absurd (clash _ en e) },
+        record {
+          start = λ e. absurd (clash _ st e);
+          launch = λ _. (f.0, h.starting x is waits, f.1);
+          negate = λ e. absurd
+              (clash _ ng e);
+          completion = λ e. absurd (clash _ co e);
+          ending = λ e. absurd (clash _ en e);
+        },
         record {
           idle = λ e. absurd (started_before d o h f.0 (less e));
           fresh = λ e. absurd (started_before d o h f.0 (less e));
@@ -191,7 +229,15 @@ module _ (q : ℕ) (s : Past) (before : List Past) where
       let co : is_completion q s ≡ false = ap (λ (x : Tests). x.completion) t in
       let en : is_ending q s ≡ false = ap (λ (x : Tests). x.ending) t in
       let same : (y : Shape) → n ≡ Some y → as_staged Negating x ≡ y = λ y at. some_shape (sym new ∙ at) in (
-        record { start = λ e. absurd (clash _ st e); launch = λ e. absurd (clash _ la e); negate = λ _. (in_all q (is_launch q) before (h.running x is runs), h.first x is firsts, h.unspent x is free, f.1); completion = λ e. absurd (clash _ co e); ending = λ e. absurd (clash _ en e) },
+        record {
+          start = λ e. absurd (clash _ st e);
+          launch = λ e. absurd (clash _ la e);
+          negate = λ _.
+              (in_all q (is_launch q) before (h.running x is runs), h.first x is firsts, h.unspent x is free, f.1);
+          completion = λ e. absurd
+              (clash _ co e);
+          ending = λ e. absurd (clash _ en e);
+        },
         record {
           idle = λ e. absurd (started_before d o h f.0 (less e));
           fresh = λ e. absurd (started_before d o h f.0 (less e));
@@ -208,7 +254,14 @@ module _ (q : ℕ) (s : Past) (before : List Past) where
       let la : is_launch q s ≡ true = ap (λ (x : Tests). x.launch) t in
       let ng : is_negate q s ≡ false = ap (λ (x : Tests). x.negate) t in
       let co : is_completion q s ≡ false = ap (λ (x : Tests). x.completion) t in (
-        record { start = λ e. absurd (clash _ st e); launch = λ _. (f.0, h.starting x is waits, f.1); negate = λ e. absurd (clash _ ng e); completion = λ e. absurd (clash _ co e); ending = λ _. (since_now q s before (is_launch q) ng la, f.1) },
+        record {
+          start = λ e. absurd (clash _ st e);
+          launch = λ _. (f.0, h.starting x is waits, f.1);
+          negate = λ e. absurd
+              (clash _ ng e);
+          completion = λ e. absurd (clash _ co e);
+          ending = λ _. (since_now q s before (is_launch q) ng la, f.1);
+        },
         left_tied o n d dn less h f.0 new,
       )
   once o n d dn less good (ended_now x t is runs new) h =
@@ -217,7 +270,14 @@ module _ (q : ℕ) (s : Past) (before : List Past) where
       let la : is_launch q s ≡ false = ap (λ (x : Tests). x.launch) t in
       let ng : is_negate q s ≡ false = ap (λ (x : Tests). x.negate) t in
       let co : is_completion q s ≡ false = ap (λ (x : Tests). x.completion) t in (
-        record { start = λ e. absurd (clash _ st e); launch = λ e. absurd (clash _ la e); negate = λ e. absurd (clash _ ng e); completion = λ e. absurd (clash _ co e); ending = λ _. (still_since q s before (is_launch q) ng (h.running x is runs), f.1) },
+        record {
+          start = λ e. absurd (clash _ st e);
+          launch = λ e. absurd (clash _ la e);
+          negate = λ e. absurd (clash _ ng e);
+          completion = λ e. absurd
+              (clash _ co e);
+          ending = λ _. (still_since q s before (is_launch q) ng (h.running x is runs), f.1);
+        },
         left_tied o n d dn less h f.0 new,
       )
   once o n d dn less good (completed_now x asks t is own new) h =
@@ -227,7 +287,14 @@ module _ (q : ℕ) (s : Past) (before : List Past) where
       let la : is_launch q s ≡ false = ap (λ (x : Tests). x.launch) t in
       let ng : is_negate q s ≡ false = ap (λ (x : Tests). x.negate) t in
       let en : is_ending q s ≡ false = ap (λ (x : Tests). x.ending) t in (
-        record { start = λ e. absurd (clash _ st e); launch = λ e. absurd (clash _ la e); negate = λ e. absurd (clash _ ng e); completion = λ _. (h.running x is g.2, h.unspent x is g.1, f.1); ending = λ e. absurd (clash _ en e) },
+        record {
+          start = λ e. absurd (clash _ st e);
+          launch = λ e. absurd (clash _ la e);
+          negate = λ e. absurd (clash _ ng e);
+          completion = λ _.
+              (h.running x is g.2, h.unspent x is g.1, f.1);
+          ending = λ e. absurd (clash _ en e);
+        },
         record {
           idle = λ e. absurd (started_before d o h f.0 (less e));
           fresh = λ e. absurd (started_before d o h f.0 (less e));
@@ -246,12 +313,16 @@ none_assumed k e = cc
 
 good_after : (q : ℕ) (d dn : Bool) (own_ask : Type 0) (t : Tests) (o n : Option Shape) → Turn q d dn own_ask t o n → Good q o → Good q n
 good_after q d dn own_ask t o n (quiet te same) g x k is own = g x k (sym same ∙ is) own
-good_after q d dn own_ask t o n (starts fresh after te new) g x k is own = absurd (none_assumed k (ap (λ (z : Shape). z.assumed) (some_shape (sym new ∙ is)) ∙ own))
-good_after q d dn own_ask t o n (launched_now y st te was waits runs firsts new) g x k is own = absurd (none_assumed k (ap (λ (z : Shape). z.assumed) (some_shape (sym new ∙ is)) ∙ own))
-good_after q d dn own_ask t o n (negated_now y te was runs firsts free new) g x k is own = absurd (none_assumed k (ap (λ (z : Shape). z.assumed) (some_shape (sym new ∙ is)) ∙ own))
+good_after q d dn own_ask t o n (starts fresh after te new) g x k is own =
+    absurd (none_assumed k (ap (λ (z : Shape). z.assumed) (some_shape (sym new ∙ is)) ∙ own))
+good_after q d dn own_ask t o n (launched_now y st te was waits runs firsts new) g x k is own =
+    absurd (none_assumed k (ap (λ (z : Shape). z.assumed) (some_shape (sym new ∙ is)) ∙ own))
+good_after q d dn own_ask t o n (negated_now y te was runs firsts free new) g x k is own =
+    absurd (none_assumed k (ap (λ (z : Shape). z.assumed) (some_shape (sym new ∙ is)) ∙ own))
 good_after q d dn own_ask t o n (failed_now y te was waits new) g x k is own = absurd (no_shape (sym new ∙ is))
 good_after q d dn own_ask t o n (ended_now y te was runs new) g x k is own = absurd (no_shape (sym new ∙ is))
-good_after q d dn own_ask t o n (completed_now y asks te was mine new) g x k is own = absurd (none_assumed k (ap (λ (z : Shape). z.assumed) (some_shape (sym new ∙ is)) ∙ own))
+good_after q d dn own_ask t o n (completed_now y asks te was mine new) g x k is own =
+    absurd (none_assumed k (ap (λ (z : Shape). z.assumed) (some_shape (sym new ∙ is)) ∙ own))
 good_after q d dn own_ask t o n (assumed_now y key m te named was runs mine new) g x k is own =
     let e : as_assumed m y ≡ x = some_shape (sym new ∙ is) in
     let one = mine k (ap (λ (z : Shape). z.assumed) e ∙ own) in
@@ -264,7 +335,8 @@ Knows w past = Goods w.sessions × ((q : ℕ) → Tied q past (shape_of w.sessio
 
 knows_nothing : (from : Beginning) → Knows (empty_world from.negative from.first from.stride) []
 knows_nothing from =
-    let none : (q : ℕ) → shape_of (empty_world from.negative from.first from.stride).sessions q ≡ None = λ q. ap (option_map shape) (map.get-empty nat_cmp q) in (
+    let none : (q : ℕ) → shape_of (empty_world from.negative from.first from.stride).sessions q ≡ None =
+    λ q. ap (option_map shape) (map.get-empty nat_cmp q) in (
       λ q x k is own. absurd (no_shape (sym (none q) ∙ is)),
       λ q. record {
         idle = λ e. none q;
@@ -277,10 +349,12 @@ knows_nothing from =
       },
     )
 
-step_knows : (old : World) (s : Past) (new : World) (before : List Past) → Step old s.now s.event s.answer new → Knows old before → ((q : ℕ) → OnceFor q s before) × Knows new (s ∷ before)
+step_knows : (old : World) (s : Past) (new : World) (before : List Past) → Step old s.now s.event s.answer new → Knows old before
+    → ((q : ℕ) → OnceFor q s before) × Knows new (s ∷ before)
 step_knows old s new before step known =
     let is = effect old s.now s.event s.answer new step in
-    let turn : (q : ℕ) → Turn q (is_drawn old q) (is_drawn new q) (IsOwnAsk q s.event) (tests q s.event s.answer) (shape_of old.sessions q) (shape_of new.sessions q) = turns old s.now s.event s.answer new is known.0 in
+    let turn : (q : ℕ) → Turn q (is_drawn old q) (is_drawn new q) (IsOwnAsk q s.event) (tests q s.event s.answer) (shape_of old.sessions q)
+    (shape_of new.sessions q) = turns old s.now s.event s.answer new is known.0 in
     let done : (q : ℕ) → OnceFor q s before × Tied q (s ∷ before) (shape_of new.sessions q) (is_drawn new q) =
     λ q. once q s before _ _ (is_drawn old q) (is_drawn new q) (keeps_drawn old s.now s.event s.answer new is q) (known.0 q) (turn q) (known.1 q) in
     (λ q. (done q).0, (λ q. good_after q _ _ _ _ _ _ (turn q) (known.0 q), λ q. (done q).1))

@@ -61,14 +61,16 @@ told_agrees k o V v h =
       | false ↦ λ other. h ∙ sym (ap (λ b. cond b (Some o) (V v.key)) (nat_eq_equiv.symm k v.key ∙ other))
     ] refl
 
-told_in : (k : ℕ) (o : Outcome) (V : Verdicts) (x : Option Wait) (v : Wait) → ((u : Wait) → x ≡ Some u → u.outcome ≡ V u.key) → option_map (told_wait k o) x ≡ Some v → v.outcome ≡ with_verdict k o V v.key
+told_in : (k : ℕ) (o : Outcome) (V : Verdicts) (x : Option Wait) (v : Wait) → ((u : Wait) → x ≡ Some u → u.outcome ≡ V u.key)
+    → option_map (told_wait k o) x ≡ Some v → v.outcome ≡ with_verdict k o V v.key
 told_in k o V None v agree h = absurd (cc)
 told_in k o V (Some u) v agree h = subst (λ (x : Wait). x.outcome ≡ with_verdict k o V x.key) (same_wait h) (told_agrees k o V u (agree u refl))
   where
     same_wait : {x y : Wait} → Some x ≡ Some y → x ≡ y
     same_wait e = cc
 
-module _ (old : World) (s : Past) (new : World) (before : List Past) (known : Knows old before) (waits : KnowsWaits before old) (idle : IdleFresh old) (d : Decided before old)
+module _ (old : World) (s : Past) (new : World) (before : List Past) (known : Knows old before) (waits : KnowsWaits before old) (idle : IdleFresh old)
+    (d : Decided before old)
     (step : Step old s.now s.event s.answer new) where
   is : Effect old s.now s.event s.answer new
   is = effect old s.now s.event s.answer new step
@@ -80,14 +82,18 @@ module _ (old : World) (s : Past) (new : World) (before : List Past) (known : Kn
       found : (t : SessionId) × (s.event ≡ Collect t) × (is_waiting s.answer ≡ false) × (option_map (λ (wait : ℕ × Bool). wait.0) (waited t before) ≡ Some k)
       found = collect_of s before k h
 
-      key_of : (t : SessionId) (o : Option Wait) → wait_of old.sessions t ≡ o → option_map (λ (wait : ℕ × Bool). wait.0) (waited t before) ≡ Some k → option_map (λ (wait : Wait). wait.key) o ≡ Some k
-      key_of t o at key = option_key o ∙ ap (λ o. option_map (λ (wait : ℕ × Bool). wait.0) (option_map flag o)) (sym at) ∙ ap (option_map (λ (wait : ℕ × Bool). wait.0)) (waits.same t) ∙ key
+      key_of : (t : SessionId) (o : Option Wait) → wait_of old.sessions t ≡ o → option_map (λ (wait : ℕ × Bool). wait.0) (waited t before) ≡ Some k
+          → option_map (λ (wait : Wait). wait.key) o ≡ Some k
+      key_of t o at key =
+          option_key o ∙ ap (λ o. option_map (λ (wait : ℕ × Bool). wait.0) (option_map flag o)) (sym at)
+          ∙ ap (option_map (λ (wait : ℕ × Bool). wait.0)) (waits.same t) ∙ key
         where
           option_key : (o : Option Wait) → option_map (λ (wait : Wait). wait.key) o ≡ option_map (λ (wait : ℕ × Bool). wait.0) (option_map flag o)
           option_key None = refl
           option_key (Some w) = refl
 
-      by_collect : (t : SessionId) → Collected old t s.answer → is_waiting s.answer ≡ false → option_map (λ (wait : ℕ × Bool). wait.0) (waited t before) ≡ Some k → (o : Outcome) × (d.verdicts k ≡ Some o) × (s.answer ≡ told_as o)
+      by_collect : (t : SessionId) → Collected old t s.answer → is_waiting s.answer ≡ false
+          → option_map (λ (wait : ℕ × Bool). wait.0) (waited t before) ≡ Some k → (o : Outcome) × (d.verdicts k ≡ Some o) × (s.answer ≡ told_as o)
       by_collect t (nothing error none ra) answered key = absurd (no_key (key_of t None none key))
         where
           no_key : {n : ℕ} → None ≡ Some n → ⊥
@@ -106,7 +112,9 @@ module _ (old : World) (s : Past) (new : World) (before : List Past) (known : Kn
   by_rule : (V : Verdicts) → ((k : ℕ) → Ruled old new k (d.verdicts k) (V k)) → Agrees new V → Decided (s ∷ before) new
   by_rule V rule agrees = record {
     verdicts = V;
-    judged = λ k. judged_on old s new before k (known.1 k) (known.0 k) (turn_of k) (keeps_drawn old s.now s.event s.answer new is) (d.verdicts k) (d.judged k) (collected_is k) (V k) (rule k);
+    judged =
+        λ k. judged_on old s new before k (known.1 k) (known.0 k) (turn_of k) (keeps_drawn old s.now s.event s.answer new is) (d.verdicts k) (d.judged k)
+        (collected_is k) (V k) (rule k);
     agree = agrees;
   }
 
@@ -120,7 +128,8 @@ module _ (old : World) (s : Past) (new : World) (before : List Past) (known : Kn
   decided_on : Telling old new → Decided (s ∷ before) new
   decided_on (tells_none still stay) = by_rule d.verdicts (λ k. as_it_was refl (still k)) (agrees_still stay)
   decided_on (tells_all k o outcome free gone built still told_all) =
-      by_rule (with_verdict k o d.verdicts) (λ j. ruled j (nat_eq k j) refl) (λ t v at. told_in k o d.verdicts (wait_of old.sessions t) v (d.agree t) (told_all t v at))
+      by_rule (with_verdict k o d.verdicts) (λ j. ruled j (nat_eq k j) refl)
+      (λ t v at. told_in k o d.verdicts (wait_of old.sessions t) v (d.agree t) (told_all t v at))
     where
       ruled : (j : ℕ) (b : Bool) → nat_eq k j ≡ b → Ruled old new j (d.verdicts j) (cond b (Some o) (d.verdicts j))
       ruled j true same =
@@ -139,7 +148,9 @@ nothing_decided from =
     record {
       verdicts = λ k. None;
       judged = λ k. record {
-        builds = λ free. absurd (clash _ (unspent_is (empty_world from.negative from.first from.stride) k ∙ ap (λ (o : Option Shape). option_map_or (λ (x : Shape). x.unspent) o false) (none k)) free);
+        builds =
+            λ free. absurd (clash _ (unspent_is (empty_world from.negative from.first from.stride) k
+            ∙ ap (λ (o : Option Shape). option_map_or (λ (x : Shape). x.unspent) o false) (none k)) free);
         settled = λ o is. absurd (none_some is);
         spent = λ x is free never. none_some (sym (none k) ∙ is);
         silent = λ _. (refl, refl);
@@ -153,21 +164,27 @@ nothing_decided from =
 
     waitless : (s : SessionId) → wait_of (empty_world from.negative from.first from.stride).sessions s ≡ None
     waitless (Client n) = ap (option_and_then (λ (one : Session). one.wait)) (map.get-empty nat_cmp n)
-    waitless (Handler k) = ap (λ o. option_and_then (λ (one : Session). one.wait) (option_and_then (λ (c : Construction). handler_in c.stage) o)) (map.get-empty nat_cmp k)
+    waitless (Handler k) =
+        ap (λ o. option_and_then (λ (one : Session). one.wait) (option_and_then (λ (c : Construction). handler_in c.stage) o)) (map.get-empty nat_cmp k)
 
 decided : (from : Beginning) (past : List Past) (w : World) → Run from past w → Decided past w
 decided from [] w run = subst (λ (v : World). Decided [] v) (sym run) (nothing_decided from)
 decided from (s ∷ before) w run =
-    decided_next run.0 s w before (knows from before run.0 run.1) (waits_known from before run.0 run.1) (idle_known from before run.0 run.1) (decided from before run.0 run.1) run.2
+    decided_next run.0 s w before (knows from before run.0 run.1) (waits_known from before run.0 run.1) (idle_known from before run.0 run.1)
+    (decided from before run.0 run.1) run.2
 
 -- ---- the law
 
-module _ (old : World) (s : Past) (new : World) (before : List Past) (known : Knows old before) (waits : KnowsWaits before old) (idle : IdleFresh old) (d : Decided before old)
+module _ (old : World) (s : Past) (new : World) (before : List Past) (known : Knows old before) (waits : KnowsWaits before old) (idle : IdleFresh old)
+    (d : Decided before old)
     (step : Step old s.now s.event s.answer new) where
   one_answer : (k : ℕ) → wait_collected s before ≡ Some k → IsOutcome k s.answer × EachToldOf k s.answer before
   one_answer k h =
-      let c = collected_is old s new before known waits idle d step k h in
-      (subst (λ (a : Answer). IsOutcome k a) (sym c.2) ((d.judged k).settled c.0 c.1).2, (d.judged k).told s.answer (λ o is. c.2 ∙ ap told_as (some_same (sym c.1 ∙ is))))
+      let c = collected_is old s new before known waits idle d step k h in (
+        subst (λ (a : Answer). IsOutcome k a) (sym c.2) ((d.judged k).settled c.0 c.1).2,
+        (d.judged k).told s.answer
+            (λ o is. c.2 ∙ ap told_as (some_same (sym c.1 ∙ is))),
+      )
 
   -- while the construction goes on, it is not ended
   goes_on : (k : ℕ) → map.contains_key old.sessions.constructions k ≡ true → never (is_ending k) before
@@ -181,7 +198,8 @@ module _ (old : World) (s : Past) (new : World) (before : List Past) (known : Kn
       found None e h = absurd (cc)
       found (Some c) e h = by_stage (shape c) (shape c).starting (ap (option_map shape) e) refl
 
-  no_outcome_yet : (v : Wait) → ((v.starter ≡ true) × (map.contains_key old.sessions.constructions v.key ≡ true)) ⊎ (v.outcome ≡ None) → v.outcome ≡ d.verdicts v.key
+  no_outcome_yet : (v : Wait) → ((v.starter ≡ true) × (map.contains_key old.sessions.constructions v.key ≡ true)) ⊎ (v.outcome ≡ None)
+      → v.outcome ≡ d.verdicts v.key
       → never (is_ending v.key) before × (v.starter ≡ false → never (is_completion v.key) before)
   no_outcome_yet v (inl its) agrees = (goes_on v.key its.1, λ waits_only. absurd (clash v.starter waits_only its.0))
   no_outcome_yet v (inr none) agrees = let quiet_so_far = (d.judged v.key).silent (sym agrees ∙ none) in (quiet_so_far.1, λ _. quiet_so_far.0)
@@ -209,7 +227,8 @@ module _ (old : World) (s : Past) (new : World) (before : List Past) (known : Kn
       by_collect (not_yet v at ready answer) =
           let flags : flag v ≡ (k, starter) = same_flag (ap (option_map flag) (sym at) ∙ waits.same t ∙ is) in
           let so = no_outcome_yet v (not_ready old.sessions v ready) (d.agree t v at) in
-          subst (λ (f : ℕ × Bool). (j ≡ f.0) × never (is_ending f.0) before × (f.1 ≡ false → never (is_completion f.0) before)) flags (same_key (sym ra ∙ answer), so.0, so.1)
+          subst (λ (f : ℕ × Bool). (j ≡ f.0) × never (is_ending f.0) before × (f.1 ≡ false → never (is_completion f.0) before)) flags
+          (same_key (sym ra ∙ answer), so.0, so.1)
 
 -- each key has one outcome, for all who wait
 pub each_outcome : (from : Beginning) (past : List Past) (w : World) → Run from past w → EachOutcome past
@@ -218,5 +237,8 @@ each_outcome from (s ∷ before) w run =
     let known = knows from before run.0 run.1 in
     let waits = waits_known from before run.0 run.1 in
     let idle = idle_known from before run.0 run.1 in
-    let d = decided from before run.0 run.1 in
-    (record { one = one_answer run.0 s w before known waits idle d run.2; waits = not_yet_told run.0 s w before known waits idle d run.2 }, each_outcome from before run.0 run.1)
+    let d = decided from before run.0 run.1 in (
+      record { one = one_answer run.0 s w before known waits idle d run.2; waits = not_yet_told run.0 s w before known waits idle d run.2 },
+      each_outcome from
+          before run.0 run.1,
+    )

@@ -41,7 +41,8 @@ unspent_is w k = found (map.get w.sessions.constructions k)
 -- the key keeps its verdict, or gets one
 pub data Ruled (old new : World) (k : ℕ) (before after : Option Outcome) : Type 0 where
   as_it_was : after ≡ before → Still old new k → Ruled old new k before after
-  it_is_told : (o : Outcome) → before ≡ None → after ≡ Some o → IsOutcome k (told_as o) → is_unspent old k ≡ true → is_unspent new k ≡ false → is_built new k ≡ false → Ruled old new k before after
+  it_is_told : (o : Outcome) → before ≡ None → after ≡ Some o → IsOutcome k (told_as o) → is_unspent old k ≡ true → is_unspent new k ≡ false
+      → is_built new k ≡ false → Ruled old new k before after
 
 module _ (old : World) (s : Past) (new : World) (before : List Past) (k : ℕ) where
   abbrev pub TurnOf : Type 0
@@ -51,16 +52,19 @@ module _ (old : World) (s : Past) (new : World) (before : List Past) (k : ℕ) w
   unspent_old x is = unspent_is old k ∙ ap (λ (o : Option Shape). option_map_or (λ (x : Shape). x.unspent) o false) is
 
   -- an authority is spent only by a step that tells the outcome
-  not_lost : (x : Shape) (o : Option Shape) → Tied k before (shape_of old.sessions k) (is_drawn old k) → Still old new k → shape_of old.sessions k ≡ Some x → x.unspent ≡ true → shape_of new.sessions k ≡ o
+  not_lost : (x : Shape) (o : Option Shape) → Tied k before (shape_of old.sessions k) (is_drawn old k) → Still old new k → shape_of old.sessions k ≡ Some x
+      → x.unspent ≡ true → shape_of new.sessions k ≡ o
       → option_map_or (λ (x : Shape). x.unspent) o false ≡ false → ⊥
   not_lost x o tie (stays b u) is free at gone =
-      clash (is_unspent new k) (unspent_is new k ∙ ap (λ (o : Option Shape). option_map_or (λ (x : Shape). x.unspent) o false) at ∙ gone) (u ∙ unspent_old x is ∙ free)
+      clash (is_unspent new k) (unspent_is new k ∙ ap (λ (o : Option Shape). option_map_or (λ (x : Shape). x.unspent) o false) at ∙ gone)
+      (u ∙ unspent_old x is ∙ free)
   not_lost x o tie (is_new fresh b) is free at gone = none_some (sym (tie.idle fresh) ∙ is)
 
   module _ (tie : Tied k before (shape_of old.sessions k) (is_drawn old k)) (good : Good k (shape_of old.sessions k)) (verdict : Option Outcome)
       (spent : (x : Shape) → shape_of old.sessions k ≡ Some x → x.unspent ≡ false → verdict ≡ None → ⊥) where
     -- who has no outcome was not ended
-    not_ended : (x : Shape) (b : Bool) → Still old new k → verdict ≡ None → shape_of old.sessions k ≡ Some x → shape_of new.sessions k ≡ None → x.unspent ≡ b → ⊥
+    not_ended : (x : Shape) (b : Bool) → Still old new k → verdict ≡ None → shape_of old.sessions k ≡ Some x → shape_of new.sessions k ≡ None → x.unspent ≡ b
+        → ⊥
     not_ended x true same none is at free = not_lost x None tie same is free at refl
     not_ended x false same none is at free = spent x is free none
 
@@ -77,12 +81,15 @@ module _ (old : World) (s : Past) (new : World) (before : List Past) (k : ℕ) w
     still_spent : TurnOf → Still old new k → (y : Shape) → shape_of new.sessions k ≡ Some y → y.unspent ≡ false → verdict ≡ None → ⊥
     still_spent (quiet t n) same y at free none = spent y (sym n ∙ at) free none
     still_spent (starts fresh after t n) same y at free none = clash y.unspent free (ap (λ (z : Shape). z.unspent) (some_shape (sym at ∙ n)))
-    still_spent (launched_now x st t is waits runs firsts n) same y at free none = spent x is (ap (λ (z : Shape). z.unspent) (some_shape (sym n ∙ at)) ∙ free) none
-    still_spent (negated_now x t is runs firsts unspent n) same y at free none = spent x is (ap (λ (z : Shape). z.unspent) (some_shape (sym n ∙ at)) ∙ free) none
+    still_spent (launched_now x st t is waits runs firsts n) same y at free none =
+        spent x is (ap (λ (z : Shape). z.unspent) (some_shape (sym n ∙ at)) ∙ free) none
+    still_spent (negated_now x t is runs firsts unspent n) same y at free none =
+        spent x is (ap (λ (z : Shape). z.unspent) (some_shape (sym n ∙ at)) ∙ free) none
     still_spent (failed_now x t is waits n) same y at free none = none_some (sym n ∙ at)
     still_spent (ended_now x t is runs n) same y at free none = none_some (sym n ∙ at)
     still_spent (completed_now x asks t is own n) same y at free none = not_lost x (Some (as_spent x)) tie same is (good x k is own).1 n refl
-    still_spent (assumed_now x key m t named is runs own n) same y at free none = spent x is (ap (λ (z : Shape). z.unspent) (some_shape (sym n ∙ at)) ∙ free) none
+    still_spent (assumed_now x key m t named is runs own n) same y at free none =
+        spent x is (ap (λ (z : Shape). z.unspent) (some_shape (sym n ∙ at)) ∙ free) none
 
 -- ---- what is so of a key after a step
 
@@ -91,7 +98,8 @@ undrawn w past k tie free = by_drawn (is_drawn w k) refl
   where
     by_drawn : (b : Bool) → is_drawn w k ≡ b → b ≡ true
     by_drawn true e = refl
-    by_drawn false e = absurd (clash (is_unspent w k) (unspent_is w k ∙ ap (λ (o : Option Shape). option_map_or (λ (x : Shape). x.unspent) o false) (tie.idle e)) free)
+    by_drawn false e =
+        absurd (clash (is_unspent w k) (unspent_is w k ∙ ap (λ (o : Option Shape). option_map_or (λ (x : Shape). x.unspent) o false) (tie.idle e)) free)
 
 -- an open key has no outcome
 pub no_verdict : (w : World) (past : List Past) (k : ℕ) (verdict : Option Outcome) → Judged past w k verdict → IsOpen w k → verdict ≡ None
@@ -112,10 +120,12 @@ stays_drawn old new k keeps is = by_drawn (is_drawn new k) refl
     by_drawn true e = refl
     by_drawn false e = absurd (clash _ (keeps k e) is)
 
-module _ (old : World) (s : Past) (new : World) (before : List Past) (k : ℕ) (tie : Tied k before (shape_of old.sessions k) (is_drawn old k)) (good : Good k (shape_of old.sessions k))
+module _ (old : World) (s : Past) (new : World) (before : List Past) (k : ℕ) (tie : Tied k before (shape_of old.sessions k) (is_drawn old k))
+    (good : Good k (shape_of old.sessions k))
     (turn : TurnOf old s new before k) (keeps : KeepsDrawn old new) (v : Option Outcome) (j : Judged before old k v)
     (collected : wait_collected s before ≡ Some k → (o : Outcome) × (v ≡ Some o) × (s.answer ≡ told_as o)) where
-  more_told : (u : Option Outcome) → ((o : Outcome) → v ≡ Some o → u ≡ Some o) → (a : Answer) → ((o : Outcome) → u ≡ Some o → a ≡ told_as o) → EachToldOf k a (s ∷ before)
+  more_told : (u : Option Outcome) → ((o : Outcome) → v ≡ Some o → u ≡ Some o) → (a : Answer) → ((o : Outcome) → u ≡ Some o → a ≡ told_as o)
+      → EachToldOf k a (s ∷ before)
   more_told u kept a h = (λ is. let c = collected is in c.2 ∙ sym (h c.0 (kept c.0 c.1)), j.told a (λ o is. h o (kept o is)))
 
   built_still : Still old new k → is_drawn old k ≡ true → is_built old k ≡ false → is_built new k ≡ false
@@ -139,7 +149,13 @@ module _ (old : World) (s : Past) (new : World) (before : List Past) (k : ℕ) (
   }
   judged_on u (it_is_told o open_before is outcome free gone built) = record {
     builds = λ f. absurd (clash _ gone f);
-    settled = λ p at. (stays_drawn old new k keeps (undrawn old before k tie free), built, subst (λ (x : Outcome). IsOutcome k (told_as x)) (some_same (sym is ∙ at)) outcome);
+    settled =
+        λ p at. (
+          stays_drawn old new k keeps (undrawn old before k tie free),
+          built,
+          subst (λ (x : Outcome). IsOutcome k (told_as x))
+              (some_same (sym is ∙ at)) outcome,
+        );
     spent = λ x at f none. some_none (sym is ∙ none);
     silent = λ none. absurd (some_none (sym is ∙ none));
     told = more_told u (λ p at. absurd (none_some (sym open_before ∙ at)));

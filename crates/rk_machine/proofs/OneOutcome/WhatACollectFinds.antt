@@ -21,13 +21,15 @@ use Rattle.rk_machine.proofs.Found.Refusals.{by_option}
 pub data Collected (w : World) (t : SessionId) (a : Answer) : Type 0 where
   nothing : (error : Errno) → wait_of w.sessions t ≡ None → a ≡ Refused error → Collected w t a
   not_yet : (wait : Wait) → wait_of w.sessions t ≡ Some wait → ready_outcome w.sessions wait ≡ None → a ≡ Waiting wait.key → Collected w t a
-  now_told : (wait : Wait) (outcome : Outcome) → wait_of w.sessions t ≡ Some wait → ready_outcome w.sessions wait ≡ Some outcome → a ≡ told_as outcome → Collected w t a
+  now_told : (wait : Wait) (outcome : Outcome) → wait_of w.sessions t ≡ Some wait → ready_outcome w.sessions wait ≡ Some outcome → a ≡ told_as outcome
+      → Collected w t a
 
 pub at_collect : (old : World) (now : ℕ) (e : Event) (t : SessionId) (a : Answer) (new : World) → e ≡ Collect t → Step old now e a new → Collected old t a
 unfolding Step
 at_collect old now e t a new ev step =
     by_option (wait_of old.sessions t) _ _ _ (λ none g. nothing _ none g.0)
-    (λ wait is g. by_option (ready_outcome old.sessions wait) _ _ _ (λ none f. not_yet wait is none f.0) (λ outcome ready f. now_told wait outcome is ready f.0) g)
+    (λ wait is g. by_option (ready_outcome old.sessions wait) _ _ _ (λ none f. not_yet wait is none f.0)
+    (λ outcome ready f. now_told wait outcome is ready f.0) g)
     (subst (λ (y : Event). Step old now y a new) ev step)
 
 -- an outcome that may be collected is the wait's
@@ -39,7 +41,8 @@ ready_is a w o h = by_test (w.starter && map.contains_key a.constructions w.key)
     by_test false h = h
 
 -- a wait that may not be collected has none, or is a starter's whose construction goes on
-pub not_ready : (a : Sessions) (w : Wait) → ready_outcome a w ≡ None → ((w.starter ≡ true) × (map.contains_key a.constructions w.key ≡ true)) ⊎ (w.outcome ≡ None)
+pub not_ready : (a : Sessions) (w : Wait) → ready_outcome a w ≡ None
+    → ((w.starter ≡ true) × (map.contains_key a.constructions w.key ≡ true)) ⊎ (w.outcome ≡ None)
 not_ready a w h = by_tests w.starter (map.contains_key a.constructions w.key) refl refl h
   where
     by_tests : (b c : Bool) → w.starter ≡ b → map.contains_key a.constructions w.key ≡ c → cond (b && c) None w.outcome ≡ None
@@ -53,7 +56,8 @@ pub collect_of : (p : Past) (before : List Past) (k : ℕ) → wait_collected p 
     → (t : SessionId) × (p.event ≡ Collect t) × (is_waiting p.answer ≡ false) × (option_map (λ (wait : ℕ × Bool). wait.0) (waited t before) ≡ Some k)
 collect_of p before k h = by_event p.event refl h
   where
-    by_answer : (t : SessionId) (b : Bool) → p.event ≡ Collect t → is_waiting p.answer ≡ b → cond b None (option_map (λ (wait : ℕ × Bool). wait.0) (waited t before)) ≡ Some k
+    by_answer : (t : SessionId) (b : Bool) → p.event ≡ Collect t → is_waiting p.answer ≡ b
+        → cond b None (option_map (λ (wait : ℕ × Bool). wait.0) (waited t before)) ≡ Some k
         → (t : SessionId) × (p.event ≡ Collect t) × (is_waiting p.answer ≡ false) × (option_map (λ (wait : ℕ × Bool). wait.0) (waited t before) ≡ Some k)
     by_answer t true is waits h = absurd (cc)
     by_answer t false is waits h = (t, is, waits, h)

@@ -79,7 +79,8 @@ module _ (old new : World) where
   fewer_waits : (f : SessionId → Bool) → ((s : SessionId) → wait_of new.sessions s ≡ cond (f s) None (wait_of old.sessions s)) → WaitsStay old new
   fewer_waits f h s v is = inl (was_some (f s) (wait_of old.sessions s) v (sym (h s) ∙ is))
 
-  one_more : (k : ℕ) (starter : Bool) (b : Bool) (o : Option Wait) (v : Wait) → IsOpen old k → cond b (Some (new_wait k starter)) o ≡ Some v → (o ≡ Some v) ⊎ ((v.outcome ≡ None) × IsOpen old v.key)
+  one_more : (k : ℕ) (starter : Bool) (b : Bool) (o : Option Wait) (v : Wait) → IsOpen old k → cond b (Some (new_wait k starter)) o ≡ Some v
+      → (o ≡ Some v) ⊎ ((v.outcome ≡ None) × IsOpen old v.key)
   one_more k starter true o v free h = inr (subst (λ (x : Wait). (x.outcome ≡ None) × IsOpen old x.key) (some_same h) (refl, free))
   one_more k starter false o v free h = inl h
 
@@ -150,9 +151,11 @@ module _ (now k : ℕ) (condition : Condition) (end : Option ℕ) (w : World) (k
   announces a =
       ap (λ o. option_map_or (λ one. all_told k (outcome_of k one now) a) o a)
       (get_changed_at k (concluded condition end) w.keys k
-      ∙ ap (λ b. cond b (option_map (concluded condition end) (map.get w.keys k)) (map.get w.keys k)) (eq-eqb k k refl) ∙ ap (option_map (concluded condition end)) there)
+      ∙ ap (λ b. cond b (option_map (concluded condition end) (map.get w.keys k)) (map.get w.keys k)) (eq-eqb k k refl)
+      ∙ ap (option_map (concluded condition end)) there)
 
-  wait_concluded : (a : Sessions) (s : SessionId) → wait_of (announced now k (keys_then k condition end w) (spent k a)) s ≡ option_map (told_wait k (told_now now k condition end key)) (wait_of a s)
+  wait_concluded : (a : Sessions) (s : SessionId) → wait_of (announced now k (keys_then k condition end w) (spent k a)) s
+      ≡ option_map (told_wait k (told_now now k condition end key)) (wait_of a s)
   wait_concluded a s =
       ap (λ x. wait_of x s) (announces (spent k a)) ∙ wait_told k (told_now now k condition end key) (spent k a) s
       ∙ ap (option_map (told_wait k (told_now now k condition end key))) (wait_spent k a s)
@@ -178,7 +181,8 @@ ended_as b now k condition w =
     let keys : map.FinMap nat_cmp Key = cond b (keys_then k condition (expiry_after condition now w.negative) w) w.keys in
     record w { keys = keys; sessions = without_construction k (cond b (announced now k keys (spent k w.sessions)) w.sessions) }
 
-module _ (old new : World) (now k : ℕ) (condition : Condition) (final : is_final condition ≡ true) (builds : Builds old) (w : new ≡ tidied (ended now k condition old)) where
+module _ (old new : World) (now k : ℕ) (condition : Condition) (final : is_final condition ≡ true) (builds : Builds old)
+    (w : new ≡ tidied (ended now k condition old)) where
   abbrev end_then : Option ℕ
   end_then = expiry_after condition now old.negative
 
@@ -217,20 +221,28 @@ unlinked : (old new : World) (ring : Option ℕ) (k : ℕ) → (new ≡ tidied (
 unlinked old new ring k (inl w) = same_sessions old new _ w refl (built_tidied _ _)
 unlinked old new ring k (inr w) = same_sessions old new _ w refl (built_tidied _ _)
 
-pub telling : (old : World) (now : ℕ) (e : Event) (a : Answer) (new : World) → Effect old now e a new → Goods old.sessions → IdleFresh old → Builds old → Telling old new
+pub telling : (old : World) (now : ℕ) (e : Event) (a : Answer) (new : World) → Effect old now e a new → Goods old.sessions → IdleFresh old → Builds old
+    → Telling old new
 telling old now e a new (refused error ra w free) good idle builds = same_sessions old new old w refl (λ k. refl)
 telling old now e a new (still t wait ev is ready ra w) good idle builds = same_sessions old new old w refl (λ k. refl)
 telling old now e a new (took t wait outcome ev is ready ra w) good idle builds =
-    quiet old new _ w (λ k. refl) (λ k. ap is_some (unspent_changed t _ old.sessions k)) (fewer_waits old new (same_session t) (λ s. wait_at old new _ w s _ (wait_collected t old.sessions s)))
+    quiet old new _ w (λ k. refl) (λ k. ap is_some (unspent_changed t _ old.sessions k))
+    (fewer_waits old new (same_session t) (λ s. wait_at old new _ w s _ (wait_collected t old.sessions s)))
 telling old now e a new (came n ev fresh ra w) good idle builds =
-    quiet old new _ w (λ k. refl) (λ k. refl) (same_waits old new (λ s. wait_at old new _ w s _ (wait_came n old.sessions s (none_is (map.get old.sessions.clients n) fresh))))
+    quiet old new _ w (λ k. refl) (λ k. refl) (same_waits old new
+    (λ s. wait_at old new _ w s _ (wait_came n old.sessions s (none_is (map.get old.sessions.clients n) fresh))))
 telling old now e a new (went n ev there ra w) good idle builds =
     quiet old new _ w (built_tidied _ _) (λ k. refl) (fewer_waits old new (same_session (Client n)) (λ s. wait_at old new _ w s _ (wait_went n old.sessions s)))
 telling old now e a new (greets n uid gid thread process join ev can none joined h) good idle builds =
     let same : h.4.sessions ≡ old.sessions = greeted_sessions _ old h.4 h.0 h.1 h.2 h.3 h.5 in
     let keys : h.4.keys ≡ old.keys = greeted_keys _ old h.4 h.0 h.1 h.2 h.3 h.5 in
-    quiet old new _ h.6.1 (λ k. ap (λ m. built_at m k) keys) (λ k. ap is_some (unspent_changed (Client n) (with_context (record { uid = uid; gid = gid; thread = h.0; process = h.1; session = h.2; user = h.3 })) h.4.sessions k) ∙ ap (λ (x : Sessions). is_some (unspent x k)) same)
-    (same_waits old new (λ s. wait_at old new _ h.6.1 s _ (wait_kept (Client n) (with_context (record { uid = uid; gid = gid; thread = h.0; process = h.1; session = h.2; user = h.3 })) (λ x. refl) h.4.sessions s ∙ ap (λ (x : Sessions). wait_of x s) same)))
+    quiet old new _ h.6.1 (λ k. ap (λ m. built_at m k) keys)
+    (λ k. ap is_some (unspent_changed (Client n) (with_context
+    (record { uid = uid; gid = gid; thread = h.0; process = h.1; session = h.2; user = h.3 })) h.4.sessions k)
+    ∙ ap (λ (x : Sessions). is_some (unspent x k)) same)
+    (same_waits old new (λ s. wait_at old new _ h.6.1 s _ (wait_kept (Client n)
+    (with_context (record { uid = uid; gid = gid; thread = h.0; process = h.1; session = h.2; user = h.3 })) (λ x. refl) h.4.sessions s
+    ∙ ap (λ (x : Sessions). wait_of x s) same)))
 telling old now e a new (begins t asker typ description callout r ring k ev can is depth fresh ra w) good idle builds =
     let authority : Authority = authority_for asker typ description now callout ring in
     let built : (j : ℕ) → is_built new j ≡ cond (nat_eq k j) true (is_built old j) =
@@ -240,7 +252,8 @@ telling old now e a new (begins t asker typ description callout r ring k ev can 
     tells_none
     (λ j. by_key k j (Still old new j)
     (λ same is. is_new (ap (is_drawn old) (sym same) ∙ fresh.unused) (λ _. built j ∙ ap (λ b. cond b true (is_built old j)) is))
-    (λ is. stays (built j ∙ ap (λ b. cond b true (is_built old j)) is) (ap is_some (unspents j) ∙ ap (λ b. is_some (cond b (Some authority) (unspent old.sessions j))) is)))
+    (λ is. stays (built j ∙ ap (λ b. cond b true (is_built old j)) is)
+    (ap is_some (unspents j) ∙ ap (λ b. is_some (cond b (Some authority) (unspent old.sessions j))) is)))
     (more_waits old new t k true (inl fresh.unused) (λ s. wait_at old new _ w s _
     (wait_begun t (new_wait k true) _ s (there_issued k _ old.sessions t (idle k fresh.unused) can.there)
     ∙ ap (cond (same_session t s) (Some (new_wait k true))) (wait_issued k _ old.sessions s (idle k fresh.unused)))))
@@ -249,21 +262,25 @@ telling old now e a new (joins t x ring k ev asks can building apart ra w) good 
     (more_waits old new t k false (inr building) (λ s. wait_at old new _ w s _ (wait_begun t (new_wait k false) old.sessions s can.there)))
 telling old now e a new (links t x ring k n ev completes_none not_assume ra w) good idle builds = same_sessions old new _ w refl (built_tidied _ _)
 telling old now e a new (unlinks t x ring k ev completes_none not_assume ra w) good idle builds = unlinked old new ring k w
-telling old now e a new (marks t x k f ev completes_none not_assume mild ra w) good idle builds = same_sessions old new _ w refl (built_marked k f mild old.keys)
+telling old now e a new (marks t x k f ev completes_none not_assume mild ra w) good idle builds =
+    same_sessions old new _ w refl (built_marked k f mild old.keys)
 telling old now e a new (tells t x bytes ev ra w) good idle builds = same_sessions old new old w refl (λ k. refl)
 telling old now e a new (sets t x setting n ev completes_none not_assume can ra w) good idle builds =
-    quiet old new _ w (λ k. refl) (λ k. ap is_some (unspent_changed t _ old.sessions k)) (same_waits old new (λ s. wait_at old new _ w s _ (wait_kept t _ (λ x. refl) old.sessions s)))
+    quiet old new _ w (λ k. refl) (λ k. ap is_some (unspent_changed t _ old.sessions k))
+    (same_waits old new (λ s. wait_at old new _ w s _ (wait_kept t _ (λ x. refl) old.sessions s)))
 telling old now e a new (adds t asker typ description payload r ring k ev fresh ra w) good idle builds =
     let built : (j : ℕ) → is_built new j ≡ cond (nat_eq k j) false (is_built old j) =
     λ j. built_as old new _ w j _ (built_tidied _ _ j ∙ built_put k (new_key typ description asker.context.uid (Some payload)) old.keys j) in
     let unspents : (j : ℕ) → is_unspent new j ≡ is_unspent old j = λ j. unspent_as old new _ w j _ refl in
     tells_none
     (λ j. by_key k j (Still old new j)
-    (λ same is. is_new (ap (is_drawn old) (sym same) ∙ fresh.unused) (λ u. absurd (not_there old j idle (ap (is_drawn old) (sym same) ∙ fresh.unused) (sym (unspents j) ∙ u))))
+    (λ same is. is_new (ap (is_drawn old) (sym same) ∙ fresh.unused)
+    (λ u. absurd (not_there old j idle (ap (is_drawn old) (sym same) ∙ fresh.unused) (sym (unspents j) ∙ u))))
     (λ is. stays (built j ∙ ap (λ b. cond b false (is_built old j)) is) (unspents j)))
     (same_waits old new (λ s. wait_at old new _ w s _ refl))
 telling old now e a new (assumes t key ev can none ra w) good idle builds =
-    quiet old new _ w (λ k. refl) (λ k. ap is_some (unspent_changed t _ old.sessions k)) (same_waits old new (λ s. wait_at old new _ w s _ (wait_kept t _ (λ x. refl) old.sessions s)))
+    quiet old new _ w (λ k. refl) (λ k. ap is_some (unspent_changed t _ old.sessions k))
+    (same_waits old new (λ s. wait_at old new _ w s _ (wait_kept t _ (λ x. refl) old.sessions s)))
 telling old now e a new (concludes t x asker ring k condition end ev which can is own final ra w) good idle builds =
     let by = concluder old t asker k is own in
     let mine = good by.0 by.1 k by.3 by.4 in
@@ -282,4 +299,5 @@ telling old now e a new (negates k how payload ev is fails ra w) good idle build
     quiet old new _ w (λ j. refl) (λ j. ap is_some (unspent_launched k Negating old.sessions j))
     (fewer_waits old new (same_session (Handler k)) (λ s. wait_at old new _ w s _ (wait_launched k Negating refl old.sessions s)))
 telling old now e a new (failed k st ev is launches ra w) good idle builds = ended_by old new now k (Negative error.NoKey) refl builds w (is_unspent old k) refl
-telling old now e a new (finished k how payload st condition ev is running final ra w) good idle builds = ended_by old new now k condition final builds w (is_unspent old k) refl
+telling old now e a new (finished k how payload st condition ev is running final ra w) good idle builds =
+    ended_by old new now k condition final builds w (is_unspent old k) refl

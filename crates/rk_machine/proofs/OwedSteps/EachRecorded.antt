@@ -56,28 +56,33 @@ done_refused a x d r = cc
 
 -- ---- what is owed is not refused
 
-by_test : (b : Bool) (old mid new : World) (a : Answer) (x : Errno) → Unless (refused_if (not b) errno.Einval) old a new (Settles done mid a new) → a ≡ Refused x → b ≡ false
+by_test : (b : Bool) (old mid new : World) (a : Answer) (x : Errno) → Unless (refused_if (not b) errno.Einval) old a new (Settles done mid a new)
+    → a ≡ Refused x → b ≡ false
 by_test true old mid new a x h r = absurd (done_refused a x h.0 r)
 by_test false old mid new a x h r = refl
 
 abbrev EndsPiped : World → ℕ → ℕ → How → Option (List ℕ) → Bool → Answer → World → Type 0
-EndsPiped old now k how payload b a new = MatchBool b (Leaves (Negate k) (negating k old) a new) (Settles done (ended now k (condition_after Piped how payload) old) a new)
+EndsPiped old now k how payload b a new =
+    MatchBool b (Leaves (Negate k) (negating k old) a new) (Settles done (ended now k (condition_after Piped how payload) old) a new)
 
-end_refused : (old : World) (now k : ℕ) (how : How) (payload : Option (List ℕ)) (b : Bool) (a : Answer) (new : World) (x : Errno) → EndsPiped old now k how payload b a new → a ≡ Refused x → ⊥
+end_refused : (old : World) (now k : ℕ) (how : How) (payload : Option (List ℕ)) (b : Bool) (a : Answer) (new : World) (x : Errno)
+    → EndsPiped old now k how payload b a new → a ≡ Refused x → ⊥
 end_refused old now k how payload true a new x h r = negate_refused a k x h.0 r
   where
     negate_refused : (a : Answer) (k : ℕ) (x : Errno) → a ≡ Negate k → a ≡ Refused x → ⊥
     negate_refused a k x d r = cc
 end_refused old now k how payload false a new x h r = done_refused a x h.0 r
 
-by_stage : (old : World) (now k : ℕ) (how : How) (payload : Option (List ℕ)) (st : Option Stage) (a : Answer) (new : World) (x : Errno) → Ends old now k how payload st a new → a ≡ Refused x → is_running st ≡ false
+by_stage : (old : World) (now k : ℕ) (how : How) (payload : Option (List ℕ)) (st : Option Stage) (a : Answer) (new : World) (x : Errno)
+    → Ends old now k how payload st a new → a ≡ Refused x → is_running st ≡ false
 by_stage old now k how payload None a new x h r = refl
 by_stage old now k how payload (Some Starting) a new x h r = refl
 by_stage old now k how payload (Some (Plain s)) a new x h r = absurd (done_refused a x h.0 r)
 by_stage old now k how payload (Some Negating) a new x h r = refl
 by_stage old now k how payload (Some Piped) a new x h r = absurd (end_refused old now k how payload (would_negate old k how payload) a new x h r)
 
-not_owed : (old : World) (now : ℕ) (e : Event) (a : Answer) (new : World) → Step old now e a new → (x : Errno) → a ≡ Refused x → ((s : SessionId) → e ≡ Collect s → wait_of old.sessions s ≡ None) → is_owed old e ≡ false
+not_owed : (old : World) (now : ℕ) (e : Event) (a : Answer) (new : World) → Step old now e a new → (x : Errno) → a ≡ Refused x
+    → ((s : SessionId) → e ≡ Collect s → wait_of old.sessions s ≡ None) → is_owed old e ≡ false
 unfolding Step
 not_owed old now (Opened s) a new h x r free = refl
 not_owed old now (Asked s q) a new h x r free = refl
@@ -97,7 +102,8 @@ told_no_lack (Failed error.Revoked) e = cc
 told_no_lack (Failed error.Rejected) e = cc
 
 -- it changes nothing, and is no answer to what is owed
-lacks : (old : World) (now : ℕ) (e : Event) (a : Answer) (new : World) → Step old now e a new → Effect old now e a new → a ≡ Refused errno.Enomem → (new ≡ old) × (is_owed old e ≡ false)
+lacks : (old : World) (now : ℕ) (e : Event) (a : Answer) (new : World) → Step old now e a new → Effect old now e a new → a ≡ Refused errno.Enomem
+    → (new ≡ old) × (is_owed old e ≡ false)
 lacks old now e a new h (refused x ra w free) r = (w, not_owed old now e a new h x ra free)
 lacks old now e a new h (still s wait ev is ready ra w) r = absurd (cc)
 lacks old now e a new h (took s wait outcome ev is ready ra w) r = absurd (told_no_lack outcome (sym ra ∙ r))
@@ -126,7 +132,8 @@ told_no_bytes : (o : Outcome) (b : List ℕ) → told_as o ≡ Done (Bytes b) �
 told_no_bytes (Found k) b e = cc
 told_no_bytes (Failed x) b e = cc
 
-tells_alone : (old : World) (now : ℕ) (e : Event) (a : Answer) (new : World) → Effect old now e a new → (b : List ℕ) → a ≡ Done (Bytes b) → (new ≡ old) × (is_owed old e ≡ false)
+tells_alone : (old : World) (now : ℕ) (e : Event) (a : Answer) (new : World) → Effect old now e a new → (b : List ℕ) → a ≡ Done (Bytes b)
+    → (new ≡ old) × (is_owed old e ≡ false)
 tells_alone old now e a new (refused x ra w free) b r = absurd (cc)
 tells_alone old now e a new (still s wait ev is ready ra w) b r = absurd (cc)
 tells_alone old now e a new (took s wait outcome ev is ready ra w) b r = absurd (told_no_bytes outcome b (sym ra ∙ r))
@@ -158,7 +165,8 @@ told_no_start : (o : Outcome) (k : ℕ) (subject : Subject) → told_as o ≡ St
 told_no_start (Found j) k subject e = cc
 told_no_start (Failed x) k subject e = cc
 
-starts_asked : (old : World) (now : ℕ) (e : Event) (a : Answer) (new : World) → Effect old now e a new → (k : ℕ) (subject : Subject) → a ≡ Start k subject → asked_of e ≡ Some (names_in subject)
+starts_asked : (old : World) (now : ℕ) (e : Event) (a : Answer) (new : World) → Effect old now e a new → (k : ℕ) (subject : Subject) → a ≡ Start k subject
+    → asked_of e ≡ Some (names_in subject)
 starts_asked old now e a new (refused x ra w free) k subject r = absurd (cc)
 starts_asked old now e a new (still s wait ev is ready ra w) k subject r = absurd (cc)
 starts_asked old now e a new (took s wait outcome ev is ready ra w) k subject r = absurd (told_no_start outcome k subject (sym ra ∙ r))
@@ -188,11 +196,13 @@ done_by_test : (b : Bool) (old mid new : World) (a : Answer) → b ≡ true → 
 done_by_test true old mid new a is h = h.0
 done_by_test false old mid new a is h = absurd (true_false (sym is))
 
-by_end : (old : World) (now k : ℕ) (how : How) (payload : Option (List ℕ)) (b : Bool) (a : Answer) (new : World) → EndsPiped old now k how payload b a new → (a ≡ done) ⊎ (a ≡ Negate k)
+by_end : (old : World) (now k : ℕ) (how : How) (payload : Option (List ℕ)) (b : Bool) (a : Answer) (new : World) → EndsPiped old now k how payload b a new
+    → (a ≡ done) ⊎ (a ≡ Negate k)
 by_end old now k how payload true a new h = inr h.0
 by_end old now k how payload false a new h = inl h.0
 
-done_by_stage : (old : World) (now k : ℕ) (how : How) (payload : Option (List ℕ)) (st : Option Stage) (a : Answer) (new : World) → is_running st ≡ true → Ends old now k how payload st a new → (a ≡ done) ⊎ (a ≡ Negate k)
+done_by_stage : (old : World) (now k : ℕ) (how : How) (payload : Option (List ℕ)) (st : Option Stage) (a : Answer) (new : World) → is_running st ≡ true
+    → Ends old now k how payload st a new → (a ≡ done) ⊎ (a ≡ Negate k)
 done_by_stage old now k how payload None a new is h = absurd (true_false (sym is))
 done_by_stage old now k how payload (Some Starting) a new is h = absurd (true_false (sym is))
 done_by_stage old now k how payload (Some Negating) a new is h = absurd (true_false (sym is))
@@ -206,9 +216,12 @@ owed_answer old now (Asked s x) a new h is = absurd (true_false (sym is))
 owed_answer old now (Launched k r) a new h is = done_by_test (may_launch r (stage_of old.sessions k)) old (launched now k r old) new a is h
 owed_answer old now (Ended k how payload) a new h is = done_by_stage old now k how payload (stage_of old.sessions k) a new is h
 owed_answer old now (Collect s) a new h is =
-    by_option (wait_of old.sessions s) _ _ _ (λ none _. absurd (let e : is_ready old s ≡ false = ap (λ (o : Option Wait). is_some (option_and_then (ready_outcome old.sessions) o)) none in true_false (sym is ∙ e))) (λ wait there g.
+    by_option (wait_of old.sessions s) _ _ _ (λ none _. absurd
+    (let e : is_ready old s ≡ false = ap (λ (o : Option Wait). is_some (option_and_then (ready_outcome old.sessions) o)) none in true_false (sym is ∙ e)))
+    (λ wait there g.
     by_option (ready_outcome old.sessions wait) _ _ _
-    (λ none _. absurd (let e : is_ready old s ≡ false = ap (λ (o : Option Wait). is_some (option_and_then (ready_outcome old.sessions) o)) there ∙ ap is_some none in true_false (sym is ∙ e))) (λ outcome _ f. (outcome, f.0)) g) h
+    (λ none _. absurd (let e : is_ready old s ≡ false = ap (λ (o : Option Wait). is_some (option_and_then (ready_outcome old.sessions) o)) there
+    ∙ ap is_some none in true_false (sym is ∙ e))) (λ outcome _ f. (outcome, f.0)) g) h
 owed_answer old now (Gone (Client n)) a new h is = done_by_test (map.contains_key old.sessions.clients n) old (gone n old) new a is h
 owed_answer old now (Gone (Handler k)) a new h is = absurd (true_false (sym is))
 
@@ -234,11 +247,15 @@ one_in (Some c) = refl
 -- where the kinds are the same at each key
 none_counted : (old new : World) → ((q : ℕ) → ones (kind_of new.sessions q) ≡ ones (kind_of old.sessions q)) → constructions new ≡ constructions old
 none_counted old new h =
-    counted new ∙ all_same one_each new.sessions.constructions old.sessions.constructions (λ q. one_in (map.get new.sessions.constructions q) ∙ h q ∙ sym (one_in (map.get old.sessions.constructions q))) ∙ sym (counted old)
+    counted new ∙ all_same one_each new.sessions.constructions old.sessions.constructions
+    (λ q. one_in (map.get new.sessions.constructions q) ∙ h q ∙ sym (one_in (map.get old.sessions.constructions q))) ∙ sym (counted old)
 
-one_counted : (old new : World) (k n m : ℕ) → ((q : ℕ) → nat_eq k q ≡ false → kind_of new.sessions q ≡ kind_of old.sessions q) → ones (kind_of new.sessions k) ≡ n → ones (kind_of old.sessions k) ≡ m → constructions new + m ≡ constructions old + n
+one_counted : (old new : World) (k n m : ℕ) → ((q : ℕ) → nat_eq k q ≡ false → kind_of new.sessions q ≡ kind_of old.sessions q)
+    → ones (kind_of new.sessions k) ≡ n → ones (kind_of old.sessions k) ≡ m → constructions new + m ≡ constructions old + n
 one_counted old new k n m same after before =
-    let one = but_one one_each new.sessions.constructions old.sessions.constructions k (λ q other. one_in (map.get new.sessions.constructions q) ∙ ap ones (same q other) ∙ sym (one_in (map.get old.sessions.constructions q))) in
+    let one =
+    but_one one_each new.sessions.constructions old.sessions.constructions k
+    (λ q other. one_in (map.get new.sessions.constructions q) ∙ ap ones (same q other) ∙ sym (one_in (map.get old.sessions.constructions q))) in
     let a = counted new in
     let b = counted old in
     let c : option_map_or one_each (map.get new.sessions.constructions k) 0 ≡ n = one_in (map.get new.sessions.constructions k) ∙ after in
@@ -255,14 +272,16 @@ end_kind a k h = found (map.get a.constructions k) h
     found None e = absurd (true_false (sym e))
     found (Some c) e = refl
 
-end_runs : (old : World) (now k : ℕ) (how : How) (payload : Option (List ℕ)) (st : Option Stage) (a : Answer) (new : World) → Ends old now k how payload st a new → is_done a ≡ true → is_running st ≡ true
+end_runs : (old : World) (now k : ℕ) (how : How) (payload : Option (List ℕ)) (st : Option Stage) (a : Answer) (new : World)
+    → Ends old now k how payload st a new → is_done a ≡ true → is_running st ≡ true
 end_runs old now k how payload None a new h d = absurd (true_false (sym d ∙ ap is_done h.0))
 end_runs old now k how payload (Some Starting) a new h d = absurd (true_false (sym d ∙ ap is_done h.0))
 end_runs old now k how payload (Some Negating) a new h d = absurd (true_false (sym d ∙ ap is_done h.0))
 end_runs old now k how payload (Some (Plain s)) a new h d = refl
 end_runs old now k how payload (Some Piped) a new h d = refl
 
-pub end_finds : (old : World) (now k : ℕ) (how : How) (payload : Option (List ℕ)) (a : Answer) (new : World) → Step old now (Ended k how payload) a new → is_done a ≡ true → is_some (kind_of old.sessions k) ≡ true
+pub end_finds : (old : World) (now k : ℕ) (how : How) (payload : Option (List ℕ)) (a : Answer) (new : World) → Step old now (Ended k how payload) a new
+    → is_done a ≡ true → is_some (kind_of old.sessions k) ≡ true
 unfolding Step
 end_finds old now k how payload a new h d = end_kind old.sessions k (end_runs old now k how payload (stage_of old.sessions k) a new h d)
 
@@ -278,13 +297,15 @@ names_asked (Ended k how payload) h = absurd (cc)
 names_asked (Collect s) h = absurd (cc)
 names_asked (Gone s) h = absurd (cc)
 
-count_step : (old : World) (now : ℕ) (e : Event) (a : Answer) (new : World) → Step old now e a new → IsIdle old → constructions new + closed e a ≡ constructions old + begun a
+count_step : (old : World) (now : ℕ) (e : Event) (a : Answer) (new : World) → Step old now e a new → IsIdle old
+    → constructions new + closed e a ≡ constructions old + begun a
 count_step old now e a new h idle = by_event e a refl refl h
   where
     is : (q : ℕ) → kind_of new.sessions q ≡ kind_after q e a (kind_of old.sessions q)
     is = kinds old now e a new (effect old now e a new h)
 
-    quiet : (y : Event) (b : Answer) → e ≡ y → a ≡ b → ((q : ℕ) → kind_after q y b (kind_of old.sessions q) ≡ kind_of old.sessions q) → constructions new ≡ constructions old
+    quiet : (y : Event) (b : Answer) → e ≡ y → a ≡ b → ((q : ℕ) → kind_after q y b (kind_of old.sessions q) ≡ kind_of old.sessions q)
+        → constructions new ≡ constructions old
     quiet y b ev ra h = none_counted old new (λ q. ap ones (is q ∙ (λ i. kind_after q (ev i) (ra i) (kind_of old.sessions q)) ∙ h q))
 
     chosen : {X : Type 0} (b : Bool) (x y : X) → b ≡ false → cond b x y ≡ y
@@ -296,33 +317,53 @@ count_step old now e a new h idle = by_event e a refl refl h
     own false x y h = absurd (true_false (sym h))
 
     -- a step that is done, of this construction
-    of_one : (y : Event) (b : Answer) (k : ℕ) (left : Option Kind) (n m : ℕ) → e ≡ y → a ≡ b → ((q : ℕ) → kind_after q y b (kind_of old.sessions q) ≡ cond (nat_eq k q) left (kind_of old.sessions q)) → ones left ≡ n → ones (kind_of old.sessions k) ≡ m
+    of_one : (y : Event) (b : Answer) (k : ℕ) (left : Option Kind) (n m : ℕ) → e ≡ y → a ≡ b
+        → ((q : ℕ) → kind_after q y b (kind_of old.sessions q) ≡ cond (nat_eq k q) left (kind_of old.sessions q)) → ones left ≡ n
+        → ones (kind_of old.sessions k) ≡ m
         → constructions new + m ≡ constructions old + n
     of_one y b k left n m ev ra h after before =
-        let to : (q : ℕ) → kind_of new.sessions q ≡ cond (nat_eq k q) left (kind_of old.sessions q) = λ q. is q ∙ (λ i. kind_after q (ev i) (ra i) (kind_of old.sessions q)) ∙ h q in
-        one_counted old new k n m (λ q other. to q ∙ chosen (nat_eq k q) left (kind_of old.sessions q) other) (ap ones (to k ∙ own (nat_eq k k) left (kind_of old.sessions k) (eq-eqb k k refl)) ∙ after) before
+        let to : (q : ℕ) → kind_of new.sessions q ≡ cond (nat_eq k q) left (kind_of old.sessions q) =
+        λ q. is q ∙ (λ i. kind_after q (ev i) (ra i) (kind_of old.sessions q)) ∙ h q in
+        one_counted old new k n m (λ q other. to q ∙ chosen (nat_eq k q) left (kind_of old.sessions q) other)
+        (ap ones (to k ∙ own (nat_eq k k) left (kind_of old.sessions k) (eq-eqb k k refl)) ∙ after) before
 
     plus_none : {m n : ℕ} → m ≡ n → m + 0 ≡ n + 0
     plus_none e = omega (arith, e)
 
-    launched_one : (k : ℕ) (r : Ran) (b : Answer) (d : Bool) → is_done b ≡ d → e ≡ Launched k r → a ≡ b → Step old now (Launched k r) b new → constructions new + cond d (closes (Launched k r)) 0 ≡ constructions old + 0
-    launched_one k r b false undone ev ra g = plus_none (quiet (Launched k r) b ev ra (λ q. ap (λ t. cond (t && nat_eq k q) (launched_kind r) (kind_of old.sessions q)) undone))
+    launched_one : (k : ℕ) (r : Ran) (b : Answer) (d : Bool) → is_done b ≡ d → e ≡ Launched k r → a ≡ b → Step old now (Launched k r) b new
+        → constructions new + cond d (closes (Launched k r)) 0 ≡ constructions old + 0
+    launched_one k r b false undone ev ra g =
+        plus_none (quiet (Launched k r) b ev ra (λ q. ap (λ t. cond (t && nat_eq k q) (launched_kind r) (kind_of old.sessions q)) undone))
     launched_one k ran.Plain b true makes ev ra g =
-        let same = of_one (Launched k ran.Plain) b k (Some talks) 1 1 ev ra (λ q. ap (λ t. cond (t && nat_eq k q) (Some talks) (kind_of old.sessions q)) makes) refl (found_one _ (found_some ran.Plain _ (launch_finds old now k ran.Plain b new g makes))) in omega arith
+        let same =
+        of_one (Launched k ran.Plain) b k (Some talks) 1 1 ev ra (λ q. ap (λ t. cond (t && nat_eq k q) (Some talks) (kind_of old.sessions q)) makes) refl
+        (found_one _ (found_some ran.Plain _ (launch_finds old now k ran.Plain b new g makes))) in omega arith
     launched_one k ran.Piped b true makes ev ra g =
-        let same = of_one (Launched k ran.Piped) b k (Some pipes) 1 1 ev ra (λ q. ap (λ t. cond (t && nat_eq k q) (Some pipes) (kind_of old.sessions q)) makes) refl (found_one _ (found_some ran.Piped _ (launch_finds old now k ran.Piped b new g makes))) in omega arith
+        let same =
+        of_one (Launched k ran.Piped) b k (Some pipes) 1 1 ev ra (λ q. ap (λ t. cond (t && nat_eq k q) (Some pipes) (kind_of old.sessions q)) makes) refl
+        (found_one _ (found_some ran.Piped _ (launch_finds old now k ran.Piped b new g makes))) in omega arith
     launched_one k ran.Failed b true makes ev ra g =
-        let same = of_one (Launched k ran.Failed) b k None 0 1 ev ra (λ q. ap (λ t. cond (t && nat_eq k q) None (kind_of old.sessions q)) makes) refl (found_one _ (found_some ran.Failed _ (launch_finds old now k ran.Failed b new g makes))) in omega arith
+        let same =
+        of_one (Launched k ran.Failed) b k None 0 1 ev ra (λ q. ap (λ t. cond (t && nat_eq k q) None (kind_of old.sessions q)) makes) refl
+        (found_one _ (found_some ran.Failed _ (launch_finds old now k ran.Failed b new g makes))) in omega arith
 
-    ended_one : (k : ℕ) (how : How) (payload : Option (List ℕ)) (b : Answer) (d : Bool) → is_done b ≡ d → is_followed b ≡ false → e ≡ Ended k how payload → a ≡ b → Step old now (Ended k how payload) b new → constructions new + cond d 1 0 ≡ constructions old + 0
+    ended_one : (k : ℕ) (how : How) (payload : Option (List ℕ)) (b : Answer) (d : Bool) → is_done b ≡ d → is_followed b ≡ false → e ≡ Ended k how payload
+        → a ≡ b → Step old now (Ended k how payload) b new → constructions new + cond d 1 0 ≡ constructions old + 0
     ended_one k how payload b false undone last ev ra g =
-        plus_none (quiet (Ended k how payload) b ev ra (λ q. (λ i. cond (undone i && nat_eq k q) None (cond (last i && nat_eq k q) (Some to_follow) (kind_of old.sessions q)))))
+        plus_none (quiet (Ended k how payload) b ev ra (λ q.
+        (λ i. cond (undone i && nat_eq k q) None (cond (last i && nat_eq k q) (Some to_follow) (kind_of old.sessions q)))))
     ended_one k how payload b true makes last ev ra g =
-        let same = of_one (Ended k how payload) b k None 0 1 ev ra (λ q. (λ i. cond (makes i && nat_eq k q) None (cond (last i && nat_eq k q) (Some to_follow) (kind_of old.sessions q)))) refl (found_one _ (end_finds old now k how payload b new g makes)) in omega arith
+        let same =
+        of_one (Ended k how payload) b k None 0 1 ev ra (λ q.
+        (λ i. cond (makes i && nat_eq k q) None (cond (last i && nat_eq k q) (Some to_follow) (kind_of old.sessions q)))) refl
+        (found_one _ (end_finds old now k how payload b new g makes)) in omega arith
 
-    followed_one : (k j : ℕ) (how : How) (payload : Option (List ℕ)) → e ≡ Ended k how payload → a ≡ Negate j → Step old now (Ended k how payload) (Negate j) new → constructions new + 0 ≡ constructions old + 0
+    followed_one : (k j : ℕ) (how : How) (payload : Option (List ℕ)) → e ≡ Ended k how payload → a ≡ Negate j
+        → Step old now (Ended k how payload) (Negate j) new → constructions new + 0 ≡ constructions old + 0
     followed_one k j how payload ev ra g =
-        let same = of_one (Ended k how payload) (Negate j) k (Some to_follow) 1 1 ev ra (λ q. refl) refl (ap ones (follow_finds old now k how payload (Negate j) new g refl)) in omega arith
+        let same =
+        of_one (Ended k how payload) (Negate j) k (Some to_follow) 1 1 ev ra (λ q. refl) refl
+        (ap ones (follow_finds old now k how payload (Negate j) new g refl)) in omega arith
 
     started_one : (s : SessionId) (x : Ask) (k : ℕ) (subject : Subject) → e ≡ Asked s x → a ≡ Start k subject → constructions new + 0 ≡ constructions old + 1
     started_one s x k subject ev ra =
@@ -385,17 +426,20 @@ nothing b a = zeros (is_done a) (b && not (is_followed a))
     zeros false true = refl
     zeros false false = refl
 
-ended_by_test : (b : Bool) (n : ℕ) (old mid new : World) (a : Answer) → Unless (refused_if (not b) errno.Einval) old a new (Settles done mid a new) → IsClosing b n a
+ended_by_test : (b : Bool) (n : ℕ) (old mid new : World) (a : Answer) → Unless (refused_if (not b) errno.Einval) old a new (Settles done mid a new)
+    → IsClosing b n a
 unfolding IsClosing
 ended_by_test true n old mid new a h = closing_at true n a _ h.0 refl
 ended_by_test false n old mid new a h = closing_at false n a _ h.0 refl
 
-ended_by_end : (old : World) (now k : ℕ) (how : How) (payload : Option (List ℕ)) (b : Bool) (a : Answer) (new : World) → EndsPiped old now k how payload b a new → IsClosing true 1 a
+ended_by_end : (old : World) (now k : ℕ) (how : How) (payload : Option (List ℕ)) (b : Bool) (a : Answer) (new : World) → EndsPiped old now k how payload b a new
+    → IsClosing true 1 a
 unfolding IsClosing
 ended_by_end old now k how payload true a new h = closing_at true 1 a _ h.0 refl
 ended_by_end old now k how payload false a new h = closing_at true 1 a _ h.0 refl
 
-ended_by_stage : (old : World) (now k : ℕ) (how : How) (payload : Option (List ℕ)) (st : Option Stage) (a : Answer) (new : World) → Ends old now k how payload st a new → IsClosing (is_running st) 1 a
+ended_by_stage : (old : World) (now k : ℕ) (how : How) (payload : Option (List ℕ)) (st : Option Stage) (a : Answer) (new : World)
+    → Ends old now k how payload st a new → IsClosing (is_running st) 1 a
 unfolding IsClosing
 ended_by_stage old now k how payload None a new h = closing_at false 1 a _ h.0 refl
 ended_by_stage old now k how payload (Some Starting) a new h = closing_at false 1 a _ h.0 refl
@@ -403,7 +447,8 @@ ended_by_stage old now k how payload (Some Negating) a new h = closing_at false 
 ended_by_stage old now k how payload (Some (Plain s)) a new h = closing_at true 1 a _ h.0 refl
 ended_by_stage old now k how payload (Some Piped) a new h = ended_by_end old now k how payload (would_negate old k how payload) a new h
 
-closing_owed : (old : World) (now : ℕ) (e : Event) (a : Answer) (new : World) → Step old now e a new → closed e a ≡ cond (is_owed old e && not (is_followed a)) (closes e) 0
+closing_owed : (old : World) (now : ℕ) (e : Event) (a : Answer) (new : World) → Step old now e a new
+    → closed e a ≡ cond (is_owed old e && not (is_followed a)) (closes e) 0
 unfolding Step IsClosing
 closing_owed old now (Opened s) a new h = nothing false a
 closing_owed old now (Asked s x) a new h = nothing false a
@@ -443,7 +488,8 @@ data EndsChange (s : SessionId) (old new : World) (starts : ℕ) : Type 0 where
   of_start : (k : ℕ) → starts ≡ 2 → same_session s (Handler k) ≡ false → kind_of old.sessions k ≡ None → kind_of new.sessions k ≡ Some to_start
       → ((q : ℕ) → nat_eq k q ≡ false → kind_of new.sessions q ≡ kind_of old.sessions q) → EndsChange s old new starts
 
-sum_ends : (s : SessionId) (old new : World) (starts : ℕ) → EndsChange s old new starts → ends_owed new + ends_owed_to old s ≡ ends_owed old + ends_owed_to new s + starts
+sum_ends : (s : SessionId) (old new : World) (starts : ℕ) → EndsChange s old new starts
+    → ends_owed new + ends_owed_to old s ≡ ends_owed old + ends_owed_to new s + starts
 sum_ends (Client n) old new starts (of_none none same) =
     let rest = all_same construction_ends new.sessions.constructions old.sessions.constructions (λ q. kept_ends old new q (same q refl)) in omega arith
 sum_ends (Handler j) old new starts (of_none none same) =
@@ -468,15 +514,21 @@ sum_ends (Handler j) old new starts (of_start k two apart before after same) =
         by_test false e = refl
 
 -- a start is of another key than the asker's
-starts_apart : (old : World) (now : ℕ) (e : Event) (a : Answer) (new : World) → Effect old now e a new → IsIdle old → (k : ℕ) (subject : Subject) → a ≡ Start k subject → (s : SessionId) × (x : Ask) × (e ≡ Asked s x) × (same_session s (Handler k) ≡ false)
+starts_apart : (old : World) (now : ℕ) (e : Event) (a : Answer) (new : World) → Effect old now e a new → IsIdle old → (k : ℕ) (subject : Subject)
+    → a ≡ Start k subject → (s : SessionId) × (x : Ask) × (e ≡ Asked s x) × (same_session s (Handler k) ≡ false)
 starts_apart old now e a new (refused x ra w free) idle k subject r = absurd (cc)
 starts_apart old now e a new (still s wait ev is ready ra w) idle k subject r = absurd (cc)
 starts_apart old now e a new (took s wait outcome ev is ready ra w) idle k subject r = absurd (told_no_start outcome k subject (sym ra ∙ r))
 starts_apart old now e a new (came n ev fresh ra w) idle k subject r = absurd (cc)
 starts_apart old now e a new (went n ev there ra w) idle k subject r = absurd (cc)
 starts_apart old now e a new (greets n uid gid thread process join ev can none ok g) idle k subject r = absurd (let ra = g.6.0 in cc)
-starts_apart old now e a new (begins s asker typ description callout q ring j ev can is depth fresh ra w) idle k subject r =
-    (s, ask.Request typ description (Some callout) q, ev, ap (λ i. same_session s (Handler i)) (sym (start_key (sym ra ∙ r))) ∙ other_key old s j (idle_fresh old idle j fresh.unused) can.there)
+starts_apart old now e a new (begins s asker typ description callout q ring j ev can is depth fresh ra w) idle k subject r = (
+  s,
+  ask.Request typ description (Some callout) q,
+  ev,
+  ap (λ i. same_session s (Handler i)) (sym (start_key (sym ra ∙ r)))
+      ∙ other_key old s j (idle_fresh old idle j fresh.unused) can.there,
+)
 starts_apart old now e a new (joins s x ring j ev asks can building apart ra w) idle k subject r = absurd (cc)
 starts_apart old now e a new (links s x ring j n ev completes_none not_assume ra w) idle k subject r = absurd (cc)
 starts_apart old now e a new (unlinks s x ring j ev completes_none not_assume ra w) idle k subject r = absurd (cc)
@@ -503,7 +555,8 @@ off (Asked s x) (Waiting k) q o none other = refl
 off (Asked s x) (Negate k) q o none other = refl
 off (Asked s x) (Refused f) q o none other = refl
 off (Launched k r) a q o none other = ap (λ b. cond b (launched_kind r) o) (and_false (is_done a) (nat_eq k q) other)
-off (Ended k how payload) a q o none other = λ i. cond (and_false (is_done a) (nat_eq k q) other i) None (cond (and_false (is_followed a) (nat_eq k q) other i) (Some to_follow) o)
+off (Ended k how payload) a q o none other =
+    λ i. cond (and_false (is_done a) (nat_eq k q) other i) None (cond (and_false (is_followed a) (nat_eq k q) other i) (Some to_follow) o)
 off (Opened s) a q o none other = refl
 off (Collect s) a q o none other = refl
 off (Gone s) a q o none other = refl
@@ -523,7 +576,8 @@ ends_change old now e a new h idle = by_answer a refl
     started : (k : ℕ) (subject : Subject) → a ≡ Start k subject → EndsChange (whose e) old new (start_ends a)
     started k subject ra =
         let one = starts_apart old now e a new found idle k subject ra in
-        let after : (q : ℕ) → kind_of new.sessions q ≡ cond (nat_eq k q) (Some to_start) (kind_of old.sessions q) = λ q. is q ∙ (λ i. kind_after q (one.2 i) (ra i) (kind_of old.sessions q)) in
+        let after : (q : ℕ) → kind_of new.sessions q ≡ cond (nat_eq k q) (Some to_start) (kind_of old.sessions q) =
+        λ q. is q ∙ (λ i. kind_after q (one.2 i) (ra i) (kind_of old.sessions q)) in
         of_start k (ap start_ends ra) (ap (λ y. same_session (whose y) (Handler k)) one.2 ∙ one.3) (idle k (start_draws old now e a new found k subject ra).0)
         (after k ∙ ap (λ b. cond b (Some to_start) (kind_of old.sessions k)) (eq-eqb k k refl))
         (λ q other. after q ∙ ap (λ b. cond b (Some to_start) (kind_of old.sessions q)) other)
@@ -535,7 +589,8 @@ ends_change old now e a new h idle = by_answer a refl
     by_answer (Negate k) ra = rest (ap start_ends ra)
     by_answer (Refused f) ra = rest (ap start_ends ra)
 
-ends_balance : (old : World) (now : ℕ) (e : Event) (a : Answer) (new : World) → Step old now e a new → IsIdle old → ends_owed new + ends_owed_to old (whose e) ≡ ends_owed old + ends_owed_to new (whose e) + start_ends a
+ends_balance : (old : World) (now : ℕ) (e : Event) (a : Answer) (new : World) → Step old now e a new → IsIdle old
+    → ends_owed new + ends_owed_to old (whose e) ≡ ends_owed old + ends_owed_to new (whose e) + start_ends a
 ends_balance old now e a new h idle = sum_ends (whose e) old new (start_ends a) (ends_change old now e a new h idle)
 
 no_takes : (b : Bool) (m n : ℕ) → m ≡ n → m + cond b 0 0 ≤ n
@@ -558,7 +613,8 @@ launch_ends ran.Piped (Some talks) h = absurd (true_false (sym h))
 launch_ends ran.Piped (Some pipes) h = absurd (true_false (sym h))
 launch_ends ran.Piped (Some to_follow) h = absurd (true_false (sym h))
 
-ends_taken : (old : World) (now : ℕ) (e : Event) (a : Answer) (new : World) → Step old now e a new → IsIdle old → ends_owed_to new (whose e) + cond (is_owed old e) (takes e) 0 ≤ ends_owed_to old (whose e)
+ends_taken : (old : World) (now : ℕ) (e : Event) (a : Answer) (new : World) → Step old now e a new → IsIdle old
+    → ends_owed_to new (whose e) + cond (is_owed old e) (takes e) 0 ≤ ends_owed_to old (whose e)
 ends_taken old now e a new h idle = by_event e refl h
   where
     found : Effect old now e a new
@@ -585,25 +641,35 @@ ends_taken old now e a new h idle = by_event e refl h
             by_test : (b : Bool) → nat_eq k j ≡ b → cond b (Some to_start) (kind_of old.sessions j) ≡ kind_of old.sessions j
             by_test true e = absurd (true_false (sym (eq-eqb j k (sym (eqb-true k j e))) ∙ h))
             by_test false e = refl
-    asker (Handler j) x ev (Done r) ra = kept_ends old new j (is (Asked (Handler j) x) ev j ∙ (λ i. kind_after j (Asked (Handler j) x) (ra i) (kind_of old.sessions j)))
-    asker (Handler j) x ev (Waiting k) ra = kept_ends old new j (is (Asked (Handler j) x) ev j ∙ (λ i. kind_after j (Asked (Handler j) x) (ra i) (kind_of old.sessions j)))
-    asker (Handler j) x ev (Negate k) ra = kept_ends old new j (is (Asked (Handler j) x) ev j ∙ (λ i. kind_after j (Asked (Handler j) x) (ra i) (kind_of old.sessions j)))
-    asker (Handler j) x ev (Refused f) ra = kept_ends old new j (is (Asked (Handler j) x) ev j ∙ (λ i. kind_after j (Asked (Handler j) x) (ra i) (kind_of old.sessions j)))
+    asker (Handler j) x ev (Done r) ra =
+        kept_ends old new j (is (Asked (Handler j) x) ev j ∙ (λ i. kind_after j (Asked (Handler j) x) (ra i) (kind_of old.sessions j)))
+    asker (Handler j) x ev (Waiting k) ra =
+        kept_ends old new j (is (Asked (Handler j) x) ev j ∙ (λ i. kind_after j (Asked (Handler j) x) (ra i) (kind_of old.sessions j)))
+    asker (Handler j) x ev (Negate k) ra =
+        kept_ends old new j (is (Asked (Handler j) x) ev j ∙ (λ i. kind_after j (Asked (Handler j) x) (ra i) (kind_of old.sessions j)))
+    asker (Handler j) x ev (Refused f) ra =
+        kept_ends old new j (is (Asked (Handler j) x) ev j ∙ (λ i. kind_after j (Asked (Handler j) x) (ra i) (kind_of old.sessions j)))
 
-    launch : (k : ℕ) (r : Ran) → e ≡ Launched k r → Step old now (Launched k r) a new → (d : Bool) → is_done a ≡ d → ends_owed_to new (Handler k) + cond (is_owed old (Launched k r)) 0 0 ≤ ends_owed_to old (Handler k)
+    launch : (k : ℕ) (r : Ran) → e ≡ Launched k r → Step old now (Launched k r) a new → (d : Bool) → is_done a ≡ d
+        → ends_owed_to new (Handler k) + cond (is_owed old (Launched k r)) 0 0 ≤ ends_owed_to old (Handler k)
     launch k r ev g true d =
-        let left : ends_owed_to new (Handler k) ≡ kind_ends (launched_kind r) = ends_at new k ∙ ap kind_ends (is (Launched k r) ev k ∙ (λ i. cond (d i && eq-eqb k k refl i) (launched_kind r) (kind_of old.sessions k))) in
+        let left : ends_owed_to new (Handler k) ≡ kind_ends (launched_kind r) =
+        ends_at new k ∙ ap kind_ends (is (Launched k r) ev k ∙ (λ i. cond (d i && eq-eqb k k refl i) (launched_kind r) (kind_of old.sessions k))) in
         let was = ends_at old k in
         let less = launch_ends r (kind_of old.sessions k) (launch_finds old now k r a new g d) in
         let same = no_takes (is_owed old (Launched k r)) (ends_owed_to new (Handler k)) (ends_owed_to new (Handler k)) refl in
         omega arith
     launch k r ev g false d =
-        no_takes (is_owed old (Launched k r)) _ _ (kept_ends old new k (is (Launched k r) ev k ∙ ap (λ b. cond (b && nat_eq k k) (launched_kind r) (kind_of old.sessions k)) d))
+        no_takes (is_owed old (Launched k r)) _ _ (kept_ends old new k
+        (is (Launched k r) ev k ∙ ap (λ b. cond (b && nat_eq k k) (launched_kind r) (kind_of old.sessions k)) d))
 
-    finish : (k : ℕ) (how : How) (payload : Option (List ℕ)) → e ≡ Ended k how payload → Step old now (Ended k how payload) a new → (d f o : Bool) → is_done a ≡ d → is_followed a ≡ f → is_owed old (Ended k how payload) ≡ o
+    finish : (k : ℕ) (how : How) (payload : Option (List ℕ)) → e ≡ Ended k how payload → Step old now (Ended k how payload) a new → (d f o : Bool)
+        → is_done a ≡ d → is_followed a ≡ f → is_owed old (Ended k how payload) ≡ o
         → ends_owed_to new (Handler k) + cond o 1 0 ≤ ends_owed_to old (Handler k)
     finish k how payload ev g true f o d fo ow =
-        let left : ends_owed_to new (Handler k) ≡ 0 = ends_at new k ∙ ap kind_ends (is (Ended k how payload) ev k ∙ (λ i. cond (d i && eq-eqb k k refl i) None (cond (is_followed a && nat_eq k k) (Some to_follow) (kind_of old.sessions k)))) in
+        let left : ends_owed_to new (Handler k) ≡ 0 =
+        ends_at new k ∙ ap kind_ends (is (Ended k how payload) ev k
+        ∙ (λ i. cond (d i && eq-eqb k k refl i) None (cond (is_followed a && nat_eq k k) (Some to_follow) (kind_of old.sessions k)))) in
         let was = ends_at old k in
         let some = some_ends (kind_of old.sessions k) (end_finds old now k how payload a new g d) in
         let one = at_most_one o in
@@ -613,7 +679,9 @@ ends_taken old now e a new h idle = by_event e refl h
         at_most_one true = omega arith
         at_most_one false = omega arith
     finish k how payload ev g false true o d f ow =
-        let left : ends_owed_to new (Handler k) ≡ 1 = ends_at new k ∙ ap kind_ends (is (Ended k how payload) ev k ∙ (λ i. cond (d i && nat_eq k k) None (cond (f i && eq-eqb k k refl i) (Some to_follow) (kind_of old.sessions k)))) in
+        let left : ends_owed_to new (Handler k) ≡ 1 =
+        ends_at new k ∙ ap kind_ends (is (Ended k how payload) ev k
+        ∙ (λ i. cond (d i && nat_eq k k) None (cond (f i && eq-eqb k k refl i) (Some to_follow) (kind_of old.sessions k)))) in
         let was : ends_owed_to old (Handler k) ≡ 2 = ends_at old k ∙ ap kind_ends (follow_finds old now k how payload a new g f) in
         let one = at_most_one o in
         omega arith
@@ -628,7 +696,9 @@ ends_taken old now e a new h idle = by_event e refl h
         neither (inl e) = true_false (sym (ap is_done e) ∙ d)
         neither (inr e) = true_false (sym (ap is_followed e) ∙ f)
     finish k how payload ev g false false false d f ow =
-        let same = kept_ends old new k (is (Ended k how payload) ev k ∙ (λ i. cond (d i && nat_eq k k) None (cond (f i && nat_eq k k) (Some to_follow) (kind_of old.sessions k)))) in
+        let same =
+        kept_ends old new k (is (Ended k how payload) ev k
+        ∙ (λ i. cond (d i && nat_eq k k) None (cond (f i && nat_eq k k) (Some to_follow) (kind_of old.sessions k)))) in
         omega arith
 
     by_event : (y : Event) → e ≡ y → Step old now y a new → ends_owed_to new (whose y) + cond (is_owed old y) (takes y) 0 ≤ ends_owed_to old (whose y)

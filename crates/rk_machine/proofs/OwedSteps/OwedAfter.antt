@@ -48,7 +48,8 @@ stage_kept f h (Plain s) = ap (λ n. 1 + n) (h s)
 stage_kept f h Piped = refl
 stage_kept f h Negating = refl
 
-handler_kept : (f : Session → Session) → KeepsPlaces f → (b : Bool) (o : Option Construction) → at_construction (cond b (option_map (in_handler f) o) o) ≡ at_construction o
+handler_kept : (f : Session → Session) → KeepsPlaces f → (b : Bool) (o : Option Construction)
+    → at_construction (cond b (option_map (in_handler f) o) o) ≡ at_construction o
 handler_kept f h true None = refl
 handler_kept f h true (Some c) = stage_kept f h c.stage
 handler_kept f h false o = refl
@@ -59,14 +60,18 @@ pub places_kept : (id : SessionId) (f : Session → Session) → KeepsPlaces f �
 places_kept (Client n) f h a (Client m) = ap at_client (get_changed_at n f a.clients m) ∙ client_kept f h (nat_eq n m) (map.get a.clients m)
 places_kept (Client n) f h a (Handler k) = refl
 places_kept (Handler j) f h a (Client m) = refl
-places_kept (Handler j) f h a (Handler k) = ap at_construction (get_changed_at j (in_handler f) a.constructions k) ∙ handler_kept f h (nat_eq j k) (map.get a.constructions k)
+places_kept (Handler j) f h a (Handler k) =
+    ap at_construction (get_changed_at j (in_handler f) a.constructions k) ∙ handler_kept f h (nat_eq j k) (map.get a.constructions k)
 
-pub places_other : (id : SessionId) (f : Session → Session) (a : Sessions) (s : SessionId) → same_session id s ≡ false → places (session_changed id f a) s ≡ places a s
-places_other (Client n) f a (Client m) other = ap at_client (get_changed_at n f a.clients m ∙ ap (λ b. cond b (option_map f (map.get a.clients m)) (map.get a.clients m)) other)
+pub places_other : (id : SessionId) (f : Session → Session) (a : Sessions) (s : SessionId) → same_session id s ≡ false
+    → places (session_changed id f a) s ≡ places a s
+places_other (Client n) f a (Client m) other =
+    ap at_client (get_changed_at n f a.clients m ∙ ap (λ b. cond b (option_map f (map.get a.clients m)) (map.get a.clients m)) other)
 places_other (Client n) f a (Handler k) other = refl
 places_other (Handler j) f a (Client m) other = refl
 places_other (Handler j) f a (Handler k) other =
-    ap at_construction (get_changed_at j (in_handler f) a.constructions k ∙ ap (λ b. cond b (option_map (in_handler f) (map.get a.constructions k)) (map.get a.constructions k)) other)
+    ap at_construction (get_changed_at j (in_handler f) a.constructions k ∙ ap
+    (λ b. cond b (option_map (in_handler f) (map.get a.constructions k)) (map.get a.constructions k)) other)
 
 -- who is there is owed its end, and its wait
 pub places_there : (a : Sessions) (s : SessionId) (x : Session) → session_of a s ≡ Some x → places a s ≡ 1 + wait_owes x
@@ -102,7 +107,8 @@ handler_all f h (Some c) = stage_kept f h c.stage
 
 pub places_told : (k : ℕ) (o : Outcome) (a : Sessions) (s : SessionId) → places (all_told k o a) s ≡ places a s
 places_told k o a (Client n) = ap at_client (get_changed_all (told k o) a.clients n) ∙ client_all (told k o) (told_waits k o) (map.get a.clients n)
-places_told k o a (Handler j) = ap at_construction (get_changed_all (in_handler (told k o)) a.constructions j) ∙ handler_all (told k o) (told_waits k o) (map.get a.constructions j)
+places_told k o a (Handler j) =
+    ap at_construction (get_changed_all (in_handler (told k o)) a.constructions j) ∙ handler_all (told k o) (told_waits k o) (map.get a.constructions j)
 
 spent_in : (b : Bool) (o : Option Construction) → at_construction (cond b (option_map without_authority o) o) ≡ at_construction o
 spent_in true None = refl
@@ -137,30 +143,37 @@ pub places_removed : (k : ℕ) (a : Sessions) (s : SessionId) → places (withou
 places_removed k a (Client n) = refl
 places_removed k a (Handler j) = ap at_construction (get_removed a.constructions k j) ∙ removed_in (nat_eq k j) (map.get a.constructions j)
 
-pub places_ended : (now k : ℕ) (condition : Condition) (w : World) (s : SessionId) → places (ended now k condition w).sessions s ≡ cond (same_session (Handler k) s) 0 (places w.sessions s)
-places_ended now k condition w s = places_removed k (sessions_ended now k condition w) s ∙ ap (cond (same_session (Handler k) s) 0) (places_settled now k condition w s)
+pub places_ended : (now k : ℕ) (condition : Condition) (w : World) (s : SessionId)
+    → places (ended now k condition w).sessions s ≡ cond (same_session (Handler k) s) 0 (places w.sessions s)
+places_ended now k condition w s =
+    places_removed k (sessions_ended now k condition w) s ∙ ap (cond (same_session (Handler k) s) 0) (places_settled now k condition w s)
 
-issued_in : (authority : Authority) (b : Bool) (o : Option Construction) → at_construction (cond b (Some (record { stage = Starting; authority = Some authority })) o) ≡ cond b 4 (at_construction o)
+issued_in : (authority : Authority) (b : Bool) (o : Option Construction)
+    → at_construction (cond b (Some (record { stage = Starting; authority = Some authority })) o) ≡ cond b 4 (at_construction o)
 issued_in authority true o = refl
 issued_in authority false o = refl
 
-pub places_issued : (k : ℕ) (authority : Authority) (a : Sessions) (s : SessionId) → places (with_construction k authority a) s ≡ cond (same_session (Handler k) s) 4 (places a s)
+pub places_issued : (k : ℕ) (authority : Authority) (a : Sessions) (s : SessionId)
+    → places (with_construction k authority a) s ≡ cond (same_session (Handler k) s) 4 (places a s)
 places_issued k authority a (Client n) = refl
 places_issued k authority a (Handler j) = ap at_construction (get_inserted a.constructions k _ j) ∙ issued_in authority (nat_eq k j) (map.get a.constructions j)
 
-launched_in : (st : Stage) (b : Bool) (o : Option Construction) → (b ≡ true → is_some o ≡ true) → at_construction (cond b (option_map (in_new_stage st) o) o) ≡ cond b (stage_owes st) (at_construction o)
+launched_in : (st : Stage) (b : Bool) (o : Option Construction) → (b ≡ true → is_some o ≡ true)
+    → at_construction (cond b (option_map (in_new_stage st) o) o) ≡ cond b (stage_owes st) (at_construction o)
 launched_in st true None there = absurd (let e = there refl in cc)
 launched_in st true (Some c) there = refl
 launched_in st false o there = refl
 
-pub stage_there : (a : Sessions) (k : ℕ) (st : Stage) → stage_of a k ≡ Some st → (is_some (map.get a.constructions k) ≡ true) × (places a (Handler k) ≡ stage_owes st)
+pub stage_there : (a : Sessions) (k : ℕ) (st : Stage) → stage_of a k ≡ Some st
+    → (is_some (map.get a.constructions k) ≡ true) × (places a (Handler k) ≡ stage_owes st)
 stage_there a k st h = found (map.get a.constructions k) h
   where
     found : (o : Option Construction) → option_map (λ c. c.stage) o ≡ Some st → (is_some o ≡ true) × (at_construction o ≡ stage_owes st)
     found None e = absurd (cc)
     found (Some c) e = (refl, (let same : c.stage ≡ st = cc in ap stage_owes same))
 
-pub places_launched : (k : ℕ) (st : Stage) (a : Sessions) (s : SessionId) → is_some (map.get a.constructions k) ≡ true → places (launched k st a) s ≡ cond (same_session (Handler k) s) (stage_owes st) (places a s)
+pub places_launched : (k : ℕ) (st : Stage) (a : Sessions) (s : SessionId) → is_some (map.get a.constructions k) ≡ true
+    → places (launched k st a) s ≡ cond (same_session (Handler k) s) (stage_owes st) (places a s)
 places_launched k st a (Client n) there = refl
 places_launched k st a (Handler j) there =
     ap at_construction (get_changed_at k (in_new_stage st) a.constructions j)

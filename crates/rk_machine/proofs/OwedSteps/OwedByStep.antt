@@ -105,14 +105,16 @@ need_any (Collect s) = omega arith
 need_any (Gone s) = omega arith
 
 -- nothing that is owed is changed, and nothing was owed
-rests : (old mid : World) (e : Event) (a : Answer) → start_owes a ≡ 0 → is_owed old e ≡ false → ((t : SessionId) → places mid.sessions t ≡ places old.sessions t) → Moves old e a mid
+rests : (old mid : World) (e : Event) (a : Answer) → start_owes a ≡ 0 → is_owed old e ≡ false
+    → ((t : SessionId) → places mid.sessions t ≡ places old.sessions t) → Moves old e a mid
 rests old mid e a none not_owed same = (
   at_one none (λ t other. same t),
   (λ _. let here = same (whose e) in let some = need_any e in omega arith),
   (λ owed. absurd (true_false (sym owed ∙ not_owed))),
 )
 
-unlinked_places : (old new : World) (ring : Option ℕ) (k : ℕ) → (new ≡ tidied (unlinked_in ring k old)) ⊎ (new ≡ tidied (cleared_in ring old)) → (t : SessionId) → places new.sessions t ≡ places old.sessions t
+unlinked_places : (old new : World) (ring : Option ℕ) (k : ℕ) → (new ≡ tidied (unlinked_in ring k old)) ⊎ (new ≡ tidied (cleared_in ring old)) → (t : SessionId)
+    → places new.sessions t ≡ places old.sessions t
 unlinked_places old new ring k (inl w) t = ap (λ (v : World). places v.sessions t) w
 unlinked_places old new ring k (inr w) t = ap (λ (v : World). places v.sessions t) w
 
@@ -136,14 +138,16 @@ no_wait : (a : Sessions) (s : SessionId) (x : Session) → session_of a s ≡ So
 no_wait a s x is none = ap (λ (v : Option Wait). cond (is_some v) 1 0) (sym (ap (option_and_then (λ (one : Session). one.wait)) is) ∙ none)
 
 -- a session that is there is changed
-changed_there : (a : Sessions) (s : SessionId) (f : Session → Session) (x : Session) → session_of a s ≡ Some x → places (session_changed s f a) s ≡ 1 + wait_owes (f x)
+changed_there : (a : Sessions) (s : SessionId) (f : Session → Session) (x : Session) → session_of a s ≡ Some x
+    → places (session_changed s f a) s ≡ 1 + wait_owes (f x)
 changed_there a s f x is =
     places_there (session_changed s f a) s (f x)
     (session_of_changed s f a s ∙ ap (λ b. cond b (option_map f (session_of a s)) (session_of a s)) (same-self s) ∙ ap (option_map f) is)
 
 -- ---- each step
 
-pub other_key : (old : World) (s : SessionId) (k : ℕ) → map.get old.sessions.constructions k ≡ None → is_none (session_of old.sessions s) ≡ false → same_session s (Handler k) ≡ false
+pub other_key : (old : World) (s : SessionId) (k : ℕ) → map.get old.sessions.constructions k ≡ None → is_none (session_of old.sessions s) ≡ false
+    → same_session s (Handler k) ≡ false
 other_key old s k none there = decided (same_session s (Handler k)) refl
   where
     absent : s ≡ Handler k → session_of old.sessions s ≡ None
@@ -153,8 +157,10 @@ other_key old s k none there = decided (same_session s (Handler k)) refl
     decided true is = absurd (true_false (sym (ap is_none (absent (same-true s (Handler k) is))) ∙ there))
     decided false is = refl
 
-began : (old : World) (s : SessionId) (x : Ask) (k : ℕ) (subject : Subject) (authority : Authority) (mid : World) → is_request x ≡ true → map.get old.sessions.constructions k ≡ None → is_none (session_of old.sessions s) ≡ false
-    → mid.sessions ≡ session_changed s (with_wait (Some (new_wait k true))) (with_construction k authority old.sessions) → Moves old (Asked s x) (Start k subject) mid
+began : (old : World) (s : SessionId) (x : Ask) (k : ℕ) (subject : Subject) (authority : Authority) (mid : World) → is_request x ≡ true
+    → map.get old.sessions.constructions k ≡ None → is_none (session_of old.sessions s) ≡ false
+    → mid.sessions ≡ session_changed s (with_wait (Some (new_wait k true))) (with_construction k authority old.sessions)
+    → Moves old (Asked s x) (Start k subject) mid
 began old s x k subject authority mid asks none there is =
     let f : Session → Session = with_wait (Some (new_wait k true)) in
     let issued : Sessions = with_construction k authority old.sessions in
@@ -166,8 +172,10 @@ began old s x k subject authority mid asks none there is =
     let was : places old.sessions s ≡ 1 + wait_owes two.0 = places_there old.sessions s two.0 two.1 in
     let six : need (Asked s x) ≡ 6 = ap (λ b. cond b 6 1) asks in (
       at_two k refl apart (ap (λ (o : Option Construction). option_map_or construction_owes o 0) none)
-          (at (Handler k) ∙ places_other s f issued (Handler k) apart ∙ places_issued k authority old.sessions (Handler k) ∙ ap (λ b. cond b 4 (places old.sessions (Handler k))) (same-self (Handler k)))
-          (λ t other others. at t ∙ places_other s f issued t other ∙ places_issued k authority old.sessions t ∙ ap (λ b. cond b 4 (places old.sessions t)) others),
+          (at (Handler k) ∙ places_other s f issued (Handler k) apart ∙ places_issued k authority old.sessions (Handler k)
+          ∙ ap (λ b. cond b 4 (places old.sessions (Handler k))) (same-self (Handler k)))
+          (λ t other others. at t ∙ places_other s f issued t other ∙ places_issued k authority old.sessions t
+          ∙ ap (λ b. cond b 4 (places old.sessions t)) others),
       (λ _. omega arith),
       (λ owed. absurd (true_false (sym owed))),
     )
@@ -202,7 +210,9 @@ taken old s wait o is =
     )
 
 -- what is owed to one construction or client is now this
-replaced : (old mid : World) (e : Event) (a : Answer) (n : ℕ) → start_owes a ≡ 0 → ((t : SessionId) → places mid.sessions t ≡ cond (same_session (whose e) t) n (places old.sessions t)) → n + 1 ≤ places old.sessions (whose e) → Moves old e a mid
+replaced : (old mid : World) (e : Event) (a : Answer) (n : ℕ) → start_owes a ≡ 0
+    → ((t : SessionId) → places mid.sessions t ≡ cond (same_session (whose e) t) n (places old.sessions t)) → n + 1 ≤ places old.sessions (whose e)
+    → Moves old e a mid
 replaced old mid e a n none is less =
     let left : places mid.sessions (whose e) ≡ n = is (whose e) ∙ ap (λ b. cond b n (places old.sessions (whose e))) (same-self (whose e)) in (
       at_one none (λ t other. is t ∙ ap (λ b. cond b n (places old.sessions t)) other),
@@ -212,7 +222,8 @@ replaced old mid e a n none is less =
 
 arrived : (old : World) (n : ℕ) → map.contains_key old.sessions.clients n ≡ false → Moves old (Opened (Client n)) done (opened n old)
 arrived old n fresh =
-    let left : places (opened n old).sessions (Client n) ≡ 1 = places_came n old.sessions (Client n) ∙ ap (λ b. cond b 1 (places old.sessions (Client n))) (same-self (Client n)) in (
+    let left : places (opened n old).sessions (Client n) ≡ 1 =
+    places_came n old.sessions (Client n) ∙ ap (λ b. cond b 1 (places old.sessions (Client n))) (same-self (Client n)) in (
       at_one refl (λ t other. places_came n old.sessions t ∙ ap (λ b. cond b 1 (places old.sessions t)) other),
       (λ _. omega arith),
       (λ owed. absurd (true_false (sym owed))),
@@ -236,7 +247,8 @@ ready_is w s wait is none = ap (λ (o : Option Wait). is_some (option_and_then (
 abbrev in_sessions : Sessions → World → World
 in_sessions a w = record w { sessions = a }
 
-pub moves : (old : World) (now : ℕ) (e : Event) (a : Answer) (new : World) → Effect old now e a new → IdleFresh old → ((x : Errno) → a ≡ Refused x → ((s : SessionId) → e ≡ Collect s → wait_of old.sessions s ≡ None) → is_owed old e ≡ false) → Moves old e a new
+pub moves : (old : World) (now : ℕ) (e : Event) (a : Answer) (new : World) → Effect old now e a new → IdleFresh old
+    → ((x : Errno) → a ≡ Refused x → ((s : SessionId) → e ≡ Collect s → wait_of old.sessions s ≡ None) → is_owed old e ≡ false) → Moves old e a new
 moves old now e a new (refused x ra w free) idle not_owed =
     rests old new e a (ap start_owes ra) (not_owed x ra free) (λ t. ap (λ (v : World). places v.sessions t) w)
 moves old now e a new (still s wait ev is ready ra w) idle not_owed =
@@ -251,39 +263,56 @@ moves old now e a new (greets n uid gid thread process join ev can none ok h) id
     let same : h.4.sessions ≡ old.sessions = greeted_sessions _ old h.4 h.0 h.1 h.2 h.3 h.5 in
     let f : Session → Session = with_context (record { uid = uid; gid = gid; thread = h.0; process = h.1; session = h.2; user = h.3 }) in
     by_step old new _ e _ a _ ev h.6.0 h.6.1
-    (rests old (in_sessions (session_changed (Client n) f h.4.sessions) h.4) (Asked (Client n) (ask.Hello uid gid thread process join)) (Done (Rings (unwrap_or h.0 0) (unwrap_or h.1 0) h.2 h.3)) refl refl
+    (rests old (in_sessions (session_changed (Client n) f h.4.sessions) h.4) (Asked (Client n) (ask.Hello uid gid thread process join))
+    (Done (Rings (unwrap_or h.0 0) (unwrap_or h.1 0) h.2 h.3)) refl refl
     (λ t. places_kept (Client n) f (λ x. refl) h.4.sessions t ∙ ap (λ (s : Sessions). places s t) same))
 moves old now e a new (begins s asker typ description callout r ring k ev can is depth fresh ra w) idle not_owed =
-    by_step old new _ e _ a _ ev ra w (began old s (ask.Request typ description (Some callout) r) k (subject_of old k (query asker typ description now) callout) (authority_for asker typ description now callout ring) (tidied (waiting s k true (started k (query asker typ description now) (authority_for asker typ description now callout ring) old))) refl (idle k fresh.unused) can.there refl)
+    by_step old new _ e _ a _ ev ra w (began old s (ask.Request typ description (Some callout) r) k (subject_of old k (query asker typ description now) callout)
+    (authority_for asker typ description now callout ring)
+    (tidied (waiting s k true (started k (query asker typ description now) (authority_for asker typ description now callout ring) old))) refl
+    (idle k fresh.unused) can.there refl)
 moves old now e a new (joins s x ring k ev asks can building apart ra w) idle not_owed =
     by_step old new _ e _ a _ ev ra w (joined old s x k (tidied (waiting s k false (linked_in ring k old))) asks can.there refl)
-moves old now e a new (links s x ring k n ev completes_none not_assume ra w) idle not_owed = by_step old new _ e _ a _ ev ra w (rests old (tidied (linked_in ring k old)) (Asked s x) (Done (Number n)) refl refl (λ t. refl))
-moves old now e a new (unlinks s x ring k ev completes_none not_assume ra w) idle not_owed = by_step old new new e _ a _ ev ra refl (rests old new (Asked s x) done refl refl (unlinked_places old new ring k w))
-moves old now e a new (marks s x k f ev completes_none not_assume mild ra w) idle not_owed = by_step old new _ e _ a _ ev ra w (rests old (with_key_changed k f old) (Asked s x) done refl refl (λ t. refl))
-moves old now e a new (tells s x bytes ev ra w) idle not_owed = by_step old new old e _ a _ ev ra w (rests old old (Asked s x) (Done (Bytes bytes)) refl refl (λ t. refl))
+moves old now e a new (links s x ring k n ev completes_none not_assume ra w) idle not_owed =
+    by_step old new _ e _ a _ ev ra w (rests old (tidied (linked_in ring k old)) (Asked s x) (Done (Number n)) refl refl (λ t. refl))
+moves old now e a new (unlinks s x ring k ev completes_none not_assume ra w) idle not_owed =
+    by_step old new new e _ a _ ev ra refl (rests old new (Asked s x) done refl refl (unlinked_places old new ring k w))
+moves old now e a new (marks s x k f ev completes_none not_assume mild ra w) idle not_owed =
+    by_step old new _ e _ a _ ev ra w (rests old (with_key_changed k f old) (Asked s x) done refl refl (λ t. refl))
+moves old now e a new (tells s x bytes ev ra w) idle not_owed =
+    by_step old new old e _ a _ ev ra w (rests old old (Asked s x) (Done (Bytes bytes)) refl refl (λ t. refl))
 moves old now e a new (sets s x setting n ev completes_none not_assume can ra w) idle not_owed =
-    by_step old new _ e _ a _ ev ra w (rests old (in_sessions (session_changed s (with_setting setting) old.sessions) old) (Asked s x) (Done (Number n)) refl refl (places_kept s (with_setting setting) (λ y. refl) old.sessions))
+    by_step old new _ e _ a _ ev ra w (rests old (in_sessions (session_changed s (with_setting setting) old.sessions) old) (Asked s x)
+    (Done (Number n)) refl refl (places_kept s (with_setting setting) (λ y. refl) old.sessions))
 moves old now e a new (adds s asker typ description payload r ring k ev fresh ra w) idle not_owed =
-    by_step old new _ e _ a _ ev ra w (rests old (tidied (with_key k (new_key typ description asker.context.uid (Some payload)) ring old)) (Asked s (ask.Add typ description payload r)) (Done (Number k)) refl refl (λ t. refl))
+    by_step old new _ e _ a _ ev ra w (rests old (tidied (with_key k (new_key typ description asker.context.uid (Some payload)) ring old))
+    (Asked s (ask.Add typ description payload r)) (Done (Number k)) refl refl (λ t. refl))
 moves old now e a new (assumes s key ev can none ra w) idle not_owed =
-    by_step old new _ e _ a _ ev ra w (rests old (in_sessions (session_changed s (with_assumed (serial_named key)) old.sessions) old) (Asked s (ask.Assume key)) done refl refl (places_kept s (with_assumed (serial_named key)) (λ y. refl) old.sessions))
+    by_step old new _ e _ a _ ev ra w (rests old (in_sessions (session_changed s (with_assumed (serial_named key)) old.sessions) old)
+    (Asked s (ask.Assume key)) done refl refl (places_kept s (with_assumed (serial_named key)) (λ y. refl) old.sessions))
 moves old now e a new (concludes s x asker ring k condition end ev which can is own final ra w) idle not_owed =
-    by_step old new _ e _ a _ ev ra w (rests old (tidied (completed now k condition end (linked_in ring k old))) (Asked s x) done refl refl (λ t. places_announced now k _ (spent k old.sessions) t ∙ places_spent k old.sessions t))
+    by_step old new _ e _ a _ ev ra w (rests old (tidied (completed now k condition end (linked_in ring k old))) (Asked s x) done refl refl
+    (λ t. places_announced now k _ (spent k old.sessions) t ∙ places_spent k old.sessions t))
 moves old now e a new (ran_plain k st ev is launches ra w) idle not_owed =
     let there = stage_there old.sessions k st is in
     let some = waiting_owes st launches in
-    by_step old new _ e _ a _ ev ra w (replaced old (tidied (in_sessions (launched k (Plain new_session) old.sessions) old)) (Launched k ran.Plain) done 1 refl (λ t. places_launched k (Plain new_session) old.sessions t there.0) (omega (arith, there.1)))
+    by_step old new _ e _ a _ ev ra w (replaced old (tidied (in_sessions (launched k (Plain new_session) old.sessions) old)) (Launched k ran.Plain) done 1 refl
+    (λ t. places_launched k (Plain new_session) old.sessions t there.0) (omega (arith, there.1)))
 moves old now e a new (ran_piped k ev is ra w) idle not_owed =
     let there = stage_there old.sessions k Starting is in
-    by_step old new _ e _ a _ ev ra w (replaced old (tidied (in_sessions (launched k Piped old.sessions) old)) (Launched k ran.Piped) done 3 refl (λ t. places_launched k Piped old.sessions t there.0) (omega (arith, there.1)))
+    by_step old new _ e _ a _ ev ra w (replaced old (tidied (in_sessions (launched k Piped old.sessions) old)) (Launched k ran.Piped) done 3 refl
+    (λ t. places_launched k Piped old.sessions t there.0) (omega (arith, there.1)))
 moves old now e a new (negates k how payload ev is fails ra w) idle not_owed =
     let there = stage_there old.sessions k Piped is in
-    by_step old new _ e _ a _ ev ra w (replaced old (negating k old) (Ended k how payload) (Negate k) 2 refl (λ t. places_launched k Negating old.sessions t there.0) (omega (arith, there.1)))
+    by_step old new _ e _ a _ ev ra w (replaced old (negating k old) (Ended k how payload) (Negate k) 2 refl
+    (λ t. places_launched k Negating old.sessions t there.0) (omega (arith, there.1)))
 moves old now e a new (failed k st ev is launches ra w) idle not_owed =
     let there = stage_there old.sessions k st is in
     let some = waiting_owes st launches in
-    by_step old new _ e _ a _ ev ra w (replaced old (tidied (ended now k (Negative error.NoKey) old)) (Launched k ran.Failed) done 0 refl (places_ended now k (Negative error.NoKey) old) (omega (arith, there.1)))
+    by_step old new _ e _ a _ ev ra w (replaced old (tidied (ended now k (Negative error.NoKey) old)) (Launched k ran.Failed) done 0 refl
+    (places_ended now k (Negative error.NoKey) old) (omega (arith, there.1)))
 moves old now e a new (finished k how payload st condition ev is runs final ra w) idle not_owed =
     let there = stage_there old.sessions k st is in
     let some = running_owes st runs in
-    by_step old new _ e _ a _ ev ra w (replaced old (tidied (ended now k condition old)) (Ended k how payload) done 0 refl (places_ended now k condition old) (omega (arith, there.1)))
+    by_step old new _ e _ a _ ev ra w (replaced old (tidied (ended now k condition old)) (Ended k how payload) done 0 refl (places_ended now k condition old)
+    (omega (arith, there.1)))

@@ -46,7 +46,8 @@ module _ (q : ℕ) (s : Past) (before : List Past) where
   named o n d dn (quiet t same) h x k is own = same_last (ap (λ (x : Tests). x.assumed) t) ∙ h x k (sym same ∙ is) own
   named o n d dn (starts fresh after t new) h x k is own = absurd (none_some (ap (λ (z : Shape). z.assumed) (some_shape (sym new ∙ is)) ∙ own))
   named o n d dn (negated_now y t was runs firsts free new) h x k is own = absurd (none_some (ap (λ (z : Shape). z.assumed) (some_shape (sym new ∙ is)) ∙ own))
-  named o n d dn (launched_now y st t was waits runs firsts new) h x k is own = absurd (none_some (ap (λ (z : Shape). z.assumed) (some_shape (sym new ∙ is)) ∙ own))
+  named o n d dn (launched_now y st t was waits runs firsts new) h x k is own =
+      absurd (none_some (ap (λ (z : Shape). z.assumed) (some_shape (sym new ∙ is)) ∙ own))
   named o n d dn (failed_now y t was waits new) h x k is own = absurd (no_shape (sym new ∙ is))
   named o n d dn (ended_now y t was runs new) h x k is own = absurd (no_shape (sym new ∙ is))
   named o n d dn (completed_now y asks t was mine new) h x k is own = absurd (none_some (ap (λ (z : Shape). z.assumed) (some_shape (sym new ∙ is)) ∙ own))
@@ -65,11 +66,13 @@ turn_of old s new before from run step q = turns old s.now s.event s.answer new 
 
 pub all_named : (from : Beginning) (past : List Past) (w : World) → Run from past w → (q : ℕ) → Named q past (shape_of w.sessions q)
 all_named from [] w run q = nothing_named from w run q
-all_named from (s ∷ before) w run q = named q s before _ _ (is_drawn run.0 q) (is_drawn w q) (turn_of run.0 s w before from run.1 run.2 q) (all_named from before run.0 run.1 q)
+all_named from (s ∷ before) w run q =
+    named q s before _ _ (is_drawn run.0 q) (is_drawn w q) (turn_of run.0 s w before from run.1 run.2 q) (all_named from before run.0 run.1 q)
 
 -- ---- the law
 
-owned : (q : ℕ) (s : Past) (before : List Past) (d dn : Bool) (o n : Option Shape) → Turn q d dn (IsOwnAsk q s.event) (tests q s.event s.answer) o n → Named q before o
+owned : (q : ℕ) (s : Past) (before : List Past) (d dn : Bool) (o n : Option Shape) → Turn q d dn (IsOwnAsk q s.event) (tests q s.event s.answer) o n
+    → Named q before o
     → is_completion q s ≡ true → IsOwnAsk q s.event × (last_assumed q before ≡ Some (pos q))
 owned q s before d dn o n (quiet t same) h is = absurd (clash _ (ap (λ (x : Tests). x.completion) t) is)
 owned q s before d dn o n (starts fresh after t new) h is = absurd (clash _ (ap (λ (x : Tests). x.completion) t) is)

@@ -5,9 +5,11 @@ use Rattle.rk_core.proofs.draft.Draft.make.Goals as goal
 pub returns-clause-makes : goal.returns-clause-makes
 returns-clause-makes c =
     let one : NewRing = record { serial = c.in-Some.serial; kind = c.args.kind; uid = c.args.uid } in
-    makes_one c.args.self.now.serials c.draw.new.self c.args.self.now.made.items c.push.new.self.items one c.in-Some.ensures.fresh c.in-Some.ensures.cases.1 c.in_ok-push.ensures.items
+    makes_one c.args.self.now.serials c.draw.new.self c.args.self.now.made.items c.push.new.self.items one c.in-Some.ensures.fresh c.in-Some.ensures.cases.1
+    c.in_ok-push.ensures.items
 
 pub returns-clause-draft : goal.returns-clause-draft
 returns-clause-draft c =
     let one : NewRing = record { serial = c.in-Some.serial; kind = c.args.kind; uid = c.args.uid } in
-    λ rings. draft_more c.args.self.now.serials c.draw.new.self c.args.self.now.made.items c.push.new.self.items rings one c.in-Some.ensures.fresh c.in-Some.ensures.cases.1 c.in_ok-push.ensures.items
+    λ rings. draft_more c.args.self.now.serials c.draw.new.self c.args.self.now.made.items c.push.new.self.items rings one c.in-Some.ensures.fresh
+    c.in-Some.ensures.cases.1 c.in_ok-push.ensures.items

@@ -46,7 +46,9 @@ returns-clause-ok c =
       (
         λ i. Start k ((
             c.subject-subject.ensures c.args.now
-            ∙ (λ j. subject_of (c.in_ok-key.ensures.ok j) k (record q { typ = c.in_ok-told_typ.ensures.cases j; description = c.in_ok-told_description.ensures.cases j }) (c.in_ok-told_callout.ensures.cases j))) i),
+            ∙ (λ j. subject_of (c.in_ok-key.ensures.ok j) k
+            (record q { typ = c.in_ok-told_typ.ensures.cases j; description = c.in_ok-told_description.ensures.cases j })
+            (c.in_ok-told_callout.ensures.cases j))) i),
         c.wait.ensures ∙ ap (waiting c.args.id.now k true) (c.link_tidily.ensures
             ∙ ap (λ (w : World). tidied (linked_in (Some c.args.ring) k w)) c.in_ok-key.ensures.ok),
       ),

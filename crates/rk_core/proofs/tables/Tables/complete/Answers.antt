@@ -38,7 +38,8 @@ returns-in-Some c =
       serials = (ap
           (λ (k : Known). k.serials) c.complete.ensures) i;
     }) c.self.inside.rings c.spend.new.self.sessions)
-    ∙ done_as before c.args.now c.args.key c.args.condition c.args.end c.complete.new.self.keys c.spend.new.self.sessions c.in-Some.fact.now c.outcome_of-outcome.result
+    ∙ done_as before c.args.now c.args.key c.args.condition c.args.end c.complete.new.self.keys c.spend.new.self.sessions c.in-Some.fact.now
+    c.outcome_of-outcome.result
     (ap (λ (k : Known). k.keys) c.complete.ensures) (sym c.in-Some.ensures) c.outcome_of-outcome.ensures c.spend.ensures.sessions
     ∙ ap (completed c.args.now c.args.key c.args.condition c.args.end) c.self.view_is
 

@@ -17,5 +17,6 @@ pub returns : goal.returns
 returns c =
     let before : World = world_of c.self.inside.negative c.self.inside.keys c.self.inside.rings c.self.inside.auths.sessions in
     let seen : rings_seen c.drop_ring.new.self ≡ map.remove before.rings c.args.ring =
-    drop_seen c.self.inside.rings c.drop_ring.new.self c.args.ring c.drop_ring.result c.drop_ring.ensures.ok c.drop_ring.ensures.err c.drop_ring.ensures.no_ring c.drop_ring.ensures.others in
+    drop_seen c.self.inside.rings c.drop_ring.new.self c.args.ring c.drop_ring.result c.drop_ring.ensures.ok c.drop_ring.ensures.err c.drop_ring.ensures.no_ring
+    c.drop_ring.ensures.others in
     (λ i. record before { rings = seen i }) ∙ ap (without_ring c.args.ring) c.self.view_is

@@ -17,7 +17,8 @@ take-requires-clause-draft c =
     c.in_ok-user.ensures.draft old.rings
     (c.in_ok-session.ensures.draft old.rings
     (c.in_ok-process.ensures.draft old.rings
-    (c.in_ok-thread.ensures.draft old.rings (start_draft c.in_ok-draft.draft.serials c.in_ok-draft.draft.made.items old c.in_ok-draft.ensures.0 c.in_ok-draft.ensures.1 c.requires.sound.rings))))
+    (c.in_ok-thread.ensures.draft old.rings (start_draft c.in_ok-draft.draft.serials c.in_ok-draft.draft.made.items old c.in_ok-draft.ensures.0
+    c.in_ok-draft.ensures.1 c.requires.sound.rings))))
 
 pub returns-clause-ok : goal.returns-clause-ok
 returns-clause-ok c =
@@ -50,7 +51,15 @@ returns-clause-ok c =
         λ i. Done (Rings (c.number.ensures i) (c.number-2.ensures i) (c.get.ensures.number i) (c.get-2.ensures.number i)),
         c.set_context.ensures
             ∙ ap (λ (w : World). record w {
-              sessions = session_changed c.args.id.now (with_context (record { uid = g.uid; gid = g.gid; thread = c.in_ok-thread.thread; process = c.in_ok-process.process; session = c.in_ok-session.session; user = c.in_ok-user.user })) w.sessions;
+              sessions = session_changed c.args.id.now
+                  (with_context (record {
+                    uid = g.uid;
+                    gid = g.gid;
+                    thread = c.in_ok-thread.thread;
+                    process = c.in_ok-process.process;
+                    session = c.in_ok-session.session;
+                    user = c.in_ok-user.user;
+                  })) w.sessions;
             }) c.in_ok-take.ensures.ok,
       ),
     )

@@ -8,5 +8,7 @@ returns-in-None c = c.forget_client.ensures ∙ leaves_alone c.args.self.now c.a
 pub returns-in-Some : goal.returns-in-Some
 returns-in-Some c =
     c.forget_client-in-Some.ensures
-    ∙ leaves_with c.args.self.now c.drop_if.new.self c.drop_if-in-Some.new.self c.drop_if-in-Some-2.new.self c.args.client c.in-Some.context c.session_going-session.result
-    (sym c.context_of.ensures ∙ c.in-Some.is) c.drop_if.ensures.new c.drop_if-in-Some.ensures.new c.drop_if-in-Some-2.ensures.new c.session_going-session.ensures
+    ∙ leaves_with c.args.self.now c.drop_if.new.self c.drop_if-in-Some.new.self c.drop_if-in-Some-2.new.self c.args.client c.in-Some.context
+    c.session_going-session.result
+    (sym c.context_of.ensures ∙ c.in-Some.is) c.drop_if.ensures.new c.drop_if-in-Some.ensures.new c.drop_if-in-Some-2.ensures.new
+    c.session_going-session.ensures

@@ -34,7 +34,8 @@ returns-in-Some-number c =
     let number : map.get c.self.inside.keys.numbers c.args.key ≡ Some c.in-Some-number.name = sym c.number.ensures.number ∙ c.in-Some-number.is in
     let key = key_of c.self.inside.keys c.args.key c.in-Some-number.name c.number.ensures.naming number in
     let seen : rings_seen c.link.new.self ≡ rings_changed c.args.ring.now (with_link (is_rival before.keys c.args.key) c.args.key) before.rings =
-    link_seen c.self.inside.keys c.self.inside.rings c.link.new.self c.in-Some.ring c.args.key c.in-Some-number.name key.0 c.link.result c.number.ensures.naming c.self.invariant key.1 number
+    link_seen c.self.inside.keys c.self.inside.rings c.link.new.self c.in-Some.ring c.args.key c.in-Some-number.name key.0 c.link.result c.number.ensures.naming
+    c.self.invariant key.1 number
     (has_room c.args.self.now before c.args.ring.now c.in-Some.ring c.args.key key.0 c.self.view_is c.in-Some.is c.requires.room key.1)
     c.link.ensures.ok c.link.ensures.err c.link.ensures.no_ring c.link.ensures.full c.link.ensures.others
     ∙ ap (λ (o : Option ℕ). rings_changed o (with_link (is_rival before.keys c.args.key) c.args.key) before.rings) (sym c.in-Some.is) in

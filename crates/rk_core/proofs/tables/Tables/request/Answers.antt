@@ -18,7 +18,8 @@ meet-requires-clause-known c =
 pub returns-in-Some-hit : goal.returns-in-Some-hit
 returns-in-Some-hit c =
     let q : Query = record { context = c.args.asker.now.context; typ = c.args.typ; description = c.args.description; now = c.args.now } in
-    requested c.args.self.now c.args.now c.args.id.now c.args.asker.now c.args.typ c.args.description c.args.callout c.args.destination c.meet.result c.meet.new.self (Some c.in-Some-hit.key)
+    requested c.args.self.now c.args.now c.args.id.now c.args.asker.now c.args.typ c.args.description c.args.callout c.args.destination c.meet.result
+    c.meet.new.self (Some c.in-Some-hit.key)
     (sym (ap (ring_or_none_refusal c.args.self.now c.args.asker.now) (to_z-of_z w32 c.args.destination c.ranges.destination))
     ∙ sym c.ring_or_none_refusal.ensures ∙ c.in_default.is)
     (subst (Hits c.args.self.now q (rings_of q.context)) (sym c.hit.ensures ∙ c.in-Some-hit.is)
@@ -29,7 +30,8 @@ returns-in-Some-hit c =
 pub returns-in-None : goal.returns-in-None
 returns-in-None c =
     let q : Query = record { context = c.args.asker.now.context; typ = c.args.typ; description = c.args.description; now = c.args.now } in
-    requested c.args.self.now c.args.now c.args.id.now c.args.asker.now c.args.typ c.args.description c.args.callout c.args.destination c.miss.result c.miss.new.self None
+    requested c.args.self.now c.args.now c.args.id.now c.args.asker.now c.args.typ c.args.description c.args.callout c.args.destination c.miss.result
+    c.miss.new.self None
     (sym (ap (ring_or_none_refusal c.args.self.now c.args.asker.now) (to_z-of_z w32 c.args.destination c.ranges.destination))
     ∙ sym c.ring_or_none_refusal.ensures ∙ c.in_default.is)
     (subst (Hits c.args.self.now q (rings_of q.context)) (sym c.hit.ensures ∙ c.in-None.is)

@@ -21,5 +21,6 @@ returns c =
     let there : is_linked before.rings c.args.ring c.args.key ≡ true =
     ap (λ (w : World). is_linked w.rings c.args.ring c.args.key) c.self.view_is ∙ c.requires in
     let seen : rings_seen c.unlink.new.self ≡ changed_at c.args.ring (without_link c.args.key) before.rings =
-    unlink_seen c.self.inside.rings c.unlink.new.self c.args.ring c.args.key c.unlink.result there c.unlink.ensures.ok c.unlink.ensures.no_ring c.unlink.ensures.not_linked c.unlink.ensures.others in
+    unlink_seen c.self.inside.rings c.unlink.new.self c.args.ring c.args.key c.unlink.result there c.unlink.ensures.ok c.unlink.ensures.no_ring
+    c.unlink.ensures.not_linked c.unlink.ensures.others in
     (λ i. record before { rings = seen i }) ∙ ap (unlinked_in (Some c.args.ring) c.args.key) c.self.view_is
