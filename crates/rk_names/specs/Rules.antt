@@ -4,7 +4,7 @@ use Rattle.rk_text.specs.Text.{is_text}
 use Rattle.rk_names.specs.declared.errors.NameFault.{NameFault}
 use Rattle.rk_names.specs.declared.errors.NameFault.TheVariants.{Empty, TooLong, Dot, Byte, NoMemory}
 
--- text is UTF-8 without a zero byte
+-- bytes that are no text (UTF-8 without a zero byte) are refused for a byte
 abbrev pub text_fault : List ℕ → Option NameFault
 text_fault bytes = if is_text bytes then None else Some Byte
 

@@ -48,10 +48,18 @@ impl Callout {
         if let Some(fault) = Callout::fault(bytes) {
             return Err(fault);
         }
-        match Vec::from_slice(alloc, bytes) {
-            Ok(bytes) => Ok(Callout { bytes }),
-            Err(AllocError) => Err(NameFault::NoMemory),
-        }
+        Callout::from_checked(alloc, bytes).map_err(|_| NameFault::NoMemory)
+    }
+
+    /// A copy of bytes in which `fault` finds none, without another look at them. Only want of
+    /// memory refuses it.
+    pub fn from_checked(alloc: Global, bytes: &[u8]) -> Result<Callout, AllocError>
+        requires { callout_fault bytes.now ≡ None }
+        ensures { IfOk result (λ n. n ≡ bytes.now) }
+    {
+        Ok(Callout {
+            bytes: Vec::from_slice(alloc, bytes)?,
+        })
     }
 
     /// The bytes that it was made of.

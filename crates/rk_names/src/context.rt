@@ -8,11 +8,17 @@ use crate::numbers::Serial;
 /// thread and the process ring may be absent. A ring that was dropped since counts as absent.
 #[derive(Clone, Copy, Debug, PartialEq, Eq)]
 pub struct Context {
+    /// The user's number.
     pub uid: u32,
+    /// The group's number.
     pub gid: u32,
+    /// The ring of the thread, if it has one.
     pub thread: Option<Serial>,
+    /// The ring of the process, if it has one.
     pub process: Option<Serial>,
+    /// The ring of the session.
     pub session: Serial,
+    /// The ring that all sessions of the user share.
     pub user: Serial,
 }
 

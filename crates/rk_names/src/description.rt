@@ -52,10 +52,18 @@ impl Description {
         if let Some(fault) = Description::fault(bytes) {
             return Err(fault);
         }
-        match Vec::from_slice(alloc, bytes) {
-            Ok(bytes) => Ok(Description { bytes }),
-            Err(AllocError) => Err(NameFault::NoMemory),
-        }
+        Description::from_checked(alloc, bytes).map_err(|_| NameFault::NoMemory)
+    }
+
+    /// A copy of bytes in which `fault` finds none, without another look at them. Only want of
+    /// memory refuses it.
+    pub fn from_checked(alloc: Global, bytes: &[u8]) -> Result<Description, AllocError>
+        requires { description_fault bytes.now ≡ None }
+        ensures { IfOk result (λ n. n ≡ bytes.now) }
+    {
+        Ok(Description {
+            bytes: Vec::from_slice(alloc, bytes)?,
+        })
     }
 
     /// The bytes that it was made of.

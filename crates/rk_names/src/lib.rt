@@ -12,8 +12,9 @@
 //! A maker tests its rule and refuses by name, in one order: `Empty`, `TooLong`, `Dot`, `Byte`, and
 //! want of memory last. So `TypeName::new(alloc, b"user")` is made, `TypeName::new(alloc, b".x")` is
 //! refused with `Dot`. Where bytes are still borrowed, as in a message that is being read,
-//! `TypeName::fault(bytes)` applies the same rule and takes no memory. [`Payload::new`] moves the
-//! bytes that it is handed and takes none either.
+//! `TypeName::fault(bytes)` applies the same rule and takes no memory, and `TypeName::from_checked`
+//! then copies what it found no fault in without another look. [`Payload::new`] moves the
+//! bytes that it is handed and takes no memory either.
 //!
 //! # How it is built
 //!

@@ -55,10 +55,18 @@ impl TypeName {
         if let Some(fault) = TypeName::fault(bytes) {
             return Err(fault);
         }
-        match Vec::from_slice(alloc, bytes) {
-            Ok(bytes) => Ok(TypeName { bytes }),
-            Err(AllocError) => Err(NameFault::NoMemory),
-        }
+        TypeName::from_checked(alloc, bytes).map_err(|_| NameFault::NoMemory)
+    }
+
+    /// A copy of bytes in which `fault` finds none, without another look at them. Only want of
+    /// memory refuses it.
+    pub fn from_checked(alloc: Global, bytes: &[u8]) -> Result<TypeName, AllocError>
+        requires { type_fault bytes.now ≡ None }
+        ensures { IfOk result (λ n. n ≡ bytes.now) }
+    {
+        Ok(TypeName {
+            bytes: Vec::from_slice(alloc, bytes)?,
+        })
     }
 
     /// The bytes that it was made of.
