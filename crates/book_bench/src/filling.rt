@@ -88,7 +88,7 @@ impl Filled {
             Answer::Done(Reply::Number(number)) => Ok(number),
             Answer::Done(_) => Ok(0),
             Answer::Refused(_) => Ok(0),
-            Answer::Start(_, _) | Answer::Waiting(_) => Ok(0),
+            Answer::Start(..) | Answer::Negate(_) | Answer::Waiting(_) => Ok(0),
         }
     }
 
