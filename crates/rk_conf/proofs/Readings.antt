@@ -2,12 +2,12 @@
 use Rattle.std.proofs.Common.{◌≡◌, ℕ, suc, List, [], ◌∷◌, length, Option, Some, None, Result, Ok, Err, refl}
 use Rattle.std.specs.Borrow.{Bor}
 use Rattle.std.specs.Prelude.{OnOk, slice_get}
-use Rattle.rk_conf.specs.Text.{told_from}
+use Rattle.rk_conf.specs.Text.{numbered_from}
 
 -- the lines from a number on that are left to read, if any are
-abbrev pub told_left : ℕ → Option (Bor (List ℕ)) → List (ℕ × List ℕ)
-told_left n None = []
-told_left n (Some text) = told_from n text.now
+abbrev pub lines_left : ℕ → Option (Bor (List ℕ)) → List (ℕ × List ℕ)
+lines_left n None = []
+lines_left n (Some text) = numbered_from n text.now
 
 -- one more than the bytes left
 abbrev pub left_len : Option (Bor (List ℕ)) → ℕ

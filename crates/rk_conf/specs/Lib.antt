@@ -1,9 +1,9 @@
 pub mod Text
 pub mod Codes
 pub mod Macros
-pub mod Told
+pub mod Borrowed
 pub mod Lines
-pub mod Parts
+pub mod Fields
 pub mod Faults
 pub mod Reading
 pub mod Choice

@@ -31,7 +31,9 @@ wanted_of name =
 -- what stands between an opening brace and a closing one, which is the last byte
 abbrev pub in_braces : List ℕ → Option (List ℕ)
 in_braces text =
-    if nat_lt 1 (length text) && (slice_index text 0 == 123) && (slice_index text (length text - 1) == 125) then Some (take (length text - 2) (drop 1 text)) else None
+    if nat_lt 1 (length text) && (slice_index text 0 == 123) && (slice_index text (length text - 1) == 125)
+    then Some (take (length text - 2) (drop 1 text))
+    else None
 
 -- `{type:description}`
 abbrev pub payload_macro : List ℕ → Option Argument

@@ -14,10 +14,10 @@ abbrev pub is_comment : List (List ℕ) → Bool
 is_comment [] = true
 is_comment (field ∷ fields) = begins_with 35 field
 
--- the lines that say something, each with its number from 1; the others are counted and not read
-abbrev pub told_from : ℕ → List ℕ → List (ℕ × List ℕ)
-told_from n text = filter (λ l. not (is_comment (fields_of l.1))) (enumerate_from n (lines_of text))
+-- the lines that are neither blank nor a comment, each with its number, from n on; the others are counted and not read
+abbrev pub numbered_from : ℕ → List ℕ → List (ℕ × List ℕ)
+numbered_from n text = filter (λ l. not (is_comment (fields_of l.1))) (enumerate_from n (lines_of text))
 
--- the same of a whole text
-abbrev pub told_lines : List ℕ → List (ℕ × List ℕ)
-told_lines text = told_from 1 text
+-- the same of a whole text, from 1 on
+abbrev pub numbered_lines : List ℕ → List (ℕ × List ℕ)
+numbered_lines text = numbered_from 1 text

@@ -6,7 +6,7 @@ ghost use Rattle.rk_conf.specs.Text.{fields_of};
 ghost use Rattle.rk_conf.specs.Macros.{argument_of};
 
 use crate::argument::Argument;
-use crate::told::Told;
+use crate::borrowed_argument::BorrowedArgument;
 use rk_text::{Space, cut_field};
 use std::alloc::{AllocError, Global};
 use std::marker::Model;
@@ -14,6 +14,7 @@ use std::marker::Model;
 /// The arguments of a line, in their order. In a clause they are the list of them.
 #[derive(Debug, Drop)]
 pub struct Arguments {
+    /// The arguments, in their order.
     items: Vec<Argument>,
 }
 
@@ -42,8 +43,8 @@ impl Arguments {
         let mut items = Vec::new(alloc);
         let mut rest = text;
         while let Some((field, after)) = cut_field(rest, Space::Any) {
-            if let Some(told) = Told::read(field) {
-                items.push(told.copied(alloc)?)?;
+            if let Some(argument) = BorrowedArgument::read(field) {
+                items.push(argument.copied(alloc)?)?;
             }
             rest = after;
         }

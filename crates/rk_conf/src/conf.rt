@@ -4,12 +4,12 @@ ghost use Rattle.rk_conf.specs.declared.fault.ConfKind.TheVariants.{NoMemory};
 ghost use Rattle.rk_conf.specs.Text.{is_comment, fields_of};
 ghost use Rattle.rk_conf.specs.Lines.{refusal_of};
 ghost use Rattle.rk_conf.specs.Faults.{IsFaultFor};
-ghost use Rattle.rk_conf.specs.Reading.{faults_of, lines_told};
+ghost use Rattle.rk_conf.specs.Reading.{faults_in, lines_in};
 ghost use Rattle.rk_conf.specs.Choice.{IsChosen, PicksOne};
 
 use crate::fault::{ConfFault, ConfKind};
+use crate::fields::Fields;
 use crate::line::Line;
-use crate::parts::Parts;
 use rk_names::{Callout, Description, TypeName};
 use rk_text::{Space, begins_with, cut_field, cut_line};
 use std::alloc::Global;
@@ -20,6 +20,7 @@ use std::marker::Model;
 /// In a clause it is the list of its lines.
 #[derive(Debug, Drop)]
 pub struct Conf {
+    /// The lines, in the order of the text.
     lines: Vec<Line>,
 }
 
@@ -39,9 +40,9 @@ impl Conf {
     /// `TooFewFields`, `ProgNotAbsolute`, `BadMacro`. `NoMemory` comes only for a text in which no line breaks one.
     /// Blank lines and lines that begin with `#` behind white space are counted, and not read.
     pub fn read(alloc: Global, text: &[u8]) -> Result<Conf, ConfFault>
-        ensures ok { OnOk result (faults_of text.now ≡ []) }
-        ensures lines { IfOk result (λ conf. conf ≡ lines_told text.now) }
-        ensures err { IfErr result (λ fault. IsFaultFor fault (faults_of text.now)) }
+        ensures ok { OnOk result (faults_in text.now ≡ []) }
+        ensures lines { IfOk result (λ conf. conf ≡ lines_in text.now) }
+        ensures err { IfErr result (λ fault. IsFaultFor fault (faults_in text.now)) }
     {
         match first_fault(text) {
             Some(fault) => Err(fault),
@@ -71,10 +72,10 @@ impl Conf {
     }
 
     /// The lines of a text that has no fault.
-    #[tactic(auto, unfolding(crate::specs::Reading::faults_of, crate::specs::Reading::lines_told))]
+    #[tactic(auto, unfolding(crate::specs::Reading::faults_in, crate::specs::Reading::lines_in))]
     fn copied(alloc: Global, text: &[u8]) -> Result<Conf, ConfFault>
-        requires { faults_of text.now ≡ [] }
-        ensures lines { IfOk result (λ conf. conf ≡ lines_told text.now) }
+        requires { faults_in text.now ≡ [] }
+        ensures lines { IfOk result (λ conf. conf ≡ lines_in text.now) }
         ensures err { IfErr result (λ fault. fault.kind ≡ NoMemory) }
     {
         let mut lines = Vec::new(alloc);
@@ -126,16 +127,16 @@ fn broken_rule(line: &[u8]) -> Option<ConfKind>
     if is_comment(line) {
         return None;
     }
-    match Parts::read(line) {
+    match Fields::read(line) {
         Ok(_) => None,
         Err(kind) => Some(kind),
     }
 }
 
 /// The first fault of a text. It takes no memory.
-#[tactic(auto, unfolding(crate::specs::Reading::faults_of))]
+#[tactic(auto, unfolding(crate::specs::Reading::faults_in))]
 fn first_fault(text: &[u8]) -> Option<ConfFault>
-    ensures { result ≡ slice_get (faults_of text.now) 0 }
+    ensures { result ≡ slice_get (faults_in text.now) 0 }
 {
     let mut rest = Some(text);
     let mut number = 1;

@@ -4,7 +4,7 @@ ghost use Rattle.rk_conf.specs.Text.{fields_of};
 
 use crate::arguments::Arguments;
 use crate::fault::ConfKind;
-use crate::parts::Parts;
+use crate::fields::Fields;
 use crate::word::Word;
 use rk_glob::matches;
 use rk_names::{Callout, Description, TypeName};
@@ -36,7 +36,7 @@ pub struct Line {
 impl Line {
     ghost use Rattle.rk_conf.specs.Lines.{line_of, refusal_of};
     ghost use Rattle.rk_conf.specs.Faults.{IsKindFor};
-    ghost use Rattle.rk_conf.specs.Parts.{line_told};
+    ghost use Rattle.rk_conf.specs.Fields.{line_from};
     ghost use Rattle.rk_conf.specs.Choice.{IsFor};
 
     /// The line of this text and number, or the first rule that it breaks.
@@ -44,8 +44,8 @@ impl Line {
         ensures ok { IfOk result (λ l. line_of number (fields_of text.now) ≡ Some l) }
         ensures err { IfErr result (λ k. IsKindFor k (refusal_of text.now)) }
     {
-        match Parts::read(text) {
-            Ok(parts) => Line::copied(alloc, number, parts).map_err(|_| ConfKind::NoMemory),
+        match Fields::read(text) {
+            Ok(fields) => Line::copied(alloc, number, fields).map_err(|_| ConfKind::NoMemory),
             Err(kind) => Err(kind),
         }
     }
@@ -60,19 +60,19 @@ impl Line {
             && matches(self.callout.as_bytes(), callout.as_bytes())
     }
 
-    /// The line with a copy of each part.
-    fn copied(alloc: Global, number: usize, parts: Parts<'_>) -> Result<Line, AllocError>
-        ensures { IfOk result (λ l. l ≡ line_told number parts.entry) }
+    /// The line with a copy of each field.
+    fn copied(alloc: Global, number: usize, fields: Fields<'_>) -> Result<Line, AllocError>
+        ensures { IfOk result (λ l. l ≡ line_from number fields.entry) }
     {
         Ok(Line {
             number,
-            op: Word::new(alloc, parts.op)?,
-            typ: Word::new(alloc, parts.typ)?,
-            desc: Word::new(alloc, parts.desc)?,
-            callout: Word::new(alloc, parts.callout)?,
-            prog: Word::new(alloc, parts.prog)?,
-            args: Arguments::read(alloc, parts.args)?,
-            piped: parts.piped,
+            op: Word::new(alloc, fields.op)?,
+            typ: Word::new(alloc, fields.typ)?,
+            desc: Word::new(alloc, fields.desc)?,
+            callout: Word::new(alloc, fields.callout)?,
+            prog: Word::new(alloc, fields.prog)?,
+            args: Arguments::read(alloc, fields.args)?,
+            piped: fields.piped,
         })
     }
 }

@@ -5,7 +5,7 @@ ghost use Rattle.rk_text.specs.Text.{is_text, begins_with};
 ghost use Rattle.rk_conf.specs.Text.{fields_of};
 ghost use Rattle.rk_conf.specs.Lines.{path_of, is_bad_macro};
 
-use crate::told::Told;
+use crate::borrowed_argument::BorrowedArgument;
 use rk_text::{Space, begins_with, cut_field};
 
 /// Whether the program has a leading `|`, and the program without it.
@@ -27,7 +27,7 @@ pub fn has_bad_macro(args: &[u8]) -> bool
 {
     let mut rest = args;
     while let Some((field, after)) = cut_field(rest, Space::Any) {
-        if Told::read(field).is_none() {
+        if BorrowedArgument::read(field).is_none() {
             return true;
         }
         rest = after;

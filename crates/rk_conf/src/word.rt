@@ -11,6 +11,7 @@ use std::marker::Model;
 /// In a clause it is the list of its bytes.
 #[derive(Debug, Drop)]
 pub struct Word {
+    /// UTF-8 without a zero byte.
     bytes: Vec<u8>,
 }
 

@@ -9,7 +9,7 @@ use Rattle.rk_conf.specs.declared.fault.ConfFault.{ConfFault}
 use Rattle.rk_conf.specs.declared.fault.ConfKind.TheVariants.{NoMemory}
 use Rattle.rk_conf.specs.declared.line.Line.{Line}
 use Rattle.rk_conf.specs.Faults.{IsFaultFor}
-use Rattle.rk_conf.specs.Reading.{faults_of, lines_told}
+use Rattle.rk_conf.specs.Reading.{faults_in, lines_in}
 use Rattle.rk_text.specs.Text.{lines_of}
 use Rattle.rk_machine.specs.Steps.{Beginning}
 use Rattle.rk_replay.specs.declared.playing.Head.{Head}
@@ -117,15 +117,15 @@ module _ (input : List ℕ) (head : Head) (text : List ℕ) (h : IsHead input he
       ap (λ (n : ℕ). beginning n) (h.negative ∙ ap (last_of 60) (sym (seconds_parts h.lines rest)))
       ∙ ap beginning_of (sym said_is)
 
-  pub written : (conf : List Line) (text' : List ℕ) → faults_of (configured head.settings.conf) ≡ [] → conf ≡ lines_told (configured head.settings.conf) → PlaysBody conf head text text' → IsWritten input text'
+  pub written : (conf : List Line) (text' : List ℕ) → faults_in (configured head.settings.conf) ≡ [] → conf ≡ lines_in (configured head.settings.conf) → PlaysBody conf head text text' → IsWritten input text'
   written conf text' sound lines p =
-      let lines_are : conf ≡ lines_told (conf_of (said_in input)) = lines ∙ ap lines_told conf_is in
-      let from_told : ServedInOrder (lines_told (conf_of (said_in input))) (beginning head.settings.negative) p.turns p.run p.left =
+      let lines_are : conf ≡ lines_in (conf_of (said_in input)) = lines ∙ ap lines_in conf_is in
+      let from_told : ServedInOrder (lines_in (conf_of (said_in input))) (beginning head.settings.negative) p.turns p.run p.left =
       subst (λ (ls : List Line). ServedInOrder ls (beginning head.settings.negative) p.turns p.run p.left) lines_are p.served in
-      let in_order : ServedInOrder (lines_told (conf_of (said_in input))) (beginning_of (said_in input)) p.turns p.run p.left =
-      subst (λ (from : Beginning). ServedInOrder (lines_told (conf_of (said_in input))) from p.turns p.run p.left) beginning_is from_told in
-      let served : Served (lines_told (conf_of (said_in input))) (beginning_of (said_in input)) p.turns p.run p.left =
-      served_of (lines_told (conf_of (said_in input))) p.turns p.run (nothing (beginning_of (said_in input))) p.left in_order in
+      let in_order : ServedInOrder (lines_in (conf_of (said_in input))) (beginning_of (said_in input)) p.turns p.run p.left =
+      subst (λ (from : Beginning). ServedInOrder (lines_in (conf_of (said_in input))) from p.turns p.run p.left) beginning_is from_told in
+      let served : Served (lines_in (conf_of (said_in input))) (beginning_of (said_in input)) p.turns p.run p.left =
+      served_of (lines_in (conf_of (said_in input))) p.turns p.run (nothing (beginning_of (said_in input))) p.left in_order in
       record {
         turns = p.turns;
         run = p.run;
@@ -133,7 +133,7 @@ module _ (input : List ℕ) (head : Head) (text : List ℕ) (h : IsHead input he
         sound = rw (← conf_is) sound;
         served = served;
         in_order = in_order;
-        lawful = served_is_run (lines_told (conf_of (said_in input))) (beginning_of (said_in input)) p.turns p.run p.left served;
+        lawful = served_is_run (lines_in (conf_of (said_in input))) (beginning_of (said_in input)) p.turns p.run p.left served;
         happenings = p.happenings ∙ (sym (happenings_parts h.lines rest h.quiet) ∙ ap happenings_of (sym said_is));
         text_is = p.text_is ∙ (ap (λ (bs : List ℕ). bs ++ text_from head.number (map said_late rest) (map outputs_in p.turns)) h.text_is ∙ (ap (λ (n : ℕ). text_from 1 h.lines [] ++ text_from n (map said_late rest) (map outputs_in p.turns)) h.counted ∙ (sym (text_parts 1 h.lines (map said_late rest) (map outputs_in p.turns) h.quiet) ∙ ap (λ (rs : List Reading). text_from 1 rs (map outputs_in p.turns)) (sym said_is))));
       }
@@ -142,9 +142,9 @@ module _ (input : List ℕ) (head : Head) (text : List ℕ) (h : IsHead input he
   first_of fault [] f n = absurd (n f)
   first_of fault (first ∷ others) f n = (others, ap (λ (x : ConfFault). x ∷ others) (sym f))
 
-  pub refused : (fault : ConfFault) (text' : List ℕ) → IsFaultFor fault (faults_of (configured head.settings.conf)) → fault.kind ≢ NoMemory → text' ≡ text ++ conf_line fault → IsRefused input text'
+  pub refused : (fault : ConfFault) (text' : List ℕ) → IsFaultFor fault (faults_in (configured head.settings.conf)) → fault.kind ≢ NoMemory → text' ≡ text ++ conf_line fault → IsRefused input text'
   refused fault text' f n t =
-      let first = first_of fault (faults_of (configured head.settings.conf)) f n in
+      let first = first_of fault (faults_in (configured head.settings.conf)) f n in
       record {
         fault = fault;
         others = first.0;

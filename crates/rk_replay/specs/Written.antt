@@ -2,7 +2,7 @@
 use Rattle.std.specs.Prelude.{◌≡◌, ℕ, ◌+◌, List, [], ◌∷◌, ◌++◌, map, reverse, Option, Some, None}
 use Rattle.std.specs.List.{flat_map}
 use Rattle.rk_conf.specs.declared.fault.ConfFault.{ConfFault}
-use Rattle.rk_conf.specs.Reading.{faults_of, lines_told}
+use Rattle.rk_conf.specs.Reading.{faults_in, lines_in}
 use Rattle.rk_machine.specs.Laws.{ContinuesTo}
 use Rattle.rk_machine.specs.Steps.{Past}
 use Rattle.rk_replay.specs.declared.happening.Happening.{Happening}
@@ -43,9 +43,9 @@ pub record IsWritten (input text : List ℕ) : Type 0 where
   pub turns : List Turn
   pub run : List Past
   pub left : Left
-  pub sound : faults_of (conf_of (said_in input)) ≡ []
-  pub served : Served (lines_told (conf_of (said_in input))) (beginning_of (said_in input)) turns run left
-  pub in_order : ServedInOrder (lines_told (conf_of (said_in input))) (beginning_of (said_in input)) turns run left
+  pub sound : faults_in (conf_of (said_in input)) ≡ []
+  pub served : Served (lines_in (conf_of (said_in input))) (beginning_of (said_in input)) turns run left
+  pub in_order : ServedInOrder (lines_in (conf_of (said_in input))) (beginning_of (said_in input)) turns run left
   pub lawful : ContinuesTo (beginning_of (said_in input)) (reverse run) left.world
   pub happenings : map moment_of turns ≡ happenings_of (said_in input)
   pub text_is : text ≡ text_from 1 (said_in input) (map outputs_in turns)
@@ -54,5 +54,5 @@ pub record IsWritten (input text : List ℕ) : Type 0 where
 pub record IsRefused (input text : List ℕ) : Type 0 where
   pub fault : ConfFault
   pub others : List ConfFault
-  pub faults : faults_of (conf_of (said_in input)) ≡ fault ∷ others
+  pub faults : faults_in (conf_of (said_in input)) ≡ fault ∷ others
   pub text_is : text ≡ text_from 1 (before_all (said_in input)) [] ++ conf_line fault

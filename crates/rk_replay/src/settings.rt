@@ -1,7 +1,7 @@
 //! What the head of a script sets.
 ghost use Rattle.std.specs.Prelude.{◌≡◌, [], IfOk, OnOk, IfErr};
 ghost use Rattle.rk_conf.specs.Faults.{IsFaultFor};
-ghost use Rattle.rk_conf.specs.Reading.{faults_of, lines_told};
+ghost use Rattle.rk_conf.specs.Reading.{faults_in, lines_in};
 ghost use Rattle.rk_replay.specs.Settings.{Sets, configured};
 
 use crate::octets::Bytes;
@@ -65,9 +65,9 @@ impl Settings {
 
     /// The configuration that is set, or the default one.
     pub fn conf(&self, alloc: Global) -> Result<Conf, ConfFault>
-        ensures ok { OnOk result (faults_of (configured self.now.conf) ≡ []) }
-        ensures lines { IfOk result (λ conf. conf ≡ lines_told (configured self.now.conf)) }
-        ensures err { IfErr result (λ fault. IsFaultFor fault (faults_of (configured self.now.conf))) }
+        ensures ok { OnOk result (faults_in (configured self.now.conf) ≡ []) }
+        ensures lines { IfOk result (λ conf. conf ≡ lines_in (configured self.now.conf)) }
+        ensures err { IfErr result (λ fault. IsFaultFor fault (faults_in (configured self.now.conf))) }
     {
         Conf::read(alloc, self.conf_text())
     }

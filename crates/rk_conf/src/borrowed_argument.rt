@@ -1,9 +1,9 @@
-//! An argument of a line, read and not copied yet.
+//! An argument of a line that borrows it, read and not copied yet.
 ghost use Rattle.std.specs.Prelude.{◌≡◌, ◌≢◌, ◌<◌, ◌≤◌, ℕ, ◌&&◌, is_none, length, slice_index, true, Some, None, IfOk, IfSome, MatchOption, option_map, option_copied};
 ghost use Rattle.rk_text.specs.Text.{is_text};
 ghost use Rattle.rk_names.specs.Rules.{type_fault, description_fault};
 ghost use Rattle.rk_conf.specs.Macros.{argument_of, macro_of, letter_macro, payload_macro, wanted_of, in_braces};
-ghost use Rattle.rk_conf.specs.Told.{argument_told, IsTextTold};
+ghost use Rattle.rk_conf.specs.Borrowed.{argument_from, HasText};
 
 use crate::argument::{Argument, Wanted};
 use crate::word::Word;
@@ -13,7 +13,7 @@ use std::alloc::{AllocError, Global};
 
 /// An argument that borrows the line that it was read from.
 #[derive(Drop)]
-pub enum Told<'a> {
+pub enum BorrowedArgument<'a> {
     /// A macro of one letter.
     Macro(Argument),
     /// The payload of a key, by the bytes of its type and of its description.
@@ -22,28 +22,28 @@ pub enum Told<'a> {
     Literal(&'a [u8]),
 }
 
-impl<'a> Told<'a> {
+impl<'a> BorrowedArgument<'a> {
     /// What the field stands for; `None` where it begins with `%` and is no macro. It takes no memory.
-    pub fn read(field: &'a [u8]) -> Option<Told<'a>>
-        ensures told { option_map argument_told result ≡ argument_of field.now }
-        ensures text { is_text field.now ≡ true → IfSome result IsTextTold }
+    pub fn read(field: &'a [u8]) -> Option<BorrowedArgument<'a>>
+        ensures argument { option_map argument_from result ≡ argument_of field.now }
+        ensures text { is_text field.now ≡ true → IfSome result HasText }
     {
         if begins_with(b'%', field) {
-            macro_told(&field[1..])
+            borrowed_macro(&field[1..])
         } else {
-            Some(Told::Literal(field))
+            Some(BorrowedArgument::Literal(field))
         }
     }
 
     /// The argument, with a copy of the bytes that it needs.
     pub fn copied(self, alloc: Global) -> Result<Argument, AllocError>
-        requires { IsTextTold self }
-        ensures { IfOk result (λ a. a ≡ argument_told self.entry) }
+        requires { HasText self }
+        ensures { IfOk result (λ a. a ≡ argument_from self.entry) }
     {
         match self {
-            Told::Macro(argument) => Ok(argument),
-            Told::Literal(text) => Ok(Argument::Literal(Word::new(alloc, text)?)),
-            Told::Payload(typ, desc) => {
+            BorrowedArgument::Macro(argument) => Ok(argument),
+            BorrowedArgument::Literal(text) => Ok(Argument::Literal(Word::new(alloc, text)?)),
+            BorrowedArgument::Payload(typ, desc) => {
                 let typ = TypeName::new(alloc, typ).map_err(|_| AllocError)?;
                 let desc = Description::new(alloc, desc).map_err(|_| AllocError)?;
                 Ok(Argument::Payload(Wanted { typ, desc }))
@@ -53,30 +53,30 @@ impl<'a> Told<'a> {
 }
 
 /// What stands behind the first `%`: a literal that begins with `%`, a letter, or braces.
-fn macro_told(rest: &[u8]) -> Option<Told<'_>>
-    ensures told { option_map argument_told result ≡ macro_of rest.now }
-    ensures text { is_text rest.now ≡ true → IfSome result IsTextTold }
+fn borrowed_macro(rest: &[u8]) -> Option<BorrowedArgument<'_>>
+    ensures argument { option_map argument_from result ≡ macro_of rest.now }
+    ensures text { is_text rest.now ≡ true → IfSome result HasText }
 {
     if begins_with(b'%', rest) {
-        Some(Told::Literal(rest))
+        Some(BorrowedArgument::Literal(rest))
     } else if rest.len() == 1 {
         match letter_macro(rest[0]) {
-            Some(argument) => Some(Told::Macro(argument)),
+            Some(argument) => Some(BorrowedArgument::Macro(argument)),
             None => None,
         }
     } else {
-        payload_told(rest)
+        borrowed_payload(rest)
     }
 }
 
 /// `{type:description}`.
-fn payload_told(text: &[u8]) -> Option<Told<'_>>
-    ensures told { option_map argument_told result ≡ payload_macro text.now }
-    ensures text { IfSome result IsTextTold }
+fn borrowed_payload(text: &[u8]) -> Option<BorrowedArgument<'_>>
+    ensures argument { option_map argument_from result ≡ payload_macro text.now }
+    ensures text { IfSome result HasText }
 {
     let name = in_braces(text)?;
     let (typ, desc) = wanted_of(name)?;
-    Some(Told::Payload(typ, desc))
+    Some(BorrowedArgument::Payload(typ, desc))
 }
 
 /// The macro of one letter.

@@ -1,4 +1,4 @@
-//! A line, read and not copied yet.
+//! The fields of a line that borrow it, read and not copied yet.
 ghost use Rattle.std.specs.Prelude.{◌≡◌, ℕ, true, Some, None, IfOk, IfErr};
 ghost use Rattle.rk_text.specs.Text.{is_text};
 ghost use Rattle.rk_conf.specs.Text.{fields_of};
@@ -12,10 +12,14 @@ pub const MAX_LINE: usize = 8_192;
 
 /// The fields of a line that breaks no rule; they borrow it.
 #[derive(Clone, Copy)]
-pub struct Parts<'a> {
+pub struct Fields<'a> {
+    /// The pattern of the operation.
     pub op: &'a [u8],
+    /// The pattern of the key's type.
     pub typ: &'a [u8],
+    /// The pattern of the key's description.
     pub desc: &'a [u8],
+    /// The pattern of the callout.
     pub callout: &'a [u8],
     /// The program without its leading `|`.
     pub prog: &'a [u8],
@@ -31,15 +35,15 @@ pub struct Parts<'a> {
     ghost args_text: { is_text args.now ≡ true },
 }
 
-impl<'a> Parts<'a> {
+impl<'a> Fields<'a> {
     ghost use Rattle.rk_conf.specs.Lines.{refusal_of, fields_fault, line_of};
-    ghost use Rattle.rk_conf.specs.Parts.{line_told};
+    ghost use Rattle.rk_conf.specs.Fields.{line_from};
 
-    /// The parts of a line, or the first rule that it breaks. It takes no memory.
+    /// The fields of a line, or the first rule that it breaks. It takes no memory.
     #[tactic(auto, unfolding(crate::specs::Lines::refusal_of))]
-    pub fn read(line: &'a [u8]) -> Result<Parts<'a>, ConfKind>
+    pub fn read(line: &'a [u8]) -> Result<Fields<'a>, ConfKind>
         ensures ok { IfOk result (λ p. refusal_of line.now ≡ None) }
-        ensures parts { IfOk result (λ p. (n : ℕ) → line_of n (fields_of line.now) ≡ Some (line_told n p)) }
+        ensures fields { IfOk result (λ p. (n : ℕ) → line_of n (fields_of line.now) ≡ Some (line_from n p)) }
         ensures err { IfErr result (λ k. refusal_of line.now ≡ Some k) }
     {
         if line.len() > MAX_LINE {
@@ -48,14 +52,14 @@ impl<'a> Parts<'a> {
         if !is_text(line) {
             return Err(ConfKind::BadByte);
         }
-        Parts::of_text(line)
+        Fields::of_text(line)
     }
 
     /// The same of a line of text that is not too long.
-    fn of_text(line: &'a [u8]) -> Result<Parts<'a>, ConfKind>
+    fn of_text(line: &'a [u8]) -> Result<Fields<'a>, ConfKind>
         requires { is_text line.now ≡ true }
         ensures ok { IfOk result (λ p. fields_fault (fields_of line.now) ≡ None) }
-        ensures parts { IfOk result (λ p. (n : ℕ) → line_of n (fields_of line.now) ≡ Some (line_told n p)) }
+        ensures fields { IfOk result (λ p. (n : ℕ) → line_of n (fields_of line.now) ≡ Some (line_from n p)) }
         ensures err { IfErr result (λ k. fields_fault (fields_of line.now) ≡ Some k) }
     {
         let (op, rest) = cut_field(line, Space::Any).ok_or(ConfKind::TooFewFields)?;
@@ -70,7 +74,7 @@ impl<'a> Parts<'a> {
         if has_bad_macro(args) {
             return Err(ConfKind::BadMacro);
         }
-        Ok(Parts {
+        Ok(Fields {
             op,
             typ,
             desc,
