@@ -38,6 +38,3 @@ pub use auths::{Auths, MAX_CLIENTS, MAX_DEPTH};
 pub use construction::{Authority, Construction, Stage};
 pub use fault::AuthFault;
 pub use session::{Outcome, Session, Wait};
-
-#[cfg(test)]
-mod tests;

@@ -40,6 +40,3 @@ pub use conf::{Conf, picks_one};
 pub use fault::{ConfFault, ConfKind};
 pub use line::Line;
 pub use word::Word;
-
-#[cfg(test)]
-mod tests;

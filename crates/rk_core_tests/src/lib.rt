@@ -1,10 +1,11 @@
-//! Scenarios of the construction machine, in plain lines, and a Book that plays them.
+//! What happens to a Book, in plain lines, where no script of `reqkeyd replay` can tell it.
 //!
 //! # Purpose
 //!
-//! A scenario is a table of lines, each with its answer: what happens to a request_key daemon, and what it says. Every answer was
-//! worked out by hand from docs/MACHINE.md and the manuals, and none was taken from a run. So the tables in `tests/` show
-//! the machine at work, from a lone request to eight handlers that ask one another.
+//! A test is a table of lines, each with its answer: what happens to a request_key daemon, and what it says. Every answer was worked out by
+//! hand from docs/MACHINE.md and the manuals, and none was taken from a run. Scenarios of the machine are scripts, in tests/replay.
+//! Here is what those can't play: growths that are refused one by one (`rt try --test --fail-alloc N`), events out of turn, what a book tells
+//! without a step, other serials than those from 1 on, and the answers with the shortest and the longest fields.
 //!
 //! # Lines
 //!
@@ -37,18 +38,17 @@
 //!
 //! # How it is built
 //!
-//! `words` takes a line apart, `asks` and `moves` read it, `answers` prints what is answered. `tests` plays the tables; what needs a loop (the
-//! limits) is played by lines that the test makes.
+//! `words` takes a line apart, `asks` and `moves` read it, `answers` prints what is answered. `tests` plays the tables: `growths` those of `scenes`, on
+//! two books of which one is a step behind; `misuse`, `views` and `limits` their own. All of it is for tests, so that the rest of the crate is empty.
 #![tactic(auto)]
 
+#[cfg(test)]
 mod answers;
+#[cfg(test)]
 mod asks;
+#[cfg(test)]
 mod moves;
-mod words;
-
-pub use answers::{play, shown};
-pub use moves::{Line, Move, read};
-pub use words::Fault;
-
 #[cfg(test)]
 mod tests;
+#[cfg(test)]
+mod words;

@@ -6,7 +6,7 @@ use rk_names::{Description, Moment, Payload, Serial, SessionId, TypeName};
 use std::alloc::Global;
 
 /// A line that was read.
-#[derive(Debug, Drop)]
+#[derive(Drop)]
 pub struct Line {
     /// Its moment, where it tells one.
     pub moment: Option<Moment>,
@@ -14,7 +14,7 @@ pub struct Line {
 }
 
 /// What a line tells.
-#[derive(Debug, Drop)]
+#[derive(Drop)]
 pub enum Move {
     /// This happens.
     Step(Event),

@@ -1,18 +1,17 @@
-//! The scenarios, played.
-use super::*;
+//! The tables, played.
+use crate::answers::play;
+use crate::moves::read;
 use rk_core::{Book, Limits};
 use rk_names::{Moment, Serial};
 use std::alloc::{AllocError, Global};
 use std::process::Abort;
 use std::test::Fail;
 
-mod endings;
 mod growths;
-mod handlers;
-mod keys;
 mod limits;
 mod misuse;
-mod requests;
+mod negating;
+mod scenes;
 mod views;
 
 /// A line, and what the book says to it.
@@ -40,12 +39,15 @@ const THREAD: &[Row] = &[
 
 /// A book whose keys stay negative for 60 seconds, and whose first serial is this one.
 fn new_book(rt: &impl Abort, alloc: Global, first: u32) -> Result<Book, AllocError> {
-    let limits = Limits {
-        negative: 60,
-        first: Serial::new(first).expect(rt, "a serial"),
-        stride: 1,
-    };
-    Book::new(alloc, limits)
+    let first = Serial::new(first).expect(rt, "a serial");
+    Book::new(
+        alloc,
+        Limits {
+            negative: 60,
+            first,
+            stride: 1,
+        },
+    )
 }
 
 /// Plays a line at this moment, or the one that it tells, and gives the moment back.
@@ -79,12 +81,22 @@ fn play_rows(
     Ok(now)
 }
 
+/// Plays the tables one after the other.
+fn play_tables(
+    rt: &impl Abort,
+    alloc: Global,
+    book: &mut Book,
+    tables: &[&[Row]],
+) -> Result<(), Fail> {
+    let mut now = Moment(0);
+    for rows in tables {
+        now = play_rows(rt, alloc, book, now, rows)?;
+    }
+    Ok(())
+}
+
 /// Plays the tables one after the other on a new book.
 fn play_all(rt: &impl Abort, alloc: Global, tables: &[&[Row]]) -> Result<(), Fail> {
     let mut book = new_book(rt, alloc, 1)?;
-    let mut now = Moment(0);
-    for rows in tables {
-        now = play_rows(rt, alloc, &mut book, now, rows)?;
-    }
-    Ok(())
+    play_tables(rt, alloc, &mut book, tables)
 }

@@ -2,16 +2,14 @@
 use rk_names::{Callout, Description, NameFault, Payload, Serial, SessionId, TypeName};
 use std::alloc::{AllocError, Global};
 use std::str::SplitWhitespace;
-use thiserror::Error;
 
 /// Why a line can't be read.
-#[derive(Clone, Copy, Debug, PartialEq, Eq, Error)]
+#[derive(Debug, Drop)]
 pub enum Fault {
-    #[error("a word is missing")]
+    /// A word is missing.
     Missing,
-    #[error("a word is not what stands there")]
+    /// A word is not what stands there.
     Word,
-    #[error("out of memory")]
     NoMemory,
 }
 

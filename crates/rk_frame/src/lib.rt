@@ -49,9 +49,6 @@ pub use fault::FrameFault;
 pub use law::any_cutting;
 pub use stream::Frames;
 
-#[cfg(test)]
-mod tests;
-
 /// The longest body of a frame, in bytes.
 pub const MAX_BODY: usize = 65_536;
 

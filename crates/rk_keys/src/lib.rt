@@ -40,6 +40,3 @@ pub use fault::KeyFault;
 pub use key::{Condition, Key, Standing};
 pub use keys::Keys;
 pub use serials::Serials;
-
-#[cfg(test)]
-mod tests;

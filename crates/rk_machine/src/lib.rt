@@ -51,6 +51,3 @@ pub use event::{Answer, Event, How, Ran, done};
 pub use greeting::Greeting;
 pub use laws::{every_run, every_step_owed};
 pub use owing::{session_owes, stage_ends, stage_owes};
-
-#[cfg(test)]
-mod tests;

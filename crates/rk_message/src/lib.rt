@@ -46,6 +46,3 @@ pub use fault::{Fault, ReadError};
 pub use laws::{asks_have_one_reading, replies_have_one_reading};
 pub use reply::{Reply, ReplyBytes};
 pub use rk_names::KeyError;
-
-#[cfg(test)]
-mod tests;

@@ -39,6 +39,3 @@ pub use errors::{Errno, KeyError, NameFault};
 pub use numbers::{Moment, NameNo, Serial, SessionId};
 pub use payload::Payload;
 pub use type_name::TypeName;
-
-#[cfg(test)]
-mod tests;

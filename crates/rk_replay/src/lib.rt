@@ -62,10 +62,3 @@ pub use reading::Reading;
 pub use replay::{Replay, served_is_run};
 pub use script::{MAX_READS, run_script};
 pub use transcript::{LineFault, Transcript};
-
-#[cfg(test)]
-mod replay_tests;
-#[cfg(test)]
-mod script_tests;
-#[cfg(test)]
-mod tests;

@@ -46,6 +46,3 @@ pub use place::Place;
 pub use reach::Matches;
 pub use rings::{MAX_RINGS, Rings};
 pub use row::MAX_LINKS;
-
-#[cfg(test)]
-mod tests;

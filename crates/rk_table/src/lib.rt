@@ -30,6 +30,3 @@ mod places;
 mod table;
 
 pub use table::{Change, ChangeOnce, Table, Test};
-
-#[cfg(test)]
-mod tests;

@@ -2,19 +2,16 @@
 //!
 //! With ample memory these only play their tables, on two books. They are for runs in which the Nth growth is refused (`rt try --test
 //! --fail-alloc N`): the book that answers ENOMEM is compared with the other one, which has not yet taken the step.
-use super::endings::{
-    CLEARED_IN_THE_MAKING, ENDED_BADLY, FOLLOWED_BY_NONE, GONE_WHILE_IT_WAITS,
-    NEGATED_BY_THE_SECOND, PIPED, PUT_OUT_A_BYTE,
-};
-use super::handlers::{A_HANDLER_ASKS, BOTH_ARE_MADE, BOTH_IN_THE_THREAD_RING};
-use super::keys::{STATES, THE_SAME_NAME_AGAIN};
-use super::requests::{
-    ITS_HANDLER_ACTS, MADE_BY_A_HANDLER, ONE_START_FOR_TWO, REVOKED_IN_THE_MAKING,
-    TOLD_ONE_AFTER_THE_OTHER,
+use super::negating::{ENDED_BADLY, FOLLOWED_BY_NONE, NEGATED_BY_THE_SECOND};
+use super::scenes::{
+    A_HANDLER_ASKS, BOTH_ARE_MADE, BOTH_IN_THE_THREAD_RING, CLEARED_IN_THE_MAKING,
+    GONE_WHILE_IT_WAITS, ITS_HANDLER_ACTS, MADE_BY_A_HANDLER, ONE_START_FOR_TWO, PIPED,
+    PUT_OUT_A_BYTE, REVOKED_IN_THE_MAKING, STATES, THE_SAME_NAME_AGAIN, TOLD_ONE_AFTER_THE_OTHER,
 };
 use super::*;
-use rk_core::Event;
-use rk_message::Ask;
+use crate::answers::shown;
+use crate::moves::{Line, Move};
+use crate::words::Fault;
 
 /// Reads a line, once more where memory was refused.
 fn read_surely(alloc: Global, line: &str) -> Result<Line, Fault> {
@@ -38,21 +35,17 @@ fn said(alloc: Global, book: &mut Book, now: Moment, line: &str) -> Result<Strin
     }
 }
 
-/// Which steps may want memory. A request may where it starts a construction.
-fn may_want_memory(event: &Event, answer: &str) -> bool {
-    match event {
-        Event::Opened(_) => true,
-        Event::Asked(_, ask) => match ask {
-            Ask::Hello { .. }
-            | Ask::Read { .. }
-            | Ask::Describe { .. }
-            | Ask::Add { .. }
-            | Ask::Callout => true,
-            Ask::Request { .. } => answer.starts_with("start "),
-            _ => false,
-        },
-        _ => false,
+/// Which lines may want memory. A request may where it starts a construction.
+fn may_want_memory(line: &str, answer: &str) -> bool {
+    for word in line.split_whitespace() {
+        if matches!(
+            word,
+            "open" | "HELLO" | "READ" | "DESCRIBE" | "ADD" | "CALLOUT"
+        ) {
+            return true;
+        }
     }
+    answer.starts_with("start ")
 }
 
 /// Both books say the same to a line.
@@ -117,10 +110,7 @@ fn play_surely(
         assert_eq!(rt; first.as_str(), answer, "{line}");
         return Ok(());
     }
-    let Move::Step(event) = read(alloc, line)?.told else {
-        panic!(rt; "no step: {line}");
-    };
-    assert!(rt; may_want_memory(&event, answer), "{line}");
+    assert!(rt; may_want_memory(line, answer), "{line}");
     are_alike(rt, alloc, one, other, now)?;
     let second = said(alloc, one, now, line)?;
     assert_eq!(rt; second.as_str(), answer, "{line}");
@@ -170,15 +160,26 @@ fn play_on_both(
     Ok(now)
 }
 
+/// Plays the tables on two books.
+fn play_all_on_both(
+    rt: &impl Abort,
+    alloc: Global,
+    one: &mut Book,
+    other: &mut Book,
+    tables: &[&[Row]],
+) -> Result<(), Fail> {
+    let mut now = Moment(0);
+    for rows in tables {
+        now = play_on_both(rt, alloc, one, other, now, rows)?;
+    }
+    Ok(())
+}
+
 /// Plays the tables on two new books.
 fn play_twice(rt: &impl Abort, alloc: Global, tables: &[&[Row]]) -> Result<(), Fail> {
     let mut one = surely_new(rt, alloc)?;
     let mut other = surely_new(rt, alloc)?;
-    let mut now = Moment(0);
-    for rows in tables {
-        now = play_on_both(rt, alloc, &mut one, &mut other, now, rows)?;
-    }
-    Ok(())
+    play_all_on_both(rt, alloc, &mut one, &mut other, tables)
 }
 
 #[test]
@@ -291,17 +292,33 @@ fn add_surely(
     Ok(())
 }
 
+/// The first user has 200 keys.
+fn fill(rt: &impl Abort, alloc: Global, book: &mut Book, now: Moment) -> Result<(), Fail> {
+    for key in 5..205u32 {
+        add_surely(rt, alloc, book, now, key)?;
+    }
+    Ok(())
+}
+
 /// The first user has 200 keys in both books, for which they have places from the beginning; then the rows are played.
+fn play_when_both_are_full(
+    rt: &impl Abort,
+    alloc: Global,
+    one: &mut Book,
+    other: &mut Book,
+    rows: &[Row],
+) -> Result<(), Fail> {
+    let now = play_on_both(rt, alloc, one, other, Moment(0), TWO_USERS)?;
+    fill(rt, alloc, one, now)?;
+    fill(rt, alloc, other, now)?;
+    play_on_both(rt, alloc, one, other, now, rows)?;
+    Ok(())
+}
+
 fn play_when_full(rt: &impl Abort, alloc: Global, rows: &[Row]) -> Result<(), Fail> {
     let mut one = surely_new(rt, alloc)?;
     let mut other = surely_new(rt, alloc)?;
-    let now = play_on_both(rt, alloc, &mut one, &mut other, Moment(0), TWO_USERS)?;
-    for key in 5..205u32 {
-        add_surely(rt, alloc, &mut one, now, key)?;
-        add_surely(rt, alloc, &mut other, now, key)?;
-    }
-    play_on_both(rt, alloc, &mut one, &mut other, now, rows)?;
-    Ok(())
+    play_when_both_are_full(rt, alloc, &mut one, &mut other, rows)
 }
 
 const ANOTHER_KEY_IS_ADDED: &[Row] = &[

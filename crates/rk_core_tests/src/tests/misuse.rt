@@ -58,3 +58,43 @@ const OUT_OF_TURN: &[Row] = &[
 fn events_out_of_turn(rt: HostRuntime) -> Result<(), Fail> {
     play_all(&rt, rt.alloc(), &[ALONE, OUT_OF_TURN])
 }
+
+/// What a plain handler puts out is no payload, and a piped one has no session.
+const OF_A_PLAIN_HANDLER: &[Row] = &[
+    ("c1 REQUEST user a =x 0", "start 3 user a x 1000 1000 0 0 1"),
+    ("launched 3 plain", "0"),
+    ("ended 3 exit 0 hi", "0"),
+    ("collect c1", "E126"),
+];
+
+const OF_A_PIPED_HANDLER: &[Row] = &[
+    ("c1 REQUEST user a =x 0", "start 3 user a x 1000 1000 0 0 1"),
+    ("launched 3 piped", "0"),
+    ("h3 ASSUME 3", "E22"),
+];
+
+#[test]
+fn plain_and_piped_handlers_differ(rt: HostRuntime) -> Result<(), Fail> {
+    play_all(&rt, rt.alloc(), &[ALONE, OF_A_PLAIN_HANDLER])?;
+    play_all(&rt, rt.alloc(), &[ALONE, OF_A_PIPED_HANDLER])
+}
+
+/// A handler that ends while it waits: its wait is gone with it.
+const OF_A_HANDLER_THAT_ENDED: &[Row] = &[
+    ("c1 REQUEST user a =x 0", "start 3 user a x 1000 1000 0 0 1"),
+    ("c2 REQUEST user b =x 0", "start 4 user b x 1000 1000 0 0 1"),
+    ("launched 3 plain", "0"),
+    ("launched 4 plain", "0"),
+    ("h3 ASSUME 3", "0"),
+    ("h3 REQUEST user b =x 0", "waiting 4"),
+    ("ended 3 signal", "0"),
+    ("collect h3", "E22"),
+    ("h4 ASSUME 4", "0"),
+    ("h4 INSTANTIATE 4 b 0", "0"),
+    ("collect h3", "E22"),
+];
+
+#[test]
+fn a_handler_that_ended_collects_nothing(rt: HostRuntime) -> Result<(), Fail> {
+    play_all(&rt, rt.alloc(), &[TWO, OF_A_HANDLER_THAT_ENDED])
+}

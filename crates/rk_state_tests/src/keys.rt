@@ -1,6 +1,7 @@
 ghost use Rattle.std.specs.Prelude.{◌≤◌, ◌<◌, ◌^◌};
 
-use super::*;
+use crate::same::same;
+use rk_keys::{Condition, Key, KeyFault, Keys, Serials, Standing};
 use rk_names::{
     Description, Errno, KeyError, Moment, NameFault, NameNo, Payload, Serial, TypeName,
 };
@@ -47,7 +48,7 @@ fn makes(
     wanted: Result<u32, KeyFault>,
 ) {
     let made = make(alloc, keys, description, owner).map(Serial::get);
-    assert_eq!(rt; made, wanted);
+    same(rt, made, wanted);
 }
 
 /// One key, of type user: under construction, or with a payload.
@@ -64,7 +65,11 @@ fn two_bytes(alloc: Global) -> Result<Payload, Fail> {
 
 /// What the key stands as at a moment.
 fn stands(rt: &impl Abort, keys: &Keys, key: Serial, now: u64, wanted: Standing) {
-    assert_eq!(rt; keys.state_at(key, Moment(now)), Some(wanted), "at {now}");
+    same(
+        rt,
+        (now, keys.state_at(key, Moment(now))),
+        (now, Some(wanted)),
+    );
 }
 
 /// What a timeout answers.
@@ -76,10 +81,10 @@ fn times(
     seconds: u32,
     wanted: Result<(), KeyFault>,
 ) {
-    assert_eq!(rt;
-        keys.set_expiry(key, Moment(now), seconds),
-        wanted,
-        "at {now}"
+    same(
+        rt,
+        (now, keys.set_expiry(key, Moment(now), seconds)),
+        (now, wanted),
     );
 }
 
@@ -92,14 +97,14 @@ fn name(alloc: Global, keys: &Keys, description: &[u8]) -> Result<Option<NameNo>
 /// The number of the name of type user, as the keys tell it.
 fn named(rt: &impl Abort, alloc: Global, keys: &Keys, description: &[u8], wanted: Option<u32>) {
     let number = name(alloc, keys, description);
-    assert_eq!(rt; number, Ok(wanted.map(|number| NameNo(number))));
+    same(rt, number, Ok(wanted.map(|number| NameNo(number))));
 }
 
 /// The numbers of the names of the keys 1 to 5.
 fn numbered(rt: &impl Abort, keys: &Keys, wanted: [Option<u32>; 5]) {
     for (key, number) in [1, 2, 3, 4, 5].into_iter().zip(wanted) {
         let found = Serial::new(key).and_then(|key| keys.number(key));
-        assert_eq!(rt; found.map(|number| number.0), number, "key {key}");
+        same(rt, (key, found.map(|number| number.0)), (key, number));
     }
 }
 
@@ -125,7 +130,7 @@ fn gives(
     now: u64,
     wanted: Option<Result<(u8, usize), KeyFault>>,
 ) {
-    assert_eq!(rt; payload(keys, key, now), wanted, "at {now}");
+    same(rt, (now, payload(keys, key, now)), (now, wanted));
 }
 
 #[test]
@@ -148,8 +153,8 @@ fn serials_rise_by_the_stride(rt: HostRuntime) -> Result<(), Fail> {
         assert!(rt; stride > 0);
         let mut serials = Serials::new(Serial::new(first).ok_or("a serial")?, stride);
         for number in wanted {
-            assert_eq!(rt; serials.left(1), number.is_some());
-            assert_eq!(rt; serials.draw().map(Serial::get), number);
+            same(&rt, serials.left(1), number.is_some());
+            same(&rt, serials.draw().map(Serial::get), number);
         }
     }
     let serials = Serials::new(serial(2_147_483_646), 1);
@@ -162,11 +167,11 @@ fn serials_rise_by_the_stride(rt: HostRuntime) -> Result<(), Fail> {
 fn a_copy_draws_beside(rt: HostRuntime) -> Result<(), Fail> {
     let mut keys = Keys::new(rt.alloc(), serial(3), 4)?;
     let mut beside = keys.serials();
-    assert_eq!(rt; beside.draw().map(Serial::get), Some(3));
-    assert_eq!(rt; beside.draw().map(Serial::get), Some(7));
+    same(&rt, beside.draw().map(Serial::get), Some(3));
+    same(&rt, beside.draw().map(Serial::get), Some(7));
     makes(&rt, rt.alloc(), &mut keys, b"a", 0, Ok(3));
     let mut further = keys.serials();
-    assert_eq!(rt; further.draw().map(Serial::get), Some(7));
+    same(&rt, further.draw().map(Serial::get), Some(7));
     keys.set_serials(further);
     makes(&rt, rt.alloc(), &mut keys, b"b", 0, Ok(11));
     Ok(())
@@ -182,7 +187,7 @@ fn the_serials_run_out(rt: HostRuntime) -> Result<(), Fail> {
     makes(&rt, alloc, &mut keys, b"c", 0, Err(KeyFault::Quota));
     keys.forget(serial(2_147_483_646));
     makes(&rt, alloc, &mut keys, b"c", 0, Err(KeyFault::Quota));
-    assert_eq!(rt; keys.serials().draw(), None);
+    same(&rt, keys.serials().draw(), None);
     Ok(())
 }
 
@@ -229,11 +234,11 @@ fn a_mark_stays(rt: HostRuntime) -> Result<(), Fail> {
         Condition::Negative(KeyError::Rejected),
         Some(Moment(110)),
     );
-    assert_eq!(rt; keys.revoke(key), Ok(()));
+    same(&rt, keys.revoke(key), Ok(()));
     stands(&rt, &keys, key, 109, Standing::Revoked);
     stands(&rt, &keys, key, 111, Standing::Revoked);
-    assert_eq!(rt; keys.revoke(key), Err(KeyFault::Own(KeyError::Revoked)));
-    assert_eq!(rt; keys.state_at(serial(2), Moment(0)), None);
+    same(&rt, keys.revoke(key), Err(KeyFault::Own(KeyError::Revoked)));
+    same(&rt, keys.state_at(serial(2), Moment(0)), None);
     Ok(())
 }
 
@@ -260,8 +265,8 @@ fn standings_have_errors(rt: HostRuntime) {
         ),
     ];
     for (standing, error, over) in table {
-        assert_eq!(rt; standing.error(), error);
-        assert_eq!(rt; standing.over(), over);
+        same(&rt, standing.error(), error);
+        same(&rt, standing.over(), over);
     }
 }
 
@@ -290,7 +295,7 @@ fn the_last_moment(rt: HostRuntime) -> Result<(), Fail> {
     // A completion without an expiry keeps the one that the key has.
     keys.complete(key, Condition::Building, None);
     stands(&rt, &keys, key, last, Standing::Expired);
-    assert_eq!(rt; keys.revoke(key), Ok(()));
+    same(&rt, keys.revoke(key), Ok(()));
     let revoked = Err(KeyFault::Own(KeyError::Revoked));
     times(&rt, &mut keys, key, 0, 5, revoked);
     Ok(())
@@ -311,7 +316,7 @@ fn payloads(rt: HostRuntime) -> Result<(), Fail> {
     keys.complete(key, Condition::Negative(KeyError::NoKey), None);
     let no_key = KeyFault::Own(KeyError::NoKey);
     gives(&rt, &keys, key, 5, Some(Err(no_key)));
-    assert_eq!(rt; keys.revoke(key), Ok(()));
+    same(&rt, keys.revoke(key), Ok(()));
     let revoked = KeyFault::Own(KeyError::Revoked);
     gives(&rt, &keys, key, 5, Some(Err(revoked)));
     keys.forget(key);
@@ -341,6 +346,52 @@ fn equal_names_share_a_number(rt: HostRuntime) -> Result<(), Fail> {
     named(&rt, alloc, &keys, b"a", None);
     makes(&rt, alloc, &mut keys, b"a", 0, Ok(5));
     numbered(&rt, &keys, [None, None, Some(3), None, Some(5)]);
+    Ok(())
+}
+
+/// The type and the description of so many letters.
+fn letters(
+    alloc: Global,
+    typ: usize,
+    description: usize,
+) -> Result<(TypeName, Description), NameFault> {
+    let letters = vec![in alloc; b'a'; 4_095].map_err(|_| NameFault::NoMemory)?;
+    let typ = letters.get(..typ).ok_or(NameFault::TooLong)?;
+    let description = letters.get(..description).ok_or(NameFault::TooLong)?;
+    Ok((
+        TypeName::new(alloc, typ)?,
+        Description::new(alloc, description)?,
+    ))
+}
+
+/// So many bytes 7.
+fn sevens(alloc: Global, count: usize) -> Result<Payload, NameFault> {
+    Payload::new(vec![in alloc; 7; count].map_err(|_| NameFault::NoMemory)?)
+}
+
+/// One key, with a payload, of these lengths.
+fn key_of(
+    alloc: Global,
+    typ: usize,
+    description: usize,
+    bytes: usize,
+) -> Result<(Keys, Serial), KeyFault> {
+    let mut keys = Keys::new(alloc, serial(1), 1)?;
+    let name = letters(alloc, typ, description).map_err(|_| KeyFault::NoMemory)?;
+    let content = sevens(alloc, bytes).map_err(|_| KeyFault::NoMemory)?;
+    let key = keys.make(name.0, name.1, 0, Some(content))?;
+    Ok((keys, key))
+}
+
+/// The shortest names and payload, and the longest.
+#[test]
+fn keys_of_each_size(rt: HostRuntime) -> Result<(), Fail> {
+    for (typ, description, bytes) in [(1, 1, 1), (31, 4_095, 32_767)] {
+        let (keys, key) = key_of(rt.alloc(), typ, description, bytes)?;
+        gives(&rt, &keys, key, 0, Some(Ok((7, bytes))));
+        let name = letters(rt.alloc(), typ, description)?;
+        same(&rt, keys.name(&name.0, &name.1), Some(NameNo(1)));
+    }
     Ok(())
 }
 
@@ -392,9 +443,9 @@ fn faults_are_answered(rt: HostRuntime) -> Result<(), Fail> {
         (KeyFault::NoMemory, Errno::Enomem, "out of memory"),
     ];
     for (fault, errno, text) in table {
-        assert_eq!(rt; fault.errno(), errno);
+        same(&rt, fault.errno(), errno);
         let shown = format!(in rt.alloc(); "{fault}")?;
-        assert_eq!(rt; shown.as_str(), text);
+        same(&rt, shown.as_str(), text);
     }
     Ok(())
 }
@@ -412,12 +463,12 @@ fn a_refused_growth_changes_nothing(rt: HostRuntime) -> Result<(), Fail> {
         let key = match make(alloc, &mut keys, b"a", owner) {
             Ok(key) => key,
             Err(fault) => {
-                assert_eq!(rt; fault, KeyFault::NoMemory);
+                same(&rt, fault, KeyFault::NoMemory);
                 make(alloc, &mut keys, b"a", owner)?
             }
         };
-        assert_eq!(rt; key.get(), number);
-        assert_eq!(rt; keys.number(key), Some(NameNo(1)));
+        same(&rt, key.get(), number);
+        same(&rt, keys.number(key), Some(NameNo(1)));
     }
     Ok(())
 }

@@ -1,5 +1,6 @@
-use super::*;
+use crate::same::same;
 use rk_conf::{Conf, Word};
+use rk_macro::{Command, ExpandFault, Op, Subject, Wanted, Words, expand};
 use rk_names::{Callout, Description, Serial, TypeName};
 use std::alloc::{AllocError, Global};
 use std::process::Abort;
@@ -21,11 +22,14 @@ fn subject(alloc: Global) -> Result<Subject, AllocError> {
     })
 }
 
-/// What a lookup gives: no key for `none`, bytes that are no text for `bytes`, no memory for `memory`, else `hi`.
+/// What a lookup gives: no key for `none`, bytes that are no text for `bytes`, no memory for `memory`, no byte for `empty`, 32,767 letters for
+/// `long`, else `hi`.
 fn lookup(alloc: Global, wanted: &Wanted) -> Result<Option<Vec<u8>>, AllocError> {
     match wanted.desc.as_bytes() {
         b"none" => Ok(None),
         b"memory" => Err(AllocError),
+        b"empty" => Ok(Some(Vec::new(alloc))),
+        b"long" => vec![in alloc; b'a'; 32_767].map(Some),
         b"bytes" => Ok(Some(Vec::from_slice(alloc, b"\xff")?)),
         _ => Ok(Some(Vec::from_slice(alloc, b"hi")?)),
     }
@@ -46,9 +50,9 @@ fn command(alloc: Global, text: &[u8]) -> Result<Result<Command, ExpandFault>, A
 
 fn check_words(rt: &impl Abort, command: &Command, want: &[&[u8]]) {
     let words = command.words.as_slice();
-    assert_eq!(rt; words.len(), want.len());
+    same(rt, words.len(), want.len());
     for (word, want) in words.iter().zip(want) {
-        assert_eq!(rt; word.as_bytes(), *want);
+        same(rt, word.as_bytes(), *want);
     }
 }
 
@@ -57,7 +61,7 @@ fn makes_each_word(rt: HostRuntime) -> Result<(), Fail> {
     let alloc = rt.alloc();
     let text = b"create * * * |/bin/h %o %k %t %d %c %u %g %T %P %S %%k x%k %{user:a}";
     let made = command(alloc, text)??;
-    assert_eq!(rt; made.path.as_bytes(), b"/bin/h".as_slice());
+    same(&rt, made.path.as_bytes(), b"/bin/h".as_slice());
     assert!(rt; made.piped);
     let want: [&[u8]; 13] = [
         b"create",
@@ -75,10 +79,28 @@ fn makes_each_word(rt: HostRuntime) -> Result<(), Fail> {
         b"hi",
     ];
     check_words(&rt, &made, &want);
+    Ok(())
+}
 
-    let plain = command(alloc, b"create user debug:* * /bin/debug.sh %k %%k %d")??;
-    assert!(rt; !plain.piped);
-    check_words(&rt, &plain, &[b"3", b"%k", b"debug:x"]);
+/// A command may have no word, one, or one without a byte.
+#[test]
+fn plain_commands(rt: HostRuntime) -> Result<(), Fail> {
+    let rows: [(&[u8], &[u8], &[&[u8]]); 4] = [
+        (b"create * * * /bin/h", b"/bin/h", &[]),
+        (b"create * * * /bin/h %k", b"/bin/h", &[b"3"]),
+        (b"create * * * /bin/h %{user:empty}", b"/bin/h", &[b""]),
+        (
+            b"create user debug:* * /bin/debug.sh %k %%k %d",
+            b"/bin/debug.sh",
+            &[b"3", b"%k", b"debug:x"],
+        ),
+    ];
+    for (text, path, words) in rows {
+        let made = command(rt.alloc(), text)??;
+        same(&rt, made.path.as_bytes(), path);
+        assert!(rt; !made.piped);
+        check_words(&rt, &made, words);
+    }
     Ok(())
 }
 
@@ -96,14 +118,15 @@ fn the_leftmost_fault_decides(rt: HostRuntime) -> Result<(), Fail> {
         match command(alloc, text)? {
             Ok(_) => panic!(rt; "{text:?} is a command"),
             Err(fault) => {
-                assert_eq!(rt; fault.code(), code, "{text:?}");
-                assert_eq!(rt; format!(in alloc; "{fault}")?.as_str(), code);
+                same(&rt, (text, fault.code()), (text, code));
+                same(&rt, format!(in alloc; "{fault}")?.as_str(), code);
             }
         }
     }
-    assert_eq!(rt;
+    same(
+        &rt,
         format!(in alloc; "{}", ExpandFault::TooLong)?.as_str(),
-        "X3"
+        "X3",
     );
     Ok(())
 }
@@ -111,18 +134,18 @@ fn the_leftmost_fault_decides(rt: HostRuntime) -> Result<(), Fail> {
 /// Two words of 32,767 letters have 65,536 bytes with one byte more each.
 #[test]
 fn words_have_65536_bytes(rt: HostRuntime) -> Result<(), Fail> {
-    let alloc = rt.alloc();
-    let letters = vec![in alloc; b'a'; 32_767]?;
-    let subject = subject(alloc)?;
-    let give = |_wanted: &Wanted| Vec::from_slice(alloc, &letters).map(Some);
-    let two = Conf::read(alloc, b"create * * * /bin/h %{user:a} %{user:a}")?;
-    let line = two.lines().first().ok_or("a line")?;
-    let made = expand(alloc, line, &subject, &give)?;
+    let letters = vec![in rt.alloc(); b'a'; 32_767]?;
+    let text = b"create * * * /bin/h %{user:long} %{user:long}";
+    let made = command(rt.alloc(), text)??;
     check_words(&rt, &made, &[&letters, &letters]);
-    let three = Conf::read(alloc, b"create * * * /bin/h %{user:a} %{user:a} x")?;
-    let line = three.lines().first().ok_or("a line")?;
-    let long = expand(alloc, line, &subject, &give).err();
-    assert_eq!(rt; long, Some(ExpandFault::TooLong));
+    Ok(())
+}
+
+#[test]
+fn words_have_no_byte_more(rt: HostRuntime) -> Result<(), Fail> {
+    let text = b"create * * * /bin/h %{user:long} %{user:long} x";
+    let made = command(rt.alloc(), text)?;
+    same(&rt, made.err(), Some(ExpandFault::TooLong));
     Ok(())
 }
 
@@ -133,7 +156,7 @@ fn wants_nothing_but_memory(rt: HostRuntime) {
     if let Ok(made) = command(rt.alloc(), text) {
         match made {
             Ok(made) => check_words(&rt, &made, &[b"3", b"debug:x", b"x", b"hi", b"2147483647"]),
-            Err(fault) => assert_eq!(rt; fault, ExpandFault::NoMemory),
+            Err(fault) => same(&rt, fault, ExpandFault::NoMemory),
         }
     }
 }
@@ -145,7 +168,8 @@ fn words_are_kept(rt: HostRuntime) -> Result<(), Fail> {
     let mut items = Vec::new(alloc);
     items.push(word)?;
     let words = Words::new(items);
-    assert_eq!(rt; words.as_slice().len(), 1);
+    same(&rt, words.as_slice().len(), 1);
+    same(&rt, Words::new(Vec::new(alloc)).as_slice().len(), 0);
     Ok(())
 }
 

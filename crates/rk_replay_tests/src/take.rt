@@ -1,8 +1,9 @@
 //! What a proof can't show: that whole scripts give the text of the format.
-use super::*;
+use crate::same::same;
 use rk_conf::Conf;
 use rk_core::Limits;
 use rk_names::Serial;
+use rk_replay::{LineFault, Outputs, Reading, Replay, TakeFault, Transcript, served_is_run};
 use std::alloc::{AllocError, Global};
 use std::process::Abort;
 use std::test::Fail;
@@ -15,6 +16,17 @@ const HELLO: &[u8] = b"100 bytes 1 0000000e01000003e8000003e80000000000";
 
 const REQUEST: &[u8] = b"100 bytes 1 00000012020004757365720001610100017800000000";
 
+fn tell_all(
+    alloc: Global,
+    transcript: &mut Transcript,
+    outputs: &Outputs,
+) -> Result<(), AllocError> {
+    for told in outputs.as_slice() {
+        transcript.tell(alloc, told)?;
+    }
+    Ok(())
+}
+
 /// Puts out what a happening gives, or that its line changed nothing.
 fn put_line(
     alloc: Global,
@@ -23,19 +35,42 @@ fn put_line(
     number: u64,
     line: &[u8],
 ) -> Result<(), AllocError> {
-    let Reading::Happens(now, happening) = Reading::read(alloc, line)? else {
-        return transcript.refuse(number, LineFault::NotALine);
+    let taken = match Reading::read(alloc, line)? {
+        Reading::Happens(now, happening) => replay.take(alloc, now, &happening),
+        _ => return transcript.refuse(number, LineFault::NotALine),
     };
-    match replay.take(alloc, now, &happening) {
-        Ok(outputs) => {
-            for output in outputs.as_slice() {
-                transcript.tell(alloc, output)?;
-            }
-            Ok(())
-        }
+    match taken {
+        Ok(outputs) => tell_all(alloc, transcript, &outputs),
         Err(TakeFault::Unknown) => transcript.refuse(number, LineFault::Unknown),
         Err(TakeFault::NoMemory) => Err(AllocError),
     }
+}
+
+/// A replay with this configuration, whose serials are 1, 2 and so on.
+fn new_replay(alloc: Global, conf: &[u8]) -> Result<Replay, AllocError> {
+    let conf = Conf::read(alloc, conf).map_err(|_| AllocError)?;
+    let first = Serial::new(1).ok_or(AllocError)?;
+    Replay::new(
+        alloc,
+        conf,
+        Limits {
+            negative: 60,
+            first,
+            stride: 1,
+        },
+    )
+}
+
+fn put_lines(
+    alloc: Global,
+    replay: &mut Replay,
+    transcript: &mut Transcript,
+    lines: &[&[u8]],
+) -> Result<(), AllocError> {
+    for (i, line) in lines.iter().enumerate() {
+        put_line(alloc, replay, transcript, i as u64 + 1, *line)?;
+    }
+    Ok(())
 }
 
 fn check_run(
@@ -45,19 +80,10 @@ fn check_run(
     lines: &[&[u8]],
     want: &str,
 ) -> Result<(), Fail> {
-    let conf = Conf::read(alloc, conf).ok().ok_or("a configuration")?;
-    let limits = Limits {
-        negative: 60,
-        first: Serial::new(1).ok_or("a serial")?,
-        stride: 1,
-    };
-    let mut replay = Replay::new(alloc, conf, limits)?;
+    let mut replay = new_replay(alloc, conf)?;
     let mut transcript = Transcript::new(alloc);
-    for (i, line) in lines.iter().enumerate() {
-        put_line(alloc, &mut replay, &mut transcript, i as u64 + 1, *line)?;
-    }
-    let text = str::from_utf8(transcript.as_bytes()).ok().ok_or("text")?;
-    assert_eq!(rt; text, want);
+    put_lines(alloc, &mut replay, &mut transcript, lines)?;
+    same(rt, str::from_utf8(transcript.as_bytes()).ok(), Some(want));
     Ok(())
 }
 
@@ -249,5 +275,20 @@ fn growths_of_a_negate_command(rt: HostRuntime) {
 #[test]
 fn the_law_runs(rt: HostRuntime) {
     served_is_run();
-    assert_eq!(rt; TakeFault::Unknown == TakeFault::NoMemory, false);
+    same(&rt, TakeFault::Unknown == TakeFault::NoMemory, false);
+}
+
+#[test]
+fn faults_print(rt: HostRuntime) -> Result<(), Fail> {
+    for (fault, text) in [
+        (
+            TakeFault::Unknown,
+            "the client or handler is not at that point",
+        ),
+        (TakeFault::NoMemory, "memory was refused"),
+    ] {
+        let shown = format!(in rt.alloc(); "{fault}")?;
+        same(&rt, shown.as_str(), text);
+    }
+    Ok(())
 }

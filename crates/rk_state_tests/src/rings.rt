@@ -2,8 +2,9 @@ ghost use Rattle.std.specs.Prelude.{[], ◌∷◌};
 ghost use Rattle.std.specs.Bool.{OnTrue};
 ghost use Rattle.rk_rings.specs.Numbered.{AreNew};
 
-use super::*;
+use crate::same::same;
 use rk_names::{Context, Errno, NameNo, Serial, Setting};
+use rk_rings::{NewRing, Place, RingFault, RingKind, Rings};
 use std::alloc::Global;
 use std::test::Fail;
 
@@ -139,9 +140,13 @@ fn a_ring_has_room_for_256_links(rt: HostRuntime) {
     ];
     let mut rings = full_ring(rt.alloc());
     for (row, (step, fault, key, linked)) in table.into_iter().enumerate() {
-        assert_eq!(rt; take(&mut rings, step), fault, "row {row}");
-        assert_eq!(rt; rings.holds(serial(1), serial(key)), linked, "row {row}");
-        assert_eq!(rt; rings.is_held(serial(key)), linked, "row {row}");
+        same(&rt, (row, take(&mut rings, step)), (row, fault));
+        same(
+            &rt,
+            (row, rings.holds(serial(1), serial(key))),
+            (row, linked),
+        );
+        same(&rt, (row, rings.is_held(serial(key))), (row, linked));
     }
 }
 
@@ -149,24 +154,26 @@ fn a_ring_has_room_for_256_links(rt: HostRuntime) {
 fn a_full_ring_takes_names_that_it_has(rt: HostRuntime) {
     let mut rings = full_ring(rt.alloc());
     for (name, full) in [(None, true), (Some(256), true), (Some(255), false)] {
-        assert_eq!(rt;
+        same(
+            &rt,
             rings.is_full(serial(1), name.map(|number| NameNo(number))),
-            full
+            full,
         );
     }
-    assert_eq!(rt; rings.is_full(serial(2), None), false);
+    same(&rt, rings.is_full(serial(2), None), false);
     assert!(rt; rings.first_key(serial(1)).is_some());
-    assert_eq!(rt; rings.first_key(serial(2)), None);
+    same(&rt, rings.first_key(serial(2)), None);
     let _ = take(&mut rings, Step::Clear(1));
-    assert_eq!(rt; rings.first_key(serial(1)), None);
+    same(&rt, rings.first_key(serial(1)), None);
     let _ = take(&mut rings, Step::Link(1, 9, 1));
-    assert_eq!(rt; rings.first_key(serial(1)), Some(serial(9)));
+    same(&rt, rings.first_key(serial(1)), Some(serial(9)));
 }
 
 #[test]
 fn rings_are_made_together(rt: HostRuntime) {
     let mut rings = Rings::new(rt.alloc());
-    assert_eq!(rt; make_four(&mut rings, rt.alloc(), [1, 2, 3, 4]), None);
+    same(&rt, rings.make(rt.alloc(), &[]), Ok(()));
+    same(&rt, make_four(&mut rings, rt.alloc(), [1, 2, 3, 4]), None);
     let kinds = [
         (1, RingKind::Thread),
         (2, RingKind::Process),
@@ -174,24 +181,25 @@ fn rings_are_made_together(rt: HostRuntime) {
         (4, RingKind::User),
     ];
     for (number, kind) in kinds {
-        assert_eq!(rt; rings.kind(serial(number)), Some((kind, 1000)));
+        same(&rt, rings.kind(serial(number)), Some((kind, 1000)));
     }
-    assert_eq!(rt; rings.kind(serial(5)), None);
-    assert_eq!(rt; rings.user_ring(1000), Some(serial(4)));
-    assert_eq!(rt; rings.user_ring(1001), None);
+    same(&rt, rings.kind(serial(5)), None);
+    same(&rt, rings.user_ring(1000), Some(serial(4)));
+    same(&rt, rings.user_ring(1001), None);
 }
 
 #[test]
 fn there_are_1_024_rings(rt: HostRuntime) {
     let mut rings = Rings::new(rt.alloc());
     for number in 1..1_022 {
-        assert_eq!(rt; make_one(&mut rings, rt.alloc(), number), None);
+        same(&rt, make_one(&mut rings, rt.alloc(), number), None);
     }
     assert!(rt; rings.has_room(3) && !rings.has_room(4));
     let four = [2_000, 2_001, 2_002, 2_003];
-    assert_eq!(rt;
+    same(
+        &rt,
         make_four(&mut rings, rt.alloc(), four),
-        Some(RingFault::Full)
+        Some(RingFault::Full),
     );
     for number in four {
         assert!(rt; !rings.contains(serial(number)));
@@ -203,11 +211,11 @@ fn there_are_1_024_rings(rt: HostRuntime) {
         (1_025, Some(RingFault::Full)),
     ];
     for (number, fault) in rest {
-        assert_eq!(rt; make_one(&mut rings, rt.alloc(), number), fault);
-        assert_eq!(rt; rings.contains(serial(number)), fault.is_none());
+        same(&rt, make_one(&mut rings, rt.alloc(), number), fault);
+        same(&rt, rings.contains(serial(number)), fault.is_none());
     }
     let _ = take(&mut rings, Step::Drop(1));
-    assert_eq!(rt; make_one(&mut rings, rt.alloc(), 1_025), None);
+    same(&rt, make_one(&mut rings, rt.alloc(), 1_025), None);
 }
 
 /// The rings 1 to 4 and 11 to 14.
@@ -260,14 +268,14 @@ fn asks_name_rings_by_place(rt: HostRuntime) {
         (99, -126),
     ];
     for (number, answer) in table {
-        assert_eq!(rt; means(&rings, Some(13), number), answer);
+        same(&rt, means(&rings, Some(13), number), answer);
     }
-    assert_eq!(rt; means(&rings, None, -8), -126);
+    same(&rt, means(&rings, None, -8), -126);
     for dropped in [1, 11, 13] {
         let _ = take(&mut rings, Step::Drop(dropped));
     }
     for (number, answer) in [(-1, -126), (1, -126), (11, -126), (-8, -126), (-2, 2)] {
-        assert_eq!(rt; means(&rings, Some(13), number), answer);
+        same(&rt, means(&rings, Some(13), number), answer);
     }
 }
 
@@ -294,11 +302,11 @@ fn new_keys_go_to_the_first_ring(rt: HostRuntime) {
         let _ = take(&mut rings, Step::Drop(dropped));
         for (setting, answer) in settings.into_iter().zip(answers) {
             let chosen = rings.choose(&first_context(), Some(serial(13)), setting);
-            assert_eq!(rt; chosen.get(), answer);
+            same(&rt, chosen.get(), answer);
         }
     }
     let chosen = rings.choose(&first_context(), None, Setting::Requestor);
-    assert_eq!(rt; chosen.get(), 4);
+    same(&rt, chosen.get(), 4);
 }
 
 /// The keys of a name in the rings of the first context, 0 for none.
@@ -323,10 +331,10 @@ fn names_are_found_in_each_ring(rt: HostRuntime) {
         Step::Link(12, 104, 5),
     ];
     for link in links {
-        assert_eq!(rt; take(&mut rings, link), None);
+        same(&rt, take(&mut rings, link), None);
     }
-    assert_eq!(rt; found(&rings, 5), [101, 0, 103, 101]);
-    assert_eq!(rt; found(&rings, 6), [0, 102, 0, 0]);
+    same(&rt, found(&rings, 5), [101, 0, 103, 101]);
+    same(&rt, found(&rings, 6), [0, 102, 0, 0]);
     for (key, reached) in [
         (101, true),
         (102, true),
@@ -334,12 +342,16 @@ fn names_are_found_in_each_ring(rt: HostRuntime) {
         (104, false),
         (1, false),
     ] {
-        assert_eq!(rt; rings.is_reached(&first_context(), serial(key)), reached);
+        same(
+            &rt,
+            rings.is_reached(&first_context(), serial(key)),
+            reached,
+        );
     }
     let _ = take(&mut rings, Step::Drop(1));
-    assert_eq!(rt; found(&rings, 5), [0, 0, 103, 101]);
+    same(&rt, found(&rings, 5), [0, 0, 103, 101]);
     let _ = take(&mut rings, Step::Drop(4));
-    assert_eq!(rt; rings.is_held(serial(101)), false);
+    same(&rt, rings.is_held(serial(101)), false);
 }
 
 #[test]
@@ -350,7 +362,7 @@ fn a_name_is_found_in_one_ring(rt: HostRuntime) {
     let rows: [(u16, u32, u32); 4] = [(3, 5, 103), (3, 6, 104), (3, 7, 0), (99, 5, 0)];
     for (ring, name, key) in rows {
         let found = rings.find_in(serial(ring), NameNo(name));
-        assert_eq!(rt; found.map_or(0, Serial::get), key);
+        same(&rt, found.map_or(0, Serial::get), key);
     }
 }
 
@@ -372,9 +384,9 @@ fn faults_are_answered(rt: HostRuntime) -> Result<(), Fail> {
         (RingFault::NoMemory, Errno::Enomem, "out of memory"),
     ];
     for (fault, errno, text) in table {
-        assert_eq!(rt; fault.errno(), errno);
+        same(&rt, fault.errno(), errno);
         let shown = format!(in rt.alloc(); "{fault}")?;
-        assert_eq!(rt; shown.as_str(), text);
+        same(&rt, shown.as_str(), text);
     }
     Ok(())
 }
@@ -386,16 +398,16 @@ fn a_refused_growth_changes_nothing(rt: HostRuntime) {
     let mut rings = Rings::new(rt.alloc());
     for four in [[1, 2, 3, 4], [11, 12, 13, 14], [21, 22, 23, 24]] {
         if let Some(fault) = make_four(&mut rings, rt.alloc(), four) {
-            assert_eq!(rt; fault, RingFault::NoMemory);
+            same(&rt, fault, RingFault::NoMemory);
             for number in four {
                 assert!(rt; !rings.contains(serial(number)));
             }
-            assert_eq!(rt; make_four(&mut rings, rt.alloc(), four), None);
+            same(&rt, make_four(&mut rings, rt.alloc(), four), None);
         }
         assert!(rt; rings.contains(serial(1)));
     }
     for name in 0..256u16 {
         let link = Step::Link(23, 1_000 + name, u32::from(name));
-        assert_eq!(rt; take(&mut rings, link), None);
+        same(&rt, take(&mut rings, link), None);
     }
 }

@@ -1,6 +1,7 @@
 ghost use Rattle.std.specs.Prelude.{◌≡◌, ◌+◌, ◌<◌, ◌%◌, ◌^◌, nat_lt, nat_eq, Bool};
 
-use super::*;
+use crate::same::same;
+use rk_table::{Change, ChangeOnce, Table, Test};
 use std::alloc::{AllocError, Global};
 use std::test::Fail;
 
@@ -78,19 +79,19 @@ fn held(table: &Table<u8>) -> ([Option<u8>; 3], usize) {
 #[test]
 fn entries_are_looked_up(rt: HostRuntime) -> Result<(), Fail> {
     let empty: Table<u8> = Table::with_room(rt.alloc(), 2)?;
-    assert_eq!(rt; empty.len(), 0);
+    same(&rt, empty.len(), 0);
     let table = two(rt.alloc())?;
     assert!(rt; table.contains(9));
     assert!(rt; !table.contains(8));
-    assert_eq!(rt; held(&table), ([Some(70), None, Some(90)], 2));
+    same(&rt, held(&table), ([Some(70), None, Some(90)], 2));
     Ok(())
 }
 
 #[test]
 fn entries_are_tested(rt: HostRuntime) -> Result<(), Fail> {
     let table = two(rt.alloc())?;
-    assert_eq!(rt; table.find(&Holds(90)), Some(9));
-    assert_eq!(rt; table.find(&Holds(92)), None);
+    same(&rt, table.find(&Holds(90)), Some(9));
+    same(&rt, table.find(&Holds(92)), None);
     assert!(rt; table.any(&Holds(70)));
     assert!(rt; !table.any(&Holds(91)));
     Ok(())
@@ -101,14 +102,14 @@ fn entries_are_changed(rt: HostRuntime) -> Result<(), Fail> {
     let mut table = two(rt.alloc())?;
     table.change(9, Next);
     table.change(8, Next);
-    assert_eq!(rt; held(&table), ([Some(70), None, Some(91)], 2));
-    assert_eq!(rt; table.find(&Holds(91)), Some(9));
+    same(&rt, held(&table), ([Some(70), None, Some(91)], 2));
+    same(&rt, table.find(&Holds(91)), Some(9));
     table.retain(&Holds(91));
-    assert_eq!(rt; held(&table), ([None, None, Some(91)], 1));
+    same(&rt, held(&table), ([None, None, Some(91)], 1));
     table.change_all(&Zeroed);
-    assert_eq!(rt; held(&table), ([None, None, Some(0)], 1));
+    same(&rt, held(&table), ([None, None, Some(0)], 1));
     table.remove(9);
-    assert_eq!(rt; held(&table), ([None; 3], 0));
+    same(&rt, held(&table), ([None; 3], 0));
     Ok(())
 }
 
@@ -119,17 +120,31 @@ fn keys_come_in_any_order(rt: HostRuntime) -> Result<(), Fail> {
     for key in 0..40u8 {
         put(&mut table, u32::from(39 - key), 39 - key)?;
     }
-    assert_eq!(rt; wrong(&table, 40), None);
+    same(&rt, wrong(&table, 40), None);
     for half in 0..20u8 {
         table.remove(u32::from(half) * 2);
     }
-    assert_eq!(rt; table.len(), 20);
+    same(&rt, table.len(), 20);
     for half in 0..20u8 {
-        assert_eq!(rt; table.get(u32::from(half) * 2).copied(), None);
-        assert_eq!(rt;
+        same(&rt, table.get(u32::from(half) * 2).copied(), None);
+        same(
+            &rt,
             table.get(u32::from(half) * 2 + 1).copied(),
-            Some(half * 2 + 1)
+            Some(half * 2 + 1),
         );
+    }
+    Ok(())
+}
+
+/// Room for no entry may be asked for, and for one.
+#[test]
+fn there_may_be_little_room(rt: HostRuntime) -> Result<(), Fail> {
+    for room in [0, 1] {
+        let mut table: Table<u8> = Table::with_room(rt.alloc(), room)?;
+        table.reserve(room)?;
+        same(&rt, held(&table), ([None; 3], 0));
+        put(&mut table, 8, 80)?;
+        same(&rt, held(&table), ([None, Some(80), None], 1));
     }
     Ok(())
 }
@@ -141,7 +156,7 @@ fn places_come_back(rt: HostRuntime) -> Result<(), Fail> {
     table.reserve(2)?;
     for key in 0..1_000 {
         put(&mut table, key, 1)?;
-        assert_eq!(rt; table.len(), 1);
+        same(&rt, table.len(), 1);
         table.remove(key);
     }
     Ok(())
@@ -154,10 +169,10 @@ fn a_growth_past_all_memory_is_refused(rt: HostRuntime) -> Result<(), Fail> {
     assert!(rt; none.is_none());
     let mut table = two(rt.alloc())?;
     table.reserve(1)?;
-    assert_eq!(rt; table.reserve(usize::MAX), Err(AllocError));
-    assert_eq!(rt; held(&table), ([Some(70), None, Some(90)], 2));
-    assert_eq!(rt; put(&mut table, 8, 80), Ok(()));
-    assert_eq!(rt; held(&table), ([Some(70), Some(80), Some(90)], 3));
+    same(&rt, table.reserve(usize::MAX), Err(AllocError));
+    same(&rt, held(&table), ([Some(70), None, Some(90)], 2));
+    same(&rt, put(&mut table, 8, 80), Ok(()));
+    same(&rt, held(&table), ([Some(70), Some(80), Some(90)], 3));
     Ok(())
 }
 
@@ -181,12 +196,12 @@ fn a_refused_growth_changes_nothing(rt: HostRuntime) -> Result<(), Fail> {
     };
     for key in 0..40u8 {
         if put(&mut table, u32::from(key), key).is_err() {
-            assert_eq!(rt; table.len(), usize::from(key));
-            assert_eq!(rt; wrong(&table, key), None);
-            assert_eq!(rt; put(&mut table, u32::from(key), key), Ok(()));
+            same(&rt, table.len(), usize::from(key));
+            same(&rt, wrong(&table, key), None);
+            same(&rt, put(&mut table, u32::from(key), key), Ok(()));
         }
-        assert_eq!(rt; table.len(), usize::from(key) + 1);
+        same(&rt, table.len(), usize::from(key) + 1);
     }
-    assert_eq!(rt; wrong(&table, 40), None);
+    same(&rt, wrong(&table, 40), None);
     Ok(())
 }

@@ -1,4 +1,5 @@
-use super::*;
+use crate::same::same;
+use rk_auth::{AuthFault, Authority, Auths, Outcome, Stage};
 use rk_names::{Callout, Context, KeyError, NameFault, Serial, SessionId, Setting};
 use std::alloc::Global;
 use std::process::Abort;
@@ -19,11 +20,16 @@ fn context(rt: &impl Abort) -> Context {
     }
 }
 
-fn authority(rt: &impl Abort, alloc: Global, depth: u8) -> Result<Authority, NameFault> {
+fn authority(
+    rt: &impl Abort,
+    alloc: Global,
+    callout: &[u8],
+    depth: u8,
+) -> Result<Authority, NameFault> {
     Ok(Authority {
         context: context(rt),
         destination: serial(rt, 1),
-        callout: Callout::new(alloc, b"x")?,
+        callout: Callout::new(alloc, callout)?,
         depth,
     })
 }
@@ -37,6 +43,21 @@ fn open(auths: &mut Auths, client: u32) -> Result<(), AuthFault> {
     auths.enter(id)
 }
 
+/// Issues the authority of a key, unless it has one, or wants memory to make it.
+fn issue_this(
+    auths: &mut Auths,
+    key: Serial,
+    authority: Result<Authority, NameFault>,
+) -> Result<(), AuthFault> {
+    if auths.stage(key).is_some() {
+        return Ok(());
+    }
+    match authority {
+        Ok(authority) => auths.issue(key, authority),
+        Err(_) => Err(AuthFault::NoMemory),
+    }
+}
+
 /// Issues the authority of a key that has none, so deep.
 fn issue_at(
     rt: &impl Abort,
@@ -45,13 +66,7 @@ fn issue_at(
     key: Serial,
     depth: u8,
 ) -> Result<(), AuthFault> {
-    if auths.stage(key).is_some() {
-        return Ok(());
-    }
-    match authority(rt, alloc, depth) {
-        Ok(authority) => auths.issue(key, authority),
-        Err(_) => Err(AuthFault::NoMemory),
-    }
+    issue_this(auths, key, authority(rt, alloc, b"x", depth))
 }
 
 fn issue(rt: &impl Abort, auths: &mut Auths, alloc: Global, key: Serial) -> Result<(), AuthFault> {
@@ -68,11 +83,11 @@ fn start(rt: &impl Abort, auths: &mut Auths, alloc: Global, key: Serial) -> Resu
 fn started(rt: &impl Abort, alloc: Global) -> Result<Auths, Fail> {
     let mut auths = Auths::new(alloc)?;
     let key = serial(rt, 3);
-    assert_eq!(rt; open(&mut auths, 1), Ok(()));
-    assert_eq!(rt; open(&mut auths, 2), Ok(()));
-    assert_eq!(rt; start(rt, &mut auths, alloc, key), Ok(()));
-    assert_eq!(rt; auths.wait(&SessionId::Client(1), key, true), Ok(()));
-    assert_eq!(rt; auths.wait(&SessionId::Client(2), key, false), Ok(()));
+    same(rt, open(&mut auths, 1), Ok(()));
+    same(rt, open(&mut auths, 2), Ok(()));
+    same(rt, start(rt, &mut auths, alloc, key), Ok(()));
+    same(rt, auths.wait(&SessionId::Client(1), key, true), Ok(()));
+    same(rt, auths.wait(&SessionId::Client(2), key, false), Ok(()));
     Ok(auths)
 }
 
@@ -85,7 +100,7 @@ fn assumes(
     wanted: Result<(), AuthFault>,
 ) {
     let key = key.map(|number| serial(rt, number));
-    assert_eq!(rt; auths.assume(id, key), wanted);
+    same(rt, auths.assume(id, key), wanted);
 }
 
 /// Whether the session holds the key's authority.
@@ -99,8 +114,8 @@ fn sixty_four_clients(rt: HostRuntime) -> Result<(), Fail> {
     for client in 1..65 {
         assert!(rt; open(&mut auths, client).is_ok());
     }
-    assert_eq!(rt; auths.clients(), 64);
-    assert_eq!(rt; open(&mut auths, 65).err(), Some(AuthFault::Quota));
+    same(&rt, auths.clients(), 64);
+    same(&rt, open(&mut auths, 65).err(), Some(AuthFault::Quota));
     assert!(rt; !auths.has_client(65));
     auths.leave(7);
     assert!(rt; open(&mut auths, 65).is_ok());
@@ -113,14 +128,14 @@ fn sixty_four_clients(rt: HostRuntime) -> Result<(), Fail> {
 fn settings_contexts_and_shared_rings(rt: HostRuntime) -> Result<(), Fail> {
     let mut auths = Auths::new(rt.alloc())?;
     let one = SessionId::Client(1);
-    assert_eq!(rt; open(&mut auths, 1), Ok(()));
-    assert_eq!(rt; open(&mut auths, 2), Ok(()));
+    same(&rt, open(&mut auths, 1), Ok(()));
+    same(&rt, open(&mut auths, 2), Ok(()));
     assert!(rt; auths.root_context(&one).is_none());
     auths.set_context(&one, context(&rt));
     auths.set_setting(&one, Setting::User);
-    assert_eq!(rt; auths.root_context(&one), Some(context(&rt)));
+    same(&rt, auths.root_context(&one), Some(context(&rt)));
     let setting = auths.session(&one).map(|session| session.setting);
-    assert_eq!(rt; setting, Some(Setting::User));
+    same(&rt, setting, Some(Setting::User));
     let ring = serial(&rt, 1);
     assert!(rt; auths.shares(2, ring));
     assert!(rt; !auths.shares(1, ring));
@@ -136,13 +151,13 @@ fn its_handler_alone_assumes(rt: HostRuntime) -> Result<(), Fail> {
     assumes(&rt, &mut auths, &handler, Some(4), Err(AuthFault::NoKey));
     assert!(rt; !holds(&rt, &auths, &handler, 3));
     assumes(&rt, &mut auths, &handler, Some(3), Ok(()));
-    assert_eq!(rt; auths.root_context(&handler), Some(context(&rt)));
+    same(&rt, auths.root_context(&handler), Some(context(&rt)));
     assert!(rt; holds(&rt, &auths, &handler, 3));
     assert!(rt; !holds(&rt, &auths, &handler, 4));
     let callout = auths
         .assumed_authority(&handler)
         .map(|one| one.callout.as_bytes().len());
-    assert_eq!(rt; callout, Some(1));
+    same(&rt, callout, Some(1));
     Ok(())
 }
 
@@ -160,25 +175,37 @@ fn a_spent_authority_is_gone(rt: HostRuntime) -> Result<(), Fail> {
     Ok(())
 }
 
-/// Who waits is told when the authority is spent, and the starter when the construction has ended.
-#[test]
-fn all_are_told(rt: HostRuntime) -> Result<(), Fail> {
-    let mut auths = started(&rt, rt.alloc())?;
-    let (starter, waiter) = (SessionId::Client(1), SessionId::Client(2));
-    let key = serial(&rt, 3);
-    let handler = SessionId::Handler(key);
-    let told = Some(Outcome::Failed(KeyError::Rejected));
-    auths.spend(key, Outcome::Failed(KeyError::Rejected));
-    assert_eq!(rt; auths.collect(&waiter), told);
-    assert_eq!(rt; auths.collect(&waiter), None);
-    assert_eq!(rt; auths.ready(&starter), None);
-    assert!(rt; auths.wait_of(&starter).is_some());
+const REJECTED: Outcome = Outcome::Failed(KeyError::Rejected);
 
+/// The construction of the key 3, of which the authority was spent.
+fn rejected(rt: &impl Abort, alloc: Global) -> Result<Auths, Fail> {
+    let mut auths = started(rt, alloc)?;
+    auths.spend(serial(rt, 3), REJECTED);
+    Ok(auths)
+}
+
+/// Who waits is told when the authority is spent.
+#[test]
+fn waiters_are_told(rt: HostRuntime) -> Result<(), Fail> {
+    let mut auths = rejected(&rt, rt.alloc())?;
+    let waiter = SessionId::Client(2);
+    same(&rt, auths.collect(&waiter), Some(REJECTED));
+    same(&rt, auths.collect(&waiter), None);
+    Ok(())
+}
+
+/// The starter is told when the construction has ended.
+#[test]
+fn starters_are_told(rt: HostRuntime) -> Result<(), Fail> {
+    let mut auths = rejected(&rt, rt.alloc())?;
+    let (starter, key) = (SessionId::Client(1), serial(&rt, 3));
+    same(&rt, auths.ready(&starter), None);
+    assert!(rt; auths.wait_of(&starter).is_some());
     auths.end(key);
     assert!(rt; !auths.is_open(key));
-    assert!(rt; auths.session(&handler).is_none());
-    assert_eq!(rt; auths.ready(&starter), told);
-    assert_eq!(rt; auths.collect(&starter), told);
+    assert!(rt; auths.session(&SessionId::Handler(key)).is_none());
+    same(&rt, auths.ready(&starter), Some(REJECTED));
+    same(&rt, auths.collect(&starter), Some(REJECTED));
     Ok(())
 }
 
@@ -192,7 +219,7 @@ fn half_a_circle(rt: &impl Abort, alloc: Global) -> Result<Auths, AuthFault> {
     let first = SessionId::Handler(three);
     assert!(rt; auths.would_close_circle(&first, three));
     assert!(rt; !auths.would_close_circle(&first, four));
-    assert_eq!(rt; auths.wait(&first, four, false), Ok(()));
+    same(rt, auths.wait(&first, four, false), Ok(()));
     Ok(auths)
 }
 
@@ -202,13 +229,17 @@ fn circles(rt: HostRuntime) -> Result<(), Fail> {
     let mut auths = half_a_circle(&rt, rt.alloc())?;
     let (three, four) = (serial(&rt, 3), serial(&rt, 4));
     let (first, second) = (SessionId::Handler(three), SessionId::Handler(four));
-    assert_eq!(rt; auths.wait(&second, three, false), Err(AuthFault::Circle));
+    same(
+        &rt,
+        auths.wait(&second, three, false),
+        Err(AuthFault::Circle),
+    );
     assert!(rt; auths.wait_of(&second).is_none());
-    assert_eq!(rt; auths.wait(&SessionId::Client(1), three, false), Ok(()));
+    same(&rt, auths.wait(&SessionId::Client(1), three, false), Ok(()));
 
     auths.spend(four, Outcome::Found(four));
-    assert_eq!(rt; auths.collect(&first), Some(Outcome::Found(four)));
-    assert_eq!(rt; auths.wait(&second, three, false), Ok(()));
+    same(&rt, auths.collect(&first), Some(Outcome::Found(four)));
+    same(&rt, auths.wait(&second, three, false), Ok(()));
     Ok(())
 }
 
@@ -217,11 +248,11 @@ fn piped_and_too_deep(rt: HostRuntime) -> Result<(), Fail> {
     let mut auths = Auths::new(rt.alloc())?;
     let key = serial(&rt, 3);
     let deep = issue_at(&rt, &mut auths, rt.alloc(), key, 9);
-    assert_eq!(rt; deep, Err(AuthFault::Quota));
+    same(&rt, deep, Err(AuthFault::Quota));
     assert!(rt; !auths.is_open(key));
-    assert_eq!(rt; auths.reserve(), Ok(()));
+    same(&rt, auths.reserve(), Ok(()));
     let deepest = issue_at(&rt, &mut auths, rt.alloc(), key, 8);
-    assert_eq!(rt; deepest, Ok(()));
+    same(&rt, deepest, Ok(()));
     assert!(rt; matches!(auths.stage(key), Some(Stage::Starting)));
     auths.pipe(key);
     assert!(rt; matches!(auths.stage(key), Some(Stage::Piped)));
@@ -229,9 +260,45 @@ fn piped_and_too_deep(rt: HostRuntime) -> Result<(), Fail> {
     Ok(())
 }
 
+/// The shortest callout and the longest.
 #[test]
-fn faults_have_numbers(rt: HostRuntime) {
-    assert_eq!(rt; AuthFault::Circle.errno().number(), 35);
+fn callouts_of_each_size(rt: HostRuntime) -> Result<(), Fail> {
+    let key = serial(&rt, 3);
+    for count in [0, 4_095] {
+        let callout = vec![in rt.alloc(); b'a'; count]?;
+        let mut auths = Auths::new(rt.alloc())?;
+        let authority = authority(&rt, rt.alloc(), &callout, 1);
+        same(&rt, issue_this(&mut auths, key, authority), Ok(()));
+        let kept = auths.unspent(key).map(|one| one.callout.as_bytes().len());
+        same(&rt, kept, Some(count));
+    }
+    Ok(())
+}
+
+#[test]
+fn faults_are_answered(rt: HostRuntime) -> Result<(), Fail> {
+    let table: [(AuthFault, u8, &str); 6] = [
+        (
+            AuthFault::NoKey,
+            126,
+            "the session has no authority for that key",
+        ),
+        (AuthFault::Revoked, 128, "the authority is spent"),
+        (
+            AuthFault::NotOwner,
+            1,
+            "the session has not assumed the key's authority",
+        ),
+        (AuthFault::Circle, 35, "the wait would close a circle"),
+        (AuthFault::Quota, 122, "a limit is reached"),
+        (AuthFault::NoMemory, 12, "out of memory"),
+    ];
+    for (fault, number, text) in table {
+        same(&rt, fault.errno().number(), number);
+        let shown = format!(in rt.alloc(); "{fault}")?;
+        same(&rt, shown.as_str(), text);
+    }
+    Ok(())
 }
 
 /// Goes well whichever allocation is refused: the call answers it, changes nothing, and goes well when it is made again.
@@ -245,9 +312,9 @@ fn a_refused_growth_changes_nothing(rt: HostRuntime) -> Result<(), Fail> {
     for number in 3..20 {
         let key = serial(&rt, number);
         if let Err(fault) = issue(&rt, &mut auths, alloc, key) {
-            assert_eq!(rt; fault, AuthFault::NoMemory);
+            same(&rt, fault, AuthFault::NoMemory);
             assert!(rt; !auths.is_open(key));
-            assert_eq!(rt; issue(&rt, &mut auths, alloc, key), Ok(()));
+            same(&rt, issue(&rt, &mut auths, alloc, key), Ok(()));
         }
         assert!(rt; auths.is_open(key));
     }
@@ -266,11 +333,11 @@ fn refused_room_changes_nothing(rt: HostRuntime) -> Result<(), Fail> {
         let key = serial(&rt, number);
         if auths.reserve().is_err() {
             assert!(rt; !auths.is_open(key));
-            assert_eq!(rt; auths.is_open(serial(&rt, 3)), number > 3);
-            assert_eq!(rt; auths.reserve(), Ok(()));
+            same(&rt, auths.is_open(serial(&rt, 3)), number > 3);
+            same(&rt, auths.reserve(), Ok(()));
         }
         if issue(&rt, &mut auths, alloc, key).is_err() {
-            assert_eq!(rt; issue(&rt, &mut auths, alloc, key), Ok(()));
+            same(&rt, issue(&rt, &mut auths, alloc, key), Ok(()));
         }
         assert!(rt; auths.is_open(key));
     }

@@ -1,4 +1,7 @@
-use super::*;
+use crate::same::same;
+use rk_names::{
+    Callout, Description, Errno, KeyError, Moment, NameFault, Payload, Serial, Setting, TypeName,
+};
 use std::alloc::{AllocError, Global};
 use std::process::Abort;
 use std::test::Fail;
@@ -11,18 +14,20 @@ fn letters(alloc: Global, count: usize) -> Result<Vec<u8>, AllocError> {
 /// Finds that a type and its clone have these bytes.
 fn type_is_made(rt: &impl Abort, alloc: Global, bytes: &[u8]) -> Result<(), NameFault> {
     let name = TypeName::new(alloc, bytes)?;
-    assert_eq!(rt; name.as_bytes(), bytes);
+    same(rt, name.as_bytes(), bytes);
     let copy = name.clone().map_err(|_| NameFault::NoMemory)?;
-    assert_eq!(rt; copy.as_bytes(), bytes);
+    same(rt, copy.as_bytes(), bytes);
     Ok(())
 }
 
 #[test]
 fn types_are_made(rt: HostRuntime) -> Result<(), Fail> {
     type_is_made(&rt, rt.alloc(), b"user")?;
-    let longest = letters(rt.alloc(), 31)?;
-    assert_eq!(rt; longest.len(), 31);
-    type_is_made(&rt, rt.alloc(), &longest)?;
+    for count in [1, 31] {
+        let name = letters(rt.alloc(), count)?;
+        same(&rt, name.len(), count);
+        type_is_made(&rt, rt.alloc(), &name)?;
+    }
     Ok(())
 }
 
@@ -36,38 +41,38 @@ fn types_keep_their_rule(rt: HostRuntime) {
         (b"a\xff", NameFault::Byte),
     ];
     for (bytes, fault) in table {
-        assert_eq!(rt; TypeName::fault(bytes), Some(fault), "{bytes:?}");
+        same(&rt, (bytes, TypeName::fault(bytes)), (bytes, Some(fault)));
     }
     let made = TypeName::new(rt.alloc(), b".x");
-    assert_eq!(rt; made.err(), Some(NameFault::Dot));
+    same(&rt, made.err(), Some(NameFault::Dot));
 }
 
 #[test]
 fn types_have_a_limit(rt: HostRuntime) -> Result<(), Fail> {
     let long = letters(rt.alloc(), 32)?;
-    assert_eq!(rt; TypeName::fault(&long), Some(NameFault::TooLong));
+    same(&rt, TypeName::fault(&long), Some(NameFault::TooLong));
     let mut dotted = long;
     assert_eq!(rt; dotted.len(), 32);
     dotted[0] = b'.';
-    assert_eq!(rt; TypeName::fault(&dotted), Some(NameFault::TooLong));
+    same(&rt, TypeName::fault(&dotted), Some(NameFault::TooLong));
     Ok(())
 }
 
 /// Finds that a description and its clone have these bytes.
 fn description_is_made(rt: &impl Abort, alloc: Global, bytes: &[u8]) -> Result<(), NameFault> {
     let name = Description::new(alloc, bytes)?;
-    assert_eq!(rt; name.as_bytes(), bytes);
+    same(rt, name.as_bytes(), bytes);
     let copy = name.clone().map_err(|_| NameFault::NoMemory)?;
-    assert_eq!(rt; copy.as_bytes(), bytes);
+    same(rt, copy.as_bytes(), bytes);
     Ok(())
 }
 
 /// Finds that a callout and its clone have these bytes.
 fn callout_is_made(rt: &impl Abort, alloc: Global, bytes: &[u8]) -> Result<(), NameFault> {
     let name = Callout::new(alloc, bytes)?;
-    assert_eq!(rt; name.as_bytes(), bytes);
+    same(rt, name.as_bytes(), bytes);
     let copy = name.clone().map_err(|_| NameFault::NoMemory)?;
-    assert_eq!(rt; copy.as_bytes(), bytes);
+    same(rt, copy.as_bytes(), bytes);
     Ok(())
 }
 
@@ -75,22 +80,28 @@ fn callout_is_made(rt: &impl Abort, alloc: Global, bytes: &[u8]) -> Result<(), N
 fn descriptions_and_callouts_are_made(rt: HostRuntime) -> Result<(), Fail> {
     description_is_made(&rt, rt.alloc(), b".x y")?;
     callout_is_made(&rt, rt.alloc(), b"")?;
+    for count in [1, 4_095] {
+        let name = letters(rt.alloc(), count)?;
+        same(&rt, name.len(), count);
+        description_is_made(&rt, rt.alloc(), &name)?;
+        callout_is_made(&rt, rt.alloc(), &name)?;
+    }
     Ok(())
 }
 
 #[test]
 fn descriptions_and_callouts_keep_their_rule(rt: HostRuntime) {
-    assert_eq!(rt; Description::fault(b""), Some(NameFault::Empty));
-    assert_eq!(rt; Description::fault(b"a\0"), Some(NameFault::Byte));
-    assert_eq!(rt; Callout::fault(b"\0"), Some(NameFault::Byte));
+    same(&rt, Description::fault(b""), Some(NameFault::Empty));
+    same(&rt, Description::fault(b"a\0"), Some(NameFault::Byte));
+    same(&rt, Callout::fault(b"\0"), Some(NameFault::Byte));
 }
 
 #[test]
 fn descriptions_and_callouts_have_a_limit(rt: HostRuntime) -> Result<(), Fail> {
     for (count, fault) in [(4_095, None), (4_096, Some(NameFault::TooLong))] {
         let bytes = letters(rt.alloc(), count)?;
-        assert_eq!(rt; Description::fault(&bytes), fault);
-        assert_eq!(rt; Callout::fault(&bytes), fault);
+        same(&rt, Description::fault(&bytes), fault);
+        same(&rt, Callout::fault(&bytes), fault);
     }
     Ok(())
 }
@@ -103,36 +114,48 @@ fn payload_of(bytes: Vec<u8>) -> Result<usize, NameFault> {
 #[test]
 fn payloads_keep_theirs(rt: HostRuntime) -> Result<(), Fail> {
     let alloc = rt.alloc();
-    assert_eq!(rt; Payload::fault(b""), Some(NameFault::Empty));
-    assert_eq!(rt; payload_of(Vec::new(alloc)), Err(NameFault::Empty));
+    same(&rt, Payload::fault(b""), Some(NameFault::Empty));
+    same(&rt, payload_of(Vec::new(alloc)), Err(NameFault::Empty));
     let longest = letters(alloc, 32_767)?;
-    assert_eq!(rt; payload_of(longest), Ok(32_767));
+    same(&rt, payload_of(longest), Ok(32_767));
     let long = letters(alloc, 32_768)?;
-    assert_eq!(rt; Payload::fault(&long), Some(NameFault::TooLong));
-    assert_eq!(rt; payload_of(long), Err(NameFault::TooLong));
+    same(&rt, Payload::fault(&long), Some(NameFault::TooLong));
+    same(&rt, payload_of(long), Err(NameFault::TooLong));
+    Ok(())
+}
+
+/// Finds that a payload and its clone have these bytes.
+fn payload_is_made(rt: &impl Abort, alloc: Global, bytes: &[u8]) -> Result<(), Fail> {
+    let payload = Payload::new(bytes.to_vec(alloc)?)?;
+    same(rt, payload.as_bytes(), bytes);
+    same(rt, payload.clone()?.as_bytes(), bytes);
     Ok(())
 }
 
 #[test]
 fn payloads_are_made(rt: HostRuntime) -> Result<(), Fail> {
-    let payload = Payload::new([0, 255].to_vec(rt.alloc())?)?;
-    assert_eq!(rt; payload.as_bytes(), b"\0\xff".as_slice());
-    assert_eq!(rt; payload.clone()?.as_bytes(), b"\0\xff".as_slice());
+    payload_is_made(&rt, rt.alloc(), b"\0\xff")?;
+    for count in [1, 32_767] {
+        let bytes = letters(rt.alloc(), count)?;
+        same(&rt, bytes.len(), count);
+        payload_is_made(&rt, rt.alloc(), &bytes)?;
+    }
     Ok(())
 }
 
 #[test]
 fn serials_and_moments(rt: HostRuntime) {
     for number in [1, 2_147_483_647] {
-        assert_eq!(rt; Serial::new(number).map(Serial::get), Some(number));
+        same(&rt, Serial::new(number).map(Serial::get), Some(number));
     }
     for number in [0, 2_147_483_648, 4_294_967_295] {
-        assert_eq!(rt; Serial::new(number), None);
+        same(&rt, Serial::new(number), None);
     }
-    assert_eq!(rt; Moment(100).plus(60), Moment(160));
-    assert_eq!(rt;
+    same(&rt, Moment(100).plus(60), Moment(160));
+    same(
+        &rt,
         Moment(18_446_744_073_709_551_610).plus(10),
-        Moment(18_446_744_073_709_551_615)
+        Moment(18_446_744_073_709_551_615),
     );
 }
 
@@ -155,12 +178,12 @@ fn errnos_by_number_and_name(rt: HostRuntime) -> Result<(), Fail> {
     ];
     for (number, name) in known {
         let errno = Errno::from_number(number).ok_or("an errno")?;
-        assert_eq!(rt; errno.number(), number);
+        same(&rt, errno.number(), number);
         let shown = format!(in rt.alloc(); "{errno}")?;
-        assert_eq!(rt; shown.as_str(), name);
+        same(&rt, shown.as_str(), name);
     }
     for number in [0, 11] {
-        assert_eq!(rt; Errno::from_number(number), None);
+        same(&rt, Errno::from_number(number), None);
     }
     Ok(())
 }
@@ -177,7 +200,7 @@ fn errors_of_keys_by_number(rt: HostRuntime) {
     ] {
         let error = KeyError::from_number(number);
         let errno = error.map(|error| u32::from(error.errno().number()));
-        assert_eq!(rt; errno, if is_one { Some(number) } else { None });
+        same(&rt, errno, if is_one { Some(number) } else { None });
     }
 }
 
@@ -195,13 +218,27 @@ fn settings_by_number(rt: HostRuntime) {
         (8, false),
     ] {
         let setting = Setting::from_number(number).map(Setting::number);
-        assert_eq!(rt; setting, if is_one { Some(number) } else { None });
+        same(&rt, setting, if is_one { Some(number) } else { None });
     }
 }
 
 #[test]
-fn faults_of_names(rt: HostRuntime) {
-    assert_eq!(rt; NameFault::Dot.errno(), Errno::Eperm);
-    assert_eq!(rt; NameFault::Byte.errno(), Errno::Einval);
-    assert_eq!(rt; NameFault::NoMemory.errno(), Errno::Enomem);
+fn faults_are_answered(rt: HostRuntime) -> Result<(), Fail> {
+    let table = [
+        (NameFault::Empty, Errno::Einval, "it is empty"),
+        (NameFault::TooLong, Errno::Einval, "it is too long"),
+        (NameFault::Dot, Errno::Eperm, "a type begins with a dot"),
+        (
+            NameFault::Byte,
+            Errno::Einval,
+            "it is not text without a zero byte",
+        ),
+        (NameFault::NoMemory, Errno::Enomem, "out of memory"),
+    ];
+    for (fault, errno, text) in table {
+        same(&rt, fault.errno(), errno);
+        let shown = format!(in rt.alloc(); "{fault}")?;
+        same(&rt, shown.as_str(), text);
+    }
+    Ok(())
 }

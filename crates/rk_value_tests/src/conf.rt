@@ -1,6 +1,7 @@
-use super::*;
+use crate::same::same;
+use rk_conf::{Argument, Conf, ConfFault, ConfKind, Line, Word, picks_one};
 use rk_names::{Callout, Description, NameFault, TypeName};
-use std::alloc::Global;
+use std::alloc::{AllocError, Global};
 use std::process::Abort;
 use std::test::Fail;
 
@@ -14,15 +15,9 @@ create user debug:* * /bin/debug.sh %k %%k %d
 \t # white space before a comment
 negate * * * /bin/keyctl negate %k 30 %S";
 
-/// The number of the line that a request picks, or 0.
-fn picked(
-    alloc: Global,
-    conf: &Conf,
-    op: &str,
-    typ: &str,
-    desc: &str,
-    callout: &str,
-) -> Result<usize, NameFault> {
+/// The number of the line that a request picks, or 0. A request is its operation, type, description and callout.
+fn picked(alloc: Global, conf: &Conf, request: [&str; 4]) -> Result<usize, NameFault> {
+    let [op, typ, desc, callout] = request;
     let typ = TypeName::new(alloc, typ.as_bytes())?;
     let desc = Description::new(alloc, desc.as_bytes())?;
     let callout = Callout::new(alloc, callout.as_bytes())?;
@@ -60,8 +55,8 @@ fn check_fault(rt: &impl Abort, alloc: Global, text: &[u8], line: usize, code: &
     match Conf::read(alloc, text) {
         Ok(_) => panic!(rt; "{text:?} is read"),
         Err(fault) => {
-            assert_eq!(rt; fault.line, line, "{text:?}");
-            assert_eq!(rt; fault.kind.code(), code, "{text:?}");
+            same(rt, (text, fault.line), (text, line));
+            same(rt, (text, fault.kind.code()), (text, code));
         }
     }
 }
@@ -96,7 +91,7 @@ fn refuses_the_first_bad_line(rt: HostRuntime) -> Result<(), Fail> {
         line: 3,
         kind: ConfKind::TooFewFields,
     };
-    assert_eq!(rt; format!(in alloc; "{fault}")?.as_str(), "line 3: C1");
+    same(&rt, format!(in alloc; "{fault}")?.as_str(), "line 3: C1");
     Ok(())
 }
 
@@ -126,19 +121,19 @@ fn shows_each_refusal_as_its_code(rt: HostRuntime) -> Result<(), Fail> {
     let mut all = String::new(rt.alloc());
     for kind in kinds {
         let text = format!(in rt.alloc(); "{kind}")?;
-        assert_eq!(rt; text.as_str(), kind.code());
+        same(&rt, text.as_str(), kind.code());
         all.push_str(text.as_str())?;
     }
-    assert_eq!(rt; all.as_str(), "C1C2C3C4C5C6");
+    same(&rt, all.as_str(), "C1C2C3C4C5C6");
     Ok(())
 }
 
 /// Finds that the line has these arguments.
 fn check_arguments(rt: &impl Abort, line: &Line, want: &[(&str, &[u8], &[u8])]) {
     let arguments = line.args.as_slice();
-    assert_eq!(rt; arguments.len(), want.len());
+    same(rt, arguments.len(), want.len());
     for (argument, want) in arguments.iter().zip(want) {
-        assert_eq!(rt; shown(argument), *want);
+        same(rt, shown(argument), *want);
     }
 }
 
@@ -146,9 +141,46 @@ fn check_arguments(rt: &impl Abort, line: &Line, want: &[(&str, &[u8], &[u8])]) 
 fn check_fields(rt: &impl Abort, line: &Line, want: [&[u8]; 5], piped: bool) {
     let fields = [&line.op, &line.typ, &line.desc, &line.callout, &line.prog];
     for (field, want) in fields.into_iter().zip(want) {
-        assert_eq!(rt; field.as_bytes(), want);
+        same(rt, field.as_bytes(), want);
     }
-    assert_eq!(rt; line.piped, piped);
+    same(rt, line.piped, piped);
+}
+
+/// The text, and behind it this piece so many times.
+fn lengthened(alloc: Global, text: &[u8], piece: &[u8], times: u32) -> Result<Vec<u8>, AllocError> {
+    let mut longer = text.to_vec(alloc)?;
+    for _ in 0..times {
+        longer.extend_from_slice(piece)?;
+    }
+    Ok(longer)
+}
+
+/// A line of 8,192 bytes: one argument of 8,169, or 4,088 of one byte each.
+#[test]
+fn reads_the_longest_lines(rt: HostRuntime) -> Result<(), Fail> {
+    for (front, piece, times, arguments, longest) in [
+        (
+            b"create user * * /bin/h ".as_slice(),
+            b"a".as_slice(),
+            8_169,
+            1,
+            8_169,
+        ),
+        (b"create * * * /hh", b" x", 4_088, 4_088, 1),
+    ] {
+        let text = lengthened(rt.alloc(), front, piece, times)?;
+        same(&rt, text.len(), 8_192);
+        let conf = Conf::read(rt.alloc(), &text)?;
+        assert_eq!(rt; conf.lines().len(), 1);
+        let told = conf.lines()[0].args.as_slice();
+        same(&rt, told.len(), arguments);
+        for argument in told {
+            let (kind, word, _) = shown(argument);
+            same(&rt, kind, "literal");
+            same(&rt, word.len(), longest);
+        }
+    }
+    Ok(())
 }
 
 #[test]
@@ -165,7 +197,7 @@ fn reads_the_fields_of_a_line(rt: HostRuntime) -> Result<(), Fail> {
     let conf = Conf::read(rt.alloc(), text)?;
     assert_eq!(rt; conf.lines().len(), 1);
     let line = &conf.lines()[0];
-    assert_eq!(rt; line.number, 1);
+    same(&rt, line.number, 1);
     let fields: [&[u8]; 5] = [b"create", b"id_resolver", b"*", b"*", b"/usr/sbin/nfsidmap"];
     check_fields(&rt, line, fields, false);
     let want: [(&str, &[u8], &[u8]); 4] = [
@@ -218,29 +250,26 @@ fn reads_each_macro(rt: HostRuntime) -> Result<(), Fail> {
 fn picks_the_first_line_that_fits(rt: HostRuntime) -> Result<(), Fail> {
     let alloc = rt.alloc();
     let conf = Conf::read(alloc, EXAMPLE)?;
-    assert_eq!(rt; conf.lines().len(), 5);
+    same(&rt, conf.lines().len(), 5);
     let rows = [
-        ("create", "user", "debug:x", "negate", 4),
-        ("create", "user", "debug:loop:zzzz", "negate", 4),
-        ("create", "user", "debug:loop:zzzz", "abcdefghijkl", 5),
-        ("create", "user", "debug:loop:", "", 5),
-        ("create", "user", "debug:x", "q", 6),
-        ("create", "user", "debug:", "", 6),
-        ("create", "user", "debug", "q", 0),
-        ("create", "users", "debug:x", "q", 0),
-        ("create", "user", "two:a-b", "q", 2),
-        ("create", "user", "two:-bc", "q", 2),
-        ("create", "user", "two:b", "q", 0),
-        ("negate", "user", "debug:x", "q", 8),
-        ("negate", "logon", "anything", "", 8),
-        ("update", "user", "debug:x", "q", 0),
+        (["create", "user", "debug:x", "negate"], 4),
+        (["create", "user", "debug:loop:zzzz", "negate"], 4),
+        (["create", "user", "debug:loop:zzzz", "abcdefghijkl"], 5),
+        (["create", "user", "debug:loop:", ""], 5),
+        (["create", "user", "debug:x", "q"], 6),
+        (["create", "user", "debug:", ""], 6),
+        (["create", "user", "debug", "q"], 0),
+        (["create", "users", "debug:x", "q"], 0),
+        (["create", "user", "two:a-b", "q"], 2),
+        (["create", "user", "two:-bc", "q"], 2),
+        (["create", "user", "two:b", "q"], 0),
+        (["negate", "user", "debug:x", "q"], 8),
+        (["negate", "logon", "anything", ""], 8),
+        (["update", "user", "debug:x", "q"], 0),
     ];
-    for (op, typ, desc, callout, want) in rows {
-        assert_eq!(rt;
-            picked(alloc, &conf, op, typ, desc, callout),
-            Ok(want),
-            "{op} {typ} {desc} {callout}"
-        );
+    for (request, want) in rows {
+        let found = picked(alloc, &conf, request);
+        same(&rt, (request, found), (request, Ok(want)));
     }
     picks_one();
     Ok(())
@@ -253,14 +282,14 @@ fn wants_nothing_but_memory(rt: HostRuntime) {
     match Conf::read(rt.alloc(), text) {
         Ok(conf) => {
             assert_eq!(rt; conf.lines().len(), 2);
-            assert_eq!(rt; conf.lines()[0].args.as_slice().len(), 3);
-            assert_eq!(rt; conf.lines()[1].args.as_slice().len(), 2);
+            same(&rt, conf.lines()[0].args.as_slice().len(), 3);
+            same(&rt, conf.lines()[1].args.as_slice().len(), 2);
         }
-        Err(fault) => assert_eq!(rt; fault.kind, ConfKind::NoMemory),
+        Err(fault) => same(&rt, fault.kind, ConfKind::NoMemory),
     }
     match Conf::read(rt.alloc(), b"create * * * /bin/h\nx\n") {
         Ok(_) => panic!(rt; "a line of one field is read"),
-        Err(fault) => assert_eq!(rt; fault.kind, ConfKind::TooFewFields),
+        Err(fault) => same(&rt, fault.kind, ConfKind::TooFewFields),
     }
 }
 
@@ -272,11 +301,14 @@ fn words_are_text(rt: HostRuntime) -> Result<(), Fail> {
         assert!(rt; Word::from_bytes(Vec::from_slice(alloc, bytes)?).is_none());
     }
     let word = Word::from_bytes(Vec::from_slice(alloc, b"caf\xc3\xa9")?).ok_or("text")?;
-    assert_eq!(rt; word.as_bytes().len(), 5);
-    assert_eq!(rt; word.as_str(), "café");
-    assert_eq!(rt;
-        Word::new(alloc, word.as_bytes())?.as_bytes(),
-        word.as_bytes()
-    );
+    same(&rt, word.as_bytes().len(), 5);
+    same(&rt, word.as_str(), "café");
+    for word in [word, Word::from_bytes(Vec::new(alloc)).ok_or("text")?] {
+        same(
+            &rt,
+            Word::new(alloc, word.as_bytes())?.as_bytes(),
+            word.as_bytes(),
+        );
+    }
     Ok(())
 }

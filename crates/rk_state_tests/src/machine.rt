@@ -1,5 +1,6 @@
 //! What a proof can't show: that the public calls run, and how the values print.
-use super::*;
+use crate::same::same;
+use rk_machine::{Answer, Event, How, Ran, every_run, every_step_owed};
 use rk_message::{Ask, Reply};
 use rk_names::{Errno, Serial, SessionId};
 use std::test::Fail;
@@ -8,34 +9,38 @@ use std::test::Fail;
 fn the_laws_run(rt: HostRuntime) {
     every_run();
     every_step_owed();
-    assert_eq!(rt; Ran::Plain == Ran::Piped, false);
-    assert_eq!(rt; How::Exit(1) == How::Exit(1), true);
+    same(&rt, Ran::Plain == Ran::Piped, false);
+    same(&rt, How::Exit(1) == How::Exit(1), true);
 }
 
 #[test]
-fn steps_print_as_they_are_written(rt: HostRuntime) -> Result<(), Fail> {
-    let alloc = rt.alloc();
-    let key = Serial::new(3).expect(&rt, "a serial");
-    assert_eq!(rt;
-        format!(in alloc; "{:?}", Event::Launched(key, Ran::Plain))?.as_str(),
-        "Launched(Serial { number: 3 }, Plain)"
-    );
-    assert_eq!(rt;
-        format!(in alloc; "{:?}", Event::Ended(key, How::Exit(1), None))?.as_str(),
-        "Ended(Serial { number: 3 }, Exit(1), None)"
-    );
-    assert_eq!(rt;
-        format!(in alloc; "{:?}", Answer::Waiting(key))?.as_str(),
-        "Waiting(Serial { number: 3 })"
-    );
-    assert_eq!(rt;
-        format!(in alloc; "{:?}", Answer::Refused(Errno::Edeadlk))?.as_str(),
-        "Refused(Edeadlk)"
-    );
-    assert_eq!(rt;
-        format!(in alloc; "{:?}", Answer::Done(Reply::Number(0)))?.as_str(),
-        "Done(Number(0))"
-    );
+fn events_print_as_they_are_written(rt: HostRuntime) -> Result<(), Fail> {
+    let key = Serial::new(3).ok_or("a serial")?;
+    for (event, text) in [
+        (
+            Event::Launched(key, Ran::Plain),
+            "Launched(Serial { number: 3 }, Plain)",
+        ),
+        (
+            Event::Ended(key, How::Exit(1), None),
+            "Ended(Serial { number: 3 }, Exit(1), None)",
+        ),
+    ] {
+        same(&rt, format!(in rt.alloc(); "{event:?}")?.as_str(), text);
+    }
+    Ok(())
+}
+
+#[test]
+fn answers_print_as_they_are_written(rt: HostRuntime) -> Result<(), Fail> {
+    let key = Serial::new(3).ok_or("a serial")?;
+    for (answer, text) in [
+        (Answer::Waiting(key), "Waiting(Serial { number: 3 })"),
+        (Answer::Refused(Errno::Edeadlk), "Refused(Edeadlk)"),
+        (Answer::Done(Reply::Number(0)), "Done(Number(0))"),
+    ] {
+        same(&rt, format!(in rt.alloc(); "{answer:?}")?.as_str(), text);
+    }
     Ok(())
 }
 
@@ -56,7 +61,7 @@ fn steps_are_copied_and_compared(rt: HostRuntime) -> Result<(), Fail> {
     for (place, event) in events.iter().enumerate() {
         let copy = event.clone()?;
         for (other_place, other) in events.iter().enumerate() {
-            assert_eq!(rt; copy.equals(other), place == other_place);
+            same(&rt, copy.equals(other), place == other_place);
         }
     }
     let answers = vec![in alloc;
@@ -69,7 +74,7 @@ fn steps_are_copied_and_compared(rt: HostRuntime) -> Result<(), Fail> {
     for (place, answer) in answers.iter().enumerate() {
         let copy = answer.clone()?;
         for (other_place, other) in answers.iter().enumerate() {
-            assert_eq!(rt; copy.equals(other), place == other_place);
+            same(&rt, copy.equals(other), place == other_place);
         }
     }
     Ok(())

@@ -1,6 +1,10 @@
 //! Bodies that were spelled by hand from the format, both ways, and the faults of others.
 
-use super::*;
+use crate::same::same;
+use rk_message::{
+    Ask, Fault, KeyError, ReadError, Reply, ReplyBytes, asks_have_one_reading,
+    replies_have_one_reading,
+};
 use rk_names::{Callout, Description, Errno, NameFault, Payload, Serial, TypeName};
 use std::alloc::{AllocError, Global};
 use std::process::Abort;
@@ -145,16 +149,16 @@ fn add(alloc: Global) -> Result<Ask, NameFault> {
 }
 
 fn are_bytes(rt: &impl Abort, hex: &str, what: &str, found: &[u8], wanted: &[u8]) {
-    assert_eq!(rt; found, wanted, "{hex} is {what}");
+    same(rt, (hex, what, found), (hex, what, wanted));
 }
 
 fn is_text(rt: &impl Abort, hex: &str, found: &str, wanted: &str) {
-    assert_eq!(rt; found, wanted, "{hex} is read");
+    same(rt, (hex, found), (hex, wanted));
 }
 
 fn is_fault(rt: &impl Abort, hex: &str, len: usize, found: Option<ReadError>, wanted: Fault) {
     let wanted = Some(ReadError::Fault(wanted));
-    assert_eq!(rt; found, wanted, "{hex} at {len}");
+    same(rt, (hex, len, found), (hex, len, wanted));
 }
 
 /// Reads the body as the ask.
@@ -170,7 +174,7 @@ fn ask_is_read(rt: &impl Abort, alloc: Global, hex: &str, ask: &Ask) -> Result<(
 fn ask_is_written(rt: &impl Abort, alloc: Global, hex: &str, ask: &Ask) -> Result<(), AllocError> {
     let body = bytes_of(alloc, hex)?;
     are_bytes(rt, hex, "written", &ask.write(alloc)?, &body);
-    assert_eq!(rt; ask.body_len(), body.len(), "{hex} has its length");
+    same(rt, (hex, ask.body_len()), (hex, body.len()));
     let mut longer = bytes_of(alloc, hex)?;
     ask.write_into(&mut longer)?;
     are_bytes(rt, hex, "appended", &longer, &twice(alloc, &body)?);
@@ -283,7 +287,7 @@ fn reply_is_written(
 ) -> Result<(), AllocError> {
     let body = bytes_of(alloc, hex)?;
     are_bytes(rt, hex, "written", &reply.write(alloc)?, &body);
-    assert_eq!(rt; reply.body_len(), body.len(), "{hex} has its length");
+    same(rt, (hex, reply.body_len()), (hex, body.len()));
     let mut longer = bytes_of(alloc, hex)?;
     reply.write_into(&mut longer)?;
     are_bytes(rt, hex, "appended", &longer, &twice(alloc, &body)?);
@@ -332,7 +336,7 @@ fn refusals_take_no_memory(rt: HostRuntime) {
         (Errno::Ekeyrejected, 129),
     ];
     for (errno, number) in numbers {
-        assert_eq!(rt; Reply::refusal(errno), [3, number]);
+        same(&rt, Reply::refusal(errno), [3, number]);
         let read = Reply::read(rt.alloc(), &[3, number]);
         assert!(rt; matches!(read, Ok(Reply::Refused(read)) if read == errno));
     }
@@ -441,18 +445,92 @@ fn lengths_have_limits(rt: HostRuntime) {
     }
 }
 
+fn letters(alloc: Global, count: usize) -> Result<Vec<u8>, NameFault> {
+    vec![in alloc; b'a'; count].map_err(|_| NameFault::NoMemory)
+}
+
+/// The REQUEST whose fields have so many letters.
+fn request_of(
+    alloc: Global,
+    typ: usize,
+    description: usize,
+    callout: usize,
+) -> Result<Ask, NameFault> {
+    Ok(Ask::Request {
+        typ: TypeName::new(alloc, &letters(alloc, typ)?)?,
+        description: Description::new(alloc, &letters(alloc, description)?)?,
+        callout: Some(Callout::new(alloc, &letters(alloc, callout)?)?),
+        destination: 0,
+    })
+}
+
+/// The ADD whose fields have so many letters.
+fn add_of(alloc: Global, typ: usize, description: usize, payload: usize) -> Result<Ask, NameFault> {
+    Ok(Ask::Add {
+        typ: TypeName::new(alloc, &letters(alloc, typ)?)?,
+        description: Description::new(alloc, &letters(alloc, description)?)?,
+        payload: Payload::new(letters(alloc, payload)?)?,
+        ring: 4,
+    })
+}
+
+/// Four pieces one behind the other, each its digits and then so many letters.
+fn joined(alloc: Global, fronts: [&str; 4], counts: [usize; 4]) -> Result<Vec<u8>, AllocError> {
+    let mut body = Vec::new(alloc);
+    for (front, count) in fronts.into_iter().zip(counts) {
+        body.extend_from_slice(&lettered(alloc, front, count)?)?;
+    }
+    Ok(body)
+}
+
+/// The ask is written as the body, and what is read of the body is written so again.
+fn is_spelled(rt: &impl Abort, alloc: Global, ask: &Ask, body: &[u8]) -> Result<(), Fail> {
+    same(rt, ask.body_len(), body.len());
+    same(rt, ask.write(alloc)?.as_slice(), body);
+    same(rt, Ask::read(alloc, body)?.write(alloc)?.as_slice(), body);
+    Ok(())
+}
+
+/// The shortest fields and the longest.
+#[test]
+fn requests_of_each_size_go_both_ways(rt: HostRuntime) -> Result<(), Fail> {
+    for (typ, description, callout, fronts) in [
+        (1, 1, 0, ["020001", "0001", "010000", "00000000"]),
+        (31, 4_095, 4_095, ["02001f", "0fff", "010fff", "00000000"]),
+    ] {
+        let ask = request_of(rt.alloc(), typ, description, callout)?;
+        let body = joined(rt.alloc(), fronts, [typ, description, callout, 0])?;
+        is_spelled(&rt, rt.alloc(), &ask, &body)?;
+    }
+    Ok(())
+}
+
+#[test]
+fn payloads_of_each_size_go_both_ways(rt: HostRuntime) -> Result<(), Fail> {
+    for (typ, description, payload, fronts) in [
+        (1, 1, 1, ["0f0001", "0001", "0001", "00000004"]),
+        (31, 4_095, 32_767, ["0f001f", "0fff", "7fff", "00000004"]),
+    ] {
+        let ask = add_of(rt.alloc(), typ, description, payload)?;
+        let body = joined(rt.alloc(), fronts, [typ, description, payload, 0])?;
+        is_spelled(&rt, rt.alloc(), &ask, &body)?;
+    }
+    Ok(())
+}
+
 #[test]
 fn replies_have_a_limit(rt: HostRuntime) -> Result<(), Fail> {
     let longest = lettered(rt.alloc(), "01fffd", 65_533)?;
-    assert_eq!(rt; longest.len(), 65_536);
+    same(&rt, longest.len(), 65_536);
     let Ok(reply) = Reply::read(rt.alloc(), &longest) else {
         return Err(Fail::from("the longest reply is one"));
     };
-    assert_eq!(rt; reply.write(rt.alloc()), Ok(longest));
+    same(&rt, reply.write(rt.alloc()), Ok(longest));
     let longer = lettered(rt.alloc(), "01fffe", 65_534)?;
-    assert_eq!(rt;
+    same(
+        &rt,
         Reply::read(rt.alloc(), &longer).err(),
-        Some(ReadError::Fault(INVALID))
+        Some(ReadError::Fault(INVALID)),
     );
     Ok(())
 }
@@ -460,8 +538,8 @@ fn replies_have_a_limit(rt: HostRuntime) -> Result<(), Fail> {
 #[test]
 fn bytes_are_moved(rt: HostRuntime) -> Result<(), Fail> {
     let bytes = ReplyBytes::new(lettered(rt.alloc(), "", 65_533)?).ok_or("too many bytes")?;
-    assert_eq!(rt; bytes.as_bytes().len(), 65_533);
-    assert_eq!(rt; bytes.into_vec(), lettered(rt.alloc(), "", 65_533)?);
+    same(&rt, bytes.as_bytes().len(), 65_533);
+    same(&rt, bytes.into_vec(), lettered(rt.alloc(), "", 65_533)?);
     assert!(rt; ReplyBytes::new(lettered(rt.alloc(), "", 65_534)?).is_none());
     Ok(())
 }
@@ -475,7 +553,7 @@ fn asks_have_names(rt: HostRuntime) -> Result<(), Fail> {
     }
     let plain =
         "HELLO HELLO HELLO HELLO ASSUME NEGATE REJECT REJECT REJECT REJECT READ DESCRIBE REVOKE TIMEOUT LINK UNLINK CLEAR DEFAULT CALLOUT ";
-    assert_eq!(rt; names.as_str(), plain);
+    same(&rt, names.as_str(), plain);
     Ok(())
 }
 
@@ -505,11 +583,11 @@ fn faults_are_answered(rt: HostRuntime) -> Result<(), Fail> {
         (ReadError::NoMemory, Errno::Enomem, "out of memory"),
     ];
     for (error, errno, text) in cases {
-        assert_eq!(rt; error.errno(), errno);
+        same(&rt, error.errno(), errno);
         let shown = format!(in rt.alloc(); "{error}")?;
-        assert_eq!(rt; shown.as_str(), text);
+        same(&rt, shown.as_str(), text);
     }
-    assert_eq!(rt; Fault::Bad(Errno::Eperm).errno(), Errno::Eperm);
+    same(&rt, Fault::Bad(Errno::Eperm).errno(), Errno::Eperm);
     Ok(())
 }
 
@@ -519,11 +597,11 @@ fn ask_may_want_memory(rt: &impl Abort, alloc: Global, body: &[u8]) {
         Ok(ask) => {
             let mut out = Vec::new(alloc);
             match ask.write_into(&mut out) {
-                Ok(()) => assert_eq!(rt; out.as_slice(), body),
+                Ok(()) => same(rt, out.as_slice(), body),
                 Err(AllocError) => assert!(rt; out.is_empty()),
             }
         }
-        Err(error) => assert_eq!(rt; error, ReadError::NoMemory),
+        Err(error) => same(rt, error, ReadError::NoMemory),
     }
 }
 
@@ -539,13 +617,13 @@ fn memory_may_be_refused(rt: HostRuntime) {
     match Reply::read(alloc, body) {
         Ok(reply) => {
             if let Ok(bytes) = reply.write(alloc) {
-                assert_eq!(rt; bytes.as_slice(), body);
+                same(&rt, bytes.as_slice(), body);
             }
         }
-        Err(error) => assert_eq!(rt; error, ReadError::NoMemory),
+        Err(error) => same(&rt, error, ReadError::NoMemory),
     }
     let bad = Ask::read(alloc, b"\x02\0\x04user\0\x01a\x01\0\x01x\0\0\0\0\0");
-    assert_eq!(rt; bad.err(), Some(ReadError::Fault(Fault::Trailing)));
+    same(&rt, bad.err(), Some(ReadError::Fault(Fault::Trailing)));
 }
 
 /// A copy is equal to the ask of its place, and to no other.

@@ -1,9 +1,10 @@
 //! What a proof can't show: that the lines are those of the format, and that calls succeed.
-use super::*;
+use crate::same::same;
 use rk_conf::{ConfFault, ConfKind, Word};
 use rk_core::How;
 use rk_macro::{Command, Words};
 use rk_names::Serial;
+use rk_replay::{Bytes, Happening, LineFault, Output, Outputs, Reading, StartResult, Transcript};
 use std::alloc::{AllocError, Global};
 use std::process::Abort;
 use std::test::Fail;
@@ -26,47 +27,45 @@ fn shown(alloc: Global, line: &[u8]) -> Result<String, AllocError> {
     }
 }
 
+/// What of whom, by its number.
+fn shown_of(alloc: Global, what: &str, number: u32) -> Result<String, AllocError> {
+    format!(in alloc; "{what} {number}")
+}
+
+/// The same, with bytes.
+fn shown_bytes(
+    alloc: Global,
+    what: &str,
+    number: u32,
+    bytes: &Bytes,
+) -> Result<String, AllocError> {
+    let digits = hex::encode(alloc, bytes.as_slice())?;
+    format!(in alloc; "{what} {number} {digits}")
+}
+
 fn shown_happening(alloc: Global, happening: &Happening) -> Result<String, AllocError> {
     match happening {
-        Happening::Accept(client) => format!(in alloc; "accept {client}"),
-        Happening::Bytes(client, bytes) => {
-            let digits = hex::encode(alloc, bytes.as_slice())?;
-            format!(in alloc; "bytes {client} {digits}")
-        }
-        Happening::Gone(client) => format!(in alloc; "gone {client}"),
-        Happening::StartResult(key, StartResult::Started) => {
-            let key = key.get();
-            format!(in alloc; "started {key}")
-        }
-        Happening::StartResult(key, StartResult::Failed) => {
-            let key = key.get();
-            format!(in alloc; "unstarted {key}")
-        }
-        Happening::HandlerBytes(key, bytes) => {
-            let key = key.get();
-            let digits = hex::encode(alloc, bytes.as_slice())?;
-            format!(in alloc; "out {key} {digits}")
-        }
-        Happening::HandlerReadFault(key) => {
-            let key = key.get();
-            format!(in alloc; "outfault {key}")
-        }
-        Happening::HandlerEnded(key, how) => {
-            let key = key.get();
-            let how = *how;
-            format!(in alloc; "ended {key} {how:?}")
-        }
-        Happening::WaitFault(key) => {
-            let key = key.get();
-            format!(in alloc; "waitfault {key}")
-        }
+        Happening::Accept(client) => shown_of(alloc, "accept", *client),
+        Happening::Bytes(client, bytes) => shown_bytes(alloc, "bytes", *client, bytes),
+        Happening::Gone(client) => shown_of(alloc, "gone", *client),
+        Happening::StartResult(key, StartResult::Started) => shown_of(alloc, "started", key.get()),
+        Happening::StartResult(key, StartResult::Failed) => shown_of(alloc, "unstarted", key.get()),
+        Happening::HandlerBytes(key, bytes) => shown_bytes(alloc, "out", key.get(), bytes),
+        Happening::HandlerReadFault(key) => shown_of(alloc, "outfault", key.get()),
+        Happening::HandlerEnded(key, how) => shown_end(alloc, *key, *how),
+        Happening::WaitFault(key) => shown_of(alloc, "waitfault", key.get()),
     }
+}
+
+fn shown_end(alloc: Global, key: Serial, how: How) -> Result<String, AllocError> {
+    let key = key.get();
+    format!(in alloc; "ended {key} {how:?}")
 }
 
 fn check_lines(rt: &impl Abort, alloc: Global, rows: &[(&[u8], &str)]) -> Result<(), AllocError> {
     for (line, want) in rows {
         let said = shown(alloc, *line)?;
-        assert_eq!(rt; said.as_str(), *want, "{line:?}");
+        same(rt, (line, said.as_str()), (line, *want));
     }
     Ok(())
 }
@@ -176,25 +175,50 @@ fn any_other_line_is_wrong(rt: HostRuntime) -> Result<(), Fail> {
     ];
     for line in lines {
         let said = shown(rt.alloc(), line)?;
-        assert_eq!(rt; said.as_str(), "wrong", "{line:?}");
+        same(&rt, (line, said.as_str()), (line, "wrong"));
     }
     Ok(())
+}
+
+/// The text that repeats a piece, between two others.
+fn repeated(
+    alloc: Global,
+    front: &str,
+    piece: &str,
+    times: u32,
+    end: &str,
+) -> Result<String, AllocError> {
+    let mut text = String::from_str(alloc, front)?;
+    for _ in 0..times {
+        text.push_str(piece)?;
+    }
+    text.push_str(end)?;
+    Ok(text)
 }
 
 /// A line has at most 262,144 bytes, whatever it says. Longer ones take time in proportion to their length.
 #[test]
 fn lines_have_262144_bytes(rt: HostRuntime) -> Result<(), Fail> {
-    let alloc = rt.alloc();
-    let mut spaces = vec![in alloc; b' '; 262_144]?;
-    assert_eq!(rt; shown(alloc, &spaces)?.as_str(), "blank");
-    spaces.push(b' ')?;
-    assert_eq!(rt; shown(alloc, &spaces)?.as_str(), "wrong");
-    let mut zeros = Vec::from_slice(alloc, b"1 accept ")?;
-    zeros.extend_from_slice(&vec![in alloc; b'0'; 262_134]?)?;
-    zeros.push(b'7')?;
-    assert_eq!(rt; shown(alloc, &zeros)?.as_str(), "1 accept 7");
-    zeros.push(b' ')?;
-    assert_eq!(rt; shown(alloc, &zeros)?.as_str(), "wrong");
+    for (front, piece, times, end, want) in [
+        ("", " ", 262_144, "", "blank"),
+        ("", " ", 262_144, " ", "wrong"),
+        ("1 accept ", "0", 262_134, "7", "1 accept 7"),
+        ("1 accept ", "0", 262_134, "7 ", "wrong"),
+    ] {
+        let line = repeated(rt.alloc(), front, piece, times, end)?;
+        let said = shown(rt.alloc(), line.as_bytes())?;
+        same(&rt, said.as_str(), want);
+    }
+    Ok(())
+}
+
+/// The digits of 131,067 bytes make a line the longest.
+#[test]
+fn lines_have_131067_bytes_in_digits(rt: HostRuntime) -> Result<(), Fail> {
+    let line = repeated(rt.alloc(), "1 bytes 2 ", "a5", 131_067, "")?;
+    same(&rt, line.len(), 262_144);
+    let said = shown(rt.alloc(), line.as_bytes())?;
+    same(&rt, said, line);
     Ok(())
 }
 
@@ -222,66 +246,73 @@ fn check_output(
 ) -> Result<(), AllocError> {
     let mut transcript = Transcript::new(alloc);
     transcript.tell(alloc, output)?;
-    assert_eq!(rt; transcript.as_bytes(), want.as_bytes());
+    same(rt, transcript.as_bytes(), want.as_bytes());
     Ok(())
 }
 
 #[test]
-fn writes_each_kind_of_output(rt: HostRuntime) -> Result<(), Fail> {
-    let alloc = rt.alloc();
+fn writes_bytes_and_ends(rt: HostRuntime) -> Result<(), Fail> {
     let key = Serial::new(3).ok_or("a serial")?;
-    let no_key = Bytes::from_slice(alloc, &[0, 0, 0, 2, 3, 0x7e])?;
-    check_output(
-        &rt,
-        alloc,
-        &Output::ToClient(1, no_key),
-        "to 1 00000002037e\n",
-    )?;
-    let callout = Bytes::new(Vec::from_slice(alloc, b"abcdefghijkl")?);
-    check_output(
-        &rt,
-        alloc,
-        &Output::ToHandler(key, callout),
-        "tohandler 3 6162636465666768696a6b6c\n",
-    )?;
-    check_output(
-        &rt,
-        alloc,
-        &Output::Shut(4_294_967_295),
-        "shut 4294967295\n",
-    )?;
-    check_output(&rt, alloc, &Output::ShutHandler(key), "shuthandler 3\n")?;
-    let plain = command(
-        alloc,
-        "/bin/handler",
-        &["create", "3", "1000", "1000", "0", "0", "1"],
-        false,
-    )?;
-    check_output(
-        &rt,
-        alloc,
-        &Output::Start(key, plain),
-        "start 3 plain =/bin/handler =create =3 =1000 =1000 =0 =0 =1\n",
-    )?;
-    let piped = command(alloc, "/bin/cat", &[], true)?;
-    check_output(
-        &rt,
-        alloc,
-        &Output::Start(key, piped),
-        "start 3 piped =/bin/cat\n",
-    )?;
-    let odd = command(
-        alloc,
-        "/b n",
-        &["%k", "", "!~", "a\tb", "\x7f", "\u{e9}"],
-        false,
-    )?;
-    check_output(
-        &rt,
-        alloc,
-        &Output::Start(key, odd),
-        "start 3 plain =/b%20n =%25k = =!~ =a%09b =%7F =%C3%A9\n",
-    )?;
+    let no_key = Bytes::from_slice(rt.alloc(), &[0, 0, 0, 2, 3, 0x7e])?;
+    let callout = Bytes::new(Vec::from_slice(rt.alloc(), b"abcdefghijkl")?);
+    for (output, want) in [
+        (Output::ToClient(1, no_key), "to 1 00000002037e\n"),
+        (
+            Output::ToHandler(key, callout),
+            "tohandler 3 6162636465666768696a6b6c\n",
+        ),
+        (Output::Shut(4_294_967_295), "shut 4294967295\n"),
+        (Output::ShutHandler(key), "shuthandler 3\n"),
+    ] {
+        check_output(&rt, rt.alloc(), &output, want)?;
+    }
+    Ok(())
+}
+
+#[test]
+fn writes_commands(rt: HostRuntime) -> Result<(), Fail> {
+    let key = Serial::new(3).ok_or("a serial")?;
+    let rows: [(&str, &[&str], bool, &str); 3] = [
+        (
+            "/bin/handler",
+            &["create", "3", "1000", "1000", "0", "0", "1"],
+            false,
+            "start 3 plain =/bin/handler =create =3 =1000 =1000 =0 =0 =1\n",
+        ),
+        ("/bin/cat", &[], true, "start 3 piped =/bin/cat\n"),
+        (
+            "/b n",
+            &["%k", "", "!~", "a\tb", "\x7f", "\u{e9}"],
+            false,
+            "start 3 plain =/b%20n =%25k = =!~ =a%09b =%7F =%C3%A9\n",
+        ),
+    ];
+    for (path, words, piped, want) in rows {
+        let command = command(rt.alloc(), path, words, piped)?;
+        check_output(&rt, rt.alloc(), &Output::Start(key, command), want)?;
+    }
+    Ok(())
+}
+
+/// No bytes, and those of the longest frame.
+#[test]
+fn writes_frames_of_each_length(rt: HostRuntime) -> Result<(), Fail> {
+    for (count, times) in [(0, 0), (65_540, 65_540)] {
+        let bytes = Bytes::new(vec![in rt.alloc(); 0xa5; count]?);
+        let want = repeated(rt.alloc(), "to 1 ", "a5", times, "\n")?;
+        check_output(&rt, rt.alloc(), &Output::ToClient(1, bytes), &want)?;
+    }
+    Ok(())
+}
+
+/// The words of a command have 65,536 bytes, one more counted for each.
+#[test]
+fn writes_the_longest_command(rt: HostRuntime) -> Result<(), Fail> {
+    let key = Serial::new(3).ok_or("a serial")?;
+    let blanks = repeated(rt.alloc(), "", " ", 65_535, "")?;
+    let command = command(rt.alloc(), "/h", &[blanks.as_str()], false)?;
+    let want = repeated(rt.alloc(), "start 3 plain =/h =", "%20", 65_535, "\n")?;
+    check_output(&rt, rt.alloc(), &Output::Start(key, command), &want)?;
     Ok(())
 }
 
@@ -289,7 +320,7 @@ fn writes_each_kind_of_output(rt: HostRuntime) -> Result<(), Fail> {
 fn writes_one_line_after_another(rt: HostRuntime) -> Result<(), Fail> {
     let alloc = rt.alloc();
     let mut transcript = Transcript::new(alloc);
-    assert_eq!(rt; transcript.as_bytes().len(), 0);
+    same(&rt, transcript.as_bytes().len(), 0);
     transcript.refuse(12, LineFault::NotALine)?;
     transcript.refuse(1_000_000, LineFault::Unknown)?;
     transcript.tell(alloc, &Output::Shut(1))?;
@@ -298,19 +329,21 @@ fn writes_one_line_after_another(rt: HostRuntime) -> Result<(), Fail> {
         kind: ConfKind::BadMacro,
     })?;
     let want = "fault 12 S1\nfault 1000000 S2\nshut 1\nconf 2 C3\n";
-    assert_eq!(rt; transcript.as_bytes(), want.as_bytes());
+    same(&rt, transcript.as_bytes(), want.as_bytes());
     Ok(())
 }
 
 #[test]
 fn values_are_kept(rt: HostRuntime) -> Result<(), Fail> {
     let alloc = rt.alloc();
-    let bytes = Bytes::from_slice(alloc, b"hi")?;
-    assert_eq!(rt; bytes.into_vec().as_slice(), b"hi".as_slice());
+    for held in [b"".as_slice(), b"hi"] {
+        let bytes = Bytes::from_slice(alloc, held)?;
+        same(&rt, bytes.into_vec().as_slice(), held);
+    }
     let mut items = Vec::new(alloc);
     items.push(Output::Shut(1))?;
-    assert_eq!(rt; Outputs::new(items).as_slice().len(), 1);
-    assert_eq!(rt; How::Exit(0) == How::Signal, false);
+    same(&rt, Outputs::new(items).as_slice().len(), 1);
+    same(&rt, How::Exit(0) == How::Signal, false);
     Ok(())
 }
 
@@ -330,6 +363,6 @@ fn wants_nothing_but_memory(rt: HostRuntime) {
     }
     let mut transcript = Transcript::new(alloc);
     if transcript.tell(alloc, &Output::Shut(1)).is_ok() {
-        assert_eq!(rt; transcript.as_bytes(), b"shut 1\n".as_slice());
+        same(&rt, transcript.as_bytes(), b"shut 1\n".as_slice());
     }
 }

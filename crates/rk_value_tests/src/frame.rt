@@ -1,4 +1,5 @@
-use super::*;
+use crate::same::same;
+use rk_frame::{FrameFault, Frames, Next, any_cutting};
 use std::alloc::AllocError;
 use std::process::Abort;
 use std::test::Fail;
@@ -10,7 +11,7 @@ const STREAM: [u8; 18] = [
 
 /// Asserts what `next` answers.
 fn expect(rt: &impl Abort, frames: &mut Frames, want: Next<'_>) {
-    assert_eq!(rt; frames.next(), want);
+    same(rt, frames.next(), want);
 }
 
 /// Writes the bodies that are whole now, at most four, each with a bar behind it.
@@ -27,17 +28,18 @@ fn write_bodies(frames: &mut Frames, out: &mut Vec<u8>) -> Result<(), AllocError
 #[test]
 fn reads_frames_written_by_hand(rt: HostRuntime) -> Result<(), Fail> {
     let mut frames = Frames::new(rt.alloc())?;
-    assert_eq!(rt; frames.held(), 0);
+    frames.feed(&[])?;
+    same(&rt, frames.held(), 0);
     expect(&rt, &mut frames, Next::More);
     frames.feed(&STREAM)?;
-    assert_eq!(rt; frames.held(), 18);
+    same(&rt, frames.held(), 18);
     expect(&rt, &mut frames, Next::Whole(b"hi"));
-    assert_eq!(rt; frames.held(), 12);
+    same(&rt, frames.held(), 12);
     expect(&rt, &mut frames, Next::Whole(&[42]));
     frames.feed(&[0, 0])?;
     expect(&rt, &mut frames, Next::Whole(b"abc"));
     expect(&rt, &mut frames, Next::More);
-    assert_eq!(rt; frames.held(), 2);
+    same(&rt, frames.held(), 2);
     Ok(())
 }
 
@@ -52,8 +54,8 @@ fn any_cut_gives_the_same_bodies(rt: HostRuntime) -> Result<(), Fail> {
         write_bodies(&mut frames, &mut out)?;
         frames.feed(&STREAM[cut..])?;
         write_bodies(&mut frames, &mut out)?;
-        assert_eq!(rt; out.as_slice(), b"hi|*|abc|".as_slice(), "cut at {cut}");
-        assert_eq!(rt; frames.held(), 0, "cut at {cut}");
+        same(&rt, (cut, out.as_slice()), (cut, b"hi|*|abc|".as_slice()));
+        same(&rt, (cut, frames.held()), (cut, 0));
     }
     Ok(())
 }
@@ -73,7 +75,7 @@ fn faults_stand_from_their_fourth_byte_on(rt: HostRuntime) -> Result<(), Fail> {
         expect(&rt, &mut frames, Next::Fault(fault));
         frames.feed(&STREAM)?;
         expect(&rt, &mut frames, Next::Fault(fault));
-        assert_eq!(rt; frames.held(), 22);
+        same(&rt, frames.held(), 22);
     }
     Ok(())
 }
@@ -89,11 +91,11 @@ fn the_longest_body_comes_byte_by_byte(rt: HostRuntime) -> Result<(), Fail> {
         frames.feed(&[0])?;
         expect(&rt, &mut frames, Next::More);
     }
-    assert_eq!(rt; frames.held(), 65_539);
+    same(&rt, frames.held(), 65_539);
     frames.feed(&[0])?;
     let longest = vec![in rt.alloc(); 0; 65_536]?;
     expect(&rt, &mut frames, Next::Whole(&longest));
-    assert_eq!(rt; frames.held(), 0);
+    same(&rt, frames.held(), 0);
     Ok(())
 }
 
@@ -128,11 +130,23 @@ fn a_refused_growth_changes_nothing(rt: HostRuntime) -> Result<(), Fail> {
     };
     assert_eq!(rt; frames.feed(&STREAM).is_ok(), true, "there was room");
     match frames.feed(&zeros) {
-        Ok(()) => assert_eq!(rt; frames.held(), 69_653),
-        Err(AllocError) => assert_eq!(rt; frames.held(), 18),
+        Ok(()) => same(&rt, frames.held(), 69_653),
+        Err(AllocError) => same(&rt, frames.held(), 18),
     }
     expect(&rt, &mut frames, Next::Whole(b"hi"));
     expect(&rt, &mut frames, Next::Whole(&[42]));
     expect(&rt, &mut frames, Next::Whole(b"abc"));
+    Ok(())
+}
+
+#[test]
+fn faults_print(rt: HostRuntime) -> Result<(), Fail> {
+    for (fault, text) in [
+        (FrameFault::Empty, "a frame has no body"),
+        (FrameFault::TooLong, "a frame is longer than 65,536 bytes"),
+    ] {
+        let shown = format!(in rt.alloc(); "{fault}")?;
+        same(&rt, shown.as_str(), text);
+    }
     Ok(())
 }

@@ -1,5 +1,6 @@
 //! What a proof can't show: that whole scripts are read and written, and that each fault of the streams is told.
-use super::*;
+use crate::same::same;
+use rk_replay::{ScriptFault, run_script};
 use std::alloc::{AllocError, Global};
 use std::io;
 use std::io::{Read, Write};
@@ -18,8 +19,8 @@ fn check(
     let mut written = Vec::new(alloc);
     let ended = run_script(alloc, &mut reader, &mut written);
     let text = str::from_utf8(&written).ok().ok_or("text")?;
-    assert_eq!(rt; text, want);
-    assert_eq!(rt; ended, end);
+    same(rt, text, want);
+    same(rt, ended, end);
     Ok(())
 }
 
@@ -197,13 +198,13 @@ fn a_fault_of_a_stream_is_told(rt: HostRuntime) {
     let mut written = Vec::new(alloc);
     let mut reader = Newlines::new(3, true);
     let ended = run_script(alloc, &mut reader, &mut written);
-    assert_eq!(rt; ended, Err(ScriptFault::Read));
+    same(&rt, ended, Err(ScriptFault::Read));
     assert!(rt; written.is_empty());
 
     let mut refuses = Refuses { seen: false };
     let mut script = b"what".as_slice();
     let ended = run_script(alloc, &mut script, &mut refuses);
-    assert_eq!(rt; ended, Err(ScriptFault::Write));
+    same(&rt, ended, Err(ScriptFault::Write));
     assert!(rt; refuses.seen);
 }
 
@@ -222,14 +223,14 @@ fn the_writer_is_flushed(rt: HostRuntime) {
     for (script, want, end) in scripts {
         let mut writer = Keeps::new(alloc, false);
         let ended = run_script(alloc, &mut script.as_bytes(), &mut writer);
-        assert_eq!(rt; ended, end);
-        assert_eq!(rt; writer.passed_on.as_slice(), want.as_bytes());
+        same(&rt, ended, end);
+        same(&rt, writer.passed_on.as_slice(), want.as_bytes());
         assert!(rt; writer.kept.is_empty());
 
         let mut writer = Keeps::new(alloc, true);
         let ended = run_script(alloc, &mut script.as_bytes(), &mut writer);
         assert_eq!(rt; ended, Err(ScriptFault::Write), "{script}");
-        assert_eq!(rt; writer.kept.as_slice(), want.as_bytes());
+        same(&rt, writer.kept.as_slice(), want.as_bytes());
     }
 }
 
@@ -240,12 +241,27 @@ fn a_script_without_end_is_given_up(rt: HostRuntime) {
     let mut written = Vec::new(alloc);
     let mut reader = Newlines::new(1_048_575, false);
     let ended = run_script(alloc, &mut reader, &mut written);
-    assert_eq!(rt; ended, Ok(()));
-    assert_eq!(rt; reader.reads, 1_048_576);
+    same(&rt, ended, Ok(()));
+    same(&rt, reader.reads, 1_048_576);
 
     let mut reader = Newlines::new(1_048_576, false);
     let ended = run_script(alloc, &mut reader, &mut written);
-    assert_eq!(rt; ended, Err(ScriptFault::TurnsUsed));
-    assert_eq!(rt; reader.reads, 1_048_576);
+    same(&rt, ended, Err(ScriptFault::TurnsUsed));
+    same(&rt, reader.reads, 1_048_576);
     assert!(rt; written.is_empty());
+}
+
+#[test]
+fn faults_print(rt: HostRuntime) -> Result<(), Fail> {
+    for (fault, text) in [
+        (ScriptFault::Read, "the script could not be read"),
+        (ScriptFault::Write, "the output could not be written"),
+        (ScriptFault::Conf, "the configuration is refused"),
+        (ScriptFault::NoMemory, "memory was refused"),
+        (ScriptFault::TurnsUsed, "the script is too long"),
+    ] {
+        let shown = format!(in rt.alloc(); "{fault}")?;
+        same(&rt, shown.as_str(), text);
+    }
+    Ok(())
 }
