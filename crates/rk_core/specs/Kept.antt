@@ -8,7 +8,8 @@ use Rattle.rk_machine.specs.World.{World}
 
 -- the world of keys, rings and sessions; a ring is seen as the set of its keys
 abbrev pub world_of : ℕ → Known → Rings → Sessions → World
-world_of negative known rings sessions = record { negative = negative; keys = known.keys; rings = rings_seen rings; serials = known.serials; sessions = sessions }
+world_of negative known rings sessions =
+    record { negative = negative; keys = known.keys; rings = rings_seen rings; serials = known.serials; sessions = sessions }
 
 -- the keys and the rings agree on names
 pub record IsKept (known : Known) (rings : Rings) : Type 0 where

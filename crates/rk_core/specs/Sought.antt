@@ -14,7 +14,8 @@ use Rattle.rk_core.specs.declared.search.Sought.{Sought}
 abbrev pub IsSole : World → Query → Option ℕ → Option Match → Type 0
 IsSole w q None m = m ≡ None
 IsSole w q (Some ring) m =
-    (p : Standing → Bool) (k : ℕ) → (is_linked w.rings ring k && key_passes w.keys k (answers q p)) ≡ option_map_or (λ one. (k == one.key) && p one.standing) m false
+    (p : Standing → Bool) (k : ℕ) → (is_linked w.rings ring k && key_passes w.keys k (answers q p))
+    ≡ option_map_or (λ one. (k == one.key) && p one.standing) m false
 
 -- the key of the name in each ring of the context
 pub record IsSought (w : World) (q : Query) (s : Sought) : Type 0 where

@@ -1,2 +1,3 @@
 -- All laws together.
+pub mod EachEffectiveOrMisuse
 pub mod KeepsLaws

@@ -83,7 +83,8 @@ Greets old s g answer new =
     (thread process : Option ℕ) × (session user : ℕ) × (made : World) × MakesRings g old made thread process session user
     × Leaves (Done (Rings (unwrap_or thread 0) (unwrap_or process 0) session user))
     (record made {
-      sessions = session_changed s (with_context (record { uid = g.uid; gid = g.gid; thread = thread; process = process; session = session; user = user })) made.sessions;
+      sessions = session_changed s
+          (with_context (record { uid = g.uid; gid = g.gid; thread = thread; process = process; session = session; user = user })) made.sessions;
     }) answer new
 
 -- HELLO is refused, finds no memory, or greets

@@ -174,7 +174,8 @@ abbrev pub Defaults : World → SessionId → Asker → ℤ → Answer → World
 Defaults old s asker number answer new =
     MatchOption (setting_asked number asker.setting)
     (Tells (Refused errno.Einval) old answer new)
-    (λ setting. Leaves (Done (Number (setting_number asker.setting))) (record old { sessions = session_changed s (with_setting setting) old.sessions }) answer new)
+    (λ setting. Leaves (Done (Number (setting_number asker.setting)))
+    (record old { sessions = session_changed s (with_setting setting) old.sessions }) answer new)
 
 -- ---- ADD: add_key(2)
 
@@ -182,7 +183,8 @@ Defaults old s asker number answer new =
 abbrev pub add_refusal : World → Asker → List ℕ → List ℕ → ℤ → Bool → Option Errno
 add_refusal w asker typ description r left =
     first_of (ring_refusal w asker r
-    ∷ refused_if (has_all_keys w.keys asker.context.uid || not left || option_map_or (λ ring. is_full_at w ring typ description) (ring_for w asker r) false) errno.Edquot ∷ [])
+    ∷ refused_if (has_all_keys w.keys asker.context.uid || not left
+    || option_map_or (λ ring. is_full_at w ring typ description) (ring_for w asker r) false) errno.Edquot ∷ [])
 
 -- a new key with this payload, under any unused serial, always another one than those that are there
 abbrev pub AddsTo : World → Asker → List ℕ → List ℕ → List ℕ → ℕ → Answer → World → Type 0

@@ -5,6 +5,7 @@ use Rattle.std.specs.Option.{option_map_or}
 use Rattle.std.specs.List.{list_any}
 use Rattle.rk_names.specs.declared.numbers.SessionId.{SessionId}
 use Rattle.rk_names.specs.declared.numbers.SessionId.TheVariants.{Client, Handler}
+use Rattle.rk_names.specs.declared.errors.Errno.TheVariants as errno
 use Rattle.rk_names.specs.declared.errors.KeyError.{KeyError}
 use Rattle.rk_names.specs.Numbers.{key_errno}
 use Rattle.rk_macro.specs.declared.subject.Subject.{Subject}
@@ -35,8 +36,7 @@ abbrev pub is_done : Answer → Bool
 is_done (Done (Number n)) = n == 0
 is_done _ = false
 
--- effective: not answered as misuse. What became of a start, the end of a handler and the end of a client are answered 0, or EINVAL as misuse; an end
--- that another handler follows is answered Negate, and has a test of its own
+-- effective: not answered as misuse. A launch, the end of a handler and the end of a client are effective where they are answered 0
 abbrev pub is_effective : Past → Bool
 is_effective s = is_done s.answer
 
@@ -330,6 +330,20 @@ abbrev pub NeverDeep : List Past → Type 0
 NeverDeep [] = NotDeep []
 NeverDeep (s ∷ before) = NotDeep (s ∷ before) × NeverDeep before
 
+-- ---- what is not effective is misuse
+
+-- a launch, the end of a handler and the end of a client are answered 0, or EINVAL as misuse; or Negate, where another handler follows the one that ended
+abbrev pub EffectiveOrMisuse : Event → Answer → Type 0
+EffectiveOrMisuse (Launched k r) a = (is_done a ≡ true) ⊎ (a ≡ Refused errno.Einval)
+EffectiveOrMisuse (Ended k how payload) a = (is_done a ≡ true) ⊎ ((a ≡ Negate k) ⊎ (a ≡ Refused errno.Einval))
+EffectiveOrMisuse (Gone s) a = (is_done a ≡ true) ⊎ (a ≡ Refused errno.Einval)
+EffectiveOrMisuse _ a = Unit {0}
+
+-- each of them is
+abbrev pub EachEffectiveOrMisuse : List Past → Type 0
+EachEffectiveOrMisuse [] = Unit {0}
+EachEffectiveOrMisuse (s ∷ before) = EffectiveOrMisuse s.event s.answer × EachEffectiveOrMisuse before
+
 -- ---- the laws
 
 -- the step s, with those before it, obeys each law
@@ -344,6 +358,8 @@ pub record KeepsLaws (s : Past) (before : List Past) : Type 0 where
   pub root : Rooted s before
   -- no circle after this step
   pub circle : NoCircle (s ∷ before)
+  -- what is not effective is misuse
+  pub effective : EffectiveOrMisuse s.event s.answer
   -- no longer chain of starts after this step
   pub depth : NotDeep (s ∷ before)
 

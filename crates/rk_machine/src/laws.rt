@@ -8,7 +8,7 @@ ghost use Rattle.rk_machine.specs.Steps.{Beginning, Past, Run, Step};
 ghost use Rattle.rk_machine.specs.Views.{is_owed};
 ghost use Rattle.rk_machine.specs.Owing.{owed, owed_to, ends_owed, ends_owed_to, constructions, closes};
 ghost use Rattle.rk_machine.specs.Recording.{Reached, Recording};
-ghost use Rattle.rk_machine.specs.Laws.{EachOnce, EachOutcome, EachOwn, EachRooted, NeverCircle, NeverDeep};
+ghost use Rattle.rk_machine.specs.Laws.{EachOnce, EachOutcome, EachOwn, EachRooted, NeverCircle, NeverDeep, EachEffectiveOrMisuse};
 
 /// The laws of every run, from the empty world on, whatever its steps are; running it does nothing.
 ///
@@ -19,7 +19,8 @@ ghost use Rattle.rk_machine.specs.Laws.{EachOnce, EachOutcome, EachOwn, EachRoot
 /// that handler that was answered 0 named that key. *First requester*: a handler is told the uid, the gid and the rings of the last HELLO before
 /// the client's ask that led to its start, over however many handlers, and 0 for a ring that no client has any more. *No circle*: at no point does
 /// a session wait, over the handlers of the keys on which others wait, for itself. *No deep chain*: at no point do more than 8 starts lead to a
-/// handler.
+/// handler. A launch, an end or a client's end counts where it is effective; any other is answered as misuse, but for an end that another handler
+/// follows.
 pub fn every_run()
     ensures one_construction { (from : Beginning) (past : List Past) (w : World) → Run from past w → EachOnce past }
     ensures one_outcome { (from : Beginning) (past : List Past) (w : World) → Run from past w → EachOutcome past }
@@ -27,6 +28,7 @@ pub fn every_run()
     ensures first_requester { (from : Beginning) (past : List Past) (w : World) → Run from past w → EachRooted past }
     ensures no_circle { (from : Beginning) (past : List Past) (w : World) → Run from past w → NeverCircle past }
     ensures no_deep_chain { (from : Beginning) (past : List Past) (w : World) → Run from past w → NeverDeep past }
+    ensures effective { (from : Beginning) (past : List Past) (w : World) → Run from past w → EachEffectiveOrMisuse past }
 {}
 
 /// What is owed in every run, for which whoever records its steps keeps places; running it does nothing.
@@ -36,7 +38,8 @@ pub fn every_run()
 /// nor by bytes. Nobody is owed more than all together, and there are no more constructions than places owed.
 pub fn every_step_owed()
     ensures beginning { (negative first stride : ℕ) → let w = empty_world negative first stride in (owed w ≡ 0) × (ends_owed w ≡ 0) × (constructions w ≡ 0) }
-    ensures steps { (old : World) (now : ℕ) (event : Event) (answer : Answer) (new : World) → Reached old → Step old now event answer new → Recording old event answer new }
+    ensures steps { (old : World) (now : ℕ) (event : Event) (answer : Answer) (new : World) → Reached old
+        → Step old now event answer new → Recording old event answer new }
     ensures part { (w : World) (s : SessionId) → (owed_to w s ≤ owed w) × (ends_owed_to w s ≤ ends_owed w) }
     ensures constructions { (w : World) → constructions w ≤ owed w }
     ensures closing { (w : World) (event : Event) → is_owed w event ≡ true → closes event ≤ constructions w }

@@ -152,7 +152,10 @@ made_as : (old new mid : World) (c : Context) {a : Sessions} → new ≡ record 
 made_as old new mid c {a} w h =
     subst (λ (v : World). Made c old v) (sym w) (record {
       grown = record {
-        sound = record { zero = h.grown.sound.zero; drawn = h.grown.sound.drawn }; stays = h.grown.stays; made = h.grown.made; keeps = h.grown.keeps;
+        sound = record { zero = h.grown.sound.zero; drawn = h.grown.sound.drawn };
+        stays = h.grown.stays;
+        made = h.grown.made;
+        keeps = h.grown.keeps;
       };
       lives = h.lives;
       thread_new = h.thread_new;

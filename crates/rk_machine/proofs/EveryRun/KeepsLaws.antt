@@ -9,6 +9,7 @@ use Rattle.rk_machine.proofs.OwnAuthority.EachOwn.{each_own}
 use Rattle.rk_machine.proofs.FirstRequester.EachRooted.{each_rooted}
 use Rattle.rk_machine.proofs.NoCircle.NeverCircle.{never_circle}
 use Rattle.rk_machine.proofs.NoCircle.NeverDeep.{never_deep}
+use Rattle.rk_machine.proofs.EveryRun.EachEffectiveOrMisuse.{each_effective}
 
 pub lawful : (from : Beginning) (past : List Past) (w : World) → Run from past w → Lawful past
 lawful from [] w run = tt
@@ -19,6 +20,7 @@ lawful from (s ∷ before) w run = (
     own = (each_own from (s ∷ before) w run).0;
     root = (each_rooted from (s ∷ before) w run).0;
     circle = (never_circle from (s ∷ before) w run).0;
+    effective = (each_effective from (s ∷ before) w run).0;
     depth = (never_deep from (s ∷ before) w run).0;
   },
   lawful from before run.0 run.1,

@@ -4,6 +4,7 @@ use Rattle.rk_machine.proofs.OwnAuthority.EachOwn.{each_own}
 use Rattle.rk_machine.proofs.FirstRequester.EachRooted.{each_rooted}
 use Rattle.rk_machine.proofs.NoCircle.NeverCircle.{never_circle}
 use Rattle.rk_machine.proofs.NoCircle.NeverDeep.{never_deep}
+use Rattle.rk_machine.proofs.EveryRun.EachEffectiveOrMisuse.{each_effective}
 use Rattle.rk_machine.proofs.laws.every_run.Goals as goal
 
 pub returns-clause-one_construction : goal.returns-clause-one_construction
@@ -23,3 +24,6 @@ returns-clause-no_circle c = never_circle
 
 pub returns-clause-no_deep_chain : goal.returns-clause-no_deep_chain
 returns-clause-no_deep_chain c = never_deep
+
+pub returns-clause-effective : goal.returns-clause-effective
+returns-clause-effective c = each_effective
