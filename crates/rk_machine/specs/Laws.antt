@@ -36,16 +36,17 @@ abbrev pub is_done : Answer → Bool
 is_done (Done (Number n)) = n == 0
 is_done _ = false
 
--- effective: not answered as misuse. A launch, the end of a handler and the end of a client are effective where they are answered 0
+-- effective: not answered as misuse. A launch, the end of a handler and the end of a client are effective where they are answered 0;
+-- that all others are misuse is `EffectiveOrMisuse`, below
 abbrev pub is_effective : Past → Bool
 is_effective s = is_done s.answer
 
--- the answer says on which key the session waits
+-- the answer is Waiting: the session has to wait on a key
 abbrev pub is_waiting : Answer → Bool
 is_waiting (Waiting k) = true
 is_waiting _ = false
 
--- the number in an ask is the serial k; a negative number is none
+-- the number in an ask names the key k; a negative number names none
 abbrev pub names : ℤ → ℕ → Bool
 names (pos j) k = j == k
 names (negsuc j) k = false
@@ -297,7 +298,7 @@ EachRooted (s ∷ before) = Rooted s before × EachRooted before
 
 -- ---- no circle of waits, and no deep chain of starts
 
--- s waits on a key whose handler is t, or on one whose handler waits, in the same way, for t
+-- s waits on a key whose handler is t, or on one whose handler waits for t in turn
 pub data WaitsFor : (past : List Past) (s t : SessionId) → Type 0 where
   at_once : {past : List Past} {s : SessionId} (k : ℕ) (starter : Bool) → waited s past ≡ Some (k, starter) → WaitsFor past s (Handler k)
   further : {past : List Past} {s t : SessionId} (k : ℕ) (starter : Bool) → waited s past ≡ Some (k, starter) → WaitsFor past (Handler k) t → WaitsFor past s t
@@ -339,7 +340,7 @@ EffectiveOrMisuse (Ended k how payload) a = (is_done a ≡ true) ⊎ ((a ≡ Neg
 EffectiveOrMisuse (Gone s) a = (is_done a ≡ true) ⊎ (a ≡ Refused errno.Einval)
 EffectiveOrMisuse _ a = Unit {0}
 
--- each of them is
+-- each step of the list is answered so
 abbrev pub EachEffectiveOrMisuse : List Past → Type 0
 EachEffectiveOrMisuse [] = Unit {0}
 EachEffectiveOrMisuse (s ∷ before) = EffectiveOrMisuse s.event s.answer × EachEffectiveOrMisuse before
@@ -360,7 +361,7 @@ pub record KeepsLaws (s : Past) (before : List Past) : Type 0 where
   pub circle : NoCircle (s ∷ before)
   -- what is not effective is misuse
   pub effective : EffectiveOrMisuse s.event s.answer
-  -- no longer chain of starts after this step
+  -- no chain of more than 8 starts after this step
   pub depth : NotDeep (s ∷ before)
 
 -- every step of the list obeys the laws, with those before it

@@ -21,7 +21,7 @@ use Rattle.rk_machine.specs.World.{World, drawn, empty_world}
 use Rattle.rk_core.specs.Sound.{IsSound}
 use Rattle.rk_core.specs.Tidy.{stays, StayBut}
 use Rattle.rk_auth.specs.declared.construction.Construction.{Construction}
-use Rattle.rk_auth.specs.declared.construction.Stage.TheVariants.{Plain, Piped, Negating}
+use Rattle.rk_auth.specs.declared.construction.Stage.TheVariants.{Plain, Piped}
 use Rattle.rk_keys.specs.Known.{new_key}
 use Rattle.rk_machine.specs.Links.{linked_in, unlinked_in, cleared_in}
 use Rattle.rk_machine.specs.Request.{query, waiting, started, with_key}

@@ -30,7 +30,7 @@ use Rattle.rk_machine.proofs.Effects.KindsOfStep.{Effect, effect, refused, still
 use Rattle.rk_machine.proofs.Effects.DrawnSerials.{is_drawn, drawn_now}
 use Rattle.rk_machine.proofs.Effects.SerialsStayDrawn.{keeps_drawn}
 use Rattle.rk_machine.proofs.Effects.WaitsAreTheWorlds.{IdleFresh}
-use Rattle.rk_machine.proofs.Effects.StagesByStep.{Kind, to_start, talks, pipes, to_follow, kind, kind_in, kind_of, is_due, is_first_due, may_find, stage_kind, kind_after, kinds}
+use Rattle.rk_machine.proofs.Effects.StagesByStep.{Kind, to_start, pipes, to_follow, kind, kind_in, kind_of, is_due, is_first_due, may_find, stage_kind, kind_after, kinds}
 
 abbrev pub IsIdle : World → Type 0
 IsIdle w = (k : ℕ) → is_drawn w k ≡ false → kind_of w.sessions k ≡ None

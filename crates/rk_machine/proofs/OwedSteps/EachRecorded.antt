@@ -9,12 +9,10 @@ use Rattle.rk_names.specs.declared.numbers.SessionId.{SessionId}
 use Rattle.rk_names.specs.declared.numbers.SessionId.TheVariants.{Client, Handler}
 use Rattle.rk_names.specs.declared.errors.Errno.{Errno}
 use Rattle.rk_names.specs.declared.errors.Errno.TheVariants as errno
-use Rattle.rk_names.specs.declared.errors.KeyError.{KeyError}
 use Rattle.rk_names.specs.declared.errors.KeyError.TheVariants as error
-use Rattle.rk_names.specs.Numbers.{key_errno}
 use Rattle.rk_message.specs.declared.ask.Ask.{Ask}
 use Rattle.rk_message.specs.declared.ask.Ask.TheVariants as ask
-use Rattle.rk_message.specs.declared.reply.Reply.TheVariants.{Number, Bytes}
+use Rattle.rk_message.specs.declared.reply.Reply.TheVariants.{Bytes}
 use Rattle.rk_macro.specs.declared.subject.Subject.{Subject}
 use Rattle.rk_auth.specs.declared.session.Wait.{Wait}
 use Rattle.rk_auth.specs.declared.session.Outcome.{Outcome}
@@ -33,12 +31,12 @@ use Rattle.rk_machine.specs.declared.event.Answer.{Answer}
 use Rattle.rk_machine.specs.declared.event.Answer.TheVariants.{Done, Start, Waiting, Negate, Refused}
 use Rattle.rk_machine.specs.World.{World, empty_world}
 use Rattle.rk_machine.specs.Allowed.{done, refused_if, Leaves, Settles, Unless}
-use Rattle.rk_machine.specs.Steps.{Beginning, Past, Run, Step, may_launch, would_negate, negating, Ends, Collects, told_as, launched, gone}
+use Rattle.rk_machine.specs.Steps.{Beginning, Past, Run, Step, may_launch, would_negate, negating, Ends, told_as, launched, gone}
 use Rattle.rk_machine.specs.Completion.{condition_after, ended}
 use Rattle.rk_machine.specs.Views.{is_owed, is_ready}
 use Rattle.rk_machine.specs.Laws.{is_done, same_session}
 use Rattle.rk_machine.specs.Recording.{Reached, IsOwedAnswer, Recording}
-use Rattle.rk_machine.specs.Owing.{client_owes, stage_owes, construction_owes, owed, owed_to, whose, start_owes, need, constructions, begun, closes, closed, is_followed, ends_owed, ends_owed_to, construction_ends, stage_ends, start_ends, takes, asked_of, names_in}
+use Rattle.rk_machine.specs.Owing.{client_owes, stage_owes, construction_owes, owed, owed_to, whose, start_owes, constructions, begun, closes, closed, is_followed, ends_owed, ends_owed_to, construction_ends, stage_ends, start_ends, takes, asked_of, names_in}
 use Rattle.rk_machine.proofs.Found.Refusals.{and_false, by_option}
 use Rattle.rk_machine.proofs.Effects.KindsOfStep.{Effect, effect, refused, still, took, came, went, greets, begins, joins, links, unlinks, marks, tells, sets, adds, assumes, concludes, ran_plain, ran_piped, negates, failed, finished}
 use Rattle.rk_machine.specs.Weights.{weight, weight_in}

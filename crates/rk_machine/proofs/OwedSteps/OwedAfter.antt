@@ -1,6 +1,6 @@
 -- What is owed to each session, after each thing that a step may do.
 use Rattle.std.proofs.Common.{◌≡◌, ℕ, ◌+◌, Bool, true, false, cond, refl, sym, ap, ◌∙◌}
-use Rattle.std.specs.Prelude.{Option, Some, None, nat_eq, is_some, is_none, option_map, option_and_then}
+use Rattle.std.specs.Prelude.{Option, Some, None, nat_eq, is_some, option_map, option_and_then}
 use Rattle.std.specs.Option.{option_map_or}
 use Rattle.std.specs.Ordering.{nat_cmp}
 use Rattle.std.specs.FinMap as map
@@ -16,14 +16,13 @@ use Rattle.rk_auth.specs.declared.construction.Stage.{Stage}
 use Rattle.rk_auth.specs.declared.construction.Stage.TheVariants.{Starting, Plain, Piped, Negating}
 use Rattle.rk_auth.specs.declared.construction.Authority.{Authority}
 use Rattle.rk_auth.specs.declared.construction.Construction.{Construction}
-use Rattle.rk_auth.specs.Sessions.{Sessions, new_session, session_of, wait_of, stage_of, handler_in, unspent}
-use Rattle.rk_auth.specs.Changes.{session_changed, in_handler, in_stage, in_new_stage, with_wait, with_assumed, launched, spent, without_authority, without_construction, with_construction, all_told, told, told_wait, with_client, without_client}
+use Rattle.rk_auth.specs.Sessions.{Sessions, new_session, session_of, stage_of, handler_in, unspent}
+use Rattle.rk_auth.specs.Changes.{session_changed, in_handler, in_stage, in_new_stage, with_assumed, launched, spent, without_authority, without_construction, with_construction, all_told, told, told_wait, with_client, without_client}
 use Rattle.rk_machine.specs.World.{World}
 use Rattle.rk_machine.specs.Completion.{announced, outcome_of, sessions_ended, keys_ended, ended}
 use Rattle.rk_machine.specs.Laws.{same_session}
 use Rattle.rk_machine.specs.Owing.{wait_owes, client_owes, stage_owes, construction_owes, places}
 use Rattle.rk_machine.proofs.Found.InMaps.{get_inserted, get_removed, get_changed_at, get_changed_all}
-use Rattle.rk_machine.proofs.Effects.WaitsAfter.{same-true}
 
 abbrev at_client : Option Session → ℕ
 at_client o = option_map_or client_owes o 0

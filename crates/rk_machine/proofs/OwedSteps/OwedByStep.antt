@@ -1,14 +1,11 @@
 -- What a step does to what is owed.
-use Rattle.std.proofs.Common.{◌≡◌, ◌⊎◌, ◌≤◌, ℕ, ◌+◌, Bool, true, false, cond, ◌&&◌, refl, sym, ap, ◌∙◌, subst, inl, inr, arith}
-use Rattle.std.specs.Prelude.{Option, Some, None, nat_eq, not, is_some, is_none, option_map, option_and_then, unwrap_or}
+use Rattle.std.proofs.Common.{◌≡◌, ◌⊎◌, ◌≤◌, ℕ, ◌+◌, Bool, true, false, cond, refl, sym, ap, ◌∙◌, subst, inl, inr, arith}
+use Rattle.std.specs.Prelude.{Option, Some, None, is_some, is_none, option_map, option_and_then, unwrap_or}
 use Rattle.std.specs.Option.{option_map_or}
-use Rattle.std.specs.Ordering.{nat_cmp}
 use Rattle.std.specs.FinMap as map
-use Rattle.std.proofs.lemmas.Bool.{eqb-true, eq-eqb, ne_eqb}
 use Rattle.rk_names.specs.declared.numbers.SessionId.{SessionId}
 use Rattle.rk_names.specs.declared.numbers.SessionId.TheVariants.{Client, Handler}
 use Rattle.rk_names.specs.declared.errors.Errno.{Errno}
-use Rattle.rk_names.specs.declared.errors.Errno.TheVariants as errno
 use Rattle.rk_names.specs.declared.errors.KeyError.TheVariants as error
 use Rattle.rk_message.specs.declared.ask.Ask.{Ask}
 use Rattle.rk_message.specs.declared.ask.Ask.TheVariants as ask
@@ -23,7 +20,7 @@ use Rattle.rk_auth.specs.declared.construction.Authority.{Authority}
 use Rattle.rk_auth.specs.declared.construction.Construction.{Construction}
 use Rattle.rk_auth.specs.declared.session.Outcome.{Outcome}
 use Rattle.rk_auth.specs.declared.session.Outcome.TheVariants.{Found, Failed}
-use Rattle.rk_auth.specs.Sessions.{Sessions, new_session, session_of, wait_of, stage_of, is_to_launch, handler_in}
+use Rattle.rk_auth.specs.Sessions.{Sessions, new_session, session_of, wait_of, is_to_launch, handler_in}
 use Rattle.rk_auth.specs.Changes.{session_changed, with_wait, new_wait, with_context, with_setting, with_assumed, with_construction, launched, spent, ready_outcome}
 use Rattle.rk_machine.specs.declared.event.Event.{Event}
 use Rattle.rk_machine.specs.declared.event.Event.TheVariants.{Opened, Asked, Launched, Ended, Collect, Gone}
@@ -38,17 +35,17 @@ use Rattle.rk_machine.specs.Links.{linked_in, unlinked_in, cleared_in}
 use Rattle.rk_machine.specs.Completion.{completed, ended}
 use Rattle.rk_machine.specs.Request.{query, waiting, started, with_key, subject_of}
 use Rattle.rk_machine.specs.KeyAsks.{with_key_changed}
-use Rattle.rk_machine.specs.Steps.{Step, negating, opened, gone, collected, told_as}
+use Rattle.rk_machine.specs.Steps.{negating, opened, gone, collected, told_as}
 use Rattle.rk_machine.specs.Views.{is_owed, is_ready}
 use Rattle.rk_machine.specs.Laws.{same_session}
-use Rattle.rk_machine.specs.Owing.{wait_owes, client_owes, stage_owes, construction_owes, places, owed_to, owed, whose, start_owes, is_request, need}
-use Rattle.rk_machine.proofs.Effects.KindsOfStep.{Effect, CanAsk, authority_for, effect, refused, still, took, came, went, greets, begins, joins, links, unlinks, marks, tells, sets, adds, assumes, concludes, ran_plain, ran_piped, negates, failed, finished}
+use Rattle.rk_machine.specs.Owing.{wait_owes, client_owes, stage_owes, construction_owes, places, owed_to, whose, start_owes, is_request, need}
+use Rattle.rk_machine.proofs.Effects.KindsOfStep.{Effect, authority_for, refused, still, took, came, went, greets, begins, joins, links, unlinks, marks, tells, sets, adds, assumes, concludes, ran_plain, ran_piped, negates, failed, finished}
 use Rattle.rk_machine.proofs.Effects.HelloChanges.{greeted_sessions}
 use Rattle.rk_machine.proofs.Effects.WaitsAreTheWorlds.{IdleFresh, there_issued}
 use Rattle.rk_machine.proofs.Effects.WaitsAfter.{same-true, same-self, session_of_changed}
 use Rattle.rk_machine.specs.Weights.{weight}
 use Rattle.rk_machine.proofs.OwedSteps.WeightsOfMaps.{but_one, but_two, all_same}
-use Rattle.rk_machine.proofs.OwedSteps.OwedAfter.{KeepsPlaces, places_kept, places_other, places_there, places_announced, places_spent, places_ended, places_issued, places_launched, stage_there, places_came, places_went, client_there}
+use Rattle.rk_machine.proofs.OwedSteps.OwedAfter.{places_kept, places_other, places_there, places_announced, places_spent, places_ended, places_issued, places_launched, stage_there, places_came, places_went, client_there}
 
 -- what is owed to s changes alone, and where a construction k starts, what is owed to it
 pub data Change (s : SessionId) (a b : Sessions) (starts : ℕ) : Type 0 where
