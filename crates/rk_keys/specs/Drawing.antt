@@ -21,6 +21,7 @@ drawn_in_order first stride n = record { first = first; stride = stride; used = 
 above : (stride n m : ℕ) → 0 < stride → n < m → stride * n < stride * m
 above stride n m p h = let le : n + 1 ≤ m = omega arith in omega (arith, mul-le-mul_left stride le)
 
+-- what is further on in the form is not among the first n
 pub not_below : (first stride n m : ℕ) → 0 < stride → n ≤ m → set.contains (first_of_form first stride n) (first + stride * m) ≡ false
 not_below first stride zero m p h = set.contains-empty nat_cmp _
 not_below first stride (suc n) m p h =
@@ -29,6 +30,7 @@ not_below first stride (suc n) m p h =
     (unsigned_tied (first + stride * m) (first + stride * n) ∙ ne_eqb _ _ (λ e. absurd (omega (arith, above stride n m p (omega arith), e))))
     ∙ not_below first stride n m p (omega arith)
 
+-- the first n are n
 pub len-first_of_form : (first stride n : ℕ) → 0 < stride → set.len (first_of_form first stride n) ≡ n
 len-first_of_form first stride zero p = set.len-empty nat_cmp
 len-first_of_form first stride (suc n) p =

@@ -17,6 +17,7 @@ abbrev pub is_past : Option ℕ → ℕ → Bool
 is_past None now = false
 is_past (Some end) now = nat_le end now
 
+-- how a key stands that is neither revoked nor expired
 abbrev pub stands_by : Condition → Standing
 stands_by Building = standing.Building
 stands_by (Positive payload) = standing.Positive
@@ -51,17 +52,21 @@ builds Building = true
 builds (Positive payload) = false
 builds (Negative e) = false
 
+-- the key is under construction
 abbrev pub is_building : Key → Bool
 is_building key = builds key.condition
 
+-- the key is marked as revoked
 abbrev pub is_revoked : Key → Bool
 is_revoked key = key.revoked
 
 -- ---- name: a key is told from others by its type and description, add_key(2)
 
+-- the key has this type and description
 abbrev pub is_named : List ℕ → List ℕ → Key → Bool
 is_named typ description key = bytes_eq key.typ typ && bytes_eq key.description description
 
+-- both keys have the same type and description
 abbrev pub have_one_name : Key → Key → Bool
 have_one_name a b = is_named b.typ b.description a
 

@@ -19,6 +19,7 @@ pub record Known : Type 0 where
   pub numbers : map.FinMap nat_cmp ℕ
   pub serials : Drawn
 
+-- its three parts in a row, the form in which a model of a struct sees them
 abbrev pub known_code : Coded Known
 known_code =
     code_by (map.FinMap nat_cmp Key × (map.FinMap nat_cmp ℕ × Drawn))
@@ -37,6 +38,7 @@ pub record IsNaming (keys : map.FinMap nat_cmp Key) (numbers : map.FinMap nat_cm
 abbrev pub keys_of : map.FinMap nat_cmp Key → ℕ → ℕ
 keys_of keys uid = map.len (kept_where (λ k key. key.owner == uid) keys)
 
+-- the uid has its 200 keys
 abbrev pub has_all_keys : map.FinMap nat_cmp Key → ℕ → Bool
 has_all_keys keys uid = nat_le 200 (keys_of keys uid)
 
@@ -44,6 +46,7 @@ has_all_keys keys uid = nat_le 200 (keys_of keys uid)
 abbrev pub IsRefused : Known → ℕ → Type 0
 IsRefused known uid = (has_all_keys known.keys uid ≡ true) ⊎ ¬ (HasSerials known.serials 1)
 
+-- of a new key: Positive with a payload, Building without
 abbrev pub new_condition : Option (List ℕ) → Condition
 new_condition None = Building
 new_condition (Some payload) = Positive payload
@@ -75,6 +78,7 @@ marked key = record key { revoked = true }
 abbrev pub timed : ℕ → ℕ → Key → Key
 timed now seconds key = record key { expiry = if seconds == 0 then None else Some (moment_plus now seconds) }
 
+-- the key k is changed by f, and nothing else
 abbrev pub with_key_changed : ℕ → (Key → Key) → Known → Known
 with_key_changed k f known = record known { keys = changed_at k f known.keys }
 

@@ -10,6 +10,7 @@ pub record Drawn : Type 0 where
   pub stride : ℕ
   pub used : set.FinSet nat_cmp
 
+-- its three parts in a row, the form in which a model of a struct sees them
 abbrev pub drawn_code : Coded Drawn
 drawn_code =
     code_by (ℕ × (ℕ × set.FinSet nat_cmp)) (coded× coded_ℕ (coded× coded_ℕ (set.code coded_ℕ)))

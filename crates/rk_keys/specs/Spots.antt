@@ -13,6 +13,7 @@ use Rattle.rk_keys.specs.declared.key.Key.{Key}
 abbrev pub Spot : Type 0
 Spot = List ℕ × List ℕ × ℕ
 
+-- by type, then by description, then by serial
 abbrev pub spot_cmp : Spot → Spot → Ordering
 spot_cmp = then_cmp (on (λ s. s.0) (slice_cmp nat_cmp)) (then_cmp (on (λ s. s.1) (slice_cmp nat_cmp)) (on (λ s. s.2) nat_cmp))
 

@@ -20,6 +20,7 @@ pub record Numbered : Type 0 where
   pub uid : ℕ
   pub links : map.FinMap nat_cmp ℕ
 
+-- its three parts in a row, the form in which a model of a struct sees them
 abbrev pub numbered_code : Coded Numbered
 numbered_code =
     code_by (RingKind × (ℕ × map.FinMap nat_cmp ℕ)) (coded× kinds.the_row.coded (coded× coded_ℕ (map.code coded_ℕ coded_ℕ)))
@@ -33,6 +34,7 @@ Rings = map.FinMap nat_cmp Numbered
 abbrev pub ring_seen : Numbered → Ring
 ring_seen r = record { kind = r.kind; uid = r.uid; keys = set.from_list (map.keys r.links) }
 
+-- each ring without the numbers
 abbrev pub rings_seen : Rings → map.FinMap nat_cmp Ring
 rings_seen rings = map.from_entries (list_map (λ e. (e.0, ring_seen e.1)) (map.entries rings))
 
@@ -50,6 +52,7 @@ AreSerials m = (k : ℕ) → map.contains_key m k ≡ true → serial_of k ≡ S
 
 -- ---- what is linked
 
+-- the key is linked in that ring
 abbrev pub holds : Rings → ℕ → ℕ → Bool
 holds rings ring k = option_map_or (λ r. map.contains_key r.links k) (map.get rings ring) false
 
@@ -86,6 +89,7 @@ is_user_ring uid r = is_users r.kind r.uid uid
 abbrev pub links_with : ℕ → ℕ → map.FinMap nat_cmp ℕ → map.FinMap nat_cmp ℕ
 links_with k n links = if map.contains_key links k then links else map.insert (kept_where (λ j m. not (m == n)) links) k n
 
+-- the ring with k linked, whose name has the number n
 abbrev pub linked : ℕ → ℕ → Numbered → Numbered
 linked k n r = record r { links = links_with k n r.links }
 
@@ -93,14 +97,17 @@ linked k n r = record r { links = links_with k n r.links }
 abbrev pub linked_in_room : ℕ → ℕ → Numbered → Numbered
 linked_in_room k n r = if map.contains_key r.links k || not (is_full (Some n) r) then linked k n r else r
 
+-- the ring without the link of k
 abbrev pub unlinked : ℕ → Numbered → Numbered
 unlinked k r = record r { links = map.remove r.links k }
 
+-- the ring without any link
 abbrev pub cleared : Numbered → Numbered
 cleared r = record r { links = map.empty }
 
 -- ---- new rings
 
+-- a ring as it is made: no key is linked in it
 abbrev pub new_ring : NewRing → Numbered
 new_ring wanted = record { kind = wanted.kind; uid = wanted.uid; links = map.empty }
 

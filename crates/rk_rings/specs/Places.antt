@@ -28,6 +28,7 @@ place_named (negsuc n) =
 abbrev pub rings_of : Context → List ℕ
 rings_of c = option_to_list c.thread ++ (option_to_list c.process ++ (c.session ∷ c.user ∷ []))
 
+-- the number is one of these
 abbrev pub is_one_of : ℕ → List ℕ → Bool
 is_one_of n ns = list_any (λ m. m == n) ns
 
@@ -62,6 +63,7 @@ default_places setting.User = []
 default_places setting.Default = place.Requestor ∷ place.Thread ∷ place.Process ∷ place.Session ∷ []
 default_places setting.Requestor = place.Requestor ∷ place.Thread ∷ place.Process ∷ place.Session ∷ []
 
+-- the ring at the first of these places that has one
 abbrev pub first_ring : {R : Type 0} → map.FinMap nat_cmp R → Context → Option ℕ → List Place → Option ℕ
 first_ring rings c requestor [] = None
 first_ring rings c requestor (p ∷ ps) = option_map_or (λ ring. Some ring) (ring_at rings c requestor p) (first_ring rings c requestor ps)

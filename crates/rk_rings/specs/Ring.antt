@@ -16,16 +16,19 @@ pub record Ring : Type 0 where
   pub uid : ℕ
   pub keys : set.FinSet nat_cmp
 
+-- its three parts in a row, the form in which a model of a struct sees them
 abbrev pub ring_code : Coded Ring
 ring_code =
     code_by (RingKind × (ℕ × set.FinSet nat_cmp)) (coded× kinds.the_row.coded (coded× coded_ℕ (set.code coded_ℕ)))
     (λ r. (r.kind, (r.uid, r.keys))) (λ p. record { kind = p.0; uid = p.1.0; keys = p.1.1 }) (λ _. refl)
 
+-- a ring in which no key is linked
 abbrev pub empty_ring : RingKind → ℕ → Ring
 empty_ring kind uid = record { kind = kind; uid = uid; keys = set.empty }
 
 -- ---- what is linked
 
+-- the key is linked in that ring
 abbrev pub is_linked : map.FinMap nat_cmp Ring → ℕ → ℕ → Bool
 is_linked rings ring k = option_map_or (λ r. set.contains r.keys k) (map.get rings ring) false
 
@@ -39,20 +42,24 @@ has_link rings k = list_any (λ r. set.contains r.keys k) (map.values rings)
 abbrev pub with_link : (ℕ → Bool) → ℕ → Ring → Ring
 with_link gives_way k r = record r { keys = if set.contains r.keys k then r.keys else set.retain (set.insert r.keys k) (λ j. not (gives_way j)) }
 
+-- k is not linked
 abbrev pub without_link : ℕ → Ring → Ring
 without_link k r = record r { keys = set.remove r.keys k }
 
+-- no key is linked
 abbrev pub without_links : Ring → Ring
 without_links r = record r { keys = set.empty }
 
 -- ---- whose ring it is: user-keyring(7), session-keyring(7)
 
+-- a user ring, of this uid
 abbrev pub is_users : RingKind → ℕ → ℕ → Bool
 is_users kind.User owner uid = owner == uid
 is_users kind.Thread owner uid = false
 is_users kind.Process owner uid = false
 is_users kind.Session owner uid = false
 
+-- a session ring, of this uid
 abbrev pub is_sessions : RingKind → ℕ → ℕ → Bool
 is_sessions kind.Session owner uid = owner == uid
 is_sessions kind.Thread owner uid = false

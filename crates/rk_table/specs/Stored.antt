@@ -9,6 +9,7 @@ pub record Stored (V : Type 0) : Type 0 where
   pub facts : map.FinMap nat_cmp V
   pub room : ℕ
 
+-- both parts in a row, the form in which a model of a struct sees them
 abbrev pub stored_code : {V : Type 0} → Coded V → Coded (Stored V)
 stored_code {V} v =
     code_by (map.FinMap nat_cmp V × ℕ) (coded× (map.code coded_ℕ v) coded_ℕ) (λ s. (s.facts, s.room)) (λ p. record { facts = p.0; room = p.1 }) (λ _. refl)
