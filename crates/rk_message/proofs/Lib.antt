@@ -8,3 +8,6 @@ pub mod Replies
 pub mod Shapes
 pub mod Whole
 pub mod Lengths
+pub mod Kept
+pub mod Lines
+pub mod Slotted

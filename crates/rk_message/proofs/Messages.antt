@@ -34,7 +34,7 @@ values_again (k ∷ ks) (v ∷ vs) rest fits =
     let regrouped : flat_map spelled (v ∷ vs) ++ rest ≡ spelled v ++ (flat_map spelled vs ++ rest) = ap (λ (x : List ℕ). x ++ rest) (flat_map-cons spelled v vs) ∙ append_assoc (spelled v) (flat_map spelled vs) rest in
     ap (values_at (k ∷ ks)) regrouped ∙ rw (value_again k v (flat_map spelled vs ++ rest) fits.0, values_again ks vs rest fits.1) refl
 
-all_take : (ks : List Kind) (bytes : List ℕ) (vs : List Value) → IsBytes bytes → all_values ks bytes ≡ Ok vs → (bytes ≡ flat_map spelled vs) × AreValues ks vs
+pub all_take : (ks : List Kind) (bytes : List ℕ) (vs : List Value) → IsBytes bytes → all_values ks bytes ≡ Ok vs → (bytes ≡ flat_map spelled vs) × AreValues ks vs
 unfolding all_values
 all_take ks bytes vs fits e =
     let a = bind_ok (values_at ks bytes) (λ x. cond (eqb (length x.1) 0) (Ok x.0) (Err Trailing)) vs e in

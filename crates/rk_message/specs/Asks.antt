@@ -4,11 +4,13 @@ use Rattle.rk_names.specs.declared.errors.KeyError.{KeyError}
 use Rattle.rk_names.specs.Numbers.{errno_number, key_errno}
 use Rattle.rk_message.specs.declared.ask.Ask.{Ask}
 use Rattle.rk_message.specs.declared.ask.Ask.TheVariants as ask
+use Rattle.rk_message.specs.declared.shape.Op.{Op}
+use Rattle.rk_message.specs.declared.shape.Op.TheVariants as op
 use Rattle.rk_message.specs.declared.fault.Fault.{Fault}
 use Rattle.rk_message.specs.declared.fault.ReadError.{ReadError}
 use Rattle.rk_message.specs.Wire.{Value, U8, U32, I32, Blob, Maybe, Message, IsMessage}
-use Rattle.rk_message.specs.Table.{asks}
-use Rattle.rk_message.specs.Reading.{Reads, Gives}
+use Rattle.rk_message.specs.Table.{asks, ask_line, op_byte}
+use Rattle.rk_message.specs.Reading.{Gives}
 
 -- bit 0: a thread ring, bit 1: a process ring
 abbrev pub flag_bits : Bool → Bool → ℕ
@@ -42,28 +44,32 @@ ask_values (ask.Default setting) = I32 setting ∷ []
 ask_values (ask.Add typ description payload ring) = Blob typ ∷ Blob description ∷ Blob payload ∷ I32 ring ∷ []
 ask_values ask.Callout = []
 
--- the op byte of an ask
-abbrev pub ask_op : Ask → ℕ
-ask_op (ask.Hello _ _ _ _ _) = 1
-ask_op (ask.Request _ _ _ _) = 2
-ask_op (ask.Assume _) = 3
-ask_op (ask.Instantiate _ _ _) = 4
-ask_op (ask.Negate _ _ _) = 5
-ask_op (ask.Reject _ _ _ _) = 6
-ask_op (ask.Read _) = 7
-ask_op (ask.Describe _) = 8
-ask_op (ask.Revoke _) = 9
-ask_op (ask.Timeout _ _) = 10
-ask_op (ask.Link _ _) = 11
-ask_op (ask.Unlink _ _) = 12
-ask_op (ask.Clear _) = 13
-ask_op (ask.Default _) = 14
-ask_op (ask.Add _ _ _ _) = 15
-ask_op ask.Callout = 16
+-- what an ask asks
+abbrev pub ask_op : Ask → Op
+ask_op (ask.Hello _ _ _ _ _) = op.Hello
+ask_op (ask.Request _ _ _ _) = op.Request
+ask_op (ask.Assume _) = op.Assume
+ask_op (ask.Instantiate _ _ _) = op.Instantiate
+ask_op (ask.Negate _ _ _) = op.Negate
+ask_op (ask.Reject _ _ _ _) = op.Reject
+ask_op (ask.Read _) = op.Read
+ask_op (ask.Describe _) = op.Describe
+ask_op (ask.Revoke _) = op.Revoke
+ask_op (ask.Timeout _ _) = op.Timeout
+ask_op (ask.Link _ _) = op.Link
+ask_op (ask.Unlink _ _) = op.Unlink
+ask_op (ask.Clear _) = op.Clear
+ask_op (ask.Default _) = op.Default
+ask_op (ask.Add _ _ _ _) = op.Add
+ask_op ask.Callout = op.Callout
+
+-- the name of an ask in the table
+abbrev pub ask_name : Ask → List ℕ
+ask_name a = (ask_line (ask_op a)).1
 
 -- the message that an ask is
 abbrev pub ask_message : Ask → Message
-ask_message a = record { op = ask_op a; values = ask_values a }
+ask_message a = record { op = op_byte (ask_op a); values = ask_values a }
 
 -- a ring to join has a serial, and no serial is 0
 abbrev pub JoinsASerial : Ask → Type 0
@@ -74,10 +80,6 @@ JoinsASerial _ = Unit {0}
 abbrev pub IsAsk : Ask → Type 0
 IsAsk a = IsMessage asks (ask_message a) × JoinsASerial a
 
--- the ask that was returned is what reading gives
-abbrev pub ReadsAsk : Result Ask Fault → Result Message Fault → Type 0
-ReadsAsk r read = Reads ask_message r read × IfOk r JoinsASerial
-
--- the same, where memory may run out
+-- the ask that was returned is what reading gives, or memory ran out
 abbrev pub GivesAsk : Result Ask ReadError → Result Message Fault → Type 0
 GivesAsk r read = Gives ask_message r read × IfOk r JoinsASerial

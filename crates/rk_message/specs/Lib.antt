@@ -4,7 +4,7 @@ pub mod Reading
 pub mod Leftmost
 pub mod Faults
 pub mod Asks
-pub mod Names
+pub mod Slots
 pub mod Replies
 pub mod Spellings
 pub mod Laws

@@ -1,10 +1,15 @@
 -- The format: each ask by its op byte, each reply by its kind byte, and the fields behind it.
-use Rattle.std.specs.Prelude.{ℕ, List, [], ◌∷◌, length, true, Option, Some, None, is_some, nat_lt, if◌then◌else◌}
+use Rattle.std.specs.Prelude.{ℕ, List, [], ◌∷◌, length, map, codes, true, Option, Some, None, is_some, nat_lt, if◌then◌else◌}
 use Rattle.rk_names.specs.declared.errors.Errno.{Errno}
 use Rattle.rk_names.specs.declared.errors.Errno.TheVariants.{Einval}
 use Rattle.rk_names.specs.declared.errors.NameFault.{NameFault}
 use Rattle.rk_names.specs.Rules.{type_fault, description_fault, callout_fault, payload_fault}
 use Rattle.rk_names.specs.Numbers.{fault_errno, errno_named, key_error_named}
+use Rattle.rk_message.specs.declared.shape.Op.{Op}
+use Rattle.rk_message.specs.declared.shape.Op.TheVariants as op
+use Rattle.rk_message.specs.declared.shape.FieldKind.{FieldKind}
+use Rattle.rk_message.specs.declared.shape.FieldKind.TheVariants as field
+use Rattle.rk_message.specs.declared.shape.AskShape.{AskShape}
 use Rattle.rk_message.specs.Wire.{Kind, Byte, Word, Signed, Block, Optional, Fields}
 
 -- what the fault of a name is answered as
@@ -60,26 +65,78 @@ callout_rule bytes = refusal (callout_fault bytes)
 abbrev pub callout : Kind
 callout = Optional callout_rule
 
--- HELLO, REQUEST, ASSUME, INSTANTIATE, NEGATE, REJECT, READ, DESCRIBE, REVOKE, TIMEOUT, LINK, UNLINK, CLEAR, DEFAULT, ADD, CALLOUT
+-- how a field of the kind is spelled, and its rule
+abbrev pub form : FieldKind → Kind
+form field.Uid = any
+form field.Gid = any
+form field.Flags = flags
+form field.Join = join
+form field.Type = type_name
+form field.Description = description
+form field.Callout = callout
+form field.Key = Signed
+form field.Payload = payload
+form field.Ring = Signed
+form field.Seconds = any
+form field.Error = error
+form field.Setting = Signed
+
+-- what the format calls a field
+abbrev pub field_name : FieldKind → List ℕ
+field_name field.Uid = codes "uid"
+field_name field.Gid = codes "gid"
+field_name field.Flags = codes "flags"
+field_name field.Join = codes "join"
+field_name field.Type = codes "type"
+field_name field.Description = codes "description"
+field_name field.Callout = codes "callout"
+field_name field.Key = codes "key"
+field_name field.Payload = codes "payload"
+field_name field.Ring = codes "ring"
+field_name field.Seconds = codes "seconds"
+field_name field.Error = codes "error"
+field_name field.Setting = codes "setting"
+
+-- the table of asks: the op byte, the name, and the fields behind the byte
+abbrev pub ask_line : Op → ℕ × List ℕ × List FieldKind
+ask_line op.Hello = (1, codes "HELLO", field.Uid ∷ field.Gid ∷ field.Flags ∷ field.Join ∷ [])
+ask_line op.Request = (2, codes "REQUEST", field.Type ∷ field.Description ∷ field.Callout ∷ field.Ring ∷ [])
+ask_line op.Assume = (3, codes "ASSUME", field.Key ∷ [])
+ask_line op.Instantiate = (4, codes "INSTANTIATE", field.Key ∷ field.Payload ∷ field.Ring ∷ [])
+ask_line op.Negate = (5, codes "NEGATE", field.Key ∷ field.Seconds ∷ field.Ring ∷ [])
+ask_line op.Reject = (6, codes "REJECT", field.Key ∷ field.Seconds ∷ field.Error ∷ field.Ring ∷ [])
+ask_line op.Read = (7, codes "READ", field.Key ∷ [])
+ask_line op.Describe = (8, codes "DESCRIBE", field.Key ∷ [])
+ask_line op.Revoke = (9, codes "REVOKE", field.Key ∷ [])
+ask_line op.Timeout = (10, codes "TIMEOUT", field.Key ∷ field.Seconds ∷ [])
+ask_line op.Link = (11, codes "LINK", field.Key ∷ field.Ring ∷ [])
+ask_line op.Unlink = (12, codes "UNLINK", field.Key ∷ field.Ring ∷ [])
+ask_line op.Clear = (13, codes "CLEAR", field.Ring ∷ [])
+ask_line op.Default = (14, codes "DEFAULT", field.Setting ∷ [])
+ask_line op.Add = (15, codes "ADD", field.Type ∷ field.Description ∷ field.Payload ∷ field.Ring ∷ [])
+ask_line op.Callout = (16, codes "CALLOUT", [])
+
+-- the first byte of an ask
+abbrev pub op_byte : Op → ℕ
+op_byte o = (ask_line o).0
+
+-- the fields of an ask
+abbrev pub ask_fields : Op → List FieldKind
+ask_fields o = (ask_line o).2
+
+-- every op
+abbrev pub ops : List Op
+ops =
+    op.Hello ∷ op.Request ∷ op.Assume ∷ op.Instantiate ∷ op.Negate ∷ op.Reject ∷ op.Read ∷ op.Describe ∷ op.Revoke ∷ op.Timeout ∷ op.Link ∷ op.Unlink
+    ∷ op.Clear ∷ op.Default ∷ op.Add ∷ op.Callout ∷ []
+
+-- the first bytes of asks, and the kinds of the fields behind each
 abbrev pub asks : Fields
-asks =
-    (1, any ∷ any ∷ flags ∷ join ∷ [])
-    ∷ (2, type_name ∷ description ∷ callout ∷ Signed ∷ [])
-    ∷ (3, Signed ∷ [])
-    ∷ (4, Signed ∷ payload ∷ Signed ∷ [])
-    ∷ (5, Signed ∷ any ∷ Signed ∷ [])
-    ∷ (6, Signed ∷ any ∷ error ∷ Signed ∷ [])
-    ∷ (7, Signed ∷ [])
-    ∷ (8, Signed ∷ [])
-    ∷ (9, Signed ∷ [])
-    ∷ (10, Signed ∷ any ∷ [])
-    ∷ (11, Signed ∷ Signed ∷ [])
-    ∷ (12, Signed ∷ Signed ∷ [])
-    ∷ (13, Signed ∷ [])
-    ∷ (14, Signed ∷ [])
-    ∷ (15, type_name ∷ description ∷ payload ∷ Signed ∷ [])
-    ∷ (16, [])
-    ∷ []
+asks = map (λ o. (op_byte o, map form (ask_fields o))) ops
+
+-- a line of the code's table, as one of this
+abbrev pub line_of : AskShape → Op × (ℕ × List ℕ × List FieldKind)
+line_of shape = (shape.op, (op_byte shape.op, shape.name.now, shape.fields.now))
 
 -- so many bytes that, with their length and the kind byte, they fill a frame of 65,536
 abbrev pub reply_rule : List ℕ → Option Errno

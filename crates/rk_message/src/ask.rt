@@ -2,6 +2,7 @@
 
 ghost use Rattle.std.specs.Prelude.{◌≡◌};
 
+use crate::shape::Op;
 use rk_names::{Callout, Description, KeyError, Payload, Serial, TypeName};
 
 /// What a session asks. Rings and keys are numbers as on the wire: positive ones are serials, others
@@ -98,29 +99,36 @@ pub enum Ask {
 }
 
 impl Ask {
-    ghost use Rattle.rk_message.specs.Names.{ask_name};
+    ghost use Rattle.rk_message.specs.Asks.{ask_op, ask_name};
+
+    /// Which line of the table it is.
+    pub fn op(&self) -> Op
+        ensures { result ≡ ask_op self.now }
+    {
+        match self {
+            Ask::Hello { .. } => Op::Hello,
+            Ask::Request { .. } => Op::Request,
+            Ask::Assume { .. } => Op::Assume,
+            Ask::Instantiate { .. } => Op::Instantiate,
+            Ask::Negate { .. } => Op::Negate,
+            Ask::Reject { .. } => Op::Reject,
+            Ask::Read { .. } => Op::Read,
+            Ask::Describe { .. } => Op::Describe,
+            Ask::Revoke { .. } => Op::Revoke,
+            Ask::Timeout { .. } => Op::Timeout,
+            Ask::Link { .. } => Op::Link,
+            Ask::Unlink { .. } => Op::Unlink,
+            Ask::Clear { .. } => Op::Clear,
+            Ask::Default { .. } => Op::Default,
+            Ask::Add { .. } => Op::Add,
+            Ask::Callout => Op::Callout,
+        }
+    }
 
     /// What the format calls the ask, as `REQUEST`.
     pub fn name(&self) -> &'static str
         ensures { result.now ≡ ask_name self.now }
     {
-        match self {
-            Ask::Hello { .. } => "HELLO",
-            Ask::Request { .. } => "REQUEST",
-            Ask::Assume { .. } => "ASSUME",
-            Ask::Instantiate { .. } => "INSTANTIATE",
-            Ask::Negate { .. } => "NEGATE",
-            Ask::Reject { .. } => "REJECT",
-            Ask::Read { .. } => "READ",
-            Ask::Describe { .. } => "DESCRIBE",
-            Ask::Revoke { .. } => "REVOKE",
-            Ask::Timeout { .. } => "TIMEOUT",
-            Ask::Link { .. } => "LINK",
-            Ask::Unlink { .. } => "UNLINK",
-            Ask::Clear { .. } => "CLEAR",
-            Ask::Default { .. } => "DEFAULT",
-            Ask::Add { .. } => "ADD",
-            Ask::Callout => "CALLOUT",
-        }
+        self.op().shape().name
     }
 }

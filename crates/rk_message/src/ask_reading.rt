@@ -1,10 +1,10 @@
-//! Asks out of bodies: a function for each op, and the choice among them.
+//! Asks out of bodies.
 
-ghost use Rattle.std.specs.Prelude.{◌≡◌, option_copied, IfOk, IfErr, MatchResult, Err};
+ghost use Rattle.std.specs.Prelude.{◌≡◌, [], ◌∷◌, true, map, IfOk, MatchResult, Err};
 ghost use Rattle.rk_message.specs.Wire.{spelling};
-ghost use Rattle.rk_message.specs.Table.{asks};
-ghost use Rattle.rk_message.specs.Reading.{Gives, message_behind, message_at};
-ghost use Rattle.rk_message.specs.Asks.{IsAsk, ReadsAsk, GivesAsk, ask_message};
+ghost use Rattle.rk_message.specs.Table.{asks, form, ask_fields};
+ghost use Rattle.rk_message.specs.Reading.{Reads, Gives, value_at, values_at, all_values, message_behind, message_at};
+ghost use Rattle.rk_message.specs.Asks.{IsAsk, GivesAsk, ask_message};
 ghost use Rattle.rk_message.specs.Leftmost.{IsFaultOf};
 ghost use Rattle.rk_message.specs.declared.ask.Ask.{Ask as Asks};
 ghost use Rattle.rk_message.specs.declared.fault.Fault.{Fault as Faults};
@@ -13,7 +13,8 @@ ghost use Rattle.rk_message.specs.declared.fault.ReadError.TheVariants.{NoMemory
 use crate::ask::Ask;
 use crate::fault::{Fault, ReadError};
 use crate::field;
-use rk_names::{Callout, Description, Payload, Serial, TypeName};
+use crate::shape::{FieldKind, Op};
+use crate::slots::Slots;
 use std::alloc::Global;
 
 impl Ask {
@@ -43,251 +44,65 @@ fn read_body(alloc: Global, body: &[u8]) -> Result<Ask, ReadError>
     }
 }
 
-/// The ask of this op with these fields.
-#[tactic(auto, unfolding(crate::specs::Reading::message_behind))]
-fn read_behind(alloc: Global, op: u8, rest: &[u8]) -> Result<Ask, ReadError>
-    ensures { GivesAsk result (message_behind asks op rest.now) }
+/// The ask of the op that has this byte, where there is one.
+fn read_behind(alloc: Global, byte: u8, rest: &[u8]) -> Result<Ask, ReadError>
+    ensures { GivesAsk result (message_behind asks byte rest.now) }
 {
-    match op {
-        1 => Ok(hello(rest)?),
-        2 => request(alloc, rest),
-        3 => Ok(assume(rest)?),
-        4 => instantiate(alloc, rest),
-        5 => Ok(negate(rest)?),
-        6 => Ok(reject(rest)?),
-        7 => Ok(read_key(rest)?),
-        8 => Ok(describe(rest)?),
-        9 => Ok(revoke(rest)?),
-        10 => Ok(timeout(rest)?),
-        11 => Ok(link(rest)?),
-        12 => Ok(unlink(rest)?),
-        13 => Ok(clear(rest)?),
-        14 => Ok(default(rest)?),
-        15 => add(alloc, rest),
-        16 => Ok(callout(rest)?),
-        _ => Err(ReadError::Fault(Fault::UnknownOp)),
+    let op = Op::from_byte(byte).ok_or(Fault::UnknownOp)?;
+    Slots::read(op, rest)?.ask(alloc, op)
+}
+
+impl<'a> Slots<'a> {
+    ghost use Rattle.rk_message.specs.Slots.{slot, are_apart, KeepsOthers, slots_of};
+
+    /// The fields of an ask of this op, all that the bytes spell, or their leftmost fault.
+    pub fn read(op: Op, bytes: &'a [u8]) -> Result<Slots<'a>, Fault>
+        ensures { Reads (λ slots. slots_of slots op) result (all_values (map form (ask_fields op)) bytes.now) }
+    {
+        let mut slots = Slots::empty();
+        let rest = slots.take_all(op.shape().fields, bytes)?;
+        field::end(rest)?;
+        Ok(slots)
     }
-}
 
-#[tactic(auto, unfolding(crate::specs::Reading::message_behind, crate::specs::Reading::all_values, crate::specs::Reading::values_at))]
-fn hello(rest: &[u8]) -> Result<Ask, Fault>
-    ensures { ReadsAsk result (message_behind asks 1 rest.now) }
-{
-    let (uid, rest) = field::word(rest)?;
-    let (gid, rest) = field::word(rest)?;
-    let (thread, process, rest) = field::own_rings(rest)?;
-    let (join, rest) = field::join(rest)?;
-    field::end(rest)?;
-    Ok(Ask::Hello {
-        uid,
-        gid,
-        thread,
-        process,
-        join: Serial::new(join),
-    })
-}
+    /// Takes fields of the kinds from the front of the bytes, each into its slot, and leaves the bytes behind them.
+    #[tactic(auto, unfolding(crate::specs::Reading::values_at))]
+    fn take_all(&mut self, kinds: &[FieldKind], bytes: &'a [u8]) -> Result<&'a [u8], Fault>
+        requires { are_apart kinds.now ≡ true }
+        ensures values { Reads (λ rest. (map (slot self.new) kinds.now, rest.now)) result (values_at (map form kinds.now) bytes.now) }
+        ensures kept { IfOk result (λ _. KeepsOthers self.old self.new kinds.now) }
+    {
+        match kinds {
+            [] => Ok(bytes),
+            [kind, others @ ..] => {
+                let rest = self.take(*kind, bytes)?;
+                self.take_all(others, rest)
+            }
+        }
+    }
 
-#[tactic(auto, unfolding(crate::specs::Reading::message_behind, crate::specs::Reading::all_values, crate::specs::Reading::values_at))]
-fn request(alloc: Global, rest: &[u8]) -> Result<Ask, ReadError>
-    ensures { GivesAsk result (message_behind asks 2 rest.now) }
-{
-    let (typ, rest) = field::type_name(rest)?;
-    let (description, rest) = field::description(rest)?;
-    let (callout, rest) = field::callout(rest)?;
-    let (destination, rest) = field::signed(rest)?;
-    field::end(rest)?;
-    Ok(Ask::Request {
-        typ: type_of(alloc, typ)?,
-        description: description_of(alloc, description)?,
-        callout: callout_of(alloc, callout)?,
-        destination,
-    })
-}
-
-#[tactic(auto, unfolding(crate::specs::Reading::message_behind, crate::specs::Reading::all_values, crate::specs::Reading::values_at))]
-fn assume(rest: &[u8]) -> Result<Ask, Fault>
-    ensures { ReadsAsk result (message_behind asks 3 rest.now) }
-{
-    let (key, rest) = field::signed(rest)?;
-    field::end(rest)?;
-    Ok(Ask::Assume { key })
-}
-
-#[tactic(auto, unfolding(crate::specs::Reading::message_behind, crate::specs::Reading::all_values, crate::specs::Reading::values_at))]
-fn instantiate(alloc: Global, rest: &[u8]) -> Result<Ask, ReadError>
-    ensures { GivesAsk result (message_behind asks 4 rest.now) }
-{
-    let (key, rest) = field::signed(rest)?;
-    let (payload, rest) = field::payload(rest)?;
-    let (ring, rest) = field::signed(rest)?;
-    field::end(rest)?;
-    let payload = payload_of(alloc, payload)?;
-    Ok(Ask::Instantiate { key, payload, ring })
-}
-
-#[tactic(auto, unfolding(crate::specs::Reading::message_behind, crate::specs::Reading::all_values, crate::specs::Reading::values_at))]
-fn negate(rest: &[u8]) -> Result<Ask, Fault>
-    ensures { ReadsAsk result (message_behind asks 5 rest.now) }
-{
-    let (key, rest) = field::signed(rest)?;
-    let (timeout, rest) = field::word(rest)?;
-    let (ring, rest) = field::signed(rest)?;
-    field::end(rest)?;
-    Ok(Ask::Negate { key, timeout, ring })
-}
-
-#[tactic(auto, unfolding(crate::specs::Reading::message_behind, crate::specs::Reading::all_values, crate::specs::Reading::values_at))]
-fn reject(rest: &[u8]) -> Result<Ask, Fault>
-    ensures { ReadsAsk result (message_behind asks 6 rest.now) }
-{
-    let (key, rest) = field::signed(rest)?;
-    let (timeout, rest) = field::word(rest)?;
-    let (error, rest) = field::key_error(rest)?;
-    let (ring, rest) = field::signed(rest)?;
-    field::end(rest)?;
-    Ok(Ask::Reject {
-        key,
-        timeout,
-        error,
-        ring,
-    })
-}
-
-#[tactic(auto, unfolding(crate::specs::Reading::message_behind, crate::specs::Reading::all_values, crate::specs::Reading::values_at))]
-fn read_key(rest: &[u8]) -> Result<Ask, Fault>
-    ensures { ReadsAsk result (message_behind asks 7 rest.now) }
-{
-    let (key, rest) = field::signed(rest)?;
-    field::end(rest)?;
-    Ok(Ask::Read { key })
-}
-
-#[tactic(auto, unfolding(crate::specs::Reading::message_behind, crate::specs::Reading::all_values, crate::specs::Reading::values_at))]
-fn describe(rest: &[u8]) -> Result<Ask, Fault>
-    ensures { ReadsAsk result (message_behind asks 8 rest.now) }
-{
-    let (key, rest) = field::signed(rest)?;
-    field::end(rest)?;
-    Ok(Ask::Describe { key })
-}
-
-#[tactic(auto, unfolding(crate::specs::Reading::message_behind, crate::specs::Reading::all_values, crate::specs::Reading::values_at))]
-fn revoke(rest: &[u8]) -> Result<Ask, Fault>
-    ensures { ReadsAsk result (message_behind asks 9 rest.now) }
-{
-    let (key, rest) = field::signed(rest)?;
-    field::end(rest)?;
-    Ok(Ask::Revoke { key })
-}
-
-#[tactic(auto, unfolding(crate::specs::Reading::message_behind, crate::specs::Reading::all_values, crate::specs::Reading::values_at))]
-fn timeout(rest: &[u8]) -> Result<Ask, Fault>
-    ensures { ReadsAsk result (message_behind asks 10 rest.now) }
-{
-    let (key, rest) = field::signed(rest)?;
-    let (seconds, rest) = field::word(rest)?;
-    field::end(rest)?;
-    Ok(Ask::Timeout { key, seconds })
-}
-
-#[tactic(auto, unfolding(crate::specs::Reading::message_behind, crate::specs::Reading::all_values, crate::specs::Reading::values_at))]
-fn link(rest: &[u8]) -> Result<Ask, Fault>
-    ensures { ReadsAsk result (message_behind asks 11 rest.now) }
-{
-    let (key, rest) = field::signed(rest)?;
-    let (ring, rest) = field::signed(rest)?;
-    field::end(rest)?;
-    Ok(Ask::Link { key, ring })
-}
-
-#[tactic(auto, unfolding(crate::specs::Reading::message_behind, crate::specs::Reading::all_values, crate::specs::Reading::values_at))]
-fn unlink(rest: &[u8]) -> Result<Ask, Fault>
-    ensures { ReadsAsk result (message_behind asks 12 rest.now) }
-{
-    let (key, rest) = field::signed(rest)?;
-    let (ring, rest) = field::signed(rest)?;
-    field::end(rest)?;
-    Ok(Ask::Unlink { key, ring })
-}
-
-#[tactic(auto, unfolding(crate::specs::Reading::message_behind, crate::specs::Reading::all_values, crate::specs::Reading::values_at))]
-fn clear(rest: &[u8]) -> Result<Ask, Fault>
-    ensures { ReadsAsk result (message_behind asks 13 rest.now) }
-{
-    let (ring, rest) = field::signed(rest)?;
-    field::end(rest)?;
-    Ok(Ask::Clear { ring })
-}
-
-#[tactic(auto, unfolding(crate::specs::Reading::message_behind, crate::specs::Reading::all_values, crate::specs::Reading::values_at))]
-fn default(rest: &[u8]) -> Result<Ask, Fault>
-    ensures { ReadsAsk result (message_behind asks 14 rest.now) }
-{
-    let (setting, rest) = field::signed(rest)?;
-    field::end(rest)?;
-    Ok(Ask::Default { setting })
-}
-
-#[tactic(auto, unfolding(crate::specs::Reading::message_behind, crate::specs::Reading::all_values, crate::specs::Reading::values_at))]
-fn add(alloc: Global, rest: &[u8]) -> Result<Ask, ReadError>
-    ensures { GivesAsk result (message_behind asks 15 rest.now) }
-{
-    let (typ, rest) = field::type_name(rest)?;
-    let (description, rest) = field::description(rest)?;
-    let (payload, rest) = field::payload(rest)?;
-    let (ring, rest) = field::signed(rest)?;
-    field::end(rest)?;
-    Ok(Ask::Add {
-        typ: type_of(alloc, typ)?,
-        description: description_of(alloc, description)?,
-        payload: payload_of(alloc, payload)?,
-        ring,
-    })
-}
-
-#[tactic(auto, unfolding(crate::specs::Reading::message_behind, crate::specs::Reading::all_values, crate::specs::Reading::values_at))]
-fn callout(rest: &[u8]) -> Result<Ask, Fault>
-    ensures { ReadsAsk result (message_behind asks 16 rest.now) }
-{
-    field::end(rest)?;
-    Ok(Ask::Callout)
-}
-
-/// A copy of a type that was tested.
-fn type_of(alloc: Global, bytes: &[u8]) -> Result<TypeName, ReadError>
-    ensures ok { IfOk result (λ n. n ≡ bytes.now) }
-    ensures err { IfErr result (λ e. e ≡ NoMemory) }
-{
-    TypeName::new(alloc, bytes).map_err(|_| ReadError::NoMemory)
-}
-
-/// A copy of a description that was tested.
-fn description_of(alloc: Global, bytes: &[u8]) -> Result<Description, ReadError>
-    ensures ok { IfOk result (λ n. n ≡ bytes.now) }
-    ensures err { IfErr result (λ e. e ≡ NoMemory) }
-{
-    Description::new(alloc, bytes).map_err(|_| ReadError::NoMemory)
-}
-
-/// A copy of a payload that was tested.
-fn payload_of(alloc: Global, bytes: &[u8]) -> Result<Payload, ReadError>
-    ensures ok { IfOk result (λ n. n ≡ bytes.now) }
-    ensures err { IfErr result (λ e. e ≡ NoMemory) }
-{
-    let copy = Vec::from_slice(alloc, bytes)?;
-    Payload::new(copy).map_err(|_| ReadError::NoMemory)
-}
-
-/// A copy of a callout that was tested, if there is one.
-fn callout_of(alloc: Global, bytes: Option<&[u8]>) -> Result<Option<Callout>, ReadError>
-    ensures ok { IfOk result (λ n. n ≡ option_copied bytes.entry) }
-    ensures err { IfErr result (λ e. e ≡ NoMemory) }
-{
-    match bytes {
-        None => Ok(None),
-        Some(bytes) => match Callout::new(alloc, bytes) {
-            Ok(text) => Ok(Some(text)),
-            Err(_) => Err(ReadError::NoMemory),
-        },
+    /// Takes one field of the kind.
+    #[tactic(auto, unfolding(crate::specs::Reading::value_at))]
+    fn take(&mut self, kind: FieldKind, bytes: &'a [u8]) -> Result<&'a [u8], Fault>
+        ensures value { Reads (λ rest. (slot self.new kind, rest.now)) result (value_at (form kind) bytes.now) }
+        ensures kept { IfOk result (λ _. KeepsOthers self.old self.new (kind ∷ [])) }
+    {
+        let rest;
+        match kind {
+            FieldKind::Uid => (self.uid, rest) = field::word(bytes)?,
+            FieldKind::Gid => (self.gid, rest) = field::word(bytes)?,
+            FieldKind::Flags => (self.thread, self.process, rest) = field::own_rings(bytes)?,
+            FieldKind::Join => (self.join, rest) = field::join(bytes)?,
+            FieldKind::Type => (self.typ, rest) = field::type_name(bytes)?,
+            FieldKind::Description => (self.description, rest) = field::description(bytes)?,
+            FieldKind::Callout => (self.callout, rest) = field::callout(bytes)?,
+            FieldKind::Key => (self.key, rest) = field::signed(bytes)?,
+            FieldKind::Payload => (self.payload, rest) = field::payload(bytes)?,
+            FieldKind::Ring => (self.ring, rest) = field::signed(bytes)?,
+            FieldKind::Seconds => (self.seconds, rest) = field::word(bytes)?,
+            FieldKind::Error => (self.error, rest) = field::key_error(bytes)?,
+            FieldKind::Setting => (self.setting, rest) = field::signed(bytes)?,
+        }
+        Ok(rest)
     }
 }

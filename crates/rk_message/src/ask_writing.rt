@@ -1,15 +1,15 @@
-//! Asks as bodies: the op and the fields of each.
+//! Asks as bodies.
 
-ghost use Rattle.std.specs.Prelude.{◌≡◌, ◌+◌, ◌≤◌, ◌++◌, length, vec_len, vec_capacity, IfOk, OnOk, OnErr, IsOk, IfSome};
-ghost use Rattle.rk_message.specs.Wire.{U32, Blob, Maybe, IsValue, spelled, spelling};
-ghost use Rattle.rk_message.specs.Table.{type_name, description, payload as payload_kind, callout as callout_kind, error as error_kind, join as join_kind};
-ghost use Rattle.rk_message.specs.declared.spelling.Field.TheVariants.{Byte as byte, Word as word};
-ghost use Rattle.rk_message.specs.Asks.{IsAsk, ask_message, flag_bits, join_number, error_number};
+ghost use Rattle.std.specs.Prelude.{◌≡◌, ◌+◌, ◌-◌, ◌≤◌, ◌++◌, length, vec_len, vec_capacity, IfOk, OnOk, OnErr, IsOk};
+ghost use Rattle.rk_message.specs.Wire.{IsValue, spelled, spelling};
+ghost use Rattle.rk_message.specs.Table.{form};
+ghost use Rattle.rk_message.specs.Asks.{IsAsk, ask_message};
 ghost use Rattle.rk_message.specs.Spellings.{all_bytes, field_bytes, AreTold, IsTold};
 
 use crate::ask::Ask;
+use crate::shape::FieldKind;
+use crate::slots::Slots;
 use crate::spelling::{self, Field, Spelling};
-use rk_names::{Callout, Description, KeyError, Payload, Serial, TypeName};
 use std::alloc::{AllocError, Global};
 
 impl Ask {
@@ -52,172 +52,57 @@ impl Ask {
         ensures told { AreTold result }
         ensures ask { IsAsk self.now }
     {
-        use Field::{Absent, Byte, Signed, Word};
-        match self {
-            Ask::Hello {
-                uid,
-                gid,
-                thread,
-                process,
-                join,
-            } => Spelling {
-                op: 1,
-                fields: (
-                    Word(*uid),
-                    Word(*gid),
-                    own_rings(*thread, *process),
-                    joined(*join),
-                ),
-            },
-            Ask::Request {
-                typ,
-                description,
-                callout,
-                destination,
-            } => Spelling {
-                op: 2,
-                fields: (
-                    typed(typ),
-                    described(description),
-                    called_out(callout),
-                    Signed(*destination),
-                ),
-            },
-            Ask::Assume { key } => Spelling {
-                op: 3,
-                fields: (Signed(*key), Absent, Absent, Absent),
-            },
-            Ask::Instantiate { key, payload, ring } => Spelling {
-                op: 4,
-                fields: (Signed(*key), held(payload), Signed(*ring), Absent),
-            },
-            Ask::Negate { key, timeout, ring } => Spelling {
-                op: 5,
-                fields: (Signed(*key), Word(*timeout), Signed(*ring), Absent),
-            },
-            Ask::Reject {
-                key,
-                timeout,
-                error,
-                ring,
-            } => Spelling {
-                op: 6,
-                fields: (
-                    Signed(*key),
-                    Word(*timeout),
-                    rejected(*error),
-                    Signed(*ring),
-                ),
-            },
-            Ask::Read { key } => Spelling {
-                op: 7,
-                fields: (Signed(*key), Absent, Absent, Absent),
-            },
-            Ask::Describe { key } => Spelling {
-                op: 8,
-                fields: (Signed(*key), Absent, Absent, Absent),
-            },
-            Ask::Revoke { key } => Spelling {
-                op: 9,
-                fields: (Signed(*key), Absent, Absent, Absent),
-            },
-            Ask::Timeout { key, seconds } => Spelling {
-                op: 10,
-                fields: (Signed(*key), Word(*seconds), Absent, Absent),
-            },
-            Ask::Link { key, ring } => Spelling {
-                op: 11,
-                fields: (Signed(*key), Signed(*ring), Absent, Absent),
-            },
-            Ask::Unlink { key, ring } => Spelling {
-                op: 12,
-                fields: (Signed(*key), Signed(*ring), Absent, Absent),
-            },
-            Ask::Clear { ring } => Spelling {
-                op: 13,
-                fields: (Signed(*ring), Absent, Absent, Absent),
-            },
-            Ask::Default { setting } => Spelling {
-                op: 14,
-                fields: (Signed(*setting), Absent, Absent, Absent),
-            },
-            Ask::Add {
-                typ,
-                description,
-                payload,
-                ring,
-            } => Spelling {
-                op: 15,
-                fields: (
-                    typed(typ),
-                    described(description),
-                    held(payload),
-                    Signed(*ring),
-                ),
-            },
-            Ask::Callout => Spelling {
-                op: 16,
-                fields: (Absent, Absent, Absent, Absent),
-            },
+        let op = self.op();
+        let slots = Slots::of(self);
+        let (first, kinds) = slots.next(op.shape().fields);
+        let (second, kinds) = slots.next(kinds);
+        let (third, kinds) = slots.next(kinds);
+        let (fourth, _) = slots.next(kinds);
+        Spelling {
+            op: op.byte(),
+            fields: (first, second, third, fourth),
         }
     }
 }
 
-fn own_rings<'a>(thread: bool, process: bool) -> Field<'a>
-    ensures { result ≡ byte (flag_bits thread process) }
-{
-    Field::Byte(u8::from(thread) + 2 * u8::from(process))
-}
+impl<'a> Slots<'a> {
+    ghost use Rattle.rk_message.specs.Slots.{slot, AreKept, fields_bytes};
 
-fn joined<'a>(join: Option<Serial>) -> Field<'a>
-    ensures value { result ≡ word (join_number join) }
-    ensures kind { IsValue join_kind (U32 (join_number join)) }
-    ensures serial { IfSome join (λ n. 1 ≤ n) }
-{
-    match join {
-        None => Field::Word(0),
-        Some(serial) => Field::Word(serial.get()),
+    /// The field of the first of the kinds, and the kinds behind it; an absent one where there are none.
+    fn next<'k>(&self, kinds: &'k [FieldKind]) -> (Field<'a>, &'k [FieldKind])
+        requires { AreKept self.now kinds.now }
+        ensures bytes { fields_bytes self.now kinds.now ≡ field_bytes result.0 ++ fields_bytes self.now result.1.now }
+        ensures told { IsTold result.0 }
+        ensures kept { AreKept self.now result.1.now }
+        ensures fewer { length result.1.now ≡ length kinds.now - 1 }
+    {
+        match kinds {
+            [] => (Field::Absent, kinds),
+            [kind, others @ ..] => (self.field(*kind), others),
+        }
     }
-}
 
-fn rejected<'a>(error: KeyError) -> Field<'a>
-    ensures value { result ≡ word (error_number error) }
-    ensures kind { IsValue error_kind (U32 (error_number error)) }
-{
-    Field::Word(u32::from(error.errno().number()))
-}
-
-fn typed(name: &TypeName) -> Field<'_>
-    ensures bytes { field_bytes result ≡ spelled (Blob name.now) }
-    ensures kind { IsValue type_name (Blob name.now) }
-    ensures told { IsTold result }
-{
-    Field::Block(name.as_bytes())
-}
-
-fn described(name: &Description) -> Field<'_>
-    ensures bytes { field_bytes result ≡ spelled (Blob name.now) }
-    ensures kind { IsValue description (Blob name.now) }
-    ensures told { IsTold result }
-{
-    Field::Block(name.as_bytes())
-}
-
-fn held(payload: &Payload) -> Field<'_>
-    ensures bytes { field_bytes result ≡ spelled (Blob payload.now) }
-    ensures kind { IsValue payload_kind (Blob payload.now) }
-    ensures told { IsTold result }
-{
-    Field::Block(payload.as_bytes())
-}
-
-fn called_out(callout: &Option<Callout>) -> Field<'_>
-    ensures bytes { field_bytes result ≡ spelled (Maybe callout.now) }
-    ensures kind { IsValue callout_kind (Maybe callout.now) }
-    ensures told { IsTold result }
-{
-    match callout {
-        None => Field::Optional(None),
-        Some(text) => Field::Optional(Some(text.as_bytes())),
+    /// The field of the kind.
+    #[tactic(auto, unfolding(crate::specs::Wire::spelled))]
+    fn field(&self, kind: FieldKind) -> Field<'a>
+        requires { IsValue (form kind) (slot self.now kind) }
+        ensures bytes { field_bytes result ≡ spelled (slot self.now kind) }
+        ensures told { IsTold result }
+    {
+        match kind {
+            FieldKind::Uid => Field::Word(self.uid),
+            FieldKind::Gid => Field::Word(self.gid),
+            FieldKind::Flags => Field::Byte(u8::from(self.thread) + 2 * u8::from(self.process)),
+            FieldKind::Join => Field::Word(self.join),
+            FieldKind::Type => Field::Block(self.typ),
+            FieldKind::Description => Field::Block(self.description),
+            FieldKind::Callout => Field::Optional(self.callout),
+            FieldKind::Key => Field::Signed(self.key),
+            FieldKind::Payload => Field::Block(self.payload),
+            FieldKind::Ring => Field::Signed(self.ring),
+            FieldKind::Seconds => Field::Word(self.seconds),
+            FieldKind::Error => Field::Word(u32::from(self.error.errno().number())),
+            FieldKind::Setting => Field::Signed(self.setting),
+        }
     }
 }

@@ -10,6 +10,7 @@ ghost use Rattle.rk_message.specs.Reading.{Reads, number_at, block_at, checked_a
 ghost use Rattle.rk_message.specs.Asks.{flag_bits, error_number};
 
 use crate::fault::Fault;
+use crate::reply::ReplyBytes;
 use bytes::Buf;
 use rk_names::{Callout, Description, Errno, KeyError, Payload, TypeName};
 
@@ -115,7 +116,7 @@ pub fn key_error(bytes: &[u8]) -> Result<(KeyError, &[u8]), Fault>
     }
 }
 
-/// A type, still borrowed.
+/// A type that keeps its rule, still borrowed.
 #[tactic(auto, unfolding(crate::specs::Reading::value_at, crate::specs::Reading::checked_at))]
 pub fn type_name(bytes: &[u8]) -> Result<(&[u8], &[u8]), Fault>
     ensures { Reads (λ x. (Blob x.0.now, x.1.now)) result (value_at type_name bytes.now) }
@@ -127,7 +128,7 @@ pub fn type_name(bytes: &[u8]) -> Result<(&[u8], &[u8]), Fault>
     }
 }
 
-/// A description, still borrowed.
+/// A description that keeps its rule, still borrowed.
 #[tactic(auto, unfolding(crate::specs::Reading::value_at, crate::specs::Reading::checked_at))]
 pub fn description(bytes: &[u8]) -> Result<(&[u8], &[u8]), Fault>
     ensures { Reads (λ x. (Blob x.0.now, x.1.now)) result (value_at description bytes.now) }
@@ -139,7 +140,7 @@ pub fn description(bytes: &[u8]) -> Result<(&[u8], &[u8]), Fault>
     }
 }
 
-/// A payload, still borrowed.
+/// A payload that keeps its rule, still borrowed.
 #[tactic(auto, unfolding(crate::specs::Reading::value_at, crate::specs::Reading::checked_at))]
 pub fn payload(bytes: &[u8]) -> Result<(&[u8], &[u8]), Fault>
     ensures { Reads (λ x. (Blob x.0.now, x.1.now)) result (value_at payload bytes.now) }
@@ -151,7 +152,7 @@ pub fn payload(bytes: &[u8]) -> Result<(&[u8], &[u8]), Fault>
     }
 }
 
-/// The text of a callout, still borrowed.
+/// The text of a callout that keeps its rule, still borrowed.
 #[tactic(auto, unfolding(crate::specs::Reading::checked_at))]
 fn callout_text(bytes: &[u8]) -> Result<(&[u8], &[u8]), Fault>
     ensures { Reads (λ x. (x.0.now, x.1.now)) result (checked_at callout_rule bytes.now) }
@@ -186,7 +187,7 @@ pub fn reply_block(bytes: &[u8]) -> Result<(&[u8], &[u8]), Fault>
     ensures len { IfOk result (λ x. length x.0.now ≤ 65533) }
 {
     let (bytes, rest) = block(bytes)?;
-    if bytes.len() > 65_533 {
+    if bytes.len() > ReplyBytes::MAX_LEN {
         return Err(INVALID);
     }
     Ok((bytes, rest))

@@ -20,12 +20,19 @@
 //! reserves once and then appends. `Reply::refusal(errno)` is the body of a refusal and takes no
 //! memory, so that ENOMEM can always be answered.
 //!
+//! # The table of asks
+//!
+//! [`AskShape::all`] is the table: for each [`Op`] its byte, its name and its fields, as [`FieldKind`]s with names of
+//! their own. Whatever else speaks of asks, as a command line that tells its usage, can go by it.
+//!
 //! # How it is built
 //!
-//! The format stands once, as a table of first bytes and kinds of fields, in `specs/Table.antt`. `field` reads one
-//! field from the front of the bytes; `ask_reading` and `reply_reading` have a function for each line of
-//! the table. `spelling` writes fields; `ask_writing` and `reply_writing` name the fields of each
-//! message. What the table says of every body stands as laws in `laws`. `copying` and `equality` copy and compare messages.
+//! The format stands once, as a table of first bytes and kinds of fields, in `specs/Table.antt`; the code's table of asks, in
+//! `shape`, is proved to be that one. Reading and writing an ask both go along its line of the table: `ask_reading`
+//! takes each field that the line names into the slot of its kind, `ask_writing` puts each from its slot, and `slots` turns
+//! slots into an ask and back. `field` reads one field from the front of the bytes, `spelling` writes a message.
+//! `reply_reading` and `reply_writing` have the four replies. What the table says of every body stands as laws in `laws`.
+//! `copying` and `equality` copy and compare messages.
 #![tactic(auto)]
 
 mod ask;
@@ -39,6 +46,8 @@ mod laws;
 mod reply;
 mod reply_reading;
 mod reply_writing;
+mod shape;
+mod slots;
 mod spelling;
 
 pub use ask::Ask;
@@ -46,3 +55,4 @@ pub use fault::{Fault, ReadError};
 pub use laws::{asks_have_one_reading, replies_have_one_reading};
 pub use reply::{Reply, ReplyBytes};
 pub use rk_names::KeyError;
+pub use shape::{AskShape, FieldKind, Op};

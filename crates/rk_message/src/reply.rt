@@ -24,15 +24,26 @@ impl Model for ReplyBytes {
 }
 
 impl ReplyBytes {
+    /// The most bytes that it has.
+    pub const MAX_LEN: usize = 65_533;
+
     /// Moves the bytes, and takes no memory; `None` past 65,533 of them.
     pub fn new(bytes: Vec<u8>) -> Option<ReplyBytes>
         ensures { result ≡ (if nat_lt 65533 (length bytes.items) then None else Some bytes.items) }
     {
-        if bytes.len() > 65_533 {
+        if bytes.len() > ReplyBytes::MAX_LEN {
             None
         } else {
-            Some(ReplyBytes { bytes })
+            Some(ReplyBytes::from_checked(bytes))
         }
+    }
+
+    /// Moves bytes of which there are at most 65,533, and takes no memory.
+    pub fn from_checked(bytes: Vec<u8>) -> ReplyBytes
+        requires { length bytes.items ≤ 65533 }
+        ensures { result ≡ bytes.items }
+    {
+        ReplyBytes { bytes }
     }
 
     /// The bytes that it was made of.

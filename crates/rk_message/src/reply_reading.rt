@@ -72,10 +72,7 @@ fn bytes(alloc: Global, rest: &[u8]) -> Result<Reply, ReadError>
     let (bytes, rest) = field::reply_block(rest)?;
     field::end(rest)?;
     let copy = Vec::from_slice(alloc, bytes)?;
-    match ReplyBytes::new(copy) {
-        Some(bytes) => Ok(Reply::Bytes(bytes)),
-        None => Err(ReadError::NoMemory),
-    }
+    Ok(Reply::Bytes(ReplyBytes::from_checked(copy)))
 }
 
 #[tactic(auto, unfolding(crate::specs::Reading::message_behind, crate::specs::Reading::all_values, crate::specs::Reading::values_at))]

@@ -4,12 +4,16 @@ ghost use Rattle.std.specs.Prelude.{◌≡◌, ◌+◌, ◌<◌, ◌≤◌, ◌^
 ghost use Rattle.rk_message.specs.Wire.{block};
 ghost use Rattle.rk_message.specs.Spellings.{field_bytes, all_bytes, IsTold, AreTold};
 
-/// One field. Bytes stand behind their length of two bytes.
+/// One field. A number has its highest byte first, a length has two bytes.
 #[derive(Clone, Copy)]
 pub enum Field<'a> {
+    /// One byte.
     Byte(u8),
+    /// Four bytes.
     Word(u32),
+    /// Four bytes, in two's complement.
     Signed(i32),
+    /// Bytes behind their length.
     Block(&'a [u8]),
     /// A byte 0 for none, or a byte 1 before the bytes.
     Optional(Option<&'a [u8]>),
@@ -20,7 +24,9 @@ pub enum Field<'a> {
 /// A first byte and at most four fields, which are all that any message has.
 #[derive(Clone, Copy)]
 pub struct Spelling<'a> {
+    /// What the message is.
     pub op: u8,
+    /// What stands behind it; the absent ones come last.
     pub fields: (Field<'a>, Field<'a>, Field<'a>, Field<'a>),
 }
 
