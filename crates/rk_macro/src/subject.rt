@@ -15,7 +15,7 @@ pub enum Op {
 
 impl Op {
     ghost use Rattle.std.specs.Prelude.{◌≡◌, true};
-    ghost use Rattle.rk_names.specs.Rules.{is_text};
+    ghost use Rattle.rk_text.specs.Text.{is_text};
     ghost use Rattle.rk_macro.specs.Ops.{op_name};
 
     /// Its name, as it stands in a line.

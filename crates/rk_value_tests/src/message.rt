@@ -2,7 +2,7 @@
 
 use crate::same::same;
 use rk_message::{
-    Ask, Fault, KeyError, ReadError, Reply, ReplyBytes, asks_have_one_reading,
+    Ask, AskShape, Fault, KeyError, Op, ReadError, Reply, ReplyBytes, asks_have_one_reading,
     replies_have_one_reading,
 };
 use rk_names::{Callout, Description, Errno, NameFault, Payload, Serial, TypeName};
@@ -655,4 +655,54 @@ fn replies_are_copied_and_compared(rt: HostRuntime) -> Result<(), Fail> {
         }
     }
     Ok(())
+}
+
+/// The asks and their fields as docs/PROTOCOL.md tells them, by rising op byte.
+const LINES: &[(&str, &str)] = &[
+    ("HELLO", "uid gid flags join "),
+    ("REQUEST", "type description callout ring "),
+    ("ASSUME", "key "),
+    ("INSTANTIATE", "key payload ring "),
+    ("NEGATE", "key seconds ring "),
+    ("REJECT", "key seconds error ring "),
+    ("READ", "key "),
+    ("DESCRIBE", "key "),
+    ("REVOKE", "key "),
+    ("TIMEOUT", "key seconds "),
+    ("LINK", "key ring "),
+    ("UNLINK", "key ring "),
+    ("CLEAR", "ring "),
+    ("DEFAULT", "setting "),
+    ("ADD", "type description payload ring "),
+    ("CALLOUT", ""),
+];
+
+/// The names of the fields of a line, a space behind each.
+fn fields_of(alloc: Global, shape: &AskShape) -> Result<String, AllocError> {
+    let mut names = String::new(alloc);
+    for field in shape.fields {
+        names.push_str(field.name())?;
+        names.push(' ')?;
+    }
+    Ok(names)
+}
+
+#[test]
+fn the_table_of_asks_is_the_formats(rt: HostRuntime) -> Result<(), Fail> {
+    same(&rt, AskShape::all().len(), LINES.len());
+    for (shape, (name, fields)) in AskShape::all().iter().zip(LINES) {
+        same(&rt, shape.name, *name);
+        let names = fields_of(rt.alloc(), shape)?;
+        same(&rt, names.as_str(), *fields);
+    }
+    Ok(())
+}
+
+#[test]
+fn an_op_is_known_by_its_byte(rt: HostRuntime) {
+    same(&rt, Op::from_byte(16), Some(Op::Callout));
+    same(&rt, Op::from_byte(17), None);
+    same(&rt, Op::Negate.byte(), 5);
+    same(&rt, Op::Negate.shape().name, "NEGATE");
+    same(&rt, Ask::Callout.op(), Op::Callout);
 }
