@@ -9,6 +9,7 @@
 //! # How it is built
 //!
 //! `lines` reads and writes single lines, `take` plays happenings on a replay, `script` runs scripts from a reader to a writer.
+//! `same` compares a value with the one that was worked out.
 #![tactic(auto)]
 
 #[cfg(test)]

@@ -1,4 +1,4 @@
-//! That a value is the one that was worked out by hand.
+//! That a value is the one that was worked out. What may end the process stands in tests alone, so no library has it.
 use std::fmt::Debug;
 use std::process::Abort;
 

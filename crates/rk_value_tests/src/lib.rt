@@ -9,7 +9,7 @@
 //! # How it is built
 //!
 //! A module for each library: `names` for rk_names, `frame` for rk_frame, `message` for rk_message, `glob` for rk_glob, `conf` for rk_conf,
-//! `command` for rk_macro.
+//! `command` for rk_macro. `same` compares a value with the one that was worked out.
 #![tactic(auto)]
 
 #[cfg(test)]
