@@ -192,18 +192,25 @@ impl Write for Refuses {
     }
 }
 
-#[test]
-fn a_fault_of_a_stream_is_told(rt: HostRuntime) {
-    let alloc = rt.alloc();
+/// A script of so many newlines: how it ends, how often it was read, and how many bytes were written.
+fn run_newlines(alloc: Global, left: u32, fails: bool) -> (Result<(), ScriptFault>, u32, usize) {
     let mut written = Vec::new(alloc);
-    let mut reader = Newlines::new(3, true);
+    let mut reader = Newlines::new(left, fails);
     let ended = run_script(alloc, &mut reader, &mut written);
-    same(&rt, ended, Err(ScriptFault::Read));
-    assert!(rt; written.is_empty());
+    (ended, reader.reads, written.len())
+}
 
+#[test]
+fn a_fault_of_the_reader_is_told(rt: HostRuntime) {
+    let (ended, _, written) = run_newlines(rt.alloc(), 3, true);
+    same(&rt, (ended, written), (Err(ScriptFault::Read), 0));
+}
+
+#[test]
+fn a_fault_of_the_writer_is_told(rt: HostRuntime) {
     let mut refuses = Refuses { seen: false };
     let mut script = b"what".as_slice();
-    let ended = run_script(alloc, &mut script, &mut refuses);
+    let ended = run_script(rt.alloc(), &mut script, &mut refuses);
     same(&rt, ended, Err(ScriptFault::Write));
     assert!(rt; refuses.seen);
 }
@@ -211,44 +218,31 @@ fn a_fault_of_a_stream_is_told(rt: HostRuntime) {
 /// What is written reaches a writer that keeps it until it is flushed.
 #[test]
 fn the_writer_is_flushed(rt: HostRuntime) {
-    let alloc = rt.alloc();
-    let scripts = [
-        ("what", "fault 1 S1\n", Ok(())),
-        (
-            "conf x\nwhat",
-            "fault 2 S1\nconf 1 C1\n",
-            Err(ScriptFault::Conf),
-        ),
-    ];
-    for (script, want, end) in scripts {
-        let mut writer = Keeps::new(alloc, false);
-        let ended = run_script(alloc, &mut script.as_bytes(), &mut writer);
-        same(&rt, ended, end);
-        same(&rt, writer.passed_on.as_slice(), want.as_bytes());
-        assert!(rt; writer.kept.is_empty());
-
-        let mut writer = Keeps::new(alloc, true);
-        let ended = run_script(alloc, &mut script.as_bytes(), &mut writer);
-        assert_eq!(rt; ended, Err(ScriptFault::Write), "{script}");
-        same(&rt, writer.kept.as_slice(), want.as_bytes());
+    let refused = "fault 2 S1\nconf 1 C1\n";
+    for (script, fails, end, kept, passed_on) in [
+        ("what", false, Ok(()), "", "fault 1 S1\n"),
+        ("what", true, Err(ScriptFault::Write), "fault 1 S1\n", ""),
+        ("conf x\nwhat", false, Err(ScriptFault::Conf), "", refused),
+        ("conf x\nwhat", true, Err(ScriptFault::Write), refused, ""),
+    ] {
+        let mut writer = Keeps::new(rt.alloc(), fails);
+        let ended = run_script(rt.alloc(), &mut script.as_bytes(), &mut writer);
+        same(&rt, (script, ended), (script, end));
+        same(&rt, writer.kept.as_slice(), kept.as_bytes());
+        same(&rt, writer.passed_on.as_slice(), passed_on.as_bytes());
     }
 }
 
 /// A script is read to its end where that comes within 1,048,576 reads.
 #[test]
 fn a_script_without_end_is_given_up(rt: HostRuntime) {
-    let alloc = rt.alloc();
-    let mut written = Vec::new(alloc);
-    let mut reader = Newlines::new(1_048_575, false);
-    let ended = run_script(alloc, &mut reader, &mut written);
-    same(&rt, ended, Ok(()));
-    same(&rt, reader.reads, 1_048_576);
-
-    let mut reader = Newlines::new(1_048_576, false);
-    let ended = run_script(alloc, &mut reader, &mut written);
-    same(&rt, ended, Err(ScriptFault::TurnsUsed));
-    same(&rt, reader.reads, 1_048_576);
-    assert!(rt; written.is_empty());
+    for (left, end) in [
+        (1_048_575, Ok(())),
+        (1_048_576, Err(ScriptFault::TurnsUsed)),
+    ] {
+        let run = run_newlines(rt.alloc(), left, false);
+        same(&rt, run, (end, 1_048_576, 0));
+    }
 }
 
 #[test]
