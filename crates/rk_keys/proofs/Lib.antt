@@ -4,6 +4,5 @@ pub mod Names
 pub mod Held
 pub mod Refused
 pub mod Counts
-pub mod Rising
-pub mod Index
+pub mod Indexed
 pub mod UserCounts

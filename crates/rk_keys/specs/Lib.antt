@@ -3,7 +3,7 @@ pub mod Serials
 pub mod Drawing
 pub mod Known
 pub mod Names
-pub mod Spots
+pub mod Buckets
 pub mod Owners
 pub mod Faults
 pub use Rattle.rk_table.specs.Maps

@@ -11,38 +11,41 @@ ghost use Rattle.rk_keys.specs.Known.{Known, IsNaming, IsRefused, Makes, has_all
 ghost use Rattle.rk_keys.specs.Names.{IsNumberFor};
 ghost use Rattle.rk_keys.specs.Faults.{use_fault, change_fault};
 
-use crate::by_name::{put_in, take_out};
+use crate::by_name::{Bucket, hash_of, put_in};
 use crate::changes::{Conclude, Mark, Time};
 use crate::fault::KeyFault;
 use crate::key::{Condition, Key, Standing};
-use crate::naming::number_of;
+use crate::naming::{leave_name, number_of};
 use crate::owners::{count_of, leave, one_more};
 use crate::serials::Serials;
 use rk_names::{Description, KeyError, Moment, NameNo, Payload, Serial, TypeName};
-use rk_table::Table;
+use rk_table::HashTable;
 use std::alloc::{AllocError, Global};
 use std::marker::Model;
 
-/// All keys, and the serials of keys and rings. None but `new` and `make` takes memory. What asks for a key
-/// looks at as many keys as their number can be halved, and what asks for a name, `name`, `make` and `forget`, at the square of that;
-/// `is_full` halves the users; `left`, `serials` and `set_serials` take the same time always.
+/// All keys, and the serials of keys and rings. None but `new`, `seeded` and `make` takes memory. Each call takes the same time, however many
+/// keys there are, but for `make`, where a table grows, and `forget`, which walks over the serials of the keys of one name.
 #[derive(Drop)]
 pub struct Keys {
     /// What is known of each key, by its serial.
-    facts: Table<Key>,
+    facts: HashTable<Key>,
     /// The number of each key's name.
-    numbers: Table<NameNo>,
-    /// The serials of the keys, in the order of their names.
-    by_name: Vec<u32>,
+    numbers: HashTable<NameNo>,
+    /// The serials of the keys, by the hashes of their names.
+    by_name: HashTable<Bucket>,
     /// How many keys each user has.
-    counts: Table<u32>,
+    counts: HashTable<u32>,
     /// Which serials were drawn, and which is the next.
     serials: Serials,
+    /// With what names are hashed.
+    seed: u64,
+    /// Where buckets take their memory.
+    alloc: Global,
 }
 
 impl Model for Keys {
     ghost use Rattle.rk_keys.specs.Known.{Known, known_code, IsHeld};
-    ghost use Rattle.rk_keys.specs.Spots.{IsIndex};
+    ghost use Rattle.rk_keys.specs.Buckets.{IsIndex};
     ghost use Rattle.rk_keys.specs.Owners.{AreCounts};
 
     ghost Value = { Known };
@@ -51,7 +54,7 @@ impl Model for Keys {
 
     ghost view = { λ a. record { keys = a.facts.facts; numbers = a.numbers.facts; serials = a.serials } };
 
-    ghost invariant = { λ a. record { held : IsHeld (record { keys = a.facts.facts; numbers = a.numbers.facts; serials = a.serials }); index : IsIndex a.facts.facts a.by_name.items; counts : AreCounts a.facts.facts a.counts.facts } };
+    ghost invariant = { λ a. record { held : IsHeld (record { keys = a.facts.facts; numbers = a.numbers.facts; serials = a.serials }); index : IsIndex a.seed a.facts.facts a.by_name.facts; counts : AreCounts a.facts.facts a.counts.facts } };
 }
 
 impl Keys {
@@ -59,16 +62,27 @@ impl Keys {
     pub const MAX_PER_USER: usize = 200;
 
     /// No key, and the serials `first`, `first + stride`, `first + 2 * stride` .., none of them drawn. Room is made for the keys of one user.
+    /// It is `seeded` with 0.
     pub fn new(alloc: Global, first: Serial, stride: u32) -> Result<Keys, AllocError>
         requires { 1 ≤ stride }
         ensures { IfOk result (λ keys. keys ≡ record { keys = map.empty; numbers = map.empty; serials = record { first = first; stride = stride; used = set.empty } }) }
     {
+        Keys::seeded(alloc, first, stride, 0)
+    }
+
+    /// The same, with a seed for the hashes of names. Who does not know it can't choose names that make the look-up of a name slow.
+    pub fn seeded(alloc: Global, first: Serial, stride: u32, seed: u64) -> Result<Keys, AllocError>
+        requires { 1 ≤ stride }
+        ensures { IfOk result (λ keys. keys ≡ record { keys = map.empty; numbers = map.empty; serials = record { first = first; stride = stride; used = set.empty } }) }
+    {
         Ok(Keys {
-            facts: Table::with_room(alloc, Keys::MAX_PER_USER)?,
-            numbers: Table::with_room(alloc, Keys::MAX_PER_USER)?,
-            by_name: Vec::with_capacity(alloc, Keys::MAX_PER_USER)?,
-            counts: Table::with_room(alloc, 1)?,
+            facts: HashTable::with_room(alloc, Keys::MAX_PER_USER)?,
+            numbers: HashTable::with_room(alloc, Keys::MAX_PER_USER)?,
+            by_name: HashTable::with_room(alloc, Keys::MAX_PER_USER)?,
+            counts: HashTable::with_room(alloc, 1)?,
             serials: Serials::new(first, stride),
+            seed,
+            alloc,
         })
     }
 
@@ -104,7 +118,14 @@ impl Keys {
         ensures none { result ≡ None → (k : ℕ) → has_name self.now.keys k typ.now description.now ≡ false }
         ensures some { IfSome result (λ n. (k : ℕ) × (has_name self.now.keys k typ.now description.now ≡ true) × (map.get self.now.numbers k ≡ Some n)) }
     {
-        number_of(&self.facts, &self.numbers, &self.by_name, typ, description)
+        number_of(
+            &self.facts,
+            &self.numbers,
+            &self.by_name,
+            self.seed,
+            typ,
+            description,
+        )
     }
 
     /// The number of the key's name; `None` where there is no key of that serial.
@@ -171,23 +192,18 @@ impl Keys {
         };
         self.facts.reserve(1)?;
         self.numbers.reserve(1)?;
-        self.by_name.reserve(1)?;
         self.counts.reserve(1)?;
+        let hash = hash_of(self.seed, &typ, &description);
         let shared = number_of(
             &self.facts,
             &self.numbers,
             &self.by_name,
+            self.seed,
             &typ,
             &description,
         );
+        put_in(&mut self.by_name, self.alloc, hash, serial.get())?;
         let number = shared.unwrap_or(NameNo(serial.get()));
-        put_in(
-            &self.facts,
-            &mut self.by_name,
-            &typ,
-            &description,
-            serial.get(),
-        );
         self.numbers.insert(serial.get(), number);
         self.facts
             .insert(serial.get(), Key::new(typ, description, owner, payload));
@@ -231,7 +247,7 @@ impl Keys {
     pub fn forget(&mut self, key: Serial)
         ensures { self.new ≡ without_key key self.old }
     {
-        take_out(&self.facts, &mut self.by_name, key.get());
+        leave_name(&self.facts, &mut self.by_name, self.seed, key.get());
         leave(&self.facts, &mut self.counts, key.get());
         self.facts.remove(key.get());
         self.numbers.remove(key.get());

@@ -11,7 +11,7 @@
 //! Its clauses speak of one value: a finite map from serials to keys, a finite map from serials to numbers of names, and the set of serials that
 //! were drawn. Each call is one change of that value. A serial is never given again, also when its key is forgotten. Live keys share the number of
 //! a name exactly where their type and description are equal, so a ring can tell names apart without reading them. A refused call changes nothing.
-//! Only `new` and `make` take memory, and room for the keys of one user is made by `new`.
+//! Only `new`, `seeded` and `make` take memory, and room for the keys of one user is made by the first two.
 //!
 //! # An example
 //!
@@ -22,9 +22,9 @@
 //! # How it is built
 //!
 //! `key` has one key and what it is at a moment, `serials` the serials, `fault` the refusals. `keys` puts three
-//! tables, the order of names and the serials together; `by_name` keeps the serials in the order of their keys' names, `naming` looks up
-//! a name's number there, `owners` counts the keys of each user, `changes` has what happens to one key. Where the specifications
-//! speak of a key in few words, as `standing_of`, they stand in `specs/Key.antt`; of all keys in `specs/Known.antt`.
+//! tables, the serials by the hashes of names and the serials to draw together; `by_name` hashes names and keeps the serials under their hashes,
+//! `naming` looks up a name's number there, `owners` counts the keys of each user, `changes` has what happens to one key. Where the
+//! specifications speak of a key in few words, as `standing_of`, they stand in `specs/Key.antt`; of all keys in `specs/Known.antt`.
 #![tactic(auto)]
 
 mod by_name;

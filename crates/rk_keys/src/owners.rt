@@ -4,7 +4,7 @@ ghost use Rattle.std.specs.FinMap as map;
 ghost use Rattle.rk_keys.specs.Owners.{count_at, AreCounts};
 
 use crate::key::Key;
-use rk_table::{ChangeOnce, Table};
+use rk_table::{ChangeOnce, HashTable};
 
 /// The count becomes this one.
 #[derive(Drop)]
@@ -22,14 +22,14 @@ impl ChangeOnce<u32> for Become {
 }
 
 /// How many keys this user has.
-pub fn count_of(counts: &Table<u32>, owner: u32) -> u32
+pub fn count_of(counts: &HashTable<u32>, owner: u32) -> u32
     ensures { result ≡ count_at counts.now.facts owner }
 {
     counts.get(owner).copied().unwrap_or(0)
 }
 
 /// Counts one more key of this user, in a place that was reserved. It takes no memory.
-pub fn one_more(counts: &mut Table<u32>, owner: u32)
+pub fn one_more(counts: &mut HashTable<u32>, owner: u32)
     requires room { 0 < counts.old.room }
     requires few { count_at counts.old.facts owner < 200 }
     ensures { (uid : ℕ) → count_at counts.new.facts uid ≡ (if owner == uid then count_at counts.old.facts uid + 1 else count_at counts.old.facts uid) }
@@ -41,7 +41,7 @@ pub fn one_more(counts: &mut Table<u32>, owner: u32)
 }
 
 /// Counts one key less of this user.
-fn one_less(counts: &mut Table<u32>, owner: u32)
+fn one_less(counts: &mut HashTable<u32>, owner: u32)
     ensures { (uid : ℕ) → count_at counts.new.facts uid ≡ (if owner == uid then count_at counts.old.facts uid - 1 else count_at counts.old.facts uid) }
 {
     let count = count_of(counts, owner);
@@ -53,7 +53,7 @@ fn one_less(counts: &mut Table<u32>, owner: u32)
 }
 
 /// Counts a key out of those of its owner, if there is such a key.
-pub fn leave(facts: &Table<Key>, counts: &mut Table<u32>, key: u32)
+pub fn leave(facts: &HashTable<Key>, counts: &mut HashTable<u32>, key: u32)
     requires { AreCounts facts.now.facts counts.old.facts }
     ensures { AreCounts (map.remove facts.now.facts key) counts.new.facts }
 {

@@ -3,3 +3,4 @@ pub mod Rising
 pub mod Found
 pub mod Once
 pub mod Gets
+pub mod LookedUp

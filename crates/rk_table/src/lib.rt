@@ -1,4 +1,4 @@
-//! A finite map from numbers, with places that were reserved.
+//! Finite maps from numbers, with places that were reserved.
 //!
 //! # Purpose
 //!
@@ -8,9 +8,10 @@
 //!
 //! # What it promises
 //!
-//! A [`Table`] is seen as its facts, a finite map, and its room, the number of entries that can be put in with no memory. [`Table::reserve`]
-//! alone takes memory; where it is refused, nothing has changed. `insert` wants a new key and room, and has no way to fail. An entry that is
-//! taken out leaves its place to the next one: `retain` and `remove` keep the sum of facts and room.
+//! A [`Table`] and a [`HashTable`] are seen alike, as their facts, a finite map, and their room, the number of entries that can be put in with no
+//! memory. `reserve` alone takes memory; where it is refused, nothing has changed. `insert` wants a new key and room, and has no way to fail. An
+//! entry that is taken out of a `Table` leaves its place to the next one: `retain` and `remove` keep the sum of facts and room. A `HashTable`
+//! promises no more than that its room is not less.
 //!
 //! # Use
 //!
@@ -18,15 +19,20 @@
 //! [`ChangeOnce`] and says in its ghost member what it makes of the value; all values by one that implements [`Change`]; a [`Test`]
 //! picks entries in the same way.
 //!
+//! A `Table` is for what has a bound, as the links of a ring, and a `HashTable` for what has none, as the keys.
+//!
 //! # How it is built
 //!
 //! `table` has the table, `places` the search. A plain vector of entries in the order of their keys, each key once, so that a search halves
-//! it: `get`, `contains` and `change` look at 15 entries where 20,000 are held. `insert` and `remove` search alike, and then the entries
+//! it: `get`, `contains` and `change` look at 8 entries where 256 are held. `insert` and `remove` search alike, and then the entries
 //! of greater keys move by one place, in one piece; keys that come rising, as serials do, are put at the end. `any`, `find`, `change_all`
-//! and `retain` walk over all entries. No contract says so, so that another index can take the place of the order.
+//! and `retain` walk over all entries. `hashed` has the other, over an `indexmap`, whose entries are found by the hashes of their keys. No
+//! contract says how entries lie, so that another index can take its place.
 #![tactic(auto)]
 
+mod hashed;
 mod places;
 mod table;
 
+pub use hashed::HashTable;
 pub use table::{Change, ChangeOnce, Table, Test};

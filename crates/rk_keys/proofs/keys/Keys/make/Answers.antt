@@ -1,6 +1,5 @@
-use Rattle.std.proofs.Common.{◌≡◌, subst, ◌∙◌, ap, ℕ, List, refl}
-use Rattle.std.specs.Prelude.{Some, None, unwrap_or}
-use Rattle.std.specs.List.{insert as insert_at}
+use Rattle.std.proofs.Common.{◌≡◌, subst, ◌∙◌, ap, ℕ, cond, List, [], ◌∷◌, ◌++◌, refl}
+use Rattle.std.specs.Prelude.{Some, None, nat_eq, unwrap_or}
 use Rattle.std.specs.Ordering.{nat_cmp}
 use Rattle.std.specs.FinMap as map
 use Rattle.std.proofs.lemmas.Result.{err_from_is_err_and}
@@ -10,8 +9,8 @@ use Rattle.rk_keys.specs.Known.{Known, new_key, IsHeld}
 use Rattle.rk_keys.specs.Names.{IsNumberFor}
 use Rattle.rk_keys.proofs.Names.{number_of_new, number_for_new}
 use Rattle.rk_keys.proofs.Held.{held_made_so, at_new}
-use Rattle.rk_keys.specs.Spots.{spot_cmp, spot_of, IsPlaceFor, IsIndex}
-use Rattle.rk_keys.proofs.Index.{index_with}
+use Rattle.rk_keys.specs.Buckets.{IsIndex, name_hash, serials_at}
+use Rattle.rk_keys.proofs.Indexed.{index_with, index_same}
 use Rattle.rk_keys.specs.Owners.{AreCounts}
 use Rattle.rk_keys.proofs.UserCounts.{counts_with}
 use Rattle.rk_keys.proofs.Refused.{not_refused}
@@ -35,10 +34,10 @@ returns-in_err-reserve-3-clause-quota c =
     let p = err_from_is_err_and c.from_residual-in_err-reserve-3.result c.from_residual-in_err-reserve-3.ensures.1 in
     rw (p.1, p.2) (λ e. absurd (cc), λ refused. absurd (not_refused c.args.self.now c.args.owner c.in-Some.serial c.is_full.result c.is_full.ensures c.if-is_full.false next refused))
 
-pub returns-in_err-reserve-4-clause-quota : goal.returns-in_err-reserve-4-clause-quota
-returns-in_err-reserve-4-clause-quota c =
+pub returns-in_err-put_in-clause-quota : goal.returns-in_err-put_in-clause-quota
+returns-in_err-put_in-clause-quota c =
     let next : IsNext c.args.self.now.serials c.in-Some.serial = subst (λ (n : Known). IsNext n.serials c.in-Some.serial) c.self.view_is c.in-Some.ensures.cases.0 in
-    let p = err_from_is_err_and c.from_residual-in_err-reserve-4.result c.from_residual-in_err-reserve-4.ensures.1 in
+    let p = err_from_is_err_and c.from_residual-in_err-put_in.result c.from_residual-in_err-put_in.ensures.1 in
     rw (p.1, p.2) (λ e. absurd (cc), λ refused. absurd (not_refused c.args.self.now c.args.owner c.in-Some.serial c.is_full.result c.is_full.ensures c.if-is_full.false next refused))
 
 pub returns-clause-quota : goal.returns-clause-quota
@@ -54,19 +53,20 @@ invariant_of-self-2 c =
     let number = number_of_new known key c.in-Some.serial c.number_of-shared.result held c.in-Some.ensures.cases.0.drawable.unused c.number_of-shared.ensures.none c.number_of-shared.ensures.some in
     let which : c.unwrap_or-number.result ≡ unwrap_or c.number_of-shared.result c.in-Some.serial = cc (c.unwrap_or-number.ensures, c.get.ensures.number) in
     let keys : map.FinMap nat_cmp Key = c.reserve.new.self.facts in
-    let by_name : List ℕ = c.reserve-3.new.self.items in
-    let index : IsIndex keys by_name = rw (c.reserve.ensures.facts, c.reserve-3.ensures.items) c.self.invariant.index in
-    let counts : AreCounts keys c.reserve-4.new.self.facts = rw (c.reserve.ensures.facts, c.reserve-4.ensures.facts) c.self.invariant.counts in
+    let by_name : map.FinMap nat_cmp (List ℕ) = c.self.inside.by_name.facts in
+    let index : IsIndex c.self.inside.seed keys by_name = rw c.reserve.ensures.facts c.self.invariant.index in
+    let counts : AreCounts keys c.reserve-3.new.self.facts = rw (c.reserve.ensures.facts, c.reserve-3.ensures.facts) c.self.invariant.counts in
     let new : map.get keys c.in-Some.serial ≡ None = held.drawn c.in-Some.serial c.in-Some.ensures.cases.0.drawable.unused in
-    let there : IsPlaceFor spot_cmp (spot_of keys) (c.args.typ, c.args.description, c.in-Some.serial) by_name c.put_in.ensures.place =
-    subst (λ n. IsPlaceFor spot_cmp (spot_of keys) (c.args.typ, c.args.description, n) by_name c.put_in.ensures.place) c.get-2.ensures.number c.put_in.ensures.there in
     let put : c.insert-2.new.self.facts ≡ map.insert keys c.in-Some.serial key = cc (c.insert-2.ensures.facts, c.get-4.ensures.number) in
-    let items : c.put_in.new.by_name.items ≡ insert_at by_name c.put_in.ensures.place c.in-Some.serial = c.put_in.ensures.items ∙ ap (insert_at by_name c.put_in.ensures.place) c.get-2.ensures.number in
+    let under : (h : ℕ) → serials_at c.put_in.new.by_name.facts h ≡ cond (nat_eq (name_hash c.self.inside.seed c.args.typ c.args.description) h) (serials_at by_name h ++ c.in-Some.serial ∷ []) (serials_at by_name h) =
+    λ h. c.in_ok-put_in.ensures.ok h
+    ∙ ap (λ n. cond (nat_eq n h) (serials_at by_name h ++ c.get.result ∷ []) (serials_at by_name h)) c.hash_of-hash.ensures
+    ∙ ap (λ k. cond (nat_eq (name_hash c.self.inside.seed c.args.typ c.args.description) h) (serials_at by_name h ++ k ∷ []) (serials_at by_name h)) c.get.ensures.number in
     record {
       held = held_made_so known c.in-Some.serial key c.unwrap_or-number.result c.insert-2.new.self.facts c.insert.new.self.facts c.draw.new.self put
           (cc (c.insert.ensures.facts, c.get-3.ensures.number)) c.in-Some.ensures.cases.1 (rw which number) held;
-      index = rw (put, items) (index_with keys by_name index c.in-Some.serial key c.put_in.ensures.place new there);
-      counts = rw put (counts_with keys c.reserve-4.new.self.facts c.one_more.new.counts.facts c.in-Some.serial key counts new c.one_more.ensures);
+      index = rw put (index_with c.self.inside.seed keys by_name index c.in-Some.serial key c.put_in.new.by_name.facts new under);
+      counts = rw put (counts_with keys c.reserve-3.new.self.facts c.one_more.new.counts.facts c.in-Some.serial key counts new c.one_more.ensures);
     }
 
 pub returns-clause-ok : goal.returns-clause-ok

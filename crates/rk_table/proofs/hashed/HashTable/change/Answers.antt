@@ -1,0 +1,24 @@
+use Rattle.std.proofs.Common.{◌≡◌, Some, None, nat_eq, is_some, ap, sym, subst, ◌∙◌}
+use Rattle.std.specs.Map.{lookup}
+use Rattle.std.specs.Option.{option_copied_mut}
+use Rattle.std.specs.FinMap as map
+use Rattle.rk_table.specs.Maps.{changed_at}
+use Rattle.rk_table.proofs.LookedUp.{LooksUp, changed_hashed, not_changed_hashed}
+use Rattle.rk_table.proofs.hashed.HashTable.change.Goals as goal
+
+pub returns-in_default-clause-facts : goal.returns-in_default-clause-facts
+returns-in_default-clause-facts g c =
+    let f = g.C.ChangeOnce.changed c.args.change in
+    let is : lookup (nat_eq c.args.key) c.self.inside.entries.entries ≡ None = sym c.get_mut.ensures.value ∙ ap option_copied_mut c.in_default.is in
+    ap (λ m. map.from_entries m.entries) c.get_mut.follows.holds-at-none
+    ∙ not_changed_hashed f c.self.inside.entries.entries c.args.key is ∙ ap (λ s. changed_at c.args.key f s.facts) c.self.view_is
+
+pub returns-clause-facts : goal.returns-clause-facts
+returns-clause-facts g c =
+    let f = g.C.ChangeOnce.changed c.args.change in
+    let is : lookup (nat_eq c.args.key) c.self.inside.entries.entries ≡ Some c.in-Some.value.now = sym c.get_mut.ensures.value ∙ ap option_copied_mut c.in-Some.is in
+    let old = c.self.inside.entries.entries in
+    let new = (c.get_mut.follows.lender c.change.new.value).entries in
+    changed_hashed f old new c.args.key c.in-Some.value.now is
+    (subst (λ v. LooksUp c.args.key (Some v) old new) c.change.ensures ((c.get_mut.follows.holds c.change.new.value).3 (ap is_some is)).0)
+    ∙ ap (λ s. changed_at c.args.key f s.facts) c.self.view_is
