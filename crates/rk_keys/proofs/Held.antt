@@ -8,7 +8,7 @@ use Rattle.std.specs.FinSet as set
 use Rattle.std.proofs.lemmas.Bool.{eq-eqb, ne_eqb, both_ways, cases_eq, or_parts}
 use Rattle.std.proofs.lemmas.Option.{none-some, same_Some}
 use Rattle.rk_table.proofs.Entries.{tie}
-use Rattle.rk_table.proofs.Gets.{get_changed_at, contains_key_changed_at}
+use Rattle.rk_table.proofs.Gets.{get_changed_at, contains_key_changed_at, at_new, at_other, left_in, taken_out}
 use Rattle.rk_keys.specs.declared.key.Key.{Key}
 use Rattle.rk_keys.specs.declared.key.Condition.{Condition}
 use Rattle.rk_keys.specs.Key.{have_one_name}
@@ -19,18 +19,6 @@ use Rattle.rk_keys.proofs.Names.{SharesNumber, have_one_name-sym, have_one_name-
 -- ---- a map with one entry put in or taken out
 
 module _ {V : Type 0} where
-  pub at_new : (m : map.FinMap nat_cmp V) (k : ℕ) (v : V) (q : ℕ) → q ≡ k → map.get (map.insert m k v) q ≡ Some v
-  at_new m k v q e = map.get-insert nat_cmp_total m k v q ∙ ap (λ b. cond b (Some v) (map.get m q)) (tie q k ∙ eq-eqb k q (sym e))
-
-  pub at_other : (m : map.FinMap nat_cmp V) (k : ℕ) (v : V) (q : ℕ) → (q ≡ k → ⊥) → map.get (map.insert m k v) q ≡ map.get m q
-  at_other m k v q ne = map.get-insert nat_cmp_total m k v q ∙ ap (λ b. cond b (Some v) (map.get m q)) (tie q k ∙ ne_eqb k q (λ e. ne (sym e)))
-
-  pub left_in : (m : map.FinMap nat_cmp V) (k q : ℕ) → (q ≡ k → ⊥) → map.get (map.remove m k) q ≡ map.get m q
-  left_in m k q ne = map.get-remove nat_cmp_total m k q ∙ ap (λ b. cond b None (map.get m q)) (tie q k ∙ ne_eqb k q (λ e. ne (sym e)))
-
-  pub taken_out : (m : map.FinMap nat_cmp V) (k q : ℕ) → q ≡ k → map.get (map.remove m k) q ≡ None
-  taken_out m k q e = map.get-remove nat_cmp_total m k q ∙ ap (λ b. cond b None (map.get m q)) (tie q k ∙ eq-eqb k q (sym e))
-
   kept_from : (m : map.FinMap nat_cmp V) (k q : ℕ) (v : V) → map.get (map.remove m k) q ≡ Some v → map.get m q ≡ Some v
   kept_from m k q v is = elim (cases_eq q k) [ inl e ↦ absurd (none-some v (sym (taken_out m k q e) ∙ is)) | inr ne ↦ sym (left_in m k q ne) ∙ is ]
 

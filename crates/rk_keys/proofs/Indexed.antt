@@ -8,13 +8,13 @@ use Rattle.std.specs.FinMap as map
 use Rattle.std.proofs.lemmas.Bool.{eq-eqb, ne_eqb, eqb-true, both_ways, cases_eq, and_parts, false_from_ne_true}
 use Rattle.std.proofs.lemmas.Slice.Eq.{bytes_eq-Decides}
 use Rattle.rk_lemmas.proofs.Options.{passing}
-use Rattle.rk_table.proofs.Gets.{get_changed_at, get_inserted, get_removed}
+use Rattle.rk_table.proofs.Gets.{get_changed_at, get_inserted, get_removed, at_new, at_other, left_in, taken_out}
 use Rattle.rk_table.specs.Maps.{changed_at}
 use Rattle.rk_keys.specs.declared.key.Key.{Key}
 use Rattle.rk_keys.specs.Key.{has_name, is_named, key_passes}
 use Rattle.rk_keys.specs.Known.{IsNaming}
 use Rattle.rk_keys.specs.Buckets.{name_hash, serials_at, IsIndex}
-use Rattle.rk_keys.proofs.Held.{KeepsName, at_new, at_other, left_in, taken_out}
+use Rattle.rk_keys.proofs.Held.{KeepsName}
 
 abbrev Keys : Type 0
 Keys = map.FinMap nat_cmp Key

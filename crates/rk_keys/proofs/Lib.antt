@@ -3,6 +3,5 @@ pub mod Drawn
 pub mod Names
 pub mod Held
 pub mod Refused
-pub mod Counts
 pub mod Indexed
 pub mod UserCounts

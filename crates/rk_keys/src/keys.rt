@@ -16,10 +16,10 @@ use crate::changes::{Conclude, Mark, Time};
 use crate::fault::KeyFault;
 use crate::key::{Condition, Key, Standing};
 use crate::naming::{leave_name, number_of};
-use crate::owners::{count_of, leave, one_more};
+use crate::owners::leave;
 use crate::serials::Serials;
 use rk_names::{Description, KeyError, Moment, NameNo, Payload, Serial, TypeName};
-use rk_table::HashTable;
+use rk_table::{Counts, HashTable};
 use std::alloc::{AllocError, Global};
 use std::marker::Model;
 
@@ -34,7 +34,7 @@ pub struct Keys {
     /// The serials of the keys, by the hashes of their names.
     by_name: HashTable<Bucket>,
     /// How many keys each user has.
-    counts: HashTable<u32>,
+    counts: Counts,
     /// Which serials were drawn, and which is the next.
     serials: Serials,
     /// With what names are hashed.
@@ -79,7 +79,7 @@ impl Keys {
             facts: HashTable::with_room(alloc, Keys::MAX_PER_USER)?,
             numbers: HashTable::with_room(alloc, Keys::MAX_PER_USER)?,
             by_name: HashTable::with_room(alloc, Keys::MAX_PER_USER)?,
-            counts: HashTable::with_room(alloc, 1)?,
+            counts: Counts::with_room(alloc, 1)?,
             serials: Serials::new(first, stride),
             seed,
             alloc,
@@ -140,7 +140,7 @@ impl Keys {
     pub fn is_full(&self, owner: u32) -> bool
         ensures { result ≡ has_all_keys self.now.keys owner }
     {
-        count_of(&self.counts, owner) >= Keys::MAX_PER_USER as u32
+        self.counts.of(owner) >= Keys::MAX_PER_USER as u32
     }
 
     /// Whether so many serials are left.
@@ -207,7 +207,7 @@ impl Keys {
         self.numbers.insert(serial.get(), number);
         self.facts
             .insert(serial.get(), Key::new(typ, description, owner, payload));
-        one_more(&mut self.counts, owner);
+        self.counts.one_more(owner);
         self.serials = drawn;
         Ok(serial)
     }

@@ -4,5 +4,6 @@ pub mod Links
 pub mod Named
 pub mod Changed
 pub mod Made
+pub mod Counted
 pub mod Seen
 pub mod SeenPlaces

@@ -5,7 +5,7 @@ use Rattle.std.specs.Option.{option_map_or}
 use Rattle.std.specs.List.{list_any}
 use Rattle.std.specs.Ordering.{nat_cmp, eq_by_cmp}
 use Rattle.std.specs.Cmp.{nat_cmp_total}
-use Rattle.std.specs.FinMap.{FinMap, get, values, len, insert, remove, empty, contains_key, get-insert, get-empty, same_map, nat_cmp-IsAntisymmetric}
+use Rattle.std.specs.FinMap.{FinMap, get, values, len, insert, remove, empty, contains_key, get-insert, get-empty}
 use Rattle.std.proofs.lemmas.Bool.{both_ways, eqb-true, eq-eqb, le-ltb, ne_eqb, leb-false, not-false}
 use Rattle.rk_names.specs.Numbers.{serial_of}
 use Rattle.rk_table.specs.Maps.{kept_where}
@@ -22,10 +22,6 @@ if_some t (Some x) h = refl
 not_kept : {A : Type 0} (t : A → Bool) (o : Option A) (x : A) → o ≡ Some x → t x ≡ false → is_some (cond (option_map_or t o false) o None) ≡ false
 not_kept t o x is fails = ap (λ (o : Option _). is_some (cond (option_map_or t o false) o None)) is ∙ ap (λ b. is_some (cond b (Some x) None)) fails
 
-none_passes : {A : Type 0} (o : Option A) → cond (option_map_or (λ _. false) o false) o None ≡ None
-none_passes None = refl
-none_passes (Some x) = refl
-
 second_true : (a b : Bool) → (not a && b) ≡ true → b ≡ true
 second_true true b h = absurd (both_ways false refl h)
 second_true false b h = h
@@ -36,9 +32,6 @@ module _ {X : Type 0} where
 
   pub rest_within : (m : FinMap nat_cmp X) (k : ℕ) → IsWithin (remove m k) m
   rest_within m k q h = second_true _ _ (sym (contains_key-remove m k q) ∙ h)
-
-  pub none_kept : (m : FinMap nat_cmp X) → kept_where (λ _ _. false) m ≡ empty
-  none_kept m = same_map nat_cmp_total nat_cmp-IsAntisymmetric _ _ (λ q. get_kept_where (λ _ _. false) m q ∙ none_passes (get m q) ∙ sym (get-empty nat_cmp q))
 
   -- an entry that does not pass is one that goes
   pub fewer_kept : (p : ℕ → X → Bool) (m : FinMap nat_cmp X) (k : ℕ) (v : X) → get m k ≡ Some v → p k v ≡ false → len (kept_where p m) < len m

@@ -7,7 +7,7 @@ use Rattle.std.specs.Cmp.{nat_cmp_total}
 use Rattle.std.specs.FinMap as map
 use Rattle.std.proofs.lemmas.Bool.{both_ways, eq-eqb}
 use Rattle.rk_table.specs.Maps.{kept_where}
-use Rattle.rk_rings.specs.Numbered.{Numbered, HasEachNameOnce, links_with, linked_in_room, is_full, unlinked, cleared}
+use Rattle.rk_rings.specs.Numbered.{Numbered, HasEachNameOnce, links_with, linked_in_room, is_full, unlinked}
 use Rattle.rk_rings.proofs.Finds.{tied}
 use Rattle.rk_table.proofs.Gets.{get_kept_where}
 
@@ -89,6 +89,3 @@ no_link j n e = let h : None ≡ Some n = sym (map.get-empty nat_cmp j) ∙ e in
 
 pub once_empty : HasEachNameOnce map.empty
 once_empty i j n a b = absurd (no_link i n a)
-
-pub once_cleared : (r : Numbered) → HasEachNameOnce r.links → HasEachNameOnce (cleared r).links
-once_cleared r once = once_empty

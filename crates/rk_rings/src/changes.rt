@@ -41,36 +41,6 @@ impl ChangeOnce<Row> for Unlink {
     }
 }
 
-/// Takes out all links.
-#[derive(Clone, Copy)]
-pub struct Clear;
-
-impl ChangeOnce<Row> for Clear {
-    ghost use Rattle.rk_rings.specs.Numbered.{cleared};
-
-    ghost changed = { λ _ r. cleared r };
-
-    fn change(self, row: &mut Row) {
-        let Clear = self;
-        row.clear();
-    }
-}
-
-/// Rings in which a key is linked.
-#[derive(Clone, Copy)]
-pub struct Holds(pub Serial);
-
-impl Test<Row> for Holds {
-    ghost use Rattle.std.specs.FinMap as map;
-
-    ghost passes = { λ t ring r. map.contains_key r.links t.0 };
-
-    fn passes(&self, ring: u32, row: &Row) -> bool {
-        let _ = ring;
-        row.holds(self.0)
-    }
-}
-
 /// User rings of a user.
 #[derive(Clone, Copy)]
 pub struct IsUserRing(pub u32);

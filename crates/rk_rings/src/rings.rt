@@ -1,15 +1,18 @@
 //! All rings.
-ghost use Rattle.std.specs.Prelude.{◌≡◌, ◌≤◌, IfOk, vec_len};
+ghost use Rattle.std.specs.Prelude.{◌≡◌, ◌≤◌, ◌-◌, ◌==◌, ℕ, false, IfOk, vec_len, if◌then◌else◌};
+ghost use Rattle.std.specs.Option.{option_map_or};
+ghost use Rattle.rk_table.specs.Stored.{places};
+ghost use Rattle.rk_table.specs.Counts.{count_at, ArePositive};
 ghost use Rattle.std.specs.Prelude.{map as list_map};
 ghost use Rattle.rk_rings.specs.Numbered.{new_ring, AreSerials};
 ghost use Rattle.rk_rings.specs.Making.{with_entries, HasEachNew};
 
-use crate::changes::{Clear, Holds, IsUserRing, Link, Unlink};
+use crate::changes::{IsUserRing, Link, Unlink};
 use crate::fault::RingFault;
 use crate::kind::{NewRing, RingKind};
-use crate::row::Row;
+use crate::row::{MAX_LINKS, Row};
 use rk_names::{NameNo, Serial};
-use rk_table::Table;
+use rk_table::{Counts, Table};
 use std::alloc::{AllocError, Global};
 use std::marker::Model;
 
@@ -24,6 +27,8 @@ pub const MAX_RINGS: usize = 1_024;
 pub struct Rings {
     /// Each ring by its serial.
     rows: Table<Row>,
+    /// In how many rings each key is linked.
+    counts: Counts,
 }
 
 impl Model for Rings {
@@ -32,6 +37,7 @@ impl Model for Rings {
     ghost use Rattle.std.specs.Ordering.{nat_cmp};
     ghost use Rattle.std.specs.FinMap as map;
     ghost use Rattle.rk_rings.specs.Numbered.{Numbered, numbered_code, AreSerials, HaveEachNameOnce};
+    ghost use Rattle.rk_rings.specs.Counted.{AreCounted};
 
     ghost Value = { map.FinMap nat_cmp Numbered };
 
@@ -39,7 +45,7 @@ impl Model for Rings {
 
     ghost view = { λ r. r.rows.facts };
 
-    ghost invariant = { λ r. (map.len r.rows.facts ≤ 1024) × AreSerials r.rows.facts × HaveEachNameOnce r.rows.facts };
+    ghost invariant = { λ r. record { rows : (map.len r.rows.facts ≤ 1024) × AreSerials r.rows.facts × HaveEachNameOnce r.rows.facts; counted : AreCounted r.rows.facts r.counts } };
 }
 
 impl Rings {
@@ -55,6 +61,7 @@ impl Rings {
     {
         Rings {
             rows: Table::new(alloc),
+            counts: Counts::new(alloc),
         }
     }
 
@@ -104,11 +111,11 @@ impl Rings {
         }
     }
 
-    /// Whether the key is linked in some ring. It asks one ring after another, up to the first that holds it.
+    /// Whether the key is linked in some ring. It asks no ring: the links of each key are counted.
     pub fn is_held(&self, key: Serial) -> bool
         ensures { result ≡ is_held self.now key }
     {
-        self.rows.any(&Holds(key))
+        self.counts.of(key.get()) > 0
     }
 
     /// A key that is linked in the ring; `None` where there is none, or no such ring.
@@ -149,6 +156,10 @@ impl Rings {
         if self.rows.reserve(rows.len()).is_err() {
             return Err(RingFault::NoMemory);
         }
+        let links = MAX_LINKS * (self.rows.len() + rows.len());
+        let Ok(()) = self.counts.reserve(links.saturating_sub(self.counts.len())) else {
+            return Err(RingFault::NoMemory);
+        };
         insert_rows(&mut self.rows, rows);
         Ok(())
     }
@@ -168,10 +179,16 @@ impl Rings {
         if !self.contains(ring) {
             return Err(RingFault::NoRing);
         }
-        if !self.holds(ring, key) && self.is_full(ring, Some(name)) {
+        if self.holds(ring, key) {
+            return Ok(());
+        }
+        if self.is_full(ring, Some(name)) {
             return Err(RingFault::Full);
         }
+        let rival = self.find_in(ring, name);
         self.rows.change(ring.get(), Link { key, name });
+        count_gone(&mut self.counts, &rival);
+        self.counts.one_more(key.get());
         Ok(())
     }
 
@@ -192,8 +209,16 @@ impl Rings {
         if !self.holds(ring, key) {
             return Err(RingFault::NotLinked);
         }
-        self.rows.change(ring.get(), Unlink(key));
+        self.take_out(ring, key);
         Ok(())
+    }
+
+    fn take_out(&mut self, ring: Serial, key: Serial)
+        requires { holds self.old ring key ≡ true }
+        ensures { self.new ≡ changed_at ring (unlinked key) self.old }
+    {
+        self.rows.change(ring.get(), Unlink(key));
+        self.counts.one_less(key.get());
     }
 
     /// Takes out all links of a ring. It takes no memory (keyctl_clear(3)).
@@ -208,8 +233,17 @@ impl Rings {
         if !self.contains(ring) {
             return Err(RingFault::NoRing);
         }
-        self.rows.change(ring.get(), Clear);
+        self.empty(ring);
         Ok(())
+    }
+
+    /// Takes the links out one by one, since each is counted.
+    fn empty(&mut self, ring: Serial)
+        ensures { self.new ≡ changed_at ring cleared self.old }
+    {
+        while let Some(key) = self.first_key(ring) {
+            self.take_out(ring, key);
+        }
     }
 
     /// Drops a ring with its links. It takes no memory.
@@ -224,6 +258,7 @@ impl Rings {
         if !self.contains(ring) {
             return Err(RingFault::NoRing);
         }
+        self.empty(ring);
         self.rows.remove(ring.get());
         Ok(())
     }
@@ -234,6 +269,17 @@ impl Rings {
         ensures { IsMatch self.now name (Some ring) result }
     {
         self.row(ring)?.find(name)
+    }
+}
+
+/// Counts a link of a key that has given way, where one has.
+fn count_gone(counts: &mut Counts, rival: &Option<Serial>)
+    ensures each { (k : ℕ) → count_at counts.new.facts k ≡ count_at counts.old.facts k - (if option_map_or (λ r. r == k) rival.now false then 1 else 0) }
+    ensures positive { ArePositive counts.old.facts → ArePositive counts.new.facts }
+    ensures places { places counts.new ≡ places counts.old }
+{
+    if let Some(rival) = rival {
+        counts.one_less(rival.get());
     }
 }
 

@@ -39,7 +39,7 @@ impl Row {
     ghost use Rattle.std.specs.Prelude.{◌≡◌, ◌||◌, not, false, true, Some, None, IfOk, MatchOption, ℕ};
     ghost use Rattle.std.specs.FinMap as map;
     ghost use Rattle.std.specs.Option.{option_map_or};
-    ghost use Rattle.rk_rings.specs.Numbered.{is_full, has_number, linked, unlinked, cleared, new_ring};
+    ghost use Rattle.rk_rings.specs.Numbered.{is_full, has_number, linked, unlinked, new_ring};
 
     /// An empty ring, with its places.
     pub fn new(alloc: Global, wanted: NewRing) -> Result<Row, AllocError>
@@ -128,13 +128,6 @@ impl Row {
     {
         self.links.remove(key.get());
     }
-
-    /// Takes out all links. It takes no memory.
-    pub fn clear(&mut self)
-        ensures { self.new ≡ cleared self.old }
-    {
-        self.links.retain(&IsNone);
-    }
 }
 
 /// Links of keys whose name has this number.
@@ -180,21 +173,5 @@ impl Test<NameNo> for IsThere {
         let _ = key;
         let _ = value;
         true
-    }
-}
-
-/// No link.
-#[derive(Clone, Copy)]
-struct IsNone;
-
-impl Test<NameNo> for IsNone {
-    ghost use Rattle.std.specs.Prelude.{false};
-
-    ghost passes = { λ _ k n. false };
-
-    fn passes(&self, key: u32, value: &NameNo) -> bool {
-        let _ = key;
-        let _ = value;
-        false
     }
 }

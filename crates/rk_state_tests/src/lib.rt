@@ -8,12 +8,14 @@
 //!
 //! # How it is built
 //!
-//! A module for each library: `table` for rk_table, `keys` for rk_keys, `rings` for rk_rings, `auths` for rk_auth, `machine` for rk_machine.
+//! A module for each library: `table` and `hashed` for rk_table, `keys` for rk_keys, `rings` for rk_rings, `auths` for rk_auth, `machine` for rk_machine.
 //! `same` compares a value with the one that was worked out. `proofs/Rising.antt` is for the rings that are made together.
 #![tactic(auto)]
 
 #[cfg(test)]
 mod auths;
+#[cfg(test)]
+mod hashed;
 #[cfg(test)]
 mod keys;
 #[cfg(test)]

@@ -5,7 +5,7 @@ use Rattle.std.specs.Option.{option_map_or}
 use Rattle.std.specs.Ordering.{nat_cmp}
 use Rattle.std.specs.Cmp.{nat_cmp_total}
 use Rattle.std.specs.FinMap.{FinMap, get, contains_key, insert, remove, get-insert, get-remove, get-retain_keys, nat_cmp-IsAntisymmetric}
-use Rattle.std.proofs.lemmas.Bool.{eqb-true}
+use Rattle.std.proofs.lemmas.Bool.{eqb-true, eq-eqb, ne_eqb}
 use Rattle.rk_table.specs.Maps.{changed_at, kept_where}
 use Rattle.rk_table.proofs.Entries.{tie}
 
@@ -17,6 +17,18 @@ module _ {V : Type 0} where
   -- with an entry taken out
   pub get_removed : (m : FinMap nat_cmp V) (k q : ℕ) → get (remove m k) q ≡ cond (nat_eq k q) None (get m q)
   get_removed m k q = get-remove nat_cmp_total m k q ∙ ap (λ b. cond b None (get m q)) (tie q k)
+
+  pub at_new : (m : FinMap nat_cmp V) (k : ℕ) (v : V) (q : ℕ) → q ≡ k → get (insert m k v) q ≡ Some v
+  at_new m k v q e = get_inserted m k v q ∙ ap (λ b. cond b (Some v) (get m q)) (eq-eqb k q (sym e))
+
+  pub at_other : (m : FinMap nat_cmp V) (k : ℕ) (v : V) (q : ℕ) → (q ≡ k → ⊥) → get (insert m k v) q ≡ get m q
+  at_other m k v q ne = get_inserted m k v q ∙ ap (λ b. cond b (Some v) (get m q)) (ne_eqb k q (λ e. ne (sym e)))
+
+  pub left_in : (m : FinMap nat_cmp V) (k q : ℕ) → (q ≡ k → ⊥) → get (remove m k) q ≡ get m q
+  left_in m k q ne = get_removed m k q ∙ ap (λ b. cond b None (get m q)) (ne_eqb k q (λ e. ne (sym e)))
+
+  pub taken_out : (m : FinMap nat_cmp V) (k q : ℕ) → q ≡ k → get (remove m k) q ≡ None
+  taken_out m k q e = get_removed m k q ∙ ap (λ b. cond b None (get m q)) (eq-eqb k q (sym e))
 
   at_value : (k : ℕ) (f : V → V) (m : FinMap nat_cmp V) (q : ℕ) (o : Option V) → get m k ≡ o
       → get (option_map_or (λ v. insert m k (f v)) o m) q ≡ cond (nat_eq k q) (option_map f (get m q)) (get m q)

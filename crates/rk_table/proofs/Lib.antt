@@ -4,3 +4,5 @@ pub mod Found
 pub mod Once
 pub mod Gets
 pub mod LookedUp
+pub mod KeptCounts
+pub mod CountsAt

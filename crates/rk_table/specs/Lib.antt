@@ -2,3 +2,4 @@ pub mod Maps
 pub mod Entries
 pub mod Stored
 pub mod Says
+pub mod Counts

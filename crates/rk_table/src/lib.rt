@@ -19,20 +19,22 @@
 //! [`ChangeOnce`] and says in its ghost member what it makes of the value; all values by one that implements [`Change`]; a [`Test`]
 //! picks entries in the same way.
 //!
-//! A `Table` is for what has a bound, as the links of a ring, and a `HashTable` for what has none, as the keys.
+//! A `Table` is for what has a bound, as the links of a ring, and a `HashTable` for what has none, as the keys. [`Counts`] is a `Table` of counts.
 //!
 //! # How it is built
 //!
 //! `table` has the table, `places` the search. A plain vector of entries in the order of their keys, each key once, so that a search halves
 //! it: `get`, `contains` and `change` look at 8 entries where 256 are held. `insert` and `remove` search alike, and then the entries
 //! of greater keys move by one place, in one piece; keys that come rising, as serials do, are put at the end. `any`, `find`, `change_all`
-//! and `retain` walk over all entries. `hashed` has the other, over an `indexmap`, whose entries are found by the hashes of their keys. No
-//! contract says how entries lie, so that another index can take its place.
+//! and `retain` walk over all entries. `hashed` has the other, over an `indexmap`, whose entries are found by the hashes of their keys. `counts`
+//! counts numbers in a `Table`. No contract says how entries lie, so that another index can take its place.
 #![tactic(auto)]
 
+mod counts;
 mod hashed;
 mod places;
 mod table;
 
+pub use counts::Counts;
 pub use hashed::HashTable;
 pub use table::{Change, ChangeOnce, Table, Test};

@@ -1,7 +1,7 @@
 use Rattle.std.proofs.Common.{◌∙◌, ap, refl}
 use Rattle.std.specs.FinMap as map
 use Rattle.rk_keys.specs.Buckets.{serials_at}
-use Rattle.rk_keys.proofs.Held.{taken_out}
+use Rattle.rk_table.proofs.Gets.{taken_out}
 use Rattle.rk_keys.proofs.Indexed.{serials_pushed, serials_back}
 use Rattle.rk_keys.proofs.by_name.put_in.Goals as goal
 

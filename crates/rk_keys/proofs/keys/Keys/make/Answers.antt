@@ -8,7 +8,8 @@ use Rattle.rk_keys.specs.Serials.{IsNext, with_drawn}
 use Rattle.rk_keys.specs.Known.{Known, new_key, IsHeld}
 use Rattle.rk_keys.specs.Names.{IsNumberFor}
 use Rattle.rk_keys.proofs.Names.{number_of_new, number_for_new}
-use Rattle.rk_keys.proofs.Held.{held_made_so, at_new}
+use Rattle.rk_keys.proofs.Held.{held_made_so}
+use Rattle.rk_table.proofs.Gets.{at_new}
 use Rattle.rk_keys.specs.Buckets.{IsIndex, name_hash, serials_at}
 use Rattle.rk_keys.proofs.Indexed.{index_with, index_same}
 use Rattle.rk_keys.specs.Owners.{AreCounts}
@@ -66,7 +67,7 @@ invariant_of-self-2 c =
       held = held_made_so known c.in-Some.serial key c.unwrap_or-number.result c.insert-2.new.self.facts c.insert.new.self.facts c.draw.new.self put
           (cc (c.insert.ensures.facts, c.get-3.ensures.number)) c.in-Some.ensures.cases.1 (rw which number) held;
       index = rw put (index_with c.self.inside.seed keys by_name index c.in-Some.serial key c.put_in.new.by_name.facts new under);
-      counts = rw put (counts_with keys c.reserve-3.new.self.facts c.one_more.new.counts.facts c.in-Some.serial key counts new c.one_more.ensures);
+      counts = rw put (counts_with keys c.reserve-3.new.self.facts c.one_more.new.self.facts c.in-Some.serial key counts new c.one_more.ensures.each);
     }
 
 pub returns-clause-ok : goal.returns-clause-ok

@@ -1,8 +1,10 @@
-use Rattle.std.proofs.Common.{ap, sym, ◌∙◌}
-use Rattle.std.specs.FinMap as map
+use Rattle.std.proofs.Common.{ap, ltb, ◌∙◌}
+use Rattle.rk_table.specs.Counts.{count_at}
 use Rattle.rk_rings.specs.Numbered.{is_held}
-use Rattle.rk_rings.proofs.Finds.{any_value}
+use Rattle.rk_rings.proofs.Counted.{held_by_count}
 use Rattle.rk_rings.proofs.rings.Rings.is_held.Goals as goal
 
 pub returns : goal.returns
-returns c = c.any.ensures ∙ sym (any_value (λ r. map.contains_key r.links c.args.key) c.self.inside.rows.facts) ∙ ap (λ m. is_held m c.args.key) c.self.view_is
+returns c =
+    ap (ltb 0) (c.of.ensures ∙ ap (count_at c.self.inside.counts.facts) c.get.ensures.number ∙ c.self.invariant.counted.each c.args.key)
+    ∙ held_by_count c.self.inside.rows.facts c.args.key ∙ ap (λ m. is_held m c.args.key) c.self.view_is

@@ -1,5 +1,6 @@
 use Rattle.rk_rings.proofs.Changed.{rows-empty}
+use Rattle.rk_rings.proofs.Counted.{counted_empty}
 use Rattle.rk_rings.proofs.rings.Rings.new.Goals as goal
 
 pub invariant_of-result : goal.invariant_of-result
-invariant_of-result c = rows-empty _ c.new.ensures
+invariant_of-result c = record { rows = rows-empty _ c.new.ensures; counted = counted_empty _ _ c.new.ensures c.new-2.ensures }

@@ -13,4 +13,4 @@ once_at rings ring None is once = tt
 once_at rings ring (Some r) is once = once ring r.now (sym is)
 
 pub returns-clause-once : goal.returns-clause-once
-returns-clause-once c = once_at c.self.inside.rows.facts c.get.result c.get-2.result c.get-2.ensures c.self.invariant.2
+returns-clause-once c = once_at c.self.inside.rows.facts c.get.result c.get-2.result c.get-2.ensures c.self.invariant.rows.2

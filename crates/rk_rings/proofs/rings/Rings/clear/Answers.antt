@@ -1,6 +1,0 @@
-use Rattle.rk_rings.proofs.Named.{once_cleared}
-use Rattle.rk_rings.proofs.Changed.{rows-changed_at}
-use Rattle.rk_rings.proofs.rings.Rings.clear.Goals as goal
-
-pub invariant_of-self : goal.invariant_of-self
-invariant_of-self c = rows-changed_at _ _ _ _ c.change.ensures.facts once_cleared c.self.invariant
