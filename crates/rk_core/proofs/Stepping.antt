@@ -1,5 +1,6 @@
 -- One step, and what holds of every world.
 pub mod StepByParts
+pub mod AskByParts
 pub mod UndrawnIsNothing
 pub mod UnspentIsBuilding
 pub mod StepsKeepSound

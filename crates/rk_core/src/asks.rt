@@ -1,85 +1,19 @@
 //! One ask: whether the session may ask, and what it comes to.
 ghost use Rattle.std.specs.Prelude.{◌≡◌, None, Some, is_some, true};
+ghost use Rattle.std.specs.Bool.{MatchBool};
 ghost use Rattle.rk_auth.specs.Sessions.{session_of};
-ghost use Rattle.rk_machine.specs.Asker.{asker_of, serial_named};
-ghost use Rattle.rk_machine.specs.Asks.{is_acting, gate, ask_refusal, assume_refusal, Assumes, Asking};
-ghost use Rattle.rk_core.specs.Sound.{IsSound};
+ghost use Rattle.rk_machine.specs.Allowed.{Tells};
+ghost use Rattle.rk_machine.specs.Asker.{asker_of};
+ghost use Rattle.rk_machine.specs.Asks.{Asking};
 ghost use Rattle.rk_machine.specs.Steps.{Step};
+ghost use Rattle.rk_core.specs.Finding.{answer_of, Passes, session_refusal, is_hello, is_first};
+ghost use Rattle.rk_core.specs.Sound.{IsSound};
 
-use crate::named::serial_named;
 use crate::tables::Tables;
 use rk_keys::Condition;
-use rk_machine::{Answer, Asker, Event, Greeting, done};
+use rk_machine::{Answer, Asker, Event, Greeting};
 use rk_message::Ask;
 use rk_names::{Errno, KeyError, Moment, Serial, SessionId};
-
-// ---- the gate
-
-impl Tables {
-    /// Who may ask: one with a context, but for HELLO of a client and ASSUME of a handler.
-    fn gate(&self, id: &SessionId, ask: &Ask) -> Option<Errno>
-        ensures { result ≡ gate self.now id.now ask.now }
-    {
-        let acts = self.asker_of(id).is_some();
-        match (id, ask) {
-            (SessionId::Client(_), Ask::Hello { .. }) if acts => Some(Errno::Einval),
-            (SessionId::Client(_), Ask::Hello { .. }) => None,
-            (SessionId::Handler(_), Ask::Hello { .. }) if acts => Some(Errno::Einval),
-            (SessionId::Handler(_), Ask::Assume { .. }) => None,
-            _ if acts => None,
-            _ => Some(Errno::Eacces),
-        }
-    }
-
-    /// A session that is not there, one that waits, and the gate.
-    fn ask_refusal(&self, id: &SessionId, ask: &Ask) -> Option<Errno>
-        ensures { result ≡ ask_refusal self.now id.now ask.now }
-    {
-        if self.session(id).is_none() {
-            Some(Errno::Einval)
-        } else if self.wait_of(id).is_some() {
-            Some(Errno::Ebusy)
-        } else {
-            self.gate(id, ask)
-        }
-    }
-}
-
-// ---- ASSUME
-
-impl Tables {
-    fn assume_refusal(&self, id: &SessionId, number: i32) -> Option<Errno>
-        ensures { result ≡ assume_refusal self.now id.now number }
-    {
-        if number == 0 {
-            return None;
-        }
-        match id {
-            SessionId::Handler(own) if serial_named(number) == Some(*own) => {
-                if self.unspent(*own).is_some() {
-                    None
-                } else {
-                    Some(Errno::Ekeyrevoked)
-                }
-            }
-            _ => Some(Errno::Enokey),
-        }
-    }
-
-    /// A handler takes on the authority of its own key; 0 lays it down (keyctl_assume_authority(3)). ENOKEY for any other key,
-    /// EKEYREVOKED where it is spent.
-    fn assume(&mut self, id: &SessionId, number: i32) -> Answer
-        ensures { Assumes self.old id.now number result self.new }
-    {
-        if let Some(error) = self.assume_refusal(id, number) {
-            return Answer::Refused(error);
-        }
-        self.set_assumed(id, serial_named(number));
-        done()
-    }
-}
-
-// ---- each ask
 
 impl Tables {
     /// What a session asks is done, refused, waited for or started.
@@ -87,60 +21,85 @@ impl Tables {
         requires sound { IsSound self.old }
         ensures { Step self.old now (Event.Asked id.now ask) result self.new }
     {
-        if let Some(error) = self.ask_refusal(id, &ask) {
-            return Answer::Refused(error);
+        match self.ask(now, id, ask) {
+            Ok(answer) => answer,
+            Err(error) => Answer::Refused(error),
         }
-        self.ask(now, id, ask)
     }
 
-    fn ask(&mut self, now: Moment, id: &SessionId, ask: Ask) -> Answer
+    fn ask(&mut self, now: Moment, id: &SessionId, ask: Ask) -> Result<Answer, Errno>
         requires sound { IsSound self.old }
-        requires there { is_some (session_of self.old.sessions id.now) ≡ true }
-        ensures { Asking self.old now id.now ask result self.new }
+        ensures { Step self.old now (Event.Asked id.now ask) (answer_of result) self.new }
     {
-        match ask {
-            Ask::Hello {
-                uid,
-                gid,
-                thread,
-                process,
-                join,
-            } => {
-                let greeting = Greeting {
+        self.may_ask(id)?;
+        match self.asker(id) {
+            Ok(asker) => self.act(now, id, &asker, ask),
+            Err(_) => self.first_ask(now, id, &ask),
+        }
+    }
+
+    /// EINVAL for a session that is not there, EBUSY for one that waits.
+    fn may_ask(&self, id: &SessionId) -> Result<(), Errno>
+        ensures { Passes (session_refusal self.now id.now) result }
+    {
+        if self.session(id).is_none() {
+            Err(Errno::Einval)
+        } else if self.wait_of(id).is_some() {
+            Err(Errno::Ebusy)
+        } else {
+            Ok(())
+        }
+    }
+
+    /// An ask of a session for which nobody acts yet: HELLO of a client, ASSUME of a handler. EACCES for any other.
+    fn first_ask(&mut self, now: Moment, id: &SessionId, ask: &Ask) -> Result<Answer, Errno>
+        requires sound { IsSound self.old }
+        ensures { MatchBool (is_first id.now ask.now) (Asking self.old now id.now ask.now (answer_of result) self.new)
+            (Tells (Answer.Refused Errno.Eacces) self.old (answer_of result) self.new) }
+    {
+        let _ = now;
+        match (id, ask) {
+            (
+                SessionId::Client(_),
+                Ask::Hello {
                     uid,
                     gid,
                     thread,
                     process,
                     join,
+                },
+            ) => {
+                let greeting = Greeting {
+                    uid: *uid,
+                    gid: *gid,
+                    thread: *thread,
+                    process: *process,
+                    join: *join,
                 };
                 self.hello(id, &greeting)
             }
-            Ask::Assume { key } => self.assume(id, key),
-            Ask::Callout => self.callout(id),
-            ask => match self.asker_of(id) {
-                None => Answer::Refused(Errno::Eacces),
-                Some(asker) => self.act(now, id, &asker, ask),
-            },
+            (SessionId::Handler(_), Ask::Assume { key }) => self.assume(id, *key),
+            _ => Err(Errno::Eacces),
         }
     }
-}
 
-impl Tables {
-    /// The asks of one who acts.
-    fn act(&mut self, now: Moment, id: &SessionId, asker: &Asker, ask: Ask) -> Answer
+    /// The asks of one who acts. It has a context, so that HELLO is EINVAL.
+    fn act(&mut self, now: Moment, id: &SessionId, asker: &Asker, ask: Ask) -> Result<Answer, Errno>
         requires sound { IsSound self.old }
         requires there { is_some (session_of self.old.sessions id.now) ≡ true }
         requires asker { asker_of self.old id.now ≡ Some asker.now }
-        requires acts { is_acting ask ≡ true }
-        ensures { Asking self.old now id.now ask result self.new }
+        ensures { MatchBool (is_hello ask) (Tells (Answer.Refused Errno.Einval) self.old (answer_of result) self.new)
+            (Asking self.old now id.now ask (answer_of result) self.new) }
     {
         match ask {
+            Ask::Hello { .. } => Err(Errno::Einval),
             Ask::Request {
                 typ,
                 description,
                 callout,
                 destination,
             } => self.request(now, id, asker, typ, description, callout, destination),
+            Ask::Assume { key } => self.assume(id, key),
             Ask::Instantiate { key, payload, ring } => {
                 self.complete_key(now, asker, key, ring, Condition::Positive(payload), None)
             }
@@ -179,7 +138,7 @@ impl Tables {
                 payload,
                 ring,
             } => self.add(asker, typ, description, payload, ring),
-            Ask::Hello { .. } | Ask::Assume { .. } | Ask::Callout => unreachable!(),
+            Ask::Callout => self.callout(id),
         }
     }
 }

@@ -1,8 +1,9 @@
 //! HELLO: a client gets its context.
-ghost use Rattle.std.specs.Prelude.{◌≡◌, unwrap_or, [], IfOk, IfNone, OnOk, OnErr, IsTrue};
+ghost use Rattle.std.specs.Prelude.{◌≡◌, unwrap_or, [], IfOk, OnOk, OnErr, IsTrue};
 ghost use Rattle.rk_keys.specs.Serials.{HasSerials, Extends};
 ghost use Rattle.rk_machine.specs.World.{World};
 ghost use Rattle.rk_core.specs.Sound.{IsSound};
+ghost use Rattle.rk_core.specs.Finding.{answer_of, Passes};
 ghost use Rattle.rk_core.specs.Drafts.{drafted, IsDraftOf, IsUserRing};
 ghost use Rattle.rk_machine.specs.Hello.{join_refusal, rings_made, hello_refusal, Greets, Hellos};
 
@@ -22,49 +23,46 @@ impl Tables {
         self.rings.user_ring(uid)
     }
 
-    /// A ring to join is a session ring of the same uid.
-    fn join_refusal(&self, greeting: &Greeting) -> Option<Errno>
-        ensures { result ≡ join_refusal self.now greeting.now }
+    /// A ring to join is a session ring of the same uid. ENOKEY where there is no such ring, EACCES for any other.
+    fn may_join(&self, greeting: &Greeting) -> Result<(), Errno>
+        ensures { Passes (join_refusal self.now greeting.now) result }
     {
-        let join = greeting.join?;
+        let Some(join) = greeting.join else {
+            return Ok(());
+        };
         match self.ring_kind(join) {
-            None => Some(Errno::Enokey),
-            Some((RingKind::Session, uid)) if uid == greeting.uid => None,
-            Some(_) => Some(Errno::Eacces),
+            None => Err(Errno::Enokey),
+            Some((RingKind::Session, uid)) if uid == greeting.uid => Ok(()),
+            Some(_) => Err(Errno::Eacces),
         }
     }
 
-    fn hello_refusal(&self, greeting: &Greeting, made: u32, left: bool) -> Option<Errno>
+    /// The error of the ring to join; EDQUOT where so many rings or serials are not left.
+    fn may_greet(&self, greeting: &Greeting, made: u32, left: bool) -> Result<(), Errno>
         requires { made ≡ rings_made self.now greeting.now }
-        ensures is { result ≡ hello_refusal self.now greeting.now left }
-        ensures left { IfNone result (IsTrue left) }
+        ensures is { Passes (hello_refusal self.now greeting.now left) result }
+        ensures left { OnOk result (IsTrue left) }
     {
-        let refusal = self.join_refusal(greeting);
-        if refusal.is_some() {
-            return refusal;
-        }
+        self.may_join(greeting)?;
         if !self.has_room(made) || !left {
-            return Some(Errno::Edquot);
+            return Err(Errno::Edquot);
         }
-        None
+        Ok(())
     }
 
     /// Makes the rings of a context, and gives it to the session. All growths come before the first change.
     #[tactic(auto, unfolding(rk_machine::specs::Hello::Hellos))]
-    pub fn hello(&mut self, id: &SessionId, greeting: &Greeting) -> Answer
+    pub fn hello(&mut self, id: &SessionId, greeting: &Greeting) -> Result<Answer, Errno>
         requires sound { IsSound self.old }
-        ensures { Hellos self.old id.now greeting.now result self.new }
+        ensures { Hellos self.old id.now greeting.now (answer_of result) self.new }
     {
         let user = self.user_ring(greeting.uid);
         let made = rings_made(greeting, &user);
         let left = self.has_serials(made);
-        let refusal = self.hello_refusal(greeting, made, left);
-        if let Some(error) = refusal {
-            return Answer::Refused(error);
-        }
+        self.may_greet(greeting, made, left)?;
         match self.greet(id, greeting, &user) {
-            Ok(answer) => answer,
-            Err(_) => Answer::Refused(Errno::Enomem),
+            Ok(answer) => Ok(answer),
+            Err(_) => Err(Errno::Enomem),
         }
     }
 

@@ -1,12 +1,14 @@
 //! The asks on keys: READ, DESCRIBE, CALLOUT, REVOKE, TIMEOUT.
-ghost use Rattle.std.specs.Prelude.{◌≡◌, ◌≤◌, ◌⊎◌, None, Some, [], ◌∷◌, length, true, IfOk, MatchResult, MatchOption};
+ghost use Rattle.std.specs.Prelude.{◌≡◌, ◌≤◌, ◌⊎◌, Err, Ok, [], ◌∷◌, length, true, IfOk, IsOk, MatchOption};
 ghost use Rattle.std.specs.Bool.{MatchBool};
 ghost use Rattle.std.specs.Option.{option_map_or};
 ghost use Rattle.std.specs.FinMap as map;
 ghost use Rattle.rk_keys.specs.Key.{key_passes, is_building, is_revoked};
 ghost use Rattle.rk_keys.specs.Known.{marked, timed};
 ghost use Rattle.rk_machine.specs.Allowed.{first_of, refused_if};
-ghost use Rattle.rk_machine.specs.KeyAsks.{use_refusal, description_of, payload_by, state_word, TellsOf, TellsCallout, ReadsKey, Reads, Describes, Revokes, TimesOut, over_refusal, with_key_changed};
+ghost use Rattle.rk_machine.specs.KeyAsks.{use_refusal, description_of, payload_by, state_word, over_refusal, with_key_changed};
+ghost use Rattle.rk_machine.specs.KeyAsks.{TellsOf, TellsCallout, ReadsKey, Reads, Describes, Revokes, TimesOut};
+ghost use Rattle.rk_core.specs.Finding.{answer_of, Finds};
 
 use crate::tables::Tables;
 use itoa::Buffer;
@@ -16,17 +18,22 @@ use rk_message::{Reply, ReplyBytes};
 use rk_names::{Errno, Moment, Payload, Serial, SessionId};
 use std::alloc::{AllocError, Global};
 
-/// A copy of the bytes as a reply, or want of memory.
-fn told(alloc: Global, bytes: &[u8]) -> Answer
-    requires { length bytes.now ≤ 65533 }
-    ensures { (result ≡ Answer.Refused Errno.Enomem) ⊎ (result ≡ Answer.Done (Reply.Bytes bytes.now)) }
+/// These bytes as a reply.
+fn bytes_answer(bytes: Vec<u8>) -> Answer
+    requires { length bytes.items ≤ 65533 }
+    ensures { result ≡ Answer.Done (Reply.Bytes bytes.items) }
 {
-    let Ok(copy) = Vec::from_slice(alloc, bytes) else {
-        return Answer::Refused(Errno::Enomem);
-    };
-    match ReplyBytes::new(copy) {
-        Some(bytes) => Answer::Done(Reply::Bytes(bytes)),
-        None => unreachable!(),
+    Answer::Done(Reply::Bytes(ReplyBytes::from_checked(bytes)))
+}
+
+/// A copy of the bytes as a reply, or want of memory.
+fn copied(alloc: Global, bytes: &[u8]) -> Result<Answer, Errno>
+    requires { length bytes.now ≤ 65533 }
+    ensures { (result ≡ Err Errno.Enomem) ⊎ (result ≡ Ok (Answer.Done (Reply.Bytes bytes.now))) }
+{
+    match Vec::from_slice(alloc, bytes) {
+        Ok(copy) => Ok(bytes_answer(copy)),
+        Err(_) => Err(Errno::Enomem),
     }
 }
 
@@ -64,12 +71,12 @@ fn description(alloc: Global, fact: &Key, now: Moment) -> Result<Vec<u8>, AllocE
 
 impl Tables {
     /// The callout of the authority that is assumed (keyctl_read(3), `KEY_SPEC_REQKEY_AUTH_KEY`). ENOKEY where none is.
-    pub fn callout(&self, id: &SessionId) -> Answer
-        ensures { TellsCallout self.now id.now result self.now }
+    pub fn callout(&self, id: &SessionId) -> Result<Answer, Errno>
+        ensures { TellsCallout self.now id.now (answer_of result) self.now }
     {
         match self.assumed_authority(id) {
-            None => Answer::Refused(Errno::Enokey),
-            Some(authority) => told(self.alloc, authority.callout.as_bytes()),
+            None => Err(Errno::Enokey),
+            Some(authority) => copied(self.alloc, authority.callout.as_bytes()),
         }
     }
 
@@ -79,7 +86,7 @@ impl Tables {
         requires { map.contains_key self.now.keys key ≡ true }
         ensures { let refusal = first_of (use_refusal self.now key now ∷ refused_if (key_passes self.now.keys key is_building) Errno.Ebusy ∷ []) in
             let payload = option_map_or (λ one. payload_by one.condition) (map.get self.now.keys key) [] in
-            MatchResult result (λ p. (refusal ≡ None) × (payload ≡ p.now)) (λ e. refusal ≡ Some e) }
+            Finds refusal (λ p. payload ≡ p.now) result }
     {
         match self.keys.payload(key, now) {
             Ok(payload) => Ok(payload),
@@ -87,22 +94,24 @@ impl Tables {
         }
     }
 
-    fn read_key(&self, now: Moment, asker: &Asker, number: i32) -> Answer
-        ensures { ReadsKey self.now now asker.now number result self.now }
+    fn read_key(&self, now: Moment, asker: &Asker, number: i32) -> Result<Answer, Errno>
+        ensures { ReadsKey self.now now asker.now number (answer_of result) self.now }
     {
-        match self.own_key(asker, number) {
-            Err(error) => Answer::Refused(error),
-            Ok(key) => match self.payload(key, now) {
-                Err(error) => Answer::Refused(error),
-                Ok(payload) => told(self.alloc, payload.as_bytes()),
-            },
-        }
+        let key = self.possessed_key(asker, number)?;
+        let payload = self.payload(key, now)?;
+        copied(self.alloc, payload.as_bytes())
     }
 
     /// The payload of a key, or for -7 the callout (keyctl_read(3)). EINVAL, ENOKEY, EACCES where it is not possessed; the
     /// key's own error; EBUSY where it is under construction.
-    pub fn read(&self, now: Moment, id: &SessionId, asker: &Asker, number: i32) -> Answer
-        ensures { Reads self.now now id.now asker.now number result self.now }
+    pub fn read(
+        &self,
+        now: Moment,
+        id: &SessionId,
+        asker: &Asker,
+        number: i32,
+    ) -> Result<Answer, Errno>
+        ensures { Reads self.now now id.now asker.now number (answer_of result) self.now }
     {
         if number == -7 {
             self.callout(id)
@@ -112,87 +121,72 @@ impl Tables {
     }
 
     /// What a key is (keyctl_describe(3)). EINVAL, ENOKEY, EACCES where it is not possessed.
-    pub fn describe(&self, now: Moment, asker: &Asker, number: i32) -> Answer
-        ensures { Describes self.now now asker.now number result self.now }
+    pub fn describe(&self, now: Moment, asker: &Asker, number: i32) -> Result<Answer, Errno>
+        ensures { Describes self.now now asker.now number (answer_of result) self.now }
     {
-        match self.own_key(asker, number) {
-            Err(error) => Answer::Refused(error),
-            Ok(key) => self.described(now, key),
-        }
+        let key = self.possessed_key(asker, number)?;
+        self.described(now, key)
     }
 
-    fn described(&self, now: Moment, key: Serial) -> Answer
+    fn described(&self, now: Moment, key: Serial) -> Result<Answer, Errno>
         requires { map.contains_key self.now.keys key ≡ true }
-        ensures { TellsOf (description_of now) self.now key result self.now }
+        ensures { TellsOf (description_of now) self.now key (answer_of result) self.now }
     {
-        match self.fact(key) {
-            None => unreachable!(),
-            Some(fact) => match description(self.alloc, fact, now) {
-                Ok(bytes) => answered(bytes),
-                Err(_) => Answer::Refused(Errno::Enomem),
-            },
+        let Some(fact) = self.fact(key) else {
+            unreachable!()
+        };
+        match description(self.alloc, fact, now) {
+            Ok(bytes) => Ok(bytes_answer(bytes)),
+            Err(_) => Err(Errno::Enomem),
         }
-    }
-}
-
-/// These bytes as a reply.
-fn answered(bytes: Vec<u8>) -> Answer
-    requires { length bytes.items ≤ 65533 }
-    ensures { result ≡ Answer.Done (Reply.Bytes bytes.items) }
-{
-    match ReplyBytes::new(bytes) {
-        Some(bytes) => Answer::Done(Reply::Bytes(bytes)),
-        None => unreachable!(),
     }
 }
 
 // ---- REVOKE, TIMEOUT
 
 impl Tables {
-    fn mark(&mut self, key: Serial) -> Option<Errno>
-        ensures { MatchBool (key_passes self.old.keys key is_revoked) ((result ≡ Some Errno.Ekeyrevoked) × (self.new ≡ self.old))
-            ((result ≡ None) × (self.new ≡ with_key_changed key marked self.old)) }
+    fn mark(&mut self, key: Serial) -> Result<(), Errno>
+        ensures { MatchBool (key_passes self.old.keys key is_revoked) ((result ≡ Err Errno.Ekeyrevoked) × (self.new ≡ self.old))
+            (IsOk result × (self.new ≡ with_key_changed key marked self.old)) }
     {
         match self.keys.revoke(key) {
-            Ok(()) => None,
-            Err(fault) => Some(fault.errno()),
+            Ok(()) => Ok(()),
+            Err(fault) => Err(fault.errno()),
         }
     }
 
     /// Marks a key as revoked (keyctl_revoke(3)). EINVAL, ENOKEY, EACCES where it is not possessed; EKEYREVOKED where it is marked already.
-    pub fn revoke(&mut self, asker: &Asker, number: i32) -> Answer
-        ensures { Revokes self.old asker.now number result self.new }
+    pub fn revoke(&mut self, asker: &Asker, number: i32) -> Result<Answer, Errno>
+        ensures { Revokes self.old asker.now number (answer_of result) self.new }
     {
-        match self.own_key(asker, number) {
-            Err(error) => Answer::Refused(error),
-            Ok(key) => match self.mark(key) {
-                Some(error) => Answer::Refused(error),
-                None => done(),
-            },
-        }
+        let key = self.possessed_key(asker, number)?;
+        self.mark(key)?;
+        Ok(done())
     }
 
-    fn set_expiry(&mut self, now: Moment, key: Serial, seconds: u32) -> Option<Errno>
-        ensures { MatchOption (over_refusal self.old key now) ((result ≡ None) × (self.new ≡ with_key_changed key (timed now seconds) self.old))
-            (λ e. (result ≡ Some e) × (self.new ≡ self.old)) }
+    fn set_expiry(&mut self, now: Moment, key: Serial, seconds: u32) -> Result<(), Errno>
+        ensures { MatchOption (over_refusal self.old key now) (IsOk result × (self.new ≡ with_key_changed key (timed now seconds) self.old))
+            (λ e. (result ≡ Err e) × (self.new ≡ self.old)) }
     {
         match self.keys.set_expiry(key, now, seconds) {
-            Ok(()) => None,
-            Err(fault) => Some(fault.errno()),
+            Ok(()) => Ok(()),
+            Err(fault) => Err(fault.errno()),
         }
     }
 
     /// Lets a key expire so many seconds on, or never for 0 (keyctl_set_timeout(3)). EINVAL, ENOKEY, EACCES where it is not
     /// possessed; its own error where it stands revoked or expired.
-    pub fn set_timeout(&mut self, now: Moment, asker: &Asker, number: i32, seconds: u32) -> Answer
-        ensures { TimesOut self.old now asker.now number seconds result self.new }
+    pub fn set_timeout(
+        &mut self,
+        now: Moment,
+        asker: &Asker,
+        number: i32,
+        seconds: u32,
+    ) -> Result<Answer, Errno>
+        ensures { TimesOut self.old now asker.now number seconds (answer_of result) self.new }
     {
-        match self.own_key(asker, number) {
-            Err(error) => Answer::Refused(error),
-            Ok(key) => match self.set_expiry(now, key, seconds) {
-                Some(error) => Answer::Refused(error),
-                None => done(),
-            },
-        }
+        let key = self.possessed_key(asker, number)?;
+        self.set_expiry(now, key, seconds)?;
+        Ok(done())
     }
 }

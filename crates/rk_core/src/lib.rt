@@ -25,16 +25,20 @@
 //! The `Book` is the `Tables` (`tables`) with what holds of every world that a run leads to (`specs/Sound.antt`). `Tables` joins rk_keys, rk_rings
 //! and rk_auth into one world; each of its methods does what one definition says. `links` has the changes of rings, and takes away the keys
 //! that lose their last link, each by itself: no step goes through all keys. `search` looks up a name once, and then one key
-//! in each ring of a context. `completion`, `making`, `sessions` and `draft` are what the asks are made of; `hello`, `request`, `completing`, `key_asks`
-//! and `ring_asks` are the asks; `asks` is the gate and the dispatch, `steps` the six events, `views` what is told without a step.
+//! in each ring of a context. `completion`, `making`, `sessions` and `draft` are what the asks are made of; `named` tells who asks, and which keys
+//! and rings an ask names; `hello`, `request`, `completion_asks`, `key_asks`, `ring_asks`, `add` and `session_asks` are the asks; `asks` is the gate and
+//! the dispatch, `steps` the six events, `views` what is told without a step.
+//!
+//! A call that may refuse answers a `Result`: what it found, or the error (`specs/Finding.antt`). `asked` makes a reply of it, once.
 //!
 //! What holds of every world (`proofs/Stepping/StepsKeepSound.antt`) is proved over the twenty or so kinds of step into which rk_machine takes a step apart.
 #![tactic(auto)]
 
+mod add;
 mod asks;
 mod book;
-mod completing;
 mod completion;
+mod completion_asks;
 mod draft;
 mod hello;
 mod key_asks;
@@ -45,6 +49,7 @@ mod named;
 mod request;
 mod ring_asks;
 mod search;
+mod session_asks;
 mod sessions;
 mod steps;
 mod tables;

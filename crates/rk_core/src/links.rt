@@ -6,6 +6,7 @@ ghost use Rattle.rk_keys.specs.Key.{is_rival};
 ghost use Rattle.rk_rings.specs.Ring.{is_linked};
 ghost use Rattle.rk_machine.specs.World.{tidied};
 ghost use Rattle.rk_machine.specs.Links.{is_full_at, is_full_for, full_refusal, linked_in, unlinked_in, cleared_in};
+ghost use Rattle.rk_core.specs.Finding.{Passes};
 ghost use Rattle.rk_core.specs.Tidy.{settled_at, without_ring, StayBut, rival_in};
 
 use crate::tables::Tables;
@@ -28,13 +29,13 @@ impl Tables {
         }
     }
 
-    /// Why a key can't be linked in a ring: it is full.
-    pub fn full_refusal(&self, ring: &Option<Serial>, key: Serial) -> Option<Errno>
-        ensures { result ≡ full_refusal self.now ring.now key }
+    /// A key may be linked in a ring, where one is given, that has room for it. EDQUOT where that is full.
+    pub fn may_link(&self, ring: &Option<Serial>, key: Serial) -> Result<(), Errno>
+        ensures { Passes (full_refusal self.now ring.now key) result }
     {
         match ring {
-            Some(ring) if self.is_full_for(*ring, key) => Some(Errno::Edquot),
-            _ => None,
+            Some(ring) if self.is_full_for(*ring, key) => Err(Errno::Edquot),
+            _ => Ok(()),
         }
     }
 

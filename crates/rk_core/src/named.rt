@@ -1,10 +1,10 @@
-//! The keys and rings that an ask names, and why it is refused.
-ghost use Rattle.std.specs.Prelude.{◌≡◌, None, Some, MatchResult, true};
-ghost use Rattle.std.specs.FinMap as map;
+//! Who acts in an ask, and the keys and rings that it names.
+ghost use Rattle.std.specs.Prelude.{◌≡◌, None, Some, unwrap_or};
+ghost use Rattle.rk_rings.specs.Places.{default_ring};
 ghost use Rattle.rk_machine.specs.declared.asker.Asker.{Asker};
-ghost use Rattle.rk_machine.specs.Asker.{asker_of, serial_named, ring_for, ring_refusal, ring_or_none_refusal, known_refusal, is_possessed, key_refusal};
+ghost use Rattle.rk_machine.specs.Asker.{asker_of, serial_named, is_possessed};
 ghost use Rattle.rk_machine.specs.KeyAsks.{use_refusal};
-ghost use Rattle.rk_machine.specs.Request.{destination_of};
+ghost use Rattle.rk_core.specs.Finding.{Passes, FindsAsker, FindsRing, FindsRingOrNone, FindsKey, FindsPossessed};
 
 use crate::tables::Tables;
 use rk_keys::Standing;
@@ -19,9 +19,21 @@ pub fn serial_named(number: i32) -> Option<Serial>
     Serial::new(u32::try_from(number).ok()?)
 }
 
+// ---- who acts
+
 impl Tables {
-    /// Who acts when the session asks: nobody without a context or an assumed authority (request-key.rst).
-    pub fn asker_of(&self, id: &SessionId) -> Option<Asker>
+    /// Who acts when the session asks. EACCES where nobody does: a client that has no context, a handler that has assumed no
+    /// authority (request-key.rst).
+    pub fn asker(&self, id: &SessionId) -> Result<Asker, Errno>
+        ensures { FindsAsker self.now id.now result }
+    {
+        match self.asker_of(id) {
+            Some(asker) => Ok(asker),
+            None => Err(Errno::Eacces),
+        }
+    }
+
+    fn asker_of(&self, id: &SessionId) -> Option<Asker>
         ensures { result ≡ asker_of self.now id.now }
     {
         match id {
@@ -40,7 +52,7 @@ impl Tables {
             SessionId::Handler(_) => {
                 let session = self.session(id)?;
                 let key = session.assumed?;
-                let authority = self.holder(id, key)?;
+                let authority = self.assumed_authority(id)?;
                 Some(Asker {
                     context: authority.context,
                     assumed: Some(key),
@@ -56,47 +68,37 @@ impl Tables {
 // ---- rings
 
 impl Tables {
-    /// The ring of a number, if there is one.
-    pub fn ring_for(&self, asker: &Asker, number: i32) -> Option<Serial>
-        ensures { result ≡ ring_for self.now asker.now number }
-    {
-        let place = Place::from_number(number)?;
-        match self.ring_at(&asker.context, asker.requestor, place) {
-            Ok(ring) => Some(ring),
-            Err(_) => None,
-        }
-    }
-
-    /// Why there is none, where a ring has to be there.
-    pub fn ring_refusal(&self, asker: &Asker, number: i32) -> Option<Errno>
-        ensures { result ≡ ring_refusal self.now asker.now number }
+    /// The ring of a number, which has to be there: EINVAL for a number that names no ring, EACCES for a live ring that is not one
+    /// of the context, else ENOKEY.
+    pub fn ring(&self, asker: &Asker, number: i32) -> Result<Serial, Errno>
+        ensures { FindsRing self.now asker.now number result }
     {
         let Some(place) = Place::from_number(number) else {
-            return Some(Errno::Einval);
+            return Err(Errno::Einval);
         };
         match self.ring_at(&asker.context, asker.requestor, place) {
-            Ok(_) => None,
-            Err(fault) => Some(fault.errno()),
+            Ok(ring) => Ok(ring),
+            Err(fault) => Err(fault.errno()),
         }
     }
 
     /// The same, where 0 stands for no ring.
-    pub fn ring_or_none_refusal(&self, asker: &Asker, number: i32) -> Option<Errno>
-        ensures { result ≡ ring_or_none_refusal self.now asker.now number }
+    pub fn ring_or_none(&self, asker: &Asker, number: i32) -> Result<Option<Serial>, Errno>
+        ensures { FindsRingOrNone self.now asker.now number result }
     {
         if number == 0 {
-            None
-        } else {
-            self.ring_refusal(asker, number)
+            return Ok(None);
         }
+        let ring = self.ring(asker, number)?;
+        Ok(Some(ring))
     }
 
-    /// Where a new key goes: the ring that was named, or for 0 the default one.
-    pub fn destination(&self, asker: &Asker, number: i32) -> Serial
-        ensures { result ≡ destination_of self.now asker.now number }
+    /// Where a new key goes: the ring that was named, if one was, else the default one.
+    pub fn destination(&self, asker: &Asker, named: &Option<Serial>) -> Serial
+        ensures { result ≡ unwrap_or named.now (default_ring self.now.rings asker.now.context asker.now.requestor asker.now.setting) }
     {
-        match self.ring_for(asker, number) {
-            Some(ring) => ring,
+        match named {
+            Some(ring) => *ring,
             None => self.default_ring(&asker.context, asker.requestor, asker.setting),
         }
     }
@@ -112,9 +114,9 @@ impl Tables {
         self.is_reached(&asker.context, key) || asker.has_assumed(key)
     }
 
-    /// The key of a number, which has to be there.
-    pub fn known_key(&self, number: i32) -> Result<Serial, Errno>
-        ensures { MatchResult result (λ k. (serial_named number ≡ Some k) × (map.contains_key self.now.keys k ≡ true) × (known_refusal self.now (serial_named number) ≡ None)) (λ e. known_refusal self.now (serial_named number) ≡ Some e) }
+    /// The key of a number, which has to be there: EINVAL for 0 and below, ENOKEY where there is none.
+    pub fn key(&self, number: i32) -> Result<Serial, Errno>
+        ensures { FindsKey self.now number result }
     {
         let Some(key) = serial_named(number) else {
             return Err(Errno::Einval);
@@ -125,26 +127,27 @@ impl Tables {
         Ok(key)
     }
 
-    /// The key of a number, which has to be there and be possessed.
-    pub fn own_key(&self, asker: &Asker, number: i32) -> Result<Serial, Errno>
-        ensures { MatchResult result (λ k. (serial_named number ≡ Some k) × (map.contains_key self.now.keys k ≡ true) × (key_refusal self.now asker.now (serial_named number) ≡ None)) (λ e. key_refusal self.now asker.now (serial_named number) ≡ Some e) }
+    /// The same, and EACCES where the key is not possessed.
+    pub fn possessed_key(&self, asker: &Asker, number: i32) -> Result<Serial, Errno>
+        ensures { FindsPossessed self.now asker.now number result }
     {
-        let Some(key) = serial_named(number) else {
-            return Err(Errno::Einval);
-        };
-        if self.fact(key).is_none() {
-            return Err(Errno::Enokey);
-        }
+        let key = self.key(number)?;
         if !self.is_possessed(asker, key) {
             return Err(Errno::Eacces);
         }
         Ok(key)
     }
 
-    /// The error of a key that stands Revoked, Expired or Negative.
-    pub fn use_refusal(&self, key: Serial, now: Moment) -> Option<Errno>
-        ensures { result ≡ use_refusal self.now key now }
+    /// A key may be used, unless it stands Revoked, Expired or Negative: its error.
+    pub fn may_use(&self, key: Serial, now: Moment) -> Result<(), Errno>
+        ensures { Passes (use_refusal self.now key now) result }
     {
-        Some(self.fact(key)?.standing(now).error()?.errno())
+        let Some(fact) = self.fact(key) else {
+            return Ok(());
+        };
+        match fact.standing(now).error() {
+            Some(error) => Err(error.errno()),
+            None => Ok(()),
+        }
     }
 }

@@ -8,10 +8,9 @@ ghost use Rattle.rk_keys.specs.Serials.{HasSerials};
 ghost use Rattle.rk_table.specs.Says.{Says};
 ghost use Rattle.rk_rings.specs.Ring.{is_linked, has_link};
 ghost use Rattle.rk_rings.specs.Places.{ring_at, is_numbered_live, default_ring};
-ghost use Rattle.rk_auth.specs.Sessions.{session_of, wait_of, stage_of, unspent, assumed_authority, owned_authority};
-ghost use Rattle.rk_auth.specs.Changes.{outcome_at, session_changed, with_context, with_setting, with_assumed};
+ghost use Rattle.rk_auth.specs.Sessions.{session_of, wait_of, stage_of, unspent, assumed_authority};
+ghost use Rattle.rk_auth.specs.Changes.{outcome_at, session_changed, with_context, with_setting};
 ghost use Rattle.rk_auth.specs.Circles.{Leads};
-ghost use Rattle.rk_auth.specs.Faults.{assume_fault};
 ghost use Rattle.rk_machine.specs.World.{World, empty_world};
 ghost use Rattle.rk_machine.specs.Asker.{is_reached};
 
@@ -114,13 +113,6 @@ impl Tables {
         self.auths.assumed_authority(id)
     }
 
-    /// The authority of a key, while it is unspent, where the session has assumed it.
-    pub fn holder(&self, id: &SessionId, key: Serial) -> Option<&Authority>
-        ensures { option_copied result ≡ owned_authority self.now.sessions id.now key }
-    {
-        self.auths.holder(id, key).ok()
-    }
-
     /// Whether a client is there.
     pub fn has_client(&self, client: u32) -> bool
         ensures { result ≡ map.contains_key self.now.sessions.clients client }
@@ -140,14 +132,6 @@ impl Tables {
         ensures { self.new ≡ record self.old { sessions = session_changed id.now (with_setting setting) self.old.sessions } }
     {
         self.auths.set_setting(id, setting);
-    }
-
-    /// A session assumes the authority of a key, which has to be its own and unspent, or with `None` none.
-    pub fn set_assumed(&mut self, id: &SessionId, key: Option<Serial>)
-        requires { assume_fault self.old.sessions id.now key ≡ None }
-        ensures { self.new ≡ record self.old { sessions = session_changed id.now (with_assumed key) self.old.sessions } }
-    {
-        let _ = self.auths.assume(id, key);
     }
 
     /// The outcome of a session's wait, where it may be collected.

@@ -1,41 +1,26 @@
 -- A step, by what its call did.
 use Rattle.std.proofs.Common.{◌≡◌, ℕ, Bool, true, false, not, List, refl, sym, ap, subst}
-use Rattle.std.specs.Prelude.{Option, Some, None}
+use Rattle.std.specs.Prelude.{Option, Some}
 use Rattle.std.specs.Bool.{MatchBool}
 use Rattle.std.proofs.lemmas.Bool.{both_ways}
-use Rattle.rk_names.specs.declared.numbers.SessionId.{SessionId}
-use Rattle.rk_names.specs.declared.errors.Errno.{Errno}
 use Rattle.rk_names.specs.declared.errors.Errno.TheVariants as errno
-use Rattle.rk_message.specs.declared.ask.Ask.{Ask}
 use Rattle.rk_auth.specs.declared.construction.Stage.{Stage}
 use Rattle.rk_auth.specs.declared.construction.Stage.TheVariants.{Starting, Plain, Piped, Negating}
 use Rattle.rk_auth.specs.Sessions.{stage_of, unspent, is_running}
 use Rattle.rk_auth.specs.Changes as sessions
-use Rattle.rk_machine.specs.declared.event.Event.TheVariants.{Asked, Launched, Ended}
+use Rattle.rk_machine.specs.declared.event.Event.TheVariants.{Launched, Ended}
 use Rattle.rk_machine.specs.declared.event.Ran.{Ran}
 use Rattle.rk_machine.specs.declared.event.How.{How}
 use Rattle.rk_machine.specs.declared.event.Answer.{Answer}
-use Rattle.rk_machine.specs.declared.event.Answer.TheVariants.{Negate, Refused}
+use Rattle.rk_machine.specs.declared.event.Answer.TheVariants.{Negate}
 use Rattle.rk_machine.specs.World.{World, tidied}
 use Rattle.rk_machine.specs.Allowed.{done, refused_if}
-use Rattle.rk_machine.specs.Asks.{ask_refusal, Asking}
 use Rattle.rk_machine.specs.Completion.{ended, condition_after}
 use Rattle.rk_machine.specs.Steps.{launched, may_launch, would_negate, negating, Ends, Step}
 use Rattle.rk_core.specs.Follows.{follows}
 use Rattle.rk_core.specs.Tidy.{StayBut}
-use Rattle.rk_machine.proofs.Found.Refusals.{unless_none, unless_some}
+use Rattle.rk_machine.proofs.Found.Refusals.{unless_none}
 use Rattle.rk_core.proofs.Vanishing.OneByOne.{all_stay}
-
--- ---- an ask
-
-pub ask_refused : (old : World) (now : ℕ) (s : SessionId) (x : Ask) (e : Errno) → ask_refusal old s x ≡ Some e → Step old now (Asked s x) (Refused e) old
-unfolding Step
-ask_refused old now s x e is = unless_some (ask_refusal old s x) e old _ is
-
-pub ask_answered : (old : World) (now : ℕ) (s : SessionId) (x : Ask) (a : Answer) (new : World) → ask_refusal old s x ≡ None → Asking old now s x a new
-    → Step old now (Asked s x) a new
-unfolding Step
-ask_answered old now s x a new none h = unless_none (ask_refusal old s x) old a new _ none h
 
 -- ---- a handler starts, and ends
 

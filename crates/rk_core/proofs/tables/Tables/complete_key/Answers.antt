@@ -2,7 +2,8 @@ use Rattle.std.proofs.Common.{◌≡◌, ℕ, Bool, false, ◌||◌, refl, sym, 
 use Rattle.std.specs.Prelude.{Option, nat_eq}
 use Rattle.std.specs.Option.{option_map_or}
 use Rattle.std.proofs.lemmas.Int.{to_z-of_z}
-use Rattle.rk_machine.specs.World.{tidied}
+use Rattle.rk_machine.specs.World.{World, tidied}
+use Rattle.rk_machine.specs.declared.asker.Asker.{Asker}
 use Rattle.rk_machine.specs.Links.{linked_in}
 use Rattle.rk_machine.specs.Asker.{serial_named, ring_for}
 use Rattle.rk_machine.specs.Asks.{completion_refusal, Completes}
@@ -14,21 +15,23 @@ use Rattle.rk_core.proofs.tables.Tables.complete_key.Goals as goal
 
 pub settle_both-requires : goal.settle_both-requires
 settle_both-requires c =
+    let w : World = c.args.self.now in
+    let k : ℕ = c.in_ok-key.key in
     let some : ℕ → Bool = λ j. option_map_or (λ r. nat_eq j r) c.rival-rival.result false in
-    subst (StayBut (λ j. some j || nat_eq j c.in-Ok.key)) (sym
-    (c.complete.ensures ∙ ap (completed c.args.now c.in-Ok.key c.args.condition c.args.end) c.link.ensures))
-    (completed_stay (linked_in c.ring_for-ring.result c.in-Ok.key c.args.self.now) c.args.now c.in-Ok.key c.args.condition c.args.end some
-    (link_stay c.args.self.now c.ring_for-ring.result c.in-Ok.key some c.rival-rival.ensures (λ j key there _. c.requires.sound.tidy j key there refl)))
+    subst (StayBut (λ j. some j || nat_eq j k)) (sym (c.complete.ensures ∙ ap (completed c.args.now k c.args.condition c.args.end) c.link.ensures))
+    (completed_stay (linked_in c.in_ok-key.ring k w) c.args.now k c.args.condition c.args.end some
+    (link_stay w c.in_ok-key.ring k some c.rival-rival.ensures (λ j key there _. c.requires.sound.tidy j key there refl)))
 
-pub returns-in-Ok : goal.returns-in-Ok
-returns-in-Ok c =
+pub returns : goal.returns
+returns c =
+    let w : World = c.args.self.now in
+    let asker : Asker = c.args.asker.now in
+    let k : ℕ = c.in_ok-key.key in
     let number : to_z w32 (of_z w32 c.args.number) ≡ c.args.number = to_z-of_z w32 c.args.number c.ranges.number in
     let ring : to_z w32 (of_z w32 c.args.ring) ≡ c.args.ring = to_z-of_z w32 c.args.ring c.ranges.ring in
-    subst (λ a. Completes c.args.self.now c.args.now c.args.asker.now c.args.number c.args.ring c.args.condition c.args.end a c.settle_both.new.self)
-    (sym c.done.ensures)
-    (completes_so c.args.self.now c.args.now c.args.asker.now c.args.number c.args.ring c.args.condition c.args.end c.settle_both.new.self c.in-Ok.key
-    ((λ i. completion_refusal c.args.self.now c.args.asker.now (sym number i) (sym ring i)) ∙ c.in-Ok.ensures.2)
-    (ap serial_named (sym number) ∙ c.in-Ok.ensures.0)
-    (c.settle_both.ensures ∙ ap tidied (c.complete.ensures ∙ ap (completed c.args.now c.in-Ok.key c.args.condition c.args.end)
-    (c.link.ensures ∙ ap (λ (o : Option ℕ). linked_in o c.in-Ok.key c.args.self.now)
-    (c.ring_for-ring.ensures ∙ ap (ring_for c.args.self.now c.args.asker.now) ring)))))
+    subst (λ a. Completes w c.args.now asker c.args.number c.args.ring c.args.condition c.args.end a c.settle_both.new.self) (sym c.done.ensures)
+    (completes_so w c.args.now asker c.args.number c.args.ring c.args.condition c.args.end c.settle_both.new.self k
+    ((λ i. completion_refusal w asker (sym number i) (sym ring i)) ∙ c.in_ok-key.ensures.1)
+    (ap serial_named (sym number) ∙ c.in_ok-key.ensures.0.0)
+    (c.settle_both.ensures ∙ ap tidied (c.complete.ensures ∙ ap (completed c.args.now k c.args.condition c.args.end)
+    (c.link.ensures ∙ ap (λ (o : Option ℕ). linked_in o k w) (sym c.in_ok-key.ensures.0.2 ∙ ap (ring_for w asker) ring)))))

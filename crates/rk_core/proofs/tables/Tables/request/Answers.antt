@@ -1,11 +1,13 @@
-use Rattle.std.proofs.Common.{ℕ, sym, ap, ◌∙◌, subst}
-use Rattle.std.specs.Prelude.{Option, Some, None}
+use Rattle.std.proofs.Common.{ℕ, sym, ap, ◌∙◌, subst, w32}
+use Rattle.std.specs.Prelude.{Option, Some, None, unwrap_or}
 use Rattle.std.proofs.lemmas.Int.{to_z-of_z}
-use Rattle.std.proofs.Common.{w32}
-use Rattle.rk_rings.specs.Places.{rings_of}
+use Rattle.rk_rings.specs.Places.{rings_of, default_ring}
+use Rattle.rk_machine.specs.World.{World}
+use Rattle.rk_machine.specs.declared.asker.Asker.{Asker}
 use Rattle.rk_machine.specs.Search.{Query, Hits}
 use Rattle.rk_machine.specs.Asker.{ring_for, ring_or_none_refusal}
-use Rattle.rk_machine.specs.Request.{destination_of, Meets, Misses}
+use Rattle.rk_machine.specs.Request.{Meets, Misses}
+use Rattle.rk_core.specs.Finding.{answer_of}
 use Rattle.rk_core.proofs.Requests.RequestByParts.{requested}
 use Rattle.rk_core.proofs.Searching.WhatIsHit.{hits_of, hit_known}
 use Rattle.rk_core.proofs.tables.Tables.request.Goals as goal
@@ -13,29 +15,31 @@ use Rattle.rk_core.proofs.tables.Tables.request.Goals as goal
 pub meet-requires-clause-known : goal.meet-requires-clause-known
 meet-requires-clause-known c =
     let q : Query = record { context = c.args.asker.now.context; typ = c.args.typ; description = c.args.description; now = c.args.now } in
-    hit_known c.args.self.now q c.search-sought.result c.in-Some-hit.key c.search-sought.ensures (sym c.hit.ensures ∙ c.in-Some-hit.is)
+    hit_known c.args.self.now q c.search-sought.result c.in-Some.key c.search-sought.ensures (sym c.hit.ensures ∙ c.in-Some.is)
 
-pub returns-in-Some-hit : goal.returns-in-Some-hit
-returns-in-Some-hit c =
-    let q : Query = record { context = c.args.asker.now.context; typ = c.args.typ; description = c.args.description; now = c.args.now } in
-    requested c.args.self.now c.args.now c.args.id.now c.args.asker.now c.args.typ c.args.description c.args.callout c.args.destination c.meet.result
-    c.meet.new.self (Some c.in-Some-hit.key)
-    (sym (ap (ring_or_none_refusal c.args.self.now c.args.asker.now) (to_z-of_z w32 c.args.destination c.ranges.destination))
-    ∙ sym c.ring_or_none_refusal.ensures ∙ c.in_default.is)
-    (subst (Hits c.args.self.now q (rings_of q.context)) (sym c.hit.ensures ∙ c.in-Some-hit.is)
-    (hits_of c.args.self.now q c.search-sought.result c.search-sought.ensures))
-    (subst (λ (o : Option ℕ). Meets c.args.self.now c.args.id.now c.in-Some-hit.key o c.meet.result c.meet.new.self)
-    (c.ring_for-ring.ensures ∙ ap (ring_for c.args.self.now c.args.asker.now) (to_z-of_z w32 c.args.destination c.ranges.destination)) c.meet.ensures)
+pub returns-in-Some : goal.returns-in-Some
+returns-in-Some c =
+    let w : World = c.args.self.now in
+    let asker : Asker = c.args.asker.now in
+    let q : Query = record { context = asker.context; typ = c.args.typ; description = c.args.description; now = c.args.now } in
+    let number = to_z-of_z w32 c.args.destination c.ranges.destination in
+    requested w c.args.now c.args.id.now asker c.args.typ c.args.description c.args.callout c.args.destination (answer_of c.meet.result)
+    c.meet.new.self (Some c.in-Some.key)
+    (sym (ap (ring_or_none_refusal w asker) number) ∙ c.in_ok-named.ensures.1)
+    (subst (Hits w q (rings_of q.context)) (sym c.hit.ensures ∙ c.in-Some.is) (hits_of w q c.search-sought.result c.search-sought.ensures))
+    (subst (λ (o : Option ℕ). Meets w c.args.id.now c.in-Some.key o (answer_of c.meet.result) c.meet.new.self)
+    (sym c.in_ok-named.ensures.0 ∙ ap (ring_for w asker) number) c.meet.ensures)
 
 pub returns-in-None : goal.returns-in-None
 returns-in-None c =
-    let q : Query = record { context = c.args.asker.now.context; typ = c.args.typ; description = c.args.description; now = c.args.now } in
-    requested c.args.self.now c.args.now c.args.id.now c.args.asker.now c.args.typ c.args.description c.args.callout c.args.destination c.miss.result
+    let w : World = c.args.self.now in
+    let asker : Asker = c.args.asker.now in
+    let q : Query = record { context = asker.context; typ = c.args.typ; description = c.args.description; now = c.args.now } in
+    let number = to_z-of_z w32 c.args.destination c.ranges.destination in
+    requested w c.args.now c.args.id.now asker c.args.typ c.args.description c.args.callout c.args.destination (answer_of c.miss.result)
     c.miss.new.self None
-    (sym (ap (ring_or_none_refusal c.args.self.now c.args.asker.now) (to_z-of_z w32 c.args.destination c.ranges.destination))
-    ∙ sym c.ring_or_none_refusal.ensures ∙ c.in_default.is)
-    (subst (Hits c.args.self.now q (rings_of q.context)) (sym c.hit.ensures ∙ c.in-None.is)
-    (hits_of c.args.self.now q c.search-sought.result c.search-sought.ensures))
-    (subst (λ r. Misses c.args.self.now c.args.id.now c.args.asker.now q c.args.callout r c.miss.result c.miss.new.self)
-    (c.destination-ring.ensures ∙ ap (destination_of c.args.self.now c.args.asker.now)
-    (to_z-of_z w32 c.args.destination c.ranges.destination)) c.miss.ensures)
+    (sym (ap (ring_or_none_refusal w asker) number) ∙ c.in_ok-named.ensures.1)
+    (subst (Hits w q (rings_of q.context)) (sym c.hit.ensures ∙ c.in-None.is) (hits_of w q c.search-sought.result c.search-sought.ensures))
+    (subst (λ r. Misses w c.args.id.now asker q c.args.callout r (answer_of c.miss.result) c.miss.new.self)
+    (c.destination-ring.ensures ∙ ap (λ (o : Option ℕ). unwrap_or o (default_ring w.rings asker.context asker.requestor asker.setting))
+    (sym c.in_ok-named.ensures.0 ∙ ap (ring_for w asker) number)) c.miss.ensures)

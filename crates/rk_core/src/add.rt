@@ -1,0 +1,76 @@
+//! ADD: a key with its payload, in a ring.
+ghost use Rattle.std.specs.Prelude.{◌≡◌, ℕ, false, IfOk, OnErr};
+ghost use Rattle.rk_machine.specs.Links.{is_full_at};
+ghost use Rattle.rk_machine.specs.KeyAsks.{AddsTo, Adds};
+ghost use Rattle.rk_core.specs.Finding.{answer_of, FindsRoom};
+ghost use Rattle.rk_core.specs.Sound.{IsSound};
+
+use crate::tables::Tables;
+use rk_machine::{Answer, Asker};
+use rk_message::Reply;
+use rk_names::{Description, Errno, Payload, Serial, TypeName};
+use std::alloc::AllocError;
+
+impl Tables {
+    /// The ring of ADD, in the order of its refusals.
+    fn ring_with_room(
+        &self,
+        asker: &Asker,
+        typ: &TypeName,
+        description: &Description,
+        ring: i32,
+        left: bool,
+    ) -> Result<Serial, Errno>
+        ensures { FindsRoom self.now asker.now typ.now description.now ring left result }
+    {
+        let ring = self.ring(asker, ring)?;
+        if self.has_all_keys(asker.context.uid)
+            || !left
+            || self.is_full_at(ring, typ, description)
+        {
+            return Err(Errno::Edquot);
+        }
+        Ok(ring)
+    }
+
+    /// Makes a key with its payload, and links it in a ring, in the place of one of that name (add_key(2)). The ring's error;
+    /// EDQUOT where the user has 200 keys, no serial is left or the ring is full. All growths come before the first change.
+    #[tactic(auto, unfolding(rk_machine::specs::KeyAsks::Adds))]
+    pub fn add(
+        &mut self,
+        asker: &Asker,
+        typ: TypeName,
+        description: Description,
+        payload: Payload,
+        ring: i32,
+    ) -> Result<Answer, Errno>
+        requires sound { IsSound self.old }
+        ensures { Adds self.old asker.now typ description payload ring (answer_of result) self.new }
+    {
+        let left = self.has_serials(1);
+        let ring = self.ring_with_room(asker, &typ, &description, ring, left)?;
+        match self.add_to(asker, typ, description, payload, ring) {
+            Ok(key) => Ok(Answer::Done(Reply::Number(key.get()))),
+            Err(_) => Err(Errno::Enomem),
+        }
+    }
+
+    fn add_to(
+        &mut self,
+        asker: &Asker,
+        typ: TypeName,
+        description: Description,
+        payload: Payload,
+        ring: Serial,
+    ) -> Result<Serial, AllocError>
+        requires sound { IsSound self.old }
+        requires room { is_full_at self.old ring typ description ≡ false }
+        ensures ok { IfOk result (λ k. AddsTo self.old asker.now typ description payload ring (Answer.Done (Reply.Number k)) self.new) }
+        ensures err { OnErr result (self.new ≡ self.old) }
+    {
+        let key = self.make_key(typ, description, asker.context.uid, payload)?;
+        let ring = Some(ring);
+        self.link_tidily(&ring, key);
+        Ok(key)
+    }
+}

@@ -1,0 +1,59 @@
+//! INSTANTIATE, NEGATE, REJECT: a handler gives its key a condition.
+ghost use Rattle.std.specs.Prelude.{◌≡◌, ℕ, true, Some};
+ghost use Rattle.std.specs.FinMap as map;
+ghost use Rattle.rk_machine.specs.Asks.{Completes};
+ghost use Rattle.rk_core.specs.Finding.{answer_of, FindsOwn};
+ghost use Rattle.rk_core.specs.Sound.{IsSound};
+
+use crate::named::serial_named;
+use crate::tables::Tables;
+use rk_keys::Condition;
+use rk_machine::{Answer, Asker, done};
+use rk_names::{Errno, Moment, Serial};
+
+impl Tables {
+    /// The key that the asker may complete, and the ring in which it is to be linked, if one is named, in the order of the refusals.
+    fn own_key(
+        &self,
+        asker: &Asker,
+        number: i32,
+        ring: i32,
+    ) -> Result<(Serial, Option<Serial>), Errno>
+        ensures { FindsOwn self.now asker.now number ring result }
+    {
+        let Some(key) = serial_named(number) else {
+            return Err(Errno::Eperm);
+        };
+        if !asker.has_assumed(key) {
+            return Err(Errno::Eperm);
+        }
+        let ring = self.ring_or_none(asker, ring)?;
+        self.may_link(&ring, key)?;
+        Ok((key, ring))
+    }
+
+    /// The key is linked where it is wanted, and complete: its authority is spent, and all who wait are told
+    /// (keyctl_instantiate(3)). It takes no memory. EPERM where its authority is not assumed, then the ring's error, then
+    /// EDQUOT where that is full.
+    #[tactic(auto, unfolding(rk_machine::specs::Asks::Completes))]
+    pub fn complete_key(
+        &mut self,
+        now: Moment,
+        asker: &Asker,
+        number: i32,
+        ring: i32,
+        condition: Condition,
+        end: Option<Moment>,
+    ) -> Result<Answer, Errno>
+        requires sound { IsSound self.old }
+        requires own { (k : ℕ) → asker.now.assumed ≡ Some k → map.contains_key self.old.keys k ≡ true }
+        ensures { Completes self.old now asker.now number ring condition end (answer_of result) self.new }
+    {
+        let (key, ring) = self.own_key(asker, number, ring)?;
+        let rival = self.rival(&ring, key);
+        self.link(&ring, key);
+        self.complete(now, key, condition, end);
+        self.settle_both(rival, key);
+        Ok(done())
+    }
+}
