@@ -1,4 +1,5 @@
 -- One step, and what holds of every world.
+pub mod SessionsAlone
 pub mod StepByParts
 pub mod AskByParts
 pub mod UndrawnIsNothing

@@ -24,7 +24,7 @@ impl Tables {
         ensures { FindsRoom self.now asker.now typ.now description.now ring left result }
     {
         let ring = self.ring(asker, ring)?;
-        if self.has_all_keys(asker.context.uid)
+        if self.keys.is_full(asker.context.uid)
             || !left
             || self.is_full_at(ring, typ, description)
         {
@@ -47,7 +47,7 @@ impl Tables {
         requires sound { IsSound self.old }
         ensures { Adds self.old asker.now typ description payload ring (answer_of result) self.new }
     {
-        let left = self.has_serials(1);
+        let left = self.keys.left(1);
         let ring = self.ring_with_room(asker, &typ, &description, ring, left)?;
         match self.add_to(asker, typ, description, payload, ring) {
             Ok(key) => Ok(Answer::Done(Reply::Number(key.get()))),

@@ -42,9 +42,9 @@ impl Tables {
     fn may_ask(&self, id: &SessionId) -> Result<(), Errno>
         ensures { Passes (session_refusal self.now id.now) result }
     {
-        if self.session(id).is_none() {
+        if self.auths.session(id).is_none() {
             Err(Errno::Einval)
-        } else if self.wait_of(id).is_some() {
+        } else if self.auths.wait_of(id).is_some() {
             Err(Errno::Ebusy)
         } else {
             Ok(())

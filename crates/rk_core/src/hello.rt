@@ -58,7 +58,7 @@ impl Tables {
     {
         let user = self.user_ring(greeting.uid);
         let made = rings_made(greeting, &user);
-        let left = self.has_serials(made);
+        let left = self.keys.left(made);
         self.may_greet(greeting, made, left)?;
         match self.greet(id, greeting, &user) {
             Ok(answer) => Ok(answer),
@@ -93,7 +93,7 @@ impl Tables {
             session,
             user,
         };
-        self.set_context(id, context);
+        self.auths.set_context(id, context);
         Ok(Answer::Done(Reply::Rings {
             thread: number(&context.thread),
             process: number(&context.process),

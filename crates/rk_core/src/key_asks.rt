@@ -74,7 +74,7 @@ impl Tables {
     pub fn callout(&self, id: &SessionId) -> Result<Answer, Errno>
         ensures { TellsCallout self.now id.now (answer_of result) self.now }
     {
-        match self.assumed_authority(id) {
+        match self.auths.assumed_authority(id) {
             None => Err(Errno::Enokey),
             Some(authority) => copied(self.alloc, authority.callout.as_bytes()),
         }
@@ -132,7 +132,7 @@ impl Tables {
         requires { map.contains_key self.now.keys key ≡ true }
         ensures { TellsOf (description_of now) self.now key (answer_of result) self.now }
     {
-        let Some(fact) = self.fact(key) else {
+        let Some(fact) = self.keys.fact(key) else {
             unreachable!()
         };
         match description(self.alloc, fact, now) {

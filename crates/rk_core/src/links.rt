@@ -23,7 +23,7 @@ impl Tables {
     fn is_full_for(&self, ring: Serial, key: Serial) -> bool
         ensures { result ≡ is_full_for self.now ring key }
     {
-        match self.fact(key) {
+        match self.keys.fact(key) {
             Some(fact) => self.is_full_at(ring, &fact.typ, &fact.description),
             None => false,
         }

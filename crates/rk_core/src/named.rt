@@ -38,7 +38,7 @@ impl Tables {
     {
         match id {
             SessionId::Client(_) => {
-                let session = self.session(id)?;
+                let session = self.auths.session(id)?;
                 let assumed: Option<Serial> = None;
                 let requestor: Option<Serial> = None;
                 Some(Asker {
@@ -50,9 +50,9 @@ impl Tables {
                 })
             }
             SessionId::Handler(_) => {
-                let session = self.session(id)?;
+                let session = self.auths.session(id)?;
                 let key = session.assumed?;
-                let authority = self.assumed_authority(id)?;
+                let authority = self.auths.assumed_authority(id)?;
                 Some(Asker {
                     context: authority.context,
                     assumed: Some(key),
@@ -121,7 +121,7 @@ impl Tables {
         let Some(key) = serial_named(number) else {
             return Err(Errno::Einval);
         };
-        if self.fact(key).is_none() {
+        if self.keys.fact(key).is_none() {
             return Err(Errno::Enokey);
         }
         Ok(key)
@@ -142,7 +142,7 @@ impl Tables {
     pub fn may_use(&self, key: Serial, now: Moment) -> Result<(), Errno>
         ensures { Passes (use_refusal self.now key now) result }
     {
-        let Some(fact) = self.fact(key) else {
+        let Some(fact) = self.keys.fact(key) else {
             return Ok(());
         };
         match fact.standing(now).error() {

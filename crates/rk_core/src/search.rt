@@ -182,7 +182,7 @@ impl Tables {
         ensures { result ≡ option_and_then (λ k. option_map (λ key. record { key = k; standing = standing_of key now }) (map.get self.now.keys k)) found }
     {
         let key = found?;
-        let standing = self.fact(key)?.standing(now);
+        let standing = self.keys.fact(key)?.standing(now);
         Some(Match { key, standing })
     }
 }

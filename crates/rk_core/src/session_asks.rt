@@ -49,7 +49,7 @@ impl Tables {
         let Some(setting) = setting_asked(number, asker.setting) else {
             return Err(Errno::Einval);
         };
-        self.set_setting(id, setting);
+        self.auths.set_setting(id, setting);
         Ok(Answer::Done(Reply::Number(asker.setting.number())))
     }
 }

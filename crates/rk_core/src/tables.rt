@@ -66,121 +66,19 @@ impl Tables {
             auths,
         })
     }
-
-    /// For so many seconds a key is negative whose handler did not complete it.
-    pub fn negative(&self) -> u32
-        ensures { result ≡ self.now.negative }
-    {
-        self.negative
-    }
-}
-
-// ---- sessions
-
-impl Tables {
-    /// A session, as it stands.
-    pub fn session(&self, id: &SessionId) -> Option<&Session>
-        ensures { option_copied result ≡ session_of self.now.sessions id.now }
-    {
-        self.auths.session(id)
-    }
-
-    /// What a session waits for.
-    pub fn wait_of(&self, id: &SessionId) -> Option<Wait>
-        ensures { result ≡ wait_of self.now.sessions id.now }
-    {
-        self.auths.wait_of(id)
-    }
-
-    /// How far the construction of a key is.
-    pub fn stage(&self, key: Serial) -> Option<&Stage>
-        ensures { option_copied result ≡ stage_of self.now.sessions key }
-    {
-        self.auths.stage(key)
-    }
-
-    /// The authority of a key, while it is unspent.
-    pub fn unspent(&self, key: Serial) -> Option<&Authority>
-        ensures { option_copied result ≡ unspent self.now.sessions key }
-    {
-        self.auths.unspent(key)
-    }
-
-    /// The unspent authority that a session has assumed.
-    pub fn assumed_authority(&self, id: &SessionId) -> Option<&Authority>
-        ensures { option_copied result ≡ assumed_authority self.now.sessions id.now }
-    {
-        self.auths.assumed_authority(id)
-    }
-
-    /// Whether a client is there.
-    pub fn has_client(&self, client: u32) -> bool
-        ensures { result ≡ map.contains_key self.now.sessions.clients client }
-    {
-        self.auths.has_client(client)
-    }
-
-    /// Gives a session its context.
-    pub fn set_context(&mut self, id: &SessionId, context: Context)
-        ensures { self.new ≡ record self.old { sessions = session_changed id.now (with_context context) self.old.sessions } }
-    {
-        self.auths.set_context(id, context);
-    }
-
-    /// Gives a session its setting for new keys.
-    pub fn set_setting(&mut self, id: &SessionId, setting: Setting)
-        ensures { self.new ≡ record self.old { sessions = session_changed id.now (with_setting setting) self.old.sessions } }
-    {
-        self.auths.set_setting(id, setting);
-    }
-
-    /// The outcome of a session's wait, where it may be collected.
-    pub fn outcome(&self, id: &SessionId) -> Option<Outcome>
-        ensures { result ≡ outcome_at self.now.sessions id.now }
-    {
-        self.auths.ready(id)
-    }
-
-    /// Whether the session would wait for itself, if it waited for the key.
-    pub fn closes_circle(&self, id: &SessionId, key: Serial) -> bool
-        ensures { Says result (Leads self.now.sessions key id.now) }
-    {
-        self.auths.would_close_circle(id, key)
-    }
 }
 
 // ---- keys
 
 impl Tables {
-    /// What is known of a key.
-    pub fn fact(&self, key: Serial) -> Option<&Key>
-        ensures { option_copied result ≡ map.get self.now.keys key }
-    {
-        self.keys.fact(key)
-    }
-
     /// Whether the key is under construction.
     pub fn is_building(&self, key: Serial) -> bool
         ensures { result ≡ key_passes self.now.keys key is_building }
     {
-        match self.fact(key) {
+        match self.keys.fact(key) {
             Some(fact) => fact.is_building(),
             None => false,
         }
-    }
-
-    /// Whether the user has its 200 keys.
-    pub fn has_all_keys(&self, uid: u32) -> bool
-        ensures { result ≡ has_all_keys self.now.keys uid }
-    {
-        self.keys.is_full(uid)
-    }
-
-    /// Whether so many serials are left.
-    pub fn has_serials(&self, count: u32) -> bool
-        ensures { Says result (HasSerials self.now.serials count) }
-    {
-        self.keys.left(count)
     }
 }
 

@@ -7,6 +7,7 @@ use Rattle.rk_machine.specs.World.{World}
 use Rattle.rk_machine.specs.declared.greeting.Greeting.{Greeting}
 use Rattle.rk_machine.specs.Hello.{MakesIf, HasSessionRing, HasUserRing}
 use Rattle.rk_core.specs.Drafts.{drafted}
+use Rattle.rk_core.proofs.Stepping.SessionsAlone.{in_sessions}
 use Rattle.rk_core.proofs.Greetings.RingsFromADraft.{start_draft, nothing_drafted}
 use Rattle.rk_core.proofs.Greetings.UserRing.{KeepsUsers, keeps_all, keeps_if, keeps_session, joined_or_made, user_made}
 use Rattle.rk_core.proofs.tables.Tables.greet.Goals as goal
@@ -49,17 +50,17 @@ returns-clause-ok c =
       record { w1 = w1; w2 = w2; w3 = w3; thread_made = thread; process_made = process; session_made = session; user_made = user },
       (
         λ i. Done (Rings (c.number.ensures i) (c.number-2.ensures i) (c.get.ensures.number i) (c.get-2.ensures.number i)),
-        c.set_context.ensures
-            ∙ ap (λ (w : World). record w {
-              sessions = session_changed c.args.id.now
-                  (with_context (record {
-                    uid = g.uid;
-                    gid = g.gid;
-                    thread = c.in_ok-thread.thread;
-                    process = c.in_ok-process.process;
-                    session = c.in_ok-session.session;
-                    user = c.in_ok-user.user;
-                  })) w.sessions;
-            }) c.in_ok-take.ensures.ok,
+        let t = c.self.inside in
+            let given = with_context (record {
+              uid = g.uid;
+              gid = g.gid;
+              thread = c.in_ok-thread.thread;
+              process = c.in_ok-process.process;
+              session = c.in_ok-session.session;
+              user = c.in_ok-user.user;
+            }) in
+            in_sessions t.negative t.keys t.rings t.auths.sessions c.set_context.new.self.sessions c.take.new.self (session_changed c.args.id.now given)
+            c.self.view_is c.set_context.ensures.sessions
+            ∙ ap (λ (w : World). record w { sessions = session_changed c.args.id.now given w.sessions }) c.in_ok-take.ensures.ok,
       ),
     )

@@ -1,6 +1,9 @@
-use Rattle.std.proofs.Common.{ap, ◌∙◌, refl, inl, inr}
+use Rattle.std.proofs.Common.{ap, ◌∙◌, refl, inl, inr, subst}
 use Rattle.std.proofs.lemmas.Result.{err_from_is_err_and}
 use Rattle.rk_names.specs.Numbers.{key_errno}
+use Rattle.rk_table.specs.Says.{Says}
+use Rattle.rk_keys.specs.Serials.{HasSerials}
+use Rattle.rk_machine.specs.World.{World}
 use Rattle.rk_machine.specs.Search.{Query}
 use Rattle.rk_core.proofs.Requests.RequestByParts.{told_error, start_refused, start_allowed}
 use Rattle.rk_core.proofs.tables.Tables.miss.Goals as goal
@@ -14,20 +17,23 @@ returns-in_default c =
 pub returns-in_err-may_start : goal.returns-in_err-may_start
 returns-in_err-may_start c =
     let q : Query = record { context = c.args.asker.now.context; typ = c.args.typ; description = c.args.description; now = c.args.now } in
+    let says = subst (λ (w : World). Says c.left-left.result (HasSerials w.serials 1)) c.self.view_is c.left-left.ensures in
     let error = err_from_is_err_and c.from_residual.result c.from_residual.ensures.1 in
     rw (error.1, error.2) (start_refused c.args.self.now c.args.id.now c.args.asker.now q c.args.ring c.args.sought.now c.requires.sought c.args.callout
-    c.in-Some.callout c.has_serials-left.result _ c.in-Some.is c.has_serials-left.ensures (c.in_err-may_start.ensures.is c.args.now))
+    c.in-Some.callout c.left-left.result _ c.in-Some.is says (c.in_err-may_start.ensures.is c.args.now))
 
 pub returns-in-Ok : goal.returns-in-Ok
 returns-in-Ok c =
     let q : Query = record { context = c.args.asker.now.context; typ = c.args.typ; description = c.args.description; now = c.args.now } in
+    let says = subst (λ (w : World). Says c.left-left.result (HasSerials w.serials 1)) c.self.view_is c.left-left.ensures in
     start_allowed c.args.self.now c.args.id.now c.args.asker.now q c.args.ring c.args.sought.now c.requires.sought c.args.callout c.in-Some.callout
-    c.has_serials-left.result c.in-Ok.answer c.begin.new.self c.in-Some.is c.has_serials-left.ensures (c.in_ok-may_start.ensures.is c.args.now)
+    c.left-left.result c.in-Ok.answer c.begin.new.self c.in-Some.is says (c.in_ok-may_start.ensures.is c.args.now)
     (inr c.in-Ok.ensures.ok)
 
 pub returns-in-Err : goal.returns-in-Err
 returns-in-Err c =
     let q : Query = record { context = c.args.asker.now.context; typ = c.args.typ; description = c.args.description; now = c.args.now } in
+    let says = subst (λ (w : World). Says c.left-left.result (HasSerials w.serials 1)) c.self.view_is c.left-left.ensures in
     start_allowed c.args.self.now c.args.id.now c.args.asker.now q c.args.ring c.args.sought.now c.requires.sought c.args.callout c.in-Some.callout
-    c.has_serials-left.result _ c.begin.new.self c.in-Some.is c.has_serials-left.ensures (c.in_ok-may_start.ensures.is c.args.now)
+    c.left-left.result _ c.begin.new.self c.in-Some.is says (c.in_ok-may_start.ensures.is c.args.now)
     (inl (refl, c.in-Err.ensures.err))

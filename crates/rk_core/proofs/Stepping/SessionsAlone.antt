@@ -1,0 +1,13 @@
+-- A change of the sessions alone, as the world sees it.
+use Rattle.std.proofs.Common.{◌≡◌, ℕ, ap, ◌∙◌}
+use Rattle.rk_keys.specs.Known.{Known}
+use Rattle.rk_rings.specs.Numbered.{Rings}
+use Rattle.rk_auth.specs.Sessions.{Sessions}
+use Rattle.rk_machine.specs.World.{World}
+use Rattle.rk_core.specs.Kept.{world_of}
+
+pub in_sessions : (negative : ℕ) (known : Known) (rings : Rings) (before after : Sessions) (w : World) (f : Sessions → Sessions)
+    → world_of negative known rings before ≡ w → after ≡ f before
+    → world_of negative known rings after ≡ record w { sessions = f w.sessions }
+in_sessions negative known rings before after w f view changed =
+    (λ i. world_of negative known rings (changed i)) ∙ ap (λ (v : World). record v { sessions = f v.sessions }) view
