@@ -20,7 +20,7 @@
 //! | `ended 3 exit 0 hi` | it ended, with what it put out, if anything; or `signal`, `fault` |
 //! | `collect c1` | client 1 takes the outcome of its wait |
 //! | `gone c1` | client 1 is gone |
-//! | `ready c1`, `waits c1`, `depth 3`, `peek 3 user a`, `owes gone c1` | nothing happens: the book is only asked |
+//! | `ready c1`, `waits c1`, `there 1`, `stage 3`, `depth 3`, `peek 3 user a`, `owes gone c1`, `owed c1` | nothing happens: the book is only asked |
 //!
 //! Numbers are those of the asks themselves: rings -1 to -4 are thread, process, session and user, -8 the requestor's, 0 none.
 //!
@@ -34,7 +34,8 @@
 //! | `start 3 user a x 1000 1000 0 0 1` | a handler is to be started: the key, its type and description, the callout, and the requester's uid, gid, thread, process and session ring |
 //! | `waiting 3` | the session waits for key 3 |
 //! | `E126` | refused, by the number of errno(3) |
-//! | `yes`, `no`, `none` | what a book that was only asked says |
+//! | `yes`, `no`, `none`, `starting` | what a book that was only asked says |
+//! | `3 1` | how many steps and how many ends are owed |
 //!
 //! # How it is built
 //!

@@ -22,6 +22,12 @@ pub enum Move {
     Ready(SessionId),
     /// Does the session wait?
     Waits(SessionId),
+    /// Is the client there?
+    There(u32),
+    /// How far is the construction of the key?
+    Stage(Serial),
+    /// How many steps are owed to the client, or to the construction and its handler, and how many ends?
+    Owed(SessionId),
     /// How deep is the construction of the key?
     Depth(Serial),
     /// Is the event one that nothing may refuse?
@@ -53,6 +59,9 @@ fn read_move(alloc: Global, first: &str, words: &mut Words<'_>) -> Result<Move, 
     match first {
         "ready" => Ok(Move::Ready(words.session()?)),
         "waits" => Ok(Move::Waits(words.session()?)),
+        "there" => Ok(Move::There(words.number()?)),
+        "stage" => Ok(Move::Stage(words.serial()?)),
+        "owed" => Ok(Move::Owed(words.session()?)),
         "depth" => Ok(Move::Depth(words.serial()?)),
         "owes" => {
             let first = words.word()?;

@@ -31,7 +31,11 @@ fn said(alloc: Global, book: &mut Book, now: Moment, line: &str) -> Result<Strin
                 Err(AllocError) => Ok(shown(alloc, &answer)?),
             }
         }
-        told => Ok(play(alloc, book, now, told)?),
+        question => match play(alloc, book, now, question) {
+            Ok(words) => Ok(words),
+            Err(Fault::NoMemory) => Ok(play(alloc, book, now, read_surely(alloc, line)?.told)?),
+            Err(fault) => Err(fault.into()),
+        },
     }
 }
 

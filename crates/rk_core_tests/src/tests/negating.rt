@@ -13,6 +13,8 @@ const ENDED_UNREAD: &[Row] = &[("ended 3 fault 0123456789", "negate 3")];
 /// Another handler is to be started, which is not piped. It cannot be.
 pub(super) const FOLLOWED_BY_NONE: &[Row] = &[
     ("collect c1", "waiting 3"),
+    ("stage 3", "negating"),
+    ("owed h3", "2 1"),
     ("ended 3 exit 1", "E22"),
     ("launched 3 piped", "E22"),
     ("launched 3 failed", "0"),

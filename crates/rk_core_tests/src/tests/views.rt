@@ -26,7 +26,12 @@ const IN_PEACE: &[Row] = &[
     ("ready c1", "no"),
     ("waits h3", "no"),
     ("ready c9", "no"),
+    ("there 1", "yes"),
+    ("there 9", "no"),
+    ("stage 3", "none"),
     ("depth 3", "none"),
+    ("owed c1", "1 0"),
+    ("owed h3", "0 0"),
     ("owes launched 3 plain", "no"),
     ("owes ended 3 exit 0", "no"),
     ("owes collect c1", "no"),
@@ -43,7 +48,10 @@ const WHILE_IT_STARTS: &[Row] = &[
     ("waits c1", "yes"),
     ("waits c2", "yes"),
     ("ready c1", "no"),
+    ("stage 3", "starting"),
     ("depth 3", "1"),
+    ("owed c1", "2 0"),
+    ("owed h3", "4 2"),
     ("owes launched 3 plain", "yes"),
     ("owes launched 3 failed", "yes"),
     ("owes ended 3 exit 0", "no"),
@@ -52,6 +60,8 @@ const WHILE_IT_STARTS: &[Row] = &[
 
 const WHILE_IT_RUNS: &[Row] = &[
     ("launched 3 plain", "0"),
+    ("stage 3", "plain"),
+    ("owed h3", "1 1"),
     ("owes launched 3 plain", "no"),
     ("owes ended 3 signal", "yes"),
     ("h3 ASSUME 3", "0"),
@@ -66,6 +76,8 @@ const WHILE_IT_RUNS: &[Row] = &[
 
 const WHEN_IT_HAS_ENDED: &[Row] = &[
     ("ended 3 exit 0", "0"),
+    ("stage 3", "none"),
+    ("owed h3", "0 0"),
     ("owes ended 3 exit 0", "no"),
     ("ready c1", "yes"),
     ("owes collect c1", "yes"),
