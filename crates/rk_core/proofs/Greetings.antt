@@ -1,4 +1,4 @@
 -- HELLO and its rings.
-pub mod RingsFromADraft
+pub mod RingsOfAContext
 pub mod UserRing
 pub mod HelloTakesNothing

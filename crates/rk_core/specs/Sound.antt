@@ -5,7 +5,7 @@ use Rattle.std.specs.FinSet as set
 use Rattle.rk_keys.specs.Key.{key_passes, is_building}
 use Rattle.rk_auth.specs.Sessions.{unspent}
 use Rattle.rk_machine.specs.World.{World}
-use Rattle.rk_core.specs.Tidy.{StayBut}
+use Rattle.rk_core.specs.Vanishing.{StayBut}
 
 -- what holds of the world of every book
 pub record IsSound (w : World) : Type 0 where

@@ -70,7 +70,7 @@ impl Tables {
     {
         let key = self.make_key(typ, description, asker.context.uid, payload)?;
         let ring = Some(ring);
-        self.link_tidily(&ring, key);
+        self.link(&ring, key);
         Ok(key)
     }
 }

@@ -51,9 +51,9 @@ impl Tables {
     {
         let (key, ring) = self.own_key(asker, number, ring)?;
         let rival = self.rival(&ring, key);
-        self.link(&ring, key);
+        self.add_link(&ring, key);
         self.complete(now, key, condition, end);
-        self.settle_both(rival, key);
+        self.let_both_vanish(rival, key);
         Ok(done())
     }
 }

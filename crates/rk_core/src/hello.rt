@@ -4,10 +4,10 @@ ghost use Rattle.rk_keys.specs.Serials.{HasSerials, Extends};
 ghost use Rattle.rk_machine.specs.World.{World};
 ghost use Rattle.rk_core.specs.Sound.{IsSound};
 ghost use Rattle.rk_core.specs.Finding.{answer_of, Passes};
-ghost use Rattle.rk_core.specs.Drafts.{drafted, IsDraftOf, IsUserRing};
+ghost use Rattle.rk_core.specs.NewRings.{with_new_rings, AreNewRings, IsUserRing};
 ghost use Rattle.rk_machine.specs.Hello.{join_refusal, rings_made, hello_refusal, Greets, Hellos};
 
-use crate::draft::Draft;
+use crate::new_rings::NewRings;
 use crate::tables::Tables;
 use rk_machine::{Answer, Greeting};
 use rk_message::Reply;
@@ -79,12 +79,12 @@ impl Tables {
         ensures err { OnErr result (self.new ≡ self.old) }
     {
         let uid = greeting.uid;
-        let mut draft = self.draft()?;
-        let thread = draft.make_if(greeting.thread, RingKind::Thread, uid)?;
-        let process = draft.make_if(greeting.process, RingKind::Process, uid)?;
-        let session = draft.make_or(&greeting.join, RingKind::Session, uid)?;
-        let user = draft.make_or(there, RingKind::User, uid)?;
-        self.take(draft)?;
+        let mut rings = self.new_rings()?;
+        let thread = rings.make_if(greeting.thread, RingKind::Thread, uid)?;
+        let process = rings.make_if(greeting.process, RingKind::Process, uid)?;
+        let session = rings.make_or(&greeting.join, RingKind::Session, uid)?;
+        let user = rings.make_or(there, RingKind::User, uid)?;
+        self.make_rings(rings)?;
         let context = Context {
             uid,
             gid: greeting.gid,
@@ -102,20 +102,20 @@ impl Tables {
         }))
     }
 
-    fn draft(&self) -> Result<Draft, AllocError>
+    fn new_rings(&self) -> Result<NewRings, AllocError>
         ensures { IfOk result (λ d. (d.serials ≡ self.now.serials) × (d.made.items ≡ [])) }
     {
-        Draft::new(self.alloc, self.keys.serials())
+        NewRings::new(self.alloc, self.keys.serials())
     }
 
-    /// Makes the rings of a draft, or changes nothing.
-    fn take(&mut self, draft: Draft) -> Result<(), AllocError>
-        requires draft { IsDraftOf draft.serials draft.made.items self.old.rings }
-        requires extends { Extends self.old.serials draft.serials }
-        ensures ok { OnOk result (self.new ≡ drafted draft.serials draft.made.items self.old) }
+    /// Makes the rings under the serials that are drawn for them. A refused growth changes nothing.
+    fn make_rings(&mut self, rings: NewRings) -> Result<(), AllocError>
+        requires new { AreNewRings rings.serials rings.made.items self.old.rings }
+        requires extends { Extends self.old.serials rings.serials }
+        ensures ok { OnOk result (self.new ≡ with_new_rings rings.serials rings.made.items self.old) }
         ensures err { OnErr result (self.new ≡ self.old) }
     {
-        let Draft { serials, made } = draft;
+        let NewRings { serials, made } = rings;
         match self.rings.make(self.alloc, &made) {
             Ok(()) => {
                 self.keys.set_serials(serials);

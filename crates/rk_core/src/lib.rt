@@ -17,15 +17,15 @@
 //!
 //! # The definitions
 //!
-//! What one has to believe is defined in rk_machine. `specs/` of this crate (`Kept`, `Tidy`, `Sought`, `Drafts` and `Sound`) is of the way in which the
-//! book does it, and nothing outside speaks of it.
+//! What one has to believe is defined in rk_machine. `specs/` of this crate (`Finding`, `Numbering`, `Sought`, `Vanishing`, `NewRings`, `Follows` and
+//! `Sound`) is of the way in which the book does it, and nothing outside speaks of it.
 //!
 //! # How it is built
 //!
 //! The `Book` is the `Tables` (`tables`) with what holds of every world that a run leads to (`specs/Sound.antt`). `Tables` joins rk_keys, rk_rings
 //! and rk_auth into one world; each of its methods does what one definition says. `links` has the changes of rings, and takes away the keys
 //! that lose their last link, each by itself: no step goes through all keys. `search` looks up a name once, and then one key
-//! in each ring of a context. `completion`, `making`, `sessions` and `draft` are what the asks are made of; `named` tells who asks, and which keys
+//! in each ring of a context. `completion`, `making`, `sessions` and `new_rings` are what the asks are made of; `named` tells who asks, and which keys
 //! and rings an ask names; `hello`, `request`, `completion_asks`, `key_asks`, `ring_asks`, `add` and `session_asks` are the asks; `asks` is the gate and
 //! the dispatch, `steps` the six events, `views` what is told without a step.
 //!
@@ -39,13 +39,13 @@ mod asks;
 mod book;
 mod completion;
 mod completion_asks;
-mod draft;
 mod hello;
 mod key_asks;
 mod limits;
 mod links;
 mod making;
 mod named;
+mod new_rings;
 mod request;
 mod ring_asks;
 mod search;

@@ -7,7 +7,7 @@ ghost use Rattle.rk_rings.specs.Ring.{is_linked};
 ghost use Rattle.rk_machine.specs.World.{tidied};
 ghost use Rattle.rk_machine.specs.Links.{is_full_at, is_full_for, full_refusal, linked_in, unlinked_in, cleared_in};
 ghost use Rattle.rk_core.specs.Finding.{Passes};
-ghost use Rattle.rk_core.specs.Tidy.{settled_at, without_ring, StayBut, rival_in};
+ghost use Rattle.rk_core.specs.Vanishing.{vanished_at, without_ring, StayBut, rival_in};
 
 use crate::tables::Tables;
 use rk_names::{Description, Errno, Serial, TypeName};
@@ -54,7 +54,7 @@ impl Tables {
     }
 
     /// Links a key in a ring, where one is given.
-    pub fn link(&mut self, ring: &Option<Serial>, key: Serial)
+    pub fn add_link(&mut self, ring: &Option<Serial>, key: Serial)
         requires known { map.contains_key self.old.keys key ≡ true }
         requires room { full_refusal self.old ring.now key ≡ None }
         ensures { self.new ≡ linked_in ring.now key self.old }
@@ -67,7 +67,7 @@ impl Tables {
     }
 
     /// Takes the link of a key out of a ring.
-    pub fn unlink(&mut self, ring: Serial, key: Serial)
+    pub fn take_link(&mut self, ring: Serial, key: Serial)
         requires { is_linked self.old.rings ring key ≡ true }
         ensures { self.new ≡ unlinked_in (Some ring) key self.old }
     {
@@ -81,7 +81,7 @@ impl Tables {
         self.rings.first_key(ring)
     }
 
-    fn drop_ring(&mut self, ring: Serial)
+    fn forget_ring(&mut self, ring: Serial)
         ensures { self.new ≡ without_ring ring self.old }
     {
         let _ = self.rings.drop_ring(ring);
@@ -92,8 +92,8 @@ impl Tables {
 
 impl Tables {
     /// The key vanishes, where it has no link and is not under construction (keyrings(7)).
-    pub fn settle(&mut self, key: Serial)
-        ensures { self.new ≡ settled_at key self.old }
+    pub fn let_vanish(&mut self, key: Serial)
+        ensures { self.new ≡ vanished_at key self.old }
     {
         if !self.has_link(key) && !self.is_building(key) {
             self.keys.forget(key);
@@ -101,57 +101,57 @@ impl Tables {
     }
 
     /// These two vanish, where they have no link and are not under construction.
-    pub fn settle_both(&mut self, rival: Option<Serial>, key: Serial)
+    pub fn let_both_vanish(&mut self, rival: Option<Serial>, key: Serial)
         requires { StayBut (λ j. option_map_or (λ r. j == r) rival false || j == key) self.old }
         ensures { self.new ≡ tidied self.old }
     {
         match rival {
             Some(rival) => {
-                self.settle(rival);
-                self.settle(key);
+                self.let_vanish(rival);
+                self.let_vanish(key);
             }
-            None => self.settle(key),
+            None => self.let_vanish(key),
         }
     }
 
     /// Links a key in a ring, where one is given. The key that gives way vanishes with its last link.
-    pub fn link_tidily(&mut self, ring: &Option<Serial>, key: Serial)
+    pub fn link(&mut self, ring: &Option<Serial>, key: Serial)
         requires known { map.contains_key self.old.keys key ≡ true }
         requires room { full_refusal self.old ring.now key ≡ None }
         requires tidy { StayBut (λ j. j == key) self.old }
         ensures { self.new ≡ tidied (linked_in ring.now key self.old) }
     {
         let rival = self.rival(ring, key);
-        self.link(ring, key);
-        self.settle_both(rival, key);
+        self.add_link(ring, key);
+        self.let_both_vanish(rival, key);
     }
 
     /// Takes the link of a key out of a ring. The key vanishes with its last link.
-    pub fn unlink_tidily(&mut self, ring: Serial, key: Serial)
+    pub fn unlink(&mut self, ring: Serial, key: Serial)
         requires linked { is_linked self.old.rings ring key ≡ true }
         requires tidy { StayBut (λ j. false) self.old }
         ensures { self.new ≡ tidied (unlinked_in (Some ring) key self.old) }
     {
-        self.unlink(ring, key);
-        self.settle(key);
+        self.take_link(ring, key);
+        self.let_vanish(key);
     }
 
     /// Takes all links out of a ring. Keys vanish with their last links.
-    pub fn clear_tidily(&mut self, ring: Serial)
+    pub fn clear(&mut self, ring: Serial)
         requires tidy { StayBut (λ j. false) self.old }
         ensures { self.new ≡ tidied (cleared_in (Some ring) self.old) }
     {
         while let Some(key) = self.first_key(ring) {
-            self.unlink_tidily(ring, key);
+            self.unlink(ring, key);
         }
     }
 
     /// Drops a ring, where it is there. Keys vanish with their last links.
-    pub fn drop_tidily(&mut self, ring: Serial)
+    pub fn drop_ring(&mut self, ring: Serial)
         requires tidy { StayBut (λ j. false) self.old }
         ensures { self.new ≡ tidied (without_ring ring self.old) }
     {
-        self.clear_tidily(ring);
-        self.drop_ring(ring);
+        self.clear(ring);
+        self.forget_ring(ring);
     }
 }

@@ -39,7 +39,7 @@ impl Tables {
         ensures { LinksIn self.old now asker.now number ring (answer_of result) self.new }
     {
         let (key, ring) = self.linkable(now, asker, number, ring)?;
-        self.link_tidily(&Some(ring), key);
+        self.link(&Some(ring), key);
         Ok(done())
     }
 
@@ -62,7 +62,7 @@ impl Tables {
         ensures { Unlinks self.old asker.now number ring (answer_of result) self.new }
     {
         let (key, ring) = self.linked(asker, number, ring)?;
-        self.unlink_tidily(ring, key);
+        self.unlink(ring, key);
         Ok(done())
     }
 
@@ -72,7 +72,7 @@ impl Tables {
         ensures { Clears self.old asker.now ring (answer_of result) self.new }
     {
         let ring = self.ring(asker, ring)?;
-        self.clear_tidily(ring);
+        self.clear(ring);
         Ok(done())
     }
 }

@@ -39,7 +39,7 @@ pub struct Tables {
 
 impl Model for Tables {
     ghost use Rattle.rk_machine.specs.World.{World, world_code};
-    ghost use Rattle.rk_core.specs.Kept.{IsKept, world_of};
+    ghost use Rattle.rk_core.specs.Numbering.{NumbersAgree, world_of};
 
     ghost Value = { World };
 
@@ -47,7 +47,7 @@ impl Model for Tables {
 
     ghost view = { λ t. world_of t.negative t.keys t.rings t.auths.sessions };
 
-    ghost invariant = { λ t. IsKept t.keys t.rings };
+    ghost invariant = { λ t. NumbersAgree t.keys t.rings };
 }
 
 impl Tables {

@@ -15,9 +15,9 @@ use Rattle.rk_rings.proofs.Seen.{get-rings_seen}
 use Rattle.rk_machine.specs.World.{World}
 use Rattle.rk_machine.specs.declared.greeting.Greeting.{Greeting}
 use Rattle.rk_machine.specs.Hello.{has_user_ring, rings_made, Makes, MakesIf, HasSessionRing, HasUserRing}
-use Rattle.rk_core.specs.Drafts.{MakesOr, IsUserRing}
+use Rattle.rk_core.specs.NewRings.{MakesOr, IsUserRing}
 use Rattle.rk_machine.proofs.Found.InMaps.{get_inserted}
-use Rattle.rk_core.proofs.Greetings.RingsFromADraft.{not_used, still_none}
+use Rattle.rk_core.proofs.Greetings.RingsOfAContext.{not_used, still_none}
 
 -- ---- whether a uid has one
 
@@ -111,7 +111,7 @@ pub keeps_session : (join : Option ℕ) (uid : ℕ) (old mid new : World) (ring 
 keeps_session None uid old mid new ring m h = made kind.Session uid refl old mid new ring m h
 keeps_session (Some join) uid old mid new ring m h = same_world uid old mid new m.1 h
 
--- ---- what is drafted, as HELLO says it
+-- ---- what is with_new_rings, as HELLO says it
 
 pub joined_or_made : (join : Option ℕ) (uid : ℕ) (old new : World) (ring : ℕ) → MakesOr join kind.Session uid old new ring
     → HasSessionRing join uid old new ring

@@ -19,7 +19,7 @@ use Rattle.rk_rings.specs.Numbered.{Numbered, Rings, ring_seen, rings_seen, hold
 use Rattle.rk_rings.specs.Numbered as numbered
 use Rattle.rk_rings.proofs.Finds.{tied, tied_itself, any_value, some_entry, entry_found}
 use Rattle.rk_rings.proofs.Seen.{get-rings_seen, rings_seen-changed_at, ring_seen-linked, contains-ring_seen, len-ring_seen, is_linked-rings_seen, contains_key-rings_seen, rings_seen-remove, ring_seen-unlinked, GivesWay}
-use Rattle.rk_core.specs.Kept.{IsKept}
+use Rattle.rk_core.specs.Numbering.{NumbersAgree}
 use Rattle.rk_machine.specs.Links.{is_full, holds_name}
 use Rattle.rk_machine.proofs.Found.InMaps.{get_removed}
 use Rattle.rk_core.proofs.LinksAndNames.LinksAfter.{same_answer}
@@ -27,7 +27,7 @@ use Rattle.rk_core.proofs.LinksAndNames.KeysOfAName.{IsNameOf, by_key, gives_way
 
 -- ---- a link is put in
 
-way : (known : Known) (rings : Rings) (ring k n : ℕ) (r : Numbered) → IsNaming known.keys known.numbers → IsKept known rings → map.get known.numbers k ≡ Some n
+way : (known : Known) (rings : Rings) (ring k n : ℕ) (r : Numbered) → IsNaming known.keys known.numbers → NumbersAgree known rings → map.get known.numbers k ≡ Some n
     → map.get rings ring ≡ Some r
     → GivesWay (is_rival known.keys k) k n r
 way known rings ring k n r naming kept number there = (
@@ -35,7 +35,7 @@ way known rings ring k n r naming kept number there = (
   λ j m link other. gives_way_by known k n j m naming number (kept.numbered ring j m r there link) ∙ ap (λ b. not b && nat_eq m n) (ne_eqb j k other),
 )
 
-pub seen_linked : (known : Known) (rings : Rings) (ring k n : ℕ) → IsNaming known.keys known.numbers → IsKept known rings → map.get known.numbers k ≡ Some n
+pub seen_linked : (known : Known) (rings : Rings) (ring k n : ℕ) → IsNaming known.keys known.numbers → NumbersAgree known rings → map.get known.numbers k ≡ Some n
     → rings_seen (changed_at ring (linked k n) rings) ≡ changed_at ring (with_link (is_rival known.keys k) k) (rings_seen rings)
 seen_linked known rings ring k n naming kept number =
     rings_seen-changed_at ring (linked k n) (with_link (is_rival known.keys k) k) rings
@@ -75,7 +75,7 @@ pub some_there : {A : Type 0} (o : Option A) → is_some o ≡ true → (x : A) 
 some_there None h = absurd (both_ways false refl h)
 some_there (Some x) h = (x, refl)
 
-holds_alike : (known : Known) (rings : Rings) (ring : ℕ) (r : Numbered) (typ description : List ℕ) (name : Option ℕ) → IsKept known rings
+holds_alike : (known : Known) (rings : Rings) (ring : ℕ) (r : Numbered) (typ description : List ℕ) (name : Option ℕ) → NumbersAgree known rings
     → IsNameOf known typ description name → map.get rings ring ≡ Some r
     → option_map_or (has_number r) name false ≡ holds_name known.keys (ring_seen r) typ description
 holds_alike known rings ring r typ description name kept names there = same_answer _ _ (has name names) (λ h.
@@ -97,7 +97,7 @@ holds_alike known rings ring r typ description name kept names there = same_answ
     number (Some n) k m is h = any_value (λ m. nat_eq m n) r.links ∙ some_entry (λ (e : ℕ × ℕ). nat_eq e.1 n) r.links k m is h
 
 -- a ring is full by the number of a name where it is full by the name
-pub full_alike : (known : Known) (rings : Rings) (ring : ℕ) (typ description : List ℕ) (name : Option ℕ) → IsKept known rings
+pub full_alike : (known : Known) (rings : Rings) (ring : ℕ) (typ description : List ℕ) (name : Option ℕ) → NumbersAgree known rings
     → IsNameOf known typ description name
     → numbered.is_full_at rings ring name ≡ option_map_or (is_full known.keys typ description) (map.get (rings_seen rings) ring) false
 full_alike known rings ring typ description name kept names =
@@ -119,7 +119,7 @@ not_there rings ring k f h =
     none (Some r) h = absurd (both_ways _ h refl)
 
 -- where the ring has room for the key, the key is linked, or there is no ring
-pub link_seen : (known : Known) (rings new : Rings) (ring k n : ℕ) (key : Key) (r : Result ⊤ RingFault) → IsNaming known.keys known.numbers → IsKept known rings
+pub link_seen : (known : Known) (rings new : Rings) (ring k n : ℕ) (key : Key) (r : Result ⊤ RingFault) → IsNaming known.keys known.numbers → NumbersAgree known rings
     → map.get known.keys k ≡ Some key → map.get known.numbers k ≡ Some n
     → option_map_or (is_full known.keys key.typ key.description) (map.get (rings_seen rings) ring) false ≡ false
     → OnOk r (new ≡ changed_at ring (linked k n) rings) → OnErr r (new ≡ rings) → ((r ≡ Err fault.NoRing) ↔ (map.contains_key rings ring ≡ false))
@@ -154,7 +154,7 @@ pub last_false : (a b : Bool) → b ≡ false → (a && b) ≡ false
 last_false true b h = h
 last_false false b h = refl
 
-module _ (known : Known) (rings : Rings) (ring k n : ℕ) (naming : IsNaming known.keys known.numbers) (kept : IsKept known rings)
+module _ (known : Known) (rings : Rings) (ring k n : ℕ) (naming : IsNaming known.keys known.numbers) (kept : NumbersAgree known rings)
     (number : map.get known.numbers k ≡ Some n) where
   -- in the ring, where j has this number, and f is the one key of the number n
   one_match : (r : Numbered) (f j m : ℕ) → map.get rings ring ≡ Some r → map.get r.links f ≡ Some n

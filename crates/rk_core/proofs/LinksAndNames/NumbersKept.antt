@@ -12,7 +12,7 @@ use Rattle.rk_rings.specs.Numbered.{Numbered, Rings, is_held, linked, unlinked, 
 use Rattle.rk_rings.proofs.Named.{new_or_there, left_there, no_link}
 use Rattle.rk_rings.proofs.Changed.{ring_there}
 use Rattle.rk_rings.proofs.Finds.{any_value, some_entry, entry_found}
-use Rattle.rk_core.specs.Kept.{IsKept}
+use Rattle.rk_core.specs.Numbering.{NumbersAgree}
 use Rattle.rk_machine.proofs.Found.InMaps.{get_inserted, get_removed, get_changed_at}
 
 -- what came of a call, whatever it answered
@@ -30,8 +30,8 @@ some_of : {A B : Type 0} (f : A → B) (o : Option A) (y : B) → option_map f o
 some_of f None y e = absurd (cc)
 some_of f (Some x) y e = (x, refl, cc)
 
-pub kept_changed : (known : Known) (rings : Rings) (ring : ℕ) (f : Numbered → Numbered) → IsFair known f → IsKept known rings
-    → IsKept known (changed_at ring f rings)
+pub kept_changed : (known : Known) (rings : Rings) (ring : ℕ) (f : Numbered → Numbered) → IsFair known f → NumbersAgree known rings
+    → NumbersAgree known (changed_at ring f rings)
 kept_changed known rings ring f fair h = record {
   numbered = λ q k n r there link.
       by_ring q (nat_eq ring q) r (λ old is e. by_link q k n old is (fair.numbers old k n (ap (λ (x : Numbered). map.get x.links k) e ∙ link)))
@@ -62,23 +62,23 @@ fair_unlink : (known : Known) (k : ℕ) → IsFair known (unlinked k)
 fair_unlink known k = record { numbers = λ r j m e. inl (left_there r.links k j m e) }
 
 pub kept_link : (known : Known) (rings new : Rings) (ring k n : ℕ) → map.get known.numbers k ≡ Some n
-    → (new ≡ changed_at ring (linked k n) rings) ⊎ (new ≡ rings) → IsKept known rings → IsKept known new
-kept_link known rings new ring k n is (inl e) h = subst (IsKept known) (sym e) (kept_changed known rings ring (linked k n) (fair_link known k n is) h)
-kept_link known rings new ring k n is (inr e) h = subst (IsKept known) (sym e) h
+    → (new ≡ changed_at ring (linked k n) rings) ⊎ (new ≡ rings) → NumbersAgree known rings → NumbersAgree known new
+kept_link known rings new ring k n is (inl e) h = subst (NumbersAgree known) (sym e) (kept_changed known rings ring (linked k n) (fair_link known k n is) h)
+kept_link known rings new ring k n is (inr e) h = subst (NumbersAgree known) (sym e) h
 
-pub kept_unlink : (known : Known) (rings new : Rings) (ring k : ℕ) → (new ≡ changed_at ring (unlinked k) rings) ⊎ (new ≡ rings) → IsKept known rings
-    → IsKept known new
-kept_unlink known rings new ring k (inl e) h = subst (IsKept known) (sym e) (kept_changed known rings ring (unlinked k) (fair_unlink known k) h)
-kept_unlink known rings new ring k (inr e) h = subst (IsKept known) (sym e) h
+pub kept_unlink : (known : Known) (rings new : Rings) (ring k : ℕ) → (new ≡ changed_at ring (unlinked k) rings) ⊎ (new ≡ rings) → NumbersAgree known rings
+    → NumbersAgree known new
+kept_unlink known rings new ring k (inl e) h = subst (NumbersAgree known) (sym e) (kept_changed known rings ring (unlinked k) (fair_unlink known k) h)
+kept_unlink known rings new ring k (inr e) h = subst (NumbersAgree known) (sym e) h
 
 -- ---- a ring is dropped, rings are made
 
-pub kept_drop : (known : Known) (rings new : Rings) (ring : ℕ) → (new ≡ map.remove rings ring) ⊎ (new ≡ rings) → IsKept known rings → IsKept known new
+pub kept_drop : (known : Known) (rings new : Rings) (ring : ℕ) → (new ≡ map.remove rings ring) ⊎ (new ≡ rings) → NumbersAgree known rings → NumbersAgree known new
 kept_drop known rings new ring (inl e) h =
-    subst (IsKept known) (sym e) (record { numbered = λ q k n r there link. h.numbered q k n r (ring_there rings ring q r there) link })
-kept_drop known rings new ring (inr e) h = subst (IsKept known) (sym e) h
+    subst (NumbersAgree known) (sym e) (record { numbered = λ q k n r there link. h.numbered q k n r (ring_there rings ring q r there) link })
+kept_drop known rings new ring (inr e) h = subst (NumbersAgree known) (sym e) h
 
-kept_one : (known : Known) (rings : Rings) (wanted : NewRing) → IsKept known rings → IsKept known (map.insert rings wanted.serial (new_ring wanted))
+kept_one : (known : Known) (rings : Rings) (wanted : NewRing) → NumbersAgree known rings → NumbersAgree known (map.insert rings wanted.serial (new_ring wanted))
 kept_one known rings wanted h = record {
   numbered = λ q k n r there link.
       by_key q (nat_eq wanted.serial q) r (λ e. absurd (no_link k n (ap (λ (x : Numbered). map.get x.links k) e ∙ link))) (λ is. h.numbered q k n r is link)
@@ -90,13 +90,13 @@ kept_one known rings wanted h = record {
     by_key q true r new same e = let is : new_ring wanted ≡ r = cc in new is
     by_key q false r new same e = same e
 
-pub kept_rings : (known : Known) (wanted : List NewRing) (rings : Rings) → IsKept known rings → IsKept known (with_rings wanted rings)
+pub kept_rings : (known : Known) (wanted : List NewRing) (rings : Rings) → NumbersAgree known rings → NumbersAgree known (with_rings wanted rings)
 kept_rings known [] rings h = h
 kept_rings known (one ∷ more) rings h = kept_rings known more (map.insert rings one.serial (new_ring one)) (kept_one known rings one h)
 
 -- ---- keys change
 
-pub kept_numbers : (known new : Known) (rings : Rings) → new.numbers ≡ known.numbers → IsKept known rings → IsKept new rings
+pub kept_numbers : (known new : Known) (rings : Rings) → new.numbers ≡ known.numbers → NumbersAgree known rings → NumbersAgree new rings
 kept_numbers known new rings e h = record {
   numbered = λ q k n r there link. ap (λ (m : map.FinMap nat_cmp ℕ). map.get m k) e ∙ h.numbered q k n r there link;
 }
@@ -107,7 +107,7 @@ held_by rings ring k n r there link =
     any_value (λ (r : Numbered). map.contains_key r.links k) rings ∙ some_entry (λ (e : ℕ × Numbered). map.contains_key e.1.links k) rings ring r there
     (ap is_some link)
 
-pub kept_forget : (known : Known) (rings : Rings) (k : ℕ) → is_held rings k ≡ false → IsKept known rings → IsKept (without_key k known) rings
+pub kept_forget : (known : Known) (rings : Rings) (k : ℕ) → is_held rings k ≡ false → NumbersAgree known rings → NumbersAgree (without_key k known) rings
 kept_forget known rings k free h = record {
   numbered = λ q j n r there link. get_removed known.numbers k j ∙ by_key q j n r there link (nat_eq k j) refl;
 }
@@ -118,8 +118,8 @@ kept_forget known rings k free h = record {
     by_key q j n r there link false t = h.numbered q j n r there link
 
 -- a new key has no link yet
-pub kept_make : (known new : Known) (rings : Rings) (k : ℕ) (key : Key) → map.get known.numbers k ≡ None → Makes known k key new → IsKept known rings
-    → IsKept new rings
+pub kept_make : (known new : Known) (rings : Rings) (k : ℕ) (key : Key) → map.get known.numbers k ≡ None → Makes known k key new → NumbersAgree known rings
+    → NumbersAgree new rings
 kept_make known new rings k key none makes h = record {
   numbered = λ q j n r there link.
       ap (λ (m : map.FinMap nat_cmp ℕ). map.get m j) makes.numbers ∙ get_inserted known.numbers k makes.number j ∙ by_key q j n r there link (nat_eq k j) refl;
@@ -139,7 +139,7 @@ no_number known k naming none = empty (map.get known.numbers k) (naming.each k �
     empty None h = refl
     empty (Some n) h = absurd (both_ways _ h refl)
 
-pub not_held : (known : Known) (rings : Rings) (k : ℕ) → IsKept known rings → map.get known.numbers k ≡ None → is_held rings k ≡ false
+pub not_held : (known : Known) (rings : Rings) (k : ℕ) → NumbersAgree known rings → map.get known.numbers k ≡ None → is_held rings k ≡ false
 not_held known rings k h none = by_test (is_held rings k) refl
   where
     there : (o : Option ℕ) → is_some o ≡ true → (n : ℕ) × (o ≡ Some n)

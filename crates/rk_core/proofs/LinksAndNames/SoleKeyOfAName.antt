@@ -10,7 +10,7 @@ use Rattle.rk_keys.specs.Key.{standing_of, key_passes, has_name, is_named}
 use Rattle.rk_keys.specs.Known.{Known, IsNaming}
 use Rattle.rk_rings.specs.Ring.{is_linked}
 use Rattle.rk_rings.specs.Numbered.{Numbered, Rings, rings_seen, IsMatch}
-use Rattle.rk_core.specs.Kept.{IsKept}
+use Rattle.rk_core.specs.Numbering.{NumbersAgree}
 use Rattle.rk_machine.specs.World.{World}
 use Rattle.rk_machine.specs.Search.{Query, answers}
 use Rattle.rk_core.specs.Sought.{IsSole}
@@ -22,7 +22,7 @@ use Rattle.rk_core.proofs.LinksAndNames.LinksByNumber.{linked_is, not_linked, la
 abbrev pub matched : Known → ℕ → Option ℕ → Option Match
 matched known now found = option_and_then (λ k. option_map (λ (key : Key). record { key = k; standing = standing_of key now }) (map.get known.keys k)) found
 
-module _ (known : Known) (rings : Rings) (q : Query) (naming : IsNaming known.keys known.numbers) (kept : IsKept known rings) where
+module _ (known : Known) (rings : Rings) (q : Query) (naming : IsNaming known.keys known.numbers) (kept : NumbersAgree known rings) where
   abbrev passes : (Standing → Bool) → ℕ → Bool
   passes p k = key_passes known.keys k (answers q p)
 

@@ -22,7 +22,7 @@ use Rattle.rk_auth.specs.Circles.{Leads, its_own, further}
 use Rattle.rk_machine.specs.World.{World}
 use Rattle.rk_machine.specs.Allowed.{refused_if}
 use Rattle.rk_machine.specs.Links.{is_full, is_full_at, is_full_for, holds_name}
-use Rattle.rk_core.specs.Tidy.{StayBut}
+use Rattle.rk_core.specs.Vanishing.{StayBut}
 use Rattle.rk_machine.proofs.Found.InMaps.{get_inserted}
 use Rattle.rk_core.proofs.LinksAndNames.LinksAfter.{same_answer, tied_itself, link_somewhere, has_key}
 use Rattle.rk_core.proofs.Vanishing.OneByOne.{stays_by}

@@ -4,7 +4,7 @@ use Rattle.rk_keys.specs.Known.{Known}
 use Rattle.rk_rings.specs.Numbered.{Rings}
 use Rattle.rk_auth.specs.Sessions.{Sessions}
 use Rattle.rk_machine.specs.World.{World}
-use Rattle.rk_core.specs.Kept.{world_of}
+use Rattle.rk_core.specs.Numbering.{world_of}
 
 pub in_sessions : (negative : ℕ) (known : Known) (rings : Rings) (before after : Sessions) (w : World) (f : Sessions → Sessions)
     → world_of negative known rings before ≡ w → after ≡ f before

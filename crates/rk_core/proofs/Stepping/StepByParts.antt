@@ -18,7 +18,7 @@ use Rattle.rk_machine.specs.Allowed.{done, refused_if}
 use Rattle.rk_machine.specs.Completion.{ended, condition_after}
 use Rattle.rk_machine.specs.Steps.{launched, may_launch, would_negate, negating, Ends, Step}
 use Rattle.rk_core.specs.Follows.{follows}
-use Rattle.rk_core.specs.Tidy.{StayBut}
+use Rattle.rk_core.specs.Vanishing.{StayBut}
 use Rattle.rk_machine.proofs.Found.Refusals.{unless_none}
 use Rattle.rk_core.proofs.Vanishing.OneByOne.{all_stay}
 

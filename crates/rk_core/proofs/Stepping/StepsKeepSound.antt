@@ -19,7 +19,7 @@ use Rattle.rk_machine.specs.declared.event.Event.{Event}
 use Rattle.rk_machine.specs.declared.event.Answer.{Answer}
 use Rattle.rk_machine.specs.World.{World, drawn, empty_world}
 use Rattle.rk_core.specs.Sound.{IsSound}
-use Rattle.rk_core.specs.Tidy.{stays, StayBut}
+use Rattle.rk_core.specs.Vanishing.{stays, StayBut}
 use Rattle.rk_auth.specs.declared.construction.Construction.{Construction}
 use Rattle.rk_auth.specs.declared.construction.Stage.TheVariants.{Plain, Piped}
 use Rattle.rk_keys.specs.Known.{new_key}

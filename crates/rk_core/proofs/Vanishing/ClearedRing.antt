@@ -12,7 +12,7 @@ use Rattle.rk_keys.specs.declared.key.Key.{Key}
 use Rattle.rk_rings.specs.Ring.{Ring, is_linked, without_link, without_links}
 use Rattle.rk_machine.specs.World.{World, tidied}
 use Rattle.rk_machine.specs.Links.{unlinked_in, cleared_in}
-use Rattle.rk_core.specs.Tidy.{stays, StayBut}
+use Rattle.rk_core.specs.Vanishing.{stays, StayBut}
 use Rattle.rk_machine.proofs.Found.InMaps.{get_changed_at}
 use Rattle.rk_core.proofs.LinksAndNames.LinksAfter.{links_kept, has_key, tied_itself}
 use Rattle.rk_core.proofs.Vanishing.OneByOne.{same_keys, get_tidied, all_stay, stays_by}

@@ -14,7 +14,7 @@ use Rattle.rk_auth.specs.Sessions.{is_shared}
 use Rattle.rk_auth.specs.Changes.{without_client}
 use Rattle.rk_machine.specs.World.{World, tidied}
 use Rattle.rk_machine.specs.Steps.{context_of, is_ring, goes_with, rings_without, gone}
-use Rattle.rk_core.specs.Tidy.{stays, StayBut, removed_if, without_if, session_goes}
+use Rattle.rk_core.specs.Vanishing.{stays, StayBut, removed_if, without_if, session_goes}
 use Rattle.rk_machine.proofs.Found.InMaps.{get_removed, get_kept_where}
 use Rattle.rk_core.proofs.LinksAndNames.LinksAfter.{Rings, links_kept, has_key}
 use Rattle.rk_core.proofs.Vanishing.OneByOne.{same_keys, get_tidied, all_stay, stays_by}

@@ -11,7 +11,7 @@ use Rattle.rk_keys.specs.declared.key.Key.{Key}
 use Rattle.rk_keys.specs.Key.{is_building}
 use Rattle.rk_rings.specs.Ring.{has_link}
 use Rattle.rk_machine.specs.World.{World, tidied}
-use Rattle.rk_core.specs.Tidy.{stays, StayBut, settled_at}
+use Rattle.rk_core.specs.Vanishing.{stays, StayBut, vanished_at}
 use Rattle.rk_machine.proofs.Found.InMaps.{get_kept_where, get_removed}
 
 pub same_keys : (m n : map.FinMap nat_cmp Key) → ((q : ℕ) → map.get m q ≡ map.get n q) → m ≡ n
@@ -28,7 +28,7 @@ tidied_at a (Some key) = refl
 pub get_tidied : (w : World) (q : ℕ) → map.get (tidied w).keys q ≡ cond (stays w q) (map.get w.keys q) None
 get_tidied w q = get_kept_where (λ k one. has_link w.rings k || is_building one) w.keys q ∙ tidied_at (has_link w.rings q) (map.get w.keys q)
 
-pub get_settled : (k : ℕ) (w : World) (q : ℕ) → map.get (settled_at k w).keys q ≡ cond (nat_eq k q && not (stays w k)) None (map.get w.keys q)
+pub get_settled : (k : ℕ) (w : World) (q : ℕ) → map.get (vanished_at k w).keys q ≡ cond (nat_eq k q && not (stays w k)) None (map.get w.keys q)
 get_settled k w q =
     elim (stays w k) as (λ b. map.get (cond b w.keys (map.remove w.keys k)) q ≡ cond (nat_eq k q && not b) None (map.get w.keys q)) [
       | true ↦ ap (λ b. cond b None (map.get w.keys q)) (sym (never (nat_eq k q)))
@@ -56,9 +56,9 @@ all_stay w h =
     λ i. record w { keys = same_keys (tidied w).keys w.keys (λ q. get_tidied w q ∙ found_or_none (stays w q) (map.get w.keys q) (λ key is. h q key is refl)) i }
 
 -- where every key but one stays, that one is taken away, or stays
-pub one_settles : (w : World) (k : ℕ) → StayBut (λ j. nat_eq j k) w → settled_at k w ≡ tidied w
+pub one_settles : (w : World) (k : ℕ) → StayBut (λ j. nat_eq j k) w → vanished_at k w ≡ tidied w
 one_settles w k h =
-    λ i. record w { keys = same_keys (settled_at k w).keys (tidied w).keys (λ q. get_settled k w q ∙ by_key q (nat_eq k q) refl ∙ sym (get_tidied w q)) i }
+    λ i. record w { keys = same_keys (vanished_at k w).keys (tidied w).keys (λ q. get_settled k w q ∙ by_key q (nat_eq k q) refl ∙ sym (get_tidied w q)) i }
   where
     itself : (b : Bool) (o : Option Key) → cond (not b) None o ≡ cond b o None
     itself true o = refl
@@ -75,11 +75,11 @@ pub stays_by : (v w : World) (q : ℕ) → v.rings ≡ w.rings → map.get v.key
 stays_by v w q rings keys = λ i. has_link (rings i) q || unwrap_or (option_map is_building (keys i)) false
 
 -- one that is taken away first vanishes all the same
-pub settles_first : (w : World) (r : ℕ) → tidied (settled_at r w) ≡ tidied w
+pub settles_first : (w : World) (r : ℕ) → tidied (vanished_at r w) ≡ tidied w
 settles_first w r =
     λ i. record w {
-      keys = same_keys (tidied (settled_at r w)).keys (tidied w).keys
-          (λ q. get_tidied (settled_at r w) q ∙ by_key q (nat_eq r q && not (stays w r)) refl ∙ sym (get_tidied w q)) i;
+      keys = same_keys (tidied (vanished_at r w)).keys (tidied w).keys
+          (λ q. get_tidied (vanished_at r w) q ∙ by_key q (nat_eq r q && not (stays w r)) refl ∙ sym (get_tidied w q)) i;
     }
   where
     gone : (q : ℕ) (a b : Bool) → nat_eq r q ≡ a → stays w r ≡ b → (a && not b) ≡ true → stays w q ≡ false
@@ -92,16 +92,16 @@ settles_first w r =
     none false = refl
 
     by_key : (q : ℕ) (b : Bool) → (nat_eq r q && not (stays w r)) ≡ b
-        → cond (stays (settled_at r w) q) (map.get (settled_at r w).keys q) None ≡ cond (stays w q) (map.get w.keys q) None
+        → cond (stays (vanished_at r w) q) (map.get (vanished_at r w).keys q) None ≡ cond (stays w q) (map.get w.keys q) None
     by_key q true t =
-        ap (λ o. cond (stays (settled_at r w) q) o None) (get_settled r w q ∙ ap (λ b. cond b None (map.get w.keys q)) t) ∙ none (stays (settled_at r w) q)
+        ap (λ o. cond (stays (vanished_at r w) q) o None) (get_settled r w q ∙ ap (λ b. cond b None (map.get w.keys q)) t) ∙ none (stays (vanished_at r w) q)
         ∙ ap (λ b. cond b (map.get w.keys q) None) (sym (gone q (nat_eq r q) (stays w r) refl refl t))
     by_key q false t =
-        let same : map.get (settled_at r w).keys q ≡ map.get w.keys q = get_settled r w q ∙ ap (λ b. cond b None (map.get w.keys q)) t in
-        λ i. cond (stays_by (settled_at r w) w q refl same i) (same i) None
+        let same : map.get (vanished_at r w).keys q ≡ map.get w.keys q = get_settled r w q ∙ ap (λ b. cond b None (map.get w.keys q)) t in
+        λ i. cond (stays_by (vanished_at r w) w q refl same i) (same i) None
 
 -- of those that are left every one but k stays
-left_stay : (w : World) (r k : ℕ) → StayBut (λ j. nat_eq j r || nat_eq j k) w → StayBut (λ j. nat_eq j k) (settled_at r w)
+left_stay : (w : World) (r k : ℕ) → StayBut (λ j. nat_eq j r || nat_eq j k) w → StayBut (λ j. nat_eq j k) (vanished_at r w)
 left_stay w r k h j key is other = by_key (nat_eq r j && not (stays w r)) refl
   where
     not_gone : (b : Bool) → cond (nat_eq r j && not b) None (map.get w.keys j) ≡ Some key → stays w r ≡ b → nat_eq j r ≡ true → stays w j ≡ true
@@ -113,18 +113,18 @@ left_stay w r k h j key is other = by_key (nat_eq r j && not (stays w r)) refl
         gone true t e = cc
         gone false t e = both_ways false refl t
 
-    found : map.get (settled_at r w).keys j ≡ map.get w.keys j → map.get w.keys j ≡ Some key
+    found : map.get (vanished_at r w).keys j ≡ map.get w.keys j → map.get w.keys j ≡ Some key
     found same = sym same ∙ is
 
     by_first : (b : Bool) → nat_eq j r ≡ b → map.get w.keys j ≡ Some key → stays w j ≡ true
     by_first true t there = not_gone (stays w r) (sym (get_settled r w j) ∙ is) refl t
     by_first false t there = h j key there (λ i. t i || other i)
 
-    by_key : (b : Bool) → (nat_eq r j && not (stays w r)) ≡ b → stays (settled_at r w) j ≡ true
+    by_key : (b : Bool) → (nat_eq r j && not (stays w r)) ≡ b → stays (vanished_at r w) j ≡ true
     by_key true t = let e : None ≡ Some key = sym (get_settled r w j ∙ ap (λ b. cond b None (map.get w.keys j)) t) ∙ is in absurd (cc)
     by_key false t =
-        let same : map.get (settled_at r w).keys j ≡ map.get w.keys j = get_settled r w j ∙ ap (λ b. cond b None (map.get w.keys j)) t in
-        stays_by (settled_at r w) w j refl same ∙ by_first (nat_eq j r) refl (found same)
+        let same : map.get (vanished_at r w).keys j ≡ map.get w.keys j = get_settled r w j ∙ ap (λ b. cond b None (map.get w.keys j)) t in
+        stays_by (vanished_at r w) w j refl same ∙ by_first (nat_eq j r) refl (found same)
 
-pub two_settle : (w : World) (r k : ℕ) → StayBut (λ j. nat_eq j r || nat_eq j k) w → settled_at k (settled_at r w) ≡ tidied w
-two_settle w r k h = one_settles (settled_at r w) k (left_stay w r k h) ∙ settles_first w r
+pub two_settle : (w : World) (r k : ℕ) → StayBut (λ j. nat_eq j r || nat_eq j k) w → vanished_at k (vanished_at r w) ≡ tidied w
+two_settle w r k h = one_settles (vanished_at r w) k (left_stay w r k h) ∙ settles_first w r

@@ -14,7 +14,7 @@ use Rattle.rk_rings.specs.Ring.{Ring, is_linked, has_link, without_links}
 use Rattle.rk_machine.specs.World.{World, tidied}
 use Rattle.rk_machine.specs.Links.{linked_in, unlinked_in, cleared_in}
 use Rattle.rk_machine.specs.Completion.{completed, ended, keys_ended, expiry_after}
-use Rattle.rk_core.specs.Tidy.{stays, StayBut, settled_at, without_ring, rival_in}
+use Rattle.rk_core.specs.Vanishing.{stays, StayBut, vanished_at, without_ring, rival_in}
 use Rattle.rk_machine.proofs.Found.InMaps.{get_changed_at, get_removed}
 use Rattle.rk_core.proofs.LinksAndNames.LinksAfter.{links_kept, stays_linked, stays_unlinked, cleared_alike}
 use Rattle.rk_core.proofs.Vanishing.OneByOne.{same_keys, get_tidied, one_settles, stays_by}
@@ -75,7 +75,7 @@ unlink_stay w ring k h = λ j key there other.
     (links_kept w.rings (unlinked_in (Some ring) k w).rings j (λ q. stays_unlinked w.rings ring k q j (nat_eq_equiv.symm k j ∙ other))) refl
     (h j key there refl)
 
-pub unlink_tidies : (w : World) (ring k : ℕ) → StayBut (λ j. false) w → settled_at k (unlinked_in (Some ring) k w) ≡ tidied (unlinked_in (Some ring) k w)
+pub unlink_tidies : (w : World) (ring k : ℕ) → StayBut (λ j. false) w → vanished_at k (unlinked_in (Some ring) k w) ≡ tidied (unlinked_in (Some ring) k w)
 unlink_tidies w ring k h = one_settles (unlinked_in (Some ring) k w) k (unlink_stay w ring k h)
 
 -- ---- a key is completed, or its construction ends
@@ -92,7 +92,7 @@ other_key w now k condition j other = by_unspent (is_some (unspent w.sessions k)
     by_unspent false = refl
 
 pub end_tidies : (w : World) (now k : ℕ) (condition : Condition) → StayBut (λ j. false) w
-    → settled_at k (ended now k condition w) ≡ tidied (ended now k condition w)
+    → vanished_at k (ended now k condition w) ≡ tidied (ended now k condition w)
 end_tidies w now k condition h =
     one_settles (ended now k condition w) k (λ j key there other.
     let same : map.get (ended now k condition w).keys j ≡ map.get w.keys j = other_key w now k condition j other in

@@ -12,7 +12,7 @@ use Rattle.rk_auth.specs.declared.session.Outcome.{Outcome}
 use Rattle.rk_auth.specs.Sessions.{Sessions}
 use Rattle.rk_auth.specs.Changes.{spent, all_told}
 use Rattle.rk_machine.specs.World.{World}
-use Rattle.rk_core.specs.Kept.{world_of}
+use Rattle.rk_core.specs.Numbering.{world_of}
 use Rattle.rk_machine.specs.Completion.{outcome_of, completed, announced}
 use Rattle.rk_machine.proofs.Found.InMaps.{get_changed_at}
 use Rattle.rk_core.proofs.LinksAndNames.LinksAfter.{tied_itself}

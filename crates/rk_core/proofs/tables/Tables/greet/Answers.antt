@@ -6,32 +6,32 @@ use Rattle.rk_machine.specs.declared.event.Answer.TheVariants.{Done}
 use Rattle.rk_machine.specs.World.{World}
 use Rattle.rk_machine.specs.declared.greeting.Greeting.{Greeting}
 use Rattle.rk_machine.specs.Hello.{MakesIf, HasSessionRing, HasUserRing}
-use Rattle.rk_core.specs.Drafts.{drafted}
+use Rattle.rk_core.specs.NewRings.{with_new_rings}
 use Rattle.rk_core.proofs.Stepping.SessionsAlone.{in_sessions}
-use Rattle.rk_core.proofs.Greetings.RingsFromADraft.{start_draft, nothing_drafted}
+use Rattle.rk_core.proofs.Greetings.RingsOfAContext.{new_at_first, none_made_yet}
 use Rattle.rk_core.proofs.Greetings.UserRing.{KeepsUsers, keeps_all, keeps_if, keeps_session, joined_or_made, user_made}
 use Rattle.rk_core.proofs.tables.Tables.greet.Goals as goal
 
-pub take-requires-clause-draft : goal.take-requires-clause-draft
-take-requires-clause-draft c =
+pub make_rings-requires-clause-new : goal.make_rings-requires-clause-new
+make_rings-requires-clause-new c =
     let old : World = c.args.self.now in
-    c.in_ok-user.ensures.draft old.rings
-    (c.in_ok-session.ensures.draft old.rings
-    (c.in_ok-process.ensures.draft old.rings
-    (c.in_ok-thread.ensures.draft old.rings (start_draft c.in_ok-draft.draft.serials c.in_ok-draft.draft.made.items old c.in_ok-draft.ensures.0
-    c.in_ok-draft.ensures.1 c.requires.sound.rings))))
+    c.in_ok-user.ensures.stay old.rings
+    (c.in_ok-session.ensures.stay old.rings
+    (c.in_ok-process.ensures.stay old.rings
+    (c.in_ok-thread.ensures.stay old.rings (new_at_first c.in_ok-rings.rings.serials c.in_ok-rings.rings.made.items old c.in_ok-rings.ensures.0
+    c.in_ok-rings.ensures.1 c.requires.sound.rings))))
 
 pub returns-clause-ok : goal.returns-clause-ok
 returns-clause-ok c =
     let old : World = c.args.self.now in
     let g : Greeting = c.args.greeting.now in
-    let w1 : World = drafted c.make_if.new.self.serials c.make_if.new.self.made.items old in
-    let w2 : World = drafted c.make_if-2.new.self.serials c.make_if-2.new.self.made.items old in
-    let w3 : World = drafted c.make_or.new.self.serials c.make_or.new.self.made.items old in
-    let made : World = drafted c.make_or-2.new.self.serials c.make_or-2.new.self.made.items old in
+    let w1 : World = with_new_rings c.make_if.new.self.serials c.make_if.new.self.made.items old in
+    let w2 : World = with_new_rings c.make_if-2.new.self.serials c.make_if-2.new.self.made.items old in
+    let w3 : World = with_new_rings c.make_or.new.self.serials c.make_or.new.self.made.items old in
+    let made : World = with_new_rings c.make_or-2.new.self.serials c.make_or-2.new.self.made.items old in
     let thread : MakesIf g.thread kind.Thread g.uid old w1 c.in_ok-thread.thread =
     subst (λ (w : World). MakesIf g.thread kind.Thread g.uid w w1 c.in_ok-thread.thread)
-    (nothing_drafted c.in_ok-draft.draft.serials c.in_ok-draft.draft.made.items old c.in_ok-draft.ensures.0 c.in_ok-draft.ensures.1)
+    (none_made_yet c.in_ok-rings.rings.serials c.in_ok-rings.rings.made.items old c.in_ok-rings.ensures.0 c.in_ok-rings.ensures.1)
     (c.in_ok-thread.ensures.makes old) in
     let process : MakesIf g.process kind.Process g.uid w1 w2 c.in_ok-process.process = c.in_ok-process.ensures.makes old in
     let session : HasSessionRing g.join g.uid w2 w3 c.in_ok-session.session =
@@ -59,8 +59,8 @@ returns-clause-ok c =
               session = c.in_ok-session.session;
               user = c.in_ok-user.user;
             }) in
-            in_sessions t.negative t.keys t.rings t.auths.sessions c.set_context.new.self.sessions c.take.new.self (session_changed c.args.id.now given)
+            in_sessions t.negative t.keys t.rings t.auths.sessions c.set_context.new.self.sessions c.make_rings.new.self (session_changed c.args.id.now given)
             c.self.view_is c.set_context.ensures.sessions
-            ∙ ap (λ (w : World). record w { sessions = session_changed c.args.id.now given w.sessions }) c.in_ok-take.ensures.ok,
+            ∙ ap (λ (w : World). record w { sessions = session_changed c.args.id.now given w.sessions }) c.in_ok-make_rings.ensures.ok,
       ),
     )

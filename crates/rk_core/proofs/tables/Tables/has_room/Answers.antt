@@ -2,7 +2,7 @@ use Rattle.std.proofs.Common.{◌≡◌, ◌+◌, ◌≤◌, sym, ap, ◌∙◌,
 use Rattle.std.specs.Prelude.{◌↔◌, IsTrue}
 use Rattle.std.specs.FinMap as map
 use Rattle.rk_machine.specs.World.{World}
-use Rattle.rk_core.proofs.Greetings.RingsFromADraft.{len-rings_seen}
+use Rattle.rk_core.proofs.Greetings.RingsOfAContext.{len-rings_seen}
 use Rattle.rk_core.proofs.tables.Tables.has_room.Goals as goal
 
 pub returns : goal.returns

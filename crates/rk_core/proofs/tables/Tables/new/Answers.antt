@@ -5,13 +5,13 @@ use Rattle.std.specs.FinMap as map
 use Rattle.rk_keys.specs.Known.{Known}
 use Rattle.rk_rings.specs.Numbered.{Numbered, Rings, rings_seen}
 use Rattle.rk_rings.proofs.Seen.{rings_seen-empty}
-use Rattle.rk_core.specs.Kept.{IsKept}
+use Rattle.rk_core.specs.Numbering.{NumbersAgree}
 use Rattle.rk_core.proofs.tables.Tables.new.Goals as goal
 
 nothing : (rings : Rings) (ring : ℕ) (r : Numbered) → rings ≡ map.empty → map.get rings ring ≡ Some r → ⊥
 nothing rings ring r is e = let h : None ≡ Some r = sym (ap (λ (m : Rings). map.get m ring) is ∙ map.get-empty nat_cmp ring) ∙ e in absurd (cc)
 
-empty_kept : (known : Known) (rings : Rings) → rings ≡ map.empty → IsKept known rings
+empty_kept : (known : Known) (rings : Rings) → rings ≡ map.empty → NumbersAgree known rings
 empty_kept known rings is = record { numbered = λ ring k n r e h. absurd (nothing rings ring r is e) }
 
 pub invariant_of-result : goal.invariant_of-result

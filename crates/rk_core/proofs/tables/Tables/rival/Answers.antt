@@ -2,8 +2,8 @@ use Rattle.std.proofs.Common.{◌≡◌, ℕ, Bool, true, false, not, ◌&&◌, 
 use Rattle.std.specs.Prelude.{Option, nat_eq}
 use Rattle.std.specs.Option.{option_map_or}
 use Rattle.rk_machine.specs.World.{World}
-use Rattle.rk_core.specs.Kept.{world_of}
-use Rattle.rk_core.specs.Tidy.{rival_in}
+use Rattle.rk_core.specs.Numbering.{world_of}
+use Rattle.rk_core.specs.Vanishing.{rival_in}
 use Rattle.rk_core.proofs.LinksAndNames.LinksByNumber.{rival_seen, last_false}
 use Rattle.rk_core.proofs.tables.Tables.rival.Goals as goal
 

@@ -1,4 +1,4 @@
--- Rings that are made from a draft, with the numbers of names and without.
+-- Rings that are to be made, with the numbers of names and without.
 use Rattle.std.proofs.Common.{◌≡◌, ℕ, zero, suc, false, cond, ◌||◌, List, [], ◌∷◌, ◌++◌, refl, sym, ap, ◌∙◌, subst, arith}
 use Rattle.std.specs.Prelude.{Option, Some, None, nat_eq, option_map}
 use Rattle.std.specs.Ordering.{nat_cmp}
@@ -14,7 +14,7 @@ use Rattle.rk_rings.proofs.Counts.{some_key, one_less}
 use Rattle.rk_rings.proofs.Seen.{get-rings_seen, contains_key-rings_seen, rings_seen-empty, rings_seen-insert, rings_seen-remove, ring_seen-new_ring}
 use Rattle.rk_machine.specs.World.{World}
 use Rattle.rk_machine.specs.Hello.{Makes}
-use Rattle.rk_core.specs.Drafts.{with_all, AreAllNew, drafted, IsDraftOf}
+use Rattle.rk_core.specs.NewRings.{with_all, AreAllNew, with_new_rings, AreNewRings}
 use Rattle.rk_machine.proofs.Found.InMaps.{get_inserted}
 use Rattle.rk_machine.proofs.Found.Refusals.{or_left, or_right}
 
@@ -51,7 +51,7 @@ pub with_all_seen : (made : List NewRing) (m : Rings) → rings_seen (with_rings
 with_all_seen [] m = refl
 with_all_seen (one ∷ more) m = with_all_seen more (map.insert m one.serial (new_ring one)) ∙ ap (with_all more) (one_seen m one)
 
--- ---- one more ring in a draft
+-- ---- one ring more
 
 with_all_push : (made : List NewRing) (m : map.FinMap nat_cmp Ring) (one : NewRing)
     → with_all (made ++ one ∷ []) m ≡ map.insert (with_all made m) one.serial (empty_ring one.kind one.uid)
@@ -74,35 +74,35 @@ not_used d k q h =
 pub still_none : (rings : map.FinMap nat_cmp Ring) (k q : ℕ) (r : Ring) → nat_eq k q ≡ false → map.get rings q ≡ None → map.get (map.insert rings k r) q ≡ None
 still_none rings k q r other none = get_inserted rings k r q ∙ ap (λ b. cond b (Some r) (map.get rings q)) other ∙ none
 
-pub draft_more : (old new : Drawn) (made more : List NewRing) (rings : map.FinMap nat_cmp Ring) (one : NewRing) → IsFresh old one.serial
+pub one_more_new : (old new : Drawn) (made more : List NewRing) (rings : map.FinMap nat_cmp Ring) (one : NewRing) → IsFresh old one.serial
     → new ≡ with_drawn one.serial old → more ≡ made ++ one ∷ []
-    → IsDraftOf old made rings → IsDraftOf new more rings
-draft_more old new made more rings one fresh n m f =
-    let added : IsDraftOf (with_drawn one.serial old) (made ++ one ∷ []) rings = record {
+    → AreNewRings old made rings → AreNewRings new more rings
+one_more_new old new made more rings one fresh n m f =
+    let added : AreNewRings (with_drawn one.serial old) (made ++ one ∷ []) rings = record {
       new = all_new_push made rings one f.new (f.more one.serial fresh.unused);
       more = λ q h.
           let apart = not_used old one.serial q h in
           ap (λ (m : map.FinMap nat_cmp Ring). map.get m q) (with_all_push made rings one)
           ∙ still_none (with_all made rings) one.serial q (empty_ring one.kind one.uid) apart.0 (f.more q apart.1);
     } in
-    subst (λ (s : Drawn). IsDraftOf s more rings) (sym n) (subst (λ es. IsDraftOf (with_drawn one.serial old) es rings) (sym m) added)
+    subst (λ (s : Drawn). AreNewRings s more rings) (sym n) (subst (λ es. AreNewRings (with_drawn one.serial old) es rings) (sym m) added)
 
 pub makes_one : (old new : Drawn) (made more : List NewRing) (one : NewRing) → IsFresh old one.serial → new ≡ with_drawn one.serial old
     → more ≡ made ++ one ∷ []
-    → (w : World) → Makes one.kind one.uid (drafted old made w) (drafted new more w) one.serial
+    → (w : World) → Makes one.kind one.uid (with_new_rings old made w) (with_new_rings new more w) one.serial
 makes_one old new made more one fresh n m w =
     let rings : with_all more w.rings ≡ map.insert (with_all made w.rings) one.serial (empty_ring one.kind one.uid) =
     ap (λ es. with_all es w.rings) m ∙ with_all_push made w.rings one in
     (fresh, λ i. record w { serials = n i; rings = rings i })
 
--- ---- an empty draft
+-- ---- none
 
-pub start_draft : (serials : Drawn) (made : List NewRing) (w : World) → serials ≡ w.serials → made ≡ []
+pub new_at_first : (serials : Drawn) (made : List NewRing) (w : World) → serials ≡ w.serials → made ≡ []
     → ((k : ℕ) → set.contains w.serials.used k ≡ false → map.get w.rings k ≡ None)
-    → IsDraftOf serials made w.rings
-start_draft serials made w s m unused =
-    subst (λ es. IsDraftOf serials es w.rings) (sym m) (record { new = tt; more = λ k h. unused k (ap (λ (d : Drawn). set.contains d.used k) (sym s) ∙ h) })
+    → AreNewRings serials made w.rings
+new_at_first serials made w s m unused =
+    subst (λ es. AreNewRings serials es w.rings) (sym m) (record { new = tt; more = λ k h. unused k (ap (λ (d : Drawn). set.contains d.used k) (sym s) ∙ h) })
 
--- an empty draft changes nothing
-pub nothing_drafted : (serials : Drawn) (made : List NewRing) (w : World) → serials ≡ w.serials → made ≡ [] → drafted serials made w ≡ w
-nothing_drafted serials made w s m = λ i. record w { serials = s i; rings = with_all (m i) w.rings }
+-- no new ring changes nothing
+pub none_made_yet : (serials : Drawn) (made : List NewRing) (w : World) → serials ≡ w.serials → made ≡ [] → with_new_rings serials made w ≡ w
+none_made_yet serials made w s m = λ i. record w { serials = s i; rings = with_all (m i) w.rings }

@@ -6,8 +6,8 @@ use Rattle.std.specs.FinSet as set
 use Rattle.rk_rings.specs.Ring.{Ring}
 use Rattle.rk_machine.specs.World.{tidied}
 use Rattle.rk_machine.specs.Links.{cleared_in}
-use Rattle.rk_core.specs.Tidy.{StayBut}
-use Rattle.rk_core.proofs.tables.Tables.clear_tidily.Given as goal
+use Rattle.rk_core.specs.Vanishing.{StayBut}
+use Rattle.rk_core.proofs.tables.Tables.clear.Given as goal
 
 abbrev pub invariant-loop-key : goal.invariant-loop-key
 invariant-loop-key l = StayBut (λ j. false) l.self × (tidied (cleared_in (Some l.fn.ring) l.self) ≡ tidied (cleared_in (Some l.fn.ring) l.initial.self))

@@ -21,19 +21,19 @@ AreAllNew [] rings = Unit {0}
 AreAllNew (one ∷ more) rings = (map.get rings one.serial ≡ None) × AreAllNew more (map.insert rings one.serial (empty_ring one.kind one.uid))
 
 -- the world with these rings made, and with these serials
-abbrev pub drafted : Drawn → List NewRing → World → World
-drafted serials made w = record w { rings = with_all made w.rings; serials = serials }
+abbrev pub with_new_rings : Drawn → List NewRing → World → World
+with_new_rings serials made w = record w { rings = with_all made w.rings; serials = serials }
 
 -- rings to be made, beside those that are there
-pub record IsDraftOf (serials : Drawn) (made : List NewRing) (rings : map.FinMap nat_cmp Ring) : Type 0 where
+pub record AreNewRings (serials : Drawn) (made : List NewRing) (rings : map.FinMap nat_cmp Ring) : Type 0 where
   -- each has a serial that no ring has
   pub new : AreAllNew made rings
   -- and so has any ring to come, whose serial was not drawn
   pub more : (k : ℕ) → set.contains serials.used k ≡ false → map.get (with_all made rings) k ≡ None
 
--- whatever rings the one draft is beside, the other is a draft beside them, too
-abbrev pub StaysDraft : Drawn → List NewRing → Drawn → List NewRing → Type 0
-StaysDraft serials made more all = (rings : map.FinMap nat_cmp Ring) → IsDraftOf serials made rings → IsDraftOf more all rings
+-- beside whatever rings the first are new, the others are new, too
+abbrev pub StayNewRings : Drawn → List NewRing → Drawn → List NewRing → Type 0
+StayNewRings serials made more all = (rings : map.FinMap nat_cmp Ring) → AreNewRings serials made rings → AreNewRings more all rings
 
 -- the ring that is there, where one is given, and else a new one
 abbrev pub MakesOr : Option ℕ → RingKind → ℕ → World → World → ℕ → Type 0

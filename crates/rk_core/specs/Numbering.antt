@@ -12,6 +12,6 @@ world_of negative known rings sessions =
     record { negative = negative; keys = known.keys; rings = rings_seen rings; serials = known.serials; sessions = sessions }
 
 -- the keys and the rings agree on names
-pub record IsKept (known : Known) (rings : Rings) : Type 0 where
+pub record NumbersAgree (known : Known) (rings : Rings) : Type 0 where
   -- each link has the number of its key's name
   pub numbered : (ring k n : ℕ) (r : Numbered) → map.get rings ring ≡ Some r → map.get r.links k ≡ Some n → map.get known.numbers k ≡ Some n

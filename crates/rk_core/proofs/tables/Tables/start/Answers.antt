@@ -10,20 +10,20 @@ use Rattle.rk_machine.specs.Search.{Query}
 use Rattle.rk_machine.specs.Request.{waiting, subject_of}
 use Rattle.rk_machine.specs.declared.event.Answer.TheVariants.{Start}
 use Rattle.rk_core.proofs.Requests.NewKey.{new_known, others_stay, has_room, leads_nowhere}
-use Rattle.rk_core.proofs.tables.Tables.begin.Goals as goal
+use Rattle.rk_core.proofs.tables.Tables.start.Goals as goal
 
-pub link_tidily-requires-clause-known : goal.link_tidily-requires-clause-known
-link_tidily-requires-clause-known c =
+pub link-requires-clause-known : goal.link-requires-clause-known
+link-requires-clause-known c =
     new_known c.args.self.now c.make_construction.new.self c.in_ok-key.key (new_key c.args.typ c.args.description c.args.asker.now.context.uid None)
     (ap (λ (w : World). w.keys) c.in_ok-key.ensures.ok) (ap (λ (w : World). w.rings) c.in_ok-key.ensures.ok)
 
-pub link_tidily-requires-clause-tidy : goal.link_tidily-requires-clause-tidy
-link_tidily-requires-clause-tidy c =
+pub link-requires-clause-tidy : goal.link-requires-clause-tidy
+link-requires-clause-tidy c =
     others_stay c.args.self.now c.make_construction.new.self c.in_ok-key.key (new_key c.args.typ c.args.description c.args.asker.now.context.uid None)
     (ap (λ (w : World). w.keys) c.in_ok-key.ensures.ok) (ap (λ (w : World). w.rings) c.in_ok-key.ensures.ok) c.requires.sound.tidy
 
-pub link_tidily-requires-clause-room : goal.link_tidily-requires-clause-room
-link_tidily-requires-clause-room c =
+pub link-requires-clause-room : goal.link-requires-clause-room
+link-requires-clause-room c =
     has_room c.args.self.now c.make_construction.new.self c.in_ok-key.key (new_key c.args.typ c.args.description c.args.asker.now.context.uid None)
     (ap (λ (w : World). w.keys) c.in_ok-key.ensures.ok) (ap (λ
     (w : World). w.rings) c.in_ok-key.ensures.ok) c.in_ok-key.ensures.unlinked c.args.ring c.requires.room
@@ -33,7 +33,7 @@ wait-requires c =
     let authority : Authority =
     record { context = c.args.asker.now.context; destination = c.args.ring; callout = c.args.callout; depth = c.args.asker.now.depth } in
     subst (λ (a : Sessions). ¬ (Leads a c.in_ok-key.key c.args.id.now))
-    (sym (ap (λ (w : World). w.sessions) (c.link_tidily.ensures) ∙ ap (λ (w : World). w.sessions) c.in_ok-key.ensures.ok))
+    (sym (ap (λ (w : World). w.sessions) (c.link.ensures) ∙ ap (λ (w : World). w.sessions) c.in_ok-key.ensures.ok))
     (leads_nowhere c.args.self.now.sessions c.in_ok-key.key authority c.args.id.now
     (c.requires.sound.constructions c.in_ok-key.key c.in_ok-key.ensures.fresh.unused) c.requires.there)
 
@@ -49,7 +49,7 @@ returns-clause-ok c =
             ∙ (λ j. subject_of (c.in_ok-key.ensures.ok j) k
             (record q { typ = c.in_ok-told_typ.ensures.cases j; description = c.in_ok-told_description.ensures.cases j })
             (c.in_ok-told_callout.ensures.cases j))) i),
-        c.wait.ensures ∙ ap (waiting c.args.id.now k true) (c.link_tidily.ensures
+        c.wait.ensures ∙ ap (waiting c.args.id.now k true) (c.link.ensures
             ∙ ap (λ (w : World). tidied (linked_in (Some c.args.ring) k w)) c.in_ok-key.ensures.ok),
       ),
     )

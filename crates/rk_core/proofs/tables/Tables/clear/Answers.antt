@@ -1,17 +1,17 @@
 use Rattle.std.proofs.Common.{false, sym, ◌∙◌, subst}
 use Rattle.std.specs.Prelude.{Some}
 use Rattle.rk_machine.specs.Links.{unlinked_in}
-use Rattle.rk_core.specs.Tidy.{StayBut}
+use Rattle.rk_core.specs.Vanishing.{StayBut}
 use Rattle.rk_core.proofs.Vanishing.ClearedRing.{tidied_stay, still_to_clear, fewer_links, all_cleared}
-use Rattle.rk_core.proofs.tables.Tables.clear_tidily.Goals as goal
+use Rattle.rk_core.proofs.tables.Tables.clear.Goals as goal
 
 pub loop-key-smaller : goal.loop-key-smaller
-loop-key-smaller c = fewer_links c.loop-key.self c.unlink_tidily.new.self c.args.ring c.in-Some.key c.in-Some.ensures c.unlink_tidily.ensures
+loop-key-smaller c = fewer_links c.loop-key.self c.unlink.new.self c.args.ring c.in-Some.key c.in-Some.ensures c.unlink.ensures
 
 pub loop-key-preserved : goal.loop-key-preserved
 loop-key-preserved c = (
-  subst (StayBut (λ j. false)) (sym c.unlink_tidily.ensures) (tidied_stay (unlinked_in (Some c.args.ring) c.in-Some.key c.loop-key.self)),
-  still_to_clear c.loop-key.self c.unlink_tidily.new.self c.args.ring c.in-Some.key c.unlink_tidily.ensures ∙ c.loop-key.invariant.1,
+  subst (StayBut (λ j. false)) (sym c.unlink.ensures) (tidied_stay (unlinked_in (Some c.args.ring) c.in-Some.key c.loop-key.self)),
+  still_to_clear c.loop-key.self c.unlink.new.self c.args.ring c.in-Some.key c.unlink.ensures ∙ c.loop-key.invariant.1,
 )
 
 pub returns : goal.returns

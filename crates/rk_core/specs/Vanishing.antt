@@ -17,8 +17,8 @@ abbrev pub StayBut : (ℕ → Bool) → World → Type 0
 StayBut some w = (k : ℕ) (key : Key) → map.get w.keys k ≡ Some key → some k ≡ false → stays w k ≡ true
 
 -- this key is taken away, where it does not stay
-abbrev pub settled_at : ℕ → World → World
-settled_at k w = record w { keys = if stays w k then w.keys else map.remove w.keys k }
+abbrev pub vanished_at : ℕ → World → World
+vanished_at k w = record w { keys = if stays w k then w.keys else map.remove w.keys k }
 
 -- the ring is not there
 abbrev pub without_ring : ℕ → World → World

@@ -4,14 +4,14 @@ use Rattle.rk_rings.specs.Ring.{has_link}
 use Rattle.rk_rings.specs.Numbered.{is_held}
 use Rattle.rk_rings.proofs.Seen.{has_link-rings_seen}
 use Rattle.rk_machine.specs.World.{World}
-use Rattle.rk_core.specs.Kept.{IsKept}
+use Rattle.rk_core.specs.Numbering.{NumbersAgree}
 use Rattle.rk_core.proofs.LinksAndNames.NumbersKept.{kept_forget}
-use Rattle.rk_core.proofs.tables.Tables.settle.Goals as goal
+use Rattle.rk_core.proofs.tables.Tables.let_vanish.Goals as goal
 
 pub invariant_of-self : goal.invariant_of-self
 invariant_of-self c =
     let free : is_held c.self.inside.rings c.args.key ≡ false =
     sym (has_link-rings_seen c.self.inside.rings c.args.key) ∙ ap (λ (w : World). has_link w.rings c.args.key) c.self.view_is ∙ sym c.has_link.ensures
     ∙ c.if-not-has_link.true in
-    subst (λ (known : Known). IsKept known c.self.inside.rings) (sym c.forget.ensures)
+    subst (λ (known : Known). NumbersAgree known c.self.inside.rings) (sym c.forget.ensures)
     (kept_forget c.self.inside.keys c.self.inside.rings c.args.key free c.self.invariant)

@@ -1,18 +1,18 @@
 use Rattle.std.proofs.Common.{ℕ, false, ap, ◌∙◌, subst, ◌||◌}
 use Rattle.std.specs.Prelude.{Option, nat_eq}
 use Rattle.std.specs.Option.{option_map_or}
-use Rattle.rk_core.specs.Tidy.{StayBut, settled_at}
+use Rattle.rk_core.specs.Vanishing.{StayBut, vanished_at}
 use Rattle.rk_core.proofs.Vanishing.OneByOne.{one_settles, two_settle}
-use Rattle.rk_core.proofs.tables.Tables.settle_both.Goals as goal
+use Rattle.rk_core.proofs.tables.Tables.let_both_vanish.Goals as goal
 
 pub returns-in-Some : goal.returns-in-Some
 returns-in-Some c =
-    c.settle-in-Some.ensures ∙ ap (settled_at c.args.key) c.settle.ensures
+    c.let_vanish-in-Some.ensures ∙ ap (vanished_at c.args.key) c.let_vanish.ensures
     ∙ two_settle c.args.self.now c.in-Some.rival c.args.key (subst
     (λ (o : Option ℕ). StayBut (λ j. option_map_or (λ r. nat_eq j r) o false || nat_eq j c.args.key) c.args.self.now) c.in-Some.is c.requires)
 
 pub returns-in-None : goal.returns-in-None
 returns-in-None c =
-    c.settle-in-None.ensures
+    c.let_vanish-in-None.ensures
     ∙ one_settles c.args.self.now c.args.key (subst (λ (o : Option ℕ). StayBut
     (λ j. option_map_or (λ r. nat_eq j r) o false || nat_eq j c.args.key) c.args.self.now) c.in-None.is c.requires)

@@ -1,7 +1,0 @@
-use Rattle.std.proofs.Common.{◌∙◌, ap}
-use Rattle.rk_core.specs.Tidy.{without_ring}
-use Rattle.rk_core.proofs.Vanishing.WhichMayVanish.{drop_tidies}
-use Rattle.rk_core.proofs.tables.Tables.drop_tidily.Goals as goal
-
-pub returns : goal.returns
-returns c = c.drop_ring.ensures ∙ ap (without_ring c.args.ring) c.clear_tidily.ensures ∙ drop_tidies c.args.self.now c.args.ring
