@@ -23,6 +23,7 @@ use crate::output::{Output, Outputs};
 use crate::seat::{Place, Seat};
 use crate::seats;
 use crate::stream::Stream;
+use rk_auth::Stage;
 use rk_conf::Conf;
 use rk_core::{Answer, Event, How, Ran};
 use rk_macro::{Op, Subject};
@@ -35,21 +36,24 @@ impl Desk {
     fn has_client(&self, client: u32) -> bool
         ensures { result ≡ has_client self.now.book client }
     {
-        self.book.owes(&Event::Gone(SessionId::Client(client)))
+        self.book.has_client(client)
     }
 
     /// Whether the handler of a key is still to be started.
     fn is_to_start(&self, key: Serial) -> bool
         ensures { result ≡ is_to_start self.now.book key }
     {
-        self.book.owes(&Event::Launched(key, Ran::Plain))
+        matches!(
+            self.book.stage(key),
+            Some(Stage::Starting | Stage::Negating)
+        )
     }
 
     /// Whether the handler of a key runs.
     fn is_running(&self, key: Serial) -> bool
         ensures { result ≡ is_running self.now.book key }
     {
-        self.book.owes(&Event::Ended(key, How::Fault, None))
+        matches!(self.book.stage(key), Some(Stage::Plain(_) | Stage::Piped))
     }
 
     /// Whether the client or construction of a happening is not at that point.
