@@ -31,7 +31,7 @@
 //! | `0`, `3` | done; a number, as the serial of a key |
 //! | `rings 0 0 1 2` | the thread, process, session and user ring of a new context |
 //! | `bytes hi` | a payload, a description or a callout |
-//! | `start 3 user a x 1000 1000 0 0 1` | a handler is to be started: the key, its type and description, the callout, and the requester's uid, gid, thread, process and session ring |
+//! | `start 3 user a x 1000 1000 0 0 1` | a start: key, type, description, callout, and the requester's uid, gid, thread, process and session ring |
 //! | `waiting 3` | the session waits for key 3 |
 //! | `E126` | refused, by the number of errno(3) |
 //! | `yes`, `no`, `none`, `starting` | what a book that was only asked says |

@@ -18,7 +18,8 @@ use Rattle.rk_rings.specs.Ring.{Ring, is_linked, with_link, without_link}
 use Rattle.rk_rings.specs.Numbered.{Numbered, Rings, ring_seen, rings_seen, holds, linked, unlinked, has_number, IsMatch}
 use Rattle.rk_rings.specs.Numbered as numbered
 use Rattle.rk_rings.proofs.Finds.{tied, tied_itself, any_value, some_entry, entry_found}
-use Rattle.rk_rings.proofs.Seen.{get-rings_seen, rings_seen-changed_at, ring_seen-linked, contains-ring_seen, len-ring_seen, is_linked-rings_seen, contains_key-rings_seen, rings_seen-remove, ring_seen-unlinked, GivesWay}
+use Rattle.rk_rings.proofs.Seen.{get-rings_seen, rings_seen-changed_at, ring_seen-linked, contains-ring_seen, len-ring_seen, is_linked-rings_seen}
+use Rattle.rk_rings.proofs.Seen.{contains_key-rings_seen, rings_seen-remove, ring_seen-unlinked, GivesWay}
 use Rattle.rk_core.specs.Numbering.{NumbersAgree}
 use Rattle.rk_machine.specs.Links.{is_full, holds_name}
 use Rattle.rk_machine.proofs.Found.InMaps.{get_removed}
@@ -27,15 +28,16 @@ use Rattle.rk_core.proofs.LinksAndNames.KeysOfAName.{IsNameOf, by_key, gives_way
 
 -- ---- a link is put in
 
-way : (known : Known) (rings : Rings) (ring k n : ℕ) (r : Numbered) → IsNaming known.keys known.numbers → NumbersAgree known rings → map.get known.numbers k ≡ Some n
-    → map.get rings ring ≡ Some r
+way : (known : Known) (rings : Rings) (ring k n : ℕ) (r : Numbered) → IsNaming known.keys known.numbers → NumbersAgree known rings
+    → map.get known.numbers k ≡ Some n → map.get rings ring ≡ Some r
     → GivesWay (is_rival known.keys k) k n r
 way known rings ring k n r naming kept number there = (
   gives_way_by known k n k n naming number number ∙ ap (λ b. not b && nat_eq n n) (eq-eqb k k refl),
   λ j m link other. gives_way_by known k n j m naming number (kept.numbered ring j m r there link) ∙ ap (λ b. not b && nat_eq m n) (ne_eqb j k other),
 )
 
-pub seen_linked : (known : Known) (rings : Rings) (ring k n : ℕ) → IsNaming known.keys known.numbers → NumbersAgree known rings → map.get known.numbers k ≡ Some n
+pub seen_linked : (known : Known) (rings : Rings) (ring k n : ℕ) → IsNaming known.keys known.numbers → NumbersAgree known rings
+    → map.get known.numbers k ≡ Some n
     → rings_seen (changed_at ring (linked k n) rings) ≡ changed_at ring (with_link (is_rival known.keys k) k) (rings_seen rings)
 seen_linked known rings ring k n naming kept number =
     rings_seen-changed_at ring (linked k n) (with_link (is_rival known.keys k) k) rings
@@ -119,7 +121,8 @@ not_there rings ring k f h =
     none (Some r) h = absurd (both_ways _ h refl)
 
 -- where the ring has room for the key, the key is linked, or there is no ring
-pub link_seen : (known : Known) (rings new : Rings) (ring k n : ℕ) (key : Key) (r : Result ⊤ RingFault) → IsNaming known.keys known.numbers → NumbersAgree known rings
+pub link_seen : (known : Known) (rings new : Rings) (ring k n : ℕ) (key : Key) (r : Result ⊤ RingFault)
+    → IsNaming known.keys known.numbers → NumbersAgree known rings
     → map.get known.keys k ≡ Some key → map.get known.numbers k ≡ Some n
     → option_map_or (is_full known.keys key.typ key.description) (map.get (rings_seen rings) ring) false ≡ false
     → OnOk r (new ≡ changed_at ring (linked k n) rings) → OnErr r (new ≡ rings) → ((r ≡ Err fault.NoRing) ↔ (map.contains_key rings ring ≡ false))

@@ -73,7 +73,8 @@ kept_unlink known rings new ring k (inr e) h = subst (NumbersAgree known) (sym e
 
 -- ---- a ring is dropped, rings are made
 
-pub kept_drop : (known : Known) (rings new : Rings) (ring : ℕ) → (new ≡ map.remove rings ring) ⊎ (new ≡ rings) → NumbersAgree known rings → NumbersAgree known new
+pub kept_drop : (known : Known) (rings new : Rings) (ring : ℕ) → (new ≡ map.remove rings ring) ⊎ (new ≡ rings) → NumbersAgree known rings
+    → NumbersAgree known new
 kept_drop known rings new ring (inl e) h =
     subst (NumbersAgree known) (sym e) (record { numbered = λ q k n r there link. h.numbered q k n r (ring_there rings ring q r there) link })
 kept_drop known rings new ring (inr e) h = subst (NumbersAgree known) (sym e) h

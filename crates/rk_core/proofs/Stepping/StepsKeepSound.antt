@@ -30,13 +30,15 @@ use Rattle.rk_machine.specs.Steps.{Step, gone}
 use Rattle.rk_machine.proofs.Effects.BuildingAfter.{built_marked}
 use Rattle.rk_core.proofs.Vanishing.WhichMayVanish.{still_stays}
 use Rattle.rk_core.proofs.Stepping.UnspentIsBuilding.{building_after}
-use Rattle.rk_machine.proofs.Effects.KindsOfStep.{Effect, effect, IsMild, authority_for, refused, still, took, came, went, greets, begins, joins, links, unlinks, marks, tells, sets, adds, assumes, concludes, ran_plain, ran_piped, negates, failed, finished}
+use Rattle.rk_machine.proofs.Effects.KindsOfStep.{Effect, effect, IsMild, authority_for, refused, still, took, came, went, greets, begins, joins, links}
+use Rattle.rk_machine.proofs.Effects.KindsOfStep.{unlinks, marks, tells, sets, adds, assumes, concludes, ran_plain, ran_piped, negates, failed, finished}
 use Rattle.rk_machine.proofs.Found.InMaps.{get_changed_at}
 use Rattle.rk_machine.proofs.Effects.DrawnSerials.{is_drawn}
 use Rattle.rk_machine.proofs.Effects.SerialsStayDrawn.{keeps_drawn}
 use Rattle.rk_machine.proofs.Effects.HelloChanges.{greeted_sessions, greeted_keys}
 use Rattle.rk_core.proofs.Greetings.HelloTakesNothing.{Grows, rings_grow}
-use Rattle.rk_core.proofs.Stepping.UndrawnIsNothing.{IsClear, none_changed, none_kept, none_inserted, none_linked, none_ended, free_changed, free_launched, free_concluded, free_ended, apart}
+use Rattle.rk_core.proofs.Stepping.UndrawnIsNothing.{IsClear, none_changed, none_kept, none_inserted, none_linked, none_ended, free_changed, free_launched}
+use Rattle.rk_core.proofs.Stepping.UndrawnIsNothing.{free_concluded, free_ended, apart}
 use Rattle.rk_core.proofs.LinksAndNames.LinksAfter.{links_kept}
 use Rattle.rk_core.proofs.Vanishing.ClearedRing.{tidied_stay}
 

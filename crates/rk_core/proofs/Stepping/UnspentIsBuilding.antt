@@ -25,7 +25,8 @@ use Rattle.rk_machine.specs.Links.{linked_in, unlinked_in, cleared_in}
 use Rattle.rk_machine.specs.Completion.{keys_ended}
 use Rattle.rk_core.specs.Sound.{IsSound}
 use Rattle.rk_machine.specs.Steps.{rings_without}
-use Rattle.rk_machine.proofs.Effects.KindsOfStep.{Effect, authority_for, refused, still, took, came, went, greets, begins, joins, links, unlinks, marks, tells, sets, adds, assumes, concludes, ran_plain, ran_piped, negates, failed, finished}
+use Rattle.rk_machine.proofs.Effects.KindsOfStep.{Effect, authority_for, refused, still, took, came, went, greets, begins, joins, links, unlinks, marks}
+use Rattle.rk_machine.proofs.Effects.KindsOfStep.{tells, sets, adds, assumes, concludes, ran_plain, ran_piped, negates, failed, finished}
 use Rattle.rk_machine.proofs.Effects.HelloChanges.{greeted_sessions, greeted_keys}
 use Rattle.rk_machine.proofs.Effects.BuildingAfter.{built_at, built_in, built_tidied, built_put, built_marked, built_concluded}
 use Rattle.rk_machine.proofs.Effects.AuthoritiesAfter.{unspent_changed, unspent_launched, unspent_concluded, unspent_ended, unspent_issued}
