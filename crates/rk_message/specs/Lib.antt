@@ -8,3 +8,4 @@ pub mod Slots
 pub mod Replies
 pub mod Spellings
 pub mod Laws
+pub mod Bodies

@@ -1,31 +1,34 @@
 -- The lines behind a script's head, played one after the other, and a whole script.
-use Rattle.std.proofs.Common.{◌≡◌, ℕ, ◌+◌, List, [], ◌∷◌, ◌++◌, map, Option, refl, sym, ap, ◌∙◌, subst, append_assoc}
+use Rattle.std.proofs.Common.{◌≡◌, ℕ, ◌+◌, List, [], ◌∷◌, ◌++◌, map, Option, Some, None, refl, sym, ap, ◌∙◌, subst, append_assoc}
 use Rattle.std.proofs.lemmas.List.{append-nil}
 use Rattle.rk_conf.specs.declared.line.Line.{Line}
 use Rattle.rk_machine.specs.Steps.{Beginning, Past}
-use Rattle.rk_replay.specs.declared.happening.Happening.{Happening}
-use Rattle.rk_replay.specs.declared.output.Output.{Output}
-use Rattle.rk_replay.specs.declared.reading.Reading.{Reading}
-use Rattle.rk_replay.specs.declared.reading.Reading.TheVariants.{Blank, Conf, Negative, Happens, Wrong}
+use Rattle.rk_served.specs.declared.happening.Happening.{Happening}
+use Rattle.rk_served.specs.declared.output.Output.{Output}
+use Rattle.rk_replay.specs.declared.script_line.ScriptLine.{ScriptLine}
+use Rattle.rk_replay.specs.declared.script_line.ScriptLine.TheVariants.{Blank, Conf, Negative, Happens, Wrong}
 use Rattle.rk_replay.specs.declared.transcript.LineFault.TheVariants.{NotALine}
-use Rattle.rk_replay.specs.Left.{Left, nothing}
-use Rattle.rk_replay.specs.Served.{Turn}
-use Rattle.rk_replay.specs.Order.{ServedInOrder}
+use Rattle.rk_served.specs.Left.{Left, nothing}
+use Rattle.rk_served.specs.Served.{Turn}
+use Rattle.rk_served.specs.Order.{ServedInOrder}
 use Rattle.rk_replay.specs.Writing.{fault_line}
 use Rattle.rk_replay.specs.Script.{said_late, happenings_of}
 use Rattle.rk_replay.specs.Written.{turn_text, text_from, moment_of, outputs_in}
-use Rattle.rk_replay.specs.Playing.{Plays, PlaysAll}
-use Rattle.rk_replay.proofs.Orders.{in_order_push}
+use Rattle.rk_replay.specs.declared.playing.First.{First}
+use Rattle.rk_replay.specs.Playing.{readings_left, readings_from, Plays, PlaysAll}
+use Rattle.rk_served.proofs.Orders.{in_order_push}
 
 -- the turns so far and the lines that are left give what all lines give
-pub record Played (conf : List Line) (from : Beginning) (first number : ℕ) (all rest : List Reading) (begun text : List ℕ) (left : Left) : Type 0 where
+pub record Played (conf : List Line) (from : Beginning) (first number : ℕ) (all rest : List ScriptLine) (begun text : List ℕ) (left : Left) : Type 0 where
   pub turns : List Turn
   pub run : List Past
   pub served : ServedInOrder conf from turns run left
   pub happenings : happenings_of (map said_late all) ≡ map moment_of turns ++ happenings_of (map said_late rest)
-  pub text_is : (later : List (Option (List Output))) → begun ++ text_from first (map said_late all) (map outputs_in turns ++ later) ≡ text ++ text_from number (map said_late rest) later
+  pub text_is : (later : List (Option (List Output))) → begun ++ text_from first (map said_late all) (map outputs_in turns ++ later) ≡ text
+      ++ text_from number (map said_late rest) later
 
-pub played_none : (conf : List Line) (from : Beginning) (number : ℕ) (all : List Reading) (text : List ℕ) → Played conf from number number all all text text (nothing from)
+pub played_none : (conf : List Line) (from : Beginning) (number : ℕ) (all : List ScriptLine) (text : List ℕ)
+    → Played conf from number number all all text text (nothing from)
 played_none conf from number all text = record {
   turns = [];
   run = [];
@@ -38,9 +41,9 @@ map_push : {X Y : Type 0} (f : X → Y) (xs : List X) (x : X) (later : List Y) �
 map_push f [] x later = refl
 map_push f (y ∷ ys) x later = ap (λ (zs : List _). f y ∷ zs) (map_push f ys x later)
 
-module _ (conf : List Line) (from : Beginning) (first number : ℕ) (all rest : List Reading) (begun text text' : List ℕ) (left new : Left) where
+module _ (conf : List Line) (from : Beginning) (first number : ℕ) (all rest : List ScriptLine) (begun text text' : List ℕ) (left new : Left) where
   -- a line that is passed over
-  passed : (r : Reading) → (happenings_of (map said_late (r ∷ rest)) ≡ happenings_of (map said_late rest))
+  passed : (r : ScriptLine) → (happenings_of (map said_late (r ∷ rest)) ≡ happenings_of (map said_late rest))
       → ((told : List (Option (List Output))) → text_from number (map said_late (r ∷ rest)) told ≡ text_from (number + 1) (map said_late rest) told)
       → Played conf from first number all (r ∷ rest) begun text left → new ≡ left → text' ≡ text → Played conf from first (number + 1) all rest begun text' new
   passed r none same p e t = record {
@@ -48,22 +51,29 @@ module _ (conf : List Line) (from : Beginning) (first number : ℕ) (all rest : 
     run = p.run;
     served = subst (λ (l : Left). ServedInOrder conf from p.turns p.run l) (sym e) p.served;
     happenings = p.happenings ∙ ap (λ (hs : List (ℕ × Happening)). map moment_of p.turns ++ hs) none;
-    text_is = λ later. p.text_is later ∙ (ap (λ (bs : List ℕ). text ++ bs) (same later) ∙ ap (λ (bs : List ℕ). bs ++ text_from (number + 1) (map said_late rest) later) (sym t));
+    text_is = λ later. p.text_is later
+        ∙ (ap (λ (bs : List ℕ). text ++ bs) (same later) ∙ ap (λ (bs : List ℕ). bs ++ text_from (number + 1) (map said_late rest) later) (sym t));
   }
 
   -- a line that is none
-  refused : (r : Reading) → (happenings_of (map said_late (r ∷ rest)) ≡ happenings_of (map said_late rest))
-      → ((told : List (Option (List Output))) → text_from number (map said_late (r ∷ rest)) told ≡ fault_line number NotALine ++ text_from (number + 1) (map said_late rest) told)
-      → Played conf from first number all (r ∷ rest) begun text left → new ≡ left → text' ≡ text ++ fault_line number NotALine → Played conf from first (number + 1) all rest begun text' new
+  refused : (r : ScriptLine) → (happenings_of (map said_late (r ∷ rest)) ≡ happenings_of (map said_late rest))
+      → ((told : List (Option (List Output))) → text_from number (map said_late (r ∷ rest)) told ≡ fault_line number NotALine
+      ++ text_from (number + 1) (map said_late rest) told)
+      → Played conf from first number all (r ∷ rest) begun text left → new ≡ left → text' ≡ text ++ fault_line number NotALine
+      → Played conf from first (number + 1) all rest begun text' new
   refused r none same p e t = record {
     turns = p.turns;
     run = p.run;
     served = subst (λ (l : Left). ServedInOrder conf from p.turns p.run l) (sym e) p.served;
     happenings = p.happenings ∙ ap (λ (hs : List (ℕ × Happening)). map moment_of p.turns ++ hs) none;
-    text_is = λ later. p.text_is later ∙ (ap (λ (bs : List ℕ). text ++ bs) (same later) ∙ (sym (append_assoc text (fault_line number NotALine) (text_from (number + 1) (map said_late rest) later)) ∙ ap (λ (bs : List ℕ). bs ++ text_from (number + 1) (map said_late rest) later) (sym t)));
+    text_is = λ later. p.text_is later
+        ∙ (ap (λ (bs : List ℕ). text ++ bs) (same later)
+        ∙ (sym (append_assoc text (fault_line number NotALine) (text_from (number + 1) (map said_late rest) later))
+        ∙ ap (λ (bs : List ℕ). bs ++ text_from (number + 1) (map said_late rest) later) (sym t)));
   }
 
-  pub played_line : (r : Reading) → Played conf from first number all (r ∷ rest) begun text left → Plays conf number r left text new text' → Played conf from first (number + 1) all rest begun text' new
+  pub played_line : (r : ScriptLine) → Played conf from first number all (r ∷ rest) begun text left → Plays conf number r left text new text'
+      → Played conf from first (number + 1) all rest begun text' new
   played_line Blank p h = passed Blank refl (λ told. refl) p h.0 h.1
   played_line (Conf line) p h = refused (Conf line) refl (λ told. refl) p h.0 h.1
   played_line (Negative n) p h = refused (Negative n) refl (λ told. refl) p h.0 h.1
@@ -76,15 +86,37 @@ module _ (conf : List Line) (from : Beginning) (first number : ℕ) (all rest : 
         served = in_order_push conf p.turns p.run h.1 (nothing from) left new turn p.served h.2;
         happenings = p.happenings ∙ sym (map_push moment_of p.turns turn (happenings_of (map said_late rest)));
         text_is = λ later. ap (λ (os : List (Option (List Output))). begun ++ text_from first (map said_late all) os) (map_push outputs_in p.turns turn later)
-            ∙ (p.text_is (h.0 ∷ later) ∙ (sym (append_assoc text (turn_text number h.0) (text_from (number + 1) (map said_late rest) later)) ∙ ap (λ (bs : List ℕ). bs ++ text_from (number + 1) (map said_late rest) later) (sym h.3)));
+            ∙ (p.text_is (h.0 ∷ later)
+            ∙ (sym (append_assoc text (turn_text number h.0) (text_from (number + 1) (map said_late rest) later))
+            ∙ ap (λ (bs : List ℕ). bs ++ text_from (number + 1) (map said_late rest) later) (sym h.3)));
       }
 
-pub played_all : (conf : List Line) (from : Beginning) (first number : ℕ) (all : List Reading) (begun text : List ℕ) (left : Left) → Played conf from first number all [] begun text left → PlaysAll conf from first all begun text
+-- the first line, on which something happens
+pub played_first : (conf : List Line) (from : Beginning) (number : ℕ) (text text' : List ℕ) (left new : Left) (head : Option First) (first : First)
+    → head ≡ Some first → left ≡ nothing from → Plays conf number (Happens first.now first.happening) left text new text'
+    → Played conf from number (number + 1) (readings_from head) (readings_left first.rest) text text' new
+played_first conf from number text text' left new head first is begins plays =
+    let all = readings_from head in
+    let none : Played conf from number number all all text text left =
+    subst (λ (l : Left). Played conf from number number all all text text l) (sym begins) (played_none conf from number all text) in
+    played_line conf from number number all (readings_left first.rest) text text text' left new (Happens first.now first.happening)
+    (subst (λ (rs : List ScriptLine). Played conf from number number all rs text text left) (ap readings_from is) none) plays
+
+pub played_all : (conf : List Line) (from : Beginning) (first number : ℕ) (all : List ScriptLine) (begun text : List ℕ) (left : Left)
+    → Played conf from first number all [] begun text left → PlaysAll conf from first all begun text
 played_all conf from first number all begun text left p = record {
   turns = p.turns;
   run = p.run;
   left = left;
   served = p.served;
   happenings = sym (p.happenings ∙ append-nil _);
-  text_is = sym (append-nil text) ∙ (sym (p.text_is []) ∙ ap (λ (os : List (Option (List Output))). begun ++ text_from first (map said_late all) os) (append-nil _));
+  text_is = sym (append-nil text)
+      ∙ (sym (p.text_is []) ∙ ap (λ (os : List (Option (List Output))). begun ++ text_from first (map said_late all) os) (append-nil _));
 }
+
+-- nothing happens
+pub plays_none : (conf : List Line) (from : Beginning) (number : ℕ) (head : Option First) (text : List ℕ) → head ≡ None
+    → PlaysAll conf from number (readings_from head) text text
+plays_none conf from number head text none =
+    subst (λ (h : Option First). PlaysAll conf from number (readings_from h) text text) (sym none)
+    (played_all conf from number number [] text text (nothing from) (played_none conf from number [] text))

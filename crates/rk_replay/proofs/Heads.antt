@@ -1,34 +1,45 @@
 -- What a script says, from its head and what is behind it.
-use Rattle.std.proofs.Common.{◌≡◌, ℕ, suc, ◌+◌, List, [], ◌∷◌, ◌++◌, length, take, map, true, false, not, refl, sym, ap, ◌∙◌, arith, append_assoc, Option}
+use Rattle.std.proofs.Common.{◌≡◌, ℕ, suc, ◌+◌, List, [], ◌∷◌, ◌++◌, length, take, map, Bool, true, false, not, refl, sym, ap, ◌∙◌, arith}
+use Rattle.std.proofs.Common.{append_assoc, Option, Some, None}
 use Rattle.std.specs.List.{flat_map, filter_map, list_all, prefix_len}
 use Rattle.std.proofs.lemmas.List.{append-nil}
 use Rattle.std.proofs.lemmas.List.Elements.{filter_map-append}
-use Rattle.rk_replay.specs.declared.happening.Happening.{Happening}
-use Rattle.rk_replay.specs.declared.output.Output.{Output}
-use Rattle.rk_replay.specs.declared.reading.Reading.{Reading}
-use Rattle.rk_replay.specs.declared.reading.Reading.TheVariants.{Blank, Conf, Negative, Happens, Wrong}
+use Rattle.rk_served.specs.declared.happening.Happening.{Happening}
+use Rattle.rk_served.specs.declared.output.Output.{Output}
+use Rattle.rk_replay.specs.declared.script_line.ScriptLine.{ScriptLine}
+use Rattle.rk_replay.specs.declared.script_line.ScriptLine.TheVariants.{Blank, Conf, Negative, Happens, Wrong}
 use Rattle.rk_replay.specs.declared.transcript.LineFault.TheVariants.{NotALine}
 use Rattle.rk_replay.specs.Writing.{line_text, fault_line}
 use Rattle.rk_replay.specs.Script.{happens, said_late, said_by, conf_in, seconds_in, happening_in, conf_by, happenings_of, before_all}
 use Rattle.rk_replay.specs.Settings.{configured}
-use Rattle.rk_replay.specs.Playing.{happens_first}
+use Rattle.rk_replay.specs.declared.playing.First.{First}
+use Rattle.rk_replay.specs.Playing.{readings_from}
 use Rattle.rk_replay.specs.Written.{text_from}
 
 -- nothing happens on these lines
-abbrev pub Quiet : List Reading → Type 0
+abbrev pub Quiet : List ScriptLine → Type 0
 Quiet rs = list_all (λ r. not (happens r)) rs ≡ true
+
+-- nothing is left, or something happens first
+abbrev happens_first : List ScriptLine → Bool
+happens_first [] = true
+happens_first (r ∷ rs) = happens r
+
+pub from_first : (first : Option First) → happens_first (readings_from first) ≡ true
+from_first None = refl
+from_first (Some first) = refl
 
 -- ---- one behind the other
 
-pub said_head : (lines rest : List Reading) → Quiet lines → said_by (lines ++ rest) ≡ lines ++ said_by rest
+pub said_head : (lines rest : List ScriptLine) → Quiet lines → said_by (lines ++ rest) ≡ lines ++ said_by rest
 said_head [] rest q = refl
-said_head (Blank ∷ rs) rest q = ap (λ (xs : List Reading). Blank ∷ xs) (said_head rs rest q)
-said_head (Conf t ∷ rs) rest q = ap (λ (xs : List Reading). Conf t ∷ xs) (said_head rs rest q)
-said_head (Negative n ∷ rs) rest q = ap (λ (xs : List Reading). Negative n ∷ xs) (said_head rs rest q)
-said_head (Wrong ∷ rs) rest q = ap (λ (xs : List Reading). Wrong ∷ xs) (said_head rs rest q)
+said_head (Blank ∷ rs) rest q = ap (λ (xs : List ScriptLine). Blank ∷ xs) (said_head rs rest q)
+said_head (Conf t ∷ rs) rest q = ap (λ (xs : List ScriptLine). Conf t ∷ xs) (said_head rs rest q)
+said_head (Negative n ∷ rs) rest q = ap (λ (xs : List ScriptLine). Negative n ∷ xs) (said_head rs rest q)
+said_head (Wrong ∷ rs) rest q = ap (λ (xs : List ScriptLine). Wrong ∷ xs) (said_head rs rest q)
 said_head (Happens now h ∷ rs) rest q = absurd (cc)
 
-said_rest : (rest : List Reading) → happens_first rest ≡ true → said_by rest ≡ map said_late rest
+said_rest : (rest : List ScriptLine) → happens_first rest ≡ true → said_by rest ≡ map said_late rest
 said_rest [] e = refl
 said_rest (Blank ∷ rs) e = absurd (cc)
 said_rest (Conf t ∷ rs) e = absurd (cc)
@@ -36,12 +47,12 @@ said_rest (Negative n ∷ rs) e = absurd (cc)
 said_rest (Wrong ∷ rs) e = absurd (cc)
 said_rest (Happens now h ∷ rs) e = refl
 
-pub said_parts : (lines rest : List Reading) → Quiet lines → happens_first rest ≡ true → said_by (lines ++ rest) ≡ lines ++ map said_late rest
-said_parts lines rest q e = said_head lines rest q ∙ ap (λ (xs : List Reading). lines ++ xs) (said_rest rest e)
+pub said_parts : (lines rest : List ScriptLine) → Quiet lines → happens_first rest ≡ true → said_by (lines ++ rest) ≡ lines ++ map said_late rest
+said_parts lines rest q e = said_head lines rest q ∙ ap (λ (xs : List ScriptLine). lines ++ xs) (said_rest rest e)
 
 -- ---- what is behind the head sets nothing
 
-no_conf : (rs : List Reading) → filter_map conf_in (map said_late rs) ≡ []
+no_conf : (rs : List ScriptLine) → filter_map conf_in (map said_late rs) ≡ []
 no_conf [] = refl
 no_conf (Blank ∷ rs) = no_conf rs
 no_conf (Conf t ∷ rs) = no_conf rs
@@ -49,7 +60,7 @@ no_conf (Negative n ∷ rs) = no_conf rs
 no_conf (Wrong ∷ rs) = no_conf rs
 no_conf (Happens now h ∷ rs) = no_conf rs
 
-no_seconds : (rs : List Reading) → filter_map seconds_in (map said_late rs) ≡ []
+no_seconds : (rs : List ScriptLine) → filter_map seconds_in (map said_late rs) ≡ []
 no_seconds [] = refl
 no_seconds (Blank ∷ rs) = no_seconds rs
 no_seconds (Conf t ∷ rs) = no_seconds rs
@@ -57,14 +68,16 @@ no_seconds (Negative n ∷ rs) = no_seconds rs
 no_seconds (Wrong ∷ rs) = no_seconds rs
 no_seconds (Happens now h ∷ rs) = no_seconds rs
 
-abbrev pub parts : List Reading → List Reading → List Reading
+abbrev pub parts : List ScriptLine → List ScriptLine → List ScriptLine
 parts lines rest = lines ++ map said_late rest
 
-pub conf_parts : (lines rest : List Reading) → filter_map conf_in (parts lines rest) ≡ filter_map conf_in lines
-conf_parts lines rest = filter_map-append conf_in lines (map said_late rest) ∙ (ap (λ (ts : List (List ℕ)). filter_map conf_in lines ++ ts) (no_conf rest) ∙ append-nil _)
+pub conf_parts : (lines rest : List ScriptLine) → filter_map conf_in (parts lines rest) ≡ filter_map conf_in lines
+conf_parts lines rest = filter_map-append conf_in lines (map said_late rest)
+    ∙ (ap (λ (ts : List (List ℕ)). filter_map conf_in lines ++ ts) (no_conf rest) ∙ append-nil _)
 
-pub seconds_parts : (lines rest : List Reading) → filter_map seconds_in (parts lines rest) ≡ filter_map seconds_in lines
-seconds_parts lines rest = filter_map-append seconds_in lines (map said_late rest) ∙ (ap (λ (ns : List ℕ). filter_map seconds_in lines ++ ns) (no_seconds rest) ∙ append-nil _)
+pub seconds_parts : (lines rest : List ScriptLine) → filter_map seconds_in (parts lines rest) ≡ filter_map seconds_in lines
+seconds_parts lines rest = filter_map-append seconds_in lines (map said_late rest)
+    ∙ (ap (λ (ns : List ℕ). filter_map seconds_in lines ++ ns) (no_seconds rest) ∙ append-nil _)
 
 -- the settings hold the text of the configuration, or nothing for the default
 pub configured_by : (lines : List (List ℕ)) → configured (flat_map line_text lines) ≡ conf_by lines
@@ -74,7 +87,7 @@ configured_by ((b ∷ bs) ∷ lines) = refl
 
 -- ---- nothing happens in the head
 
-quiet_happenings : (lines : List Reading) → Quiet lines → happenings_of lines ≡ []
+quiet_happenings : (lines : List ScriptLine) → Quiet lines → happenings_of lines ≡ []
 quiet_happenings [] q = refl
 quiet_happenings (Blank ∷ rs) q = quiet_happenings rs q
 quiet_happenings (Conf t ∷ rs) q = quiet_happenings rs q
@@ -82,22 +95,27 @@ quiet_happenings (Negative n ∷ rs) q = quiet_happenings rs q
 quiet_happenings (Wrong ∷ rs) q = quiet_happenings rs q
 quiet_happenings (Happens now h ∷ rs) q = absurd (cc)
 
-pub happenings_parts : (lines rest : List Reading) → Quiet lines → happenings_of (parts lines rest) ≡ happenings_of (map said_late rest)
-happenings_parts lines rest q = filter_map-append happening_in lines (map said_late rest) ∙ ap (λ (hs : List (ℕ × Happening)). hs ++ happenings_of (map said_late rest)) (quiet_happenings lines q)
+pub happenings_parts : (lines rest : List ScriptLine) → Quiet lines → happenings_of (parts lines rest) ≡ happenings_of (map said_late rest)
+happenings_parts lines rest q = filter_map-append happening_in lines (map said_late rest)
+    ∙ ap (λ (hs : List (ℕ × Happening)). hs ++ happenings_of (map said_late rest)) (quiet_happenings lines q)
 
-pub text_parts : (number : ℕ) (lines rest : List Reading) (told : List (Option (List Output))) → Quiet lines
+pub text_parts : (number : ℕ) (lines rest : List ScriptLine) (told : List (Option (List Output))) → Quiet lines
     → text_from number (lines ++ rest) told ≡ text_from number lines [] ++ text_from (number + length lines) rest told
 text_parts number [] rest told q = ap (λ (n : ℕ). text_from n rest told) (omega arith)
-text_parts number (Blank ∷ rs) rest told q = text_parts (number + 1) rs rest told q ∙ ap (λ (n : ℕ). text_from (number + 1) rs [] ++ text_from n rest told) (omega arith)
-text_parts number (Conf t ∷ rs) rest told q = text_parts (number + 1) rs rest told q ∙ ap (λ (n : ℕ). text_from (number + 1) rs [] ++ text_from n rest told) (omega arith)
-text_parts number (Negative m ∷ rs) rest told q = text_parts (number + 1) rs rest told q ∙ ap (λ (n : ℕ). text_from (number + 1) rs [] ++ text_from n rest told) (omega arith)
+text_parts number (Blank ∷ rs) rest told q = text_parts (number + 1) rs rest told q
+    ∙ ap (λ (n : ℕ). text_from (number + 1) rs [] ++ text_from n rest told) (omega arith)
+text_parts number (Conf t ∷ rs) rest told q = text_parts (number + 1) rs rest told q
+    ∙ ap (λ (n : ℕ). text_from (number + 1) rs [] ++ text_from n rest told) (omega arith)
+text_parts number (Negative m ∷ rs) rest told q = text_parts (number + 1) rs rest told q
+    ∙ ap (λ (n : ℕ). text_from (number + 1) rs [] ++ text_from n rest told) (omega arith)
 text_parts number (Wrong ∷ rs) rest told q =
-    ap (λ (t : List ℕ). fault_line number NotALine ++ t) (text_parts (number + 1) rs rest told q ∙ ap (λ (n : ℕ). text_from (number + 1) rs [] ++ text_from n rest told) (omega arith))
+    ap (λ (t : List ℕ). fault_line number NotALine ++ t) (text_parts (number + 1) rs rest told q
+    ∙ ap (λ (n : ℕ). text_from (number + 1) rs [] ++ text_from n rest told) (omega arith))
     ∙ sym (append_assoc (fault_line number NotALine) (text_from (number + 1) rs []) (text_from (number + length (Wrong ∷ rs)) rest told))
 text_parts number (Happens now h ∷ rs) rest told q = absurd (cc)
 
 -- the lines before the first happening are the head
-late_first : (rest : List Reading) → happens_first rest ≡ true → happens_first (map said_late rest) ≡ true
+late_first : (rest : List ScriptLine) → happens_first rest ≡ true → happens_first (map said_late rest) ≡ true
 late_first [] e = refl
 late_first (Blank ∷ rs) e = absurd (cc)
 late_first (Conf t ∷ rs) e = absurd (cc)
@@ -105,7 +123,7 @@ late_first (Negative n ∷ rs) e = absurd (cc)
 late_first (Wrong ∷ rs) e = absurd (cc)
 late_first (Happens now h ∷ rs) e = refl
 
-none_before : (rest : List Reading) → happens_first rest ≡ true → before_all rest ≡ []
+none_before : (rest : List ScriptLine) → happens_first rest ≡ true → before_all rest ≡ []
 none_before [] e = refl
 none_before (Blank ∷ rs) e = absurd (cc)
 none_before (Conf t ∷ rs) e = absurd (cc)
@@ -113,23 +131,23 @@ none_before (Negative n ∷ rs) e = absurd (cc)
 none_before (Wrong ∷ rs) e = absurd (cc)
 none_before (Happens now h ∷ rs) e = refl
 
-take_next : (x : Reading) (xs : List Reading) (n : ℕ) → take (1 + n) (x ∷ xs) ≡ x ∷ take n xs
+take_next : (x : ScriptLine) (xs : List ScriptLine) (n : ℕ) → take (1 + n) (x ∷ xs) ≡ x ∷ take n xs
 take_next x xs n = let e : 1 + n ≡ suc n = omega arith in ap (λ (m : ℕ). take m (x ∷ xs)) e
 
-before_next : (r : Reading) (rs : List Reading) → happens r ≡ false → before_all (r ∷ rs) ≡ r ∷ before_all rs
+before_next : (r : ScriptLine) (rs : List ScriptLine) → happens r ≡ false → before_all (r ∷ rs) ≡ r ∷ before_all rs
 before_next Blank rs e = take_next Blank rs (prefix_len (λ r. not (happens r)) rs)
 before_next (Conf t) rs e = take_next (Conf t) rs (prefix_len (λ r. not (happens r)) rs)
 before_next (Negative n) rs e = take_next (Negative n) rs (prefix_len (λ r. not (happens r)) rs)
 before_next Wrong rs e = take_next Wrong rs (prefix_len (λ r. not (happens r)) rs)
 before_next (Happens now h) rs e = absurd (cc)
 
-before_head : (lines rest : List Reading) → Quiet lines → happens_first rest ≡ true → before_all (lines ++ rest) ≡ lines
+before_head : (lines rest : List ScriptLine) → Quiet lines → happens_first rest ≡ true → before_all (lines ++ rest) ≡ lines
 before_head [] rest q e = none_before rest e
-before_head (Blank ∷ rs) rest q e = before_next Blank (rs ++ rest) refl ∙ ap (λ (xs : List Reading). Blank ∷ xs) (before_head rs rest q e)
-before_head (Conf t ∷ rs) rest q e = before_next (Conf t) (rs ++ rest) refl ∙ ap (λ (xs : List Reading). Conf t ∷ xs) (before_head rs rest q e)
-before_head (Negative n ∷ rs) rest q e = before_next (Negative n) (rs ++ rest) refl ∙ ap (λ (xs : List Reading). Negative n ∷ xs) (before_head rs rest q e)
-before_head (Wrong ∷ rs) rest q e = before_next Wrong (rs ++ rest) refl ∙ ap (λ (xs : List Reading). Wrong ∷ xs) (before_head rs rest q e)
+before_head (Blank ∷ rs) rest q e = before_next Blank (rs ++ rest) refl ∙ ap (λ (xs : List ScriptLine). Blank ∷ xs) (before_head rs rest q e)
+before_head (Conf t ∷ rs) rest q e = before_next (Conf t) (rs ++ rest) refl ∙ ap (λ (xs : List ScriptLine). Conf t ∷ xs) (before_head rs rest q e)
+before_head (Negative n ∷ rs) rest q e = before_next (Negative n) (rs ++ rest) refl ∙ ap (λ (xs : List ScriptLine). Negative n ∷ xs) (before_head rs rest q e)
+before_head (Wrong ∷ rs) rest q e = before_next Wrong (rs ++ rest) refl ∙ ap (λ (xs : List ScriptLine). Wrong ∷ xs) (before_head rs rest q e)
 before_head (Happens now h ∷ rs) rest q e = absurd (cc)
 
-pub before_parts : (lines rest : List Reading) → Quiet lines → happens_first rest ≡ true → before_all (parts lines rest) ≡ lines
+pub before_parts : (lines rest : List ScriptLine) → Quiet lines → happens_first rest ≡ true → before_all (parts lines rest) ≡ lines
 before_parts lines rest q e = before_head lines (map said_late rest) q (late_first rest e)

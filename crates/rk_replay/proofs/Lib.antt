@@ -3,15 +3,4 @@ pub mod Bodies
 pub mod Scripts
 pub mod LinesLeft
 pub mod Numbers
-pub mod ServedLaws
-pub mod Turns
-pub mod SeatLists
-pub mod Standings
-pub mod Seating
-pub mod Kept
-pub mod Weight
-pub mod Expansions
-pub mod Moving
-pub mod Orders
 pub mod BytesRead
-pub mod OwnSteps

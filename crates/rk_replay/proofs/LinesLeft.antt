@@ -4,15 +4,22 @@ use Rattle.std.specs.Prelude.{MatchOption, IfSome, OnOk}
 use Rattle.std.specs.Borrow.{Bor}
 use Rattle.rk_text.specs.Text.{lines_of}
 use Rattle.rk_replay.specs.Reading.{reading_of}
-use Rattle.rk_replay.specs.Playing.{readings_left, bytes_left}
+use Rattle.rk_replay.specs.declared.playing.First.{First}
+use Rattle.rk_replay.specs.Playing.{readings_left, bytes_left, bytes_from}
 
-pub line_cut : (text line : List ℕ) (after : Option (Bor (List ℕ))) → MatchOption after (lines_of text ≡ line ∷ []) (λ rest. lines_of text ≡ line ∷ lines_of rest.now) → map reading_of (lines_of text) ≡ reading_of line ∷ readings_left after
+pub line_cut : (text line : List ℕ) (after : Option (Bor (List ℕ)))
+    → MatchOption after (lines_of text ≡ line ∷ []) (λ rest. lines_of text ≡ line ∷ lines_of rest.now)
+    → map reading_of (lines_of text) ≡ reading_of line ∷ readings_left after
 line_cut text line None e = ap (map reading_of) e
 line_cut text line (Some rest) e = ap (map reading_of) e
 
-pub number_fits : (text : List ℕ) (after : Option (Bor (List ℕ))) (number : ℕ) → IfSome after (λ rest. length rest.now < length text) → number + suc (length text) < 2 ^ 64 → number + 1 + bytes_left after < 2 ^ 64
+pub number_fits : (text : List ℕ) (after : Option (Bor (List ℕ))) (number : ℕ) → IfSome after (λ rest. length rest.now < length text)
+    → number + suc (length text) < 2 ^ 64 → number + 1 + bytes_left after < 2 ^ 64
 number_fits text None number shorter few = omega arith
 number_fits text (Some rest) number shorter few = omega arith
+
+pub number_follows : (number : ℕ) (first : First) → number + bytes_from (Some first) < 2 ^ 64 → number + 1 + bytes_left first.rest < 2 ^ 64
+number_follows number first few = omega arith
 
 -- what follows from a fact under an `Ok`
 pub on_ok_then : {T E : Type 0} (r : Result T E) {P Q : Type 0} → (P → Q) → OnOk r P → OnOk r Q

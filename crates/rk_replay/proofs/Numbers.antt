@@ -1,5 +1,6 @@
 -- Numbers, as `parse` reads them.
-use Rattle.std.proofs.Common.{◌≡◌, ℕ, zero, suc, ◌^◌, ◌<◌, ◌≤◌, List, [], ◌∷◌, get_or, Bool, true, false, ◌&&◌, refl, sym, ap, inl, inr, arith, rules, Some, None, Ok, Err}
+use Rattle.std.proofs.Common.{◌≡◌, ℕ, zero, suc, ◌^◌, ◌<◌, ◌≤◌, List, [], ◌∷◌, get_or, Bool, true, false, ◌&&◌, refl, sym, ap, inl, inr, arith, rules}
+use Rattle.std.proofs.Common.{Some, None, Ok, Err}
 use Rattle.std.specs.Prelude.{nat_le}
 use Rattle.std.specs.List.{list_all}
 use Rattle.std.specs.Char.{is_ascii_digit}
@@ -49,10 +50,12 @@ unfolding number_of
 parsed [] n h p = (let q = parse_digits own {E = ℕ} 64 [] (Ok n) p h in absurd (omega (arith, q.0.1)))
 parsed (b ∷ bs) n h p = (let q = parse_digits own {E = ℕ} 64 (b ∷ bs) (Ok n) p h in rw h (ap Some (sym q.1)))
 
-pub not_parsed : (E : Type 0) (field : List ℕ) (limit : ℕ) (e : E) → limit < 2 ^ 64 → list_all is_ascii_digit field ≡ true → ParsesUnsigned {E = E} 64 10 field (Err e) → None ≡ up_to limit (number_of field)
+pub not_parsed : (E : Type 0) (field : List ℕ) (limit : ℕ) (e : E) → limit < 2 ^ 64 → list_all is_ascii_digit field ≡ true
+    → ParsesUnsigned {E = E} 64 10 field (Err e) → None ≡ up_to limit (number_of field)
 unfolding number_of
 not_parsed E [] limit e small h p = refl
 not_parsed E (b ∷ bs) limit e small h p =
     let q = parse_digits own {E = E} 64 (b ∷ bs) (Err e) p h in
-    let big : limit < digits_value 10 (b ∷ bs) = elim (cases_lt limit (digits_value 10 (b ∷ bs))) [ inl lt ↦ lt | inr ge ↦ absurd (q (omega arith, omega arith)) ] in
+    let big : limit < digits_value 10 (b ∷ bs) =
+    elim (cases_lt limit (digits_value 10 (b ∷ bs))) [ inl lt ↦ lt | inr ge ↦ absurd (q (omega arith, omega arith)) ] in
     rw h (sym (up_to-gt limit (digits_value 10 (b ∷ bs)) big))

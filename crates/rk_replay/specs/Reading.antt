@@ -3,13 +3,13 @@ use Rattle.std.specs.Prelude.{ℕ, List, [], ◌∷◌, length, drop, take, code
 use Rattle.std.specs.Str.{bytes_eq}
 use Rattle.rk_machine.specs.declared.event.How.{How}
 use Rattle.rk_machine.specs.declared.event.How.TheVariants.{Exit, Signal}
-use Rattle.rk_replay.specs.declared.happening.Happening.{Happening}
-use Rattle.rk_replay.specs.declared.happening.Happening.TheVariants as happening
-use Rattle.rk_replay.specs.declared.happening.StartResult.TheVariants.{Started, Failed}
+use Rattle.rk_served.specs.declared.happening.Happening.{Happening}
+use Rattle.rk_served.specs.declared.happening.Happening.TheVariants as happening
+use Rattle.rk_served.specs.declared.happening.StartResult.TheVariants.{Started, Failed}
 use Rattle.rk_replay.specs.declared.verb.Verb.{Verb}
 use Rattle.rk_replay.specs.declared.verb.Verb.TheVariants as verb
-use Rattle.rk_replay.specs.declared.reading.Reading.{Reading}
-use Rattle.rk_replay.specs.declared.reading.Reading.TheVariants.{Blank, Conf, Negative, Happens, Wrong}
+use Rattle.rk_replay.specs.declared.script_line.ScriptLine.{ScriptLine}
+use Rattle.rk_replay.specs.declared.script_line.ScriptLine.TheVariants.{Blank, Conf, Negative, Happens, Wrong}
 use Rattle.rk_text.specs.Text.{begins_with}
 use Rattle.rk_replay.specs.Text.{past_space, fields_of}
 use Rattle.rk_replay.specs.Values.{moment_of, seconds_of, client_of, key_of, status_of, bytes_of}
@@ -47,7 +47,7 @@ abbrev pub happening_of : List ℕ → List (List ℕ) → Option Happening
 happening_of word fields = option_and_then (λ v. happening_by v fields) (verb_of word)
 
 -- a moment, and what happens then
-abbrev pub event_of : List (List ℕ) → Option Reading
+abbrev pub event_of : List (List ℕ) → Option ScriptLine
 event_of fields = do
   now ← first_as moment_of fields
   word ← first_as Some now.1
@@ -55,7 +55,7 @@ event_of fields = do
   Some (Happens now.0 h)
 
 -- what the fields of a line say, if anything: `negative` and seconds, or a happening
-abbrev pub told_by : List (List ℕ) → Option Reading
+abbrev pub told_by : List (List ℕ) → Option ScriptLine
 told_by [] = Some Blank
 told_by (word ∷ fields) = if bytes_eq word (codes "negative") then option_map Negative (sole seconds_of fields) else event_of (word ∷ fields)
 
@@ -64,12 +64,12 @@ abbrev pub conf_text : List ℕ → Option (List ℕ)
 conf_text line = let rest = past_space line in if bytes_eq (take 5 rest) (codes "conf ") then Some (drop 5 rest) else None
 
 -- what the line says where it is neither too long nor a comment
-abbrev pub reading_by : Option (List ℕ) → List (List ℕ) → Reading
+abbrev pub reading_by : Option (List ℕ) → List (List ℕ) → ScriptLine
 reading_by (Some text) fields = Conf text
 reading_by None fields = unwrap_or (told_by fields) Wrong
 
 -- what a line says, without its newline
-abbrev pub reading_of : List ℕ → Reading
+abbrev pub reading_of : List ℕ → ScriptLine
 reading_of line =
     if nat_lt 262144 (length line) then Wrong
     else (if begins_with 35 line then Blank else reading_by (conf_text line) (fields_of line))

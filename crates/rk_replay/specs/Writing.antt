@@ -5,8 +5,8 @@ use Rattle.hex.specs.Hex.{encode_lower, upper_digits}
 use Rattle.rk_conf.specs.declared.fault.ConfFault.{ConfFault}
 use Rattle.rk_conf.specs.Codes.{code_of}
 use Rattle.rk_macro.specs.declared.command.Command.{Command}
-use Rattle.rk_replay.specs.declared.output.Output.{Output}
-use Rattle.rk_replay.specs.declared.output.Output.TheVariants as output
+use Rattle.rk_served.specs.declared.output.Output.{Output}
+use Rattle.rk_served.specs.declared.output.Output.TheVariants as output
 use Rattle.rk_replay.specs.declared.transcript.LineFault.{LineFault}
 use Rattle.rk_replay.specs.declared.transcript.LineFault.TheVariants.{NotALine, Unknown}
 

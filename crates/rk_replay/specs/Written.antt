@@ -5,14 +5,14 @@ use Rattle.rk_conf.specs.declared.fault.ConfFault.{ConfFault}
 use Rattle.rk_conf.specs.Reading.{faults_in, lines_in}
 use Rattle.rk_machine.specs.Laws.{ContinuesTo}
 use Rattle.rk_machine.specs.Steps.{Past}
-use Rattle.rk_replay.specs.declared.happening.Happening.{Happening}
-use Rattle.rk_replay.specs.declared.output.Output.{Output}
-use Rattle.rk_replay.specs.declared.reading.Reading.{Reading}
-use Rattle.rk_replay.specs.declared.reading.Reading.TheVariants.{Blank, Conf, Negative, Happens, Wrong}
+use Rattle.rk_served.specs.declared.happening.Happening.{Happening}
+use Rattle.rk_served.specs.declared.output.Output.{Output}
+use Rattle.rk_replay.specs.declared.script_line.ScriptLine.{ScriptLine}
+use Rattle.rk_replay.specs.declared.script_line.ScriptLine.TheVariants.{Blank, Conf, Negative, Happens, Wrong}
 use Rattle.rk_replay.specs.declared.transcript.LineFault.TheVariants.{NotALine, Unknown}
-use Rattle.rk_replay.specs.Left.{Left}
-use Rattle.rk_replay.specs.Served.{Turn, Served}
-use Rattle.rk_replay.specs.Order.{ServedInOrder}
+use Rattle.rk_served.specs.Left.{Left}
+use Rattle.rk_served.specs.Served.{Turn, Served}
+use Rattle.rk_served.specs.Order.{ServedInOrder}
 use Rattle.rk_replay.specs.Writing.{output_line, fault_line, conf_line}
 use Rattle.rk_replay.specs.Script.{said_in, conf_of, beginning_of, happenings_of, before_all}
 
@@ -22,7 +22,7 @@ turn_text number None = fault_line number Unknown
 turn_text number (Some outputs) = flat_map output_line outputs
 
 -- what is written for lines, numbered from the first one's, where their happenings had these outputs, one after the other
-abbrev pub text_from : ℕ → List Reading → List (Option (List Output)) → List ℕ
+abbrev pub text_from : ℕ → List ScriptLine → List (Option (List Output)) → List ℕ
 text_from number [] told = []
 text_from number (Blank ∷ rs) told = text_from (number + 1) rs told
 text_from number (Conf text ∷ rs) told = text_from (number + 1) rs told

@@ -7,8 +7,8 @@ ghost use Rattle.rk_replay.specs.Fields.{Gives, first_as, alone};
 ghost use Rattle.rk_replay.specs.declared.field.Misread.TheVariants.{NoMemory};
 
 use crate::number::number;
-use crate::octets::Bytes;
 use hex::FromHexError;
+use rk_served::Bytes;
 use rk_text::{Space, cut_field};
 use std::alloc::{AllocError, Global};
 

@@ -2,32 +2,41 @@
 ghost use Rattle.std.specs.Prelude.{◌≡◌, ◌⊎◌, ◌++◌, ◌+◌, ◌<◌, ◌^◌, [], false, IfOk, IfErr, OnOk, Err};
 ghost use Rattle.std.specs.List.{flat_map};
 ghost use Rattle.rk_replay.specs.Reading.{reading_of};
-ghost use Rattle.rk_replay.specs.declared.reading.Reading.TheVariants as reading;
+ghost use Rattle.rk_replay.specs.declared.script_line.ScriptLine.TheVariants as reading;
 ghost use Rattle.rk_replay.specs.Writing.{output_line, conf_line};
 ghost use Rattle.rk_replay.specs.Written.{IsWritten, IsRefused};
-ghost use Rattle.rk_replay.specs.Playing.{Plays, PlaysBody, IsHead, bytes_left};
+ghost use Rattle.rk_replay.specs.Playing.{Plays, PlaysBody, IsHead, bytes_from};
 
-use crate::fault::{ScriptFault, TakeFault};
-use crate::happening::Happening;
-use crate::output::Output;
-use crate::reading::Reading;
-use crate::replay::Replay;
+use crate::fault::ScriptFault;
+use crate::script_line::ScriptLine;
 use crate::settings::Settings;
 use crate::transcript::{LineFault, Transcript};
 use rk_conf::{Conf, ConfFault, ConfKind};
 use rk_names::Moment;
+use rk_served::{Happening, Output, Replay, TakeFault};
 use rk_text::cut_line;
 use std::alloc::{AllocError, Global};
 
-/// The head of a script, and where it ends.
+/// The head of a script, and what follows it.
 #[derive(Drop)]
 pub struct Head<'a> {
     /// What its lines set.
     settings: Settings,
-    /// The text from the first happening on, if there is one.
-    rest: Option<&'a [u8]>,
-    /// The number of the first line of that text.
+    /// The first line on which something happens, if there is one.
+    first: Option<First<'a>>,
+    /// The number of that line, or of the line behind the last one.
     number: u64,
+}
+
+/// The first line on which something happens.
+#[derive(Drop)]
+pub struct First<'a> {
+    /// The moment of the line.
+    now: Moment,
+    /// What happens then.
+    happening: Happening,
+    /// The text behind the line, if there is more.
+    rest: Option<&'a [u8]>,
 }
 
 /// Plays a whole script, and writes what comes of it.
@@ -66,7 +75,7 @@ fn refuse(fault: ConfFault, transcript: &mut Transcript) -> ScriptFault
     }
 }
 
-/// Reads the lines before the first happening.
+/// Reads the lines before the first happening, and that one.
 fn read_head<'a>(
     alloc: Global,
     text: &'a [u8],
@@ -74,28 +83,31 @@ fn read_head<'a>(
 ) -> Result<Head<'a>, AllocError>
     requires { transcript.old ≡ [] }
     ensures head { IfOk result (λ h. IsHead text.now h transcript.new) }
-    ensures few { IfOk result (λ h. h.number + bytes_left h.rest < 2 ^ 64) }
+    ensures few { IfOk result (λ h. h.number + bytes_from h.first < 2 ^ 64) }
 {
     let mut settings = Settings::new(alloc);
     let mut rest = Some(text);
     let mut number = 1u64;
     while let Some(left) = rest {
         let (line, after) = cut_line(left);
-        let reading = Reading::read(alloc, line)?;
-        if reading.happens() {
+        let said = ScriptLine::read(alloc, line)?;
+        if let Some((now, happening)) = settings.hear(number, said, transcript)? {
             return Ok(Head {
                 settings,
-                rest,
+                first: Some(First {
+                    now,
+                    happening,
+                    rest: after,
+                }),
                 number,
             });
         }
-        settings.hear(number, &reading, transcript)?;
         number += 1;
         rest = after;
     }
     Ok(Head {
         settings,
-        rest: None,
+        first: None,
         number,
     })
 }
@@ -107,12 +119,24 @@ fn play_body(
     head: &Head<'_>,
     transcript: &mut Transcript,
 ) -> Result<(), AllocError>
-    requires { head.now.number + bytes_left head.now.rest < 2 ^ 64 }
+    requires { head.now.number + bytes_from head.now.first < 2 ^ 64 }
     ensures { OnOk result (PlaysBody conf head.now transcript.old transcript.new) }
 {
+    let Some(first) = &head.first else {
+        return Ok(());
+    };
     let mut replay = Replay::new(alloc, conf, head.settings.limits())?;
-    let mut rest = head.rest;
     let mut number = head.number;
+    play_happening(
+        alloc,
+        &mut replay,
+        number,
+        first.now,
+        &first.happening,
+        transcript,
+    )?;
+    let mut rest = first.rest;
+    number += 1;
     while let Some(left) = rest {
         let (line, after) = cut_line(left);
         play_line(alloc, &mut replay, number, line, transcript)?;
@@ -135,12 +159,12 @@ fn play_line(
     ensures fine { OnOk result (replay.new.broken ≡ false) }
     ensures conf { replay.new.conf ≡ replay.old.conf }
 {
-    match Reading::read(alloc, line)? {
-        Reading::Blank => Ok(()),
-        Reading::Happens(now, happening) => {
+    match ScriptLine::read(alloc, line)? {
+        ScriptLine::Blank => Ok(()),
+        ScriptLine::Happens(now, happening) => {
             play_happening(alloc, replay, number, now, &happening, transcript)
         }
-        Reading::Conf(_) | Reading::Negative(_) | Reading::Wrong => {
+        ScriptLine::Conf(_) | ScriptLine::Negative(_) | ScriptLine::Wrong => {
             transcript.refuse(number, LineFault::NotALine)
         }
     }
@@ -156,7 +180,8 @@ fn play_happening(
     transcript: &mut Transcript,
 ) -> Result<(), AllocError>
     requires { replay.old.broken ≡ false }
-    ensures plays { OnOk result (Plays replay.old.conf number (reading.Happens now happening.now) replay.old.left transcript.old replay.new.left transcript.new) }
+    ensures plays { OnOk result
+        (Plays replay.old.conf number (reading.Happens now happening.now) replay.old.left transcript.old replay.new.left transcript.new) }
     ensures fine { OnOk result (replay.new.broken ≡ false) }
     ensures conf { replay.new.conf ≡ replay.old.conf }
 {

@@ -2,14 +2,15 @@
 ghost use Rattle.std.specs.Prelude.{◌≡◌, [], IfOk, OnOk, IfErr};
 ghost use Rattle.rk_conf.specs.Faults.{IsFaultFor};
 ghost use Rattle.rk_conf.specs.Reading.{faults_in, lines_in};
+ghost use Rattle.rk_replay.specs.Script.{happening_in};
 ghost use Rattle.rk_replay.specs.Settings.{Sets, configured};
 
-use crate::octets::Bytes;
-use crate::reading::Reading;
+use crate::script_line::ScriptLine;
 use crate::transcript::{LineFault, Transcript};
 use rk_conf::{Conf, ConfFault};
 use rk_core::Limits;
-use rk_names::Serial;
+use rk_names::{Moment, Serial};
+use rk_served::{Bytes, Happening};
 use std::alloc::{AllocError, Global};
 
 /// The configuration of a script that sets none: one handler makes every key.
@@ -39,28 +40,27 @@ impl Settings {
         }
     }
 
-    /// Takes in a line on which nothing happens, and writes it where it is none.
+    /// Takes in what a line says, and writes it where it is none. What happens on it is handed back. The only refusal is want of memory.
     pub fn hear(
         &mut self,
         number: u64,
-        reading: &Reading,
+        said: ScriptLine,
         transcript: &mut Transcript,
-    ) -> Result<(), AllocError>
-        ensures { OnOk result (Sets reading.now number self.old transcript.old self.new transcript.new) }
+    ) -> Result<Option<(Moment, Happening)>, AllocError>
+        ensures sets { OnOk result (Sets said number self.old transcript.old self.new transcript.new) }
+        ensures happens { IfOk result (λ first. first ≡ happening_in said) }
     {
-        match reading {
-            Reading::Blank => Ok(()),
-            Reading::Conf(text) => {
+        match said {
+            ScriptLine::Blank => {}
+            ScriptLine::Conf(text) => {
                 self.conf.extend(text.as_slice())?;
-                self.conf.extend(b"\n")
+                self.conf.extend(b"\n")?;
             }
-            Reading::Negative(seconds) => {
-                self.negative = *seconds;
-                Ok(())
-            }
-            Reading::Happens(_, _) => Ok(()),
-            Reading::Wrong => transcript.refuse(number, LineFault::NotALine),
+            ScriptLine::Negative(seconds) => self.negative = seconds,
+            ScriptLine::Happens(now, happening) => return Ok(Some((now, happening))),
+            ScriptLine::Wrong => transcript.refuse(number, LineFault::NotALine)?,
         }
+        Ok(None)
     }
 
     /// The configuration that is set, or the default one.

@@ -2,11 +2,12 @@
 ghost use Rattle.std.specs.Prelude.{◌≡◌, ◌++◌, true, ◌<◌, slice_index, [], OnOk, string_bytes};
 ghost use Rattle.std.specs.List.{flat_map};
 ghost use Rattle.hex.specs.Hex.{upper_digits};
-ghost use Rattle.rk_replay.specs.Writing.{byte_text, word_text, command_text, frame_text, start_text, shut_text, line_text, output_line, fault_line, conf_line, fault_code, kind_text, is_plain};
+ghost use Rattle.rk_replay.specs.Writing.{byte_text, word_text, command_text, frame_text, start_text, shut_text, line_text, output_line};
+ghost use Rattle.rk_replay.specs.Writing.{fault_line, conf_line, fault_code, kind_text, is_plain};
 
-use crate::output::Output;
 use rk_conf::{ConfFault, Word};
 use rk_macro::Command;
+use rk_served::Output;
 use std::alloc::{AllocError, Global};
 use std::marker::Model;
 

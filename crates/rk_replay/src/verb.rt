@@ -4,14 +4,13 @@ ghost use Rattle.rk_replay.specs.Text.{fields_of};
 ghost use Rattle.rk_replay.specs.Fields.{Gives, sole, both};
 ghost use Rattle.rk_replay.specs.Values.{client_of, key_of, bytes_of};
 ghost use Rattle.rk_replay.specs.Reading.{how_of, ending_of, happening_of};
-ghost use Rattle.rk_replay.specs.declared.happening.Happening.TheVariants as happening;
-ghost use Rattle.rk_replay.specs.declared.happening.StartResult.TheVariants.{Started, Failed};
+ghost use Rattle.rk_served.specs.declared.happening.Happening.TheVariants as happening;
+ghost use Rattle.rk_served.specs.declared.happening.StartResult.TheVariants.{Started, Failed};
 
 use crate::field::{self, Misread};
-use crate::happening::{Happening, StartResult};
-use crate::octets::Bytes;
 use rk_core::How;
 use rk_names::Serial;
+use rk_served::{Bytes, Happening, StartResult};
 use std::alloc::Global;
 
 /// What happens, by the word behind the moment and the fields behind that word.

@@ -4,22 +4,22 @@ use rk_conf::{ConfFault, ConfKind, Word};
 use rk_core::How;
 use rk_macro::{Command, Words};
 use rk_names::Serial;
-use rk_replay::{Bytes, Happening, LineFault, Output, Outputs, Reading, StartResult, Transcript};
+use rk_replay::{Bytes, Happening, LineFault, Output, Outputs, ScriptLine, StartResult, Transcript};
 use std::alloc::{AllocError, Global};
 use std::process::Abort;
 use std::test::Fail;
 
 /// What a line says, in one spelling of its own.
 fn shown(alloc: Global, line: &[u8]) -> Result<String, AllocError> {
-    match Reading::read(alloc, line)? {
-        Reading::Blank => format!(in alloc; "blank"),
-        Reading::Wrong => format!(in alloc; "wrong"),
-        Reading::Conf(text) => {
+    match ScriptLine::read(alloc, line)? {
+        ScriptLine::Blank => format!(in alloc; "blank"),
+        ScriptLine::Wrong => format!(in alloc; "wrong"),
+        ScriptLine::Conf(text) => {
             let digits = hex::encode(alloc, text.as_slice())?;
             format!(in alloc; "conf {digits}")
         }
-        Reading::Negative(seconds) => format!(in alloc; "negative {seconds}"),
-        Reading::Happens(now, happening) => {
+        ScriptLine::Negative(seconds) => format!(in alloc; "negative {seconds}"),
+        ScriptLine::Happens(now, happening) => {
             let now = now.0;
             let what = shown_happening(alloc, &happening)?;
             format!(in alloc; "{now} {what}")
@@ -357,7 +357,7 @@ fn wants_nothing_but_memory(rt: HostRuntime) {
         b"1 out 3 00",
         b"1 gone 2",
     ] {
-        if let Ok(Reading::Wrong | Reading::Blank) = Reading::read(alloc, line) {
+        if let Ok(ScriptLine::Wrong | ScriptLine::Blank) = ScriptLine::read(alloc, line) {
             panic!(rt; "{line:?} is read otherwise");
         }
     }

@@ -3,7 +3,7 @@ use crate::same::same;
 use rk_conf::Conf;
 use rk_core::Limits;
 use rk_names::Serial;
-use rk_replay::{LineFault, Outputs, Reading, Replay, TakeFault, Transcript, served_is_run};
+use rk_replay::{LineFault, Outputs, ScriptLine, Replay, TakeFault, Transcript, served_is_run};
 use std::alloc::{AllocError, Global};
 use std::process::Abort;
 use std::test::Fail;
@@ -35,8 +35,8 @@ fn put_line(
     number: u64,
     line: &[u8],
 ) -> Result<(), AllocError> {
-    let taken = match Reading::read(alloc, line)? {
-        Reading::Happens(now, happening) => replay.take(alloc, now, &happening),
+    let taken = match ScriptLine::read(alloc, line)? {
+        ScriptLine::Happens(now, happening) => replay.take(alloc, now, &happening),
         _ => return transcript.refuse(number, LineFault::NotALine),
     };
     match taken {

@@ -11,14 +11,17 @@ returns-in_default c = absurd (c.in_default.ensures.cases.0 (digits_utf8 c.args.
 
 pub returns-then-number-limit : goal.returns-then-number-limit
 returns-then-number-limit c =
-    let said = parsed c.args.field.now c.in-Ok-parse.number (sym c.are_digits.ensures ∙ c.if-not-are_digits.false) (rw c.in-Ok.ensures.cases.0 at c.in-Ok-parse.ensures.value.0) in
+    let said = parsed c.args.field.now c.in-Ok-parse.number (sym c.are_digits.ensures
+    ∙ c.if-not-are_digits.false) (rw c.in-Ok.ensures.cases.0 at c.in-Ok-parse.ensures.value.0) in
     sym (ap (up_to c.args.limit) said ∙ up_to-le c.args.limit c.in-Ok-parse.number c.if-number-limit.true)
 
 pub returns-else-number-limit : goal.returns-else-number-limit
 returns-else-number-limit c =
-    let said = parsed c.args.field.now c.in-Ok-parse.number (sym c.are_digits.ensures ∙ c.if-not-are_digits.false) (rw c.in-Ok.ensures.cases.0 at c.in-Ok-parse.ensures.value.0) in
+    let said = parsed c.args.field.now c.in-Ok-parse.number (sym c.are_digits.ensures
+    ∙ c.if-not-are_digits.false) (rw c.in-Ok.ensures.cases.0 at c.in-Ok-parse.ensures.value.0) in
     sym (ap (up_to c.args.limit) said ∙ up_to-gt c.args.limit c.in-Ok-parse.number c.if-number-limit.false)
 
 pub returns-in-Err : goal.returns-in-Err
 returns-in-Err c =
-    not_parsed _ c.args.field.now c.args.limit c.in-Err.field-0 (omega arith) (sym c.are_digits.ensures ∙ c.if-not-are_digits.false) (rw c.in-Ok.ensures.cases.0 at c.in-Err.ensures.value.0)
+    not_parsed _ c.args.field.now c.args.limit c.in-Err.field-0 (omega arith) (sym c.are_digits.ensures
+    ∙ c.if-not-are_digits.false) (rw c.in-Ok.ensures.cases.0 at c.in-Err.ensures.value.0)

@@ -18,7 +18,8 @@ returns-then-count-eq0-clause-all g c =
     let room : 0 < length c.read.new.buf = omega (arith, c.loop-turn.invariant.room) in
     let done = b.1 c.if-count-eq0.true room in
     let last = rw c.if-count-eq0.true at b.0 in
-    Consumes-all _ _ (c.loop-turn.text.items ++ []) [] c.loop-turn.text.items (Consumes-trans _ _ _ _ _ c.loop-turn.invariant.read last) done (sym (append-nil c.loop-turn.text.items))
+    Consumes-all _ _ (c.loop-turn.text.items ++ []) [] c.loop-turn.text.items (Consumes-trans _ _ _ _ _ c.loop-turn.invariant.read last) done
+    (sym (append-nil c.loop-turn.text.items))
 
 pub loop-turn-preserved : goal.loop-turn-preserved
 loop-turn-preserved g c =
@@ -27,7 +28,13 @@ loop-turn-preserved g c =
     record {
       read = rw grown (Consumes-trans _ _ _ _ _ c.loop-turn.invariant.read c.in-Ok.ensures.bytes.0);
       room = search rules;
-      many = omega (arith, ap length grown, length-append c.loop-turn.text.items (take c.in-Ok.count c.read.new.buf), c.in-Ok.ensures.bound.1, c.loop-turn.invariant.many);
+      many = omega (
+        arith,
+        ap length grown,
+        length-append c.loop-turn.text.items (take c.in-Ok.count c.read.new.buf),
+        c.in-Ok.ensures.bound.1,
+        c.loop-turn.invariant.many,
+      );
     }
 
 pub returns-clause-long : goal.returns-clause-long

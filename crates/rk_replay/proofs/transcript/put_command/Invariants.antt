@@ -5,4 +5,5 @@ use Rattle.rk_replay.specs.Writing.{kind_text, word_text}
 use Rattle.rk_replay.proofs.transcript.put_command.Given as goal
 
 abbrev pub invariant-loop-word : goal.invariant-loop-word
-invariant-loop-word l = string_bytes l.text ≡ (string_bytes l.fn.text ++ (kind_text l.fn.command.piped ++ word_text l.fn.command.path)) ++ flat_map word_text (take l.word-index l.word-items)
+invariant-loop-word l = string_bytes l.text ≡ (string_bytes l.fn.text ++ (kind_text l.fn.command.piped ++ word_text l.fn.command.path))
+    ++ flat_map word_text (take l.word-index l.word-items)

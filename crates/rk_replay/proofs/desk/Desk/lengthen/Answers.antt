@@ -1,5 +1,0 @@
-use Rattle.rk_replay.proofs.Standings.{order_reseated}
-use Rattle.rk_replay.proofs.desk.Desk.lengthen.Goals as goal
-
-pub invariant_of-self : goal.invariant_of-self
-invariant_of-self c = record { in_order = order_reseated c.args.self.now.seats.items c.in-Some.index c.index_mut.result.now c.feed.new.self c.index_mut.ensures.value c.args.self.now.in_order }

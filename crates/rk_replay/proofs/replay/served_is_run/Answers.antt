@@ -1,5 +1,0 @@
-use Rattle.rk_replay.proofs.ServedLaws as laws
-use Rattle.rk_replay.proofs.replay.served_is_run.Goals as goal
-
-pub returns : goal.returns
-returns c = laws.served_is_run

@@ -1,0 +1,11 @@
+pub mod ServedLaws
+pub mod Turns
+pub mod SeatLists
+pub mod Standings
+pub mod Seating
+pub mod Kept
+pub mod Weight
+pub mod Expansions
+pub mod Moving
+pub mod Orders
+pub mod OwnSteps

@@ -1,0 +1,102 @@
+-- Moves in the order of work, and the served lists that they make.
+use Rattle.std.proofs.Common.{◌≡◌, ℕ, ◌<◌, true, List, [], ◌∷◌, ◌++◌, Option, refl, sym, ap, ◌∙◌, subst, append_assoc}
+use Rattle.std.proofs.lemmas.List.{append-nil}
+use Rattle.std.specs.Prelude.{Some, None, slice_get}
+use Rattle.rk_conf.specs.declared.line.Line.{Line}
+use Rattle.rk_machine.specs.Steps.{Past}
+use Rattle.rk_served.specs.declared.happening.Happening.{Happening}
+use Rattle.rk_served.specs.declared.output.Output.{Output}
+use Rattle.rk_served.specs.declared.seat.Seat.{Seat}
+use Rattle.rk_served.specs.declared.seat.Channel.TheVariants.{Talks}
+use Rattle.rk_names.specs.declared.numbers.SessionId.TheVariants.{Client, Handler}
+use Rattle.rk_served.specs.Left.{Left, seat, Part}
+use Rattle.rk_served.specs.Moves.{Move, collects, refuses, asks, shuts_client, shuts_handler, Moves, CannotMove}
+use Rattle.rk_served.specs.Served.{Turn, outputs_of, ServesBy, ServedFrom}
+use Rattle.rk_served.specs.Standing.{are_in_order}
+use Rattle.rk_served.specs.Order.{MovesFirst, MovesInOrder, ServesInOrder, ServedInOrderFrom}
+use Rattle.rk_served.specs.Calls.{MovesOne, MovesNext, MovesSome, RestsAt}
+use Rattle.rk_served.proofs.Standings.{first_at}
+
+-- ---- one move
+
+-- who moves has a seat there
+mover_of : (conf : List Line) (now : ℕ) (old : Left) (index : ℕ) (part : Part) (new : Left) → Move conf now old index part new → (x : Seat)
+    × (slice_get old.seats index ≡ Some x)
+mover_of conf now old index part new (collects m) = (seat m.who (Talks m.stream) m.made_for, m.at)
+mover_of conf now old index part new (refuses m) = (seat m.who (Talks m.stream) m.made_for, m.free.at)
+mover_of conf now old index part new (asks m) = (seat m.who (Talks m.stream) m.made_for, m.free.at)
+mover_of conf now old index part new (shuts_client m) = (seat (Client m.client) (Talks m.stream) m.made_for, m.free.at)
+mover_of conf now old index part new (shuts_handler m) = (seat (Handler m.key) (Talks m.stream) m.made_for, m.free.at)
+
+-- the seats in front of it can't move
+pub moves_next : (conf : List Line) (now i : ℕ) (old : Left) (put : List Output) (new : Left) (put' : List Output) → are_in_order old.seats ≡ true
+    → ((k : ℕ) → k < i → RestsAt old k) → MovesOne conf now i old put new put' → MovesNext conf now old put new put'
+moves_next conf now i old put new put' order below one =
+    let mover = mover_of conf now old i one.part new one.move in
+    record {
+      part = one.part;
+      first = record {
+        index = i;
+        mover = mover.0;
+        at = mover.1;
+        first = first_at (λ x. CannotMove old.world x.who x.channel) old.seats i mover.0 mover.1 order below;
+        move = one.move;
+      };
+      outputs = one.outputs;
+    }
+
+-- ---- one move more
+
+outputs_push : (parts : List Part) (part : Part) → outputs_of (parts ++ part ∷ []) ≡ outputs_of parts ++ part.outputs
+outputs_push [] part = append-nil part.outputs
+outputs_push (p ∷ ps) part = ap (λ (xs : List Output). p.outputs ++ xs) (outputs_push ps part) ∙ sym (append_assoc p.outputs (outputs_of ps) part.outputs)
+
+moves_push : (conf : List Line) (now : ℕ) (parts : List Part) (old mid new : Left) (part : Part) → MovesInOrder conf now old parts mid
+    → MovesFirst conf now mid part new → MovesInOrder conf now old (parts ++ part ∷ []) new
+moves_push conf now [] old mid new part same move = (new, subst (λ (l : Left). MovesFirst conf now l part new) same move, refl)
+moves_push conf now (p ∷ ps) old mid new part h move = (h.0, h.1, moves_push conf now ps h.0 mid new part h.2 move)
+
+pub moves_none : (conf : List Line) (now : ℕ) (old : Left) (put : List Output) → MovesSome conf now old put old put
+moves_none conf now old put = record { parts = []; moves = refl; outputs = sym (append-nil put) }
+
+pub moves_more : (conf : List Line) (now : ℕ) (old mid new : Left) (put put' put'' : List Output) → MovesSome conf now old put mid put'
+    → MovesNext conf now mid put' new put'' → MovesSome conf now old put new put''
+moves_more conf now old mid new put put' put'' some one = record {
+  parts = some.parts ++ one.part ∷ [];
+  moves = moves_push conf now some.parts old mid new one.part some.moves one.first;
+  outputs = one.outputs ∙ ap (λ (xs : List Output). xs ++ one.part.outputs) some.outputs
+      ∙ (append_assoc put (outputs_of some.parts) one.part.outputs ∙ ap (λ (xs : List Output). put ++ xs) (sym (outputs_push some.parts one.part)));
+}
+
+-- ---- what is served in order is served
+
+pub moves_of : (conf : List Line) (now : ℕ) (old : Left) (parts : List Part) (new : Left) → MovesInOrder conf now old parts new → Moves conf now old parts new
+moves_of conf now old [] new same = same
+moves_of conf now old (p ∷ ps) new m = (m.1.index, m.0, m.1.move, moves_of conf now m.0 ps new m.2)
+
+pub serves_of : (conf : List Line) (old : Left) (now : ℕ) (h : Happening) (outputs : Option (List Output)) (steps : List Past) (new : Left)
+    → ServesInOrder conf old now h outputs steps new → ServesBy conf old now h outputs steps new
+serves_of conf old now h None steps new s = s
+serves_of conf old now h (Some outputs) steps new s = s.acts
+
+pub served_of : (conf : List Line) (turns : List Turn) (run : List Past) (old new : Left) → ServedInOrderFrom conf old turns run new
+    → ServedFrom conf old turns run new
+served_of conf [] run old new h = h
+served_of conf (t ∷ ts) run old new h = (h.0, h.1, h.2, h.3, serves_of conf old t.now t.happening t.outputs h.0 h.2 h.4, served_of conf ts h.1 h.2 new h.5)
+
+-- ---- one turn more
+
+pub in_order_push : (conf : List Line) (turns : List Turn) (run steps : List Past) (old mid new : Left) (turn : Turn) → ServedInOrderFrom conf old turns run mid
+    → ServesInOrder conf mid turn.now turn.happening turn.outputs steps new
+    → ServedInOrderFrom conf old (turns ++ turn ∷ []) (run ++ steps) new
+in_order_push conf [] run steps old mid new turn h s = (
+  steps,
+  [],
+  new,
+  ap (λ (es : List Past). es ++ steps) h.0
+      ∙ sym (append-nil steps),
+  subst (λ (l : Left). ServesInOrder conf l turn.now turn.happening turn.outputs steps new) h.1 s,
+  (refl, refl),
+)
+in_order_push conf (t ∷ ts) run steps old mid new turn h s =
+    (h.0, h.1 ++ steps, h.2, ap (λ (es : List Past). es ++ steps) h.3 ∙ append_assoc h.0 h.1 steps, h.4, in_order_push conf ts h.1 steps h.2 mid new turn h.5 s)

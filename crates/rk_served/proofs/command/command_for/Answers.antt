@@ -1,0 +1,28 @@
+use Rattle.std.proofs.Common.{List, ℕ, rules, inr, subst}
+use Rattle.std.specs.Prelude.{Some}
+use Rattle.rk_conf.specs.Choice.{IsChosen}
+use Rattle.rk_served.specs.Commands.{looked_up}
+use Rattle.rk_served.proofs.Expansions.{words_of_calls, fails_of_calls, seen_by}
+use Rattle.rk_served.proofs.command.command_for.Goals as goal
+
+pub returns-in-Ok : goal.returns-in-Ok
+returns-in-Ok c = record {
+  line = c.in_ok-line.line.now;
+  chosen = subst (λ (o : List ℕ). IsChosen c.args.conf.now o c.args.subject.now.typ c.args.subject.now.desc c.args.subject.now.callout
+      (Some c.in_ok-line.line.now)) c.as_bytes.ensures.value c.in_ok-line.ensures;
+  path = c.in-Ok.ensures.path;
+  piped = c.in-Ok.ensures.piped;
+  words = words_of_calls _ (looked_up c.args.book.now c.args.key c.args.now) _ _ _ c.in-Ok.ensures.words
+      (λ wanted r h. seen_by c.args.book.now c.args.key c.args.now wanted r (search rules));
+  short = c.in-Ok.ensures.short;
+}
+
+pub returns-in-Err : goal.returns-in-Err
+returns-in-Err c = inr (record {
+  line = c.in_ok-line.line.now;
+  chosen = subst (λ (o : List ℕ). IsChosen c.args.conf.now o c.args.subject.now.typ c.args.subject.now.desc c.args.subject.now.callout
+      (Some c.in_ok-line.line.now)) c.as_bytes.ensures.value c.in_ok-line.ensures;
+  fault = c.in-Err.field-0;
+  fails = fails_of_calls _ (looked_up c.args.book.now c.args.key c.args.now) _ _ _ c.in-Err.ensures.err
+      (λ wanted r h. seen_by c.args.book.now c.args.key c.args.now wanted r (search rules));
+})

@@ -1,0 +1,14 @@
+pub mod Unused
+pub mod Streams
+pub mod Message
+pub mod Left
+pub mod Standing
+pub mod Commands
+pub mod Moves
+pub mod OwnStep
+pub mod Served
+pub mod Order
+pub mod Seated
+pub mod Channels
+pub mod Calls
+pub mod View

@@ -1,0 +1,358 @@
+//! The own step of a happening, and the moves that follow it.
+ghost use Rattle.std.specs.Prelude.{◌≡◌, ℕ, true, false, List, [], IfOk, OnOk};
+ghost use Rattle.rk_names.specs.declared.numbers.SessionId.TheVariants.{Client, Handler};
+ghost use Rattle.rk_machine.specs.declared.event.Event.TheVariants.{Launched, Gone};
+ghost use Rattle.rk_machine.specs.declared.event.Ran.TheVariants as ran;
+ghost use Rattle.rk_machine.specs.Allowed.{done};
+ghost use Rattle.rk_machine.specs.Steps.{Past};
+ghost use Rattle.rk_served.specs.declared.happening.Happening.TheVariants as happening;
+ghost use Rattle.rk_served.specs.declared.happening.StartResult.TheVariants.{Started};
+ghost use Rattle.rk_conf.specs.declared.line.Line.{Line};
+ghost use Rattle.rk_machine.specs.Views.{is_owed};
+ghost use Rattle.rk_served.specs.declared.seat.Seat.{Seat};
+ghost use Rattle.rk_served.specs.Left.{no_step, one_step};
+ghost use Rattle.rk_served.specs.OwnStep.{has_client, is_to_start, is_running, is_misplaced, Lengthens, ClientGoes, FailsToRun, negated};
+ghost use Rattle.rk_served.specs.Order.{ActsInOrder};
+ghost use Rattle.rk_served.specs.Seated.{IsSeated, has_seat};
+ghost use Rattle.rk_served.specs.Calls.{left_of, is_refused, MakesOwnStep, IsStartAt, HasEnded, EndsOne};
+
+use crate::bytes::Bytes;
+use crate::happening::{Happening, StartResult};
+use crate::output::{Output, Outputs};
+use crate::seat::{Channel, Seat};
+use crate::seated_book::SeatedBook;
+use crate::seats;
+use crate::stream::Stream;
+use rk_auth::Stage;
+use rk_conf::Conf;
+use rk_core::{Answer, Event, How, Ran};
+use rk_macro::{Op, Subject};
+use rk_names::{Moment, Serial, SessionId};
+use std::alloc::{AllocError, Global};
+
+/// Where clients and constructions are.
+impl SeatedBook {
+    /// Whether a client of this number is there.
+    fn has_client(&self, client: u32) -> bool
+        ensures { result ≡ has_client self.now.book client }
+    {
+        self.book.has_client(client)
+    }
+
+    /// Whether the handler of a key is still to be started.
+    fn is_to_start(&self, key: Serial) -> bool
+        ensures { result ≡ is_to_start self.now.book key }
+    {
+        matches!(
+            self.book.stage(key),
+            Some(Stage::Starting | Stage::Negating)
+        )
+    }
+
+    /// Whether the handler of a key runs.
+    fn is_running(&self, key: Serial) -> bool
+        ensures { result ≡ is_running self.now.book key }
+    {
+        matches!(self.book.stage(key), Some(Stage::Plain(_) | Stage::Piped))
+    }
+
+    /// Whether the client or construction of a happening is not at that point.
+    pub fn is_misplaced(&self, happening: &Happening) -> bool
+        ensures { result ≡ is_misplaced self.now.book happening.now }
+    {
+        match happening {
+            Happening::Accept(client) => self.has_client(*client),
+            Happening::Bytes(client, _) | Happening::Gone(client) => !self.has_client(*client),
+            Happening::StartResult(key, _) => !self.is_to_start(*key),
+            Happening::HandlerBytes(key, _)
+            | Happening::HandlerReadFault(key)
+            | Happening::HandlerEnded(key, _)
+            | Happening::WaitFault(key) => !self.is_running(*key),
+        }
+    }
+}
+
+/// Own steps.
+impl SeatedBook {
+    /// Bytes come, for a stream or from a piped handler.
+    fn lengthen(&mut self, who: &SessionId, bytes: &[u8]) -> Result<(), AllocError>
+        requires { has_seat self.old.seats.items who.now ≡ true }
+        ensures { OnOk result (Lengthens who.now bytes.now (left_of self.old) (no_step []) (left_of self.new)) }
+    {
+        if let Some(index) = seats::index_of(&self.seats, who) {
+            self.seats[index].channel.feed(bytes)?;
+        }
+        Ok(())
+    }
+
+    /// A client comes, or is refused.
+    fn accept(
+        &mut self,
+        alloc: Global,
+        now: Moment,
+        client: u32,
+        out: &mut Vec<Output>,
+    ) -> Result<(), AllocError>
+        requires { has_client self.old.book client ≡ false }
+        ensures { (conf : List Line) →
+            OnOk result (MakesOwnStep conf now (happening.Accept client) (left_of self.old) out.old.items (left_of self.new) out.new.items) }
+    {
+        let answer = self
+            .book
+            .step(now, Event::Opened(SessionId::Client(client)));
+        if is_refused(&answer) {
+            out.push(Output::Shut(client))?;
+            return Ok(());
+        }
+        let seat = Seat {
+            who: SessionId::Client(client),
+            channel: Channel::Talks(Stream::new(alloc)?),
+            subject: None,
+        };
+        seats::add(&mut self.seats, seat)
+    }
+
+    /// A client goes.
+    fn leave(&mut self, now: Moment, client: u32)
+        requires { has_client self.old.book client ≡ true }
+        ensures { ClientGoes now client (left_of self.old) (one_step now (Gone (Client client)) done []) (left_of self.new) }
+    {
+        let _ = self.book.step(now, Event::Gone(SessionId::Client(client)));
+        seats::remove(&mut self.seats, &SessionId::Client(client));
+    }
+
+    /// A plain handler runs, with an empty stream.
+    fn run_plain(
+        &mut self,
+        alloc: Global,
+        now: Moment,
+        key: Serial,
+        index: usize,
+    ) -> Result<(), AllocError>
+        requires starts { IsStartAt self.old.seats.items index key false }
+        requires owed { is_to_start self.old.book key ≡ true }
+        ensures { (conf : List Line) (put : List Output) →
+            OnOk result (MakesOwnStep conf now (happening.StartResult key Started) (left_of self.old) put (left_of self.new) put) }
+    {
+        let channel = Channel::Talks(Stream::new(alloc)?);
+        let _ = self.book.step(now, Event::Launched(key, Ran::Plain));
+        self.seats[index].channel = channel;
+        Ok(())
+    }
+
+    /// A piped handler runs, and is handed its callout.
+    fn run_piped(
+        &mut self,
+        alloc: Global,
+        now: Moment,
+        key: Serial,
+        index: usize,
+        out: &mut Vec<Output>,
+    ) -> Result<(), AllocError>
+        requires starts { IsStartAt self.old.seats.items index key true }
+        requires owed { is_owed self.old.book (Launched key ran.Piped) ≡ true }
+        ensures { (conf : List Line) →
+            OnOk result (MakesOwnStep conf now (happening.StartResult key Started) (left_of self.old) out.old.items (left_of self.new) out.new.items) }
+    {
+        let _ = self.book.step(now, Event::Launched(key, Ran::Piped));
+        self.seats[index].put_callout(alloc, key, out)?;
+        self.seats[index].channel = Channel::Pipes(Bytes::new(Vec::new(alloc)));
+        Ok(())
+    }
+
+    /// A handler runs as its command was put out.
+    fn run(
+        &mut self,
+        alloc: Global,
+        now: Moment,
+        key: Serial,
+        out: &mut Vec<Output>,
+    ) -> Result<(), AllocError>
+        requires seated { IsSeated (left_of self.old) }
+        requires owed { is_to_start self.old.book key ≡ true }
+        ensures { (conf : List Line) →
+            OnOk result (MakesOwnStep conf now (happening.StartResult key Started) (left_of self.old) out.old.items (left_of self.new) out.new.items) }
+    {
+        if let Some(index) = seats::index_of(&self.seats, &SessionId::Handler(key)) {
+            if self.seats[index].channel.is_piped() {
+                return self.run_piped(alloc, now, key, index, out);
+            }
+            return self.run_plain(alloc, now, key, index);
+        }
+        Ok(())
+    }
+
+    /// A command could not be started.
+    fn fail(&mut self, now: Moment, key: Serial)
+        requires { is_to_start self.old.book key ≡ true }
+        ensures { FailsToRun now key (left_of self.old) (one_step now (Launched key ran.Failed) done []) (left_of self.new) }
+    {
+        let _ = self.book.step(now, Event::Launched(key, Ran::Failed));
+        seats::remove(&mut self.seats, &SessionId::Handler(key));
+    }
+
+    /// A command was started, or could not be.
+    fn launch(
+        &mut self,
+        alloc: Global,
+        now: Moment,
+        key: Serial,
+        started: StartResult,
+        out: &mut Vec<Output>,
+    ) -> Result<(), AllocError>
+        requires seated { IsSeated (left_of self.old) }
+        requires owed { is_to_start self.old.book key ≡ true }
+        ensures { (conf : List Line) →
+            OnOk result (MakesOwnStep conf now (happening.StartResult key started) (left_of self.old) out.old.items (left_of self.new) out.new.items) }
+    {
+        match started {
+            StartResult::Started => self.run(alloc, now, key, out),
+            StartResult::Failed => {
+                self.fail(now, key);
+                Ok(())
+            }
+        }
+    }
+
+    /// A handler has ended, whose seat was taken away. Where another is to follow it, the command of that one is put out,
+    /// for what the first was made for.
+    fn end(
+        &mut self,
+        alloc: Global,
+        conf: &Conf,
+        now: Moment,
+        event: Event,
+        subject: Option<Subject>,
+        out: &mut Vec<Output>,
+    ) -> Result<(), AllocError>
+        ensures { (k : ℕ) (seats : List Seat) → HasEnded k event subject seats (left_of self.old) →
+            OnOk result (EndsOne conf.now now k event subject (record { world = self.old.book; seats = seats })
+            out.old.items (left_of self.new) out.new.items) }
+    {
+        let Answer::Negate(key) = self.book.step(now, event) else {
+            return Ok(());
+        };
+        match subject {
+            Some(subject) => self.start(alloc, conf, now, key, negated(subject), out),
+            None => Ok(()),
+        }
+    }
+
+    /// A handler has ended, and what a piped one has put out is its payload.
+    fn finish(
+        &mut self,
+        alloc: Global,
+        conf: &Conf,
+        now: Moment,
+        key: Serial,
+        how: How,
+        out: &mut Vec<Output>,
+    ) -> Result<(), AllocError>
+        requires seated { IsSeated (left_of self.old) }
+        requires owed { is_running self.old.book key ≡ true }
+        ensures { OnOk result (MakesOwnStep conf.now now (happening.HandlerEnded key how) (left_of self.old) out.old.items (left_of self.new) out.new.items) }
+    {
+        match seats::take(&mut self.seats, &SessionId::Handler(key)) {
+            Some(seat) => {
+                let Seat {
+                    channel,
+                    subject,
+                    ..
+                } = seat;
+                let event = Event::Ended(key, how, channel.into_payload());
+                self.end(alloc, conf, now, event, subject, out)
+            }
+            None => Ok(()),
+        }
+    }
+
+    /// A handler could not be read or waited for.
+    fn break_off(
+        &mut self,
+        alloc: Global,
+        conf: &Conf,
+        now: Moment,
+        key: Serial,
+        out: &mut Vec<Output>,
+    ) -> Result<(), AllocError>
+        requires seated { IsSeated (left_of self.old) }
+        requires owed { is_running self.old.book key ≡ true }
+        ensures { OnOk result (MakesOwnStep conf.now now (happening.WaitFault key) (left_of self.old) out.old.items (left_of self.new) out.new.items) }
+    {
+        match seats::take(&mut self.seats, &SessionId::Handler(key)) {
+            Some(seat) => {
+                let event = Event::Ended(key, How::Fault, None);
+                self.end(alloc, conf, now, event, seat.subject, out)
+            }
+            None => Ok(()),
+        }
+    }
+
+    /// The own step of a happening.
+    fn own_step(
+        &mut self,
+        alloc: Global,
+        conf: &Conf,
+        now: Moment,
+        happening: &Happening,
+        out: &mut Vec<Output>,
+    ) -> Result<(), AllocError>
+        requires seated { IsSeated (left_of self.old) }
+        requires placed { is_misplaced self.old.book happening.now ≡ false }
+        ensures { OnOk result (MakesOwnStep conf.now now happening.now (left_of self.old) out.old.items (left_of self.new) out.new.items) }
+    {
+        match happening {
+            Happening::Accept(client) => self.accept(alloc, now, *client, out),
+            Happening::Bytes(client, bytes) => {
+                self.lengthen(&SessionId::Client(*client), bytes.as_slice())
+            }
+            Happening::Gone(client) => {
+                self.leave(now, *client);
+                Ok(())
+            }
+            Happening::StartResult(key, started) => self.launch(alloc, now, *key, *started, out),
+            Happening::HandlerBytes(key, bytes) => {
+                self.lengthen(&SessionId::Handler(*key), bytes.as_slice())
+            }
+            Happening::HandlerEnded(key, how) => self.finish(alloc, conf, now, *key, *how, out),
+            Happening::HandlerReadFault(key) | Happening::WaitFault(key) => {
+                self.break_off(alloc, conf, now, *key, out)
+            }
+        }
+    }
+
+    /// The own step of a happening, and then moves in order until no session can move.
+    pub fn act(
+        &mut self,
+        alloc: Global,
+        conf: &Conf,
+        now: Moment,
+        happening: &Happening,
+    ) -> Result<Outputs, AllocError>
+        requires seated { IsSeated (left_of self.old) }
+        requires placed { is_misplaced self.old.book happening.now ≡ false }
+        ensures { IfOk result (λ out. (steps : List Past) × ActsInOrder conf.now (left_of self.old) now happening.now out steps (left_of self.new)) }
+    {
+        let mut out = Vec::new(alloc);
+        self.own_step(alloc, conf, now, happening, &mut out)?;
+        self.move_all(alloc, conf, now, &mut out)?;
+        Ok(Outputs::new(out))
+    }
+}
+
+/// What the handler that follows is made for.
+fn negated(subject: Subject) -> Subject
+    ensures { result ≡ negated subject }
+{
+    Subject {
+        op: Op::Negate,
+        ..subject
+    }
+}
+
+/// Whether it is a refusal.
+fn is_refused(answer: &Answer) -> bool
+    ensures { result ≡ is_refused answer.now }
+{
+    matches!(answer, Answer::Refused(_))
+}

@@ -1,0 +1,53 @@
+//! The command for a key under construction.
+ghost use Rattle.std.specs.Prelude.{◌≡◌, ℕ, List, option_map, MatchOption, IfOk};
+ghost use Rattle.rk_machine.specs.Views.{Peeks};
+ghost use Rattle.rk_served.specs.Commands.{IsCommand, HasNoCommand};
+
+use rk_conf::Conf;
+use rk_core::Book;
+use rk_macro::{Command, Subject, Wanted, expand};
+use rk_names::{Moment, Serial};
+use std::alloc::{AllocError, Global};
+
+/// A copy of the payload that `%{..}` names, if the requester can find it.
+fn look_up(
+    alloc: Global,
+    book: &Book,
+    now: Moment,
+    key: Serial,
+    wanted: &Wanted,
+) -> Result<Option<Vec<u8>>, AllocError>
+    ensures { IfOk result (λ seen. Peeks book.now key wanted.now.typ wanted.now.desc now (option_map (λ v. v.items) seen)) }
+{
+    match book.peek(key, &wanted.typ, &wanted.desc, now) {
+        Some(payload) => Ok(Some(Vec::from_slice(alloc, payload)?)),
+        None => Ok(None),
+    }
+}
+
+/// The command of the chosen line. There is none where no line is chosen, or where its words can't be made, also for
+/// want of memory.
+pub fn command_for(
+    alloc: Global,
+    conf: &Conf,
+    book: &Book,
+    now: Moment,
+    key: Serial,
+    subject: &Subject,
+) -> Option<Command>
+    ensures { MatchOption result (HasNoCommand conf.now book.now now key subject.now) (λ c. IsCommand conf.now book.now now key subject.now c) }
+{
+    let line = conf.pick(
+        subject.op.as_bytes(),
+        &subject.typ,
+        &subject.desc,
+        &subject.callout,
+    )?;
+    let look = |wanted: &Wanted| -> Result<Option<Vec<u8>>, AllocError>
+        ensures { IfOk result (λ seen. Peeks book.entry.now key wanted.now.typ wanted.now.desc now (option_map (λ v. v.items) seen)) }
+    { look_up(alloc, book, now, key, wanted) };
+    match expand(alloc, line, subject, look) {
+        Ok(command) => Some(command),
+        Err(_) => None,
+    }
+}
