@@ -1,0 +1,170 @@
+-- What a turn keeps: places and room for what is owed after its step.
+use Rattle.std.proofs.Common.{◌≡◌, ℕ, ◌+◌, ◌-◌, ◌≤◌, ◌<◌, ◌^◌, List, refl, sym, subst, ap, arith, Bool, true, false, cond, if◌then◌else◌, true≢false, inl, inr}
+use Rattle.std.specs.Prelude.{Option, Some, None, is_some, option_map}
+use Rattle.std.specs.Option.{option_map_or}
+use Rattle.std.specs.FinMap as map
+use Rattle.rk_auth.specs.declared.construction.Construction.{Construction}
+use Rattle.rk_names.specs.declared.numbers.SessionId.TheVariants.{Handler}
+use Rattle.rk_auth.specs.declared.construction.Stage.{Stage}
+use Rattle.rk_auth.specs.declared.construction.Stage.TheVariants.{Starting, Plain, Piped, Negating}
+use Rattle.rk_auth.specs.Sessions.{is_running}
+use Rattle.rk_machine.specs.declared.event.Event.{Event}
+use Rattle.rk_machine.specs.declared.event.Event.TheVariants.{Opened, Asked, Launched, Ended, Collect, Gone}
+use Rattle.rk_machine.specs.declared.event.Answer.{Answer}
+use Rattle.rk_machine.specs.declared.event.Answer.TheVariants.{Done, Start, Negate, Waiting, Refused}
+use Rattle.rk_machine.specs.World.{World}
+use Rattle.rk_machine.specs.Steps.{Step}
+use Rattle.rk_machine.specs.Views.{is_owed}
+use Rattle.rk_machine.specs.Owing.{owed, ends_owed, owed_to, ends_owed_to, construction_ends, stage_ends, construction_owes, stage_owes, names_in, whose, start_owes, start_ends, takes, asked_of}
+use Rattle.rk_machine.specs.Recording.{Reached, Recording}
+use Rattle.rk_machine.proofs.OwedSteps.EachRecorded.{reached_recording, owed_part, ends_part}
+use Rattle.rk_machine.proofs.OwedSteps.WeightsOfMaps.{no_heavier}
+use Rattle.rk_record.specs.Journal.{JournalShown, prepared, rooms_taken, rooms_made}
+use Rattle.rk_record.specs.Copies.{FitsStart, IsNoAsk, IsIdleAnswer}
+
+-- ---- before a step
+
+-- what is owed is no ask
+pub owed_no_ask : (w : World) (e : Event) → is_owed w e ≡ true → IsNoAsk e
+owed_no_ask w (Opened s) is = tt
+owed_no_ask w (Asked s x) is = absurd (true≢false (sym is))
+owed_no_ask w (Launched k r) is = tt
+owed_no_ask w (Ended k how payload) is = tt
+owed_no_ask w (Collect s) is = tt
+owed_no_ask w (Gone s) is = tt
+
+-- the end of a handler that runs is owed to it
+end_owed : (o : Option Construction) → is_running (option_map (λ c. c.stage) o) ≡ true → 1 ≤ option_map_or construction_ends o 0
+end_owed None is = absurd (true≢false (sym is))
+end_owed (Some c) is = by_stage c.stage is
+  where
+    by_stage : (st : Stage) → is_running (Some st) ≡ true → 1 ≤ stage_ends st
+    by_stage Starting is = absurd (true≢false (sym is))
+    by_stage (Plain s) is = omega arith
+    by_stage Piped is = omega arith
+    by_stage Negating is = absurd (true≢false (sym is))
+
+-- it takes one at most
+taken_one : (e : Event) → rooms_taken e ≤ takes e
+taken_one (Opened s) = omega arith
+taken_one (Asked s x) = omega arith
+taken_one (Launched k r) = omega arith
+taken_one (Ended k how None) = omega arith
+taken_one (Ended k how (Some payload)) = omega arith
+taken_one (Collect s) = omega arith
+taken_one (Gone s) = omega arith
+
+room_owed : (w : World) (e : Event) → is_owed w e ≡ true → takes e ≤ ends_owed w
+room_owed w (Opened s) is = omega arith
+room_owed w (Asked s x) is = omega arith
+room_owed w (Launched k r) is = omega arith
+room_owed w (Ended k how payload) is =
+    let one = end_owed (map.get w.sessions.constructions k) is in
+    let part = ends_part w (Handler k) in omega arith
+room_owed w (Collect s) is = omega arith
+room_owed w (Gone s) is = omega arith
+
+-- there is room for the payload of an owed end
+pub payload_room : (w : World) (e : Event) → is_owed w e ≡ true → rooms_taken e ≤ ends_owed w
+payload_room w e is = let a = taken_one e in let b = room_owed w e is in omega arith
+
+-- no more ends than places are owed
+pub ends_within : (w : World) → ends_owed w ≤ owed w
+ends_within w = omega (arith, no_heavier construction_ends construction_owes (λ c. by_stage c.stage) w.sessions.constructions)
+  where
+    by_stage : (st : Stage) → stage_ends st ≤ stage_owes st
+    by_stage Starting = omega arith
+    by_stage (Plain s) = omega arith
+    by_stage Piped = omega arith
+    by_stage Negating = omega arith
+
+-- ---- after a step
+
+-- a start comes of what was asked for, and two ends are owed to it
+start_made : (w v : World) (now : ℕ) (e : Event) (a : Answer) → Reached w → Step w now e a v → start_ends a ≤ rooms_made e
+start_made w v now e (Start k subject) r step =
+    let is : asked_of e ≡ Some (names_in subject) = (reached_recording w now e _ v r step).asked k subject refl in
+    let two : rooms_made e ≡ 2 = ap (λ (o : Option (List ℕ × (List ℕ × List ℕ))). cond (is_some o) 2 0) is in omega arith
+start_made w v now e (Done x) r step = omega arith
+start_made w v now e (Negate k) r step = omega arith
+start_made w v now e (Waiting k) r step = omega arith
+start_made w v now e (Refused x) r step = omega arith
+
+owed_makes_none : (w : World) (e : Event) → is_owed w e ≡ true → rooms_made e ≡ 0
+owed_makes_none w (Opened s) is = refl
+owed_makes_none w (Asked s x) is = absurd (true≢false (sym is))
+owed_makes_none w (Launched k r) is = refl
+owed_makes_none w (Ended k how payload) is = refl
+owed_makes_none w (Collect s) is = refl
+owed_makes_none w (Gone s) is = refl
+
+-- what was prepared for an event has a place for its step, and places and room for what is owed after it
+pub record IsPrepared (w v : World) (e : Event) (a : Answer) (j k : JournalShown) : Type 0 where
+  pub one : 1 ≤ k.reserved
+  pub reserved : j.reserved + owed_to v (whose e) + start_owes a - owed_to w (whose e) ≤ k.reserved - 1
+  pub ends : j.ends + ends_owed_to v (whose e) + start_ends a - ends_owed_to w (whose e) ≤ k.ends
+
+pub is_prepared : (w v : World) (now : ℕ) (e : Event) (a : Answer) (j : JournalShown) → Reached w → Step w now e a v
+    → j.reserved ≡ owed w → j.ends ≡ ends_owed w → IsPrepared w v e a j (prepared (is_owed w e) e j)
+is_prepared w v now e a j reached step owes owes_ends = by_owed (is_owed w e) refl
+  where
+    b : Recording w e a v
+    b = reached_recording w now e a v reached step
+
+    by_owed : (t : Bool) → is_owed w e ≡ t → IsPrepared w v e a j (prepared t e j)
+    by_owed true is =
+        let p = b.owed_before is in
+        let t : ends_owed_to v (whose e) + takes e ≤ ends_owed_to w (whose e) = subst (λ x. ends_owed_to v (whose e) + (if x then takes e else 0) ≤ ends_owed_to w (whose e)) is b.taken in
+        let part = owed_part w (whose e) in
+        let ends = ends_part w (whose e) in
+        let m = start_made w v now e a reached step in
+        let none = owed_makes_none w e is in
+        let one = taken_one e in
+        record { one = omega arith; reserved = omega arith; ends = omega arith }
+    by_owed false is =
+        let p = b.needed is in
+        let t : ends_owed_to v (whose e) + 0 ≤ ends_owed_to w (whose e) = subst (λ x. ends_owed_to v (whose e) + (if x then takes e else 0) ≤ ends_owed_to w (whose e)) is b.taken in
+        let part = owed_part w (whose e) in
+        let m = start_made w v now e a reached step in
+        record { one = omega arith; reserved = omega arith; ends = omega arith }
+
+-- what an event frees was kept
+pub frees : (w v : World) (now : ℕ) (e : Event) (a : Answer) (j : JournalShown) → Reached w → Step w now e a v → j.reserved ≡ owed w → j.ends ≡ ends_owed w
+    → (owed_to w (whose e) ≤ j.reserved + owed_to v (whose e) + start_owes a) × (ends_owed_to w (whose e) ≤ j.ends + ends_owed_to v (whose e) + start_ends a)
+frees w v now e a j reached step owes owes_ends =
+    let part = owed_part w (whose e) in
+    let ends = ends_part w (whose e) in (omega arith, omega arith)
+
+-- a start tells what was asked for
+pub fits_start : (w v : World) (now : ℕ) (e : Event) (a : Answer) → Reached w → Step w now e a v → FitsStart (asked_of e) a
+fits_start w v now e (Start k subject) r step = (reached_recording w now e _ v r step).asked k subject refl
+fits_start w v now e (Done x) r step = tt
+fits_start w v now e (Negate k) r step = tt
+fits_start w v now e (Waiting k) r step = tt
+fits_start w v now e (Refused x) r step = tt
+
+-- what can't be recorded changed nothing, and was not owed
+pub idle_same : (w v : World) (now : ℕ) (e : Event) (a : Answer) → Reached w → Step w now e a v → IsIdleAnswer a → (v ≡ w) × (is_owed w e ≡ false)
+idle_same w v now e a r step (inl told) = (reached_recording w now e a v r step).bytes told.0 told.1
+idle_same w v now e a r step (inr lack) = (reached_recording w now e a v r step).lack lack
+
+-- what was free is free again
+pub idle_keeps : (e : Event) (b : Bool) (j : JournalShown) → b ≡ false → (j.reserved ≤ (prepared b e j).reserved) × (j.ends ≤ (prepared b e j).ends)
+idle_keeps e true j is = absurd (true≢false is)
+idle_keeps e false j is = (omega arith, omega arith)
+
+-- the counts stay small
+pub few_ends : (w v : World) (now : ℕ) (e : Event) (a : Answer) (j : JournalShown) → Reached w → Step w now e a v → j.ends ≡ ends_owed w → owed w ≤ 1048576
+    → (j.ends + ends_owed_to v (whose e) < 2 ^ 64) × (j.ends + ends_owed_to v (whose e) + start_ends a < 2 ^ 64)
+few_ends w v now e a j reached step is most =
+    let t = (reached_recording w now e a v reached step).taken in
+    let part = ends_part w (whose e) in
+    let within = ends_within w in
+    let two = starts_two a in (omega arith, omega arith)
+  where
+    starts_two : (a : Answer) → start_ends a ≤ 2
+    starts_two (Start k subject) = omega arith
+    starts_two (Done x) = omega arith
+    starts_two (Negate k) = omega arith
+    starts_two (Waiting k) = omega arith
+    starts_two (Refused x) = omega arith

@@ -1,0 +1,53 @@
+-- What a receipt says of an event, and what has to be copied for a record before a step.
+use Rattle.std.specs.Prelude.{◌≡◌, ◌⊎◌, ℕ, List, length, Option, Some, None, option_map}
+use Rattle.rk_names.specs.declared.errors.Errno.TheVariants as errno
+use Rattle.rk_macro.specs.declared.subject.Subject.{Subject}
+use Rattle.rk_message.specs.declared.reply.Reply.TheVariants.{Bytes}
+use Rattle.rk_machine.specs.declared.event.Event.{Event}
+use Rattle.rk_machine.specs.declared.event.Event.TheVariants as event
+use Rattle.rk_machine.specs.declared.event.Answer.{Answer}
+use Rattle.rk_machine.specs.declared.event.Answer.TheVariants.{Done, Start, Refused}
+use Rattle.rk_machine.specs.Owing.{names_in, asked_of}
+use Rattle.rk_record.specs.declared.told.Told.{Told}
+use Rattle.rk_record.specs.declared.told.Told.TheVariants as told
+use Rattle.rk_record.specs.declared.copies.Asked.{Asked}
+use Rattle.rk_record.specs.declared.turn.Copies.{Copies}
+
+-- what a receipt says of an event: all, but of a payload its length
+abbrev pub told_of : Event → Told
+told_of (event.Opened s) = told.Opened s
+told_of (event.Asked s a) = told.Asked s a
+told_of (event.Launched k r) = told.Launched k r
+told_of (event.Ended k how payload) = told.Ended k how (option_map length payload)
+told_of (event.Collect s) = told.Collect s
+told_of (event.Gone s) = told.Gone s
+
+-- the subject of a start
+abbrev pub started : Answer → Option Subject
+started (Start k subject) = Some subject
+started _ = None
+
+-- the type, the description and the callout of a copy
+abbrev pub asked_names : Asked → List ℕ × (List ℕ × List ℕ)
+asked_names n = (n.typ, (n.description, n.callout))
+
+-- a start tells what was asked for
+abbrev pub FitsStart : Option (List ℕ × (List ℕ × List ℕ)) → Answer → Type 0
+FitsStart asked (Start k subject) = asked ≡ Some (names_in subject)
+FitsStart asked _ = Unit {0}
+
+-- an event that is no ask, and so is copied without memory but for its payload
+abbrev pub IsNoAsk : Event → Type 0
+IsNoAsk (event.Asked s a) = ⊥
+IsNoAsk _ = Unit {0}
+
+-- an answer that changes nothing: bytes that are told, or want of memory
+abbrev pub IsIdleAnswer : Answer → Type 0
+IsIdleAnswer a = ((b : List ℕ) × (a ≡ Done (Bytes b))) ⊎ (a ≡ Refused errno.Enomem)
+
+-- all that is copied of an event before a step
+pub record AreCopies (e : Event) (c : Copies) : Type 0 where
+  pub event : c.event ≡ e
+  pub told : c.told ≡ told_of e
+  pub recorded : option_map asked_names c.recorded ≡ asked_of e
+  pub started : option_map asked_names c.started ≡ asked_of e

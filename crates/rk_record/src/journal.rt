@@ -1,0 +1,162 @@
+//! The steps of a volume that is being recorded.
+ghost use Rattle.std.specs.Prelude.{◌≡◌, ◌↔◌, ◌+◌, ◌-◌, ◌<◌, ◌≤◌, ◌++◌, ◌∷◌, [], length, vec_len, IfOk, OnErr, OnOk, IsOk, Err};
+
+use crate::fault::HallFault;
+use crate::recorded::Recorded;
+use crate::room::Room;
+use std::alloc::{AllocError, Global};
+use std::marker::Model;
+use std::mem;
+
+/// The steps of a volume that is being recorded. Of its places and of the memory for payloads it keeps what later steps need.
+#[derive(Drop)]
+pub(crate) struct Journal {
+    /// Where memory comes from.
+    alloc: Global,
+    /// How many steps it may have.
+    places: usize,
+    /// How many places are kept.
+    reserved: usize,
+    /// For how many payloads room is kept.
+    ends: usize,
+    /// The room, of which there may be more than is kept.
+    rooms: Vec<Room>,
+    steps: Vec<Recorded>,
+}
+
+impl Model for Journal {
+    ghost use Rattle.std.specs.Prelude.{vec_capacity, vec_len};
+    ghost use Rattle.rk_record.specs.Journal.{JournalShown, journal_code, IsJournal};
+
+    ghost Value = { JournalShown };
+
+    ghost coded = { journal_code };
+
+    ghost view = { λ j. record { places = j.places; reserved = j.reserved; ends = j.ends; steps = j.steps.items } };
+
+    ghost invariant = { λ j. IsJournal j.steps.items j.places j.reserved j.ends (vec_capacity j.steps) (vec_len j.rooms) };
+}
+
+impl Journal {
+    /// No step, and nothing kept.
+    pub(crate) fn new(alloc: Global, places: usize) -> Journal
+        requires { places ≤ 1048576 }
+        ensures { result ≡ record { places = places; reserved = 0; ends = 0; steps = [] } }
+    {
+        Journal {
+            alloc,
+            places,
+            reserved: 0,
+            ends: 0,
+            rooms: Vec::new(alloc),
+            steps: Vec::new(alloc),
+        }
+    }
+
+    /// The steps.
+    pub(crate) fn steps(&self) -> &[Recorded]
+        ensures { result.now ≡ self.now.steps }
+    {
+        &self.steps
+    }
+
+    /// How many places are kept.
+    pub(crate) fn reserved(&self) -> usize
+        ensures { result ≡ self.now.reserved }
+    {
+        self.reserved
+    }
+
+    /// For how many payloads room is kept.
+    pub(crate) fn ends(&self) -> usize
+        ensures { result ≡ self.now.ends }
+    {
+        self.ends
+    }
+
+    /// Keeps so many places more. Full comes where there are not so many that are free; a refusal changes nothing, and none comes for no place.
+    pub(crate) fn reserve(&mut self, count: usize) -> Result<(), HallFault>
+        requires { count ≤ 1048576 }
+        ensures ok { OnOk result (self.new ≡ record self.old { reserved = self.old.reserved + count }) }
+        ensures err { OnErr result (self.new ≡ self.old) }
+        ensures none { count ≡ 0 → IsOk result }
+        ensures full { (result ≡ Err HallFault.Full) ↔ (self.old.places - (length self.old.steps + self.old.reserved) < count) }
+    {
+        if count == 0 {
+            return Ok(());
+        }
+        if self.places - self.steps.len() - self.reserved < count {
+            return Err(HallFault::Full);
+        }
+        if self.steps.reserve(self.reserved + count).is_err() {
+            return Err(HallFault::NoMemory);
+        }
+        self.reserved += count;
+        Ok(())
+    }
+
+    /// Keeps room for so many payloads more. A refusal changes nothing.
+    pub(crate) fn reserve_ends(&mut self, count: usize) -> Result<(), AllocError>
+        requires { (count ≤ 1048576) × (self.old.ends ≤ 1048576) }
+        ensures ok { OnOk result (self.new ≡ record self.old { ends = self.old.ends + count }) }
+        ensures err { OnErr result (self.new ≡ self.old) }
+    {
+        make_rooms(self.alloc, &mut self.rooms, self.ends + count)?;
+        self.ends += count;
+        Ok(())
+    }
+
+    /// Keeps so many places, and room for so many payloads, of those that are kept.
+    pub(crate) fn keep(&mut self, reserved: usize, ends: usize)
+        requires { (reserved ≤ self.old.reserved) × (ends ≤ self.old.ends) }
+        ensures { self.new ≡ record self.old { reserved = reserved; ends = ends } }
+    {
+        self.reserved = reserved;
+        self.ends = ends;
+    }
+
+    /// Room for a payload, of that which is kept.
+    pub(crate) fn take_room(&mut self) -> Room
+        requires { 1 ≤ self.old.ends }
+        ensures { self.new ≡ record self.old { ends = self.old.ends - 1 } }
+    {
+        self.ends -= 1;
+        match self.rooms.pop() {
+            Some(room) => room,
+            None => unreachable!(),
+        }
+    }
+
+    /// Records a step in one of the places that are kept. It takes no memory.
+    pub(crate) fn push(&mut self, step: Recorded)
+        requires { 1 ≤ self.old.reserved }
+        ensures { self.new ≡ record self.old { reserved = self.old.reserved - 1; steps = self.old.steps ++ step ∷ [] } }
+    {
+        self.reserved -= 1;
+        self.steps.push_reserved(step);
+    }
+
+    /// Hands the steps out, and goes on with none and with so many places. A refusal changes nothing.
+    pub(crate) fn roll(&mut self, places: usize) -> Result<Vec<Recorded>, AllocError>
+        requires { (self.old.reserved ≤ places) × (places ≤ 1048576) }
+        ensures ok { IfOk result (λ steps. (steps.items ≡ self.old.steps)
+            × (self.new ≡ record { places = places; reserved = self.old.reserved; ends = self.old.ends; steps = [] })) }
+        ensures err { OnErr result (self.new ≡ self.old) }
+    {
+        let fresh = Vec::with_capacity(self.alloc, self.reserved)?;
+        self.places = places;
+        Ok(mem::replace(&mut self.steps, fresh))
+    }
+}
+
+/// Makes rooms until there are so many; where a growth is refused, there are as many as before or more.
+fn make_rooms(alloc: Global, rooms: &mut Vec<Room>, count: usize) -> Result<(), AllocError>
+    ensures more { vec_len rooms.old ≤ vec_len rooms.new }
+    ensures made { OnOk result (count ≤ vec_len rooms.new) }
+{
+    while rooms.len() < count {
+        let room = Room::new(alloc)?;
+        rooms.push(room)?;
+    }
+    Ok(())
+}

@@ -1,0 +1,62 @@
+//! A hall of a request_key daemon: its book, and the record of every step that the book takes.
+//!
+//! # Purpose
+//!
+//! A daemon has four halls, each with a book of its own. Whatever happens in a [`Hall`] is one [`Hall::turn`]: the book takes a step, and the
+//! step is recorded with its moment, its event and its answer. Who asked for it gets a [`Receipt`], which only a turn makes. So whoever has the record
+//! can tell at any time whether what was answered is what the machine allows.
+//!
+//! # What it promises
+//!
+//! A record is a run of the machine that leads to the book's state, and it obeys the laws of every run. A turn records one step, changes the book by
+//! that step alone, and its receipt says the step; a fault does nothing. No step is answered by want of memory.
+//!
+//! What the book owes is never refused: the launch and the end of a construction, the collect of a wait, the end of a client. A place in the record,
+//! and room for the payload of an end, are kept from the moment on at which it is owed, so an owed turn takes no memory. An event that is not owed is
+//! refused as full exactly where it may need more places than are free.
+//!
+//! A record is cut into volumes. [`Hall::roll`] hands out the volume that is being recorded, with exactly its steps, and the next one opens in the
+//! state in which this one closed; the numbers of the steps go on. [`rejoin`] steps an empty book through volumes that are joined: where it answers
+//! `Ok`, they are a run from the empty state on.
+//!
+//! # Use
+//!
+//! Make a `Hall` with its limits and its number, and call `turn` with a moment and an event. Read the answer from the receipt, and keep the receipt
+//! for as long as what it says is to be compared with the record.
+//!
+//! # How it is built
+//!
+//! `journal` has the steps of the volume that is being recorded, with the places and the room that are kept; `room` is room for one payload. `hall`
+//! has the hall and what is only asked of it, `turn` its turns, `roll` its volumes. A turn asks the book before the step and after it what is owed to the
+//! client or construction that the event is about, and keeps the difference: it knows no kind of event by itself. `copies` has what is copied of a step,
+//! since the record, the receipt and whoever starts a handler each own what they say. `recorded`, `told`, `receipt`, `volume` and `fault` have what
+//! is recorded and handed out, `hall_no` the numbers of the halls, `joining` and `rejoin_fault` have `rejoin`.
+//!
+//! In `specs/`, `Record` says what a record is, `Turns` what one turn does, `Volumes` what a roll does and what breaks a run, `HallNumbers` which hall
+//! has which number; `Copies` and `Journal` are of the way in which a hall does it. How what is owed changes by a step is rk_machine's `Recording`.
+#![tactic(auto)]
+
+mod copies;
+mod fault;
+mod hall;
+mod hall_no;
+mod joining;
+mod journal;
+mod receipt;
+mod recorded;
+mod rejoin_fault;
+mod roll;
+mod room;
+mod told;
+mod turn;
+mod volume;
+
+pub use fault::HallFault;
+pub use hall::{Hall, MAX_STEPS};
+pub use hall_no::HallNo;
+pub use joining::rejoin;
+pub use receipt::Receipt;
+pub use recorded::Recorded;
+pub use rejoin_fault::Rejoin;
+pub use told::Told;
+pub use volume::Volume;

@@ -1,0 +1,14 @@
+//! One step of a record.
+use rk_machine::{Answer, Event};
+use rk_names::Moment;
+
+/// One step of a record.
+#[derive(Debug, Drop)]
+pub struct Recorded {
+    /// The moment at which it was taken.
+    pub now: Moment,
+    /// What happened.
+    pub event: Event,
+    /// What was answered; never want of memory.
+    pub answer: Answer,
+}

@@ -1,0 +1,197 @@
+//! A turn of a hall: one step of its book, recorded.
+ghost use Rattle.std.specs.Prelude.{◌≡◌, ◌+◌, ◌-◌, ◌<◌, ◌≤◌, ◌↔◌, true, false, length, IfOk, OnErr, OnOk, IsOk, Err};
+ghost use Rattle.rk_machine.specs.Views.{is_owed};
+ghost use Rattle.rk_machine.specs.Owing.{owed_to, ends_owed_to, need};
+ghost use Rattle.rk_record.specs.Record.{IsRecord, IsFull};
+ghost use Rattle.rk_record.specs.Turns.{Turned};
+ghost use Rattle.rk_record.specs.Journal.{prepared, rooms_taken, rooms_made};
+ghost use Rattle.rk_record.specs.Copies.{started, IsNoAsk, AreCopies};
+
+use crate::copies::{Asked, copy_without_memory, recorded_answer, started_subject};
+use crate::fault::HallFault;
+use crate::hall::Hall;
+use crate::journal::Journal;
+use crate::receipt::Receipt;
+use crate::recorded::Recorded;
+use crate::told::Told;
+use rk_core::Book;
+use rk_machine::{Answer, Event};
+use rk_macro::Subject;
+use rk_names::{Moment, SessionId};
+use std::alloc::AllocError;
+
+impl Hall {
+    /// Takes one step of the book at this moment, and records it. The receipt says the step.
+    ///
+    /// [`HallFault::Full`] comes exactly where an event that is not owed has not as many free places as it may need: 2 for `Opened`, 6 for REQUEST,
+    /// 1 for any other. [`HallFault::NoMemory`] comes where a growth was refused. Neither takes a step or changes anything, and neither comes for what
+    /// is owed, which takes no memory.
+    pub fn turn(&mut self, now: Moment, event: Event) -> Result<Receipt, HallFault>
+        ensures ok { IfOk result (λ r. Turned self.old now event r self.new) }
+        ensures err { OnErr result (self.new ≡ self.old) }
+        ensures sound { IsRecord self.new }
+        ensures owed { is_owed self.old.world event ≡ true → IsOk result }
+        ensures full { (result ≡ Err HallFault.Full) ↔ IsFull self.old event }
+    {
+        match self.turn_to_start(now, event) {
+            Ok((receipt, _)) => Ok(receipt),
+            Err(fault) => Err(fault),
+        }
+    }
+
+    /// The same, with the subject of a start once more, for whoever starts the handler.
+    pub fn turn_to_start(
+        &mut self,
+        now: Moment,
+        event: Event,
+    ) -> Result<(Receipt, Option<Subject>), HallFault>
+        ensures ok { IfOk result (λ r. Turned self.old now event r.0 self.new) }
+        ensures subject { IfOk result (λ r. r.1 ≡ started r.0.answer) }
+        ensures err { OnErr result (self.new ≡ self.old) }
+        ensures sound { IsRecord self.new }
+        ensures owed { is_owed self.old.world event ≡ true → IsOk result }
+        ensures full { (result ≡ Err HallFault.Full) ↔ IsFull self.old event }
+    {
+        let kept = Kept::of(&self.journal);
+        let copies = prepare(&self.book, &mut self.journal, &event)?;
+        let whose = event.whose();
+        let owed = Kept::owed_to(&self.book, &whose);
+        let answer = self.book.step(now, event);
+        let Some(copy) = recorded_answer(&answer, copies.recorded) else {
+            self.journal.keep(kept.places, kept.ends);
+            return Err(HallFault::NoMemory);
+        };
+        let left = Kept::owed_to(&self.book, &whose);
+        self.journal.push(Recorded {
+            now,
+            event: copies.event,
+            answer: copy,
+        });
+        self.journal.keep(
+            kept.places + left.places + answer.start_owes() - owed.places,
+            kept.ends + left.ends + answer.start_ends() - owed.ends,
+        );
+        let subject = started_subject(&answer, copies.started);
+        Ok((
+            Receipt {
+                hall: self.no,
+                volume: self.index,
+                number: self.before + self.journal.steps().len() as u64,
+                moment: now,
+                told: copies.told,
+                answer,
+            },
+            subject,
+        ))
+    }
+}
+
+/// Places of a volume, and payloads for which there is room: those that are kept, or those that are owed to one session.
+#[derive(Clone, Copy)]
+struct Kept {
+    places: usize,
+    ends: usize,
+}
+
+impl Kept {
+    fn of(journal: &Journal) -> Kept
+        ensures { (result.places ≡ journal.now.reserved) × (result.ends ≡ journal.now.ends) }
+    {
+        Kept {
+            places: journal.reserved(),
+            ends: journal.ends(),
+        }
+    }
+
+    fn owed_to(book: &Book, id: &SessionId) -> Kept
+        ensures { (result.places ≡ owed_to book.now id.now) × (result.ends ≡ ends_owed_to book.now id.now) }
+    {
+        Kept {
+            places: book.owed_to(id),
+            ends: book.ends_owed_to(id),
+        }
+    }
+}
+
+/// What is copied before a step.
+#[derive(Drop)]
+struct Copies {
+    /// The event, for the record.
+    event: Event,
+    /// What the receipt says of it.
+    told: Told,
+    /// The names of a start, for the record.
+    recorded: Option<Asked>,
+    /// And once more, for whoever starts the handler.
+    started: Option<Asked>,
+}
+
+impl Copies {
+    /// The copies of any event.
+    fn of(event: &Event) -> Result<Copies, AllocError>
+        ensures { IfOk result (λ c. AreCopies event.now c) }
+    {
+        Ok(Copies {
+            event: event.clone()?,
+            told: Told::of(event)?,
+            recorded: Asked::of(event)?,
+            started: Asked::of(event)?,
+        })
+    }
+}
+
+/// Copies an event, and keeps the places that its steps may need and room for the ends of what it may start; for what is owed both are
+/// kept already. A refusal changes nothing.
+fn prepare(book: &Book, journal: &mut Journal, event: &Event) -> Result<Copies, HallFault>
+    requires room { is_owed book.now event.now ≡ true → rooms_taken event.now ≤ journal.old.ends }
+    requires ends { journal.old.ends ≤ 1048576 }
+    requires fits { length journal.old.steps + journal.old.reserved ≤ journal.old.places }
+    ensures copies { IfOk result (λ c. AreCopies event.now c) }
+    ensures journal { OnOk result (journal.new ≡ prepared (is_owed book.now event.now) event.now journal.old) }
+    ensures fits { OnOk result (length journal.new.steps + journal.new.reserved ≤ journal.new.places) }
+    ensures err { OnErr result (journal.new ≡ journal.old) }
+    ensures owed { is_owed book.now event.now ≡ true → IsOk result }
+    ensures full { (result ≡ Err HallFault.Full) ↔ ((is_owed book.now event.now ≡ false)
+        × (journal.old.places - (length journal.old.steps + journal.old.reserved) < need event.now)) }
+{
+    if book.owes(event) {
+        return Ok(owed_copies(journal, event));
+    }
+    let kept = Kept::of(journal);
+    journal.reserve(event.need())?;
+    match free_copies(journal, event) {
+        Ok(copies) => Ok(copies),
+        Err(_) => {
+            journal.keep(kept.places, kept.ends);
+            Err(HallFault::NoMemory)
+        }
+    }
+}
+
+/// The copies of an event that is owed, so that it is no ask. They take no memory.
+fn owed_copies(journal: &mut Journal, event: &Event) -> Copies
+    requires ask { IsNoAsk event.now }
+    requires room { rooms_taken event.now ≤ journal.old.ends }
+    ensures copies { AreCopies event.now result }
+    ensures journal { journal.new ≡ record journal.old { ends = journal.old.ends - rooms_taken event.now } }
+{
+    Copies {
+        event: copy_without_memory(event, journal),
+        told: Told::of_no_ask(event),
+        recorded: None,
+        started: None,
+    }
+}
+
+/// The copies of an event that is not owed, with room for the ends of what it may start. A refusal changes nothing.
+fn free_copies(journal: &mut Journal, event: &Event) -> Result<Copies, AllocError>
+    requires { journal.old.ends ≤ 1048576 }
+    ensures copies { IfOk result (λ c. AreCopies event.now c) }
+    ensures journal { OnOk result (journal.new ≡ record journal.old { ends = journal.old.ends + rooms_made event.now }) }
+    ensures err { OnErr result (journal.new ≡ journal.old) }
+{
+    let copies = Copies::of(event)?;
+    let ends = if copies.recorded.is_some() { 2 } else { 0 };
+    journal.reserve_ends(ends)?;
+    Ok(copies)
+}
