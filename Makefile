@@ -12,7 +12,8 @@ PROGRAMS := $(filter-out $(BENCHES),$(ALL_PROGRAMS))
 
 all: $(addprefix build/,$(PROGRAMS))  ## Prove and build the programs, into build/
 
-bench: $(addprefix build/,$(BENCHES))  ## Prove and build what measures them, into build/ (bench/README.md)
+bench: $(addprefix build/,$(BENCHES))  ## Prove and build what measures them, and their peers in C, into build/ (bench/README.md)
+	@$(MAKE) -C bench --no-print-directory
 
 # What a program is made of: any change of a crate makes it anew.
 SOURCES := $(shell find crates -path '*/out' -prune -o -type f \( -name '*.rt' -o -name '*.antt' \) -print) crates.txt

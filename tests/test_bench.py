@@ -1,0 +1,56 @@
+#!/usr/bin/env python3
+"""The programs in C of bench/ compile without a warning, and the one that plays scripts makes the same of them as `reqkeyd replay`.
+
+It is written from the documents and shares no line with the daemon, so the two check each other: on each scenario of tests/replay, and on random
+scripts. Nothing is measured here.
+"""
+import pathlib
+import shutil
+import subprocess
+import sys
+import tempfile
+
+from programs import PROGRAMS, top
+from random_scripts import played, script_of
+
+SEEDS = range(100)
+
+bench = top / "bench"
+passed = failed = 0
+
+
+def tell(right, wrong):
+    global passed, failed
+    passed += right
+    failed += not right
+    if not right:
+        print(wrong)
+
+
+def scenario(program, folder):
+    status = int((folder / "status").read_text()) if (folder / "status").exists() else 0
+    return played(program, (folder / "script").read_bytes()) == ((folder / "expected").read_bytes(), status)
+
+
+if not shutil.which("gcc") or not shutil.which("make"):
+    print("bench/c: not tried, there is no gcc and make")
+    print("0 passed, 0 failed")
+    sys.exit(0)
+
+with tempfile.TemporaryDirectory() as folder:
+    made = subprocess.run(["make", "-C", bench, f"OUT={folder}", "WARNINGS=-Wall -Wextra -Werror"], capture_output=True, text=True)
+    tell(made.returncode == 0, made.stderr)
+    replay = pathlib.Path(folder) / "replay"
+    if made.returncode == 0:
+        for case in sorted(path for path in (top / "tests" / "replay").iterdir() if path.is_dir()):
+            tell(scenario(replay, case), f"bench/c/replay {case.name}: it is played otherwise")
+        there = [program for program in PROGRAMS if program.exists()]
+        for program in PROGRAMS:
+            tell(program in there, f"{program} is not built")
+        for seed in SEEDS:
+            script = script_of(seed, replay)
+            wanted = played(replay, script)
+            for program in there:
+                tell(played(program, script) == wanted, f"{program.name}: the script of the seed {seed} is played otherwise (tests/random_scripts.py)")
+print(f"{passed} passed, {failed} failed")
+sys.exit(1 if failed else 0)
