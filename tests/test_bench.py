@@ -1,5 +1,5 @@
 #!/usr/bin/env python3
-"""The programs in C of bench/ compile without a warning, and the one that plays scripts makes the same of them as `reqkeyd replay`.
+"""The programs in C of bench/ compile without a warning and run, and the one that plays scripts makes the same of them as `reqkeyd replay`.
 
 It is written from the documents and shares no line with the daemon, so the two check each other: on each scenario of tests/replay, and on random
 scripts. Nothing is measured here.
@@ -32,6 +32,28 @@ def scenario(program, folder):
     return played(program, (folder / "script").read_bytes()) == ((folder / "expected").read_bytes(), status)
 
 
+# A short run of each of the others; they end with a fault where an answer is not the one that is due.
+RUNS = [
+    ["book", "--rounds", "50", "200", "400"],
+    ["book", "--rounds", "50", "--users", "1000", "200"],
+    ["hall", "80"],
+    ["spawn", "--starts", "16", "--resident", "1"],
+    ["measure", "true"],
+]
+
+
+def load_is_answered(folder):
+    """Eight connections to the server that echoes."""
+    path = folder / "socket"
+    server = subprocess.Popen([folder / "echo", path, "8"], stderr=subprocess.PIPE)
+    server.stderr.readline()
+    try:
+        return subprocess.run([folder / "load", path, "8", "80"], capture_output=True, timeout=60).returncode == 0
+    finally:
+        server.kill()
+        server.communicate()
+
+
 if not shutil.which("gcc") or not shutil.which("make"):
     print("bench/c: not tried, there is no gcc and make")
     print("0 passed, 0 failed")
@@ -40,8 +62,13 @@ if not shutil.which("gcc") or not shutil.which("make"):
 with tempfile.TemporaryDirectory() as folder:
     made = subprocess.run(["make", "-C", bench, f"OUT={folder}", "WARNINGS=-Wall -Wextra -Werror"], capture_output=True, text=True)
     tell(made.returncode == 0, made.stderr)
-    replay = pathlib.Path(folder) / "replay"
+    folder = pathlib.Path(folder)
+    replay = folder / "replay"
     if made.returncode == 0:
+        for program, *words in RUNS:
+            ran = subprocess.run([folder / program, *words], capture_output=True, timeout=60)
+            tell(ran.returncode == 0, f"bench/c/{program}: status {ran.returncode}: {ran.stderr.decode(errors='replace')}")
+        tell(load_is_answered(folder), "bench/c/load: it fails")
         for case in sorted(path for path in (top / "tests" / "replay").iterdir() if path.is_dir()):
             tell(scenario(replay, case), f"bench/c/replay {case.name}: it is played otherwise")
         there = [program for program in PROGRAMS if program.exists()]

@@ -84,7 +84,10 @@ struct machine {
     void *driver;
 };
 
-enum answer_kind { NUMBER, BYTES, RINGS, REFUSED, WAITING, START, NEGATE };
+enum answer_kind {
+    NUMBER = NUMBER_REPLY, BYTES = BYTES_REPLY, RINGS = RINGS_REPLY, REFUSED = REFUSED_REPLY,
+    WAITING, START, NEGATE,
+};
 
 /* What is answered; the first four are replies. The bytes stand until the next event. */
 struct answer {

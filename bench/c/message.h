@@ -11,6 +11,9 @@ enum op {
     OP_REVOKE, OP_TIMEOUT, OP_LINK, OP_UNLINK, OP_CLEAR, OP_DEFAULT, OP_ADD, OP_CALLOUT,
 };
 
+/* The first bytes of replies. */
+enum { NUMBER_REPLY, BYTES_REPLY, RINGS_REPLY, REFUSED_REPLY };
+
 enum { MAX_BODY = 65536, MAX_TYPE = 31, MAX_DESCRIPTION = 4095, MAX_CALLOUT = 4095, MAX_PAYLOAD = 32767 };
 
 /* An ask; its texts stand in the body. Only the fields of its op mean something. */
