@@ -60,16 +60,22 @@ class Script:
         return said
 
 
-def one_client(ring=-4, conf=()):
-    """A client with all keys that it may have but one."""
+def one_client(ring=-4, conf=(), others=0):
+    """A client with all keys that it may have but one, and so many users with as many, who are gone."""
     script = Script(conf)
+    for other in range(others):
+        script.come(1, 2000 + other)
+        for name in range(OF_A_USER - 1):
+            script.add(1, f"d{name}")
+        script.say("gone 1")
     script.come(1, 1000)
-    script.keys = [script.add(1, f"d{name}", ring) for name in range(OF_A_USER - 1)]
+    for name in range(OF_A_USER - 1):
+        script.add(1, f"d{name}", ring)
     return script
 
 
-def hits(count):
-    script = one_client()
+def hits(count, others=0):
+    script = one_client(others=others)
     before = script.cut()
     for at in range(count):
         script.ask(1, f"REQUEST user d{at % (OF_A_USER - 1)} - 0")
@@ -157,8 +163,8 @@ def mixed(count):
     return before, script.cut()
 
 
-def displacing(count):
-    script = one_client()
+def displacing(count, others=0):
+    script = one_client(others=others)
     before = script.cut()
     for at in range(count):
         script.add(1, f"d{at % (OF_A_USER - 1)}")
@@ -234,12 +240,14 @@ LOADS = [
     ("piped", piped, 1),
     ("mixed", mixed, 1),
     ("displacing", displacing, 1),
+    ("hits among 20,000 keys", lambda count: hits(count, 100), 1),
+    ("displacing among 20,000 keys", lambda count: displacing(count, 100), 1),
     ("64 clients in turn", clients_in_turn, 1),
     ("60 waiters", waiters, 1),
     ("one byte a line", one_byte_a_line, 1),
-    ("250 running handlers", running_handlers(250), 4),
+    ("250 running handlers", running_handlers(250), 1),
     ("1,000 running handlers", running_handlers(1000), 4),
-    ("4,000 running handlers", running_handlers(4000), 10),
+    ("4,000 running handlers", running_handlers(4000), 4),
 ]
 
 

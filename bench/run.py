@@ -1,11 +1,17 @@
 #!/usr/bin/env python3
 """Measures the programs beside their peers in C, in turn in one run, and prints the ratios beside those to be reached.
 
-usage: run.py [--lines N] [--runs N] [--instructions N] [--only WORDS] replay|book|memory ..
+usage: run.py [--lines N] [--runs N] [--instructions N] [--asks N] [--only WORDS] WHAT ..
 
 replay   `reqkeyd replay` and bench/c/replay.c on the scripts of loads.py, whose outputs have to be equal byte by byte
 book     `book_bench` and bench/c/book.c: what a step costs, by the number of keys
 memory   what both take for each key
+profile  where `reqkeyd replay` spends its instructions on those scripts
+hall     what a call costs behind a lock: `hall_bench` and bench/c/hall.c
+spawn    starts of programs: `spawn_bench` and bench/c/spawn.c
+serve    `reqkeyd serve` and bench/c/echo.c, both driven by bench/c/load.c over a socket
+
+Where the project's program is not there yet, the peer is measured alone.
 
 Times are processor times, the least of so many runs; what a script sets up before its measured lines is run alone and taken off. Instructions are
 those that callgrind counts, which no other work on the machine disturbs, over N lines (2,000; 0 for none).
@@ -14,9 +20,11 @@ import argparse
 import os
 import pathlib
 import re
+import socket
 import subprocess
 import sys
 import tempfile
+import time
 
 import loads
 
@@ -59,11 +67,11 @@ def run(words, script=b"", kept=None):
     return (user + system) / 1e6, peak, size
 
 
-def instructions(words, script):
-    """How many instructions it takes, by callgrind."""
-    with tempfile.TemporaryDirectory() as folder:
-        tool = ["valgrind", "--tool=callgrind", f"--callgrind-out-file={folder}/out", *map(str, words)]
-        ran = subprocess.run(tool, input=script, stdout=subprocess.DEVNULL, stderr=subprocess.PIPE)
+def instructions(words, script, kept=os.devnull):
+    """How many instructions it takes, by callgrind, whose file may be kept."""
+    tool = ["valgrind", "--tool=callgrind", f"--callgrind-out-file={kept}", *map(str, words)]
+    environment = {**os.environ, "FIXED_SEED": "1"}
+    ran = subprocess.run(tool, input=script, stdout=subprocess.DEVNULL, stderr=subprocess.PIPE, env=environment)
     found = re.search(rb"Collected : (\d+)", ran.stderr)
     if not found:
         raise Wrong(f"callgrind: {ran.stderr.decode(errors='replace')[-400:]}")
@@ -82,16 +90,21 @@ def outputs_are_equal(programs, script):
         return all(first == file.read_bytes() for file in files[1:]), len(first)
 
 
+LONG = 20  # seconds, after which a load is not run again
+
+
 def measure(programs, before, whole, runs):
-    """For each program the least time of the measured lines, and its peak memory."""
+    """For each program the least time of the measured lines, its peak memory, and the least time of a run."""
     alone, both, memory = ({name: [] for name in programs} for _ in range(3))
     for _ in range(runs):
+        if sum(sum(times) for times in both.values()) > LONG:
+            break
         for name, words in programs.items():
             alone[name].append(run(words, before)[0])
             took, peak, _ = run(words, whole)
             both[name].append(took)
             memory[name].append(peak)
-    return {name: (max(min(both[name]) - min(alone[name]), 1e-9), min(memory[name])) for name in programs}
+    return {name: (max(min(both[name]) - min(alone[name]), 1e-9), min(memory[name]), min(both[name])) for name in programs}
 
 
 def counted(programs, load, lines):
@@ -111,7 +124,7 @@ def table(*heads):
 
 
 def ratio(values):
-    return f"{values[RATTLE] / values[C]:.1f}" if len(values) == 2 else "-"
+    return f"{values[RATTLE] / values[C]:.2f}" if len(values) == 2 else "-"
 
 
 def replay(options):
@@ -121,7 +134,8 @@ def replay(options):
     except Wrong as wrong:
         print(f"{wrong}; only C is measured\n")
     print("Ratios are Rattle's to C's, to be at most 6.0 in each row; lines a second of hits at least 1,000,000.\n")
-    table("load", "lines", "lines/s Rattle", "lines/s C", "time", "instructions/line Rattle", "C", "instructions", "peak KiB Rattle", "C", "script + output KiB")
+    columns = ["lines/s Rattle", "C", "time", "instructions/line Rattle", "C", "instructions", "peak KiB Rattle", "C", "script + output KiB"]
+    table("load", "lines", *columns)
     hits = [("hits, ten times the lines", loads.hits, 0.1)] if options.lines >= 1000 else []
     for name, load, fewer in [loads.LOADS[0], *hits, *loads.LOADS[1:]]:
         if options.only and options.only not in name:
@@ -132,18 +146,19 @@ def replay(options):
         if not equal:
             raise Wrong(f"{name}: the outputs differ")
         took = measure(programs, start, whole, options.runs)
-        heavy = len(before) > 10_000 or fewer < 1
+        # callgrind takes some fifty times as long
+        heavy = any(whole_time > 1 for _, _, whole_time in took.values())
         steps = {} if heavy or not options.instructions else counted(programs, load, options.instructions)
         show(name, len(after), took, steps, (len(whole) + size) // 1024)
 
 
 def show(name, lines, took, steps, size):
-    times = {who: time for who, (time, _) in took.items()}
-    rates = {who: f"{lines / time:,.0f}" for who, time in times.items()}
+    times = {who: time for who, (time, _, _) in took.items()}
+    speeds = {who: f"{lines / time:,.0f}" for who, time in times.items()}
     counts = {who: f"{count:,.0f}" for who, count in steps.items()}
-    peaks = {who: f"{peak:,}" for who, (_, peak) in took.items()}
-    both = [[column.get(who, "-") for who in (RATTLE, C)] for column in (rates, counts, peaks)]
-    row([name, f"{lines:,}", *both[0], ratio(times), *both[1], ratio(steps), *both[2], f"{size:,}"])
+    peaks = {who: f"{peak:,}" for who, (_, peak, _) in took.items()}
+    pairs = [[column.get(who, "-") for who in (RATTLE, C)] for column in (speeds, counts, peaks)]
+    row([name, f"{lines:,}", *pairs[0], ratio(times), *pairs[1], ratio(steps), *pairs[2], f"{size:,}"])
 
 
 # ---- book
@@ -206,12 +221,158 @@ def memory(options):
             print(wrong)
 
 
+# ---- profile
+
+FUNCTION = re.compile(r" *[0-9,]+ \( *(?P<share>[0-9.]+)%\) +[^ ]*?:(?P<name>.*?)(?: \[.*\])?")
+
+
+def profile(options):
+    """The functions that take most, by load, with what a script sets up in it."""
+    print(f"Shares of instructions, {options.instructions:,} lines of each load\n")
+    table("load", "functions")
+    for name, load, _ in loads.LOADS:
+        before, after = load(options.instructions)
+        if (options.only and options.only not in name) or len(before) > 10_000:
+            continue
+        with tempfile.TemporaryDirectory() as folder:
+            instructions([built("reqkeyd"), "replay"], loads.text(before, after), f"{folder}/out")
+            told = subprocess.run(["callgrind_annotate", f"{folder}/out"], stdout=subprocess.PIPE, text=True).stdout
+        found = [FUNCTION.fullmatch(line) for line in told.splitlines()]
+        functions = [f"`{it['name']}` {it['share']}%" for it in found if it and float(it["share"]) < 100]
+        row([name, ", ".join(functions[:6])])
+
+
+# ---- what prints its rates itself
+
+RATE = re.compile(r"(?P<of>[^:]*): (?:.* )?(?P<rate>[0-9]+) (?:starts|calls|asks)/s(?P<more>.*)")
+
+
+def rates(programs, runs):
+    """For each line that the programs print the greatest rate of each, and what it said behind it."""
+    found = {}
+    for _ in range(runs):
+        for who, words in programs.items():
+            ran = subprocess.run([str(word) for word in words], stdout=subprocess.PIPE, text=True)
+            if ran.returncode:
+                raise Wrong(f"{words[0]}: status {ran.returncode}")
+            for line in ran.stdout.splitlines():
+                told = RATE.fullmatch(line)
+                best = found.setdefault(told["of"], {})
+                best[who] = max(best.get(who, (0, "")), (int(told["rate"]), told["more"]))
+    return found
+
+
+def tell_rates(found, unit):
+    table("of", f"{unit}/s Rattle", "C", "ratio")
+    for of, best in found.items():
+        counts = {who: rate for who, (rate, _) in best.items()}
+        row([of, *[f"{counts[who]:,}" if who in counts else "-" for who in (RATTLE, C)], ratio(counts)])
+
+
+def both(name, ours, more):
+    """The peer, and the project's program where it is built."""
+    programs = {C: [peer(name), *more]}
+    try:
+        programs[RATTLE] = [built(ours), *more]
+    except Wrong as wrong:
+        print(f"{wrong}; only C is measured\n")
+    return programs
+
+
+def hall(options):
+    tell_rates(rates(both("hall", "hall_bench", []), options.runs), "calls")
+
+
+def spawn(options):
+    print("Starts a second, Rattle's to C's to be at least 0.95\n")
+    for more in [], ["--resident", "256"]:
+        tell_rates(rates(both("spawn", "spawn_bench", more), options.runs), "starts")
+
+
+# ---- serve
+
+CONF = "create user made:* * |/bin/cat\n"
+CONNECTIONS = ["1", "8", "64"]
+
+
+class Server:
+    """A server that runs, and its socket."""
+
+    def __init__(self, words, path):
+        self.path = path
+        self.child = subprocess.Popen([str(word) for word in words], stderr=subprocess.DEVNULL)
+        for _ in range(1000):
+            with socket.socket(socket.AF_UNIX) as tried:
+                if self.child.poll() is None and tried.connect_ex(str(path)) == 0:
+                    return
+            time.sleep(0.01)
+            if self.child.poll() is not None:
+                raise Wrong(f"{words[0]} {words[1]} does not serve")
+        self.end()
+        raise Wrong(f"{words[0]} {words[1]} does not answer")
+
+    def resident(self):
+        """The KiB that it has in memory."""
+        return int(re.search(r"VmRSS:\s+(\d+)", pathlib.Path(f"/proc/{self.child.pid}/status").read_text())[1])
+
+    def end(self):
+        self.child.kill()
+        self.child.wait()
+
+
+def servers(folder):
+    """Both servers, or the peer alone."""
+    conf = folder / "conf"
+    conf.write_text(CONF)
+    found = {C: Server([peer("echo"), folder / "echo", 64], folder / "echo")}
+    try:
+        words = [built("reqkeyd"), "serve", "--socket", folder / "reqkeyd", "--conf", conf, "--sessions", 64]
+        found[RATTLE] = Server(words, folder / "reqkeyd")
+    except Wrong as wrong:
+        print(f"{wrong}; only C is measured\n")
+    return found
+
+
+def serve(options):
+    with tempfile.TemporaryDirectory() as name:
+        found = servers(pathlib.Path(name))
+        try:
+            print("Asks a second for a key that is there, Rattle's to C's to be at least 0.9\n")
+            drive(found, options, CONNECTIONS, [])
+            if RATTLE in found:
+                print("\nKeys made by /bin/cat, beside the starts of `spawn`, to be at least 0.95 of them\n")
+                drive({RATTLE: found[RATTLE]}, argparse.Namespace(runs=options.runs, asks=400), ["1", "8"], ["made"])
+                tell_rates(rates({C: [peer("spawn")]}, options.runs), "starts")
+            print("\nMemory after asks, which is to stay as it is\n")
+            table("program", "KiB after 10,000", "KiB after 1,000,000")
+            for who, server in found.items():
+                row([who, *[f"{resident_after(server, asks):,}" for asks in ("10000", "1000000")]])
+        finally:
+            for server in found.values():
+                server.end()
+
+
+def resident_after(server, asks):
+    subprocess.run([peer("load"), server.path, "8", asks], stdout=subprocess.DEVNULL, check=True)
+    return server.resident()
+
+
+def drive(found, options, connections, more):
+    table("connections", "program", "asks/s", "to C's", "latency")
+    for count in connections:
+        loads_of = {who: [peer("load"), server.path, count, str(options.asks), *more] for who, server in found.items()}
+        for best in rates(loads_of, options.runs).values():
+            for who, (rate, latency) in best.items():
+                row([count, who, f"{rate:,}", f"{rate / best[C][0]:.2f}" if C in best else "-", latency.strip(", ")])
+
+
 def main():
     parser = argparse.ArgumentParser(description=__doc__.split("\n")[0])
-    parser.add_argument("what", nargs="+", choices=["replay", "book", "memory"])
+    parser.add_argument("what", nargs="+", choices=["replay", "book", "memory", "profile", "hall", "spawn", "serve"])
     parser.add_argument("--lines", type=int, default=20000)
     parser.add_argument("--runs", type=int, default=5)
     parser.add_argument("--instructions", type=int, default=2000, metavar="LINES")
+    parser.add_argument("--asks", type=int, default=100000, help="how many asks of each number of connections")
     parser.add_argument("--only", help="the loads of replay whose names have these words")
     options = parser.parse_args()
     try:

@@ -8,6 +8,8 @@ struct seed map_seed = {0x9e3779b97f4a7c15u, 0xd1342543de82ef95u};
 void map_seed_draw(void)
 {
     struct seed drawn;
+    if (getenv("FIXED_SEED"))
+        return;
     if (getrandom(&drawn, sizeof drawn, GRND_NONBLOCK) != (ssize_t)sizeof drawn)
         drawn = (struct seed){(uint64_t)time(NULL), (uint64_t)(uintptr_t)&drawn};
     map_seed.a ^= drawn.a;
@@ -39,7 +41,7 @@ uint64_t hash_bytes(uint64_t seed, const uint8_t *at, size_t len)
 
 static void put(struct map *map, uint32_t key, void *value)
 {
-    uint32_t at = (uint32_t)hash_number(key) & map->mask;
+    uint32_t at = hash_number(key) & map->mask;
     while (map->slots[at].value)
         at = (at + 1) & map->mask;
     map->slots[at] = (struct map_slot){key, value};
@@ -63,11 +65,11 @@ void map_add(struct map *map, uint32_t key, void *value)
 
 void map_remove(struct map *map, uint32_t key)
 {
-    uint32_t hole = (uint32_t)hash_number(key) & map->mask;
+    uint32_t hole = hash_number(key) & map->mask;
     while (map->slots[hole].key != key || !map->slots[hole].value)
         hole = (hole + 1) & map->mask;
     for (uint32_t at = (hole + 1) & map->mask; map->slots[at].value; at = (at + 1) & map->mask) {
-        uint32_t home = (uint32_t)hash_number(map->slots[at].key) & map->mask;
+        uint32_t home = hash_number(map->slots[at].key) & map->mask;
         if (((at - home) & map->mask) >= ((at - hole) & map->mask)) {
             map->slots[hole] = map->slots[at];
             hole = at;

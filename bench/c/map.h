@@ -20,12 +20,13 @@ struct seed {
 
 extern struct seed map_seed;
 
-/* Draws the seed; to be called once, before the first map is used. */
+/* Draws the seed, unless FIXED_SEED is in the environment, so that instructions can be counted. To be called once, before the first map is used. */
 void map_seed_draw(void);
 
-static inline uint64_t hash_number(uint32_t number)
+/* Eight numbers in a row stand in a row: those that were drawn one after the other are together in the cache. */
+static inline uint32_t hash_number(uint32_t number)
 {
-    return folded(map_seed.a ^ number, map_seed.b);
+    return (uint32_t)folded(map_seed.a ^ number >> 3, map_seed.b) << 3 | (number & 7);
 }
 
 uint64_t hash_bytes(uint64_t seed, const uint8_t *at, size_t len);
@@ -44,7 +45,7 @@ static inline void *map_get(const struct map *map, uint32_t key)
 {
     if (!map->mask)
         return NULL;
-    for (uint32_t at = (uint32_t)hash_number(key) & map->mask;; at = (at + 1) & map->mask) {
+    for (uint32_t at = hash_number(key) & map->mask;; at = (at + 1) & map->mask) {
         const struct map_slot *slot = &map->slots[at];
         if (!slot->value)
             return NULL;

@@ -66,13 +66,14 @@ static void *start_all(void *argument)
     return NULL;
 }
 
-static void bench(const char *program, size_t wanted, unsigned at_once, unsigned starts)
+static void bench(const char *program, size_t wanted, unsigned at_once, unsigned starts, unsigned resident)
 {
     struct starter starters[AT_ONCE];
     for (unsigned i = 0; i < at_once; i++)
         starters[i] = (struct starter){program, starts / at_once, wanted};
     double took = (double)best_of_rounds(at_once, start_all, starters, sizeof *starters), made = (double)(starts / at_once) * at_once;
-    printf("%s, %u at a time: %.0f starts/s, %.0f us each\n", program, at_once, made / took * 1e9, took / 1e3 * at_once / made);
+    printf("%s, %u at a time, %u MiB resident: %.0f starts/s, %.0f us each\n", program, at_once, resident, made / took * 1e9,
+        took / 1e3 * at_once / made);
 }
 
 int main(int count, char **words)
@@ -86,10 +87,9 @@ int main(int count, char **words)
     char *held = calloc((size_t)resident << 20 | 1, 1);
     need(held != NULL, "memory");
     memset(held, 1, (size_t)resident << 20);
-    printf("%u MiB resident\n", resident);
     for (unsigned at_once = 1; at_once <= AT_ONCE; at_once *= AT_ONCE) {
-        bench("/bin/true", 0, at_once, starts);
-        bench("/bin/cat", CALLOUT, at_once, starts);
+        bench("/bin/true", 0, at_once, starts, resident);
+        bench("/bin/cat", CALLOUT, at_once, starts, resident);
     }
     /* so that the memory has to be there until now */
     int lost = held[(size_t)resident << 19] != (resident ? 1 : 0);
