@@ -90,14 +90,16 @@ def outputs_are_equal(programs, script):
         return all(first == file.read_bytes() for file in files[1:]), len(first)
 
 
-LONG = 20  # seconds, after which a load is not run again
+ENOUGH, LONG = 4, 20  # so many seconds a load is run at least, where it is short, and at most
+MOST = 40  # runs of a short one
 
 
 def measure(programs, before, whole, runs):
     """For each program the least time of the measured lines, its peak memory, and the least time of a run."""
     alone, both, memory = ({name: [] for name in programs} for _ in range(3))
-    for _ in range(runs):
-        if sum(sum(times) for times in both.values()) > LONG:
+    for at in range(MOST):
+        spent = sum(sum(times) for times in [*alone.values(), *both.values()])
+        if spent > (LONG if at < runs else ENOUGH):
             break
         for name, words in programs.items():
             alone[name].append(run(words, before)[0])

@@ -202,31 +202,46 @@ class Player:
         return "\n".join(self.lines).encode() + self.pick(b"", b"\n")
 
 
+def spelt(words):
+    return frame(write_ask(words.split(" "))).hex()
+
+
+def many_clients(dice):
+    for client in range(70):
+        yield f"accept {client}"
+        if dice.random() < 0.1:
+            yield f"gone {dice.randrange(70)}"
+
+
+def many_keys(dice):
+    yield "accept 1"
+    yield f"bytes 1 {spelt('HELLO 1000 1000 3 0')}"
+    for at in range(260):
+        adds = dice.random() < 0.9
+        yield f"bytes 1 {spelt(f'ADD user d{at} v {dice.choice([-1, -3, -4])}' if adds else f'UNLINK {dice.randrange(5, at + 6)} -3')}"
+    yield f"bytes 1 {spelt('REQUEST user new =x 0')}"
+
+
+def many_rings(dice):
+    for uid in range(1030 - dice.randrange(10)):
+        yield "accept 1"
+        yield f"bytes 1 {spelt(f'HELLO {uid} 1 {dice.randrange(4)} 0')}"
+        yield "gone 1"
+
+
+def long_chain(dice):
+    yield "accept 1"
+    yield f"bytes 1 {spelt('HELLO 1000 1000 0 0')}"
+    yield f"bytes 1 {spelt('REQUEST user d0 =x 0')}"
+    for at in range(3, 14):
+        yield f"started {at}"
+        yield f"out {at} {spelt(f'ASSUME {at}')}{spelt(f'REQUEST user d{dice.choice([at, at, at, 0])} =x -8')}"
+
+
 def crowd(dice):
     """A script that meets a limit: clients, keys of a user, rings, or a chain."""
-    lines, kind = [], dice.randrange(4)
-    say = lambda client, words: lines.append(f"100 bytes {client} {frame(write_ask(words.split(' '))).hex()}")
-    if kind == 0:
-        lines += [line for client in range(70) for line in [f"100 accept {client}"] + [f"100 gone {dice.randrange(70)}"] * (dice.random() < 0.1)]
-    elif kind == 1:
-        lines.append("100 accept 1")
-        say(1, "HELLO 1000 1000 3 0")
-        for at in range(260):
-            say(1, dice.choice([f"ADD user d{at} v {dice.choice([-1, -3, -4])}"] * 9 + [f"UNLINK {dice.randrange(5, at + 6)} -3"]))
-        say(1, "REQUEST user new =x 0")
-    elif kind == 2:
-        for uid in range(1030 - dice.randrange(10)):
-            lines.append("100 accept 1")
-            say(1, f"HELLO {uid} 1 {dice.randrange(4)} 0")
-            lines.append("100 gone 1")
-    else:
-        lines.append("100 accept 1")
-        say(1, "HELLO 1000 1000 0 0")
-        say(1, "REQUEST user d0 =x 0")
-        for at in range(3, 14):
-            ask = lambda words: frame(write_ask(words.split(" "))).hex()
-            lines += [f"100 started {at}", f"100 out {at} {ask(f'ASSUME {at}')}{ask(f'REQUEST user d{dice.choice([at, at, at, 0])} =x -8')}"]
-    return "\n".join(lines).encode() + b"\n"
+    lines = dice.choice([many_clients, many_keys, many_rings, long_chain])(dice)
+    return "".join(f"100 {line}\n" for line in lines).encode()
 
 
 def played(program, script):

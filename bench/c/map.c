@@ -23,18 +23,29 @@ static uint64_t word_at(const uint8_t *at)
     return word;
 }
 
+static uint64_t half_at(const uint8_t *at)
+{
+    uint32_t half;
+    memcpy(&half, at, 4);
+    return half;
+}
+
 uint64_t hash_bytes(uint64_t seed, const uint8_t *at, size_t len)
 {
     uint64_t hash = seed ^ map_seed.a ^ folded(len, map_seed.b);
     for (; len > 16; at += 16, len -= 16)
         hash = folded(word_at(at) ^ map_seed.b, word_at(at + 8) ^ hash);
-    uint64_t first = 0, last = 0;
+    /* what is left has at most 16 bytes, of which two words tell all */
+    uint64_t first, last;
     if (len >= 8) {
         first = word_at(at);
         last = word_at(at + len - 8);
+    } else if (len >= 4) {
+        first = half_at(at);
+        last = half_at(at + len - 4);
     } else {
-        for (size_t i = 0; i < len; i++)
-            first = first << 8 | at[i];
+        first = len ? (uint64_t)at[0] << 16 | (uint64_t)at[len / 2] << 8 | at[len - 1] : 0;
+        last = 0;
     }
     return folded(first ^ hash, last ^ map_seed.b);
 }

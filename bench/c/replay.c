@@ -395,20 +395,26 @@ static bool read_number(struct bytes *text, uint64_t least, uint64_t greatest, s
     return len && len <= longest && sum >= least && sum <= greatest && ends_field(text, at);
 }
 
+/* Reads the digits that the rest of the line is. */
 static bool read_hex(struct bytes *text, struct buffer *decoded)
 {
     skip_blanks(text);
+    while (text->len && is_blank(text->at[text->len - 1]))
+        text->len--;
+    const uint8_t *at = text->at;
+    size_t len = text->len / 2;
     decoded->len = 0;
-    const uint8_t *at = text->at, *end = at + text->len;
-    uint8_t *begin = buffer_end(decoded, text->len / 2), *to = begin;
-    for (; end - at >= 2; at += 2) {
+    uint8_t *to = buffer_end(decoded, len);
+    int bad = 0;
+    for (size_t i = 0; i < len; i++, at += 2) {
         int byte = high_digit[at[0]] | low_digit[at[1]];
-        if (byte < 0)
-            break;
-        *to++ = (uint8_t)byte;
+        bad |= byte;
+        to[i] = (uint8_t)byte;
     }
-    decoded->len = (size_t)(to - begin);
-    return decoded->len && ends_field(text, at);
+    bool whole = len && text->len % 2 == 0;
+    decoded->len = len;
+    text->len = 0;
+    return whole && bad >= 0;
 }
 
 static bool is_word(struct bytes field, const char *word)
