@@ -213,7 +213,7 @@ def tell_steps(found, title):
 
 
 def memory(options):
-    print("Peak memory with 200,000 keys less that with 200, for each key; names of 8 to 9 bytes and payloads of 1 are in it. To be at most 400.\n")
+    print("Peak memory with 200,000 keys less that with 200, for each key; names of 6 to 8 bytes and payloads of 1 are in it. To be at most 400.\n")
     table("program", "KiB with 200", "KiB with 200,000", "bytes a key")
     for who, find, name, more in [(RATTLE, built, "book_bench", []), (C, peer, "book", ["--rounds", "50"])]:
         try:

@@ -90,7 +90,7 @@ static void bench(unsigned halls, unsigned threads, unsigned calls, bool adds)
 
 int main(int count, char **words)
 {
-    unsigned calls = count > 1 ? number_in(words[1], THREADS, "usage: hall [CALLS]\n") : 400000;
+    unsigned calls = count > 1 ? number_in(words[1], THREADS, "usage: hall [CALLS]\n") : 1600000;
     map_seed_draw();
     for (int adds = 0; adds < 2; adds++)
         for (unsigned halls = 1; halls <= HALLS; halls *= 4)
