@@ -74,55 +74,58 @@ def one_client(ring=-4, conf=(), others=0):
     return script
 
 
-def hits(count, others=0):
-    script = one_client(others=others)
+def asked(script, count, words):
+    """What is there before, and so many asks of client 1: `words` tells each by its number."""
     before = script.cut()
     for at in range(count):
-        script.ask(1, f"REQUEST user d{at % (OF_A_USER - 1)} - 0")
+        script.ask(1, words(at))
     return before, script.cut()
+
+
+def made(script, count, handle):
+    """What is there before, and keys that a handler makes for client 1, who takes each away again: `handle` says what comes while it runs."""
+    before = script.cut()
+    while len(script.lines) < count:
+        name = f"e{len(script.lines)}"
+        key = script.begin(1, name)
+        script.say(f"started {key}")
+        handle(key, name)
+        script.say(f"ended {key} exit 0")
+        script.ask(1, f"UNLINK {key} -3")
+    return before, script.cut()
+
+
+def hits(count, others=0):
+    return asked(one_client(others=others), count, lambda at: f"REQUEST user d{at % (OF_A_USER - 1)} - 0")
 
 
 def hits_with_a_ring(count):
     """Each hit is found in the session ring, and linked in the user ring."""
-    script = one_client(-3)
-    before = script.cut()
-    for at in range(count):
-        script.ask(1, f"REQUEST user d{at % (OF_A_USER - 1)} - -4")
-    return before, script.cut()
+    return asked(one_client(-3), count, lambda at: f"REQUEST user d{at % (OF_A_USER - 1)} - -4")
 
 
 def misses(count):
-    script = one_client()
-    before = script.cut()
-    for at in range(count):
-        script.ask(1, f"REQUEST user e{at % OF_A_USER} - 0")
-    return before, script.cut()
+    return asked(one_client(), count, lambda at: f"REQUEST user e{at % OF_A_USER} - 0")
+
+
+def displacing(count, others=0):
+    return asked(one_client(others=others), count, lambda at: f"ADD user d{at % (OF_A_USER - 1)} v -4")
 
 
 def first_path(count):
-    """A plain handler makes a key, and the client takes it away again."""
+    """A plain handler makes each key."""
     script = one_client()
-    before = script.cut()
-    while len(script.lines) < count:
-        key = script.begin(1, f"e{len(script.lines)}")
-        script.say(f"started {key}")
+
+    def handle(key, name):
         script.answer(key, f"ASSUME {key}")
         script.answer(key, f"INSTANTIATE {key} hi 0")
-        script.say(f"ended {key} exit 0")
-        script.ask(1, f"UNLINK {key} -3")
-    return before, script.cut()
+
+    return made(script, count, handle)
 
 
 def piped(count):
     script = one_client(conf=["conf create * * * |/bin/cat"])
-    before = script.cut()
-    while len(script.lines) < count:
-        key = script.begin(1, f"e{len(script.lines)}")
-        script.say(f"started {key}")
-        script.say(f"out {key} 6869")
-        script.say(f"ended {key} exit 0")
-        script.ask(1, f"UNLINK {key} -3")
-    return before, script.cut()
+    return made(script, count, lambda key, name: script.say(f"out {key} 6869"))
 
 
 MIXED_NAMES = 50
@@ -133,7 +136,7 @@ def mixed(count):
     dice = random.Random(7)
     script = Script()
     for client in range(1, 9):
-        script.come(client, 1000 + client // 2)
+        script.come(client, 1000 + (client - 1) // 2)
     keys = [(client, script.add(client, f"d{name}")) for name in range(MIXED_NAMES) for client in (1, 3, 5, 7)]
     before = script.cut()
     kinds = dict(hit=40, read=15, add=12, describe=5, link=5, unlink=3, revoke=3, timeout=3, miss=6, default=2, body=1, make=5)
@@ -163,14 +166,6 @@ def mixed(count):
     return before, script.cut()
 
 
-def displacing(count, others=0):
-    script = one_client(others=others)
-    before = script.cut()
-    for at in range(count):
-        script.add(1, f"d{at % (OF_A_USER - 1)}")
-    return before, script.cut()
-
-
 def clients_in_turn(count):
     script = Script()
     for client in range(1, 65):
@@ -188,18 +183,14 @@ def waiters(count):
     ring = script.come(1, 1000)
     for client in range(2, 62):
         script.come(client, 1000, ring)
-    before = script.cut()
-    while len(script.lines) < count:
-        key = script.begin(1, f"e{len(script.lines)}")
-        name = f"e{len(script.lines) - 1}"
-        script.say(f"started {key}")
+
+    def handle(key, name):
         for client in range(2, 62):
             script.ask(client, f"REQUEST user {name} - 0")
         script.answer(key, f"ASSUME {key}")
         script.answer(key, f"INSTANTIATE {key} hi 0")
-        script.say(f"ended {key} exit 0")
-        script.ask(1, f"UNLINK {key} -3")
-    return before, script.cut()
+
+    return made(script, count, handle)
 
 
 def one_byte_a_line(count):
@@ -223,10 +214,7 @@ def running_handlers(handlers):
             script.say(f"started {key}")
             script.answer(key, f"ASSUME {key}")
             script.say("gone 2")
-        before = script.cut()
-        for at in range(count):
-            script.ask(1, f"REQUEST user d{at % (OF_A_USER - 1)} - 0")
-        return before, script.cut()
+        return asked(script, count, lambda at: f"REQUEST user d{at % (OF_A_USER - 1)} - 0")
 
     return load
 
