@@ -1,6 +1,7 @@
 -- What a search tells of each ring of a context: the key of the name, of which there is at most one, and how it stands.
-use Rattle.std.specs.Prelude.{◌≡◌, ℕ, Bool, false, ◌&&◌, ◌||◌, ◌==◌, find, Option, Some, None, option_and_then, if◌then◌else◌}
+use Rattle.std.specs.Prelude.{◌≡◌, ℕ, Bool, false, ◌&&◌, ◌==◌, List, [], ◌∷◌, find, Option, Some, None, option_and_then, if◌then◌else◌}
 use Rattle.std.specs.Option.{option_map_or}
+use Rattle.std.specs.List.{list_any}
 use Rattle.rk_names.specs.declared.errors.KeyError.{KeyError}
 use Rattle.rk_keys.specs.declared.key.Standing.{Standing}
 use Rattle.rk_keys.specs.Key.{key_passes}
@@ -24,6 +25,10 @@ pub record IsSought (w : World) (q : Query) (s : Sought) : Type 0 where
   pub session : IsSole w q (Some q.context.session) s.session
   pub user : IsSole w q (Some q.context.user) s.user
 
+-- what was found, in the order of search
+abbrev pub in_order : Sought → List (Option Match)
+in_order s = s.thread ∷ s.process ∷ s.session ∷ s.user ∷ []
+
 -- ---- what comes of it
 
 -- there is a key, and its standing passes the test
@@ -32,7 +37,7 @@ stands p m = option_map_or (λ one. p one.standing) m false
 
 -- the key of the name in some ring of the context stands so
 abbrev pub any_stands : (Standing → Bool) → Sought → Bool
-any_stands p s = stands p s.thread || (stands p s.process || (stands p s.session || stands p s.user))
+any_stands p s = list_any (stands p) (in_order s)
 
 -- the key, where it stands Positive or Building
 abbrev pub live_key : Option Match → Option ℕ

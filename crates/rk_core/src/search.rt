@@ -4,7 +4,7 @@ ghost use Rattle.std.specs.Option.{option_map};
 ghost use Rattle.std.specs.FinMap as map;
 ghost use Rattle.rk_keys.specs.Key.{standing_of};
 ghost use Rattle.rk_machine.specs.Search.{is_live, blocks, is_stale};
-ghost use Rattle.rk_core.specs.Sought.{IsSought, any_stands, stands, live_key, hit_in, block_in, stale_in};
+ghost use Rattle.rk_core.specs.Sought.{IsSought, in_order, any_stands, stands, live_key, hit_in, block_in, stale_in};
 
 use crate::tables::Tables;
 use rk_keys::Standing;
@@ -33,6 +33,13 @@ pub struct Sought {
 }
 
 impl Sought {
+    /// What was found, in the order of search.
+    fn in_order(&self) -> [Option<Match>; 4]
+        ensures { result ≡ in_order self.now }
+    {
+        [self.thread, self.process, self.session, self.user]
+    }
+
     /// The first key that may be used, or waited for.
     pub fn hit(&self) -> Option<Serial>
         ensures { result ≡ hit_in self.now }
@@ -92,19 +99,13 @@ impl Sought {
     fn is_blocked(&self, error: KeyError) -> bool
         ensures { result ≡ any_stands (blocks error) self.now }
     {
-        blocks(error, &self.thread)
-            || blocks(error, &self.process)
-            || blocks(error, &self.session)
-            || blocks(error, &self.user)
+        self.in_order().iter().any(|found| blocks(error, found))
     }
 
     fn is_stale(&self, error: KeyError) -> bool
         ensures { result ≡ any_stands (is_stale error) self.now }
     {
-        stale(error, &self.thread)
-            || stale(error, &self.process)
-            || stale(error, &self.session)
-            || stale(error, &self.user)
+        self.in_order().iter().any(|found| stale(error, found))
     }
 }
 

@@ -140,16 +140,11 @@ module _ (w : World) (q : Query) where
   maybe_matches p None rings (Some one) sole = absurd (let no : Some one ≡ None = sole in cc)
   maybe_matches p (Some ring) rings m sole = ap (λ b. b || list_any (has_match w q p) rings) (matches_as p ring m sole)
 
-  or_false : (b : Bool) → (b || false) ≡ b
-  or_false true = refl
-  or_false false = refl
-
   pub some_match_as : (s : Sought) → IsSought w q s → (p : Standing → Bool) → some_match w q p ≡ any_stands p s
   some_match_as s h p =
       maybe_matches p q.context.thread (option_to_list q.context.process ++ (q.context.session ∷ q.context.user ∷ [])) s.thread h.thread
       ∙ ap (λ b. stands p s.thread || b) (maybe_matches p q.context.process (q.context.session ∷ q.context.user ∷ []) s.process h.process
-      ∙ ap (λ b. stands p s.process || b) ((λ i. matches_as p q.context.session s.session h.session i || (matches_as p q.context.user s.user h.user i || false))
-      ∙ ap (λ b. stands p s.session || b) (or_false (stands p s.user))))
+      ∙ ap (λ b. stands p s.process || b) (λ i. matches_as p q.context.session s.session h.session i || (matches_as p q.context.user s.user h.user i || false)))
 
   pub block_as : (s : Sought) → IsSought w q s → block_of w q ≡ block_in s
   block_as s h = λ i. find (λ e. some_match_as s h (blocks e) i) errors
