@@ -3,16 +3,14 @@
 SHELL := /bin/bash
 .DEFAULT_GOAL := all
 
-# The programs that users install, and those that measure; each is a crate of its name with a src/main.rt.
-ALL_PROGRAMS := $(patsubst crates/%/src/main.rt,%,$(wildcard crates/*/src/main.rt))
-BENCHES := $(filter %_bench,$(ALL_PROGRAMS))
-PROGRAMS := $(filter-out $(BENCHES),$(ALL_PROGRAMS))
+# The programs that users install; each is a crate of its name with a src/main.rt.
+PROGRAMS := $(patsubst crates/%/src/main.rt,%,$(wildcard crates/*/src/main.rt))
 
 .PHONY: all bench quick check demo clean help toolchain
 
 all: $(addprefix build/,$(PROGRAMS))  ## Prove and build the programs, into build/
 
-bench: $(addprefix build/,$(BENCHES))  ## Prove and build what measures them, and their peers in C, into build/ (bench/README.md)
+bench: all  ## Build their peers in C, too, to measure them beside these (bench/README.md)
 	@$(MAKE) -C bench --no-print-directory
 
 # What a program is made of: any change of a crate makes it anew.

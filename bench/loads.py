@@ -104,8 +104,19 @@ def hits_with_a_ring(count):
     return asked(one_client(-3), count, lambda at: f"REQUEST user d{at % (OF_A_USER - 1)} - -4")
 
 
-def misses(count):
-    return asked(one_client(), count, lambda at: f"REQUEST user e{at % OF_A_USER} - 0")
+def misses(count, others=0):
+    return asked(one_client(others=others), count, lambda at: f"REQUEST user e{at % OF_A_USER} - 0")
+
+
+def reads(count, others=0):
+    script = one_client(others=others)
+    last = script.next - 1
+    return asked(script, count, lambda at: f"READ {last - at % (OF_A_USER - 1)}")
+
+
+def refusals(count, others=0):
+    """Asks that are refused before anything is looked up: what a line takes by itself."""
+    return asked(one_client(others=others), count, lambda at: "READ 0")
 
 
 def displacing(count, others=0):
@@ -218,6 +229,14 @@ def running_handlers(handlers):
 
     return load
 
+
+# One step of each kind, by how many users with all their keys there are beside the one that asks.
+STEPS = [
+    ("a request that hits", hits),
+    ("a request that misses", misses),
+    ("a key read", reads),
+    ("a key added in the place of another", displacing),
+]
 
 # The name, the load, and how many times fewer lines it gets.
 LOADS = [

@@ -4,7 +4,7 @@
 usage: run.py [--lines N] [--runs N] [--instructions N] [--asks N] [--only WORDS] WHAT ..
 
 replay   `reqkeyd replay` and bench/c/replay.c on the scripts of loads.py, whose outputs have to be equal byte by byte
-book     `book_bench` and bench/c/book.c: what a step costs, by the number of keys
+steps    the same two: what a step costs, by the number of keys, less what a line takes by itself; and steps of bench/c/book.c, which reads no script
 memory   what both take for each key
 profile  where `reqkeyd replay` spends its instructions on those scripts
 hall     what a call costs behind a lock: `hall_bench` and bench/c/hall.c
@@ -129,12 +129,18 @@ def ratio(values):
     return f"{values[RATTLE] / values[C]:.2f}" if len(values) == 2 else "-"
 
 
-def replay(options):
+def players():
+    """What plays a script: the project's program, if it is there, and its peer."""
     programs = {C: [peer("replay"), "replay"]}
     try:
         programs[RATTLE] = [built("reqkeyd"), "replay"]
     except Wrong as wrong:
         print(f"{wrong}; only C is measured\n")
+    return programs
+
+
+def replay(options):
+    programs = players()
     print("Ratios are Rattle's to C's, to be at most 6.0 in each row; lines a second of hits at least 1,000,000.\n")
     columns = ["lines/s Rattle", "C", "time", "instructions/line Rattle", "C", "instructions", "peak KiB Rattle", "C", "script + output KiB"]
     table("load", "lines", *columns)
@@ -187,16 +193,28 @@ def steps_of(words, runs):
 SIZES = ["200", "10000", "200000"]
 
 
-def book(options):
-    found = {C: steps_of([peer("book"), *SIZES], options.runs)}
-    try:
-        found[RATTLE] = steps_of([built("book_bench"), *SIZES], options.runs)
-    except Wrong as wrong:
-        print(f"{wrong}; only C is measured\n")
-    tell_steps(found, "200 keys of each user")
-    found = {C: steps_of([peer("book"), "--users", "1000", *SIZES], options.runs)}
-    # book_bench spreads no keys over users yet
-    tell_steps(found, "the keys spread over 1,000 users")
+OTHERS = [0, 49, 999]  # users beside the one that asks, by the sizes above
+
+
+def played(options):
+    """By step and by what is there, the time of a line less that of one that is refused at once."""
+    programs, found = players(), {}
+    for others, size in zip(OTHERS, SIZES):
+        by_load = {}
+        for name, load in [("", loads.refusals), *loads.STEPS]:
+            before, after = load(options.lines, others)
+            took = measure(programs, loads.text(before), loads.text(before, after), options.runs)
+            by_load[name] = {who: time / len(after) * 1e9 for who, (time, _, _) in took.items()}
+        for who in programs:
+            for name, _ in loads.STEPS:
+                found.setdefault(who, {}).setdefault(name, {})[size] = by_load[name][who] - by_load[""][who]
+    return found
+
+
+def steps(options):
+    tell_steps(played(options), "In scripts, 199 keys of each user")
+    for title, more in [("200 keys of each user", []), ("the keys spread over 1,000 users", ["--users", "1000"])]:
+        tell_steps({C: steps_of([peer("book"), *more, *SIZES], options.runs)}, f"Without scripts, {title}")
 
 
 def tell_steps(found, title):
@@ -215,12 +233,10 @@ def tell_steps(found, title):
 def memory(options):
     print("Peak memory with 200,000 keys less that with 200, for each key; names of 6 to 8 bytes and payloads of 1 are in it. To be at most 400.\n")
     table("program", "KiB with 200", "KiB with 200,000", "bytes a key")
-    for who, find, name, more in [(RATTLE, built, "book_bench", []), (C, peer, "book", ["--rounds", "50"])]:
-        try:
-            few, many = (run([find(name), *more, size])[1] for size in ("200", "200000"))
-            row([who, f"{few:,}", f"{many:,}", f"{(many - few) * 1024 / (199 * 1000 - 199):,.0f}"])
-        except Wrong as wrong:
-            print(wrong)
+    scripts = [loads.text(*loads.refusals(1, others)) for others in (OTHERS[0], OTHERS[-1])]
+    for who, words in players().items():
+        few, many = (run(words, script)[1] - len(script) // 1024 for script in scripts)
+        row([who, f"{few:,}", f"{many:,}", f"{(many - few) * 1024 / (199 * OTHERS[-1]):,.0f}"])
 
 
 # ---- profile
@@ -370,7 +386,7 @@ def drive(found, options, connections, more):
 
 def main():
     parser = argparse.ArgumentParser(description=__doc__.split("\n")[0])
-    parser.add_argument("what", nargs="+", choices=["replay", "book", "memory", "profile", "hall", "spawn", "serve"])
+    parser.add_argument("what", nargs="+", choices=["replay", "steps", "memory", "profile", "hall", "spawn", "serve"])
     parser.add_argument("--lines", type=int, default=20000)
     parser.add_argument("--runs", type=int, default=5)
     parser.add_argument("--instructions", type=int, default=2000, metavar="LINES")

@@ -1,8 +1,8 @@
-/* What a step of the machine costs, by the number of keys that it holds: the peer of `book_bench`, with the same lines.
+/* What a step of the machine costs, by the number of keys that it holds, without scripts.
  *
  * usage: book [--users USERS] [--rounds ROUNDS] KEYS ..
  *
- * The keys are 200 of each user, as `book_bench` has them, or are spread evenly over so many users. The steps are those of a client of the
+ * The keys are 200 of each user, or are spread evenly over so many users. The steps are those of a client of the
  * last user. Steps that can't be repeated are made in batches, and what comes between the batches is not timed. */
 #include "machine.h"
 
