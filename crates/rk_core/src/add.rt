@@ -1,5 +1,5 @@
 //! ADD: a key with its payload, in a ring.
-ghost use Rattle.std.specs.Prelude.{◌≡◌, ℕ, false, IfOk, OnErr};
+ghost use Rattle.std.specs.Prelude.{◌≡◌, false, IfOk, OnErr};
 ghost use Rattle.rk_machine.specs.Links.{is_full_at};
 ghost use Rattle.rk_machine.specs.KeyAsks.{AddsTo, Adds};
 ghost use Rattle.rk_core.specs.Finding.{answer_of, FindsRoom};

@@ -1,23 +1,17 @@
-//! Keys, rings and sessions as one world: what an ask reads of it.
+//! Keys, rings and sessions as one world: what an ask reads of its rings.
 ghost use Rattle.std.specs.Prelude.{◌≡◌, ◌≤◌, ◌+◌, ◌↔◌, IsTrue, IfOk, MatchResult, None, Some, if◌then◌else◌};
-ghost use Rattle.std.specs.Option.{option_copied, option_map};
+ghost use Rattle.std.specs.Option.{option_map};
 ghost use Rattle.std.specs.FinMap as map;
 ghost use Rattle.rk_keys.specs.Key.{key_passes, is_building};
-ghost use Rattle.rk_keys.specs.Known.{has_all_keys};
-ghost use Rattle.rk_keys.specs.Serials.{HasSerials};
-ghost use Rattle.rk_table.specs.Says.{Says};
 ghost use Rattle.rk_rings.specs.Ring.{is_linked, has_link};
 ghost use Rattle.rk_rings.specs.Places.{ring_at, is_numbered_live, default_ring};
-ghost use Rattle.rk_auth.specs.Sessions.{session_of, wait_of, stage_of, unspent, assumed_authority};
-ghost use Rattle.rk_auth.specs.Changes.{outcome_at, session_changed, with_context, with_setting};
-ghost use Rattle.rk_auth.specs.Circles.{Leads};
 ghost use Rattle.rk_machine.specs.World.{World, empty_world};
 ghost use Rattle.rk_machine.specs.Asker.{is_reached};
 
 use crate::limits::Limits;
-use rk_auth::{Authority, Auths, Outcome, Session, Stage, Wait};
+use rk_auth::Auths;
 use rk_keys::{Key, Keys};
-use rk_names::{Context, Errno, Serial, SessionId, Setting};
+use rk_names::{Context, Serial, Setting};
 use rk_rings::{Place, RingFault, RingKind, Rings};
 use std::alloc::{AllocError, Global};
 use std::marker::Model;
