@@ -5,7 +5,7 @@ use Rattle.std.specs.Ordering.{nat_cmp, eq_by_cmp}
 use Rattle.std.specs.Cmp.{nat_cmp_total, nat_eq_equiv}
 use Rattle.std.specs.FinMap as map
 use Rattle.std.specs.FinSet as set
-use Rattle.std.proofs.lemmas.Bool.{eq-eqb, ne_eqb, both_ways, cases_eq, or_parts}
+use Rattle.std.proofs.lemmas.Bool.{eq-eqb, both_ways, cases_eq, or_parts}
 use Rattle.std.proofs.lemmas.Option.{none-some, same_Some}
 use Rattle.rk_table.proofs.Entries.{tie}
 use Rattle.rk_table.proofs.Gets.{get_changed_at, contains_key_changed_at, at_new, at_other, left_in, taken_out}

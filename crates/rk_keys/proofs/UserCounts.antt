@@ -1,20 +1,17 @@
 -- How many keys each user has, through each change.
-use Rattle.std.proofs.Common.{◌≡◌, ◌∙◌, ap, sym, refl, ℕ, ◌+◌, ◌-◌, ◌<◌, Bool, true, false, cond, inl, inr, arith}
-use Rattle.std.specs.Prelude.{Option, Some, None, ◌==◌, is_some, nat_eq, option_map, unwrap_or}
+use Rattle.std.proofs.Common.{◌≡◌, ◌∙◌, ap, sym, refl, ℕ, ◌+◌, ◌-◌, ◌<◌, Bool, false, cond, arith}
+use Rattle.std.specs.Prelude.{Option, Some, None, ◌==◌, nat_eq, unwrap_or}
 use Rattle.std.specs.Option.{option_map_or}
 use Rattle.std.specs.Ordering.{nat_cmp}
-use Rattle.std.specs.Cmp.{nat_cmp_total}
 use Rattle.std.specs.FinMap as map
-use Rattle.std.proofs.lemmas.Bool.{cases_eq, eq-eqb, ne_eqb}
 use borrow.Author.Tests.{leb-false}
-use Rattle.rk_table.specs.Maps.{changed_at, kept_where}
+use Rattle.rk_table.specs.Maps.{changed_at}
 use Rattle.rk_keys.specs.declared.key.Key.{Key}
 use Rattle.rk_keys.specs.declared.key.Condition.{Condition}
 use Rattle.rk_keys.specs.Known.{keys_of, has_all_keys, concluded}
 use Rattle.rk_table.specs.Counts.{count_at}
 use Rattle.rk_table.proofs.KeptCounts.{kept_len-empty, kept_len-insert, kept_len-remove, kept_len-remove_none, kept_len-changed}
 use Rattle.rk_keys.specs.Owners.{AreCounts}
-use Rattle.rk_table.proofs.Gets.{get_changed_at, none_kept, at_new, at_other, left_in, taken_out}
 
 -- ---- the keys of a user
 

@@ -1,10 +1,10 @@
-use Rattle.std.proofs.Common.{◌≡◌, [], None, true, ℕ, sym, ap, ◌∙◌}
-use Rattle.std.specs.Prelude.{unwrap_or, Some}
+use Rattle.std.proofs.Common.{◌≡◌, [], true, sym, ap, ◌∙◌}
+use Rattle.std.specs.Prelude.{unwrap_or}
 use Rattle.std.specs.Prelude.{find as list_find}
 use Rattle.std.specs.Option.{option_copied}
 use Rattle.std.specs.FinMap as map
 use Rattle.rk_keys.specs.Key.{has_name}
-use Rattle.rk_keys.specs.Buckets.{name_hash, serials_at}
+use Rattle.rk_keys.specs.Buckets.{serials_at}
 use Rattle.rk_keys.proofs.Indexed.{none_named, found_passes, has_number, number_found}
 use Rattle.rk_keys.proofs.naming.number_of.Goals as goal
 

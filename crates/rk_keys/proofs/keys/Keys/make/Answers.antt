@@ -11,7 +11,7 @@ use Rattle.rk_keys.proofs.Names.{number_of_new, number_for_new}
 use Rattle.rk_keys.proofs.Held.{held_made_so}
 use Rattle.rk_table.proofs.Gets.{at_new}
 use Rattle.rk_keys.specs.Buckets.{IsIndex, name_hash, serials_at}
-use Rattle.rk_keys.proofs.Indexed.{index_with, index_same}
+use Rattle.rk_keys.proofs.Indexed.{index_with}
 use Rattle.rk_keys.specs.Owners.{AreCounts}
 use Rattle.rk_keys.proofs.UserCounts.{counts_with}
 use Rattle.rk_keys.proofs.Refused.{not_refused}

@@ -1,7 +1,5 @@
 use Rattle.std.proofs.Common.{◌≡◌, ap, sym, subst, ◌∙◌}
 use Rattle.std.specs.FinMap.{remove}
-use Rattle.rk_table.specs.Maps.{changed_at}
-use Rattle.rk_rings.specs.Numbered.{cleared}
 use Rattle.rk_rings.specs.Counted.{AreCounted}
 use Rattle.rk_rings.proofs.Changed.{rows-remove}
 use Rattle.rk_rings.proofs.Counted.{counted_dropped, dropped}
