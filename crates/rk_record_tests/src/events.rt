@@ -99,7 +99,7 @@ pub enum Said {
 }
 
 /// What was answered. Of rings it has the session's and the user's.
-pub fn said(answer: &Answer) -> Said {
+pub fn in_words(answer: &Answer) -> Said {
     match answer {
         Answer::Done(Reply::Number(number)) => Said::Number(*number),
         Answer::Done(Reply::Rings { session, user, .. }) => Said::Rings(*session, *user),
@@ -120,7 +120,7 @@ pub fn turn(hall: &mut Hall, second: u64, event: Event) -> Said {
 /// What the receipt says, or why there is none.
 pub fn told(receipt: &Result<Receipt, HallFault>) -> Said {
     match receipt {
-        Ok(receipt) => said(receipt.answer()),
+        Ok(receipt) => in_words(receipt.answer()),
         Err(HallFault::Full) => Said::Full,
         Err(HallFault::NoMemory) => Said::NoMemory,
     }

@@ -1,6 +1,6 @@
 //! The turns of one hall, and what their receipts say.
 use crate::events::{
-    CLIENT, Said, add, description, hall, hello, payload, request, said, turn, user,
+    CLIENT, Said, add, description, hall, hello, in_words, payload, request, turn, user,
 };
 use crate::same::same;
 use rk_machine::{Event, How, Ran};
@@ -124,6 +124,6 @@ fn a_receipt_says_its_step(rt: HostRuntime) -> Result<(), Fail> {
         same(&rt, opened.is_of(step), *first);
         same(&rt, greeted.is_of(step), *second);
     }
-    same(&rt, said(&greeted.into_answer()), Said::Rings(4, 8));
+    same(&rt, in_words(&greeted.into_answer()), Said::Rings(4, 8));
     Ok(())
 }

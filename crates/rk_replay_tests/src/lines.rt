@@ -4,7 +4,9 @@ use rk_conf::{ConfFault, ConfKind, Word};
 use rk_core::How;
 use rk_macro::{Command, Words};
 use rk_names::Serial;
-use rk_replay::{Bytes, Happening, LineFault, Output, Outputs, ScriptLine, StartResult, Transcript};
+use rk_replay::{
+    Bytes, Happening, LineFault, Output, Outputs, ScriptLine, StartResult, Transcript,
+};
 use std::alloc::{AllocError, Global};
 use std::process::Abort;
 use std::test::Fail;

@@ -3,7 +3,7 @@ use crate::same::same;
 use rk_conf::Conf;
 use rk_core::Limits;
 use rk_names::Serial;
-use rk_replay::{LineFault, Outputs, ScriptLine, Replay, TakeFault, Transcript, served_is_run};
+use rk_replay::{LineFault, Outputs, Replay, ScriptLine, TakeFault, Transcript, served_is_run};
 use std::alloc::{AllocError, Global};
 use std::process::Abort;
 use std::test::Fail;
