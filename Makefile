@@ -10,7 +10,7 @@ PROGRAMS := $(patsubst crates/%/src/main.rt,%,$(wildcard crates/*/src/main.rt))
 
 all: $(addprefix build/,$(PROGRAMS))  ## Prove and build the programs, into build/
 
-bench: all  ## Build their peers in C, too, to measure them beside these (bench/README.md)
+bench: all  ## Prove and build the programs, and build their peers in C, into build/ (bench/README.md)
 	@$(MAKE) -C bench --no-print-directory
 
 # What a program is made of: any change of a crate makes it anew.

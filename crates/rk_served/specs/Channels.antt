@@ -1,4 +1,4 @@
--- What is at a place.
+-- What the channel of a seat is, and what it has next.
 use Rattle.std.specs.Prelude.{◌≡◌, ℕ, Bool, true, false, not, List, [], Option, Some, None}
 use Rattle.rk_macro.specs.declared.subject.Subject.{Subject}
 use Rattle.rk_served.specs.declared.seat.Channel.{Channel}
