@@ -9,9 +9,9 @@ use super::scenes::{
     PUT_OUT_A_BYTE, REVOKED_IN_THE_MAKING, STATES, THE_SAME_NAME_AGAIN, TOLD_ONE_AFTER_THE_OTHER,
 };
 use super::*;
-use crate::answers::shown;
-use crate::moves::{Line, Move};
-use crate::words::Fault;
+use crate::book::answers::shown;
+use crate::book::moves::{Line, Move};
+use crate::book::words::Fault;
 
 /// Reads a line, once more where memory was refused.
 fn read_surely(alloc: Global, line: &str) -> Result<Line, Fault> {

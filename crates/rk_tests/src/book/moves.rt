@@ -1,6 +1,6 @@
 //! A line of a scenario: what happens, or what the book is asked, and when.
-use crate::asks::read_ask;
-use crate::words::{Fault, Words, payload, session};
+use crate::book::asks::read_ask;
+use crate::book::words::{Fault, Words, payload, session};
 use rk_core::{Event, How, Ran};
 use rk_names::{Description, Moment, Payload, Serial, SessionId, TypeName};
 use std::alloc::Global;

@@ -1,8 +1,8 @@
 use Rattle.std.proofs.Common.{◌≡◌, false, true, [], ◌∷◌, sym, ◌∙◌, refl, arith}
 use Rattle.std.specs.Prelude.{Option, Some, None, is_some}
 use Rattle.std.proofs.lemmas.Bool.{both_ways}
-use Rattle.rk_state_tests.proofs.Rising.{new_since_rising}
-use Rattle.rk_state_tests.proofs.rings.are_new.Goals as goal
+use Rattle.rk_tests.proofs.Rising.{new_since_rising}
+use Rattle.rk_tests.proofs.state.rings.are_new.Goals as goal
 
 not_there : {A : Type 0} (o : Option A) → is_some o ≡ false → o ≡ None
 not_there None h = refl

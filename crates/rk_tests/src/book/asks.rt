@@ -1,5 +1,5 @@
 //! What a session asks, as words.
-use crate::words::{Fault, Words};
+use crate::book::words::{Fault, Words};
 use rk_message::{Ask, KeyError};
 use rk_names::Serial;
 use std::alloc::Global;
