@@ -1,0 +1,43 @@
+//! Ledgers that no `Halls` has yet.
+ghost use Rattle.std.specs.Prelude.{◌≡◌};
+
+use std::sync::ledger::Blank;
+
+/// The two ledgers of one hall, which no `Halls` has yet.
+#[derive(Drop)]
+pub struct Ledgers {
+    pub calls: Blank,
+    pub out: Blank,
+    pub ghost call_parts: { calls.parts ≡ 4294967296 },
+    pub ghost out_parts: { out.parts ≡ 4294967296 },
+}
+
+impl Ledgers {
+    fn new() -> Ledgers {
+        Ledgers {
+            calls: Blank::new(4_294_967_296),
+            out: Blank::new(4_294_967_296),
+        }
+    }
+}
+
+/// The ledgers that a new `Halls` needs: two for each hall. They take no bytes; whoever makes a `Halls` makes them first, and names them by a type.
+#[derive(Drop)]
+pub struct Fresh {
+    pub zero: Ledgers,
+    pub one: Ledgers,
+    pub two: Ledgers,
+    pub three: Ledgers,
+}
+
+impl Fresh {
+    /// New ledgers.
+    pub fn new() -> Fresh {
+        Fresh {
+            zero: Ledgers::new(),
+            one: Ledgers::new(),
+            two: Ledgers::new(),
+            three: Ledgers::new(),
+        }
+    }
+}

@@ -1,0 +1,453 @@
+//! Four halls that threads share.
+ghost use Rattle.std.specs.Prelude.{◌≡◌, ◌≢◌, ◌↔◌, ◌+◌, ◌<◌, ◌≤◌, ℕ, true, is_some, IfOk, IfErr, OnErr, Ok, Err, Some, None, IfSome, MatchOption, if◌then◌else◌};
+ghost use Rattle.rk_machine.specs.World.{empty_world};
+ghost use Rattle.rk_machine.specs.Owing.{constructions, is_followed};
+ghost use Rattle.rk_hall.specs.Locked.{taken, first_serial};
+ghost use Rattle.rk_record.specs.Copies.{told_of, started};
+ghost use Rattle.rk_hall.specs.Seats.{new_seat, part, with_part, after_call, IsCall, CallRefused, negated, runs_on, without_client, IsOutcomeOrNone, OwedPart, OwedSeen};
+
+use crate::fresh::{Fresh, Ledgers};
+use crate::lapse::{CallFault, Lapse, Owed};
+use crate::lock::Lock;
+use crate::locked::{Begun, Locked};
+use crate::names::Names;
+use crate::seat::Seat;
+use crate::ticket::OneOfFour;
+use crate::token::{Launch, Running};
+use crate::volume::Volume;
+use rk_core::Limits;
+use rk_machine::{Answer, Event, How, Ran};
+use rk_macro::{Op, Subject};
+use rk_names::{Description, Errno, Moment, Payload, Serial, SessionId, TypeName};
+use rk_record::{Hall, HallFault, HallNo, MAX_STEPS, Receipt};
+use std::alloc::{AllocError, Global};
+use std::marker::PhantomData;
+use std::sync::Wait;
+
+/// Four halls that threads share, each under a lock of its own. Every call is one turn of one hall under its lock, or none.
+#[derive(Drop)]
+pub struct Halls<N: Names> {
+    pub(crate) zero: Lock<N, 0>,
+    pub(crate) one: Lock<N, 1>,
+    pub(crate) two: Lock<N, 2>,
+    pub(crate) three: Lock<N, 3>,
+}
+
+/// What a call gives: its receipt, and a `Launch` where its answer is a start.
+pub struct Called<N: Names> {
+    pub receipt: Receipt,
+    pub launch: Option<Launch<N>>,
+}
+
+/// What the call of one hall gives, for a caller that knows of all halls.
+macro_rules! called {
+    ($call:expr, $of:ident) => {{
+        let (receipt, begun) = $call?;
+        let launch = match begun {
+            None => None,
+            Some(begun) => {
+                let Begun {
+                    key,
+                    subject,
+                    depth,
+                    ticket,
+                } = begun;
+                Some(Launch {
+                    key,
+                    subject,
+                    depth,
+                    ticket: OneOfFour::$of(ticket),
+                })
+            }
+        };
+        Ok(Called { receipt, launch })
+    }};
+}
+
+/// A token that goes on where its ticket does.
+macro_rules! goes_on {
+    ($owed:expr, $token:ident, $of:ident, $key:ident, $subject:ident, $depth:ident) => {{
+        let Owed { value, receipt } = $owed;
+        let token = match value {
+            None => None,
+            Some(ticket) => Some($token {
+                key: $key,
+                subject: $subject,
+                depth: $depth,
+                ticket: OneOfFour::$of(ticket),
+            }),
+        };
+        Owed {
+            value: token,
+            receipt,
+        }
+    }};
+}
+
+impl<N: Names> Halls<N> {
+    /// Four halls without a step, with these ledgers. Each draws every fourth serial: hall 0 from 4 on, any other from its number on. For so many
+    /// seconds a key is negative whose handler did not complete it. An `Err` is want of memory.
+    pub fn new(alloc: Global, fresh: Fresh, negative: u32) -> Result<Halls<N>, AllocError>
+        requires zero { (fresh.zero.calls.name ≡ N.name 0) × (fresh.zero.out.name ≡ N.name 1) }
+        requires one { (fresh.one.calls.name ≡ N.name 2) × (fresh.one.out.name ≡ N.name 3) }
+        requires two { (fresh.two.calls.name ≡ N.name 4) × (fresh.two.out.name ≡ N.name 5) }
+        requires three { (fresh.three.calls.name ≡ N.name 6) × (fresh.three.out.name ≡ N.name 7) }
+    {
+        Halls::with_volume(alloc, fresh, negative, MAX_STEPS)
+    }
+
+    /// The same, with volumes of at most so many steps, at least 1 and at most 1,048,576.
+    pub fn with_volume(
+        alloc: Global,
+        fresh: Fresh,
+        negative: u32,
+        steps: usize,
+    ) -> Result<Halls<N>, AllocError>
+        requires zero { (fresh.zero.calls.name ≡ N.name 0) × (fresh.zero.out.name ≡ N.name 1) }
+        requires one { (fresh.one.calls.name ≡ N.name 2) × (fresh.one.out.name ≡ N.name 3) }
+        requires two { (fresh.two.calls.name ≡ N.name 4) × (fresh.two.out.name ≡ N.name 5) }
+        requires three { (fresh.three.calls.name ≡ N.name 6) × (fresh.three.out.name ≡ N.name 7) }
+        requires steps { (1 ≤ steps) × (steps ≤ 1048576) }
+    {
+        let Fresh {
+            zero,
+            one,
+            two,
+            three,
+        } = fresh;
+        let zero_hall = empty_hall(alloc, HallNo::Zero, negative, steps)?;
+        let one_hall = empty_hall(alloc, HallNo::One, negative, steps)?;
+        let two_hall = empty_hall(alloc, HallNo::Two, negative, steps)?;
+        let three_hall = empty_hall(alloc, HallNo::Three, negative, steps)?;
+        Ok(Halls {
+            zero: Lock::new(Locked::new(zero_hall, zero.calls, zero.out)),
+            one: Lock::new(Locked::new(one_hall, one.calls, one.out)),
+            two: Lock::new(Locked::new(two_hall, two.calls, two.out)),
+            three: Lock::new(Locked::new(three_hall, three.calls, three.out)),
+        })
+    }
+
+    /// A seat that has made no call and seen nothing, `None` once 4,294,967,295 are out. It may wait, and takes no memory.
+    pub fn seat<R: Wait>(&self, rt: &R) -> Option<Seat<N>>
+        ensures { IfSome result (λ s. s ≡ new_seat) }
+    {
+        let zero = self.zero.seat(rt)?;
+        let Some(one) = self.one.seat(rt) else {
+            self.zero.retire(rt, zero);
+            return None;
+        };
+        let Some(two) = self.two.seat(rt) else {
+            self.zero.retire(rt, zero);
+            self.one.retire(rt, one);
+            return None;
+        };
+        let Some(three) = self.three.seat(rt) else {
+            self.zero.retire(rt, zero);
+            self.one.retire(rt, one);
+            self.two.retire(rt, two);
+            return None;
+        };
+        Some(Seat {
+            zero,
+            one,
+            two,
+            three,
+        })
+    }
+
+    /// Gives a seat back: its turns stay counted. It may wait, and takes no memory.
+    pub fn retire<R: Wait>(&self, rt: &R, seat: Seat<N>) {
+        let Seat {
+            zero,
+            one,
+            two,
+            three,
+        } = seat;
+        self.zero.retire(rt, zero);
+        self.one.retire(rt, one);
+        self.two.retire(rt, two);
+        self.three.retire(rt, three);
+    }
+
+    /// One call in one hall: a client that comes (`Opened`), or an ask.
+    ///
+    /// The receipt is that of one step, with the moment and event that were handed in, and a number greater than all that the seat had seen in that
+    /// hall; a `Launch` comes with it exactly where its answer is a start. Refused, in this order, with nothing changed: `Behind`, only where the
+    /// number that the step would have is not above what the seat has seen; `Full`, where an event may need more places than are free;
+    /// `NoMemory`, where a growth was refused. It may wait.
+    pub fn call<R: Wait>(
+        &self,
+        rt: &R,
+        seat: &mut Seat<N>,
+        hall: HallNo,
+        now: Moment,
+        event: Event,
+    ) -> Result<Called<N>, CallFault>
+        requires { IsCall event }
+        ensures receipt { IfOk result (λ d. (d.receipt.hall ≡ hall) × (d.receipt.moment ≡ now) × (d.receipt.told ≡ told_of event)) }
+        ensures rising { IfOk result (λ d. (part hall seat.old).seen < d.receipt.number) }
+        ensures seat { IfOk result (λ d. seat.new ≡ with_part hall seat.old (after_call (part hall seat.old) event d.receipt)) }
+        ensures launch { IfOk result (λ d. MatchOption d.launch (started d.receipt.answer ≡ None)
+            (λ l. (l.hall ≡ hall) × (d.receipt.answer ≡ Answer.Start l.key l.subject))) }
+        ensures err { IfErr result (λ f. CallRefused (part hall seat.old) f) }
+        ensures same { OnErr result (seat.new ≡ seat.old) }
+    {
+        match hall {
+            HallNo::Zero => called!(self.zero.call(rt, &mut seat.zero, now, event), Zero),
+            HallNo::One => called!(self.one.call(rt, &mut seat.one, now, event), One),
+            HallNo::Two => called!(self.two.call(rt, &mut seat.two, now, event), Two),
+            HallNo::Three => called!(self.three.call(rt, &mut seat.three, now, event), Three),
+        }
+    }
+
+    /// Says that the handler of a construction runs, or could not be started. It may wait, and takes no memory.
+    ///
+    /// Where the start is owed, the step is taken; the value is a `Running` where the handler runs, and `None` for `Failed` and where nothing is owed
+    /// (`Stray`, which spends the `Launch` all the same).
+    pub fn launched<R: Wait>(
+        &self,
+        rt: &R,
+        seat: &mut Seat<N>,
+        now: Moment,
+        launch: Launch<N>,
+        ran: Ran,
+    ) -> Owed<Option<Running<N>>>
+        ensures step { OwedSeen launch.hall now (Event.Launched launch.key ran) seat.old seat.new result.receipt }
+        ensures value { result.value ≡ (if runs_on ran result.receipt then Some launch else None) }
+    {
+        let Launch {
+            key,
+            subject,
+            depth,
+            ticket,
+        } = launch;
+        match ticket {
+            OneOfFour::Zero(ticket) => goes_on!(
+                self.zero
+                    .launched(rt, &mut seat.zero, now, key, ticket, ran),
+                Running,
+                Zero,
+                key,
+                subject,
+                depth
+            ),
+            OneOfFour::One(ticket) => goes_on!(
+                self.one.launched(rt, &mut seat.one, now, key, ticket, ran),
+                Running,
+                One,
+                key,
+                subject,
+                depth
+            ),
+            OneOfFour::Two(ticket) => goes_on!(
+                self.two.launched(rt, &mut seat.two, now, key, ticket, ran),
+                Running,
+                Two,
+                key,
+                subject,
+                depth
+            ),
+            OneOfFour::Three(ticket) => goes_on!(
+                self.three
+                    .launched(rt, &mut seat.three, now, key, ticket, ran),
+                Running,
+                Three,
+                key,
+                subject,
+                depth
+            ),
+        }
+    }
+
+    /// Says how a handler has ended, and what a piped one has put out. It may wait, and takes no memory.
+    ///
+    /// Where the end is owed, the step is taken. The value is a `Launch` exactly where the answer is `Negate`: of the same construction, for the
+    /// handler that says that the key can't be made. It is `None` where nothing is owed (`Stray`, which spends the `Running` all the same).
+    pub fn ended<R: Wait>(
+        &self,
+        rt: &R,
+        seat: &mut Seat<N>,
+        now: Moment,
+        running: Running<N>,
+        how: How,
+        payload: Option<Payload>,
+    ) -> Owed<Option<Launch<N>>>
+        ensures step { OwedSeen running.hall now (Event.Ended running.key how payload) seat.old seat.new result.receipt }
+        ensures value { IfSome result.value (λ l. l ≡ negated running) }
+        ensures answer { IfOk result.receipt (λ r. is_some result.value ≡ is_followed r.answer) }
+        ensures stray { result.receipt ≡ Err Lapse.Stray → result.value ≡ None }
+    {
+        let Running {
+            key,
+            subject,
+            depth,
+            ticket,
+        } = running;
+        let subject = Subject {
+            op: Op::Negate,
+            ..subject
+        };
+        match ticket {
+            OneOfFour::Zero(ticket) => goes_on!(
+                self.zero
+                    .ended(rt, &mut seat.zero, now, key, ticket, how, payload),
+                Launch,
+                Zero,
+                key,
+                subject,
+                depth
+            ),
+            OneOfFour::One(ticket) => goes_on!(
+                self.one
+                    .ended(rt, &mut seat.one, now, key, ticket, how, payload),
+                Launch,
+                One,
+                key,
+                subject,
+                depth
+            ),
+            OneOfFour::Two(ticket) => goes_on!(
+                self.two
+                    .ended(rt, &mut seat.two, now, key, ticket, how, payload),
+                Launch,
+                Two,
+                key,
+                subject,
+                depth
+            ),
+            OneOfFour::Three(ticket) => goes_on!(
+                self.three
+                    .ended(rt, &mut seat.three, now, key, ticket, how, payload),
+                Launch,
+                Three,
+                key,
+                subject,
+                depth
+            ),
+        }
+    }
+
+    /// Collects the outcome of a session's wait: its key's serial, or an error. `Refused(Einval)` with `Stray` where none may be collected. It may
+    /// wait, and takes no memory.
+    pub fn collect<R: Wait>(
+        &self,
+        rt: &R,
+        seat: &mut Seat<N>,
+        hall: HallNo,
+        now: Moment,
+        session: SessionId,
+    ) -> Owed<Answer>
+        ensures step { OwedSeen hall now (Event.Collect session) seat.old seat.new result.receipt }
+        ensures value { IfOk result.receipt (λ r. r.answer ≡ result.value) }
+        ensures outcome { IsOutcomeOrNone result.value }
+        ensures stray { result.receipt ≡ Err Lapse.Stray → result.value ≡ Answer.Refused Errno.Einval }
+    {
+        match hall {
+            HallNo::Zero => self.zero.collect(rt, &mut seat.zero, now, session),
+            HallNo::One => self.one.collect(rt, &mut seat.one, now, session),
+            HallNo::Two => self.two.collect(rt, &mut seat.two, now, session),
+            HallNo::Three => self.three.collect(rt, &mut seat.three, now, session),
+        }
+    }
+
+    /// Says that a client is gone. The seat has one client fewer, also where nothing is owed. It may wait, and takes no memory.
+    pub fn gone<R: Wait>(
+        &self,
+        rt: &R,
+        seat: &mut Seat<N>,
+        hall: HallNo,
+        now: Moment,
+        session: SessionId,
+    ) -> Owed<()>
+        ensures { OwedSeen hall now (Event.Gone session) (with_part hall seat.old (without_client (part hall seat.old))) seat.new result.receipt }
+    {
+        match hall {
+            HallNo::Zero => self.zero.gone(rt, &mut seat.zero, now, session),
+            HallNo::One => self.one.gone(rt, &mut seat.one, now, session),
+            HallNo::Two => self.two.gone(rt, &mut seat.two, now, session),
+            HallNo::Three => self.three.gone(rt, &mut seat.three, now, session),
+        }
+    }
+
+    /// Waits while the session has a wait that may not be collected yet. It takes no memory, and changes nothing.
+    pub fn until_ready<R: Wait>(&self, rt: &R, hall: HallNo, session: SessionId) {
+        match hall {
+            HallNo::Zero => self.zero.until_ready(rt, session),
+            HallNo::One => self.one.until_ready(rt, session),
+            HallNo::Two => self.two.until_ready(rt, session),
+            HallNo::Three => self.three.until_ready(rt, session),
+        }
+    }
+
+    /// The payload of the key that a search in the context of a construction's unspent authority hits, where it is Positive. It makes no step. An
+    /// `Err` is want of memory for the copy. It may wait.
+    pub fn peek<R: Wait>(
+        &self,
+        rt: &R,
+        alloc: Global,
+        launch: &Launch<N>,
+        typ: &TypeName,
+        description: &Description,
+        now: Moment,
+    ) -> Result<Option<Vec<u8>>, AllocError> {
+        let key = launch.key;
+        match &launch.ticket {
+            OneOfFour::Zero(_) => self.zero.peek(rt, alloc, key, typ, description, now),
+            OneOfFour::One(_) => self.one.peek(rt, alloc, key, typ, description, now),
+            OneOfFour::Two(_) => self.two.peek(rt, alloc, key, typ, description, now),
+            OneOfFour::Three(_) => self.three.peek(rt, alloc, key, typ, description, now),
+        }
+    }
+
+    /// Hands out the volume that a hall was recording, and begins the next. Refused as `Hall::roll` is, with nothing changed. It may wait.
+    pub fn roll<R: Wait>(&self, rt: &R, hall: HallNo) -> Result<Volume<N>, HallFault>
+        ensures { IfOk result (λ v. v.hall ≡ hall) }
+    {
+        let rolled = match hall {
+            HallNo::Zero => self.zero.roll(rt),
+            HallNo::One => self.one.roll(rt),
+            HallNo::Two => self.two.roll(rt),
+            HallNo::Three => self.three.roll(rt),
+        };
+        match rolled {
+            Ok(volume) => Ok(Volume {
+                volume,
+                names: PhantomData,
+            }),
+            Err(fault) => Err(fault),
+        }
+    }
+}
+
+/// A hall without a step, which draws every fourth serial.
+fn empty_hall(alloc: Global, no: HallNo, negative: u32, steps: usize) -> Result<Hall, AllocError>
+    requires { (1 ≤ steps) × (steps ≤ 1048576) }
+    ensures no { IfOk result (λ h. h.no ≡ no) }
+    ensures steps { IfOk result (λ h. taken h ≡ 0) }
+    ensures constructions { IfOk result (λ h. constructions h.world ≡ 0) }
+    ensures serials { IfOk result (λ h. h.world ≡ empty_world negative (first_serial no) 4) }
+{
+    let limits = Limits {
+        negative,
+        first: first_serial(no),
+        stride: 4,
+    };
+    let hall = Hall::new(alloc, limits, no, steps)?;
+    Ok(hall)
+}
+
+/// The first serial that a hall draws: its number, and 4 for hall 0.
+fn first_serial(no: HallNo) -> Serial
+    ensures { result ≡ first_serial no }
+{
+    let number = match no {
+        HallNo::Zero => 4,
+        HallNo::One => 1,
+        HallNo::Two => 2,
+        HallNo::Three => 3,
+    };
+    match Serial::new(number) {
+        Some(serial) => serial,
+        None => unreachable!(),
+    }
+}

@@ -1,0 +1,32 @@
+//! Why a call has no receipt.
+
+use rk_record::Receipt;
+
+/// Why a turn that was asked for as owed has no receipt.
+#[derive(Clone, Copy, PartialEq, Eq, Debug)]
+pub enum Lapse {
+    /// The step was taken, and its number `found` is not above `seen`, the greatest that the seat has seen. Never comes to a seat that has seen nothing.
+    Behind { seen: u64, found: u64 },
+    /// The event was not owed: there was no step.
+    Stray,
+}
+
+/// Why a call was not made. Nothing has changed.
+#[derive(Clone, Copy, PartialEq, Eq, Debug)]
+pub enum CallFault {
+    /// The step would have the number `found`, which is not above `seen`, the greatest that the seat has seen. Never comes to a seat that has seen nothing.
+    Behind { seen: u64, found: u64 },
+    /// The volume has not as many free places as the event may need.
+    Full,
+    /// A growth was refused.
+    NoMemory,
+}
+
+/// What a turn gives that was asked for as owed. It is made wherever the event is owed, also where there is no receipt.
+#[derive(Drop)]
+pub struct Owed<V> {
+    /// What it gives back.
+    pub value: V,
+    /// The receipt of its step.
+    pub receipt: Result<Receipt, Lapse>,
+}

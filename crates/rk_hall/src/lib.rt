@@ -1,0 +1,55 @@
+//! The halls of a request_key daemon, which threads share.
+//!
+//! # Purpose
+//!
+//! A daemon has four halls, each a book with the record of its steps (rk_record) under a lock of its own. Threads make calls on [`Halls`]: each is one
+//! turn of one hall under its lock. Who calls has a [`Seat`], which counts what it did and remembers what it has seen. A start hands out a [`Launch`],
+//! and a handler that was started is a [`Running`]: neither can be dropped, so that each construction is brought to its end.
+//!
+//! # What it promises
+//!
+//! A receipt is that of one step, with the moment and the event that were handed in, and a number greater than all that the seat had seen in that hall,
+//! in its own receipts or by [`Seat::hear`]; the seat's turns are one more. A call that is refused changes nothing. What is owed is never refused: its step is
+//! taken wherever the locked hall owes it, also where the seat has seen a greater number (`Behind`); where it owes nothing there is no step, the
+//! answer is `Stray`, and the token is spent and counted. `Behind` never comes to a seat that has seen nothing.
+//!
+//! *No orphan.* A `Launch` comes only from a call that is answered by a start, or from the end of a piped handler that another handler follows; it is spent
+//! only by [`Halls::launched`], and a `Running` only by [`Halls::ended`]. Under each lock there are as many constructions as tokens that are out and strays,
+//! and the steps are as many as the turns of all seats, those that were given back counted too.
+//!
+//! A seat, a token or a volume works only with the `Halls` that made it, by its type. Not promised: that a lock is ever got, that a waiter wakes, and
+//! any order between threads beyond the numbers.
+//!
+//! # Use
+//!
+//! Make [`Fresh`] ledgers, name them by a type, and make a `Halls` of them. Each thread takes a seat, calls, and gives the seat back.
+//!
+//! # How it is built
+//!
+//! `names` and `fresh` have the ledgers of a `Halls`. `part` is a seat's part in one hall, `ticket` the right to say what becomes of one construction:
+//! each has a share of a ledger. `locked` is what is under the lock of a hall, with the whole contract of each call, `lock` takes the lock, and
+//! `halls` chooses the hall. `seat` and `token` have what callers hold, `volume` a volume that was handed out, `lapse` why there is no receipt.
+//!
+//! In `specs/`, `Seats` says what a call does to a seat, `Locked` what the lock keeps and what a call does under it, `Tickets` of which hall a ticket is.
+#![tactic(auto)]
+
+mod fresh;
+mod halls;
+mod lapse;
+mod lock;
+mod locked;
+mod names;
+mod part;
+mod seat;
+mod ticket;
+mod token;
+mod volume;
+
+pub use fresh::{Fresh, Ledgers};
+pub use halls::{Called, Halls};
+pub use lapse::{CallFault, Lapse, Owed};
+pub use names::{Calls, Names, Out};
+pub use rk_record::{Hall, HallFault, HallNo, Receipt, Recorded, Rejoin, Told, rejoin};
+pub use seat::Seat;
+pub use token::{Launch, Running};
+pub use volume::Volume;

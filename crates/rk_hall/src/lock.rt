@@ -1,0 +1,161 @@
+//! One hall under its lock.
+ghost use Rattle.std.specs.Prelude.{◌≡◌, ◌≢◌, ◌+◌, ◌<◌, ◌^◌, is_some, IfOk, IfErr, OnErr, Ok, Err, Some, None, IfSome, MatchOption};
+ghost use Rattle.rk_machine.specs.Owing.{is_followed};
+ghost use Rattle.rk_record.specs.HallNumbers.{hall_number};
+ghost use Rattle.rk_record.specs.Copies.{told_of, started};
+ghost use Rattle.rk_record.specs.declared.hall_no.HallNo.{HallNo};
+ghost use Rattle.rk_hall.specs.Seats.{no_calls, after_call, IsCall, CallRefused, runs_on, without_client, IsOutcomeOrNone, OwedPart};
+
+use crate::lapse::{CallFault, Lapse, Owed};
+use crate::locked::{Begun, Locked};
+use crate::names::Names;
+use crate::part::Part;
+use crate::ticket::Ticket;
+use rk_machine::{Answer, Event, How, Ran};
+use rk_names::{Description, Errno, Moment, Payload, Serial, SessionId, TypeName};
+use rk_record::{HallFault, Receipt, Volume};
+use std::alloc::{AllocError, Global};
+use std::sync::{Condvar, Mutex, Wait};
+
+/// Hall `H` under its lock, and who waits for one of its steps.
+#[derive(Drop)]
+pub(crate) struct Lock<N: Names, const H: u64> {
+    pub(crate) locked: Mutex<Locked<N, H>>,
+    pub(crate) moved: Condvar,
+}
+
+impl<N: Names, const H: u64> Lock<N, H> {
+    pub(crate) fn new(locked: Locked<N, H>) -> Lock<N, H> {
+        Lock {
+            locked: Mutex::new(locked),
+            moved: Condvar::new(),
+        }
+    }
+
+    pub(crate) fn seat<R: Wait>(&self, rt: &R) -> Option<Part<N, H>>
+        ensures { IfSome result (λ p. p ≡ no_calls) }
+    {
+        self.locked.lock(rt).seat()
+    }
+
+    pub(crate) fn retire<R: Wait>(&self, rt: &R, part: Part<N, H>) {
+        self.locked.lock(rt).retire(part);
+    }
+
+    pub(crate) fn call<R: Wait>(
+        &self,
+        rt: &R,
+        part: &mut Part<N, H>,
+        now: Moment,
+        event: Event,
+    ) -> Result<(Receipt, Option<Begun<N, H>>), CallFault>
+        requires { IsCall event }
+        ensures receipt { IfOk result (λ d. (hall_number d.0.hall ≡ H) × (d.0.moment ≡ now) × (d.0.told ≡ told_of event)
+            × (d.0.answer ≢ Answer.Refused Errno.Enomem)) }
+        ensures rising { IfOk result (λ d. part.old.seen < d.0.number) }
+        ensures part { IfOk result (λ d. part.new ≡ after_call part.old event d.0) }
+        ensures begun { IfOk result (λ d. MatchOption d.1 (started d.0.answer ≡ None) (λ b. d.0.answer ≡ Answer.Start b.key b.subject)) }
+        ensures err { IfErr result (λ f. CallRefused part.old f) }
+        ensures same { OnErr result (part.new ≡ part.old) }
+    {
+        let called = self.locked.lock(rt).call(part, now, event);
+        self.moved.notify_all();
+        called
+    }
+
+    pub(crate) fn launched<R: Wait>(
+        &self,
+        rt: &R,
+        part: &mut Part<N, H>,
+        now: Moment,
+        key: Serial,
+        ticket: Ticket<N, H>,
+        ran: Ran,
+    ) -> Owed<Option<Ticket<N, H>>>
+        ensures step { (hall : HallNo) → hall_number hall ≡ H → OwedPart hall now (Event.Launched key ran) part.old part.new result.receipt }
+        ensures value { is_some result.value ≡ runs_on ran result.receipt }
+    {
+        let owed = self.locked.lock(rt).launched(part, now, key, ticket, ran);
+        self.moved.notify_all();
+        owed
+    }
+
+    pub(crate) fn ended<R: Wait>(
+        &self,
+        rt: &R,
+        part: &mut Part<N, H>,
+        now: Moment,
+        key: Serial,
+        ticket: Ticket<N, H>,
+        how: How,
+        payload: Option<Payload>,
+    ) -> Owed<Option<Ticket<N, H>>>
+        ensures step { (hall : HallNo) → hall_number hall ≡ H → OwedPart hall now (Event.Ended key how payload) part.old part.new result.receipt }
+        ensures answer { IfOk result.receipt (λ r. is_some result.value ≡ is_followed r.answer) }
+        ensures stray { result.receipt ≡ Err Lapse.Stray → result.value ≡ None }
+    {
+        let owed = self
+            .locked
+            .lock(rt)
+            .ended(part, now, key, ticket, how, payload);
+        self.moved.notify_all();
+        owed
+    }
+
+    pub(crate) fn collect<R: Wait>(
+        &self,
+        rt: &R,
+        part: &mut Part<N, H>,
+        now: Moment,
+        session: SessionId,
+    ) -> Owed<Answer>
+        ensures step { (hall : HallNo) → hall_number hall ≡ H → OwedPart hall now (Event.Collect session) part.old part.new result.receipt }
+        ensures value { IfOk result.receipt (λ r. r.answer ≡ result.value) }
+        ensures outcome { IsOutcomeOrNone result.value }
+        ensures stray { result.receipt ≡ Err Lapse.Stray → result.value ≡ Answer.Refused Errno.Einval }
+    {
+        let owed = self.locked.lock(rt).collect(part, now, session);
+        self.moved.notify_all();
+        owed
+    }
+
+    pub(crate) fn gone<R: Wait>(
+        &self,
+        rt: &R,
+        part: &mut Part<N, H>,
+        now: Moment,
+        session: SessionId,
+    ) -> Owed<()>
+        ensures { (hall : HallNo) → hall_number hall ≡ H → OwedPart hall now (Event.Gone session) (without_client part.old) part.new result.receipt }
+    {
+        let owed = self.locked.lock(rt).gone(part, now, session);
+        self.moved.notify_all();
+        owed
+    }
+
+    pub(crate) fn until_ready<R: Wait>(&self, rt: &R, session: SessionId) {
+        let _locked = self.moved.wait_while(
+            rt,
+            self.locked.lock(rt),
+            |locked| locked.is_held(&session),
+        );
+    }
+
+    pub(crate) fn peek<R: Wait>(
+        &self,
+        rt: &R,
+        alloc: Global,
+        key: Serial,
+        typ: &TypeName,
+        description: &Description,
+        now: Moment,
+    ) -> Result<Option<Vec<u8>>, AllocError> {
+        self.locked.lock(rt).peek(alloc, key, typ, description, now)
+    }
+
+    pub(crate) fn roll<R: Wait>(&self, rt: &R) -> Result<Volume, HallFault>
+        ensures { IfOk result (λ v. hall_number v.hall ≡ H) }
+    {
+        self.locked.lock(rt).roll()
+    }
+}

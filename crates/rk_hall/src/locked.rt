@@ -1,0 +1,432 @@
+//! What is under the lock of a hall.
+ghost use Rattle.std.specs.Prelude.{◌≢◌, ◌&&◌, not, ◌≡◌, ℕ, ◌+◌, ◌-◌, ◌*◌, ◌<◌, ◌≤◌, ◌↔◌, ◌^◌, true, is_some, length, IfOk, IfErr, OnErr, OnOk, Ok, Err, Some, None, IfSome, IfNone, option_map, MatchOption};
+ghost use Rattle.std.specs.Option.{option_map_or};
+ghost use Rattle.rk_machine.specs.Views.{is_owed, is_ready, has_wait, depth_of, Peeks};
+ghost use Rattle.rk_machine.specs.Owing.{constructions, begun, is_followed};
+ghost use Rattle.rk_machine.specs.Allowed.{done};
+ghost use Rattle.rk_record.specs.HallNumbers.{hall_number};
+ghost use Rattle.rk_record.specs.Record.{IsRecord};
+ghost use Rattle.rk_record.specs.Turns.{Turned};
+ghost use Rattle.rk_record.specs.Copies.{started};
+ghost use Rattle.rk_record.specs.Volumes.{volume_of, rolled, CannotRoll};
+ghost use Rattle.rk_hall.specs.Seats.{no_calls, after_call, IsCall, runs_on, without_client, IsOutcomeOrNone, IsOutcome};
+ghost use Rattle.rk_hall.specs.Locked.{taken, RefusedUnder, OwedTurn, IsOwedOr, strays_of};
+
+use crate::lapse::{CallFault, Lapse, Owed};
+use crate::names::{Calls, Names, Out};
+use crate::part::Part;
+use crate::ticket::Ticket;
+use rk_machine::{Answer, Event, How, Ran};
+use rk_macro::Subject;
+use rk_message::Reply;
+use rk_names::{Description, Errno, Moment, Payload, Serial, SessionId, TypeName};
+use rk_record::{Hall, HallFault, Receipt, Volume};
+use std::alloc::{AllocError, Global};
+use std::marker::Model;
+use std::sync::ledger::{Blank, Book, Share};
+
+/// What is under the lock of hall `H`: the hall, and the books of its two ledgers. One counts its steps by the parts of seats that made them, the
+/// other its constructions by the tickets that are out.
+#[derive(Drop)]
+pub(crate) struct Locked<N: Names, const H: u64> {
+    pub(crate) hall: Hall,
+    /// How many seats may still be made.
+    pub(crate) left: u64,
+    /// The turns of seats that were given back.
+    pub(crate) retired: u64,
+    /// The tickets that were spent though nothing was owed.
+    pub(crate) strays: u64,
+    pub(crate) calls: Book<Calls<N, H>>,
+    pub(crate) pool: Share<Calls<N, H>>,
+    pub(crate) out: Book<Out<N, H>>,
+    pub(crate) home: Share<Out<N, H>>,
+}
+
+impl<N: Names, const H: u64> Model for Locked<N, H> {
+    ghost use Rattle.rk_hall.specs.Locked.{LockedShown, locked_code, IsLocked};
+
+    ghost Value = { LockedShown };
+
+    ghost coded = { locked_code };
+
+    ghost view = { λ k. record { hall = k.hall; left = k.left; retired = k.retired; strays = k.strays } };
+
+    ghost invariant = { λ k. IsLocked H k.hall k.left k.retired k.strays k.calls.total k.pool.parts k.pool.amount k.out.total k.home.parts k.home.amount };
+}
+
+/// A construction that a call has begun.
+pub(crate) struct Begun<N: Names, const H: u64> {
+    pub(crate) key: Serial,
+    pub(crate) subject: Subject,
+    pub(crate) depth: u8,
+    pub(crate) ticket: Ticket<N, H>,
+}
+
+impl<N: Names, const H: u64> Locked<N, H> {
+    /// A hall of this number that has taken no step, under ledgers that nobody has a share of.
+    pub(crate) fn new(hall: Hall, calls: Blank, out: Blank) -> Locked<N, H>
+        requires calls { (calls.name ≡ N.name (2 * H)) × (calls.parts ≡ 4294967296) }
+        requires out { (out.name ≡ N.name (2 * H + 1)) × (out.parts ≡ 4294967296) }
+        requires number { hall_number hall.no ≡ H }
+        requires steps { taken hall ≡ 0 }
+        requires constructions { constructions hall.world ≡ 0 }
+        ensures { result ≡ record { hall = hall; left = 4294967295; retired = 0; strays = 0 } }
+    {
+        let (calls, pool) = calls.open::<Calls<N, H>>();
+        let (out, home) = out.open::<Out<N, H>>();
+        Locked {
+            hall,
+            left: 4_294_967_295,
+            retired: 0,
+            strays: 0,
+            calls,
+            pool,
+            out,
+            home,
+        }
+    }
+
+    /// A part of a new seat, `None` once 4,294,967,295 are out.
+    pub(crate) fn seat(&mut self) -> Option<Part<N, H>>
+        ensures some { IfSome result (λ p. (p ≡ no_calls) × (self.new ≡ record self.old { left = self.old.left - 1 })) }
+        ensures none { IfNone result ((self.old.left ≡ 0) × (self.new ≡ self.old)) }
+    {
+        if self.left == 0 {
+            return None;
+        }
+        self.left -= 1;
+        let share = self.pool.split_off(1, 0);
+        Some(Part {
+            calls: 0,
+            seen: 0,
+            clients: 0,
+            share,
+        })
+    }
+
+    /// Takes the part of a seat back.
+    pub(crate) fn retire(&mut self, part: Part<N, H>)
+        ensures { self.new ≡ record self.old { left = self.old.left + 1; retired = self.old.retired + part.calls } }
+    {
+        let Part {
+            calls,
+            seen: _,
+            clients: _,
+            share,
+        } = part;
+        let _steps = self.hall.count();
+        self.pool.merge(share);
+        self.calls.audit(&mut self.pool);
+        self.left += 1;
+        self.retired += calls;
+    }
+
+    /// One call: a client that comes, or an ask.
+    pub(crate) fn call(
+        &mut self,
+        part: &mut Part<N, H>,
+        now: Moment,
+        event: Event,
+    ) -> Result<(Receipt, Option<Begun<N, H>>), CallFault>
+        requires { IsCall event }
+        ensures ok { IfOk result (λ d. Turned self.old.hall now event d.0 self.new.hall) }
+        ensures hall { IfOk result (λ d. hall_number d.0.hall ≡ H) }
+        ensures rising { IfOk result (λ d. part.old.seen < d.0.number) }
+        ensures part { IfOk result (λ d. part.new ≡ after_call part.old event d.0) }
+        ensures begun { IfOk result (λ d. MatchOption d.1 (started d.0.answer ≡ None)
+            (λ b. (d.0.answer ≡ Answer.Start b.key b.subject) × (b.depth ≡ option_map_or (λ n. n) (depth_of self.new.hall.world b.key) 0))) }
+        ensures kept { OnOk result (self.new ≡ record self.old { hall = self.new.hall }) }
+        ensures err { IfErr result (λ f. RefusedUnder self.old.hall event part.old f) }
+        ensures same { OnErr result ((self.new ≡ self.old) × (part.new ≡ part.old)) }
+    {
+        let found = self.hall.count() + 1;
+        if found <= part.seen {
+            return Err(CallFault::Behind {
+                seen: part.seen,
+                found,
+            });
+        }
+        let opens = matches!(event, Event::Opened(_));
+        match self.hall.turn_to_start(now, event) {
+            Ok((receipt, subject)) => {
+                let _steps = self.hall.count();
+                self.calls.audit(&mut part.share);
+                self.calls.add(&mut part.share, 1);
+                part.calls += 1;
+                part.seen = receipt.number();
+                if opens && matches!(receipt.answer(), Answer::Done(_)) {
+                    part.clients += 1;
+                }
+                let begun = begin(
+                    &self.hall,
+                    &mut self.out,
+                    &mut self.home,
+                    receipt.answer(),
+                    subject,
+                );
+                Ok((receipt, begun))
+            }
+            Err(HallFault::Full) => Err(CallFault::Full),
+            Err(HallFault::NoMemory) => Err(CallFault::NoMemory),
+        }
+    }
+
+    /// Says what became of a start.
+    pub(crate) fn launched(
+        &mut self,
+        part: &mut Part<N, H>,
+        now: Moment,
+        key: Serial,
+        ticket: Ticket<N, H>,
+        ran: Ran,
+    ) -> Owed<Option<Ticket<N, H>>>
+        ensures step { OwedTurn self.old.hall now (Event.Launched key ran) part.old part.new self.new.hall result.receipt (λ a. a ≡ done) }
+        ensures value { is_some result.value ≡ runs_on ran result.receipt }
+        ensures owed { IsOwedOr self.old.hall (Event.Launched key ran) result.receipt }
+        ensures hall { IfOk result.receipt (λ r. hall_number r.hall ≡ H) }
+        ensures kept { self.new ≡ record self.old { hall = self.new.hall; strays = self.old.strays + strays_of result.receipt } }
+    {
+        let event = Event::Launched(key, ran);
+        if !self.hall.owes(&event) {
+            self.put_stray(ticket);
+            return Owed {
+                value: None,
+                receipt: Err(Lapse::Stray),
+            };
+        }
+        let receipt = turn_owed(&mut self.hall, &mut self.calls, part, now, event);
+        let value = if matches!(ran, Ran::Failed) {
+            spend(&mut self.out, &mut self.home, ticket);
+            None
+        } else {
+            Some(ticket)
+        };
+        Owed {
+            value,
+            receipt: part.take(receipt),
+        }
+    }
+
+    /// Says how a handler ended. The ticket goes on where another handler is to be started.
+    pub(crate) fn ended(
+        &mut self,
+        part: &mut Part<N, H>,
+        now: Moment,
+        key: Serial,
+        ticket: Ticket<N, H>,
+        how: How,
+        payload: Option<Payload>,
+    ) -> Owed<Option<Ticket<N, H>>>
+        ensures step { OwedTurn self.old.hall now (Event.Ended key how payload) part.old part.new self.new.hall result.receipt
+            (λ a. is_some result.value ≡ is_followed a) }
+        ensures stray { result.receipt ≡ Err Lapse.Stray → result.value ≡ None }
+        ensures owed { IsOwedOr self.old.hall (Event.Ended key how payload) result.receipt }
+        ensures hall { IfOk result.receipt (λ r. hall_number r.hall ≡ H) }
+        ensures kept { self.new ≡ record self.old { hall = self.new.hall; strays = self.old.strays + strays_of result.receipt } }
+    {
+        let event = Event::Ended(key, how, payload);
+        if !self.hall.owes(&event) {
+            self.put_stray(ticket);
+            return Owed {
+                value: None,
+                receipt: Err(Lapse::Stray),
+            };
+        }
+        let receipt = turn_owed(&mut self.hall, &mut self.calls, part, now, event);
+        let value = if matches!(receipt.answer(), Answer::Negate(_)) {
+            Some(ticket)
+        } else {
+            spend(&mut self.out, &mut self.home, ticket);
+            None
+        };
+        Owed {
+            value,
+            receipt: part.take(receipt),
+        }
+    }
+
+    /// Collects the outcome of a wait, `Refused(Einval)` where none is there.
+    pub(crate) fn collect(
+        &mut self,
+        part: &mut Part<N, H>,
+        now: Moment,
+        session: SessionId,
+    ) -> Owed<Answer>
+        ensures step { OwedTurn self.old.hall now (Event.Collect session) part.old part.new self.new.hall result.receipt (λ a. a ≡ result.value) }
+        ensures outcome { IsOutcomeOrNone result.value }
+        ensures stray { result.receipt ≡ Err Lapse.Stray → result.value ≡ Answer.Refused Errno.Einval }
+        ensures owed { IsOwedOr self.old.hall (Event.Collect session) result.receipt }
+        ensures hall { IfOk result.receipt (λ r. hall_number r.hall ≡ H) }
+        ensures kept { self.new ≡ record self.old { hall = self.new.hall } }
+    {
+        let event = Event::Collect(session);
+        if !self.hall.owes(&event) {
+            return Owed {
+                value: Answer::Refused(Errno::Einval),
+                receipt: Err(Lapse::Stray),
+            };
+        }
+        let receipt = turn_owed(&mut self.hall, &mut self.calls, part, now, event);
+        let value = outcome_copy(receipt.answer());
+        Owed {
+            value,
+            receipt: part.take(receipt),
+        }
+    }
+
+    /// Says that a client is gone.
+    pub(crate) fn gone(
+        &mut self,
+        part: &mut Part<N, H>,
+        now: Moment,
+        session: SessionId,
+    ) -> Owed<()>
+        ensures step { OwedTurn self.old.hall now (Event.Gone session) (without_client part.old) part.new self.new.hall result.receipt (λ a. a ≡ done) }
+        ensures owed { IsOwedOr self.old.hall (Event.Gone session) result.receipt }
+        ensures hall { IfOk result.receipt (λ r. hall_number r.hall ≡ H) }
+        ensures kept { self.new ≡ record self.old { hall = self.new.hall } }
+    {
+        part.lose_client();
+        let event = Event::Gone(session);
+        if !self.hall.owes(&event) {
+            return Owed {
+                value: (),
+                receipt: Err(Lapse::Stray),
+            };
+        }
+        let receipt = turn_owed(&mut self.hall, &mut self.calls, part, now, event);
+        Owed {
+            value: (),
+            receipt: part.take(receipt),
+        }
+    }
+
+    /// Whether the session waits for what is not ready.
+    pub(crate) fn is_held(&self, session: &SessionId) -> bool
+        ensures { result ≡ (has_wait self.now.hall.world session.now && not (is_ready self.now.hall.world session.now)) }
+    {
+        self.hall.waits(session) && !self.hall.ready(session)
+    }
+
+    /// A copy of the payload of the key that a search hits, where it is Positive, in the context of a key's unspent authority.
+    pub(crate) fn peek(
+        &self,
+        alloc: Global,
+        key: Serial,
+        typ: &TypeName,
+        description: &Description,
+        now: Moment,
+    ) -> Result<Option<Vec<u8>>, AllocError>
+        ensures { IfOk result (λ seen. Peeks self.now.hall.world key typ.now description.now now (option_map (λ bytes. bytes.items) seen)) }
+    {
+        match self.hall.peek(key, typ, description, now) {
+            None => Ok(None),
+            Some(bytes) => Ok(Some(Vec::from_slice(alloc, bytes)?)),
+        }
+    }
+
+    /// Hands out the volume that was being recorded, and begins the next.
+    pub(crate) fn roll(&mut self) -> Result<Volume, HallFault>
+        ensures ok { IfOk result (λ v. (v ≡ volume_of self.old.hall) × (self.new ≡ record self.old { hall = rolled self.old.hall })) }
+        ensures hall { IfOk result (λ v. hall_number v.hall ≡ H) }
+        ensures err { OnErr result (self.new ≡ self.old) }
+        ensures full { (result ≡ Err HallFault.Full) ↔ CannotRoll self.old.hall }
+    {
+        self.hall.roll()
+    }
+
+    /// Takes a ticket back for which nothing is owed.
+    fn put_stray(&mut self, ticket: Ticket<N, H>)
+        ensures { self.new ≡ record self.old { strays = self.old.strays + 1 } }
+    {
+        let Ticket { share } = ticket;
+        let _steps = self.hall.count();
+        self.home.merge(share);
+        self.out.audit(&mut self.home);
+        self.strays += 1;
+    }
+}
+
+/// What a call has begun: a ticket, where its answer is a start.
+fn begin<N: Names, const H: u64>(
+    hall: &Hall,
+    out: &mut Book<Out<N, H>>,
+    home: &mut Share<Out<N, H>>,
+    answer: &Answer,
+    subject: Option<Subject>,
+) -> Option<Begun<N, H>>
+    requires subject { subject ≡ started answer.now }
+    requires parts { 1 < home.old.parts }
+    ensures begun { MatchOption result (started answer.now ≡ None)
+        (λ b. (answer.now ≡ Answer.Start b.key b.subject) × (b.depth ≡ option_map_or (λ n. n) (depth_of hall.now.world b.key) 0)) }
+    ensures out { out.new.total ≡ out.old.total + begun answer.now }
+    ensures parts { home.new.parts + begun answer.now ≡ home.old.parts }
+    ensures amount { home.new.amount ≡ home.old.amount }
+{
+    match (answer, subject) {
+        (Answer::Start(key, _), Some(subject)) => {
+            out.add(home, 1);
+            let share = home.split_off(1, 1);
+            Some(Begun {
+                key: *key,
+                subject,
+                depth: hall.depth(*key).unwrap_or(0),
+                ticket: Ticket { share },
+            })
+        }
+        _ => None,
+    }
+}
+
+/// Takes the ticket of a construction back that has ended.
+fn spend<N: Names, const H: u64>(
+    out: &mut Book<Out<N, H>>,
+    home: &mut Share<Out<N, H>>,
+    ticket: Ticket<N, H>,
+)
+    ensures out { out.new.total + 1 ≡ out.old.total }
+    ensures parts { home.new.parts ≡ home.old.parts + 1 }
+    ensures amount { home.new.amount ≡ home.old.amount }
+{
+    let Ticket { share } = ticket;
+    home.merge(share);
+    out.sub(home, 1);
+}
+
+/// A turn of what is owed, counted to the part.
+fn turn_owed<N: Names, const H: u64>(
+    hall: &mut Hall,
+    calls: &mut Book<Calls<N, H>>,
+    part: &mut Part<N, H>,
+    now: Moment,
+    event: Event,
+) -> Receipt
+    requires owed { is_owed hall.old.world event ≡ true }
+    requires counted { calls.old.total ≡ taken hall.old }
+    ensures turned { Turned hall.old now event result hall.new }
+    ensures part { part.new ≡ record part.old { calls = part.old.calls + 1 } }
+    ensures counted { calls.new.total ≡ taken hall.new }
+{
+    match hall.turn(now, event) {
+        Ok(receipt) => {
+            let _steps = hall.count();
+            calls.audit(&mut part.share);
+            calls.add(&mut part.share, 1);
+            part.calls += 1;
+            receipt
+        }
+        Err(_) => unreachable!(),
+    }
+}
+
+/// A copy of an outcome. It takes no memory.
+fn outcome_copy(answer: &Answer) -> Answer
+    requires { IsOutcome answer.now }
+    ensures { result ≡ answer.now }
+{
+    match answer {
+        Answer::Done(Reply::Number(number)) => Answer::Done(Reply::Number(*number)),
+        Answer::Refused(errno) => Answer::Refused(*errno),
+        _ => unreachable!(),
+    }
+}

@@ -1,0 +1,49 @@
+//! A seat: who makes calls, and what they have seen.
+ghost use Rattle.std.specs.Prelude.{◌≡◌, ◌+◌};
+ghost use Rattle.rk_hall.specs.Seats.{part, with_part, heard, clients_of};
+
+use crate::names::Names;
+use crate::part::Part;
+use rk_record::{HallNo, Receipt};
+use std::marker::Model;
+
+/// Who makes calls: one thread at a time. It has a part in each hall, with a share of the hall's record: the turns that it made there.
+///
+/// A seat works only with the `Halls` that made it. One that is neither given back nor handed to `settle` is missed there.
+#[derive(Drop)]
+pub struct Seat<N: Names> {
+    pub(crate) zero: Part<N, 0>,
+    pub(crate) one: Part<N, 1>,
+    pub(crate) two: Part<N, 2>,
+    pub(crate) three: Part<N, 3>,
+}
+
+impl<N: Names> Model for Seat<N> {
+    ghost use Rattle.rk_hall.specs.Seats.{SeatShown};
+
+    ghost Value = { SeatShown };
+
+    ghost view = { λ s. record { zero = s.zero; one = s.one; two = s.two; three = s.three } };
+}
+
+impl<N: Names> Seat<N> {
+    /// How many clients it has opened and not reported gone, in all halls. It takes no memory.
+    pub fn clients(&self) -> u64
+        ensures { result ≡ clients_of self.now }
+    {
+        self.zero.clients() + self.one.clients() + self.two.clients() + self.three.clients()
+    }
+
+    /// Counts the receipt's number as seen, in its hall: later calls there have greater numbers. It takes no memory.
+    pub fn hear(&mut self, receipt: &Receipt)
+        ensures { self.new ≡ with_part receipt.now.hall self.old (heard (part receipt.now.hall self.old) receipt.now.number) }
+    {
+        let number = receipt.number();
+        match receipt.hall() {
+            HallNo::Zero => self.zero.hear(number),
+            HallNo::One => self.one.hear(number),
+            HallNo::Two => self.two.hear(number),
+            HallNo::Three => self.three.hear(number),
+        }
+    }
+}

@@ -1,0 +1,24 @@
+//! The right to start or end one construction.
+ghost use Rattle.std.specs.Prelude.{◌≡◌};
+
+use crate::names::{Names, Out};
+use std::sync::ledger::Share;
+
+/// The right to say what becomes of one construction of hall `H`. There is one for each construction, and it can't be dropped: it is spent where the
+/// hall is told.
+pub(crate) struct Ticket<N: Names, const H: u64> {
+    pub(crate) share: Share<Out<N, H>>,
+    ghost part: { share.parts ≡ 1 },
+    ghost one: { share.amount ≡ 1 },
+}
+
+/// A ticket of one of the four halls.
+pub(crate) enum OneOfFour<A, B, C, D> {
+    Zero(A),
+    One(B),
+    Two(C),
+    Three(D),
+}
+
+/// A ticket of any hall.
+pub(crate) type AnyTicket<N> = OneOfFour<Ticket<N, 0>, Ticket<N, 1>, Ticket<N, 2>, Ticket<N, 3>>;

@@ -1,0 +1,88 @@
+//! Constructions that are out: to be launched, or running.
+ghost use Rattle.std.specs.Prelude.{◌≡◌};
+
+use crate::names::Names;
+use crate::ticket::AnyTicket;
+use rk_macro::Subject;
+use rk_names::Serial;
+use std::marker::Model;
+
+/// A construction whose handler is to be started. It can't be dropped: `Halls::launched` takes it.
+pub struct Launch<N: Names> {
+    pub(crate) key: Serial,
+    pub(crate) subject: Subject,
+    pub(crate) depth: u8,
+    pub(crate) ticket: AnyTicket<N>,
+}
+
+impl<N: Names> Model for Launch<N> {
+    ghost use Rattle.rk_hall.specs.Seats.{TokenShown};
+    ghost use Rattle.rk_hall.specs.Tickets.{ticket_hall};
+
+    ghost Value = { TokenShown };
+
+    ghost view = { λ l. record { hall = ticket_hall l.ticket; key = l.key; subject = l.subject; depth = l.depth } };
+}
+
+/// A construction whose handler runs. It can't be dropped: `Halls::ended` takes it.
+pub struct Running<N: Names> {
+    pub(crate) key: Serial,
+    pub(crate) subject: Subject,
+    pub(crate) depth: u8,
+    pub(crate) ticket: AnyTicket<N>,
+}
+
+impl<N: Names> Model for Running<N> {
+    ghost use Rattle.rk_hall.specs.Seats.{TokenShown};
+    ghost use Rattle.rk_hall.specs.Tickets.{ticket_hall};
+
+    ghost Value = { TokenShown };
+
+    ghost view = { λ r. record { hall = ticket_hall r.ticket; key = r.key; subject = r.subject; depth = r.depth } };
+}
+
+impl<N: Names> Launch<N> {
+    /// The key under construction.
+    pub fn key(&self) -> Serial
+        ensures { result ≡ self.now.key }
+    {
+        self.key
+    }
+
+    /// What its handler is told.
+    pub fn subject(&self) -> &Subject
+        ensures { result.now ≡ self.now.subject }
+    {
+        &self.subject
+    }
+
+    /// How many starts lead to its handler, 1 to 8.
+    pub fn depth(&self) -> u8
+        ensures { result ≡ self.now.depth }
+    {
+        self.depth
+    }
+}
+
+impl<N: Names> Running<N> {
+    /// The key under construction.
+    pub fn key(&self) -> Serial
+        ensures { result ≡ self.now.key }
+    {
+        self.key
+    }
+
+    /// What its handler was told.
+    pub fn subject(&self) -> &Subject
+        ensures { result.now ≡ self.now.subject }
+    {
+        &self.subject
+    }
+
+    /// How many starts lead to its handler, 1 to 8.
+    pub fn depth(&self) -> u8
+        ensures { result ≡ self.now.depth }
+    {
+        self.depth
+    }
+}

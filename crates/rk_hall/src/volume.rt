@@ -1,0 +1,55 @@
+//! A volume of a record, of one `Halls`.
+ghost use Rattle.std.specs.Prelude.{◌≡◌};
+ghost use Rattle.rk_record.specs.Record.{Runs};
+
+use crate::names::Names;
+use rk_record::{HallNo, Recorded};
+use std::marker::{Model, PhantomData};
+
+/// A volume of a hall's record, handed out. It works only with the `Halls` that made it.
+#[derive(Drop)]
+pub struct Volume<N: Names> {
+    pub(crate) volume: rk_record::Volume,
+    pub(crate) names: PhantomData<N>,
+}
+
+impl<N: Names> Model for Volume<N> {
+    ghost use Rattle.rk_record.specs.Volumes.{VolumeShown, volume_code};
+
+    ghost Value = { VolumeShown };
+
+    ghost coded = { volume_code };
+
+    ghost view = { λ v. v.volume };
+}
+
+impl<N: Names> Volume<N> {
+    /// The hall whose record it is of.
+    pub fn hall(&self) -> HallNo
+        ensures { result ≡ self.now.hall }
+    {
+        self.volume.hall()
+    }
+
+    /// Which volume of the hall it is, from 1.
+    pub fn index(&self) -> u64
+        ensures { result ≡ self.now.index }
+    {
+        self.volume.index()
+    }
+
+    /// How many steps the volumes before it have: the number of its first step is one more.
+    pub fn before(&self) -> u64
+        ensures { result ≡ self.now.before }
+    {
+        self.volume.before()
+    }
+
+    /// Its steps, in order.
+    pub fn steps(&self) -> &[Recorded]
+        ensures steps { result.now ≡ self.now.steps }
+        ensures run { Runs self.now.opening self.now.steps self.now.closing }
+    {
+        self.volume.steps()
+    }
+}
