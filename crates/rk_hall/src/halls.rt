@@ -1,25 +1,22 @@
 //! Four halls that threads share.
 ghost use Rattle.std.specs.Prelude.{◌≡◌, ◌≢◌, ◌↔◌, ◌+◌, ◌<◌, ◌≤◌, ℕ, true, is_some, IfOk, IfErr, OnErr, Ok, Err, Some, None, IfSome, MatchOption, if◌then◌else◌};
-ghost use Rattle.rk_machine.specs.World.{empty_world};
-ghost use Rattle.rk_machine.specs.Owing.{constructions, is_followed};
-ghost use Rattle.rk_hall.specs.Locked.{taken, first_serial};
+ghost use Rattle.rk_machine.specs.Owing.{is_followed};
 ghost use Rattle.rk_record.specs.Copies.{told_of, started};
 ghost use Rattle.rk_hall.specs.Seats.{new_seat, part, with_part, after_call, IsCall, CallRefused, negated, runs_on, without_client, IsOutcomeOrNone, OwedPart, OwedSeen};
 
-use crate::fresh::{Fresh, Ledgers};
+use crate::fresh::Fresh;
 use crate::lapse::{CallFault, Lapse, Owed};
 use crate::lock::Lock;
-use crate::locked::{Begun, Locked};
+use crate::locked::Begun;
 use crate::names::Names;
 use crate::seat::Seat;
 use crate::ticket::OneOfFour;
 use crate::token::{Launch, Running};
 use crate::volume::Volume;
-use rk_core::Limits;
 use rk_machine::{Answer, Event, How, Ran};
 use rk_macro::{Op, Subject};
 use rk_names::{Description, Errno, Moment, Payload, Serial, SessionId, TypeName};
-use rk_record::{Hall, HallFault, HallNo, MAX_STEPS, Receipt};
+use rk_record::{HallFault, HallNo, MAX_STEPS, Receipt};
 use std::alloc::{AllocError, Global};
 use std::marker::PhantomData;
 use std::sync::Wait;
@@ -115,15 +112,11 @@ impl<N: Names> Halls<N> {
             two,
             three,
         } = fresh;
-        let zero_hall = empty_hall(alloc, HallNo::Zero, negative, steps)?;
-        let one_hall = empty_hall(alloc, HallNo::One, negative, steps)?;
-        let two_hall = empty_hall(alloc, HallNo::Two, negative, steps)?;
-        let three_hall = empty_hall(alloc, HallNo::Three, negative, steps)?;
         Ok(Halls {
-            zero: Lock::new(Locked::new(zero_hall, zero.calls, zero.out)),
-            one: Lock::new(Locked::new(one_hall, one.calls, one.out)),
-            two: Lock::new(Locked::new(two_hall, two.calls, two.out)),
-            three: Lock::new(Locked::new(three_hall, three.calls, three.out)),
+            zero: Lock::open(alloc, HallNo::Zero, negative, steps, zero)?,
+            one: Lock::open(alloc, HallNo::One, negative, steps, one)?,
+            two: Lock::open(alloc, HallNo::Two, negative, steps, two)?,
+            three: Lock::open(alloc, HallNo::Three, negative, steps, three)?,
         })
     }
 
@@ -416,38 +409,5 @@ impl<N: Names> Halls<N> {
             }),
             Err(fault) => Err(fault),
         }
-    }
-}
-
-/// A hall without a step, which draws every fourth serial.
-fn empty_hall(alloc: Global, no: HallNo, negative: u32, steps: usize) -> Result<Hall, AllocError>
-    requires { (1 ≤ steps) × (steps ≤ 1048576) }
-    ensures no { IfOk result (λ h. h.no ≡ no) }
-    ensures steps { IfOk result (λ h. taken h ≡ 0) }
-    ensures constructions { IfOk result (λ h. constructions h.world ≡ 0) }
-    ensures serials { IfOk result (λ h. h.world ≡ empty_world negative (first_serial no) 4) }
-{
-    let limits = Limits {
-        negative,
-        first: first_serial(no),
-        stride: 4,
-    };
-    let hall = Hall::new(alloc, limits, no, steps)?;
-    Ok(hall)
-}
-
-/// The first serial that a hall draws: its number, and 4 for hall 0.
-fn first_serial(no: HallNo) -> Serial
-    ensures { result ≡ first_serial no }
-{
-    let number = match no {
-        HallNo::Zero => 4,
-        HallNo::One => 1,
-        HallNo::Two => 2,
-        HallNo::Three => 3,
-    };
-    match Serial::new(number) {
-        Some(serial) => serial,
-        None => unreachable!(),
     }
 }

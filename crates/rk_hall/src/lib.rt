@@ -27,8 +27,8 @@
 //! # How it is built
 //!
 //! `names` and `fresh` have the ledgers of a `Halls`. `part` is a seat's part in one hall, `ticket` the right to say what becomes of one construction:
-//! each has a share of a ledger. `locked` is what is under the lock of a hall, with the whole contract of each call, `lock` takes the lock, and
-//! `halls` chooses the hall. `seat` and `token` have what callers hold, `volume` a volume that was handed out, `lapse` why there is no receipt.
+//! each has a share of a ledger. `opening` makes a hall without a step. `locked` is what is under the lock of a hall, with the whole contract of each
+//! call, `lock` takes the lock, and `halls` chooses the hall. `seat` and `token` have what callers hold, `volume` a volume that was handed out, `lapse` why there is no receipt.
 //!
 //! In `specs/`, `Seats` says what a call does to a seat, `Locked` what the lock keeps and what a call does under it, `Tickets` of which hall a ticket is.
 #![tactic(auto)]
@@ -39,6 +39,7 @@ mod lapse;
 mod lock;
 mod locked;
 mod names;
+mod opening;
 mod part;
 mod seat;
 mod ticket;

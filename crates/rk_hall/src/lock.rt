@@ -1,19 +1,21 @@
 //! One hall under its lock.
-ghost use Rattle.std.specs.Prelude.{◌≡◌, ◌≢◌, ◌+◌, ◌<◌, ◌^◌, is_some, IfOk, IfErr, OnErr, Ok, Err, Some, None, IfSome, MatchOption};
+ghost use Rattle.std.specs.Prelude.{◌≡◌, ◌≢◌, ◌+◌, ◌*◌, ◌<◌, ◌≤◌, ◌^◌, is_some, IfOk, IfErr, OnErr, Ok, Err, Some, None, IfSome, MatchOption};
 ghost use Rattle.rk_machine.specs.Owing.{is_followed};
 ghost use Rattle.rk_record.specs.HallNumbers.{hall_number};
 ghost use Rattle.rk_record.specs.Copies.{told_of, started};
 ghost use Rattle.rk_record.specs.declared.hall_no.HallNo.{HallNo};
 ghost use Rattle.rk_hall.specs.Seats.{no_calls, after_call, IsCall, CallRefused, runs_on, without_client, IsOutcomeOrNone, OwedPart};
 
+use crate::fresh::Ledgers;
 use crate::lapse::{CallFault, Lapse, Owed};
 use crate::locked::{Begun, Locked};
 use crate::names::Names;
+use crate::opening::empty_hall;
 use crate::part::Part;
 use crate::ticket::Ticket;
 use rk_machine::{Answer, Event, How, Ran};
 use rk_names::{Description, Errno, Moment, Payload, Serial, SessionId, TypeName};
-use rk_record::{HallFault, Receipt, Volume};
+use rk_record::{HallFault, HallNo, Receipt, Volume};
 use std::alloc::{AllocError, Global};
 use std::sync::{Condvar, Mutex, Wait};
 
@@ -25,11 +27,24 @@ pub(crate) struct Lock<N: Names, const H: u64> {
 }
 
 impl<N: Names, const H: u64> Lock<N, H> {
-    pub(crate) fn new(locked: Locked<N, H>) -> Lock<N, H> {
-        Lock {
+    /// A hall of this number without a step, under these ledgers.
+    pub(crate) fn open(
+        alloc: Global,
+        no: HallNo,
+        negative: u32,
+        steps: usize,
+        ledgers: Ledgers,
+    ) -> Result<Lock<N, H>, AllocError>
+        requires steps { (1 ≤ steps) × (steps ≤ 1048576) }
+        requires number { hall_number no ≡ H }
+        requires names { (ledgers.calls.name ≡ N.name (2 * H)) × (ledgers.out.name ≡ N.name (2 * H + 1)) }
+    {
+        let hall = empty_hall(alloc, no, negative, steps)?;
+        let locked = Locked::new(hall, ledgers.calls, ledgers.out);
+        Ok(Lock {
             locked: Mutex::new(locked),
             moved: Condvar::new(),
-        }
+        })
     }
 
     pub(crate) fn seat<R: Wait>(&self, rt: &R) -> Option<Part<N, H>>
