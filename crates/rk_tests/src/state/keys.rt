@@ -377,9 +377,9 @@ fn key_of(
     bytes: usize,
 ) -> Result<(Keys, Serial), KeyFault> {
     let mut keys = Keys::new(alloc, serial(1), 1)?;
-    let name = letters(alloc, typ, description).map_err(|_| KeyFault::NoMemory)?;
     let content = sevens(alloc, bytes).map_err(|_| KeyFault::NoMemory)?;
-    let key = keys.make(name.0, name.1, 0, Some(content))?;
+    let (typ, description) = letters(alloc, typ, description).map_err(|_| KeyFault::NoMemory)?;
+    let key = keys.make(typ, description, 0, Some(content))?;
     Ok((keys, key))
 }
 
