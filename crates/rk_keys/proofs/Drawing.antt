@@ -19,8 +19,10 @@ is_below : (first stride n m : ℕ) → m < n → contains (first_of_form first 
 is_below first stride zero m h = absurd (omega arith)
 is_below first stride (suc n) m h =
     contains-insert nat_cmp_total (first_of_form first stride n) (first + stride * n) (first + stride * m)
-    ∙ elim (nat_eq n m) as (λ b. nat_eq n m ≡ b → (eq_by_cmp nat_cmp (first + stride * m) (first + stride * n) || contains (first_of_form first stride n) (first + stride * m)) ≡ true) [
-      | true ↦ λ e. ap (λ b. b || contains (first_of_form first stride n) (first + stride * m)) (tie (first + stride * m) (first + stride * n) ∙ eq-eqb _ _ (ap (λ x. first + stride * x) (eqb-true n m e)))
+    ∙ elim (nat_eq n m) as (λ b. nat_eq n m ≡ b →
+    (eq_by_cmp nat_cmp (first + stride * m) (first + stride * n) || contains (first_of_form first stride n) (first + stride * m)) ≡ true) [
+      | true ↦ λ e. ap (λ b. b || contains (first_of_form first stride n) (first + stride * m)) (tie (first + stride * m) (first + stride * n) ∙
+          eq-eqb _ _ (ap (λ x. first + stride * x) (eqb-true n m e)))
       | false ↦ λ e.
           let apart : n ≡ m → ⊥ = λ same. both_ways _ e (eq-eqb n m same) in
           ap (λ b. eq_by_cmp nat_cmp (first + stride * m) (first + stride * n) || b) (is_below first stride n m (omega arith)) ∙ or-true _
@@ -29,7 +31,14 @@ is_below first stride (suc n) m h =
 -- ---- how many are left
 
 less_by : (s a b : ℕ) → s * a < s * b → a < b
-less_by s a b h = elim (ltb a b) as (λ t. ltb a b ≡ t → a < b) [ true ↦ λ e. ltb-true a b e | false ↦ λ e. absurd (omega (arith, h, mul-le-mul_left s (ltb-false a b e))) ] refl
+less_by s a b h = elim (ltb a b) as (λ t. ltb a b ≡ t → a < b) [
+  | true ↦ λ e. ltb-true a b e
+  | false ↦ λ e. absurd (omega (
+    arith,
+    h,
+    mul-le-mul_left s (ltb-false a b e),
+  ))
+] refl
 
 -- where what may be drawn from low on has an index of at least c, n + 1 of them reach first + stride * (c + n)
 upper : (d : Drawn) (n c low : ℕ) → ((i : ℕ) → low ≤ d.first + d.stride * i → contains d.used (d.first + d.stride * i) ≡ false → c ≤ i)
@@ -42,11 +51,13 @@ upper d (suc n) c low least h =
     let k : IsDrawable d h.0 = h.2 in
     let le : c ≤ k.index = least k.index (subst (λ j. low ≤ j) k.form h.1) (sym (ap (contains d.used) k.form) ∙ k.unused) in
     let rest : d.first + d.stride * (suc c + n) < 2 ^ 31 =
-    upper d n (suc c) (h.0 + 1) (λ i above unused. let less : k.index < i = less_by d.stride k.index i (omega (arith, above, k.form)) in omega (arith, le, less)) h.3 in
+    upper d n (suc c) (h.0 + 1) (λ i above unused. let less : k.index < i = less_by d.stride k.index i (omega (arith, above, k.form)) in
+    omega (arith, le, less)) h.3 in
     omega (arith, rest)
 
 -- the next n + 1 serials from index c on
-lower : (first stride count n c low : ℕ) → 0 < stride → count ≤ c → low ≤ first + stride * c → first + stride * (c + n) < 2 ^ 31 → HasFrom (drawn_in_order first stride count) low (suc n)
+lower : (first stride count n c low : ℕ) → 0 < stride → count ≤ c → low ≤ first + stride * c → first + stride * (c + n) < 2 ^ 31 →
+    HasFrom (drawn_in_order first stride count) low (suc n)
 lower first stride count zero c low pos later from small =
     (first + stride * c, from, record { index = c; form = refl; small = omega arith; unused = not_below first stride count c pos later }, tt)
 lower first stride count (suc n) c low pos later from small =
@@ -86,9 +97,11 @@ serial_of-positive n pos =
 
 -- the serial at the count is the next, and where there is none no serial is left
 abbrev pub IsNextOrNone : ℕ → ℕ → ℕ → Option ℕ → Type 0
-IsNextOrNone first stride count o = MatchOption o (¬ (HasSerials (drawn_in_order first stride count) 1)) (λ k. IsNext (drawn_in_order first stride count) k × (k ≡ first + stride * count) × (count + 1 < 2 ^ 31))
+IsNextOrNone first stride count o = MatchOption o (¬ (HasSerials (drawn_in_order first stride count) 1)) (λ k. IsNext (drawn_in_order first stride count) k ×
+    (k ≡ first + stride * count) × (count + 1 < 2 ^ 31))
 
-next_by_number : (first stride count : ℕ) (o : Option ℕ) → 1 ≤ first → 1 ≤ stride → MatchOption o (2 ^ 31 ≤ first + stride * count) (λ k. (k ≡ first + stride * count) × (first + stride * count < 2 ^ 31))
+next_by_number : (first stride count : ℕ) (o : Option ℕ) → 1 ≤ first → 1 ≤ stride →
+    MatchOption o (2 ^ 31 ≤ first + stride * count) (λ k. (k ≡ first + stride * count) × (first + stride * count < 2 ^ 31))
     → IsNextOrNone first stride count o
 next_by_number first stride count None f s h = λ has. omega (arith, reaches first stride count 0 has, h)
 next_by_number first stride count (Some k) f s h = (
@@ -107,10 +120,13 @@ next_by_number first stride count (Some k) f s h = (
   omega (arith, mul-le-mul_left count s, h.1, f),
 )
 
-pub next_in_order : (first stride count : ℕ) (o : Option ℕ) → 1 ≤ first → 1 ≤ stride → o ≡ serial_of (first + stride * count) → IsNextOrNone first stride count o
-next_in_order first stride count o f s e = subst (IsNextOrNone first stride count) (sym e) (next_by_number first stride count _ f s (serial_of-positive (first + stride * count) (omega (arith, f))))
+pub next_in_order : (first stride count : ℕ) (o : Option ℕ) → 1 ≤ first → 1 ≤ stride → o ≡ serial_of (first + stride * count) →
+    IsNextOrNone first stride count o
+next_in_order first stride count o f s e = subst (IsNextOrNone first stride count) (sym e)
+    (next_by_number first stride count _ f s (serial_of-positive (first + stride * count) (omega (arith, f))))
 
-left_by_number : (first stride count n i : ℕ) (o : Option ℕ) → 1 ≤ stride → i ≡ min (count + n) (2 ^ 32 - 1) → MatchOption o (2 ^ 31 ≤ first + stride * i) (λ k. (k ≡ first + stride * i) × (first + stride * i < 2 ^ 31))
+left_by_number : (first stride count n i : ℕ) (o : Option ℕ) → 1 ≤ stride → i ≡ min (count + n) (2 ^ 32 - 1) →
+    MatchOption o (2 ^ 31 ≤ first + stride * i) (λ k. (k ≡ first + stride * i) × (first + stride * i < 2 ^ 31))
     → Says (is_some o) (HasSerials (drawn_in_order first stride count) (suc n))
 left_by_number first stride count n i None s is h = λ has.
     let le : i ≤ count + n = omega (arith, is) in
@@ -120,7 +136,8 @@ left_by_number first stride count n i (Some k) s is h =
     enough first stride count n s (subst (λ j. first + stride * j < 2 ^ 31) whole h.1)
 
 -- the next one is drawn
-pub drawn_next : (first stride count k : ℕ) → k ≡ first + stride * count → drawn_in_order first stride (count + 1) ≡ with_drawn k (drawn_in_order first stride count)
+pub drawn_next : (first stride count k : ℕ) → k ≡ first + stride * count →
+    drawn_in_order first stride (count + 1) ≡ with_drawn k (drawn_in_order first stride count)
 drawn_next first stride count k e = rw (e, add-one)
 
 -- so many are left exactly where the last of them is a serial

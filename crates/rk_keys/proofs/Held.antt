@@ -45,7 +45,8 @@ KeepsName f = (a : Key) → ((f a).typ ≡ a.typ) × ((f a).description ≡ a.de
 named_by : (f : Key → Key) (b : Bool) (o : Option Key) (x : Key) → KeepsName f → cond b (option_map f o) o ≡ Some x
     → (a : Key) × (o ≡ Some a) × (a.typ ≡ x.typ) × (a.description ≡ x.description)
 named_by f true None x keeps is = absurd (none-some x is)
-named_by f true (Some a) x keeps is = let e : f a ≡ x = same_Some (f a) x is in (a, refl, sym (keeps a).0 ∙ ap (λ (y : Key). y.typ) e, sym (keeps a).1 ∙ ap (λ (y : Key). y.description) e)
+named_by f true (Some a) x keeps is = let e : f a ≡ x = same_Some (f a) x is in
+    (a, refl, sym (keeps a).0 ∙ ap (λ (y : Key). y.typ) e, sym (keeps a).1 ∙ ap (λ (y : Key). y.description) e)
 named_by f false None x keeps is = absurd (none-some x is)
 named_by f false (Some a) x keeps is = let e : a ≡ x = same_Some a x is in (a, refl, ap (λ (y : Key). y.typ) e, ap (λ (y : Key). y.description) e)
 
@@ -75,7 +76,8 @@ held_without known k held = record {
       | inr ne ↦ ap is_some (left_in known.numbers k q ne) ∙ held.naming.each q ∙ sym (ap is_some (left_in known.keys k q ne))
     ];
     shared = λ i j a b m n ia jb im jn.
-        held.naming.shared i j a b m n (kept_from known.keys k i a ia) (kept_from known.keys k j b jb) (kept_from known.numbers k i m im) (kept_from known.numbers k j n jn);
+        held.naming.shared i j a b m n (kept_from known.keys k i a ia) (kept_from known.keys k j b jb) (kept_from known.numbers k i m im)
+        (kept_from known.numbers k j n jn);
   };
   drawn = λ q e. elim (cases_eq q k) [ inl is ↦ taken_out known.keys k q is | inr ne ↦ left_in known.keys k q ne ∙ held.drawn q e ];
   numbered = λ q n is. held.numbered q n (kept_from known.numbers k q n is);
@@ -110,7 +112,8 @@ shares keys numbers k key n naming new i j a b x y ia jb ix jy = elim (cases_eq 
 ]
 
 -- a key is made, under a number for it that is drawn
-pub held_made : (known : Known) (k : ℕ) (key : Key) (n : ℕ) → SharesNumber known.keys known.numbers key n → set.contains (set.insert known.serials.used k) n ≡ true → IsHeld known
+pub held_made : (known : Known) (k : ℕ) (key : Key) (n : ℕ) → SharesNumber known.keys known.numbers key n →
+    set.contains (set.insert known.serials.used k) n ≡ true → IsHeld known
     → IsHeld (record { keys = map.insert known.keys k key; numbers = map.insert known.numbers k n; serials = with_drawn k known.serials })
 held_made known k key n new used held = record {
   naming = record {

@@ -31,7 +31,8 @@ pub have_one_name-refl : (a : Key) → have_one_name a a ≡ true
 have_one_name-refl a = and_from _ _ ((bytes_eq-Decides a.typ a.typ).1 refl) ((bytes_eq-Decides a.description a.description).1 refl)
 
 -- keys with the bytes of another have its name
-pub have_one_name-same : (a b c d : Key) → a.typ ≡ c.typ → a.description ≡ c.description → b.typ ≡ d.typ → b.description ≡ d.description → have_one_name a b ≡ have_one_name c d
+pub have_one_name-same : (a b c d : Key) → a.typ ≡ c.typ → a.description ≡ c.description → b.typ ≡ d.typ → b.description ≡ d.description →
+    have_one_name a b ≡ have_one_name c d
 have_one_name-same a b c d at ad bt bd =
     ap (λ t. bytes_eq t b.typ && bytes_eq a.description b.description) at
     ∙ ap (λ t. bytes_eq c.typ b.typ && bytes_eq t b.description) ad
@@ -50,7 +51,8 @@ number_of_name keys numbers key k n naming named is = record {
       let found = passing (is_named key.typ key.description) (map.get keys k) named in
       let same = and_parts (bytes_eq found.0.typ key.typ) (bytes_eq found.0.description key.description) found.2 in
       naming.shared k q found.0 b n m found.1 gb is gm
-      ∙ have_one_name-same found.0 b key b ((bytes_eq-Decides found.0.typ key.typ).0 same.0) ((bytes_eq-Decides found.0.description key.description).0 same.1) refl refl;
+      ∙ have_one_name-same found.0 b key b ((bytes_eq-Decides found.0.typ key.typ).0 same.0) ((bytes_eq-Decides found.0.description key.description).0 same.1)
+      refl refl;
 }
 
 -- a serial that was never drawn, where no live key has the name

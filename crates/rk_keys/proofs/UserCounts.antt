@@ -35,8 +35,10 @@ keys_of-changed keys k f keeps uid = by_key (map.get keys k) refl where
 
 -- ---- what the counts tell
 
-pub few : (keys : map.FinMap nat_cmp Key) (counts : map.FinMap nat_cmp ℕ) (uid : ℕ) → AreCounts keys counts → has_all_keys keys uid ≡ false → count_at counts uid < 200
-few keys counts uid is not_all = let same = is.each uid in let below : keys_of keys uid < 200 = leb-false 200 (keys_of keys uid) not_all in omega (arith, same, below)
+pub few : (keys : map.FinMap nat_cmp Key) (counts : map.FinMap nat_cmp ℕ) (uid : ℕ) → AreCounts keys counts → has_all_keys keys uid ≡ false →
+    count_at counts uid < 200
+few keys counts uid is not_all = let same = is.each uid in let below : keys_of keys uid < 200 = leb-false 200 (keys_of keys uid) not_all in
+    omega (arith, same, below)
 
 -- ---- the counts hold through each change
 
@@ -55,10 +57,12 @@ counts_without keys old new k key counts is less = record {
   each = λ uid. less uid ∙ ap (λ n. cond (nat_eq key.owner uid) (n - 1) n) (counts.each uid) ∙ sym (kept_len-remove (owned_by uid) keys k key is);
 }
 
-pub counts_without_none : (keys : map.FinMap nat_cmp Key) (counts : map.FinMap nat_cmp ℕ) (k : ℕ) → AreCounts keys counts → map.get keys k ≡ None → AreCounts (map.remove keys k) counts
+pub counts_without_none : (keys : map.FinMap nat_cmp Key) (counts : map.FinMap nat_cmp ℕ) (k : ℕ) → AreCounts keys counts → map.get keys k ≡ None →
+    AreCounts (map.remove keys k) counts
 counts_without_none keys counts k is none = record { each = λ uid. is.each uid ∙ sym (kept_len-remove_none (owned_by uid) keys k none) }
 
-pub counts_changed : (keys : map.FinMap nat_cmp Key) (counts : map.FinMap nat_cmp ℕ) (k : ℕ) (f : Key → Key) → KeepsOwner f → AreCounts keys counts → AreCounts (changed_at k f keys) counts
+pub counts_changed : (keys : map.FinMap nat_cmp Key) (counts : map.FinMap nat_cmp ℕ) (k : ℕ) (f : Key → Key) → KeepsOwner f → AreCounts keys counts →
+    AreCounts (changed_at k f keys) counts
 counts_changed keys counts k f keeps is = record { each = λ uid. is.each uid ∙ sym (keys_of-changed keys k f keeps uid) }
 
 -- ---- the changes keep a key's owner

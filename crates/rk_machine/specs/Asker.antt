@@ -1,5 +1,25 @@
 -- Who acts, and what rings and keys its asks name.
-use Rattle.std.specs.Prelude.{ℕ, ◌+◌, ℤ, pos, negsuc, Bool, false, not, ◌||◌, ◌==◌, is_none, [], ◌∷◌, Option, Some, None, option_map, option_and_then, if◌then◌else◌}
+use Rattle.std.specs.Prelude.{
+  ℕ,
+  ◌+◌,
+  ℤ,
+  pos,
+  negsuc,
+  Bool,
+  false,
+  not,
+  ◌||◌,
+  ◌==◌,
+  is_none,
+  [],
+  ◌∷◌,
+  Option,
+  Some,
+  None,
+  option_map,
+  option_and_then,
+  if◌then◌else◌,
+}
 use Rattle.std.specs.Option.{option_map_or}
 use Rattle.std.specs.List.{list_any}
 use Rattle.std.specs.FinMap as map

@@ -1,6 +1,30 @@
 -- The laws of a list of steps, newest first, by looking back in it alone: `before` is what came before a step. request_key(2), request-key(8),
 -- keyctl_assume_authority(3), keyctl_instantiate(3)
-use Rattle.std.specs.Prelude.{◌≡◌, ◌⊎◌, ◌≤◌, ℕ, ◌+◌, ℤ, pos, negsuc, Bool, true, false, not, ◌&&◌, ◌||◌, ◌==◌, List, [], ◌∷◌, Option, Some, None, option_map, if◌then◌else◌}
+use Rattle.std.specs.Prelude.{
+  ◌≡◌,
+  ◌⊎◌,
+  ◌≤◌,
+  ℕ,
+  ◌+◌,
+  ℤ,
+  pos,
+  negsuc,
+  Bool,
+  true,
+  false,
+  not,
+  ◌&&◌,
+  ◌||◌,
+  ◌==◌,
+  List,
+  [],
+  ◌∷◌,
+  Option,
+  Some,
+  None,
+  option_map,
+  if◌then◌else◌,
+}
 use Rattle.std.specs.Option.{option_map_or}
 use Rattle.std.specs.List.{list_any}
 use Rattle.rk_names.specs.declared.numbers.SessionId.{SessionId}

@@ -23,7 +23,8 @@ module _ {X : Type 0} where
   -- what a search by a test of values finds
   pub by_test : (p : X → Bool) (m : FinMap nat_cmp X) (o : Option ℕ) → FindsEntry (λ k v. p v) m o
       → MatchOption o ((k : ℕ) (v : X) → get m k ≡ Some v → p v ≡ false) (λ k. option_map_or p (get m k) false ≡ true)
-  by_test p m None h = λ k v there. elim (p v) as (λ b. p v ≡ b → b ≡ false) [ true ↦ λ e. absurd (no_entry (λ (e : ℕ × X). p e.1) m k v h there e) | false ↦ λ e. refl ] refl
+  by_test p m None h = λ k v there. elim (p v) as (λ b. p v ≡ b →
+      b ≡ false) [ true ↦ λ e. absurd (no_entry (λ (e : ℕ × X). p e.1) m k v h there e) | false ↦ λ e. refl ] refl
   by_test p m (Some k) h = h.0
 
 -- at most 1,024 rings, at serials, each of which has each name once

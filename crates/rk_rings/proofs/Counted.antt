@@ -1,11 +1,57 @@
 -- How often each key is linked, through each change of the rings.
-use Rattle.std.proofs.Common.{◌≡◌, ◌∙◌, ap, sym, subst, refl, ℕ, zero, suc, ◌+◌, ◌-◌, ◌*◌, ◌<◌, ◌≤◌, Bool, true, false, cond, not, ◌&&◌, ◌||◌, ltb, List, [], ◌∷◌, length, arith}
+use Rattle.std.proofs.Common.{
+  ◌≡◌,
+  ◌∙◌,
+  ap,
+  sym,
+  subst,
+  refl,
+  ℕ,
+  zero,
+  suc,
+  ◌+◌,
+  ◌-◌,
+  ◌*◌,
+  ◌<◌,
+  ◌≤◌,
+  Bool,
+  true,
+  false,
+  cond,
+  not,
+  ◌&&◌,
+  ◌||◌,
+  ltb,
+  List,
+  [],
+  ◌∷◌,
+  length,
+  arith,
+}
 use Rattle.std.specs.Prelude.{Option, Some, None, is_some, nat_eq, unwrap_or}
 use Rattle.std.specs.Option.{option_map, option_map_or}
 use Rattle.std.specs.List.{list_any, AllByRecursion}
 use Rattle.std.specs.Ordering.{nat_cmp, eq_by_cmp}
 use Rattle.std.specs.Cmp.{nat_cmp_total}
-use Rattle.std.specs.FinMap.{FinMap, get, insert, remove, empty, len, entries, contains_key, find, same_map, get-empty, get-entries, len-insert, len-remove, len-empty, len-entries, nat_cmp-IsAntisymmetric}
+use Rattle.std.specs.FinMap.{
+  FinMap,
+  get,
+  insert,
+  remove,
+  empty,
+  len,
+  entries,
+  contains_key,
+  find,
+  same_map,
+  get-empty,
+  get-entries,
+  len-insert,
+  len-remove,
+  len-empty,
+  len-entries,
+  nat_cmp-IsAntisymmetric,
+}
 use Rattle.std.proofs.lemmas.Bool.{both_ways, eqb-true, eq-eqb, lt-ltb}
 use Rattle.std.proofs.lemmas.Option.{none-some, same_Some}
 use Rattle.rk_table.specs.Maps.{changed_at, kept_where}
@@ -17,7 +63,23 @@ use Rattle.rk_table.proofs.KeptCounts.{was_there, kept_len-empty, kept_len-inser
 use Rattle.rk_table.proofs.CountsAt.{positive_empty}
 use Rattle.rk_table.proofs.Once.{HasEachOnce}
 use Rattle.rk_rings.specs.declared.kind.NewRing.{NewRing}
-use Rattle.rk_rings.specs.Numbered.{Numbered, Rings, holds, is_held, is_full, is_full_at, links_with, linked, linked_in_room, unlinked, cleared, new_ring, with_rings, AreNew, IsMatch}
+use Rattle.rk_rings.specs.Numbered.{
+  Numbered,
+  Rings,
+  holds,
+  is_held,
+  is_full,
+  is_full_at,
+  links_with,
+  linked,
+  linked_in_room,
+  unlinked,
+  cleared,
+  new_ring,
+  with_rings,
+  AreNew,
+  IsMatch,
+}
 use Rattle.rk_rings.specs.Counted.{links_of, AreCounted}
 use Rattle.rk_rings.proofs.Finds.{tied, tied_itself, entries_once, some_entry, entry_found, any_value}
 use Rattle.rk_rings.proofs.Counts.{IsWithin, some_key, has_some, contains_key-remove, no_more}
@@ -43,7 +105,8 @@ moved : (a t u : Bool) → (not t && (a && not (not t && u))) ≡ true → (a &&
 moved true false true e = absurd (cc)
 moved true false false e = refl
 moved true true u e = absurd (cc)
-moved false t u e = absurd (elim t as (λ t. (not t && false) ≡ true → ⊥) [ true ↦ λ e. (let h : false ≡ true = e in cc) | false ↦ λ e. (let h : false ≡ true = e in cc) ] e)
+moved false t u e = absurd (elim t as (λ t. (not t && false) ≡ true →
+    ⊥) [ true ↦ λ e. (let h : false ≡ true = e in cc) | false ↦ λ e. (let h : false ≡ true = e in cc) ] e)
 
 module _ {X : Type 0} where
   -- the entries whose keys another map has not
@@ -59,7 +122,8 @@ module _ {X : Type 0} where
   in_minus c b q = ap is_some (get_kept_where (λ k _. not (contains_key b k)) c q) ∙ some_of (not (contains_key b q)) (get c q)
 
   no_less : (m : FinMap nat_cmp X) (x : ℕ) → len m ≤ len (remove m x) + 1
-  no_less m x = elim (contains_key m x) as (λ b. len (remove m x) ≡ cond b (len m - 1) (len m) → len m ≤ len (remove m x) + 1) [ true ↦ λ e. omega (arith, e) | false ↦ λ e. omega (arith, e) ] (len-remove nat_cmp_total m x)
+  no_less m x = elim (contains_key m x) as (λ b. len (remove m x) ≡ cond b (len m - 1) (len m) →
+      len m ≤ len (remove m x) + 1) [ true ↦ λ e. omega (arith, e) | false ↦ λ e. omega (arith, e) ] (len-remove nat_cmp_total m x)
 
   left_by : {Y : Type 0} (n : ℕ) (c : FinMap nat_cmp X) (b : FinMap nat_cmp Y) → len b ≡ n → len c ≤ len (minus c b) + n
   left_by {Y} zero c b e =
@@ -104,7 +168,8 @@ fits [] c few h = none (len c) refl
 fits (e ∷ es) c few h =
     let rest : len (minus c e.1.links) ≤ 256 * length es = fits es (minus c e.1.links) few.1 (λ q is.
     let parts = both (contains_key c q) (not (contains_key e.1.links q)) (sym (in_minus c e.1.links q) ∙ is) in
-    elim (contains_key e.1.links q) as (λ b. not b ≡ true → (b || list_any (λ e. contains_key e.1.links q) es) ≡ true → list_any (λ e. contains_key e.1.links q) es ≡ true) [
+    elim (contains_key e.1.links q) as (λ b. not b ≡ true → (b || list_any (λ e. contains_key e.1.links q) es) ≡ true →
+    list_any (λ e. contains_key e.1.links q) es ≡ true) [
       | true ↦ λ no _. absurd (cc)
       | false ↦ λ _ h. h
     ] parts.1 (h q parts.0)) in
@@ -139,7 +204,8 @@ held_by_count m k = by_held (is_held m k) refl
     some : is_held m k ≡ true → 0 < links_of m k
     some h =
         let at = entry_found (λ e. contains_key e.1.links k) m (sym (any_value (λ r. contains_key r.links k) m) ∙ h) in
-        has_some (kept_where (has k) m) at.0 (ap is_some (get_kept_where (has k) m at.0) ∙ ap (λ (o : Option Numbered). is_some (cond (option_map_or (has k at.0) o false) o None)) at.2
+        has_some (kept_where (has k) m) at.0 (ap is_some (get_kept_where (has k) m at.0) ∙
+        ap (λ (o : Option Numbered). is_some (cond (option_map_or (has k at.0) o false) o None)) at.2
         ∙ ap (λ b. is_some (cond b (Some at.1) None)) at.3)
 
     counted : (n : ℕ) → links_of m k ≡ n → is_held m k ≡ false → ltb 0 n ≡ false
@@ -167,7 +233,8 @@ pub room_for : (m : Rings) (c : Stored ℕ) (k n : ℕ) → ((ring : ℕ) (r : N
     → ((q : ℕ) → links_of m q ≡ count_at c.facts q + bit (nat_eq k q)) → len m ≡ n → 256 * n ≤ places c → count_at c.facts k ≡ 0 → 0 < c.room
 room_for m c k n few all each is room none =
     let new : FinMap nat_cmp ℕ = insert c.facts k 1 in
-    let one_more : len new ≡ len c.facts + 1 = len-insert nat_cmp_total c.facts k 1 ∙ ap (λ o. cond (is_some o) (len c.facts) (len c.facts + 1)) (not_counted c.facts k all none) in
+    let one_more : len new ≡ len c.facts + 1 = len-insert nat_cmp_total c.facts k 1 ∙
+    ap (λ o. cond (is_some o) (len c.facts) (len c.facts + 1)) (not_counted c.facts k all none) in
     let fit : len new ≤ 256 * len m = counted_fit m new few (λ q there. elim (nat_eq k q) as (λ b. nat_eq k q ≡ b → 0 < links_of m q) [
       | true ↦ λ same. let e : links_of m q ≡ count_at c.facts q + 1 = each q ∙ ap (λ b. count_at c.facts q + bit b) same in omega (arith, e)
       | false ↦ λ other.
@@ -220,13 +287,15 @@ few_put : (k n : ℕ) (r : Numbered) → contains_key r.links k ≡ false → is
 few_put k n r lacks room most =
     let kept : FinMap nat_cmp ℕ = kept_where (λ j x. not (nat_eq x n)) r.links in
     let put : len (links_with k n r.links) ≡ len kept + 1 =
-    ap len (links_put r.links k n lacks) ∙ len-insert nat_cmp_total kept k n ∙ ap (λ o. cond (is_some o) (len kept) (len kept + 1)) (still_new (λ j x. not (nat_eq x n)) r.links k lacks) in
+    ap len (links_put r.links k n lacks) ∙ len-insert nat_cmp_total kept k n ∙
+    ap (λ o. cond (is_some o) (len kept) (len kept + 1)) (still_new (λ j x. not (nat_eq x n)) r.links k lacks) in
     let le : len kept ≤ len r.links = no_more kept r.links (kept_within (λ j x. not (nat_eq x n)) r.links) in
     let sum : len kept + (256 - len kept) ≡ 256 = omega (arith, le, most) in
     omega (arith, put, room_left r n (len kept) (256 - len kept) room most refl sum)
 
 -- of the others the one that has the name is gone
-by_rival : (n : ℕ) (o : Option ℕ) (b : Bool) → (b ≡ true → o ≡ Some n) → (b ≡ false → o ≡ Some n → ⊥) → bit (is_some o) ≡ bit (is_some (cond (option_map_or (λ x. not (nat_eq x n)) o false) o None)) + bit b
+by_rival : (n : ℕ) (o : Option ℕ) (b : Bool) → (b ≡ true → o ≡ Some n) → (b ≡ false → o ≡ Some n → ⊥) →
+    bit (is_some o) ≡ bit (is_some (cond (option_map_or (λ x. not (nat_eq x n)) o false) o None)) + bit b
 by_rival n None true if_so if_not = absurd (none-some n (if_so refl))
 by_rival n None false if_so if_not = refl
 by_rival n (Some x) b if_so if_not = elim (nat_eq x n) as (λ t. nat_eq x n ≡ t → 1 ≡ bit (is_some (cond (not t) (Some x) None)) + bit b) [
@@ -245,13 +314,15 @@ by_rival n (Some x) b if_so if_not = elim (nat_eq x n) as (λ t. nat_eq x n ≡ 
 abbrev is_rival : Option ℕ → ℕ → Bool
 is_rival o q = option_map_or (λ j. nat_eq j q) o false
 
-rival_there : (m : Rings) (ring n : ℕ) (r : Numbered) (o : Option ℕ) (q : ℕ) → get m ring ≡ Some r → IsMatch m n (Some ring) o → is_rival o q ≡ true → get r.links q ≡ Some n
+rival_there : (m : Rings) (ring n : ℕ) (r : Numbered) (o : Option ℕ) (q : ℕ) → get m ring ≡ Some r → IsMatch m n (Some ring) o → is_rival o q ≡ true →
+    get r.links q ≡ Some n
 rival_there m ring n r None q is h e = absurd (cc)
 rival_there m ring n r (Some j) q is h e =
     let same : h.0 ≡ r = same_Some h.0 r (sym h.1 ∙ is) in
     ap (get r.links) (sym (eqb-true j q e)) ∙ ap (λ (x : Numbered). get x.links j) (sym same) ∙ h.2
 
-no_rival : (m : Rings) (ring n : ℕ) (r : Numbered) (o : Option ℕ) (q : ℕ) → get m ring ≡ Some r → IsMatch m n (Some ring) o → is_rival o q ≡ false → get r.links q ≡ Some n → ⊥
+no_rival : (m : Rings) (ring n : ℕ) (r : Numbered) (o : Option ℕ) (q : ℕ) → get m ring ≡ Some r → IsMatch m n (Some ring) o → is_rival o q ≡ false →
+    get r.links q ≡ Some n → ⊥
 no_rival m ring n r None q is h e there = h r is q there
 no_rival m ring n r (Some j) q is h e there =
     let same : h.0 ≡ r = same_Some h.0 r (sym h.1 ∙ is) in
@@ -263,12 +334,14 @@ pub links_linked : (m : Rings) (ring k n : ℕ) (r : Numbered) (o : Option ℕ) 
 links_linked m ring k n r o is lacks room match q =
     let kept : FinMap nat_cmp ℕ = kept_where (λ j x. not (nat_eq x n)) r.links in
     let after : contains_key (linked_in_room k n r).links q ≡ is_some (cond (nat_eq k q) (Some n) (get kept q)) =
-    ap (λ (x : Numbered). contains_key x.links q) (in_room k n r lacks room) ∙ ap (λ ls. contains_key ls q) (links_put r.links k n lacks) ∙ ap is_some (get_inserted kept k n q) in
+    ap (λ (x : Numbered). contains_key x.links q) (in_room k n r lacks room) ∙ ap (λ ls. contains_key ls q) (links_put r.links k n lacks) ∙
+    ap is_some (get_inserted kept k n q) in
     let law = links_changed m ring (linked_in_room k n) r q is ∙ ap (λ b. links_of m q + bit b) after in
     by_key (nat_eq k q) refl law
   where
     by_key : (b : Bool) → nat_eq k q ≡ b
-        → links_of (changed_at ring (linked_in_room k n) m) q + bit (contains_key r.links q) ≡ links_of m q + bit (is_some (cond b (Some n) (get (kept_where (λ j x. not (nat_eq x n)) r.links) q)))
+        → links_of (changed_at ring (linked_in_room k n) m) q + bit (contains_key r.links q) ≡ links_of m q + bit
+        (is_some (cond b (Some n) (get (kept_where (λ j x. not (nat_eq x n)) r.links) q)))
         → links_of (changed_at ring (linked_in_room k n) m) q ≡ (links_of m q - bit (is_rival o q)) + bit b
     by_key true same law =
         let before : contains_key r.links q ≡ false = ap (contains_key r.links) (sym (eqb-true k q same)) ∙ lacks in
@@ -283,13 +356,15 @@ links_linked m ring k n r o is lacks room match q =
         omega (arith, law, left, bits)
 
 pub few_linked : (m : Rings) (ring k n : ℕ) (r : Numbered) → get m ring ≡ Some r → contains_key r.links k ≡ false → is_full (Some n) r ≡ false
-    → ((q : ℕ) (r : Numbered) → get m q ≡ Some r → len r.links ≤ 256) → (q : ℕ) (r : Numbered) → get (changed_at ring (linked_in_room k n) m) q ≡ Some r → len r.links ≤ 256
+    → ((q : ℕ) (r : Numbered) → get m q ≡ Some r → len r.links ≤ 256) → (q : ℕ) (r : Numbered) → get (changed_at ring (linked_in_room k n) m) q ≡ Some r →
+    len r.links ≤ 256
 few_linked m ring k n r is lacks room few =
     few_changed m ring (linked_in_room k n)
     (λ x there most.
     let same : r ≡ x = same_Some r x (sym is ∙ there) in
     subst (λ (y : Numbered). len (linked_in_room k n y).links ≤ 256) same
-    (subst (λ (y : Numbered). len y.links ≤ 256) (sym (in_room k n r lacks room)) (few_put k n r lacks room (subst (λ (y : Numbered). len y.links ≤ 256) (sym same) most))))
+    (subst (λ (y : Numbered). len y.links ≤ 256) (sym (in_room k n r lacks room))
+    (few_put k n r lacks room (subst (λ (y : Numbered). len y.links ≤ 256) (sym same) most))))
     few
 
 -- ---- a link taken out
@@ -297,10 +372,12 @@ few_linked m ring k n r is lacks room few =
 pub links_unlinked : (m : Rings) (ring k : ℕ) (r : Numbered) → get m ring ≡ Some r → contains_key r.links k ≡ true → (q : ℕ)
     → links_of (changed_at ring (unlinked k) m) q ≡ cond (nat_eq k q) (links_of m q - 1) (links_of m q)
 links_unlinked m ring k r is has q =
-    let law = links_changed m ring (unlinked k) r q is ∙ ap (λ b. links_of m q + bit b) (contains_key-remove r.links k q ∙ ap (λ b. not b && contains_key r.links q) (tie q k)) in
+    let law = links_changed m ring (unlinked k) r q is ∙ ap (λ b. links_of m q + bit b) (contains_key-remove r.links k q ∙
+    ap (λ b. not b && contains_key r.links q) (tie q k)) in
     by_key (nat_eq k q) refl law
   where
-    by_key : (b : Bool) → nat_eq k q ≡ b → links_of (changed_at ring (unlinked k) m) q + bit (contains_key r.links q) ≡ links_of m q + bit (not b && contains_key r.links q)
+    by_key : (b : Bool) → nat_eq k q ≡ b →
+        links_of (changed_at ring (unlinked k) m) q + bit (contains_key r.links q) ≡ links_of m q + bit (not b && contains_key r.links q)
         → links_of (changed_at ring (unlinked k) m) q ≡ cond b (links_of m q - 1) (links_of m q)
     by_key true same law =
         let before : contains_key r.links q ≡ true = ap (contains_key r.links) (sym (eqb-true k q same)) ∙ has in
@@ -311,7 +388,8 @@ pub few_unlinked : (m : Rings) (ring k : ℕ) → ((q : ℕ) (r : Numbered) → 
     → get (changed_at ring (unlinked k) m) q ≡ Some r → len r.links ≤ 256
 few_unlinked m ring k few =
     few_changed m ring (unlinked k)
-    (λ r is most. let le : len (remove r.links k) ≤ len r.links = elim (contains_key r.links k) as (λ b. len (remove r.links k) ≡ cond b (len r.links - 1) (len r.links) → len (remove r.links k) ≤ len r.links) [
+    (λ r is most. let le : len (remove r.links k) ≤ len r.links = elim (contains_key r.links k) as
+    (λ b. len (remove r.links k) ≡ cond b (len r.links - 1) (len r.links) → len (remove r.links k) ≤ len r.links) [
       | true ↦ λ e. omega (arith, e)
       | false ↦ λ e. omega (arith, e)
     ] (len-remove nat_cmp_total r.links k) in omega (arith, le, most))
@@ -325,7 +403,8 @@ still_to_clear m ring k = same_map nat_cmp_total nat_cmp-IsAntisymmetric _ _ (λ
     ∙ ap (λ o. cond (nat_eq ring q) (option_map cleared o) o) (get_changed_at ring (unlinked k) m q)
     ∙ by_ring (nat_eq ring q) (get m q) ∙ sym (get_changed_at ring cleared m q))
   where
-    by_ring : (b : Bool) (o : Option Numbered) → cond b (option_map cleared (cond b (option_map (unlinked k) o) o)) (cond b (option_map (unlinked k) o) o) ≡ cond b (option_map cleared o) o
+    by_ring : (b : Bool) (o : Option Numbered) →
+        cond b (option_map cleared (cond b (option_map (unlinked k) o) o)) (cond b (option_map (unlinked k) o) o) ≡ cond b (option_map cleared o) o
     by_ring true None = refl
     by_ring true (Some r) = refl
     by_ring false o = refl
@@ -337,7 +416,8 @@ links_in m ring = option_map_or (λ r. len r.links) (get m ring) 0
 pub fewer_left : (m : Rings) (ring k : ℕ) → holds m ring k ≡ true → links_in (changed_at ring (unlinked k) m) ring < links_in m ring
 fewer_left m ring k h = by_ring (get m ring) refl h
   where
-    by_ring : (o : Option Numbered) → get m ring ≡ o → option_map_or (λ r. contains_key r.links k) o false ≡ true → links_in (changed_at ring (unlinked k) m) ring < links_in m ring
+    by_ring : (o : Option Numbered) → get m ring ≡ o → option_map_or (λ r. contains_key r.links k) o false ≡ true →
+        links_in (changed_at ring (unlinked k) m) ring < links_in m ring
     by_ring None is h = absurd (both_ways false refl h)
     by_ring (Some r) is h =
         let after : links_in (changed_at ring (unlinked k) m) ring ≡ len (remove r.links k) =
@@ -348,10 +428,11 @@ fewer_left m ring k h = by_ring (get m ring) refl h
         omega (arith, after, now, before, has_some r.links k h)
 
 none_linked : (links : FinMap nat_cmp ℕ) → ((k : ℕ) → contains_key links k ≡ false) → empty ≡ links
-none_linked links none = same_map nat_cmp_total nat_cmp-IsAntisymmetric _ _ (λ q. get-empty nat_cmp q ∙ elim (get links q) as (λ o. get links q ≡ o → None ≡ o) [
-  | None ↦ λ _. refl
-  | Some n ↦ λ is. absurd (both_ways _ (none q) (ap is_some is))
-] refl)
+none_linked links none = same_map nat_cmp_total nat_cmp-IsAntisymmetric _ _ (λ q. get-empty nat_cmp q ∙
+    elim (get links q) as (λ o. get links q ≡ o → None ≡ o) [
+      | None ↦ λ _. refl
+      | Some n ↦ λ is. absurd (both_ways _ (none q) (ap is_some is))
+    ] refl)
 
 -- a ring without links is as if it were cleared
 pub all_cleared : (m : Rings) (ring : ℕ) → ((k : ℕ) → holds m ring k ≡ false) → m ≡ changed_at ring cleared m
@@ -363,7 +444,8 @@ all_cleared m ring none = changed_by_nothing m ring cleared (λ r is i. record r
 
 pub dropped : (m : Rings) (ring : ℕ) → remove (changed_at ring cleared m) ring ≡ remove m ring
 dropped m ring = same_map nat_cmp_total nat_cmp-IsAntisymmetric _ _ (λ q.
-    get_removed (changed_at ring cleared m) ring q ∙ ap (cond (nat_eq ring q) None) (get_changed_at ring cleared m q) ∙ by_ring (nat_eq ring q) (get m q) ∙ sym (get_removed m ring q))
+    get_removed (changed_at ring cleared m) ring q ∙ ap (cond (nat_eq ring q) None) (get_changed_at ring cleared m q) ∙ by_ring (nat_eq ring q) (get m q) ∙
+    sym (get_removed m ring q))
   where
     by_ring : (b : Bool) (o : Option Numbered) → cond b None (cond b (option_map cleared o) o) ≡ cond b None o
     by_ring true o = refl
@@ -376,7 +458,8 @@ links_dropped m ring q = by_ring (get m ring) refl
     n = changed_at ring cleared m
 
     at : (o : Option Numbered) → get m ring ≡ o → get n ring ≡ option_map cleared o
-    at o is = get_changed_at ring cleared m ring ∙ ap (λ b. cond b (option_map cleared (get m ring)) (get m ring)) (eq-eqb ring ring refl) ∙ ap (option_map cleared) is
+    at o is = get_changed_at ring cleared m ring ∙ ap (λ b. cond b (option_map cleared (get m ring)) (get m ring)) (eq-eqb ring ring refl) ∙
+        ap (option_map cleared) is
 
     by_ring : (o : Option Numbered) → get m ring ≡ o → links_of (remove n ring) q ≡ links_of n q
     by_ring None is = kept_len-remove_none (has q) n ring (at None is)
@@ -384,11 +467,14 @@ links_dropped m ring q = by_ring (get m ring) refl
         kept_len-remove (has q) n ring (cleared r) (at (Some r) is)
         ∙ ap (λ b. cond b (links_of n q - 1) (links_of n q)) (ap is_some (get-empty nat_cmp q))
 
-pub few_dropped : (m : Rings) (ring : ℕ) → ((q : ℕ) (r : Numbered) → get m q ≡ Some r → len r.links ≤ 256) → (q : ℕ) (r : Numbered) → get (remove m ring) q ≡ Some r → len r.links ≤ 256
-few_dropped m ring few q r there = elim (nat_eq ring q) as (λ b. cond b None (get m q) ≡ Some r → len r.links ≤ 256) [ true ↦ λ e. absurd (none-some r e) | false ↦ λ e. few q r e ] (sym (get_removed m ring q) ∙ there)
+pub few_dropped : (m : Rings) (ring : ℕ) → ((q : ℕ) (r : Numbered) → get m q ≡ Some r → len r.links ≤ 256) → (q : ℕ) (r : Numbered) →
+    get (remove m ring) q ≡ Some r → len r.links ≤ 256
+few_dropped m ring few q r there = elim (nat_eq ring q) as (λ b. cond b None (get m q) ≡ Some r →
+    len r.links ≤ 256) [ true ↦ λ e. absurd (none-some r e) | false ↦ λ e. few q r e ] (sym (get_removed m ring q) ∙ there)
 
 pub no_more_rings : (m : Rings) (ring : ℕ) → len (remove m ring) ≤ len m
-no_more_rings m ring = elim (contains_key m ring) as (λ b. len (remove m ring) ≡ cond b (len m - 1) (len m) → len (remove m ring) ≤ len m) [ true ↦ λ e. omega (arith, e) | false ↦ λ e. omega (arith, e) ] (len-remove nat_cmp_total m ring)
+no_more_rings m ring = elim (contains_key m ring) as (λ b. len (remove m ring) ≡ cond b (len m - 1) (len m) →
+    len (remove m ring) ≤ len m) [ true ↦ λ e. omega (arith, e) | false ↦ λ e. omega (arith, e) ] (len-remove nat_cmp_total m ring)
 
 -- ---- new rings
 
@@ -398,7 +484,8 @@ links_made (w ∷ ws) m new q =
     links_made ws (insert m w.serial (new_ring w)) new.1 q ∙ kept_len-insert (has q) m w.serial (new_ring w) new.0
     ∙ ap (λ b. cond b (links_of m q + 1) (links_of m q)) (ap is_some (get-empty nat_cmp q))
 
-pub few_made : (wanted : List NewRing) (m : Rings) → ((q : ℕ) (r : Numbered) → get m q ≡ Some r → len r.links ≤ 256) → (q : ℕ) (r : Numbered) → get (with_rings wanted m) q ≡ Some r → len r.links ≤ 256
+pub few_made : (wanted : List NewRing) (m : Rings) → ((q : ℕ) (r : Numbered) → get m q ≡ Some r → len r.links ≤ 256) → (q : ℕ) (r : Numbered) →
+    get (with_rings wanted m) q ≡ Some r → len r.links ≤ 256
 few_made [] m few = few
 few_made (w ∷ ws) m few = few_made ws (insert m w.serial (new_ring w)) (λ q r there.
     elim (nat_eq w.serial q) as (λ b. cond b (Some (new_ring w)) (get m q) ≡ Some r → len r.links ≤ 256) [
@@ -432,7 +519,8 @@ pub counted_unlinked : (m : Rings) (old new : Stored ℕ) (ring k : ℕ) → Are
     → AreCounted (changed_at ring (unlinked k) m) new
 counted_unlinked m old new ring k counted h each positive same = by_ring (get m ring) refl h
   where
-    by_ring : (o : Option Numbered) → get m ring ≡ o → option_map_or (λ r. contains_key r.links k) o false ≡ true → AreCounted (changed_at ring (unlinked k) m) new
+    by_ring : (o : Option Numbered) → get m ring ≡ o → option_map_or (λ r. contains_key r.links k) o false ≡ true →
+        AreCounted (changed_at ring (unlinked k) m) new
     by_ring None is h = absurd (both_ways false refl h)
     by_ring (Some r) is h = record {
       few = few_unlinked m ring k counted.few;
@@ -454,14 +542,18 @@ takes m ring k n there lacks room = by_ring (get m ring) refl there lacks room
     by_ring (Some r) is there lacks room = (r, is, lacks, room)
 
 pub links_after : (m : Rings) (old mid : Stored ℕ) (ring k n : ℕ) (o : Option ℕ) → AreCounted m old → Takes m ring k n → IsMatch m n (Some ring) o
-    → ((q : ℕ) → count_at mid.facts q ≡ count_at old.facts q - bit (is_rival o q)) → (q : ℕ) → links_of (changed_at ring (linked_in_room k n) m) q ≡ count_at mid.facts q + bit (nat_eq k q)
+    → ((q : ℕ) → count_at mid.facts q ≡ count_at old.facts q - bit (is_rival o q)) → (q : ℕ) →
+    links_of (changed_at ring (linked_in_room k n) m) q ≡ count_at mid.facts q + bit (nat_eq k q)
 links_after m old mid ring k n o counted t match each q =
-    links_linked m ring k n t.0 o t.1 t.2 t.3 match q ∙ ap (λ x. (x - bit (is_rival o q)) + bit (nat_eq k q)) (sym (counted.each q)) ∙ ap (λ x. x + bit (nat_eq k q)) (sym (each q))
+    links_linked m ring k n t.0 o t.1 t.2 t.3 match q ∙ ap (λ x. (x - bit (is_rival o q)) + bit (nat_eq k q)) (sym (counted.each q)) ∙
+    ap (λ x. x + bit (nat_eq k q)) (sym (each q))
 
 pub room_linked : (m : Rings) (old mid : Stored ℕ) (ring k n : ℕ) (o : Option ℕ) → AreCounted m old → Takes m ring k n → IsMatch m n (Some ring) o
-    → ((q : ℕ) → count_at mid.facts q ≡ count_at old.facts q - bit (is_rival o q)) → ArePositive mid.facts → places mid ≡ places old → count_at mid.facts k ≡ 0 → 0 < mid.room
+    → ((q : ℕ) → count_at mid.facts q ≡ count_at old.facts q - bit (is_rival o q)) → ArePositive mid.facts → places mid ≡ places old →
+    count_at mid.facts k ≡ 0 → 0 < mid.room
 room_linked m old mid ring k n o counted t match each positive same none =
-    room_for (changed_at ring (linked_in_room k n) m) mid k (len m) (few_linked m ring k n t.0 t.1 t.2 t.3 counted.few) positive (links_after m old mid ring k n o counted t match each)
+    room_for (changed_at ring (linked_in_room k n) m) mid k (len m) (few_linked m ring k n t.0 t.1 t.2 t.3 counted.few) positive
+    (links_after m old mid ring k n o counted t match each)
     (len-changed_at ring (linked_in_room k n) m) (omega (arith, counted.room, same)) none
 
 one_more_bit : (b : Bool) (n : ℕ) → cond b (n + 1) n ≡ n + bit b
@@ -487,7 +579,8 @@ counted_dropped m n c ring is counted = record {
   room = omega (arith, counted.room, no_more_rings n ring);
 }
 
-pub counted_made : (wanted : List NewRing) (m n : Rings) (old new : Stored ℕ) → n ≡ with_rings wanted m → AreNew wanted m → AreCounted m old → new.facts ≡ old.facts
+pub counted_made : (wanted : List NewRing) (m n : Rings) (old new : Stored ℕ) → n ≡ with_rings wanted m → AreNew wanted m → AreCounted m old →
+    new.facts ≡ old.facts
     → 256 * (len m + length wanted) - len old.facts ≤ new.room → AreCounted n new
 counted_made wanted m n old new is fresh counted same room = subst (λ x. AreCounted x new) (sym is) (record {
   few = few_made wanted m counted.few;

@@ -60,7 +60,8 @@ module _ {X : Type 0} where
   abbrev pub Found : (ℕ × X → Bool) → (ℕ → Option X) → Type 0
   Found p at = (q : ℕ) × (v : X) × (at q ≡ Some v) × (p (q, v) ≡ true)
 
-  found_later : (p : ℕ × X → Bool) (e : ℕ × X) (es : List (ℕ × X)) → find nat_cmp e.0 es ≡ None → Found p (λ q. find nat_cmp q es) → Found p (λ q. find nat_cmp q (e ∷ es))
+  found_later : (p : ℕ × X → Bool) (e : ℕ × X) (es : List (ℕ × X)) → find nat_cmp e.0 es ≡ None → Found p (λ q. find nat_cmp q es) →
+      Found p (λ q. find nat_cmp q (e ∷ es))
   found_later p e es none f = (
     f.0,
     f.1,

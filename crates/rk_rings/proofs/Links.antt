@@ -63,12 +63,15 @@ is_serial k low high =
 
 -- ---- what is found by the number of its name
 
-pub by_number : (m : FinMap nat_cmp ℕ) (n : ℕ) (o : Option ℕ) → FindsEntry (λ k v. nat_eq v n) m o → MatchOption o ((k : ℕ) → ¬ (get m k ≡ Some n)) (λ k. get m k ≡ Some n)
+pub by_number : (m : FinMap nat_cmp ℕ) (n : ℕ) (o : Option ℕ) → FindsEntry (λ k v. nat_eq v n) m o →
+    MatchOption o ((k : ℕ) → ¬ (get m k ≡ Some n)) (λ k. get m k ≡ Some n)
 by_number m n None h = λ k there. no_entry (λ (e : ℕ × ℕ). nat_eq e.1 n) m k n h there (eq-eqb n n refl)
 by_number m n (Some k) h =
-    elim (get m k) as (λ o. option_map_or (λ v. nat_eq v n) o false ≡ true → o ≡ Some n) [ None ↦ λ e. absurd (both_ways false refl e) | Some v ↦ λ e. ap (λ x. Some x) (eqb-true v n e) ] h.0
+    elim (get m k) as (λ o. option_map_or (λ v. nat_eq v n) o false ≡ true →
+    o ≡ Some n) [ None ↦ λ e. absurd (both_ways false refl e) | Some v ↦ λ e. ap (λ x. Some x) (eqb-true v n e) ] h.0
 
-pub any_key : (m : FinMap nat_cmp ℕ) (o : Option ℕ) → FindsEntry (λ k v. true) m o → MatchOption o ((k : ℕ) → contains_key m k ≡ false) (λ k. contains_key m k ≡ true)
+pub any_key : (m : FinMap nat_cmp ℕ) (o : Option ℕ) → FindsEntry (λ k v. true) m o →
+    MatchOption o ((k : ℕ) → contains_key m k ≡ false) (λ k. contains_key m k ≡ true)
 any_key m None h = λ k.
     elim (get m k) as (λ o. get m k ≡ o → is_some o ≡ false) [ None ↦ λ e. refl | Some v ↦ λ e. absurd (no_entry (λ (e : ℕ × ℕ). true) m k v h e refl) ] refl
 any_key m (Some k) h =
@@ -76,13 +79,15 @@ any_key m (Some k) h =
 
 -- ---- a new link
 
-pub fewer_rivals : (links : FinMap nat_cmp ℕ) (n : ℕ) → list_any (λ m. nat_eq m n) (values links) ≡ true → len (kept_where (λ j m. not (nat_eq m n)) links) < len links
+pub fewer_rivals : (links : FinMap nat_cmp ℕ) (n : ℕ) → list_any (λ m. nat_eq m n) (values links) ≡ true →
+    len (kept_where (λ j m. not (nat_eq m n)) links) < len links
 fewer_rivals links n h =
     let at = entry_found (λ (e : ℕ × ℕ). nat_eq e.1 n) links (sym (any_value (λ m. nat_eq m n) links) ∙ h) in
     fewer_kept (λ j m. not (nat_eq m n)) links at.0 at.1 at.2 (ap not at.3)
 
 -- where a ring is not full for a name, the rivals leave room
-pub room_left : (r : Numbered) (n kept room : ℕ) → is_full (Some n) r ≡ false → len r.links ≤ 256 → kept ≡ len (kept_where (λ j m. not (nat_eq m n)) r.links) → kept + room ≡ 256 → 0 < room
+pub room_left : (r : Numbered) (n kept room : ℕ) → is_full (Some n) r ≡ false → len r.links ≤ 256 → kept ≡ len (kept_where (λ j m. not (nat_eq m n)) r.links) →
+    kept + room ≡ 256 → 0 < room
 room_left r n kept room h most is sum =
     elim (leb 256 (len r.links)) as (λ b. leb 256 (len r.links) ≡ b → (b && not (has_number r n)) ≡ false → 0 < room) [
       | true ↦ λ e h. omega (arith, fewer_rivals r.links n (not-false _ h), most, is, sum)

@@ -13,10 +13,12 @@ use Rattle.rk_rings.proofs.Changed.{AreRows}
 
 -- ---- the entries that are left to put in
 
-pub left_facts : (items rest : List (ℕ × Numbered)) (k : ℕ) (v : Numbered) (m n w : Rings) → items ≡ (k, v) ∷ rest → n ≡ insert m k v → with_entries items m ≡ w → with_entries rest n ≡ w
+pub left_facts : (items rest : List (ℕ × Numbered)) (k : ℕ) (v : Numbered) (m n w : Rings) → items ≡ (k, v) ∷ rest → n ≡ insert m k v →
+    with_entries items m ≡ w → with_entries rest n ≡ w
 left_facts items rest k v m n w e is h = ap (with_entries rest) is ∙ sym (ap (λ es. with_entries es m) e) ∙ h
 
-pub left_new : (items rest : List (ℕ × Numbered)) (k : ℕ) (v : Numbered) (m n : Rings) → items ≡ (k, v) ∷ rest → n ≡ insert m k v → HasEachNew items m → HasEachNew rest n
+pub left_new : (items rest : List (ℕ × Numbered)) (k : ℕ) (v : Numbered) (m n : Rings) → items ≡ (k, v) ∷ rest → n ≡ insert m k v → HasEachNew items m →
+    HasEachNew rest n
 left_new items rest k v m n e is h =
     let now : HasEachNew ((k, v) ∷ rest) m = subst (λ es. HasEachNew es m) e h in
     subst (HasEachNew rest) (sym is) now.1
@@ -43,15 +45,18 @@ entries_new (w ∷ ws) m h = (h.0, entries_new ws (insert m w.serial (new_ring w
 pub len-with_rings : (wanted : List NewRing) (m : Rings) → AreNew wanted m → len (with_rings wanted m) ≡ len m + length wanted
 len-with_rings [] m h = omega arith
 len-with_rings (w ∷ ws) m h =
-    let one : len (insert m w.serial (new_ring w)) ≡ len m + 1 = len-insert nat_cmp_total m w.serial (new_ring w) ∙ ap (λ o. cond (is_some o) (len m) (len m + 1)) h.0 in
+    let one : len (insert m w.serial (new_ring w)) ≡ len m + 1 = len-insert nat_cmp_total m w.serial (new_ring w) ∙
+    ap (λ o. cond (is_some o) (len m) (len m + 1)) h.0 in
     omega (arith, len-with_rings ws (insert m w.serial (new_ring w)) h.1, one)
 
 -- ---- what has been put in
 
-pub put_new : (wanted : List NewRing) (items : List (ℕ × Numbered)) (m n : Rings) → items ≡ list_map (λ w. (w.serial, new_ring w)) wanted → n ≡ m → AreNew wanted m → HasEachNew items n
+pub put_new : (wanted : List NewRing) (items : List (ℕ × Numbered)) (m n : Rings) → items ≡ list_map (λ w. (w.serial, new_ring w)) wanted → n ≡ m →
+    AreNew wanted m → HasEachNew items n
 put_new wanted items m n e same h = subst (HasEachNew items) (sym same) (subst (λ es. HasEachNew es m) (sym e) (entries_new wanted m h))
 
-pub put_made : (wanted : List NewRing) (items : List (ℕ × Numbered)) (m n w : Rings) → items ≡ list_map (λ w. (w.serial, new_ring w)) wanted → n ≡ m → w ≡ with_entries items n → w ≡ with_rings wanted m
+pub put_made : (wanted : List NewRing) (items : List (ℕ × Numbered)) (m n w : Rings) → items ≡ list_map (λ w. (w.serial, new_ring w)) wanted → n ≡ m →
+    w ≡ with_entries items n → w ≡ with_rings wanted m
 put_made wanted items m n w e same is = is ∙ ap (with_entries items) same ∙ ap (λ es. with_entries es m) e ∙ entries_made wanted m
 
 once-insert : (m : Rings) (wanted : NewRing) → HaveEachNameOnce m → HaveEachNameOnce (insert m wanted.serial (new_ring wanted))

@@ -20,7 +20,8 @@ use Rattle.rk_rings.specs.Numbered.{Numbered, Rings, ring_seen, rings_seen, hold
 use Rattle.rk_rings.proofs.Finds.{tied, some_entry, entry_found, any_value}
 use Rattle.rk_rings.proofs.Counts.{some_key, one_less, contains_key-remove}
 
-map_or : {A B : Type 0} (f : A → B) (p : B → Bool) (t : A → Bool) → ((x : A) → p (f x) ≡ t x) → (o : Option A) → option_map_or p (option_map f o) false ≡ option_map_or t o false
+map_or : {A B : Type 0} (f : A → B) (p : B → Bool) (t : A → Bool) → ((x : A) → p (f x) ≡ t x) → (o : Option A) →
+    option_map_or p (option_map f o) false ≡ option_map_or t o false
 map_or f p t h None = refl
 map_or f p t h (Some x) = h x
 
@@ -29,7 +30,8 @@ module _ {A B : Type 0} (f : A → B) where
   found_alike q [] = refl
   found_alike q (e ∷ es) =
       ap (cond (eq_by_cmp nat_cmp q e.0) (Some (f e.1))) (found_alike q es)
-      ∙ elim (eq_by_cmp nat_cmp q e.0) as (λ b. cond b (Some (f e.1)) (option_map f (map.find nat_cmp q es)) ≡ option_map f (cond b (Some e.1) (map.find nat_cmp q es))) [ true ↦ refl | false ↦ refl ]
+      ∙ elim (eq_by_cmp nat_cmp q e.0) as (λ b. cond b (Some (f e.1)) (option_map f (map.find nat_cmp q es)) ≡ option_map f
+      (cond b (Some e.1) (map.find nat_cmp q es))) [ true ↦ refl | false ↦ refl ]
 
   put_alike : (b : Bool) (x : A) (o : Option A) → option_map f (cond b (Some x) o) ≡ cond b (Some (f x)) (option_map f o)
   put_alike true x o = refl
@@ -43,7 +45,8 @@ module _ {A B : Type 0} (f : A → B) where
 
 pub get-rings_seen : (m : Rings) (q : ℕ) → map.get (rings_seen m) q ≡ option_map ring_seen (map.get m q)
 get-rings_seen m q =
-    get_in (list_map (λ e. (e.0, ring_seen e.1)) (map.entries m)) q ∙ found_alike ring_seen q (map.entries m) ∙ ap (option_map ring_seen) (sym (map.get-entries m q))
+    get_in (list_map (λ e. (e.0, ring_seen e.1)) (map.entries m)) q ∙ found_alike ring_seen q (map.entries m) ∙
+    ap (option_map ring_seen) (sym (map.get-entries m q))
 
 pub contains_key-rings_seen : (m : Rings) (q : ℕ) → map.contains_key (rings_seen m) q ≡ map.contains_key m q
 contains_key-rings_seen m q = ap is_some (get-rings_seen m q) ∙ is_some-option_map ring_seen (map.get m q)
@@ -71,10 +74,13 @@ rings_seen-remove m k = same_rings _ _ (λ q.
     ∙ sym (map.get-remove nat_cmp_total (rings_seen m) k q))
 
 -- a change of one ring is seen as the change that does the same to the ring without numbers
-pub rings_seen-changed_at : (k : ℕ) (f : Numbered → Numbered) (g : Ring → Ring) (m : Rings) → ((r : Numbered) → map.get m k ≡ Some r → ring_seen (f r) ≡ g (ring_seen r))
+pub rings_seen-changed_at : (k : ℕ) (f : Numbered → Numbered) (g : Ring → Ring) (m : Rings) →
+    ((r : Numbered) → map.get m k ≡ Some r → ring_seen (f r) ≡ g (ring_seen r))
     → rings_seen (changed_at k f m) ≡ changed_at k g (rings_seen m)
 rings_seen-changed_at k f g m h =
-    elim (map.get m k) as (λ o. map.get m k ≡ o → rings_seen (option_map_or (λ v. map.insert m k (f v)) o m) ≡ option_map_or (λ v. map.insert (rings_seen m) k (g v)) (option_map ring_seen o) (rings_seen m)) [
+    elim (map.get m k) as (λ o. map.get m k ≡ o →
+    rings_seen (option_map_or (λ v. map.insert m k (f v)) o m) ≡ option_map_or (λ v. map.insert (rings_seen m) k (g v)) (option_map ring_seen o)
+    (rings_seen m)) [
       | None ↦ λ e. refl
       | Some v ↦ λ e. rings_seen-insert m k (f v) ∙ ap (map.insert (rings_seen m) k) (h v e)
     ] refl
@@ -91,7 +97,8 @@ is_linked-rings_seen m ring k =
     ∙ map_or ring_seen (λ (r : Ring). set.contains r.keys k) (λ (r : Numbered). map.contains_key r.links k) (λ r. contains-ring_seen r k) (map.get m ring)
 
 -- some ring that is seen passes a test where some ring passes the same
-pub any-rings_seen : (p : Ring → Bool) (t : Numbered → Bool) → ((r : Numbered) → p (ring_seen r) ≡ t r) → (m : Rings) → list_any p (map.values (rings_seen m)) ≡ list_any t (map.values m)
+pub any-rings_seen : (p : Ring → Bool) (t : Numbered → Bool) → ((r : Numbered) → p (ring_seen r) ≡ t r) → (m : Rings) →
+    list_any p (map.values (rings_seen m)) ≡ list_any t (map.values m)
 any-rings_seen p t alike m =
     any_value p (rings_seen m)
     ∙ same_answer _ _
@@ -121,7 +128,8 @@ ring_seen-unlinked k r =
     ∙ sym (set.contains-remove nat_cmp_total (ring_seen r).keys k q)))
 
 no_keys : (r : Numbered) → r.links ≡ map.empty → (ring_seen r).keys ≡ set.empty
-no_keys r e = same_keys _ _ (λ q. contains-ring_seen r q ∙ ap (λ m. map.contains_key m q) e ∙ ap is_some (map.get-empty nat_cmp q) ∙ sym (set.contains-empty nat_cmp q))
+no_keys r e = same_keys _ _ (λ q. contains-ring_seen r q ∙ ap (λ m. map.contains_key m q) e ∙ ap is_some (map.get-empty nat_cmp q) ∙
+    sym (set.contains-empty nat_cmp q))
 
 pub ring_seen-new_ring : (w : NewRing) → ring_seen (new_ring w) ≡ empty_ring w.kind w.uid
 ring_seen-new_ring w = ap (λ s. record { kind = w.kind; uid = w.uid; keys = s }) (no_keys (new_ring w) refl)
@@ -130,27 +138,32 @@ ring_seen-new_ring w = ap (λ s. record { kind = w.kind; uid = w.uid; keys = s }
 abbrev pub GivesWay : (ℕ → Bool) → ℕ → ℕ → Numbered → Type 0
 GivesWay gives_way k n r = (gives_way k ≡ false) × ((j m : ℕ) → map.get r.links j ≡ Some m → (j ≡ k → ⊥) → gives_way j ≡ nat_eq m n)
 
-stays : (p : ℕ → Bool) (o : Option ℕ) (w : Bool) → ((m : ℕ) → o ≡ Some m → w ≡ p m) → is_some (cond (option_map_or (λ m. not (p m)) o false) o None) ≡ (is_some o && not w)
+stays : (p : ℕ → Bool) (o : Option ℕ) (w : Bool) → ((m : ℕ) → o ≡ Some m → w ≡ p m) →
+    is_some (cond (option_map_or (λ m. not (p m)) o false) o None) ≡ (is_some o && not w)
 stays p None w h = refl
-stays p (Some m) w h = ap (λ b. is_some (cond (not b) (Some m) None)) (sym (h m refl)) ∙ elim w as (λ b. is_some (cond (not b) (Some m) None) ≡ not b) [ true ↦ refl | false ↦ refl ]
+stays p (Some m) w h = ap (λ b. is_some (cond (not b) (Some m) None)) (sym (h m refl)) ∙
+    elim w as (λ b. is_some (cond (not b) (Some m) None) ≡ not b) [ true ↦ refl | false ↦ refl ]
 
 there_or : {A : Type 0} (b : Bool) (v : A) (o : Option A) → is_some (cond b (Some v) o) ≡ (b || is_some o)
 there_or true v o = refl
 there_or false v o = refl
 
 new_links : (gives_way : ℕ → Bool) (k n : ℕ) (r : Numbered) → GivesWay gives_way k n r → (q : ℕ)
-    → map.contains_key (map.insert (kept_where (λ j m. not (nat_eq m n)) r.links) k n) q ≡ ((eq_by_cmp nat_cmp q k || map.contains_key r.links q) && not (gives_way q))
+    → map.contains_key (map.insert (kept_where (λ j m. not (nat_eq m n)) r.links) k n)
+    q ≡ ((eq_by_cmp nat_cmp q k || map.contains_key r.links q) && not (gives_way q))
 new_links gives_way k n r h q =
     ap is_some (map.get-insert nat_cmp_total (kept_where (λ j m. not (nat_eq m n)) r.links) k n q)
     ∙ there_or (eq_by_cmp nat_cmp q k) n (map.get (kept_where (λ j m. not (nat_eq m n)) r.links) q)
-    ∙ elim (eq_by_cmp nat_cmp q k) as (λ b. eq_by_cmp nat_cmp q k ≡ b → (b || map.contains_key (kept_where (λ j m. not (nat_eq m n)) r.links) q) ≡ ((b || map.contains_key r.links q) && not (gives_way q))) [
+    ∙ elim (eq_by_cmp nat_cmp q k) as (λ b. eq_by_cmp nat_cmp q k ≡ b →
+    (b || map.contains_key (kept_where (λ j m. not (nat_eq m n)) r.links) q) ≡ ((b || map.contains_key r.links q) && not (gives_way q))) [
       | true ↦ λ t. sym (ap not (ap gives_way (tied q k t) ∙ h.0))
       | false ↦ λ t.
           ap is_some (get_kept_where (λ j m. not (nat_eq m n)) r.links q)
           ∙ stays (λ m. nat_eq m n) (map.get r.links q) (gives_way q) (λ m there. h.1 q m there (λ same. both_ways _ t (tie q k ∙ eq-eqb k q (sym same))))
     ] refl
 
-pub ring_seen-linked : (gives_way : ℕ → Bool) (k n : ℕ) (r : Numbered) → GivesWay gives_way k n r → ring_seen (linked k n r) ≡ with_link gives_way k (ring_seen r)
+pub ring_seen-linked : (gives_way : ℕ → Bool) (k n : ℕ) (r : Numbered) → GivesWay gives_way k n r →
+    ring_seen (linked k n r) ≡ with_link gives_way k (ring_seen r)
 ring_seen-linked gives_way k n r h =
     let s : set.FinSet nat_cmp = (ring_seen r).keys in
     let m : map.FinMap nat_cmp ℕ = map.insert (kept_where (λ j m. not (nat_eq m n)) r.links) k n in
@@ -162,7 +175,8 @@ ring_seen-linked gives_way k n r h =
           ∙ new_links gives_way k n r h q
           ∙ ap (λ b. (eq_by_cmp nat_cmp q k || b) && not (gives_way q)) (sym (contains-ring_seen r q))
           ∙ ap (λ b. b && not (gives_way q)) (sym (set.contains-insert nat_cmp_total s k q))
-          ∙ sym (set.contains-retain (set.insert s k) (λ j. not (gives_way j)) q (λ x t. ap (λ j. not (gives_way j)) (sym (set.nat_cmp-IsAntisymmetric q x t)))))
+          ∙ sym (set.contains-retain (set.insert s k) (λ j. not (gives_way j)) q
+          (λ x t. ap (λ j. not (gives_way j)) (sym (set.nat_cmp-IsAntisymmetric q x t)))))
     ]
     ∙ ap (λ b. cond b s (set.retain (set.insert s k) (λ j. not (gives_way j)))) (sym (contains-ring_seen r k))
     )
@@ -171,7 +185,8 @@ ring_seen-linked gives_way k n r h =
 
 as_many : (n : ℕ) (m : map.FinMap nat_cmp ℕ) (s : set.FinSet nat_cmp) → map.len m ≡ n → ((q : ℕ) → set.contains s q ≡ map.contains_key m q) → set.len s ≡ n
 as_many zero m s e h =
-    ap set.len (same_keys s set.empty (λ q. h q ∙ ap (λ x. map.contains_key x q) (map.empty_of_len m e) ∙ ap is_some (map.get-empty nat_cmp q) ∙ sym (set.contains-empty nat_cmp q))) ∙ set.len-empty nat_cmp
+    ap set.len (same_keys s set.empty (λ q. h q ∙ ap (λ x. map.contains_key x q) (map.empty_of_len m e) ∙ ap is_some (map.get-empty nat_cmp q) ∙
+    sym (set.contains-empty nat_cmp q))) ∙ set.len-empty nat_cmp
 as_many (suc n) m s e h =
     let k = some_key m (omega (arith, e)) in
     let one : set.len (set.remove s k.0) ≡ set.len s - 1 = set.len-remove nat_cmp_total s k.0 ∙ ap (λ b. cond b (set.len s - 1) (set.len s)) (h k.0 ∙ k.1) in

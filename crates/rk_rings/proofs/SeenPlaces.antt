@@ -32,11 +32,13 @@ is_numbered_live-rings_seen m User = refl
 is_numbered_live-rings_seen m Requestor = refl
 is_numbered_live-rings_seen m (Numbered ring) = contains_key-rings_seen m ring
 
-pub first_ring-rings_seen : (m : Rings) (c : Context) (requestor : Option ℕ) (ps : List Place) → first_ring (rings_seen m) c requestor ps ≡ first_ring m c requestor ps
+pub first_ring-rings_seen : (m : Rings) (c : Context) (requestor : Option ℕ) (ps : List Place) →
+    first_ring (rings_seen m) c requestor ps ≡ first_ring m c requestor ps
 first_ring-rings_seen m c requestor [] = refl
 first_ring-rings_seen m c requestor (p ∷ ps) =
     ap (λ o. option_map_or (λ ring. Some ring) o (first_ring (rings_seen m) c requestor ps)) (ring_at-rings_seen m c requestor p)
     ∙ ap (option_map_or (λ ring. Some ring) (ring_at m c requestor p)) (first_ring-rings_seen m c requestor ps)
 
-pub default_ring-rings_seen : (m : Rings) (c : Context) (requestor : Option ℕ) (s : Setting) → default_ring (rings_seen m) c requestor s ≡ default_ring m c requestor s
+pub default_ring-rings_seen : (m : Rings) (c : Context) (requestor : Option ℕ) (s : Setting) →
+    default_ring (rings_seen m) c requestor s ≡ default_ring m c requestor s
 default_ring-rings_seen m c requestor s = ap (λ o. unwrap_or o c.user) (first_ring-rings_seen m c requestor (default_places s))

@@ -15,7 +15,18 @@ use Rattle.rk_auth.specs.declared.construction.Stage.TheVariants.{Starting}
 use Rattle.rk_auth.specs.declared.construction.Authority.{Authority}
 use Rattle.rk_auth.specs.declared.construction.Construction.{Construction}
 use Rattle.rk_auth.specs.Sessions.{Sessions, unspent}
-use Rattle.rk_auth.specs.Changes.{session_changed, in_handler, in_new_stage, launched, spent, without_authority, without_construction, with_construction, all_told, told}
+use Rattle.rk_auth.specs.Changes.{
+  session_changed,
+  in_handler,
+  in_new_stage,
+  launched,
+  spent,
+  without_authority,
+  without_construction,
+  with_construction,
+  all_told,
+  told,
+}
 use Rattle.rk_machine.specs.World.{World}
 use Rattle.rk_machine.specs.Completion.{announced, outcome_of, sessions_ended, keys_ended, ended}
 use Rattle.rk_machine.proofs.Found.InMaps.{get_inserted, get_removed, get_changed_at, get_changed_all}

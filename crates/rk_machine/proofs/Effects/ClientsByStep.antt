@@ -28,7 +28,31 @@ use Rattle.rk_machine.specs.Views.{is_ready, has_wait}
 use Rattle.rk_machine.specs.Laws.{is_done, same_session, wait_begun, is_wait_ended}
 use Rattle.rk_machine.proofs.Found.InMaps.{get_inserted, get_removed, get_changed_at, get_changed_all}
 use Rattle.rk_machine.proofs.Found.Refusals.{by_option}
-use Rattle.rk_machine.proofs.Effects.KindsOfStep.{Effect, effect, refused, still, took, came, went, greets, begins, joins, links, unlinks, marks, tells, sets, adds, assumes, concludes, ran_plain, ran_piped, negates, failed, finished}
+use Rattle.rk_machine.proofs.Effects.KindsOfStep.{
+  Effect,
+  effect,
+  refused,
+  still,
+  took,
+  came,
+  went,
+  greets,
+  begins,
+  joins,
+  links,
+  unlinks,
+  marks,
+  tells,
+  sets,
+  adds,
+  assumes,
+  concludes,
+  ran_plain,
+  ran_piped,
+  negates,
+  failed,
+  finished,
+}
 use Rattle.rk_machine.proofs.Effects.HelloChanges.{greeted_sessions}
 use Rattle.rk_machine.proofs.Effects.WaitsAfter.{flag, flag_of, flag_collected, same-self}
 use Rattle.rk_machine.proofs.Effects.WaitsAreTheWorlds.{after, step, tied, IdleFresh}

@@ -46,8 +46,37 @@ use Rattle.rk_machine.specs.Links.{linked_in, unlinked_in, cleared_in, full_refu
 use Rattle.rk_machine.specs.Search.{Query, block_of}
 use Rattle.rk_machine.specs.Completion.{completed, ended, condition_after}
 use Rattle.rk_machine.specs.Hello.{Greets, Hellos, hello_refusal, join_refusal}
-use Rattle.rk_machine.specs.Request.{query, waiting, MeetsBuilding, MeetsPositive, Meets, Misses, Requests, start_refusal, destination_of, subject_of, started, with_key, new_authority}
-use Rattle.rk_machine.specs.KeyAsks.{serial_in, TellsOf, TellsCallout, ReadsKey, Adds, with_key_changed, setting_asked, is_authority, read_refusal, revoke_refusal, timeout_refusal, link_refusal, unlink_refusal, add_refusal}
+use Rattle.rk_machine.specs.Request.{
+  query,
+  waiting,
+  MeetsBuilding,
+  MeetsPositive,
+  Meets,
+  Misses,
+  Requests,
+  start_refusal,
+  destination_of,
+  subject_of,
+  started,
+  with_key,
+  new_authority,
+}
+use Rattle.rk_machine.specs.KeyAsks.{
+  serial_in,
+  TellsOf,
+  TellsCallout,
+  ReadsKey,
+  Adds,
+  with_key_changed,
+  setting_asked,
+  is_authority,
+  read_refusal,
+  revoke_refusal,
+  timeout_refusal,
+  link_refusal,
+  unlink_refusal,
+  add_refusal,
+}
 use Rattle.rk_machine.specs.Asks.{gate, ask_refusal, assume_refusal, Completes, completion_refusal, Acting, Asking}
 use Rattle.rk_machine.specs.Steps.{open_refusal, opened, may_launch, launched, would_negate, negating, Ends, told_as, collected, gone, Step}
 use Rattle.rk_machine.specs.Laws.{completes}

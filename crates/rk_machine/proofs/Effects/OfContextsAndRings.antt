@@ -31,7 +31,31 @@ use Rattle.rk_machine.specs.Request.{query, subject_of}
 use Rattle.rk_machine.specs.Steps.{context_of, goes_with}
 use Rattle.rk_machine.specs.Laws.{Root, is_done, goes, starter_in, hello_in}
 use Rattle.rk_machine.proofs.Found.Refusals.{none_is, and_false}
-use Rattle.rk_machine.proofs.Effects.KindsOfStep.{Effect, authority_for, refused, still, took, came, went, greets, begins, joins, links, unlinks, marks, tells, sets, adds, assumes, concludes, ran_plain, ran_piped, negates, failed, finished}
+use Rattle.rk_machine.proofs.Effects.KindsOfStep.{
+  Effect,
+  authority_for,
+  refused,
+  still,
+  took,
+  came,
+  went,
+  greets,
+  begins,
+  joins,
+  links,
+  unlinks,
+  marks,
+  tells,
+  sets,
+  adds,
+  assumes,
+  concludes,
+  ran_plain,
+  ran_piped,
+  negates,
+  failed,
+  finished,
+}
 use Rattle.rk_machine.proofs.Effects.HelloChanges.{greeted_sessions}
 use Rattle.rk_machine.proofs.Effects.AuthoritiesAfter.{unspent_changed, unspent_launched, unspent_concluded, unspent_ended, unspent_issued}
 use Rattle.rk_machine.proofs.Effects.RingsAfter.{kind_at, kind_linked, kind_dropped}

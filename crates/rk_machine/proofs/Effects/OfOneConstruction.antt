@@ -38,10 +38,50 @@ use Rattle.rk_machine.specs.Asks.{assume_refusal}
 use Rattle.rk_machine.specs.Steps.{told_as}
 use Rattle.rk_machine.specs.Laws.{is_done, starts_by, negates_by, launches, ends, completes_by, completes, assumed_at, same_session}
 use Rattle.rk_machine.proofs.Found.Refusals.{not_not, and_false, if_none, first_none, some_is}
-use Rattle.rk_machine.proofs.Effects.KindsOfStep.{Effect, CanAsk, refused, still, took, came, went, greets, begins, joins, links, unlinks, marks, tells, sets, adds, assumes, concludes, ran_plain, ran_piped, negates, failed, finished}
+use Rattle.rk_machine.proofs.Effects.KindsOfStep.{
+  Effect,
+  CanAsk,
+  refused,
+  still,
+  took,
+  came,
+  went,
+  greets,
+  begins,
+  joins,
+  links,
+  unlinks,
+  marks,
+  tells,
+  sets,
+  adds,
+  assumes,
+  concludes,
+  ran_plain,
+  ran_piped,
+  negates,
+  failed,
+  finished,
+}
 use Rattle.rk_machine.proofs.Effects.DrawnSerials.{is_drawn, drawn_now}
 use Rattle.rk_machine.proofs.Effects.HelloChanges.{greeted_sessions}
-use Rattle.rk_machine.proofs.Effects.StagesAfter.{Shape, is_first, shape, shape_of, first_shape, as_spent, as_staged, as_assumed, shape_session, shape_told, shape_assumed, shape_spent, shape_launched, shape_removed, shape_issued}
+use Rattle.rk_machine.proofs.Effects.StagesAfter.{
+  Shape,
+  is_first,
+  shape,
+  shape_of,
+  first_shape,
+  as_spent,
+  as_staged,
+  as_assumed,
+  shape_session,
+  shape_told,
+  shape_assumed,
+  shape_spent,
+  shape_launched,
+  shape_removed,
+  shape_issued,
+}
 
 -- ---- what the laws test of a step
 

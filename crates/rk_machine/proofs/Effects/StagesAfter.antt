@@ -12,7 +12,20 @@ use Rattle.rk_auth.specs.declared.construction.Stage.TheVariants.{Starting, Plai
 use Rattle.rk_auth.specs.declared.construction.Authority.{Authority}
 use Rattle.rk_auth.specs.declared.construction.Construction.{Construction}
 use Rattle.rk_auth.specs.Sessions.{Sessions, is_to_launch, handler_in, session_of}
-use Rattle.rk_auth.specs.Changes.{session_changed, in_handler, in_stage, in_new_stage, launched, spent, without_authority, without_construction, with_construction, all_told, told, with_assumed}
+use Rattle.rk_auth.specs.Changes.{
+  session_changed,
+  in_handler,
+  in_stage,
+  in_new_stage,
+  launched,
+  spent,
+  without_authority,
+  without_construction,
+  with_construction,
+  all_told,
+  told,
+  with_assumed,
+}
 use Rattle.rk_machine.proofs.Found.InMaps.{get_inserted, get_removed, get_changed_at, get_changed_all}
 
 -- whether a handler is to be started, whether its first one is not past or may be followed by another, whether its authority is unspent, and what its

@@ -19,7 +19,20 @@ use Rattle.rk_auth.specs.declared.construction.Stage.TheVariants.{Starting, Plai
 use Rattle.rk_auth.specs.declared.construction.Authority.{Authority}
 use Rattle.rk_auth.specs.declared.construction.Construction.{Construction}
 use Rattle.rk_auth.specs.Sessions.{Sessions, new_session, stage_of, unspent}
-use Rattle.rk_auth.specs.Changes.{session_changed, in_handler, in_stage, in_new_stage, launched, spent, without_authority, with_construction, all_told, told, with_context, with_assumed}
+use Rattle.rk_auth.specs.Changes.{
+  session_changed,
+  in_handler,
+  in_stage,
+  in_new_stage,
+  launched,
+  spent,
+  without_authority,
+  with_construction,
+  all_told,
+  told,
+  with_context,
+  with_assumed,
+}
 use Rattle.rk_machine.specs.declared.event.Event.{Event}
 use Rattle.rk_machine.specs.declared.event.Event.TheVariants.{Opened, Asked, Launched, Ended, Collect, Gone}
 use Rattle.rk_machine.specs.declared.event.Ran.{Ran}
@@ -32,7 +45,30 @@ use Rattle.rk_machine.specs.Completion.{announced, outcome_of, sessions_ended, k
 use Rattle.rk_machine.specs.Laws.{is_done}
 use Rattle.rk_machine.specs.Owing.{is_followed}
 use Rattle.rk_machine.proofs.Found.InMaps.{get_inserted, get_removed, get_changed_at, get_changed_all}
-use Rattle.rk_machine.proofs.Effects.KindsOfStep.{Effect, refused, still, took, came, went, greets, begins, joins, links, unlinks, marks, tells, sets, adds, assumes, concludes, ran_plain, ran_piped, negates, failed, finished}
+use Rattle.rk_machine.proofs.Effects.KindsOfStep.{
+  Effect,
+  refused,
+  still,
+  took,
+  came,
+  went,
+  greets,
+  begins,
+  joins,
+  links,
+  unlinks,
+  marks,
+  tells,
+  sets,
+  adds,
+  assumes,
+  concludes,
+  ran_plain,
+  ran_piped,
+  negates,
+  failed,
+  finished,
+}
 use Rattle.rk_machine.proofs.Effects.HelloChanges.{greeted_sessions}
 
 -- ---- constructions, by their stages

@@ -26,11 +26,49 @@ use Rattle.rk_machine.specs.Steps.{may_launch, Ends, Step, told_as}
 use Rattle.rk_machine.specs.Laws.{is_done}
 use Rattle.rk_machine.specs.Owing.{is_followed}
 use Rattle.rk_machine.proofs.Found.Refusals.{not_not, if_none, unless}
-use Rattle.rk_machine.proofs.Effects.KindsOfStep.{Effect, effect, refused, still, took, came, went, greets, begins, joins, links, unlinks, marks, tells, sets, adds, assumes, concludes, ran_plain, ran_piped, negates, failed, finished}
+use Rattle.rk_machine.proofs.Effects.KindsOfStep.{
+  Effect,
+  effect,
+  refused,
+  still,
+  took,
+  came,
+  went,
+  greets,
+  begins,
+  joins,
+  links,
+  unlinks,
+  marks,
+  tells,
+  sets,
+  adds,
+  assumes,
+  concludes,
+  ran_plain,
+  ran_piped,
+  negates,
+  failed,
+  finished,
+}
 use Rattle.rk_machine.proofs.Effects.DrawnSerials.{is_drawn, drawn_now}
 use Rattle.rk_machine.proofs.Effects.SerialsStayDrawn.{keeps_drawn}
 use Rattle.rk_machine.proofs.Effects.WaitsAreTheWorlds.{IdleFresh}
-use Rattle.rk_machine.proofs.Effects.StagesByStep.{Kind, to_start, pipes, to_follow, kind, kind_in, kind_of, is_due, is_first_due, may_find, stage_kind, kind_after, kinds}
+use Rattle.rk_machine.proofs.Effects.StagesByStep.{
+  Kind,
+  to_start,
+  pipes,
+  to_follow,
+  kind,
+  kind_in,
+  kind_of,
+  is_due,
+  is_first_due,
+  may_find,
+  stage_kind,
+  kind_after,
+  kinds,
+}
 
 abbrev pub IsIdle : World → Type 0
 IsIdle w = (k : ℕ) → is_drawn w k ≡ false → kind_of w.sessions k ≡ None

@@ -13,7 +13,25 @@ use Rattle.rk_auth.specs.declared.construction.Stage.TheVariants.{Starting, Plai
 use Rattle.rk_auth.specs.declared.construction.Authority.{Authority}
 use Rattle.rk_auth.specs.declared.construction.Construction.{Construction}
 use Rattle.rk_auth.specs.Sessions.{Sessions, new_session, session_of, wait_of, handler_in}
-use Rattle.rk_auth.specs.Changes.{session_changed, in_handler, in_stage, in_new_stage, with_wait, new_wait, with_assumed, launched, spent, without_authority, without_construction, with_construction, all_told, told, told_wait, with_client, without_client}
+use Rattle.rk_auth.specs.Changes.{
+  session_changed,
+  in_handler,
+  in_stage,
+  in_new_stage,
+  with_wait,
+  new_wait,
+  with_assumed,
+  launched,
+  spent,
+  without_authority,
+  without_construction,
+  with_construction,
+  all_told,
+  told,
+  told_wait,
+  with_client,
+  without_client,
+}
 use Rattle.rk_machine.specs.Laws.{same_session}
 use Rattle.rk_machine.proofs.Found.InMaps.{get_inserted, get_removed, get_changed_at, get_changed_all}
 

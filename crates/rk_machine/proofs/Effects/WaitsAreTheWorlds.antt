@@ -37,10 +37,48 @@ use Rattle.rk_machine.specs.Steps.{Past, told_as}
 use Rattle.rk_machine.specs.Laws.{same_session, is_done, is_waiting, wait_begun, is_wait_ended}
 use Rattle.rk_machine.proofs.Found.InMaps.{get_inserted}
 use Rattle.rk_machine.proofs.Found.Refusals.{none_is, and_false}
-use Rattle.rk_machine.proofs.Effects.KindsOfStep.{Effect, refused, still, took, came, went, greets, begins, joins, links, unlinks, marks, tells, sets, adds, assumes, concludes, ran_plain, ran_piped, negates, failed, finished}
+use Rattle.rk_machine.proofs.Effects.KindsOfStep.{
+  Effect,
+  refused,
+  still,
+  took,
+  came,
+  went,
+  greets,
+  begins,
+  joins,
+  links,
+  unlinks,
+  marks,
+  tells,
+  sets,
+  adds,
+  assumes,
+  concludes,
+  ran_plain,
+  ran_piped,
+  negates,
+  failed,
+  finished,
+}
 use Rattle.rk_machine.proofs.Effects.HelloChanges.{greeted_sessions}
 use Rattle.rk_machine.proofs.Effects.DrawnSerials.{is_drawn}
-use Rattle.rk_machine.proofs.Effects.WaitsAfter.{same-true, flag, flag_in, flag_of, flag_kept, flag_collected, flag_begun, flag_told, flag_spent, flag_launched, flag_removed, flag_issued, flag_came, flag_went}
+use Rattle.rk_machine.proofs.Effects.WaitsAfter.{
+  same-true,
+  flag,
+  flag_in,
+  flag_of,
+  flag_kept,
+  flag_collected,
+  flag_begun,
+  flag_told,
+  flag_spent,
+  flag_launched,
+  flag_removed,
+  flag_issued,
+  flag_came,
+  flag_went,
+}
 
 abbrev pub step : ℕ → Event → Answer → Past
 step now e a = record { now = now; event = e; answer = a }

@@ -10,7 +10,24 @@ use Rattle.rk_machine.specs.Steps.{Beginning, Past, Run, Step}
 use Rattle.rk_machine.specs.Laws.{happened, never, is_start, is_launch, is_negate, since_negate, is_ending, is_completion, OnceFor, EachOnce}
 use Rattle.rk_machine.proofs.Effects.KindsOfStep.{effect}
 use Rattle.rk_machine.proofs.Effects.StagesAfter.{Shape, shape, shape_of, as_assumed, as_staged}
-use Rattle.rk_machine.proofs.Effects.OfOneConstruction.{Tests, tests, none_of, Turn, quiet, starts, launched_now, negated_now, failed_now, ended_now, completed_now, assumed_now, IsOwnAsk, Good, Goods, turns}
+use Rattle.rk_machine.proofs.Effects.OfOneConstruction.{
+  Tests,
+  tests,
+  none_of,
+  Turn,
+  quiet,
+  starts,
+  launched_now,
+  negated_now,
+  failed_now,
+  ended_now,
+  completed_now,
+  assumed_now,
+  IsOwnAsk,
+  Good,
+  Goods,
+  turns,
+}
 use Rattle.rk_machine.proofs.Effects.DrawnSerials.{is_drawn}
 use Rattle.rk_machine.proofs.Effects.SerialsStayDrawn.{keeps_drawn}
 

@@ -12,7 +12,21 @@ use Rattle.rk_machine.specs.Laws.{never, is_completion, is_ending, wait_collecte
 use Rattle.rk_machine.proofs.Effects.DrawnSerials.{is_drawn}
 use Rattle.rk_machine.proofs.Effects.SerialsStayDrawn.{KeepsDrawn}
 use Rattle.rk_machine.proofs.Effects.StagesAfter.{Shape, shape, shape_of, as_spent}
-use Rattle.rk_machine.proofs.Effects.OfOneConstruction.{Tests, tests, Turn, quiet, starts, launched_now, negated_now, failed_now, ended_now, completed_now, assumed_now, IsOwnAsk, Good}
+use Rattle.rk_machine.proofs.Effects.OfOneConstruction.{
+  Tests,
+  tests,
+  Turn,
+  quiet,
+  starts,
+  launched_now,
+  negated_now,
+  failed_now,
+  ended_now,
+  completed_now,
+  assumed_now,
+  IsOwnAsk,
+  Good,
+}
 use Rattle.rk_machine.proofs.OneConstruction.EachOnce.{Tied, clash, some_shape, never_more}
 use Rattle.rk_machine.proofs.Effects.AuthoritiesAfter.{is_unspent}
 use Rattle.rk_machine.proofs.Effects.BuildingAfter.{is_built}

@@ -31,10 +31,46 @@ use Rattle.rk_machine.specs.Steps.{told_as}
 use Rattle.rk_machine.specs.Laws.{same_session, IsOutcome}
 use Rattle.rk_machine.proofs.Found.InMaps.{get_changed_at}
 use Rattle.rk_machine.proofs.Found.Refusals.{none_is}
-use Rattle.rk_machine.proofs.Effects.KindsOfStep.{Effect, is_final, authority_for, refused, still, took, came, went, greets, begins, joins, links, unlinks, marks, tells, sets, adds, assumes, concludes, ran_plain, ran_piped, negates, failed, finished}
+use Rattle.rk_machine.proofs.Effects.KindsOfStep.{
+  Effect,
+  is_final,
+  authority_for,
+  refused,
+  still,
+  took,
+  came,
+  went,
+  greets,
+  begins,
+  joins,
+  links,
+  unlinks,
+  marks,
+  tells,
+  sets,
+  adds,
+  assumes,
+  concludes,
+  ran_plain,
+  ran_piped,
+  negates,
+  failed,
+  finished,
+}
 use Rattle.rk_machine.proofs.Effects.HelloChanges.{greeted_sessions, greeted_keys}
 use Rattle.rk_machine.proofs.Effects.DrawnSerials.{is_drawn}
-use Rattle.rk_machine.proofs.Effects.WaitsAfter.{wait_kept, wait_collected, wait_begun, wait_told, wait_spent, wait_launched, wait_removed, wait_issued, wait_came, wait_went}
+use Rattle.rk_machine.proofs.Effects.WaitsAfter.{
+  wait_kept,
+  wait_collected,
+  wait_begun,
+  wait_told,
+  wait_spent,
+  wait_launched,
+  wait_removed,
+  wait_issued,
+  wait_came,
+  wait_went,
+}
 use Rattle.rk_machine.proofs.Effects.StagesAfter.{shape_of, Shape, shape}
 use Rattle.rk_machine.proofs.Effects.OfOneConstruction.{Goods, concluder, by_key}
 use Rattle.rk_machine.proofs.Effects.WaitsAreTheWorlds.{IdleFresh, there_issued}

@@ -36,9 +36,54 @@ use Rattle.rk_machine.specs.Completion.{condition_after, ended}
 use Rattle.rk_machine.specs.Views.{is_owed, is_ready}
 use Rattle.rk_machine.specs.Laws.{is_done, same_session}
 use Rattle.rk_machine.specs.Recording.{Reached, IsOwedAnswer, Recording}
-use Rattle.rk_machine.specs.Owing.{client_owes, stage_owes, construction_owes, owed, owed_to, whose, start_owes, constructions, begun, closes, closed, is_followed, ends_owed, ends_owed_to, construction_ends, stage_ends, start_ends, takes, asked_of, names_in}
+use Rattle.rk_machine.specs.Owing.{
+  client_owes,
+  stage_owes,
+  construction_owes,
+  owed,
+  owed_to,
+  whose,
+  start_owes,
+  constructions,
+  begun,
+  closes,
+  closed,
+  is_followed,
+  ends_owed,
+  ends_owed_to,
+  construction_ends,
+  stage_ends,
+  start_ends,
+  takes,
+  asked_of,
+  names_in,
+}
 use Rattle.rk_machine.proofs.Found.Refusals.{and_false, by_option}
-use Rattle.rk_machine.proofs.Effects.KindsOfStep.{Effect, effect, refused, still, took, came, went, greets, begins, joins, links, unlinks, marks, tells, sets, adds, assumes, concludes, ran_plain, ran_piped, negates, failed, finished}
+use Rattle.rk_machine.proofs.Effects.KindsOfStep.{
+  Effect,
+  effect,
+  refused,
+  still,
+  took,
+  came,
+  went,
+  greets,
+  begins,
+  joins,
+  links,
+  unlinks,
+  marks,
+  tells,
+  sets,
+  adds,
+  assumes,
+  concludes,
+  ran_plain,
+  ran_piped,
+  negates,
+  failed,
+  finished,
+}
 use Rattle.rk_machine.specs.Weights.{weight, weight_in}
 use Rattle.rk_machine.proofs.OwedSteps.WeightsOfMaps.{but_one, all_same, no_weight, no_heavier, part}
 use Rattle.rk_machine.proofs.Effects.StagesByStep.{Kind, to_start, talks, pipes, to_follow, kind, may_find, kind_of, kind_in, kind_after, launched_kind, kinds}

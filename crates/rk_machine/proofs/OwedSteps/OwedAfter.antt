@@ -17,7 +17,23 @@ use Rattle.rk_auth.specs.declared.construction.Stage.TheVariants.{Starting, Plai
 use Rattle.rk_auth.specs.declared.construction.Authority.{Authority}
 use Rattle.rk_auth.specs.declared.construction.Construction.{Construction}
 use Rattle.rk_auth.specs.Sessions.{Sessions, new_session, session_of, stage_of, handler_in, unspent}
-use Rattle.rk_auth.specs.Changes.{session_changed, in_handler, in_stage, in_new_stage, with_assumed, launched, spent, without_authority, without_construction, with_construction, all_told, told, told_wait, with_client, without_client}
+use Rattle.rk_auth.specs.Changes.{
+  session_changed,
+  in_handler,
+  in_stage,
+  in_new_stage,
+  with_assumed,
+  launched,
+  spent,
+  without_authority,
+  without_construction,
+  with_construction,
+  all_told,
+  told,
+  told_wait,
+  with_client,
+  without_client,
+}
 use Rattle.rk_machine.specs.World.{World}
 use Rattle.rk_machine.specs.Completion.{announced, outcome_of, sessions_ended, keys_ended, ended}
 use Rattle.rk_machine.specs.Laws.{same_session}

@@ -21,7 +21,18 @@ use Rattle.rk_auth.specs.declared.construction.Construction.{Construction}
 use Rattle.rk_auth.specs.declared.session.Outcome.{Outcome}
 use Rattle.rk_auth.specs.declared.session.Outcome.TheVariants.{Found, Failed}
 use Rattle.rk_auth.specs.Sessions.{Sessions, new_session, session_of, wait_of, is_to_launch, handler_in}
-use Rattle.rk_auth.specs.Changes.{session_changed, with_wait, new_wait, with_context, with_setting, with_assumed, with_construction, launched, spent, ready_outcome}
+use Rattle.rk_auth.specs.Changes.{
+  session_changed,
+  with_wait,
+  new_wait,
+  with_context,
+  with_setting,
+  with_assumed,
+  with_construction,
+  launched,
+  spent,
+  ready_outcome,
+}
 use Rattle.rk_machine.specs.declared.event.Event.{Event}
 use Rattle.rk_machine.specs.declared.event.Event.TheVariants.{Opened, Asked, Launched, Ended, Collect, Gone}
 use Rattle.rk_machine.specs.declared.event.Ran.TheVariants as ran
@@ -39,13 +50,50 @@ use Rattle.rk_machine.specs.Steps.{negating, opened, gone, collected, told_as}
 use Rattle.rk_machine.specs.Views.{is_owed, is_ready}
 use Rattle.rk_machine.specs.Laws.{same_session}
 use Rattle.rk_machine.specs.Owing.{wait_owes, client_owes, stage_owes, construction_owes, places, owed_to, whose, start_owes, is_request, need}
-use Rattle.rk_machine.proofs.Effects.KindsOfStep.{Effect, authority_for, refused, still, took, came, went, greets, begins, joins, links, unlinks, marks, tells, sets, adds, assumes, concludes, ran_plain, ran_piped, negates, failed, finished}
+use Rattle.rk_machine.proofs.Effects.KindsOfStep.{
+  Effect,
+  authority_for,
+  refused,
+  still,
+  took,
+  came,
+  went,
+  greets,
+  begins,
+  joins,
+  links,
+  unlinks,
+  marks,
+  tells,
+  sets,
+  adds,
+  assumes,
+  concludes,
+  ran_plain,
+  ran_piped,
+  negates,
+  failed,
+  finished,
+}
 use Rattle.rk_machine.proofs.Effects.HelloChanges.{greeted_sessions}
 use Rattle.rk_machine.proofs.Effects.WaitsAreTheWorlds.{IdleFresh, there_issued}
 use Rattle.rk_machine.proofs.Effects.WaitsAfter.{same-true, same-self, session_of_changed}
 use Rattle.rk_machine.specs.Weights.{weight}
 use Rattle.rk_machine.proofs.OwedSteps.WeightsOfMaps.{but_one, but_two, all_same}
-use Rattle.rk_machine.proofs.OwedSteps.OwedAfter.{places_kept, places_other, places_there, places_announced, places_spent, places_ended, places_issued, places_launched, stage_there, places_came, places_went, client_there}
+use Rattle.rk_machine.proofs.OwedSteps.OwedAfter.{
+  places_kept,
+  places_other,
+  places_there,
+  places_announced,
+  places_spent,
+  places_ended,
+  places_issued,
+  places_launched,
+  stage_there,
+  places_came,
+  places_went,
+  client_there,
+}
 
 -- what is owed to s changes alone, and where a construction k starts, what is owed to it
 pub data Change (s : SessionId) (a b : Sessions) (starts : ℕ) : Type 0 where

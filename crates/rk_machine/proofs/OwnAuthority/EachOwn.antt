@@ -10,7 +10,21 @@ use Rattle.rk_machine.specs.Steps.{Beginning, Past, Run, Step}
 use Rattle.rk_machine.specs.Laws.{is_completion, assumed_in, last_assumed, EachOwn}
 use Rattle.rk_machine.proofs.Effects.KindsOfStep.{effect}
 use Rattle.rk_machine.proofs.Effects.StagesAfter.{Shape, shape, shape_of, as_assumed}
-use Rattle.rk_machine.proofs.Effects.OfOneConstruction.{Tests, tests, Turn, quiet, starts, launched_now, negated_now, failed_now, ended_now, completed_now, assumed_now, IsOwnAsk, turns}
+use Rattle.rk_machine.proofs.Effects.OfOneConstruction.{
+  Tests,
+  tests,
+  Turn,
+  quiet,
+  starts,
+  launched_now,
+  negated_now,
+  failed_now,
+  ended_now,
+  completed_now,
+  assumed_now,
+  IsOwnAsk,
+  turns,
+}
 use Rattle.rk_machine.proofs.Effects.DrawnSerials.{is_drawn}
 use Rattle.rk_machine.proofs.OneConstruction.EachOnce.{some_shape, clash, knows}
 

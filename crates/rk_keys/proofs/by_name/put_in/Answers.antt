@@ -6,10 +6,12 @@ use Rattle.rk_keys.proofs.Indexed.{serials_pushed, serials_back}
 use Rattle.rk_keys.proofs.by_name.put_in.Goals as goal
 
 pub insert-requires-clause-new : goal.insert-requires-clause-new
-insert-requires-clause-new c = ap (λ m. map.get m c.args.hash) c.bucket_at-bucket.ensures.facts ∙ taken_out c.reserve.new.self.facts c.args.hash c.args.hash refl
+insert-requires-clause-new c = ap (λ m. map.get m c.args.hash) c.bucket_at-bucket.ensures.facts ∙
+    taken_out c.reserve.new.self.facts c.args.hash c.args.hash refl
 
 pub insert-requires-in-Err-clause-new : goal.insert-requires-in-Err-clause-new
-insert-requires-in-Err-clause-new c = ap (λ m. map.get m c.args.hash) c.bucket_at-bucket.ensures.facts ∙ taken_out c.reserve.new.self.facts c.args.hash c.args.hash refl
+insert-requires-in-Err-clause-new c = ap (λ m. map.get m c.args.hash) c.bucket_at-bucket.ensures.facts ∙
+    taken_out c.reserve.new.self.facts c.args.hash c.args.hash refl
 
 pub returns-in-Ok-clause-ok : goal.returns-in-Ok-clause-ok
 returns-in-Ok-clause-ok c h =

@@ -27,12 +27,15 @@ returns-in_err-key-clause-none c _ =
 pub returns-clause-none : goal.returns-clause-none
 returns-clause-none c none =
     let named : has_name c.args.facts.now.facts c.in_ok-key.key c.args.typ.now c.args.description.now ≡ true =
-    found_passes (λ k. has_name c.args.facts.now.facts k c.args.typ.now c.args.description.now) c.as_slice.result.now c.in_ok-key.key (sym c.named_among.ensures ∙ c.in_ok-key.was) in
+    found_passes (λ k. has_name c.args.facts.now.facts k c.args.typ.now c.args.description.now) c.as_slice.result.now c.in_ok-key.key
+    (sym c.named_among.ensures ∙ c.in_ok-key.was) in
     absurd (has_number c.args.facts.now.facts c.args.numbers.now.facts c.requires.naming c.args.typ.now c.args.description.now c.in_ok-key.key named
     (sym c.get-2.ensures ∙ sym c.copied.ensures ∙ none))
 
 pub returns-clause-some : goal.returns-clause-some
 returns-clause-some c =
     let named : has_name c.args.facts.now.facts c.in_ok-key.key c.args.typ.now c.args.description.now ≡ true =
-    found_passes (λ k. has_name c.args.facts.now.facts k c.args.typ.now c.args.description.now) c.as_slice.result.now c.in_ok-key.key (sym c.named_among.ensures ∙ c.in_ok-key.was) in
-    number_found c.args.facts.now.facts c.args.numbers.now.facts c.args.typ.now c.args.description.now c.in_ok-key.key c.copied.result named (c.copied.ensures ∙ c.get-2.ensures)
+    found_passes (λ k. has_name c.args.facts.now.facts k c.args.typ.now c.args.description.now) c.as_slice.result.now c.in_ok-key.key
+    (sym c.named_among.ensures ∙ c.in_ok-key.was) in
+    number_found c.args.facts.now.facts c.args.numbers.now.facts c.args.typ.now c.args.description.now c.in_ok-key.key c.copied.result named (c.copied.ensures ∙
+    c.get-2.ensures)

@@ -1,4 +1,13 @@
-use Rattle.rk_machine.proofs.OwedSteps.EachRecorded.{empty_owes, no_ends, no_constructions, reached_recording, owed_part, ends_part, constructions_owed, closes_there}
+use Rattle.rk_machine.proofs.OwedSteps.EachRecorded.{
+  empty_owes,
+  no_ends,
+  no_constructions,
+  reached_recording,
+  owed_part,
+  ends_part,
+  constructions_owed,
+  closes_there,
+}
 use Rattle.rk_machine.proofs.laws.every_step_owed.Goals as goal
 
 pub returns-clause-beginning : goal.returns-clause-beginning

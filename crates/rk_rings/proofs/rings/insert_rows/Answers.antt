@@ -17,7 +17,8 @@ loop-serial-init c =
     }
 
 pub insert-requires-clause-new : goal.insert-requires-clause-new
-insert-requires-clause-new c = ap (get c.loop-serial.table.facts) c.get.ensures.number ∙ next_new _ _ _ _ _ c.in-Some.ensures.steps.0 c.loop-serial.invariant.new
+insert-requires-clause-new c = ap (get c.loop-serial.table.facts) c.get.ensures.number ∙
+    next_new _ _ _ _ _ c.in-Some.ensures.steps.0 c.loop-serial.invariant.new
 
 pub insert-requires-clause-room : goal.insert-requires-clause-room
 insert-requires-clause-room c = omega (arith, ap length c.in-Some.ensures.steps.0, c.loop-serial.invariant.room)
@@ -30,7 +31,8 @@ loop-serial-preserved c =
       facts = left_facts _ _ _ _ _ _ _ c.in-Some.ensures.steps.0 is c.loop-serial.invariant.facts;
       new = left_new _ _ _ _ _ _ c.in-Some.ensures.steps.0 is c.loop-serial.invariant.new;
       room = omega (arith, ap length c.in-Some.ensures.steps.0, c.loop-serial.invariant.room, c.insert.ensures.room);
-      serials = λ all. subst AreSerials (sym is) (serials-insert _ _ _ (c.loop-serial.invariant.serials all) (is_serial _ c.get.ensures.range.0 c.get.ensures.range.1));
+      serials = λ all. subst AreSerials (sym is) (serials-insert _ _ _ (c.loop-serial.invariant.serials all)
+          (is_serial _ c.get.ensures.range.0 c.get.ensures.range.1));
     }
 
 pub returns-clause-facts : goal.returns-clause-facts

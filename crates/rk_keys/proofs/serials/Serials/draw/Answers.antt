@@ -9,7 +9,8 @@ pub returns-in_err-next-clause-cases : goal.returns-in_err-next-clause-cases
 returns-in_err-next-clause-cases c =
     rw c.from_residual.ensures (
       subst (λ (d : Drawn). ¬ (HasSerials d 1)) c.self.view_is
-          (next_in_order c.self.inside.first c.self.inside.stride c.self.inside.count None c.self.invariant.0 c.self.invariant.1 (sym c.in_err-next.was ∙ c.of_form.ensures)),
+          (next_in_order c.self.inside.first c.self.inside.stride c.self.inside.count None c.self.invariant.0 c.self.invariant.1 (sym c.in_err-next.was ∙
+          c.of_form.ensures)),
       refl,
     )
 
@@ -18,7 +19,8 @@ returns-in_err-next-clause-left c = λ n h. HasSerials-fewer c.args.self.now n h
 
 pub returns-clause-cases : goal.returns-clause-cases
 returns-clause-cases c =
-    let next = next_in_order c.self.inside.first c.self.inside.stride c.self.inside.count (Some c.in_ok-next.next) c.self.invariant.0 c.self.invariant.1 (sym c.in_ok-next.was ∙ c.of_form.ensures) in (
+    let next = next_in_order c.self.inside.first c.self.inside.stride c.self.inside.count (Some c.in_ok-next.next) c.self.invariant.0 c.self.invariant.1
+    (sym c.in_ok-next.was ∙ c.of_form.ensures) in (
       subst (λ (d : Drawn). IsNext d c.in_ok-next.next) c.self.view_is next.0,
       drawn_next c.self.inside.first c.self.inside.stride c.self.inside.count c.in_ok-next.next next.1 ∙ ap (with_drawn c.in_ok-next.next) c.self.view_is,
     )

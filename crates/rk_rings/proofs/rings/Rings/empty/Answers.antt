@@ -6,7 +6,8 @@ use Rattle.rk_rings.proofs.rings.Rings.empty.Goals as goal
 
 pub loop-key-smaller : goal.loop-key-smaller
 loop-key-smaller c =
-    subst (λ m. links_in m c.args.ring < links_in c.loop-key.self c.args.ring) (sym c.take_out.ensures) (fewer_left c.loop-key.self c.args.ring c.in-Some.key c.in-Some.ensures)
+    subst (λ m. links_in m c.args.ring < links_in c.loop-key.self c.args.ring) (sym c.take_out.ensures)
+    (fewer_left c.loop-key.self c.args.ring c.in-Some.key c.in-Some.ensures)
 
 pub loop-key-preserved : goal.loop-key-preserved
 loop-key-preserved c = ap (changed_at c.args.ring cleared) c.take_out.ensures ∙ still_to_clear c.loop-key.self c.args.ring c.in-Some.key ∙ c.loop-key.invariant

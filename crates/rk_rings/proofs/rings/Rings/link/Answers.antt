@@ -27,8 +27,12 @@ one_more-requires-clause-room c none =
 
 pub one_more-requires-clause-few : goal.one_more-requires-clause-few
 one_more-requires-clause-few c =
-    let le : count_at c.count_gone.new.counts.facts c.get-2.result ≤ count_at c.self.inside.counts.facts c.get-2.result = omega (arith, c.count_gone.ensures.each c.get-2.result) in
-    few_enough c.self.inside.rows.facts c.self.inside.counts c.get-2.result (count_at c.count_gone.new.counts.facts c.get-2.result) c.self.invariant.counted c.self.invariant.rows.0 le
+    let le : count_at c.count_gone.new.counts.facts c.get-2.result ≤ count_at c.self.inside.counts.facts c.get-2.result = omega (
+      arith,
+      c.count_gone.ensures.each c.get-2.result,
+    ) in
+    few_enough c.self.inside.rows.facts c.self.inside.counts c.get-2.result (count_at c.count_gone.new.counts.facts c.get-2.result) c.self.invariant.counted
+    c.self.invariant.rows.0 le
 
 pub invariant_of-self : goal.invariant_of-self
 invariant_of-self c =

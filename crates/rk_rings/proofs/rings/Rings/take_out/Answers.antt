@@ -13,11 +13,13 @@ pub invariant_of-self : goal.invariant_of-self
 invariant_of-self c =
     let m = c.self.inside.rows.facts in
     let old = c.self.inside.counts in
-    let put : c.change.new.self.facts ≡ changed_at c.args.ring (unlinked c.args.key) m = c.change.ensures.facts ∙ ap (λ r. changed_at r (unlinked c.args.key) m) c.get.ensures.number in
+    let put : c.change.new.self.facts ≡ changed_at c.args.ring (unlinked c.args.key) m = c.change.ensures.facts ∙
+    ap (λ r. changed_at r (unlinked c.args.key) m) c.get.ensures.number in
     record {
       rows = rows-changed_at _ _ _ _ c.change.ensures.facts (once_unlinked c.args.key) c.self.invariant.rows;
       counted = subst (λ n. AreCounted n c.one_less.new.self) (sym put)
-          (counted_unlinked m old c.one_less.new.self c.args.ring c.args.key c.self.invariant.counted (ap (λ n. holds n c.args.ring c.args.key) c.self.view_is ∙ c.requires)
+          (counted_unlinked m old c.one_less.new.self c.args.ring c.args.key c.self.invariant.counted (ap (λ n. holds n c.args.ring c.args.key) c.self.view_is ∙
+          c.requires)
           (λ q. c.one_less.ensures.each q ∙ ap (λ k. cond (nat_eq k q) (count_at old.facts q - 1) (count_at old.facts q)) c.get-2.ensures.number)
           c.one_less.ensures.positive c.one_less.ensures.places);
     }
