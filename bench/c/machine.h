@@ -52,7 +52,7 @@ struct session {
     uint32_t wait_key; /* 0 where it does not wait */
     uint32_t outcome;  /* an errno, or 0 for the key itself */
     struct session *next, **here; /* in the chain of those who wait for one key and are not told yet */
-    void *seat;                   /* for whoever drives the machine */
+    void *peer;                   /* for whoever drives the machine */
 };
 
 #define HANDLER_ID ((uint64_t)1 << 32)
@@ -71,7 +71,7 @@ struct construction {
     struct session session;  /* of its plain handler */
     struct session *waiting; /* the chain, the starter in it */
     struct session *starter; /* until it has collected or is gone */
-    void *seat;
+    void *peer;
 };
 
 struct machine {

@@ -10,7 +10,7 @@ static const bool blank[256] = {[' '] = true, ['\t'] = true};
 enum place { TALKS, STARTS, PIPES };
 
 /* What a client or a construction has. */
-struct seat {
+struct peer {
     uint64_t id; /* of its session, the order of moves */
     enum place place;
     bool piped;           /* the program that is to be started is */
@@ -27,31 +27,31 @@ struct replay {
     struct conf conf;
     struct buffer out;
     struct buffer decoded; /* the bytes of the line */
-    struct seat **queue;   /* a heap by id: those that may move */
+    struct peer **queue;   /* a heap by id: those that may move */
     size_t count, room;
 };
 
 /* ---- the queue of those that may move */
 
-static void queue_put(struct replay *r, struct seat *seat)
+static void queue_put(struct replay *r, struct peer *peer)
 {
-    if (seat->queued)
+    if (peer->queued)
         return;
     if (r->count == r->room) {
         r->room = r->room ? 2 * r->room : 64;
         r->queue = checked(realloc(r->queue, r->room * sizeof *r->queue));
     }
     size_t at = r->count++;
-    for (; at && r->queue[(at - 1) / 2]->id > seat->id; at = (at - 1) / 2)
+    for (; at && r->queue[(at - 1) / 2]->id > peer->id; at = (at - 1) / 2)
         r->queue[at] = r->queue[(at - 1) / 2];
-    r->queue[at] = seat;
-    seat->queued = true;
+    r->queue[at] = peer;
+    peer->queued = true;
 }
 
 static void queue_drop_first(struct replay *r)
 {
     r->queue[0]->queued = false;
-    struct seat *last = r->queue[--r->count];
+    struct peer *last = r->queue[--r->count];
     size_t at = 0;
     for (;;) {
         size_t child = 2 * at + 1;
@@ -69,7 +69,7 @@ static void queue_drop_first(struct replay *r)
 
 static void woken(void *driver, struct session *session)
 {
-    queue_put(driver, session->seat);
+    queue_put(driver, session->peer);
 }
 
 /* ---- what is written */
@@ -97,13 +97,13 @@ static void put_line(struct replay *r, const char *word, uint64_t number, const 
 }
 
 /* A line of bytes to a client or a handler: a head, and some bytes behind it. */
-static void put_bytes(struct replay *r, const struct seat *seat, const uint8_t *head, size_t head_len, struct bytes rest)
+static void put_bytes(struct replay *r, const struct peer *peer, const uint8_t *head, size_t head_len, struct bytes rest)
 {
     /* room for the words and a number, too */
     uint8_t *begin = buffer_end(&r->out, 32 + 2 * (head_len + rest.len)), *to = begin;
-    struct bytes word = seat->construction ? bytes_of("tohandler ") : bytes_of("to ");
+    struct bytes word = peer->construction ? bytes_of("tohandler ") : bytes_of("to ");
     memcpy(to, word.at, word.len);
-    to = write_number(to + word.len, (uint32_t)seat->id);
+    to = write_number(to + word.len, (uint32_t)peer->id);
     *to++ = ' ';
     to = write_hex(to, head, head_len);
     to = write_hex(to, rest.at, rest.len);
@@ -111,7 +111,7 @@ static void put_bytes(struct replay *r, const struct seat *seat, const uint8_t *
     r->out.len += (size_t)(to - begin);
 }
 
-static void put_reply(struct replay *r, const struct seat *seat, const struct answer *answer)
+static void put_reply(struct replay *r, const struct peer *peer, const struct answer *answer)
 {
     uint8_t frame[32], *at = frame + 4;
     struct bytes rest = {NULL, 0};
@@ -136,26 +136,26 @@ static void put_reply(struct replay *r, const struct seat *seat, const struct an
         return;
     }
     write_u32(frame, (uint32_t)((size_t)(at - frame) - 4 + rest.len));
-    put_bytes(r, seat, frame, (size_t)(at - frame), rest);
+    put_bytes(r, peer, frame, (size_t)(at - frame), rest);
 }
 
-/* ---- seats */
+/* ---- peers */
 
-static struct seat *seat_make(uint64_t id, enum place place, struct session *session, struct construction *c)
+static struct peer *peer_make(uint64_t id, enum place place, struct session *session, struct construction *c)
 {
-    struct seat *seat = make_zeroed(1, sizeof *seat);
-    seat->id = id;
-    seat->place = place;
-    seat->session = session;
-    seat->construction = c;
-    session->seat = seat;
-    return seat;
+    struct peer *peer = make_zeroed(1, sizeof *peer);
+    peer->id = id;
+    peer->place = place;
+    peer->session = session;
+    peer->construction = c;
+    session->peer = peer;
+    return peer;
 }
 
-static void seat_free(struct seat *seat)
+static void peer_free(struct peer *peer)
 {
-    buffer_free(&seat->bytes);
-    free(seat);
+    buffer_free(&peer->bytes);
+    free(peer);
 }
 
 /* Puts out the command of a construction, or has its start fail. */
@@ -168,45 +168,45 @@ static void start(struct replay *r, uint64_t now, uint32_t key, bool negates)
         machine_launched(&r->machine, key, RAN_FAILED, now);
         return;
     }
-    struct seat *seat = seat_make(HANDLER_ID | key, STARTS, &c->session, c);
-    seat->piped = piped;
-    c->seat = seat;
+    struct peer *peer = peer_make(HANDLER_ID | key, STARTS, &c->session, c);
+    peer->piped = piped;
+    c->peer = peer;
 }
 
 /* ---- moves */
 
 /* The next body of a stream: 1, 0 where it has not come whole, -1 for a length that no frame has. */
-static int next_body(struct seat *seat, const uint8_t **body, uint32_t *len)
+static int next_body(struct peer *peer, const uint8_t **body, uint32_t *len)
 {
-    size_t left = seat->bytes.len - seat->taken;
+    size_t left = peer->bytes.len - peer->taken;
     if (left < 4)
         return 0;
-    const uint8_t *at = seat->bytes.at + seat->taken;
+    const uint8_t *at = peer->bytes.at + peer->taken;
     *len = read_u32(at);
     if (*len == 0 || *len > MAX_BODY)
         return -1;
     if (left - 4 < *len)
         return 0;
     *body = at + 4;
-    seat->taken += 4 + (size_t)*len;
+    peer->taken += 4 + (size_t)*len;
     return 1;
 }
 
 /* The bytes of a stream are no frame. */
-static void shut(struct replay *r, struct seat *seat)
+static void shut(struct replay *r, struct peer *peer)
 {
     queue_drop_first(r);
-    if (seat->construction) {
-        seat->shut = true;
-        put_line(r, "shuthandler ", (uint32_t)seat->id, "\n");
+    if (peer->construction) {
+        peer->shut = true;
+        put_line(r, "shuthandler ", (uint32_t)peer->id, "\n");
     } else {
-        machine_gone(&r->machine, (uint32_t)seat->id);
-        put_line(r, "shut ", (uint32_t)seat->id, "\n");
-        seat_free(seat);
+        machine_gone(&r->machine, (uint32_t)peer->id);
+        put_line(r, "shut ", (uint32_t)peer->id, "\n");
+        peer_free(peer);
     }
 }
 
-static void carry_out(struct replay *r, struct seat *seat, uint64_t now, const uint8_t *body, uint32_t len)
+static void carry_out(struct replay *r, struct peer *peer, uint64_t now, const uint8_t *body, uint32_t len)
 {
     struct ask ask;
     struct answer answer = {.kind = REFUSED};
@@ -214,29 +214,29 @@ static void carry_out(struct replay *r, struct seat *seat, uint64_t now, const u
     if (error)
         answer.number = (uint32_t)error;
     else
-        answer = machine_ask(&r->machine, seat->session, now, &ask);
+        answer = machine_ask(&r->machine, peer->session, now, &ask);
     if (answer.kind == START)
         start(r, now, answer.number, false);
     else
-        put_reply(r, seat, &answer);
+        put_reply(r, peer, &answer);
 }
 
 /* The first session that may move does one thing, or leaves the queue. */
 static void move_first(struct replay *r, uint64_t now)
 {
-    struct seat *seat = r->queue[0];
-    if (is_ready(&r->machine, seat->session)) {
-        struct answer answer = machine_collect(&r->machine, seat->session);
-        put_reply(r, seat, &answer);
+    struct peer *peer = r->queue[0];
+    if (is_ready(&r->machine, peer->session)) {
+        struct answer answer = machine_collect(&r->machine, peer->session);
+        put_reply(r, peer, &answer);
         return;
     }
     const uint8_t *body;
     uint32_t len;
-    int has_next = seat->session->wait_key || seat->shut ? 0 : next_body(seat, &body, &len);
+    int has_next = peer->session->wait_key || peer->shut ? 0 : next_body(peer, &body, &len);
     if (has_next > 0)
-        carry_out(r, seat, now, body, len);
+        carry_out(r, peer, now, body, len);
     else if (has_next < 0)
-        shut(r, seat);
+        shut(r, peer);
     else
         queue_drop_first(r);
 }
@@ -253,14 +253,14 @@ struct happening {
 };
 
 /* More bytes for a stream or of a piped handler. Used ones give their room back where more is wanted, or all are used. */
-static void feed(struct seat *seat, const struct buffer *more)
+static void feed(struct peer *peer, const struct buffer *more)
 {
-    struct buffer *bytes = &seat->bytes;
-    if (seat->taken == bytes->len || (bytes->room - bytes->len < more->len && seat->taken >= bytes->len / 2)) {
-        bytes->len -= seat->taken;
+    struct buffer *bytes = &peer->bytes;
+    if (peer->taken == bytes->len || (bytes->room - bytes->len < more->len && peer->taken >= bytes->len / 2)) {
+        bytes->len -= peer->taken;
         if (bytes->len)
-            memmove(bytes->at, bytes->at + seat->taken, bytes->len);
-        seat->taken = 0;
+            memmove(bytes->at, bytes->at + peer->taken, bytes->len);
+        peer->taken = 0;
     }
     buffer_put(bytes, more->at, more->len);
 }
@@ -270,27 +270,27 @@ static void accept_client(struct replay *r, uint32_t client)
     int error;
     struct session *session = machine_open(&r->machine, client, &error);
     if (session)
-        seat_make(client, TALKS, session, NULL);
+        peer_make(client, TALKS, session, NULL);
     else
         put_line(r, "shut ", client, "\n");
 }
 
-static void started(struct replay *r, struct seat *seat, uint64_t now)
+static void started(struct replay *r, struct peer *peer, uint64_t now)
 {
-    const struct construction *c = seat->construction;
-    machine_launched(&r->machine, c->key, seat->piped ? RAN_PIPED : RAN_PLAIN, now);
-    seat->place = seat->piped ? PIPES : TALKS;
-    if (seat->piped && c->callout_len)
-        put_bytes(r, seat, c->callout, c->callout_len, (struct bytes){NULL, 0});
+    const struct construction *c = peer->construction;
+    machine_launched(&r->machine, c->key, peer->piped ? RAN_PIPED : RAN_PLAIN, now);
+    peer->place = peer->piped ? PIPES : TALKS;
+    if (peer->piped && c->callout_len)
+        put_bytes(r, peer, c->callout, c->callout_len, (struct bytes){NULL, 0});
 }
 
-static void ended(struct replay *r, struct seat *seat, uint64_t now, bool well)
+static void ended(struct replay *r, struct peer *peer, uint64_t now, bool well)
 {
-    uint32_t key = seat->construction->key;
-    bool can_be_payload = seat->place == PIPES && seat->bytes.len <= MAX_PAYLOAD;
-    struct bytes payload = {seat->bytes.at, can_be_payload ? seat->bytes.len : 0};
+    uint32_t key = peer->construction->key;
+    bool can_be_payload = peer->place == PIPES && peer->bytes.len <= MAX_PAYLOAD;
+    struct bytes payload = {peer->bytes.at, can_be_payload ? peer->bytes.len : 0};
     struct answer answer = machine_ended(&r->machine, key, well, payload, now);
-    seat_free(seat);
+    peer_free(peer);
     if (answer.kind == NEGATE)
         start(r, now, key, true);
 }
@@ -304,12 +304,12 @@ static bool client_can(struct replay *r, const struct happening *h)
     if (h->verb == ACCEPT) {
         accept_client(r, h->who);
     } else if (h->verb == GONE) {
-        struct seat *seat = session->seat;
+        struct peer *peer = session->peer;
         machine_gone(&r->machine, h->who);
-        seat_free(seat);
+        peer_free(peer);
     } else {
-        feed(session->seat, &r->decoded);
-        queue_put(r, session->seat);
+        feed(session->peer, &r->decoded);
+        queue_put(r, session->peer);
     }
     return true;
 }
@@ -321,18 +321,18 @@ static bool handler_can(struct replay *r, const struct happening *h)
     bool starts = h->verb == STARTED || h->verb == UNSTARTED;
     if (starts ? !is_to_launch(c) : !is_running(c))
         return false;
-    struct seat *seat = c->seat;
+    struct peer *peer = c->peer;
     if (h->verb == STARTED) {
-        started(r, seat, h->now);
+        started(r, peer, h->now);
     } else if (h->verb == UNSTARTED) {
         machine_launched(&r->machine, h->who, RAN_FAILED, h->now);
-        seat_free(seat);
+        peer_free(peer);
     } else if (h->verb != OUT) {
-        ended(r, seat, h->now, h->verb == ENDED && h->well);
-    } else if (!seat->shut) {
-        feed(seat, &r->decoded);
-        if (seat->place == TALKS)
-            queue_put(r, seat);
+        ended(r, peer, h->now, h->verb == ENDED && h->well);
+    } else if (!peer->shut) {
+        feed(peer, &r->decoded);
+        if (peer->place == TALKS)
+            queue_put(r, peer);
     }
     return true;
 }
@@ -591,9 +591,9 @@ static void free_all(struct replay *r)
 {
     void *value;
     for (uint32_t at = 0; map_next(&r->machine.clients, &at, &value);)
-        seat_free(((struct session *)value)->seat);
+        peer_free(((struct session *)value)->peer);
     for (uint32_t at = 0; map_next(&r->machine.constructions, &at, &value);)
-        seat_free(((struct construction *)value)->seat);
+        peer_free(((struct construction *)value)->peer);
     machine_free(&r->machine);
     conf_free(&r->conf);
     buffer_free(&r->out);

@@ -1,4 +1,4 @@
--- Each own step and each move leaves the seats to those who are there.
+-- Each own step and each move leaves the peers to those who are there.
 use Rattle.std.proofs.Common.{◌≡◌, ℕ, Bool, true, false, cond, List, [], ◌∷◌, refl, sym, ap, ◌∙◌, subst, inl, inr}
 use Rattle.std.specs.Prelude.{Option, Some, None, is_some, nat_eq, slice_get}
 use Rattle.std.specs.Ordering.{nat_cmp}
@@ -18,43 +18,43 @@ use Rattle.rk_served.specs.declared.happening.Happening.{Happening}
 use Rattle.rk_served.specs.declared.happening.Happening.TheVariants as happening
 use Rattle.rk_served.specs.declared.happening.StartResult.TheVariants.{Started, Failed}
 use Rattle.rk_served.specs.declared.output.Output.{Output}
-use Rattle.rk_served.specs.declared.seat.Channel.{Channel}
-use Rattle.rk_served.specs.declared.seat.Channel.TheVariants.{Talks, Starts, Pipes}
-use Rattle.rk_served.specs.Left.{Left, seat, without, Part, nothing}
+use Rattle.rk_served.specs.declared.peer.Channel.{Channel}
+use Rattle.rk_served.specs.declared.peer.Channel.TheVariants.{Talks, Starts, Pipes}
+use Rattle.rk_served.specs.Left.{Left, peer, without, Part, nothing}
 use Rattle.rk_served.specs.Moves.{Move, collects, refuses, asks, shuts_client, shuts_handler, Moves}
 use Rattle.rk_served.specs.OwnStep.{has_client, is_misplaced, Adds, Lengthens, Runs, negated, Follows, EndsBy, is_last, is_followed, is_not_followed}
 use Rattle.rk_served.specs.OwnStep.{OwnStep, channel_with}
 use Rattle.rk_served.specs.Served.{Acts}
-use Rattle.rk_served.specs.Seated.{IsSeated}
+use Rattle.rk_served.specs.WhoIsThere.{HasItsPeers}
 use Rattle.rk_machine.proofs.Effects.StagesByStep.{kind_in}
-use Rattle.rk_served.proofs.SeatLists.{sort_in, at_has}
-use Rattle.rk_served.proofs.Seating.{agree, Fits, fits, seated, same_seats, reseated, opened_fits, gone_fits, gone_done, ended_fits, runs_fits}
-use Rattle.rk_served.proofs.Seating.{follows_fits, follows_none_fits, answered_fits}
+use Rattle.rk_served.proofs.PeerLists.{sort_in, at_has}
+use Rattle.rk_served.proofs.PeersFit.{agree, Fits, fits, has_its_peers, same_peers, replaced, opened_fits, gone_fits, gone_done, ended_fits, runs_fits}
+use Rattle.rk_served.proofs.PeersFit.{follows_fits, follows_none_fits, answered_fits}
 
 -- ---- moves
 
-pub seated_client : (left : Left) (i n : ℕ) (p : Channel) (m : Option Subject) → slice_get left.seats i ≡ Some (seat (Client n) p m) → Fits left
+pub client_has_peer : (left : Left) (i n : ℕ) (p : Channel) (m : Option Subject) → slice_get left.peers i ≡ Some (peer (Client n) p m) → Fits left
     → has_client left.world n ≡ true
-seated_client left i n p m at f = sym (f.clients n) ∙ at_has left.seats i (seat (Client n) p m) at
+client_has_peer left i n p m at f = sym (f.clients n) ∙ at_has left.peers i (peer (Client n) p m) at
 
 move_fits : (conf : List Line) (now : ℕ) (old : Left) (index : ℕ) (part : Part) (new : Left) → Move conf now old index part new → Fits old → Fits new
-move_fits conf now old index part new (collects m) f = same_seats old new now (Collect m.who) m.answer m.step (λ n b. refl) (λ k o. refl) m.seats f
-move_fits conf now old index part new (refuses m) f = reseated old new index m.who (Talks m.stream) (Talks m.rest) m.made_for m.free.at m.seats refl m.world f
+move_fits conf now old index part new (collects m) f = same_peers old new now (Collect m.who) m.answer m.step (λ n b. refl) (λ k o. refl) m.peers f
+move_fits conf now old index part new (refuses m) f = replaced old new index m.who (Talks m.stream) (Talks m.rest) m.made_for m.free.at m.peers refl m.world f
 move_fits conf now old index part new (asks m) f =
-    answered_fits conf now _ m.who m.ask part new m.answered (reseated old _ index m.who (Talks m.stream) (Talks m.rest) m.made_for m.free.at refl refl refl f)
+    answered_fits conf now _ m.who m.ask part new m.answered (replaced old _ index m.who (Talks m.stream) (Talks m.rest) m.made_for m.free.at refl refl refl f)
 move_fits conf now old index part new (shuts_client m) f =
-    let ra = gone_done old.world now m.client m.answer new.world (seated_client old index m.client (Talks m.stream) m.made_for m.free.at f) m.step in
-    gone_fits old new now m.client (subst (λ (y : Answer). Step old.world now (Gone (Client m.client)) y new.world) ra m.step) m.seats f
+    let ra = gone_done old.world now m.client m.answer new.world (client_has_peer old index m.client (Talks m.stream) m.made_for m.free.at f) m.step in
+    gone_fits old new now m.client (subst (λ (y : Answer). Step old.world now (Gone (Client m.client)) y new.world) ra m.step) m.peers f
 move_fits conf now old index part new (shuts_handler m) f =
-    reseated old new index (Handler m.key) (Talks m.stream) _ m.made_for m.free.at m.seats refl m.world f
+    replaced old new index (Handler m.key) (Talks m.stream) _ m.made_for m.free.at m.peers refl m.world f
 
-pub move_seated : (conf : List Line) (now : ℕ) (old : Left) (index : ℕ) (part : Part) (new : Left) → Move conf now old index part new → IsSeated old
-    → IsSeated new
-move_seated conf now old index part new m s = seated new (move_fits conf now old index part new m (fits old s))
+pub move_keeps_peers : (conf : List Line) (now : ℕ) (old : Left) (index : ℕ) (part : Part) (new : Left) → Move conf now old index part new → HasItsPeers old
+    → HasItsPeers new
+move_keeps_peers conf now old index part new m s = has_its_peers new (move_fits conf now old index part new m (fits old s))
 
-pub moves_seated : (conf : List Line) (now : ℕ) (old : Left) (parts : List Part) (new : Left) → Moves conf now old parts new → IsSeated old → IsSeated new
-moves_seated conf now old [] new same s = subst IsSeated (sym same) s
-moves_seated conf now old (p ∷ ps) new m s = moves_seated conf now m.1 ps new m.3 (move_seated conf now old m.0 p m.1 m.2 s)
+pub moves_keep_peers : (conf : List Line) (now : ℕ) (old : Left) (parts : List Part) (new : Left) → Moves conf now old parts new → HasItsPeers old → HasItsPeers new
+moves_keep_peers conf now old [] new same s = subst HasItsPeers (sym same) s
+moves_keep_peers conf now old (p ∷ ps) new m s = moves_keep_peers conf now m.1 ps new m.3 (move_keeps_peers conf now old m.0 p m.1 m.2 s)
 
 -- ---- own steps
 
@@ -65,37 +65,37 @@ kept_channel more (Pipes bytes) = refl
 
 lengthens_fits : (s : SessionId) (more : List ℕ) (old : Left) (part : Part) (new : Left) → Lengthens s more old part new → Fits old → Fits new
 lengthens_fits s more old part new h f =
-    reseated old new h.reseats.index s h.channel (channel_with more h.channel) h.made_for h.reseats.at h.reseats.seats (kept_channel more h.channel) h.world f
+    replaced old new h.replaces.index s h.channel (channel_with more h.channel) h.made_for h.replaces.at h.replaces.peers (kept_channel more h.channel) h.world f
 
 run_fits : (now k : ℕ) (old : Left) (part : Part) (new : Left) → Runs now k old part new → Fits old → Fits new
-run_fits now k old part new h f = by_kind h.piped h.steps.step h.reseats.seats
+run_fits now k old part new h f = by_kind h.piped h.steps.step h.replaces.peers
   where
     by_kind : (b : Bool) → Step old.world now (Launched k (cond b ran.Piped ran.Plain)) done new.world
-        → new.seats ≡ Rattle.std.specs.Prelude.slice_set old.seats h.reseats.index
-        (seat (Handler k) (cond b (Pipes []) (Talks Rattle.rk_served.specs.Streams.no_bytes)) (Some h.subject)) → Fits new
-    by_kind true step seats = runs_fits old new now k ran.Piped h.reseats.index _ (Pipes []) h.subject refl step h.reseats.at seats f
-    by_kind false step seats =
-        runs_fits old new now k ran.Plain h.reseats.index _ (Talks Rattle.rk_served.specs.Streams.no_bytes) h.subject refl step h.reseats.at seats f
+        → new.peers ≡ Rattle.std.specs.Prelude.slice_set old.peers h.replaces.index
+        (peer (Handler k) (cond b (Pipes []) (Talks Rattle.rk_served.specs.Streams.no_bytes)) (Some h.subject)) → Fits new
+    by_kind true step peers = runs_fits old new now k ran.Piped h.replaces.index _ (Pipes []) h.subject refl step h.replaces.at peers f
+    by_kind false step peers =
+        runs_fits old new now k ran.Plain h.replaces.index _ (Talks Rattle.rk_served.specs.Streams.no_bytes) h.subject refl step h.replaces.at peers f
 
 -- a command that follows a piped one is plain
 follows_plain : (conf : List Line) (now k : ℕ) (how : How) (payload : Option (List ℕ)) (made_for : Option Subject) (old : Left) (part : Part) (new : Left)
     → Follows conf now k (Ended k how payload) made_for old part new → Fits old → Fits new
 follows_plain conf now k how payload made_for old part new h f =
     follows_fits old new now k how payload (negated h.subject) h.step
-    (subst (λ (b : Bool). Adds (seat (Handler k) (Starts b) (Some (negated h.subject))) (without (Handler k) old.seats) new.seats) h.is_command.piped h.adds) f
+    (subst (λ (b : Bool). Adds (peer (Handler k) (Starts b) (Some (negated h.subject))) (without (Handler k) old.peers) new.peers) h.is_command.piped h.adds) f
 
 end_fits : (conf : List Line) (now k : ℕ) (how : How) (payload : Option (List ℕ)) (made_for : Option Subject) (old : Left) (part : Part) (new : Left)
     → EndsBy conf now k (Ended k how payload) made_for old part new → Fits old → Fits new
-end_fits conf now k how payload made_for old part new (is_last h seats) f =
-    ended_fits old new now k (Ended k how payload) (λ n b. refl) (λ q o. refl) h.step seats f
+end_fits conf now k how payload made_for old part new (is_last h peers) f =
+    ended_fits old new now k (Ended k how payload) (λ n b. refl) (λ q o. refl) h.step peers f
 end_fits conf now k how payload made_for old part new (is_followed h) f = follows_plain conf now k how payload made_for old part new h f
-end_fits conf now k how payload made_for old part new (is_not_followed h) f = follows_none_fits old new h.mid now k how payload h.first h.second h.seats f
+end_fits conf now k how payload made_for old part new (is_not_followed h) f = follows_none_fits old new h.mid now k how payload h.first h.second h.peers f
 
 begins_fits : (conf : List Line) (now : ℕ) (h : Happening) (old : Left) (part : Part) (new : Left) → is_misplaced old.world h ≡ false
     → OwnStep conf now h old part new → Fits old → Fits new
 begins_fits conf now (happening.Accept n) old part new placed (inl h) f = opened_fits old new now n _ placed h.0.step h.1 f
 begins_fits conf now (happening.Accept n) old part new placed (inr h) f =
-    same_seats old new now (Opened (Client n)) (Refused h.0) h.1.step (λ m b. refl) (λ k o. refl) h.2 f
+    same_peers old new now (Opened (Client n)) (Refused h.0) h.1.step (λ m b. refl) (λ k o. refl) h.2 f
 begins_fits conf now (happening.Bytes n bytes) old part new placed h f = lengthens_fits (Client n) bytes old part new h f
 begins_fits conf now (happening.Gone n) old part new placed h f = gone_fits old new now n h.0.step h.1 f
 begins_fits conf now (happening.StartResult k Started) old part new placed h f = run_fits now k old part new h f
@@ -108,18 +108,18 @@ begins_fits conf now (happening.WaitFault k) old part new placed h f = end_fits 
 
 -- ---- what is served
 
-pub begins_seated : (conf : List Line) (now : ℕ) (h : Happening) (old : Left) (part : Part) (new : Left) → is_misplaced old.world h ≡ false
-    → OwnStep conf now h old part new → IsSeated old → IsSeated new
-begins_seated conf now h old part new placed b s = seated new (begins_fits conf now h old part new placed b (fits old s))
+pub begins_keeps_peers : (conf : List Line) (now : ℕ) (h : Happening) (old : Left) (part : Part) (new : Left) → is_misplaced old.world h ≡ false
+    → OwnStep conf now h old part new → HasItsPeers old → HasItsPeers new
+begins_keeps_peers conf now h old part new placed b s = has_its_peers new (begins_fits conf now h old part new placed b (fits old s))
 
-pub acts_seated : (conf : List Line) (old : Left) (now : ℕ) (h : Happening) (outputs : List Output) (steps : List Past) (new : Left)
-    → Acts conf old now h outputs steps new → IsSeated old → IsSeated new
-acts_seated conf old now h outputs steps new a s =
-    moves_seated conf now a.begun a.parts new a.moves (begins_seated conf now h old a.own a.begun a.in_place a.own_step s)
+pub acts_keeps_peers : (conf : List Line) (old : Left) (now : ℕ) (h : Happening) (outputs : List Output) (steps : List Past) (new : Left)
+    → Acts conf old now h outputs steps new → HasItsPeers old → HasItsPeers new
+acts_keeps_peers conf old now h outputs steps new a s =
+    moves_keep_peers conf now a.begun a.parts new a.moves (begins_keeps_peers conf now h old a.own a.begun a.in_place a.own_step s)
 
-pub nothing_seated : (from : Beginning) → IsSeated (nothing from)
-nothing_seated from =
-    seated (nothing from)
+pub nothing_has_peers : (from : Beginning) → HasItsPeers (nothing from)
+nothing_has_peers from =
+    has_its_peers (nothing from)
     (record {
       clients = λ n. sym (ap is_some (get-empty nat_cmp n));
       kinds = λ k. ap (λ o. agree (kind_in o) None) (get-empty nat_cmp k);

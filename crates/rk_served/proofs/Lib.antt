@@ -1,8 +1,8 @@
 pub mod ServedLaws
 pub mod Turns
-pub mod SeatLists
+pub mod PeerLists
 pub mod Standings
-pub mod Seating
+pub mod PeersFit
 pub mod Kept
 pub mod Weight
 pub mod Expansions

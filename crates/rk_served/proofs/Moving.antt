@@ -1,4 +1,4 @@
--- What the calls of a seated book do, out of what they found.
+-- What the calls of a server do, out of what they found.
 use Rattle.std.proofs.Common.{◌≡◌, ◌⊎◌, ℕ, zero, suc, Bool, true, false, List, [], ◌∷◌, ◌++◌, refl, sym, ap, ◌∙◌, subst, inl, inr}
 use Rattle.std.proofs.lemmas.List.{append-nil}
 use Rattle.std.specs.Prelude.{Option, Some, IfSome, slice_get, slice_set}
@@ -18,17 +18,17 @@ use Rattle.rk_machine.specs.Steps.{Step}
 use Rattle.rk_machine.specs.Views.{is_ready, has_wait}
 use Rattle.rk_served.specs.declared.output.Output.{Output}
 use Rattle.rk_served.specs.declared.output.Output.TheVariants as output
-use Rattle.rk_served.specs.declared.seat.Channel.{Channel}
-use Rattle.rk_served.specs.declared.seat.Channel.TheVariants.{Talks, Starts, Pipes}
-use Rattle.rk_served.specs.declared.seat.Seat.{Seat}
+use Rattle.rk_served.specs.declared.peer.Channel.{Channel}
+use Rattle.rk_served.specs.declared.peer.Channel.TheVariants.{Talks, Starts, Pipes}
+use Rattle.rk_served.specs.declared.peer.Peer.{Peer}
 use Rattle.rk_served.specs.declared.stream.Message.TheVariants as message
-use Rattle.rk_served.specs.Left.{Left, seat, without, step, no_step, one_step, reply_to, replies_to}
+use Rattle.rk_served.specs.Left.{Left, peer, without, step, no_step, one_step, reply_to, replies_to}
 use Rattle.rk_served.specs.Commands.{IsCommand}
 use Rattle.rk_served.specs.Moves.{is_start, Answered, puts_reply, starts_one, fails_to_start, collects, refuses, asks, shuts_client, shuts_handler, CannotMove}
 use Rattle.rk_served.specs.Channels.{is_stream, is_open, IsNextAt, HasFaultAt, shut_channel}
 use Rattle.rk_served.specs.Calls.{MovesOne, AnswersOne, StartsNow, RestsAt}
 use Rattle.rk_machine.proofs.Effects.ClientsByStep.{ready_waits}
-use Rattle.rk_served.proofs.SeatLists.{not_false, some_seat}
+use Rattle.rk_served.proofs.PeerLists.{not_false, some_peer}
 
 -- ---- one ask
 
@@ -40,16 +40,16 @@ no_start (Negate k) h = refl
 no_start (Refused e) h = refl
 
 module _ (conf : List Line) (now : ℕ) (old new : Left) (put put' : List Output) (who : SessionId) (ask : Ask) where
-  pub tells_one : (answer : Answer) → is_start answer ≡ false → Step old.world now (Asked who ask) answer new.world → new.seats ≡ old.seats → put' ≡ put
+  pub tells_one : (answer : Answer) → is_start answer ≡ false → Step old.world now (Asked who ask) answer new.world → new.peers ≡ old.peers → put' ≡ put
       ++ replies_to who answer → AnswersOne conf now old who ask put new put'
-  tells_one answer none step seats puts = record {
+  tells_one answer none step peers puts = record {
     part = one_step now (Asked who ask) answer (replies_to who answer);
-    answered = puts_reply (record { answer = answer; step = step; no_start = none; part_is = refl; seats = seats });
+    answered = puts_reply (record { answer = answer; step = step; no_start = none; part_is = refl; peers = peers });
     outputs = puts;
   }
 
   pub start_one : (k : ℕ) (subject : Subject) (mid : World) → Step old.world now (Asked who ask) (Start k subject) mid
-      → StartsNow conf now k subject (record { world = mid; seats = old.seats }) put new put' → AnswersOne conf now old who ask put new put'
+      → StartsNow conf now k subject (record { world = mid; peers = old.peers }) put new put' → AnswersOne conf now old who ask put new put'
   start_one k subject mid first (inl h) = record {
     part = one_step now (Asked who ask) (Start k subject) (output.Start k h.command ∷ []);
     answered = starts_one (record {
@@ -62,7 +62,7 @@ module _ (conf : List Line) (now : ℕ) (old new : Left) (put put' : List Output
       before = h.adds.before;
       after = h.adds.after;
       others = h.adds.others;
-      seats = h.adds.seats;
+      peers = h.adds.peers;
     });
     outputs = h.outputs;
   }
@@ -80,20 +80,20 @@ module _ (conf : List Line) (now : ℕ) (old new : Left) (put put' : List Output
       no_command = h.no_command;
       second = h.step;
       part_is = refl;
-      seats = h.seats;
+      peers = h.peers;
     });
     outputs = h.outputs ∙ sym (append-nil put);
   }
 
--- ---- seats
+-- ---- peers
 
-set_same : (xs : List Seat) (i : ℕ) (x : Seat) → slice_get xs i ≡ Some x → slice_set xs i x ≡ xs
+set_same : (xs : List Peer) (i : ℕ) (x : Peer) → slice_get xs i ≡ Some x → slice_set xs i x ≡ xs
 set_same [] i x at = refl
-set_same (z ∷ zs) zero x at = ap (λ (v : Seat). v ∷ zs) (sym (some_seat at))
-set_same (z ∷ zs) (suc i) x at = ap (λ (vs : List Seat). z ∷ vs) (set_same zs i x at)
+set_same (z ∷ zs) zero x at = ap (λ (v : Peer). v ∷ zs) (sym (some_peer at))
+set_same (z ∷ zs) (suc i) x at = ap (λ (vs : List Peer). z ∷ vs) (set_same zs i x at)
 
-pub rests : (left : Left) (i : ℕ) (x : Seat) → slice_get left.seats i ≡ Some x → CannotMove left.world x.who x.channel → RestsAt left i
-rests left i x at h = subst (λ (o : Option Seat). IfSome o (λ z. CannotMove left.world z.who z.channel)) (sym at) h
+pub rests : (left : Left) (i : ℕ) (x : Peer) → slice_get left.peers i ≡ Some x → CannotMove left.world x.who x.channel → RestsAt left i
+rests left i x at h = subst (λ (o : Option Peer). IfSome o (λ z. CannotMove left.world z.who z.channel)) (sym at) h
 
 not_ready : (w : World) (s : SessionId) → has_wait w s ≡ false → is_ready w s ≡ false
 not_ready w s none = by_test (is_ready w s) refl
@@ -105,9 +105,9 @@ not_ready w s none = by_test (is_ready w s) refl
 -- ---- one move
 
 module _ (conf : List Line) (now : ℕ) (old new : Left) (put put' : List Output) (i : ℕ) (who : SessionId) (made_for : Option Subject) where
-  pub collects_one : (p : Channel) → slice_get old.seats i ≡ Some (seat who p made_for) → is_stream p ≡ true → is_ready old.world who ≡ true → (answer : Answer)
-      → Step old.world now (Collect who) answer new.world → new.seats ≡ old.seats → put' ≡ put ++ replies_to who answer → MovesOne conf now i old put new put'
-  collects_one (Talks stream) at is ready answer step seats puts = record {
+  pub collects_one : (p : Channel) → slice_get old.peers i ≡ Some (peer who p made_for) → is_stream p ≡ true → is_ready old.world who ≡ true → (answer : Answer)
+      → Step old.world now (Collect who) answer new.world → new.peers ≡ old.peers → put' ≡ put ++ replies_to who answer → MovesOne conf now i old put new put'
+  collects_one (Talks stream) at is ready answer step peers puts = record {
     part = one_step now (Collect who) answer (replies_to who answer);
     move = collects (record {
       who = who;
@@ -118,17 +118,17 @@ module _ (conf : List Line) (now : ℕ) (old new : Left) (put put' : List Output
       answer = answer;
       step = step;
       part_is = refl;
-      seats = seats;
+      peers = peers;
     });
     outputs = puts;
   }
-  collects_one (Starts piped) at is ready answer step seats puts = absurd (cc)
-  collects_one (Pipes bytes) at is ready answer step seats puts = absurd (cc)
+  collects_one (Starts piped) at is ready answer step peers puts = absurd (cc)
+  collects_one (Pipes bytes) at is ready answer step peers puts = absurd (cc)
 
-  pub refuses_one : (p p' : Channel) (e : Errno) → slice_get old.seats i ≡ Some (seat who p made_for) → (has_wait old.world who ≡ false) × (is_open p ≡ true)
-      → IsNextAt (message.Refused e) p p' → new.world ≡ old.world → new.seats ≡ slice_set old.seats i (seat who p' made_for) → put' ≡ put
+  pub refuses_one : (p p' : Channel) (e : Errno) → slice_get old.peers i ≡ Some (peer who p made_for) → (has_wait old.world who ≡ false) × (is_open p ≡ true)
+      → IsNextAt (message.Refused e) p p' → new.world ≡ old.world → new.peers ≡ slice_set old.peers i (peer who p' made_for) → put' ≡ put
       ++ replies_to who (Refused e) → MovesOne conf now i old put new put'
-  refuses_one (Talks stream) p' e at free next world seats puts = record {
+  refuses_one (Talks stream) p' e at free next world peers puts = record {
     part = no_step (reply_to who (reply.Refused e) ∷ []);
     move = refuses (record {
       who = who;
@@ -141,17 +141,17 @@ module _ (conf : List Line) (now : ℕ) (old new : Left) (put put' : List Output
       error = e;
       refused = next.2.2;
       world = world;
-      seats = seats ∙ ap (λ (p : Channel). slice_set old.seats i (seat who p made_for)) next.1;
+      peers = peers ∙ ap (λ (p : Channel). slice_set old.peers i (peer who p made_for)) next.1;
       part_is = refl;
     });
     outputs = puts;
   }
-  refuses_one (Starts piped) p' e at free next world seats puts = absurd (let h = free.1 in cc)
-  refuses_one (Pipes bytes) p' e at free next world seats puts = absurd (let h = free.1 in cc)
+  refuses_one (Starts piped) p' e at free next world peers puts = absurd (let h = free.1 in cc)
+  refuses_one (Pipes bytes) p' e at free next world peers puts = absurd (let h = free.1 in cc)
 
-  pub asks_one : (p p' : Channel) (ask : Ask) → slice_get old.seats i ≡ Some (seat who p made_for) → (has_wait old.world who ≡ false) × (is_open p ≡ true)
+  pub asks_one : (p p' : Channel) (ask : Ask) → slice_get old.peers i ≡ Some (peer who p made_for) → (has_wait old.world who ≡ false) × (is_open p ≡ true)
       → IsNextAt (message.Asks ask) p p'
-      → AnswersOne conf now (record { world = old.world; seats = slice_set old.seats i (seat who p' made_for) }) who ask put new put'
+      → AnswersOne conf now (record { world = old.world; peers = slice_set old.peers i (peer who p' made_for) }) who ask put new put'
       → MovesOne conf now i old put new put'
   asks_one (Talks stream) p' ask at free next done = record {
     part = done.part;
@@ -166,7 +166,7 @@ module _ (conf : List Line) (now : ℕ) (old new : Left) (put put' : List Output
       ask = ask;
       spells = next.2.2;
       answered = subst (λ (p : Channel). Answered conf now
-          (record { world = old.world; seats = slice_set old.seats i (seat who p made_for) }) who ask done.part new) next.1 done.answered;
+          (record { world = old.world; peers = slice_set old.peers i (peer who p made_for) }) who ask done.part new) next.1 done.answered;
     });
     outputs = done.outputs;
   }
@@ -174,10 +174,10 @@ module _ (conf : List Line) (now : ℕ) (old new : Left) (put put' : List Output
   asks_one (Pipes bytes) p' ask at free next done = absurd (let h = free.1 in cc)
 
 module _ (conf : List Line) (now : ℕ) (old new : Left) (put put' : List Output) (i : ℕ) (made_for : Option Subject) where
-  pub shuts_client_one : (client : ℕ) (p : Channel) → slice_get old.seats i ≡ Some (seat (Client client) p made_for) → HasFaultAt p
+  pub shuts_client_one : (client : ℕ) (p : Channel) → slice_get old.peers i ≡ Some (peer (Client client) p made_for) → HasFaultAt p
       → (has_wait old.world (Client client) ≡ false) × (is_open p ≡ true) → (answer : Answer) → Step old.world now (Gone (Client client)) answer new.world
-      → new.seats ≡ without (Client client) old.seats → put' ≡ put ++ output.Shut client ∷ [] → MovesOne conf now i old put new put'
-  shuts_client_one client (Talks stream) at fault free answer step seats puts = record {
+      → new.peers ≡ without (Client client) old.peers → put' ≡ put ++ output.Shut client ∷ [] → MovesOne conf now i old put new put'
+  shuts_client_one client (Talks stream) at fault free answer step peers puts = record {
     part = one_step now (Gone (Client client)) answer (output.Shut client ∷ []);
     move = shuts_client (record {
       client = client;
@@ -187,19 +187,19 @@ module _ (conf : List Line) (now : ℕ) (old new : Left) (put put' : List Output
       fault = fault;
       answer = answer;
       step = step;
-      seats = seats;
+      peers = peers;
       part_is = refl;
     });
     outputs = puts;
   }
-  shuts_client_one client (Starts piped) at fault free answer step seats puts = absurd fault
-  shuts_client_one client (Pipes bytes) at fault free answer step seats puts = absurd fault
+  shuts_client_one client (Starts piped) at fault free answer step peers puts = absurd fault
+  shuts_client_one client (Pipes bytes) at fault free answer step peers puts = absurd fault
 
-  pub shuts_handler_one : (key : ℕ) (p : Channel) → slice_get old.seats i ≡ Some (seat (Handler key) p made_for) → HasFaultAt p
+  pub shuts_handler_one : (key : ℕ) (p : Channel) → slice_get old.peers i ≡ Some (peer (Handler key) p made_for) → HasFaultAt p
       → (has_wait old.world (Handler key) ≡ false) × (is_open p ≡ true) → new.world ≡ old.world
-      → new.seats ≡ slice_set old.seats i (seat (Handler key) (shut_channel p) made_for) → put' ≡ put ++ output.ShutHandler key ∷ []
+      → new.peers ≡ slice_set old.peers i (peer (Handler key) (shut_channel p) made_for) → put' ≡ put ++ output.ShutHandler key ∷ []
       → MovesOne conf now i old put new put'
-  shuts_handler_one key (Talks stream) at fault free world seats puts = record {
+  shuts_handler_one key (Talks stream) at fault free world peers puts = record {
     part = no_step (output.ShutHandler key ∷ []);
     move = shuts_handler (record {
       key = key;
@@ -208,13 +208,13 @@ module _ (conf : List Line) (now : ℕ) (old new : Left) (put put' : List Output
       free = record { at = at; no_wait = free.0; not_shut = not_false stream.is_shut free.1 };
       fault = fault;
       world = world;
-      seats = seats;
+      peers = peers;
       part_is = refl;
     });
     outputs = puts;
   }
-  shuts_handler_one key (Starts piped) at fault free world seats puts = absurd fault
-  shuts_handler_one key (Pipes bytes) at fault free world seats puts = absurd fault
+  shuts_handler_one key (Starts piped) at fault free world peers puts = absurd fault
+  shuts_handler_one key (Pipes bytes) at fault free world peers puts = absurd fault
 
 -- ---- what stands where no message is taken
 
@@ -226,20 +226,20 @@ next_same (Starts piped) p' (inr h) = h.1
 next_same (Pipes bytes) p' (inl h) = h.1
 next_same (Pipes bytes) p' (inr h) = h.1
 
-pub next_left : (left : Left) (i : ℕ) (who : SessionId) (made_for : Option Subject) (p p' : Channel) → slice_get left.seats i ≡ Some (seat who p made_for)
-    → IsNextAt message.More p p' ⊎ IsNextAt message.Fault p p' → record { world = left.world; seats = slice_set left.seats i (seat who p' made_for) } ≡ left
+pub next_left : (left : Left) (i : ℕ) (who : SessionId) (made_for : Option Subject) (p p' : Channel) → slice_get left.peers i ≡ Some (peer who p made_for)
+    → IsNextAt message.More p p' ⊎ IsNextAt message.Fault p p' → record { world = left.world; peers = slice_set left.peers i (peer who p' made_for) } ≡ left
 next_left left i who made_for p p' at next =
-    ap (λ (xs : List Seat). record { world = left.world; seats = xs })
-    (ap (λ (q : Channel). slice_set left.seats i (seat who q made_for)) (next_same p p' next) ∙ set_same left.seats i (seat who p made_for) at)
+    ap (λ (xs : List Peer). record { world = left.world; peers = xs })
+    (ap (λ (q : Channel). slice_set left.peers i (peer who q made_for)) (next_same p p' next) ∙ set_same left.peers i (peer who p made_for) at)
 
 pub has_fault : (p p' : Channel) → IsNextAt message.Fault p p' → HasFaultAt p
 has_fault (Talks stream) p' h = h.2.1
 has_fault (Starts piped) p' h = absurd (let e = h.0 in cc)
 has_fault (Pipes bytes) p' h = absurd (let e = h.0 in cc)
 
-pub rests_more : (left : Left) (i : ℕ) (who : SessionId) (made_for : Option Subject) (p p' : Channel) → slice_get left.seats i ≡ Some (seat who p made_for)
+pub rests_more : (left : Left) (i : ℕ) (who : SessionId) (made_for : Option Subject) (p p' : Channel) → slice_get left.peers i ≡ Some (peer who p made_for)
     → has_wait left.world who ≡ false → IsNextAt message.More p p' → RestsAt left i
-rests_more left i who made_for p p' at none next = rests left i (seat who p made_for) at (by_channel p next)
+rests_more left i who made_for p p' at none next = rests left i (peer who p made_for) at (by_channel p next)
   where
     by_channel : (q : Channel) → IsNextAt message.More q p' → CannotMove left.world who q
     by_channel (Talks stream) h = (not_ready left.world who none, inr (inr h.2.1))

@@ -6,10 +6,10 @@ use Rattle.rk_conf.specs.declared.line.Line.{Line}
 use Rattle.rk_machine.specs.Steps.{Past}
 use Rattle.rk_served.specs.declared.happening.Happening.{Happening}
 use Rattle.rk_served.specs.declared.output.Output.{Output}
-use Rattle.rk_served.specs.declared.seat.Seat.{Seat}
-use Rattle.rk_served.specs.declared.seat.Channel.TheVariants.{Talks}
+use Rattle.rk_served.specs.declared.peer.Peer.{Peer}
+use Rattle.rk_served.specs.declared.peer.Channel.TheVariants.{Talks}
 use Rattle.rk_names.specs.declared.numbers.SessionId.TheVariants.{Client, Handler}
-use Rattle.rk_served.specs.Left.{Left, seat, Part}
+use Rattle.rk_served.specs.Left.{Left, peer, Part}
 use Rattle.rk_served.specs.Moves.{Move, collects, refuses, asks, shuts_client, shuts_handler, Moves, CannotMove}
 use Rattle.rk_served.specs.Served.{Turn, outputs_of, ServesBy, ServedFrom}
 use Rattle.rk_served.specs.Standing.{are_in_order}
@@ -19,17 +19,17 @@ use Rattle.rk_served.proofs.Standings.{first_at}
 
 -- ---- one move
 
--- who moves has a seat there
-mover_of : (conf : List Line) (now : ℕ) (old : Left) (index : ℕ) (part : Part) (new : Left) → Move conf now old index part new → (x : Seat)
-    × (slice_get old.seats index ≡ Some x)
-mover_of conf now old index part new (collects m) = (seat m.who (Talks m.stream) m.made_for, m.at)
-mover_of conf now old index part new (refuses m) = (seat m.who (Talks m.stream) m.made_for, m.free.at)
-mover_of conf now old index part new (asks m) = (seat m.who (Talks m.stream) m.made_for, m.free.at)
-mover_of conf now old index part new (shuts_client m) = (seat (Client m.client) (Talks m.stream) m.made_for, m.free.at)
-mover_of conf now old index part new (shuts_handler m) = (seat (Handler m.key) (Talks m.stream) m.made_for, m.free.at)
+-- who moves has a peer there
+mover_of : (conf : List Line) (now : ℕ) (old : Left) (index : ℕ) (part : Part) (new : Left) → Move conf now old index part new → (x : Peer)
+    × (slice_get old.peers index ≡ Some x)
+mover_of conf now old index part new (collects m) = (peer m.who (Talks m.stream) m.made_for, m.at)
+mover_of conf now old index part new (refuses m) = (peer m.who (Talks m.stream) m.made_for, m.free.at)
+mover_of conf now old index part new (asks m) = (peer m.who (Talks m.stream) m.made_for, m.free.at)
+mover_of conf now old index part new (shuts_client m) = (peer (Client m.client) (Talks m.stream) m.made_for, m.free.at)
+mover_of conf now old index part new (shuts_handler m) = (peer (Handler m.key) (Talks m.stream) m.made_for, m.free.at)
 
--- the seats in front of it can't move
-pub moves_next : (conf : List Line) (now i : ℕ) (old : Left) (put : List Output) (new : Left) (put' : List Output) → are_in_order old.seats ≡ true
+-- the peers in front of it can't move
+pub moves_next : (conf : List Line) (now i : ℕ) (old : Left) (put : List Output) (new : Left) (put' : List Output) → are_in_order old.peers ≡ true
     → ((k : ℕ) → k < i → RestsAt old k) → MovesOne conf now i old put new put' → MovesNext conf now old put new put'
 moves_next conf now i old put new put' order below one =
     let mover = mover_of conf now old i one.part new one.move in
@@ -39,7 +39,7 @@ moves_next conf now i old put new put' order below one =
         index = i;
         mover = mover.0;
         at = mover.1;
-        first = first_at (λ x. CannotMove old.world x.who x.channel) old.seats i mover.0 mover.1 order below;
+        first = first_at (λ x. CannotMove old.world x.who x.channel) old.peers i mover.0 mover.1 order below;
         move = one.move;
       };
       outputs = one.outputs;

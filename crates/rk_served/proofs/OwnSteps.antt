@@ -29,16 +29,16 @@ use Rattle.rk_served.specs.declared.happening.Happening.TheVariants as happening
 use Rattle.rk_served.specs.declared.happening.StartResult.TheVariants.{Started}
 use Rattle.rk_served.specs.declared.output.Output.{Output}
 use Rattle.rk_served.specs.declared.output.Output.TheVariants as output
-use Rattle.rk_served.specs.declared.seat.Channel.TheVariants.{Talks, Starts, Pipes}
-use Rattle.rk_served.specs.declared.seat.Seat.{Seat}
+use Rattle.rk_served.specs.declared.peer.Channel.TheVariants.{Talks, Starts, Pipes}
+use Rattle.rk_served.specs.declared.peer.Peer.{Peer}
 use Rattle.rk_served.specs.Streams.{no_bytes}
-use Rattle.rk_served.specs.Left.{Left, seat, without, Part, one_step}
+use Rattle.rk_served.specs.Left.{Left, peer, without, Part, one_step}
 use Rattle.rk_served.specs.Commands.{IsCommand}
-use Rattle.rk_served.specs.Seated.{Sits, has_channel, fits_stage, IsSeated}
+use Rattle.rk_served.specs.WhoIsThere.{Sits, has_channel, fits_stage, HasItsPeers}
 use Rattle.rk_served.specs.OwnStep.{is_running, StepsBy, Adds, callout_to, payload_in, negated, EndsBy, is_last, is_followed, is_not_followed, OwnStep}
 use Rattle.rk_served.specs.Calls.{is_refused, MakesOwnStep, StartsNow, IsStartAt, HasEnded, EndsOne}
-use Rattle.rk_served.proofs.SeatLists.{both}
-use Rattle.rk_served.proofs.Seating.{launch_done, follow_owed}
+use Rattle.rk_served.proofs.PeerLists.{both}
+use Rattle.rk_served.proofs.PeersFit.{launch_done, follow_owed}
 
 -- ---- what owed events are answered
 
@@ -86,7 +86,7 @@ steps_by now event old new a b outputs e step = record {
 -- ---- clients
 
 module _ (conf : List Line) (now n : ℕ) (old new : Left) (put : List Output) (a : Answer) (step : Step old.world now (Opened (Client n)) a new.world) where
-  pub accepted_one : is_refused a ≡ false → Adds (seat (Client n) (Talks no_bytes) None) old.seats new.seats
+  pub accepted_one : is_refused a ≡ false → Adds (peer (Client n) (Talks no_bytes) None) old.peers new.peers
       → MakesOwnStep conf now (happening.Accept n) old put new put
   accepted_one told adds = elim (opened_cases old.world now n a new.world step) [
     | inl e ↦ begins_quiet conf now (happening.Accept n) old new put (one_step now (Opened (Client n)) done []) refl
@@ -94,7 +94,7 @@ module _ (conf : List Line) (now n : ℕ) (old new : Left) (put : List Output) (
     | inr e ↦ absurd (let t : is_refused a ≡ true = ap is_refused e.1 in cc)
   ]
 
-  pub refused_one : is_refused a ≡ true → new.seats ≡ old.seats → (put' : List Output) → put' ≡ put ++ output.Shut n ∷ []
+  pub refused_one : is_refused a ≡ true → new.peers ≡ old.peers → (put' : List Output) → put' ≡ put ++ output.Shut n ∷ []
       → MakesOwnStep conf now (happening.Accept n) old put new put'
   refused_one other same put' puts = elim (opened_cases old.world now n a new.world step) [
     | inl e ↦ absurd (let f : is_refused a ≡ false = ap is_refused e in cc)
@@ -108,36 +108,36 @@ module _ (conf : List Line) (now n : ℕ) (old new : Left) (put : List Output) (
 -- ---- starts
 
 module _ (conf : List Line) (now k : ℕ) (old new : Left) (put put' : List Output) (i : ℕ) where
-  pub plain_one : (s : IsStartAt old.seats i k false) (a : Answer) → is_owed old.world (Launched k ran.Plain) ≡ true
-      → Step old.world now (Launched k ran.Plain) a new.world → new.seats ≡ slice_set old.seats i (seat (Handler k) (Talks no_bytes) (Some s.0))
+  pub plain_one : (s : IsStartAt old.peers i k false) (a : Answer) → is_owed old.world (Launched k ran.Plain) ≡ true
+      → Step old.world now (Launched k ran.Plain) a new.world → new.peers ≡ slice_set old.peers i (peer (Handler k) (Talks no_bytes) (Some s.0))
       → MakesOwnStep conf now (happening.StartResult k Started) old put new put
-  plain_one s a owed step seats =
+  plain_one s a owed step peers =
       begins_quiet conf now (happening.StartResult k Started) old new put (one_step now (Launched k ran.Plain) done []) refl
       (record {
         piped = false;
         subject = s.0;
         steps = steps_by now (Launched k ran.Plain) old new a done [] (launch_done old.world now k ran.Plain a new.world owed step) step;
-        reseats = record { index = i; at = s.1; seats = seats };
+        replaces = record { index = i; at = s.1; peers = peers };
       })
 
-  pub piped_one : (s : IsStartAt old.seats i k true) (a : Answer) → is_owed old.world (Launched k ran.Piped) ≡ true
-      → Step old.world now (Launched k ran.Piped) a new.world → new.seats ≡ slice_set old.seats i (seat (Handler k) (Pipes []) (Some s.0)) → put' ≡ put
+  pub piped_one : (s : IsStartAt old.peers i k true) (a : Answer) → is_owed old.world (Launched k ran.Piped) ≡ true
+      → Step old.world now (Launched k ran.Piped) a new.world → new.peers ≡ slice_set old.peers i (peer (Handler k) (Pipes []) (Some s.0)) → put' ≡ put
       ++ callout_to k s.0.callout → MakesOwnStep conf now (happening.StartResult k Started) old put new put'
-  piped_one s a owed step seats puts = record {
+  piped_one s a owed step peers puts = record {
     part = one_step now (Launched k ran.Piped) done (callout_to k s.0.callout);
     own_step = record {
       piped = true;
       subject = s.0;
       steps = steps_by now (Launched k ran.Piped) old new a done (callout_to k s.0.callout) (launch_done old.world now k ran.Piped a new.world owed step) step;
-      reseats = record { index = i; at = s.1; seats = seats };
+      replaces = record { index = i; at = s.1; peers = peers };
     };
     outputs = puts;
   }
 
 -- ---- ends
 
-module _ (conf : List Line) (now k : ℕ) (event : Event) (subject : Option Subject) (seats : List Seat) (left : Left)
-    (ended : HasEnded k event subject seats left) (a : Answer) (mid : World) (step : Step left.world now event a mid) where
+module _ (conf : List Line) (now k : ℕ) (event : Event) (subject : Option Subject) (peers : List Peer) (left : Left)
+    (ended : HasEnded k event subject peers left) (a : Answer) (mid : World) (step : Step left.world now event a mid) where
   ends_step : Step left.world now (Ended k ended.how ended.payload) a mid
   ends_step = subst (λ (e : Event). Step left.world now e a mid) ended.event_is step
 
@@ -145,7 +145,7 @@ module _ (conf : List Line) (now k : ℕ) (event : Event) (subject : Option Subj
   answered = ended_answered left.world now k ended.how ended.payload a mid ended.ran ends_step
 
   pub ends_last : ((j : ℕ) → a ≡ Negate j → ⊥) → (put : List Output)
-      → EndsOne conf now k event subject (record { world = left.world; seats = seats }) put (record { world = mid; seats = left.seats }) put
+      → EndsOne conf now k event subject (record { world = left.world; peers = peers }) put (record { world = mid; peers = left.peers }) put
   ends_last other put = elim answered [
     | inl e ↦ record {
       part = one_step now event done [];
@@ -168,16 +168,16 @@ module _ (conf : List Line) (now k : ℕ) (event : Event) (subject : Option Subj
   ends_unmade j is none = (let e : is_some subject ≡ false = ap is_some none in let made = ended.made in cc)
 
   pub ends_followed : (j : ℕ) → a ≡ Negate j → (s : Subject) → subject ≡ Some s → (put : List Output) (new : Left) (put' : List Output)
-      → StartsNow conf now j (negated s) (record { world = mid; seats = left.seats }) put new put'
-      → EndsOne conf now k event subject (record { world = left.world; seats = seats }) put new put'
+      → StartsNow conf now j (negated s) (record { world = mid; peers = left.peers }) put new put'
+      → EndsOne conf now k event subject (record { world = left.world; peers = peers }) put new put'
   ends_followed j is s made put new put' starts =
-      by_start (subst (λ i. StartsNow conf now i (negated s) (record { world = mid; seats = left.seats }) put new put') (follows j is).0 starts)
+      by_start (subst (λ i. StartsNow conf now i (negated s) (record { world = mid; peers = left.peers }) put new put') (follows j is).0 starts)
     where
       first : Step left.world now event (Negate k) mid
       first = subst (λ (x : Answer). Step left.world now event x mid) (follows j is).1 step
 
-      by_start : StartsNow conf now k (negated s) (record { world = mid; seats = left.seats }) put new put'
-          → EndsOne conf now k event subject (record { world = left.world; seats = seats }) put new put'
+      by_start : StartsNow conf now k (negated s) (record { world = mid; peers = left.peers }) put new put'
+          → EndsOne conf now k event subject (record { world = left.world; peers = peers }) put new put'
       by_start (inl h) = record {
         part = one_step now event (Negate k) (output.Start k h.command ∷ []);
         ends = is_followed (record {
@@ -187,7 +187,7 @@ module _ (conf : List Line) (now k : ℕ) (event : Event) (subject : Option Subj
           command = h.command;
           is_command = subst (λ (w : World). IsCommand conf w now k (negated s) h.command) (sym h.world) h.is_command;
           part_is = refl;
-          adds = subst (λ (xs : List Seat). Adds (seat (Handler k) (Starts h.command.piped) (Some (negated s))) xs new.seats) ended.taken h.adds;
+          adds = subst (λ (xs : List Peer). Adds (peer (Handler k) (Starts h.command.piped) (Some (negated s))) xs new.peers) ended.taken h.adds;
         });
         outputs = h.outputs;
       }
@@ -208,31 +208,31 @@ module _ (conf : List Line) (now k : ℕ) (event : Event) (subject : Option Subj
               (follow_owed left.world now k ended.how ended.payload mid
               (subst (λ (e : Event). Step left.world now e (Negate k) mid) ended.event_is first)) h.step) h.step;
           part_is = refl;
-          seats = h.seats ∙ ended.taken;
+          peers = h.peers ∙ ended.taken;
         });
         outputs = h.outputs ∙ sym (append-nil put);
       }
 
 -- what a happening that ends a handler does
-made_for_some : (o : Option Stage) (x : Seat) → fits_stage o (Some x) ≡ true → is_some x.subject ≡ true
+made_for_some : (o : Option Stage) (x : Peer) → fits_stage o (Some x) ≡ true → is_some x.subject ≡ true
 made_for_some None x fits = absurd (cc)
 made_for_some (Some st) x fits = (both (has_channel st x.channel) (is_some x.subject) fits).1
 
-module _ (conf : List Line) (now k : ℕ) (old : Left) (x : Seat) (sits : Sits (Handler k) x old.seats) where
-  pub has_ended : (how : How) (payload : Option (List ℕ)) (left : Left) → IsSeated old → is_running old.world k ≡ true → left.world ≡ old.world
-      → left.seats ≡ without (Handler k) old.seats → HasEnded k (Ended k how payload) x.subject old.seats left
+module _ (conf : List Line) (now k : ℕ) (old : Left) (x : Peer) (sits : Sits (Handler k) x old.peers) where
+  pub has_ended : (how : How) (payload : Option (List ℕ)) (left : Left) → HasItsPeers old → is_running old.world k ≡ true → left.world ≡ old.world
+      → left.peers ≡ without (Handler k) old.peers → HasEnded k (Ended k how payload) x.subject old.peers left
   has_ended how payload left s runs world taken = record {
     how = how;
     payload = payload;
     event_is = refl;
     ran = ap (λ (w : World). is_running w k) world ∙ runs;
-    made = made_for_some (sessions.stage_of old.world.sessions k) x (ap (fits_stage (sessions.stage_of old.world.sessions k)) (sym sits.seat_is)
+    made = made_for_some (sessions.stage_of old.world.sessions k) x (ap (fits_stage (sessions.stage_of old.world.sessions k)) (sym sits.peer_is)
         ∙ s.constructions k);
     taken = taken;
   }
 
-  there : slice_get old.seats sits.index ≡ Some (seat (Handler k) x.channel x.subject)
-  there = sits.at ∙ ap (λ (w : SessionId). Some (seat w x.channel x.subject)) sits.who_is
+  there : slice_get old.peers sits.index ≡ Some (peer (Handler k) x.channel x.subject)
+  there = sits.at ∙ ap (λ (w : SessionId). Some (peer w x.channel x.subject)) sits.who_is
 
   pub finish_one : (how : How) (payload : Option (List ℕ)) → payload ≡ payload_in x.channel → (put : List Output) (new : Left) (put' : List Output)
       → EndsOne conf now k (Ended k how payload) x.subject old put new put' → MakesOwnStep conf now (happening.HandlerEnded k how) old put new put'

@@ -84,7 +84,7 @@ by_steps old part new now e a outputs h = by_part part _ old.world new.world h.p
 
 ends_chain : (conf : List Line) (now k : ℕ) (event : Event) (made : Option Subject) (old : Left) (part : Part) (new : Left)
     → EndsBy conf now k event made old part new → Chain old.world part.steps new.world
-ends_chain conf now k event made old part new (is_last h seats) = by_steps old part new now _ _ _ h
+ends_chain conf now k event made old part new (is_last h peers) = by_steps old part new now _ _ _ h
 ends_chain conf now k event made old part new (is_followed h) = by_part part _ old.world new.world h.part_is (one_chain old.world new.world _ h.step)
 ends_chain conf now k event made old part new (is_not_followed h) = by_part part _ old.world new.world h.part_is (h.mid, h.first, (new.world, h.second, refl))
 

@@ -1,4 +1,4 @@
--- The seats stand in order, after each change of them.
+-- The peers stand in order, after each change of them.
 use Rattle.std.proofs.Common.{◌≡◌, ℕ, zero, suc, ◌+◌, ◌<◌, ◌≤◌, Bool, true, false, cond, not, ◌&&◌, List, [], ◌∷◌, ◌++◌, refl, sym, ap, ◌∙◌, subst}
 use Rattle.std.proofs.Common.{arith, length, take, drop, get_or, ltb, take-append-drop}
 use Rattle.std.specs.Prelude.{Option, Some, None, IfSome, slice_get, slice_set, insert, position, unwrap_or}
@@ -9,11 +9,11 @@ use Rattle.std.proofs.lemmas.List.Elements.{All-nil, All-cons}
 use Rattle.rk_names.specs.declared.numbers.SessionId.{SessionId}
 use Rattle.rk_names.specs.declared.numbers.SessionId.TheVariants.{Client, Handler}
 use Rattle.rk_machine.specs.Laws.{same_session}
-use Rattle.rk_served.specs.declared.seat.Seat.{Seat}
-use Rattle.rk_served.specs.declared.seat.Channel.{Channel}
-use Rattle.rk_served.specs.Left.{seat, without}
+use Rattle.rk_served.specs.declared.peer.Peer.{Peer}
+use Rattle.rk_served.specs.declared.peer.Channel.{Channel}
+use Rattle.rk_served.specs.Left.{peer, without}
 use Rattle.rk_served.specs.Standing.{comes_before, are_in_order}
-use Rattle.rk_served.proofs.SeatLists.{both, both_of, some_seat}
+use Rattle.rk_served.proofs.PeerLists.{both, both_of, some_peer}
 
 -- ---- the order
 
@@ -45,16 +45,16 @@ other_way s t e = not_before t s t e (ap not (before_self t))
 
 -- ---- a test of all
 
-all_weaker : (p q : Seat → Bool) → ((x : Seat) → p x ≡ true → q x ≡ true) → (xs : List Seat) → list_all p xs ≡ true → list_all q xs ≡ true
+all_weaker : (p q : Peer → Bool) → ((x : Peer) → p x ≡ true → q x ≡ true) → (xs : List Peer) → list_all p xs ≡ true → list_all q xs ≡ true
 all_weaker p q h [] e = refl
 all_weaker p q h (x ∷ xs) e = (let parts = both (p x) (list_all p xs) e in both_of (q x) (list_all q xs) (h x parts.0) (all_weaker p q h xs parts.1))
 
-all_added : (p : Seat → Bool) (before after : List Seat) (y : Seat) → list_all p (before ++ after) ≡ true → p y ≡ true → list_all p (before ++ y ∷ after) ≡ true
+all_added : (p : Peer → Bool) (before after : List Peer) (y : Peer) → list_all p (before ++ after) ≡ true → p y ≡ true → list_all p (before ++ y ∷ after) ≡ true
 all_added p [] after y e f = both_of (p y) (list_all p after) f e
 all_added p (b ∷ bs) after y e f = (let parts = both (p b) (list_all p (bs ++ after)) e in
     both_of (p b) (list_all p (bs ++ y ∷ after)) parts.0 (all_added p bs after y parts.1 f))
 
-all_without : (p : Seat → Bool) (s : SessionId) (xs : List Seat) → list_all p xs ≡ true → list_all p (without s xs) ≡ true
+all_without : (p : Peer → Bool) (s : SessionId) (xs : List Peer) → list_all p xs ≡ true → list_all p (without s xs) ≡ true
 all_without p s [] e = refl
 all_without p s (x ∷ xs) e = (let parts = both (p x) (list_all p xs) e in by_test parts.0 (all_without p s xs parts.1) (not (same_session x.who s)))
   where
@@ -63,30 +63,30 @@ all_without p s (x ∷ xs) e = (let parts = both (p x) (list_all p xs) e in by_t
     by_test own rest false = rest
 
 -- a test of who sits there
-abbrev asks : (SessionId → Bool) → Seat → Bool
+abbrev asks : (SessionId → Bool) → Peer → Bool
 asks p x = p x.who
 
-all_set : (p : SessionId → Bool) (xs : List Seat) (i : ℕ) (x y : Seat) → slice_get xs i ≡ Some x → y.who ≡ x.who
+all_set : (p : SessionId → Bool) (xs : List Peer) (i : ℕ) (x y : Peer) → slice_get xs i ≡ Some x → y.who ≡ x.who
     → list_all (asks p) (slice_set xs i y) ≡ list_all (asks p) xs
 all_set p [] i x y at who = refl
-all_set p (z ∷ zs) zero x y at who = ap (λ (s : SessionId). p s && list_all (asks p) zs) (who ∙ ap (λ (v : Seat). v.who) (sym (some_seat at)))
+all_set p (z ∷ zs) zero x y at who = ap (λ (s : SessionId). p s && list_all (asks p) zs) (who ∙ ap (λ (v : Peer). v.who) (sym (some_peer at)))
 all_set p (z ∷ zs) (suc i) x y at who = ap (λ (b : Bool). p z.who && b) (all_set p zs i x y at who)
 
--- ---- one seat more
+-- ---- one peer more
 
--- from the first one on that comes behind it, no seat comes before it
-behind : (who : SessionId) (z : Seat) (zs : List Seat) → comes_before who z.who ≡ true → are_in_order (z ∷ zs) ≡ true
+-- from the first one on that comes behind it, no peer comes before it
+behind : (who : SessionId) (z : Peer) (zs : List Peer) → comes_before who z.who ≡ true → are_in_order (z ∷ zs) ≡ true
     → list_all (λ x. not (comes_before x.who who)) (z ∷ zs) ≡ true
 behind who z zs e order =
     let parts = both (list_all (λ x. not (comes_before x.who z.who)) zs) (are_in_order zs) order in
     both_of (not (comes_before z.who who)) (list_all (λ x. not (comes_before x.who who)) zs) (other_way who z.who e)
     (all_weaker (λ x. not (comes_before x.who z.who)) (λ x. not (comes_before x.who who)) (λ x. not_before x.who who z.who e) zs parts.0)
 
-all_inserted : (p : Seat → Bool) (xs : List Seat) (i : ℕ) (y : Seat) → list_all p xs ≡ true → p y ≡ true → list_all p (insert xs i y) ≡ true
+all_inserted : (p : Peer → Bool) (xs : List Peer) (i : ℕ) (y : Peer) → list_all p xs ≡ true → p y ≡ true → list_all p (insert xs i y) ≡ true
 all_inserted p xs i y all own = all_added p (take i xs) (drop i xs) y (ap (list_all p) (take-append-drop i xs) ∙ all) own
 
 -- in front of the first that it comes before, or behind all
-pub order_inserted : (xs : List Seat) (y : Seat) → are_in_order xs ≡ true
+pub order_inserted : (xs : List Peer) (y : Peer) → are_in_order xs ≡ true
     → are_in_order (insert xs (position_or_len (λ x. comes_before y.who x.who) xs) y) ≡ true
 order_inserted [] y order = refl
 order_inserted (z ∷ zs) y order = by_test (order_inserted zs y) (comes_before y.who z.who) refl
@@ -104,19 +104,19 @@ order_inserted (z ∷ zs) y order = by_test (order_inserted zs y) (comes_before 
         (all_inserted (λ x. not (comes_before x.who z.who)) zs i y parts.0 (ap not e)) (rest parts.1))
 
 -- the place of the first that passes, or the end
-pub position_or_end : (p : Seat → Bool) (xs : List Seat) → unwrap_or (position p xs) (length xs) ≡ position_or_len p xs
+pub position_or_end : (p : Peer → Bool) (xs : List Peer) → unwrap_or (position p xs) (length xs) ≡ position_or_len p xs
 position_or_end p xs = by_test (ltb (position_or_len p xs) (length xs)) refl
   where
     by_test : (b : Bool) → ltb (position_or_len p xs) (length xs) ≡ b → unwrap_or (cond b (Some (position_or_len p xs)) None) (length xs) ≡ position_or_len p xs
     by_test true e = refl
     by_test false e = (let most = prefix_len-le-length (λ x. not (p x)) xs in grind (arith, nat_tests))
 
-pub position_within : (p : Seat → Bool) (xs : List Seat) → position_or_len p xs ≤ length xs
+pub position_within : (p : Peer → Bool) (xs : List Peer) → position_or_len p xs ≤ length xs
 position_within p xs = prefix_len-le-length (λ x. not (p x)) xs
 
--- ---- one seat less
+-- ---- one peer less
 
-pub order_without : (s : SessionId) (xs : List Seat) → are_in_order xs ≡ true → are_in_order (without s xs) ≡ true
+pub order_without : (s : SessionId) (xs : List Peer) → are_in_order xs ≡ true → are_in_order (without s xs) ≡ true
 order_without s [] order = refl
 order_without s (x ∷ xs) order =
     let parts = both (list_all (λ y. not (comes_before y.who x.who)) xs) (are_in_order xs) order in
@@ -127,41 +127,41 @@ order_without s (x ∷ xs) order =
     by_test own rest true = both_of (list_all (λ y. not (comes_before y.who x.who)) (without s xs)) (are_in_order (without s xs)) own rest
     by_test own rest false = rest
 
--- ---- another seat of the same one
+-- ---- another peer of the same one
 
-order_set : (xs : List Seat) (i : ℕ) (x y : Seat) → slice_get xs i ≡ Some x → y.who ≡ x.who → are_in_order (slice_set xs i y) ≡ are_in_order xs
+order_set : (xs : List Peer) (i : ℕ) (x y : Peer) → slice_get xs i ≡ Some x → y.who ≡ x.who → are_in_order (slice_set xs i y) ≡ are_in_order xs
 order_set [] i x y at who = refl
 order_set (z ∷ zs) zero x y at who =
-    ap (λ (s : SessionId). list_all (λ v. not (comes_before v.who s)) zs && are_in_order zs) (who ∙ ap (λ (v : Seat). v.who) (sym (some_seat at)))
+    ap (λ (s : SessionId). list_all (λ v. not (comes_before v.who s)) zs && are_in_order zs) (who ∙ ap (λ (v : Peer). v.who) (sym (some_peer at)))
 order_set (z ∷ zs) (suc i) x y at who =
     ap (λ (b : Bool). b && are_in_order (slice_set zs i y)) (all_set (λ s. not (comes_before s z.who)) zs i x y at who)
     ∙ ap (λ (b : Bool). list_all (λ v. not (comes_before v.who z.who)) zs && b) (order_set zs i x y at who)
 
-get_read : (xs : List Seat) (i : ℕ) (d : Seat) → unwrap_or (slice_get xs i) d ≡ get_or xs i d
+get_read : (xs : List Peer) (i : ℕ) (d : Peer) → unwrap_or (slice_get xs i) d ≡ get_or xs i d
 get_read [] i d = refl
 get_read (z ∷ zs) zero d = refl
 get_read (z ∷ zs) (suc i) d = get_read zs i d
 
-set_past : (xs : List Seat) (i : ℕ) (y : Seat) → slice_get xs i ≡ None → slice_set xs i y ≡ xs
+set_past : (xs : List Peer) (i : ℕ) (y : Peer) → slice_get xs i ≡ None → slice_set xs i y ≡ xs
 set_past [] i y none = refl
 set_past (z ∷ zs) zero y none = absurd (cc)
-set_past (z ∷ zs) (suc i) y none = ap (λ (vs : List Seat). z ∷ vs) (set_past zs i y none)
+set_past (z ∷ zs) (suc i) y none = ap (λ (vs : List Peer). z ∷ vs) (set_past zs i y none)
 
 -- it is the one that was read at its place, with something else
-pub order_reseated : (xs : List Seat) (i : ℕ) (x : Seat) (p : Channel) → x ≡ get_or xs i x → are_in_order xs ≡ true
-    → are_in_order (slice_set xs i (seat x.who p x.subject)) ≡ true
-order_reseated xs i x p read order = by_channel (slice_get xs i) refl
+pub order_replaced : (xs : List Peer) (i : ℕ) (x : Peer) (p : Channel) → x ≡ get_or xs i x → are_in_order xs ≡ true
+    → are_in_order (slice_set xs i (peer x.who p x.subject)) ≡ true
+order_replaced xs i x p read order = by_channel (slice_get xs i) refl
   where
-    by_channel : (o : Option Seat) → slice_get xs i ≡ o → are_in_order (slice_set xs i (seat x.who p x.subject)) ≡ true
+    by_channel : (o : Option Peer) → slice_get xs i ≡ o → are_in_order (slice_set xs i (peer x.who p x.subject)) ≡ true
     by_channel (Some y) at =
-        order_set xs i y (seat x.who p x.subject) at (ap (λ (v : Seat). v.who) (read ∙ (sym (get_read xs i x) ∙ ap (λ (o : Option Seat). unwrap_or o x) at)))
+        order_set xs i y (peer x.who p x.subject) at (ap (λ (v : Peer). v.who) (read ∙ (sym (get_read xs i x) ∙ ap (λ (o : Option Peer). unwrap_or o x) at)))
         ∙ order
-    by_channel None at = ap are_in_order (set_past xs i (seat x.who p x.subject) at) ∙ order
+    by_channel None at = ap are_in_order (set_past xs i (peer x.who p x.subject) at) ∙ order
 
 -- ---- who is first
 
 -- of those that none comes before, there is nothing to say
-none_before : (P : Seat → Type 0) (s : SessionId) (xs : List Seat) → list_all (λ x. not (comes_before x.who s)) xs ≡ true
+none_before : (P : Peer → Type 0) (s : SessionId) (xs : List Peer) → list_all (λ x. not (comes_before x.who s)) xs ≡ true
     → All (λ x. comes_before x.who s ≡ true → P x) xs
 none_before P s [] e = All-nil (λ x. comes_before x.who s ≡ true → P x)
 none_before P s (x ∷ xs) e =
@@ -169,13 +169,13 @@ none_before P s (x ∷ xs) e =
     All-cons (λ x. comes_before x.who s ≡ true → P x) x xs (λ before. absurd (let h : not (comes_before x.who s) ≡ false = ap not before in let k = parts.0 in
     cc)) (none_before P s xs parts.1)
 
--- where the seats in front of a place have this, all who come before the one at the place have it
-pub first_at : (P : Seat → Type 0) (xs : List Seat) (i : ℕ) (x : Seat) → slice_get xs i ≡ Some x → are_in_order xs ≡ true
+-- where the peers in front of a place have this, all who come before the one at the place have it
+pub first_at : (P : Peer → Type 0) (xs : List Peer) (i : ℕ) (x : Peer) → slice_get xs i ≡ Some x → are_in_order xs ≡ true
     → ((k : ℕ) → k < i → IfSome (slice_get xs k) P) → All (λ y. comes_before y.who x.who ≡ true → P y) xs
 first_at P [] i x at order below = absurd (cc)
 first_at P (z ∷ zs) zero x at order below =
     let parts = both (list_all (λ y. not (comes_before y.who z.who)) zs) (are_in_order zs) order in
-    let same : z.who ≡ x.who = ap (λ (v : Seat). v.who) (some_seat at) in
+    let same : z.who ≡ x.who = ap (λ (v : Peer). v.who) (some_peer at) in
     subst (λ (s : SessionId). All (λ y. comes_before y.who s ≡ true → P y) (z ∷ zs)) same
     (none_before P z.who (z ∷ zs)
     (both_of (not (comes_before z.who z.who)) (list_all (λ y. not (comes_before y.who z.who)) zs) (ap not (before_self z.who)) parts.0))

@@ -1,4 +1,4 @@
--- What the calls of a seated book do.
+-- What the calls of a server do.
 use Rattle.std.specs.Prelude.{◌≡◌, ◌⊎◌, ℕ, Bool, true, false, List, [], ◌∷◌, ◌++◌, Option, Some, is_some, IfSome, slice_get}
 use Rattle.std.specs.Bool.{MatchBool}
 use Rattle.rk_names.specs.declared.numbers.SessionId.{SessionId}
@@ -18,10 +18,10 @@ use Rattle.rk_machine.specs.Views.{has_wait}
 use Rattle.rk_served.specs.declared.happening.Happening.{Happening}
 use Rattle.rk_served.specs.declared.output.Output.{Output}
 use Rattle.rk_served.specs.declared.output.Output.TheVariants as output
-use Rattle.rk_served.specs.declared.seat.Channel.TheVariants.{Starts}
-use Rattle.rk_served.specs.declared.seat.Seat.{Seat}
-use Rattle.rk_served.specs.declared.seated_book.SeatedBook.{SeatedBook}
-use Rattle.rk_served.specs.Left.{Left, seat, without, Part}
+use Rattle.rk_served.specs.declared.peer.Channel.TheVariants.{Starts}
+use Rattle.rk_served.specs.declared.peer.Peer.{Peer}
+use Rattle.rk_served.specs.declared.server.Server.{Server}
+use Rattle.rk_served.specs.Left.{Left, peer, without, Part}
 use Rattle.rk_served.specs.Commands.{IsCommand, HasNoCommand}
 use Rattle.rk_served.specs.Moves.{Answered, Move, CannotMove}
 use Rattle.rk_served.specs.OwnStep.{is_running, Adds, EndsBy, OwnStep}
@@ -29,8 +29,8 @@ use Rattle.rk_served.specs.Served.{outputs_of}
 use Rattle.rk_served.specs.Order.{MovesFirst, MovesInOrder}
 use Rattle.rk_served.specs.Channels.{is_open}
 
-abbrev pub left_of : SeatedBook → Left
-left_of b = record { world = b.book; seats = b.seats.items }
+abbrev pub left_of : Server → Left
+left_of b = record { world = b.book; peers = b.peers.items }
 
 -- one move of the session at a place, whose outputs go to the end of what was put out
 pub record MovesOne (conf : List Line) (now index : ℕ) (old : Left) (put : List Output) (new : Left) (put' : List Output) : Type 0 where
@@ -68,7 +68,7 @@ pub record PutsCommand (conf : List Line) (now k : ℕ) (subject : Subject) (old
   pub command : Command
   pub is_command : IsCommand conf old.world now k subject command
   pub world : new.world ≡ old.world
-  pub adds : Adds (seat (Handler k) (Starts command.piped) (Some subject)) old.seats new.seats
+  pub adds : Adds (peer (Handler k) (Starts command.piped) (Some subject)) old.peers new.peers
   pub outputs : put' ≡ put ++ output.Start k command ∷ []
 
 -- or its start fails
@@ -76,7 +76,7 @@ pub record FailsAtOnce (conf : List Line) (now k : ℕ) (subject : Subject) (old
   pub no_command : HasNoCommand conf old.world now k subject
   pub answer : Answer
   pub step : Step old.world now (Launched k ran.Failed) answer new.world
-  pub seats : new.seats ≡ old.seats
+  pub peers : new.peers ≡ old.peers
   pub outputs : put' ≡ put
 
 abbrev pub StartsNow : List Line → ℕ → ℕ → Subject → Left → List Output → Left → List Output → Type 0
@@ -84,7 +84,7 @@ StartsNow conf now k subject old put new put' = PutsCommand conf now k subject o
 
 -- the session at a place can't move
 abbrev pub RestsAt : Left → ℕ → Type 0
-RestsAt left i = IfSome (slice_get left.seats i) (λ x. CannotMove left.world x.who x.channel)
+RestsAt left i = IfSome (slice_get left.peers i) (λ x. CannotMove left.world x.who x.channel)
 
 -- one move was made; or none was, and nothing changed
 abbrev pub TriesAt : List Line → ℕ → ℕ → Bool → Left → List Output → Left → List Output → Type 0
@@ -92,20 +92,20 @@ TriesAt conf now i moved old put new put' = MatchBool moved (MovesOne conf now i
 
 -- its session does not wait, and its stream is not shut
 abbrev pub IsFreeAt : Left → ℕ → Type 0
-IsFreeAt left i = IfSome (slice_get left.seats i) (λ x. (has_wait left.world x.who ≡ false) × (is_open x.channel ≡ true))
+IsFreeAt left i = IfSome (slice_get left.peers i) (λ x. (has_wait left.world x.who ≡ false) × (is_open x.channel ≡ true))
 
 -- the construction of k is there, and its command was put out
-abbrev pub IsStartAt : List Seat → ℕ → ℕ → Bool → Type 0
-IsStartAt seats i k piped = (subject : Subject) × (slice_get seats i ≡ Some (seat (Handler k) (Starts piped) (Some subject)))
+abbrev pub IsStartAt : List Peer → ℕ → ℕ → Bool → Type 0
+IsStartAt peers i k piped = (subject : Subject) × (slice_get peers i ≡ Some (peer (Handler k) (Starts piped) (Some subject)))
 
--- the handler of k ran, and has ended with this event; its seat was taken from these
-pub record HasEnded (k : ℕ) (event : Event) (made_for : Option Subject) (seats : List Seat) (left : Left) : Type 0 where
+-- the handler of k ran, and has ended with this event; its peer was taken from these
+pub record HasEnded (k : ℕ) (event : Event) (made_for : Option Subject) (peers : List Peer) (left : Left) : Type 0 where
   pub how : How
   pub payload : Option (List ℕ)
   pub event_is : event ≡ Ended k how payload
   pub ran : is_running left.world k ≡ true
   pub made : is_some made_for ≡ true
-  pub taken : left.seats ≡ without (Handler k) seats
+  pub taken : left.peers ≡ without (Handler k) peers
 
 -- a handler has ended with this event
 pub record EndsOne (conf : List Line) (now k : ℕ) (event : Event) (made_for : Option Subject) (old : Left) (put : List Output) (new : Left)

@@ -1,8 +1,8 @@
--- What the channel of a seat is, and what it has next.
+-- What the channel of a peer is, and what it has next.
 use Rattle.std.specs.Prelude.{◌≡◌, ℕ, Bool, true, false, not, List, [], Option, Some, None}
 use Rattle.rk_macro.specs.declared.subject.Subject.{Subject}
-use Rattle.rk_served.specs.declared.seat.Channel.{Channel}
-use Rattle.rk_served.specs.declared.seat.Channel.TheVariants.{Talks, Starts, Pipes}
+use Rattle.rk_served.specs.declared.peer.Channel.{Channel}
+use Rattle.rk_served.specs.declared.peer.Channel.TheVariants.{Talks, Starts, Pipes}
 use Rattle.rk_served.specs.declared.stream.Message.{Message}
 use Rattle.rk_served.specs.declared.stream.Message.TheVariants.{More}
 use Rattle.rk_served.specs.Unused.{Unused}

@@ -16,25 +16,25 @@ use Rattle.rk_machine.specs.Steps.{Beginning, Past}
 use Rattle.rk_machine.specs.Laws.{same_session}
 use Rattle.rk_served.specs.declared.output.Output.{Output}
 use Rattle.rk_served.specs.declared.output.Output.TheVariants as output
-use Rattle.rk_served.specs.declared.seat.Channel.{Channel}
-use Rattle.rk_served.specs.declared.seat.Seat.{Seat}
+use Rattle.rk_served.specs.declared.peer.Channel.{Channel}
+use Rattle.rk_served.specs.declared.peer.Peer.{Peer}
 
 -- the world; each client and each construction with what it has: the unused bytes of its stream, its start, or what it has put out; and what a
 -- construction was made for
 pub record Left : Type 0 where
   pub world : World
-  pub seats : List Seat
+  pub peers : List Peer
 
 abbrev pub nothing : Beginning → Left
-nothing from = record { world = empty_world from.negative from.first from.stride; seats = [] }
+nothing from = record { world = empty_world from.negative from.first from.stride; peers = [] }
 
--- ---- seats
+-- ---- peers
 
-abbrev pub seat : SessionId → Channel → Option Subject → Seat
-seat who channel made_for = record { who = who; channel = channel; subject = made_for }
+abbrev pub peer : SessionId → Channel → Option Subject → Peer
+peer who channel made_for = record { who = who; channel = channel; subject = made_for }
 
-abbrev pub without : SessionId → List Seat → List Seat
-without s seats = filter (λ x. not (same_session x.who s)) seats
+abbrev pub without : SessionId → List Peer → List Peer
+without s peers = filter (λ x. not (same_session x.who s)) peers
 
 -- ---- parts of a run
 

@@ -8,7 +8,7 @@ pub mod Moves
 pub mod OwnStep
 pub mod Served
 pub mod Order
-pub mod Seated
+pub mod WhoIsThere
 pub mod Channels
 pub mod Calls
 pub mod View

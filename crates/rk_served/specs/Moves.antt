@@ -17,14 +17,14 @@ use Rattle.rk_machine.specs.World.{World}
 use Rattle.rk_machine.specs.Steps.{Step}
 use Rattle.rk_machine.specs.Views.{is_ready, has_wait}
 use Rattle.rk_served.specs.declared.output.Output.TheVariants as output
-use Rattle.rk_served.specs.declared.seat.Channel.{Channel}
-use Rattle.rk_served.specs.declared.seat.Channel.TheVariants.{Talks, Starts, Pipes}
-use Rattle.rk_served.specs.declared.seat.Seat.{Seat}
+use Rattle.rk_served.specs.declared.peer.Channel.{Channel}
+use Rattle.rk_served.specs.declared.peer.Channel.TheVariants.{Talks, Starts, Pipes}
+use Rattle.rk_served.specs.declared.peer.Peer.{Peer}
 use Rattle.rk_served.specs.Unused.{Unused}
 use Rattle.rk_frame.specs.Streams.{IsPartial, HasFault}
 use Rattle.rk_message.specs.Bodies.{Spells, IsRefusedAs}
 use Rattle.rk_served.specs.Streams.{closed, Takes}
-use Rattle.rk_served.specs.Left.{Left, seat, without, Part, step, no_step, one_step, reply_to, replies_to}
+use Rattle.rk_served.specs.Left.{Left, peer, without, Part, step, no_step, one_step, reply_to, replies_to}
 use Rattle.rk_served.specs.Commands.{IsCommand, HasNoCommand}
 
 -- ---- what one ask does
@@ -42,7 +42,7 @@ pub record PutsReply (now : ℕ) (old : Left) (who : SessionId) (ask : Ask) (par
   pub step : Step old.world now (Asked who ask) answer new.world
   pub no_start : is_start answer ≡ false
   pub part_is : part ≡ one_step now (Asked who ask) answer (replies_to who answer)
-  pub seats : new.seats ≡ old.seats
+  pub peers : new.peers ≡ old.peers
 
 -- an ask that starts a construction puts its command out; the construction is there, wherever it stands among the others
 pub record StartsOne (conf : List Line) (now : ℕ) (old : Left) (who : SessionId) (ask : Ask) (part : Part) (new : Left) : Type 0 where
@@ -52,10 +52,10 @@ pub record StartsOne (conf : List Line) (now : ℕ) (old : Left) (who : SessionI
   pub step : Step old.world now (Asked who ask) (Start key subject) new.world
   pub is_command : IsCommand conf new.world now key subject command
   pub part_is : part ≡ one_step now (Asked who ask) (Start key subject) (output.Start key command ∷ [])
-  pub before : List Seat
-  pub after : List Seat
-  pub others : old.seats ≡ before ++ after
-  pub seats : new.seats ≡ before ++ seat (Handler key) (Starts command.piped) (Some subject) ∷ after
+  pub before : List Peer
+  pub after : List Peer
+  pub others : old.peers ≡ before ++ after
+  pub peers : new.peers ≡ before ++ peer (Handler key) (Starts command.piped) (Some subject) ∷ after
 
 -- without a command the start fails in the next step
 pub record FailsToStart (conf : List Line) (now : ℕ) (old : Left) (who : SessionId) (ask : Ask) (part : Part) (new : Left) : Type 0 where
@@ -70,7 +70,7 @@ pub record FailsToStart (conf : List Line) (now : ℕ) (old : Left) (who : Sessi
     steps = step now (Asked who ask) (Start key subject) ∷ step now (Launched key ran.Failed) answer ∷ [];
     outputs = [];
   }
-  pub seats : new.seats ≡ old.seats
+  pub peers : new.peers ≡ old.peers
 
 pub data Answered (conf : List Line) (now : ℕ) (old : Left) (who : SessionId) (ask : Ask) (part : Part) (new : Left) : Type 0 where
   puts_reply : PutsReply now old who ask part new → Answered conf now old who ask part new
@@ -81,7 +81,7 @@ pub data Answered (conf : List Line) (now : ℕ) (old : Left) (who : SessionId) 
 
 -- the session at the place has a stream, which is not shut, and does not wait
 pub record IsFree (old : Left) (index : ℕ) (who : SessionId) (stream : Unused) (made_for : Option Subject) : Type 0 where
-  pub at : slice_get old.seats index ≡ Some (seat who (Talks stream) made_for)
+  pub at : slice_get old.peers index ≡ Some (peer who (Talks stream) made_for)
   pub no_wait : has_wait old.world who ≡ false
   pub not_shut : stream.is_shut ≡ false
 
@@ -90,12 +90,12 @@ pub record CollectsAt (now : ℕ) (old : Left) (index : ℕ) (part : Part) (new 
   pub who : SessionId
   pub stream : Unused
   pub made_for : Option Subject
-  pub at : slice_get old.seats index ≡ Some (seat who (Talks stream) made_for)
+  pub at : slice_get old.peers index ≡ Some (peer who (Talks stream) made_for)
   pub ready : is_ready old.world who ≡ true
   pub answer : Answer
   pub step : Step old.world now (Collect who) answer new.world
   pub part_is : part ≡ one_step now (Collect who) answer (replies_to who answer)
-  pub seats : new.seats ≡ old.seats
+  pub peers : new.peers ≡ old.peers
 
 -- a body that is no ask is answered by its error, and makes no step
 pub record RefusesAt (now : ℕ) (old : Left) (index : ℕ) (part : Part) (new : Left) : Type 0 where
@@ -109,7 +109,7 @@ pub record RefusesAt (now : ℕ) (old : Left) (index : ℕ) (part : Part) (new :
   pub error : Errno
   pub refused : IsRefusedAs error body
   pub world : new.world ≡ old.world
-  pub seats : new.seats ≡ slice_set old.seats index (seat who (Talks rest) made_for)
+  pub peers : new.peers ≡ slice_set old.peers index (peer who (Talks rest) made_for)
   pub part_is : part ≡ no_step (reply_to who (reply.Refused error) ∷ [])
 
 -- any other body is one ask
@@ -123,7 +123,7 @@ pub record AsksAt (conf : List Line) (now : ℕ) (old : Left) (index : ℕ) (par
   pub takes : Takes body stream rest
   pub ask : Ask
   pub spells : Spells ask body
-  pub answered : Answered conf now (record { world = old.world; seats = slice_set old.seats index (seat who (Talks rest) made_for) }) who ask part new
+  pub answered : Answered conf now (record { world = old.world; peers = slice_set old.peers index (peer who (Talks rest) made_for) }) who ask part new
 
 -- a client whose stream has a fault is gone
 pub record ShutsClient (now : ℕ) (old : Left) (index : ℕ) (part : Part) (new : Left) : Type 0 where
@@ -134,7 +134,7 @@ pub record ShutsClient (now : ℕ) (old : Left) (index : ℕ) (part : Part) (new
   pub fault : HasFault stream.bytes
   pub answer : Answer
   pub step : Step old.world now (Gone (Client client)) answer new.world
-  pub seats : new.seats ≡ without (Client client) old.seats
+  pub peers : new.peers ≡ without (Client client) old.peers
   pub part_is : part ≡ one_step now (Gone (Client client)) answer (output.Shut client ∷ [])
 
 -- a handler whose stream has a fault moves no more
@@ -145,7 +145,7 @@ pub record ShutsHandler (now : ℕ) (old : Left) (index : ℕ) (part : Part) (ne
   pub free : IsFree old index (Handler key) stream made_for
   pub fault : HasFault stream.bytes
   pub world : new.world ≡ old.world
-  pub seats : new.seats ≡ slice_set old.seats index (seat (Handler key) (Talks (closed stream)) made_for)
+  pub peers : new.peers ≡ slice_set old.peers index (peer (Handler key) (Talks (closed stream)) made_for)
   pub part_is : part ≡ no_step (output.ShutHandler key ∷ [])
 
 -- one move by the session at a place
@@ -167,7 +167,7 @@ Moves conf now old (part ∷ parts) new = (index : ℕ) × (mid : Left) × Move 
 abbrev pub IsIdle : World → SessionId → Unused → Type 0
 IsIdle w who u = (is_ready w who ≡ false) × ((has_wait w who ≡ true) ⊎ (u.is_shut ≡ true) ⊎ IsPartial u.bytes)
 
--- the session of this seat, if it has one, can't move
+-- the session of this peer, if it has one, can't move
 abbrev pub CannotMove : World → SessionId → Channel → Type 0
 CannotMove w who (Talks stream) = IsIdle w who stream
 CannotMove w who (Starts piped) = Unit {0}
@@ -175,4 +175,4 @@ CannotMove w who (Pipes bytes) = Unit {0}
 
 -- no session can move
 abbrev pub IsAtRest : Left → Type 0
-IsAtRest left = All (λ x. CannotMove left.world x.who x.channel) left.seats
+IsAtRest left = All (λ x. CannotMove left.world x.who x.channel) left.peers

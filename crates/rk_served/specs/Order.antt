@@ -5,7 +5,7 @@ use Rattle.rk_conf.specs.declared.line.Line.{Line}
 use Rattle.rk_machine.specs.Steps.{Beginning, Past}
 use Rattle.rk_served.specs.declared.happening.Happening.{Happening}
 use Rattle.rk_served.specs.declared.output.Output.{Output}
-use Rattle.rk_served.specs.declared.seat.Seat.{Seat}
+use Rattle.rk_served.specs.declared.peer.Peer.{Peer}
 use Rattle.rk_served.specs.Left.{Left, Part, nothing}
 use Rattle.rk_served.specs.Moves.{Move, CannotMove}
 use Rattle.rk_served.specs.Served.{Turn, Acts, IsPassedOver}
@@ -14,9 +14,9 @@ use Rattle.rk_served.specs.Standing.{comes_before}
 -- one move, by the first session that can: each that comes before it can't
 pub record MovesFirst (conf : List Line) (now : ℕ) (old : Left) (part : Part) (new : Left) : Type 0 where
   pub index : ℕ
-  pub mover : Seat
-  pub at : slice_get old.seats index ≡ Some mover
-  pub first : All (λ x. comes_before x.who mover.who ≡ true → CannotMove old.world x.who x.channel) old.seats
+  pub mover : Peer
+  pub at : slice_get old.peers index ≡ Some mover
+  pub first : All (λ x. comes_before x.who mover.who ≡ true → CannotMove old.world x.who x.channel) old.peers
   pub move : Move conf now old index part new
 
 -- moves, one after another, each by the first session that can

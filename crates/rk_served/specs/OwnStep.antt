@@ -24,12 +24,12 @@ use Rattle.rk_served.specs.declared.happening.Happening.TheVariants as happening
 use Rattle.rk_served.specs.declared.happening.StartResult.TheVariants.{Started, Failed}
 use Rattle.rk_served.specs.declared.output.Output.{Output}
 use Rattle.rk_served.specs.declared.output.Output.TheVariants as output
-use Rattle.rk_served.specs.declared.seat.Channel.{Channel}
-use Rattle.rk_served.specs.declared.seat.Channel.TheVariants.{Talks, Starts, Pipes}
-use Rattle.rk_served.specs.declared.seat.Seat.{Seat}
+use Rattle.rk_served.specs.declared.peer.Channel.{Channel}
+use Rattle.rk_served.specs.declared.peer.Channel.TheVariants.{Talks, Starts, Pipes}
+use Rattle.rk_served.specs.declared.peer.Peer.{Peer}
 use Rattle.rk_served.specs.Commands.{IsCommand, HasNoCommand}
 use Rattle.rk_served.specs.Streams.{no_bytes, lengthened}
-use Rattle.rk_served.specs.Left.{Left, seat, without, Part, step, no_step, one_step}
+use Rattle.rk_served.specs.Left.{Left, peer, without, Part, step, no_step, one_step}
 
 -- ---- where it is out of place
 
@@ -56,20 +56,20 @@ is_misplaced w (happening.HandlerReadFault k) = not (is_running w k)
 is_misplaced w (happening.HandlerEnded k how) = not (is_running w k)
 is_misplaced w (happening.WaitFault k) = not (is_running w k)
 
--- ---- what it does to the seats
+-- ---- what it does to the peers
 
 -- who it is about has this, and afterwards has that
-pub record Reseats (s : SessionId) (made_for : Option Subject) (old new : List Seat) (channel channel' : Channel) : Type 0 where
+pub record Replaces (s : SessionId) (made_for : Option Subject) (old new : List Peer) (channel channel' : Channel) : Type 0 where
   pub index : ℕ
-  pub at : slice_get old index ≡ Some (seat s channel made_for)
-  pub seats : new ≡ slice_set old index (seat s channel' made_for)
+  pub at : slice_get old index ≡ Some (peer s channel made_for)
+  pub peers : new ≡ slice_set old index (peer s channel' made_for)
 
 -- one is there, wherever it stands among the others
-pub record Adds (x : Seat) (old new : List Seat) : Type 0 where
-  pub before : List Seat
-  pub after : List Seat
+pub record Adds (x : Peer) (old new : List Peer) : Type 0 where
+  pub before : List Peer
+  pub after : List Peer
   pub others : old ≡ before ++ after
-  pub seats : new ≡ before ++ x ∷ after
+  pub peers : new ≡ before ++ x ∷ after
 
 -- one step, and what it puts out
 pub record StepsBy (now : ℕ) (event : Event) (answer : Answer) (outputs : List Output) (old : Left) (part : Part) (new : Left) : Type 0 where
@@ -87,7 +87,7 @@ channel_with more (Starts piped) = Starts piped
 pub record Lengthens (s : SessionId) (more : List ℕ) (old : Left) (part : Part) (new : Left) : Type 0 where
   pub channel : Channel
   pub made_for : Option Subject
-  pub reseats : Reseats s made_for old.seats new.seats channel (channel_with more channel)
+  pub replaces : Replaces s made_for old.peers new.peers channel (channel_with more channel)
   pub world : new.world ≡ old.world
   pub part_is : part ≡ no_step []
 
@@ -96,11 +96,11 @@ pub record Lengthens (s : SessionId) (more : List ℕ) (old : Left) (part : Part
 -- the client is there from now on, with an empty stream; or it is refused, and shut
 abbrev pub Accepts : ℕ → ℕ → Left → Part → Left → Type 0
 Accepts now n old part new =
-    (StepsBy now (Opened (Client n)) done [] old part new × Adds (seat (Client n) (Talks no_bytes) None) old.seats new.seats)
-    ⊎ ((e : Errno) × StepsBy now (Opened (Client n)) (Refused e) (output.Shut n ∷ []) old part new × (new.seats ≡ old.seats))
+    (StepsBy now (Opened (Client n)) done [] old part new × Adds (peer (Client n) (Talks no_bytes) None) old.peers new.peers)
+    ⊎ ((e : Errno) × StepsBy now (Opened (Client n)) (Refused e) (output.Shut n ∷ []) old part new × (new.peers ≡ old.peers))
 
 abbrev pub ClientGoes : ℕ → ℕ → Left → Part → Left → Type 0
-ClientGoes now n old part new = StepsBy now (Gone (Client n)) done [] old part new × (new.seats ≡ without (Client n) old.seats)
+ClientGoes now n old part new = StepsBy now (Gone (Client n)) done [] old part new × (new.peers ≡ without (Client n) old.peers)
 
 -- ---- starts
 
@@ -114,10 +114,10 @@ pub record Runs (now k : ℕ) (old : Left) (part : Part) (new : Left) : Type 0 w
   pub piped : Bool
   pub subject : Subject
   pub steps : StepsBy now (Launched k (if piped then ran.Piped else ran.Plain)) done (if piped then callout_to k subject.callout else []) old part new
-  pub reseats : Reseats (Handler k) (Some subject) old.seats new.seats (Starts piped) (if piped then Pipes [] else Talks no_bytes)
+  pub replaces : Replaces (Handler k) (Some subject) old.peers new.peers (Starts piped) (if piped then Pipes [] else Talks no_bytes)
 
 abbrev pub FailsToRun : ℕ → ℕ → Left → Part → Left → Type 0
-FailsToRun now k old part new = StepsBy now (Launched k ran.Failed) done [] old part new × (new.seats ≡ without (Handler k) old.seats)
+FailsToRun now k old part new = StepsBy now (Launched k ran.Failed) done [] old part new × (new.peers ≡ without (Handler k) old.peers)
 
 -- ---- ends
 
@@ -139,7 +139,7 @@ pub record Follows (conf : List Line) (now k : ℕ) (event : Event) (made_for : 
   pub command : Command
   pub is_command : IsCommand conf new.world now k (negated subject) command
   pub part_is : part ≡ one_step now event (Negate k) (output.Start k command ∷ [])
-  pub adds : Adds (seat (Handler k) (Starts command.piped) (Some (negated subject))) (without (Handler k) old.seats) new.seats
+  pub adds : Adds (peer (Handler k) (Starts command.piped) (Some (negated subject))) (without (Handler k) old.peers) new.peers
 
 -- without a command its start fails in the next step
 pub record FollowsNone (conf : List Line) (now k : ℕ) (event : Event) (made_for : Option Subject) (old : Left) (part : Part) (new : Left) : Type 0 where
@@ -150,11 +150,11 @@ pub record FollowsNone (conf : List Line) (now k : ℕ) (event : Event) (made_fo
   pub no_command : HasNoCommand conf mid now k (negated subject)
   pub second : Step mid now (Launched k ran.Failed) done new.world
   pub part_is : part ≡ record { steps = step now event (Negate k) ∷ step now (Launched k ran.Failed) done ∷ []; outputs = [] }
-  pub seats : new.seats ≡ without (Handler k) old.seats
+  pub peers : new.peers ≡ without (Handler k) old.peers
 
 -- how the end of a handler is answered
 pub data EndsBy (conf : List Line) (now k : ℕ) (event : Event) (made_for : Option Subject) (old : Left) (part : Part) (new : Left) : Type 0 where
-  is_last : StepsBy now event done [] old part new → new.seats ≡ without (Handler k) old.seats → EndsBy conf now k event made_for old part new
+  is_last : StepsBy now event done [] old part new → new.peers ≡ without (Handler k) old.peers → EndsBy conf now k event made_for old part new
   is_followed : Follows conf now k event made_for old part new → EndsBy conf now k event made_for old part new
   is_not_followed : FollowsNone conf now k event made_for old part new → EndsBy conf now k event made_for old part new
 
@@ -163,7 +163,7 @@ pub record Finishes (conf : List Line) (now k : ℕ) (how : How) (old : Left) (p
   pub index : ℕ
   pub channel : Channel
   pub made_for : Option Subject
-  pub at : slice_get old.seats index ≡ Some (seat (Handler k) channel made_for)
+  pub at : slice_get old.peers index ≡ Some (peer (Handler k) channel made_for)
   pub ends : EndsBy conf now k (Ended k how (payload_in channel)) made_for old part new
 
 -- the handler could not be read or waited for
@@ -171,7 +171,7 @@ pub record Breaks (conf : List Line) (now k : ℕ) (old : Left) (part : Part) (n
   pub index : ℕ
   pub channel : Channel
   pub made_for : Option Subject
-  pub at : slice_get old.seats index ≡ Some (seat (Handler k) channel made_for)
+  pub at : slice_get old.peers index ≡ Some (peer (Handler k) channel made_for)
   pub ends : EndsBy conf now k (Ended k Fault None) made_for old part new
 
 -- ---- by the happening

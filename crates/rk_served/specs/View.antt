@@ -5,8 +5,8 @@ use Rattle.rk_conf.specs.declared.line.Line.{Line}
 use Rattle.rk_conf.specs.contracts.line.Line as line
 use Rattle.rk_machine.specs.World.{World, world_code}
 use Rattle.rk_served.specs.declared.output.Output.{Output}
-use Rattle.rk_served.specs.declared.seat.Seat.{Seat}
-use Rattle.rk_served.specs.contracts.seat.Seat as seat
+use Rattle.rk_served.specs.declared.peer.Peer.{Peer}
+use Rattle.rk_served.specs.contracts.peer.Peer as peer
 use Rattle.rk_served.specs.declared.fault.TakeFault.{TakeFault}
 use Rattle.rk_served.specs.declared.fault.TakeFault.TheVariants.{Unknown, NoMemory}
 use Rattle.rk_served.specs.Left.{Left}
@@ -19,10 +19,10 @@ pub record View : Type 0 where
 
 abbrev pub view_code : Coded View
 view_code =
-    code_by (List Line × (World × (List Seat × Bool)))
-    (coded× (coded_list line.the_row.coded) (coded× world_code (coded× (coded_list seat.the_row.coded) coded_bool)))
-    (λ v. (v.conf, (v.left.world, (v.left.seats, v.broken))))
-    (λ p. record { conf = p.0; left = record { world = p.1.0; seats = p.1.1.0 }; broken = p.1.1.1 })
+    code_by (List Line × (World × (List Peer × Bool)))
+    (coded× (coded_list line.the_row.coded) (coded× world_code (coded× (coded_list peer.the_row.coded) coded_bool)))
+    (λ v. (v.conf, (v.left.world, (v.left.peers, v.broken))))
+    (λ p. record { conf = p.0; left = record { world = p.1.0; peers = p.1.1.0 }; broken = p.1.1.1 })
     (λ _. refl)
 
 -- what a call told: the outputs, or that the happening was out of place. Nothing, where memory was refused

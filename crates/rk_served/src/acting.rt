@@ -9,19 +9,19 @@ ghost use Rattle.rk_served.specs.declared.happening.Happening.TheVariants as hap
 ghost use Rattle.rk_served.specs.declared.happening.StartResult.TheVariants.{Started};
 ghost use Rattle.rk_conf.specs.declared.line.Line.{Line};
 ghost use Rattle.rk_machine.specs.Views.{is_owed};
-ghost use Rattle.rk_served.specs.declared.seat.Seat.{Seat};
+ghost use Rattle.rk_served.specs.declared.peer.Peer.{Peer};
 ghost use Rattle.rk_served.specs.Left.{no_step, one_step};
 ghost use Rattle.rk_served.specs.OwnStep.{has_client, is_to_start, is_running, is_misplaced, Lengthens, ClientGoes, FailsToRun, negated};
 ghost use Rattle.rk_served.specs.Order.{ActsInOrder};
-ghost use Rattle.rk_served.specs.Seated.{IsSeated, has_seat};
+ghost use Rattle.rk_served.specs.WhoIsThere.{HasItsPeers, has_peer};
 ghost use Rattle.rk_served.specs.Calls.{left_of, is_refused, MakesOwnStep, IsStartAt, HasEnded, EndsOne};
 
 use crate::bytes::Bytes;
 use crate::happening::{Happening, StartResult};
 use crate::output::{Output, Outputs};
-use crate::seat::{Channel, Seat};
-use crate::seated_book::SeatedBook;
-use crate::seats;
+use crate::peer::{Channel, Peer};
+use crate::peers;
+use crate::server::Server;
 use crate::stream::Stream;
 use rk_auth::Stage;
 use rk_conf::Conf;
@@ -31,7 +31,7 @@ use rk_names::{Moment, Serial, SessionId};
 use std::alloc::{AllocError, Global};
 
 /// Where clients and constructions are.
-impl SeatedBook {
+impl Server {
     /// Whether a client of this number is there.
     fn has_client(&self, client: u32) -> bool
         ensures { result ≡ has_client self.now.book client }
@@ -73,14 +73,14 @@ impl SeatedBook {
 }
 
 /// Own steps.
-impl SeatedBook {
+impl Server {
     /// Bytes come, for a stream or from a piped handler.
     fn lengthen(&mut self, who: &SessionId, bytes: &[u8]) -> Result<(), AllocError>
-        requires { has_seat self.old.seats.items who.now ≡ true }
+        requires { has_peer self.old.peers.items who.now ≡ true }
         ensures { OnOk result (Lengthens who.now bytes.now (left_of self.old) (no_step []) (left_of self.new)) }
     {
-        if let Some(index) = seats::index_of(&self.seats, who) {
-            self.seats[index].channel.feed(bytes)?;
+        if let Some(index) = peers::index_of(&self.peers, who) {
+            self.peers[index].channel.feed(bytes)?;
         }
         Ok(())
     }
@@ -104,12 +104,12 @@ impl SeatedBook {
             out.push(Output::Shut(client))?;
             return Ok(());
         }
-        let seat = Seat {
+        let peer = Peer {
             who: SessionId::Client(client),
             channel: Channel::Talks(Stream::new(alloc)?),
             subject: None,
         };
-        seats::add(&mut self.seats, seat)
+        peers::add(&mut self.peers, peer)
     }
 
     /// A client goes.
@@ -118,7 +118,7 @@ impl SeatedBook {
         ensures { ClientGoes now client (left_of self.old) (one_step now (Gone (Client client)) done []) (left_of self.new) }
     {
         let _ = self.book.step(now, Event::Gone(SessionId::Client(client)));
-        seats::remove(&mut self.seats, &SessionId::Client(client));
+        peers::remove(&mut self.peers, &SessionId::Client(client));
     }
 
     /// A plain handler runs, with an empty stream.
@@ -129,14 +129,14 @@ impl SeatedBook {
         key: Serial,
         index: usize,
     ) -> Result<(), AllocError>
-        requires starts { IsStartAt self.old.seats.items index key false }
+        requires starts { IsStartAt self.old.peers.items index key false }
         requires owed { is_to_start self.old.book key ≡ true }
         ensures { (conf : List Line) (put : List Output) →
             OnOk result (MakesOwnStep conf now (happening.StartResult key Started) (left_of self.old) put (left_of self.new) put) }
     {
         let channel = Channel::Talks(Stream::new(alloc)?);
         let _ = self.book.step(now, Event::Launched(key, Ran::Plain));
-        self.seats[index].channel = channel;
+        self.peers[index].channel = channel;
         Ok(())
     }
 
@@ -149,14 +149,14 @@ impl SeatedBook {
         index: usize,
         out: &mut Vec<Output>,
     ) -> Result<(), AllocError>
-        requires starts { IsStartAt self.old.seats.items index key true }
+        requires starts { IsStartAt self.old.peers.items index key true }
         requires owed { is_owed self.old.book (Launched key ran.Piped) ≡ true }
         ensures { (conf : List Line) →
             OnOk result (MakesOwnStep conf now (happening.StartResult key Started) (left_of self.old) out.old.items (left_of self.new) out.new.items) }
     {
         let _ = self.book.step(now, Event::Launched(key, Ran::Piped));
-        self.seats[index].put_callout(alloc, key, out)?;
-        self.seats[index].channel = Channel::Pipes(Bytes::new(Vec::new(alloc)));
+        self.peers[index].put_callout(alloc, key, out)?;
+        self.peers[index].channel = Channel::Pipes(Bytes::new(Vec::new(alloc)));
         Ok(())
     }
 
@@ -168,13 +168,13 @@ impl SeatedBook {
         key: Serial,
         out: &mut Vec<Output>,
     ) -> Result<(), AllocError>
-        requires seated { IsSeated (left_of self.old) }
+        requires has_peers { HasItsPeers (left_of self.old) }
         requires owed { is_to_start self.old.book key ≡ true }
         ensures { (conf : List Line) →
             OnOk result (MakesOwnStep conf now (happening.StartResult key Started) (left_of self.old) out.old.items (left_of self.new) out.new.items) }
     {
-        if let Some(index) = seats::index_of(&self.seats, &SessionId::Handler(key)) {
-            if self.seats[index].channel.is_piped() {
+        if let Some(index) = peers::index_of(&self.peers, &SessionId::Handler(key)) {
+            if self.peers[index].channel.is_piped() {
                 return self.run_piped(alloc, now, key, index, out);
             }
             return self.run_plain(alloc, now, key, index);
@@ -188,7 +188,7 @@ impl SeatedBook {
         ensures { FailsToRun now key (left_of self.old) (one_step now (Launched key ran.Failed) done []) (left_of self.new) }
     {
         let _ = self.book.step(now, Event::Launched(key, Ran::Failed));
-        seats::remove(&mut self.seats, &SessionId::Handler(key));
+        peers::remove(&mut self.peers, &SessionId::Handler(key));
     }
 
     /// A command was started, or could not be.
@@ -200,7 +200,7 @@ impl SeatedBook {
         started: StartResult,
         out: &mut Vec<Output>,
     ) -> Result<(), AllocError>
-        requires seated { IsSeated (left_of self.old) }
+        requires has_peers { HasItsPeers (left_of self.old) }
         requires owed { is_to_start self.old.book key ≡ true }
         ensures { (conf : List Line) →
             OnOk result (MakesOwnStep conf now (happening.StartResult key started) (left_of self.old) out.old.items (left_of self.new) out.new.items) }
@@ -214,7 +214,7 @@ impl SeatedBook {
         }
     }
 
-    /// A handler has ended, whose seat was taken away. Where another is to follow it, the command of that one is put out,
+    /// A handler has ended, whose peer was taken away. Where another is to follow it, the command of that one is put out,
     /// for what the first was made for.
     fn end(
         &mut self,
@@ -225,8 +225,8 @@ impl SeatedBook {
         subject: Option<Subject>,
         out: &mut Vec<Output>,
     ) -> Result<(), AllocError>
-        ensures { (k : ℕ) (seats : List Seat) → HasEnded k event subject seats (left_of self.old) →
-            OnOk result (EndsOne conf.now now k event subject (record { world = self.old.book; seats = seats })
+        ensures { (k : ℕ) (peers : List Peer) → HasEnded k event subject peers (left_of self.old) →
+            OnOk result (EndsOne conf.now now k event subject (record { world = self.old.book; peers = peers })
             out.old.items (left_of self.new) out.new.items) }
     {
         let Answer::Negate(key) = self.book.step(now, event) else {
@@ -248,17 +248,17 @@ impl SeatedBook {
         how: How,
         out: &mut Vec<Output>,
     ) -> Result<(), AllocError>
-        requires seated { IsSeated (left_of self.old) }
+        requires has_peers { HasItsPeers (left_of self.old) }
         requires owed { is_running self.old.book key ≡ true }
         ensures { OnOk result (MakesOwnStep conf.now now (happening.HandlerEnded key how) (left_of self.old) out.old.items (left_of self.new) out.new.items) }
     {
-        match seats::take(&mut self.seats, &SessionId::Handler(key)) {
-            Some(seat) => {
-                let Seat {
+        match peers::take(&mut self.peers, &SessionId::Handler(key)) {
+            Some(peer) => {
+                let Peer {
                     channel,
                     subject,
                     ..
-                } = seat;
+                } = peer;
                 let event = Event::Ended(key, how, channel.into_payload());
                 self.end(alloc, conf, now, event, subject, out)
             }
@@ -275,14 +275,14 @@ impl SeatedBook {
         key: Serial,
         out: &mut Vec<Output>,
     ) -> Result<(), AllocError>
-        requires seated { IsSeated (left_of self.old) }
+        requires has_peers { HasItsPeers (left_of self.old) }
         requires owed { is_running self.old.book key ≡ true }
         ensures { OnOk result (MakesOwnStep conf.now now (happening.WaitFault key) (left_of self.old) out.old.items (left_of self.new) out.new.items) }
     {
-        match seats::take(&mut self.seats, &SessionId::Handler(key)) {
-            Some(seat) => {
+        match peers::take(&mut self.peers, &SessionId::Handler(key)) {
+            Some(peer) => {
                 let event = Event::Ended(key, How::Fault, None);
-                self.end(alloc, conf, now, event, seat.subject, out)
+                self.end(alloc, conf, now, event, peer.subject, out)
             }
             None => Ok(()),
         }
@@ -297,7 +297,7 @@ impl SeatedBook {
         happening: &Happening,
         out: &mut Vec<Output>,
     ) -> Result<(), AllocError>
-        requires seated { IsSeated (left_of self.old) }
+        requires has_peers { HasItsPeers (left_of self.old) }
         requires placed { is_misplaced self.old.book happening.now ≡ false }
         ensures { OnOk result (MakesOwnStep conf.now now happening.now (left_of self.old) out.old.items (left_of self.new) out.new.items) }
     {
@@ -329,7 +329,7 @@ impl SeatedBook {
         now: Moment,
         happening: &Happening,
     ) -> Result<Outputs, AllocError>
-        requires seated { IsSeated (left_of self.old) }
+        requires has_peers { HasItsPeers (left_of self.old) }
         requires placed { is_misplaced self.old.book happening.now ≡ false }
         ensures { IfOk result (λ out. (steps : List Past) × ActsInOrder conf.now (left_of self.old) now happening.now out steps (left_of self.new)) }
     {

@@ -8,17 +8,17 @@
 //! [`Replay::take`] takes one [`Happening`] at its moment. Whatever list of happenings was served before, that list with this one
 //! and with these outputs is served, too (`specs/Served.antt`): the own step of the happening, and then moves of sessions until
 //! none can move. A session that waits moves no more until it can collect. Of those that can, the first one moves: clients by
-//! rising number, and then handlers by rising key (`specs/Order.antt`); so the seats of who is there stand in that order, whatever
+//! rising number, and then handlers by rising key (`specs/Order.antt`); so the peers stand in that order, whatever
 //! the order of arrival. The steps of that list and of this happening are a run of the machine that obeys the laws of every run:
 //! this stands on the contract of the call itself, and for any served list on that of [`served_is_run`]. A happening whose client
 //! or handler is not at that point is refused, and changes nothing. After want of memory a replay answers that for good.
 //!
 //! # How it is built
 //!
-//! `stream` cuts frames and reads asks, `seat` and `seats` say who is there, `command` makes the words of a command, `replies` makes
-//! frames of answers. `seated_book` is the machine with the seats, and moves sessions; `acting` takes the own step of a happening, and
-//! `replay` is what the crates above see. Each move makes the rest lighter: fewer unused bytes, a stream that is shut, or a
-//! wait that has ended; so the moves come to an end (`proofs/Weight.antt`).
+//! `stream` cuts frames and reads asks. A peer is a client, or a construction with its handler; `peer` and `peers` say who is there.
+//! `command` makes the words of a command, `replies` makes frames of answers. `server` is the machine with the peers, and moves
+//! sessions; `acting` takes the own step of a happening, and `replay` is what the crates above see. Each move makes the rest lighter:
+//! fewer unused bytes, a stream that is shut, or a wait that has ended; so the moves come to an end (`proofs/Weight.antt`).
 #![tactic(auto)]
 
 mod acting;
@@ -27,11 +27,11 @@ mod command;
 mod fault;
 mod happening;
 mod output;
+mod peer;
+mod peers;
 mod replay;
 mod replies;
-mod seat;
-mod seated_book;
-mod seats;
+mod server;
 mod stream;
 
 pub use bytes::Bytes;

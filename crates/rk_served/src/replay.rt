@@ -11,7 +11,7 @@ ghost use Rattle.rk_served.specs.View.{told};
 use crate::fault::TakeFault;
 use crate::happening::Happening;
 use crate::output::Outputs;
-use crate::seated_book::SeatedBook;
+use crate::server::Server;
 use rk_conf::Conf;
 use rk_core::{Book, Limits};
 use rk_names::Moment;
@@ -22,13 +22,13 @@ use std::marker::Model;
 #[derive(Drop)]
 pub struct Replay {
     conf: Conf,
-    seated: SeatedBook,
+    server: Server,
     broken: bool,
 }
 
 impl Model for Replay {
     ghost use Rattle.std.specs.Prelude.{◌≡◌, false};
-    ghost use Rattle.rk_served.specs.Seated.{IsSeated};
+    ghost use Rattle.rk_served.specs.WhoIsThere.{HasItsPeers};
     ghost use Rattle.rk_served.specs.Calls.{left_of};
     ghost use Rattle.rk_served.specs.View.{View, view_code};
 
@@ -36,9 +36,9 @@ impl Model for Replay {
 
     ghost coded = { view_code };
 
-    ghost view = { λ r. record { conf = r.conf; left = left_of r.seated; broken = r.broken } };
+    ghost view = { λ r. record { conf = r.conf; left = left_of r.server; broken = r.broken } };
 
-    ghost invariant = { λ r. r.broken ≡ false → IsSeated (left_of r.seated) };
+    ghost invariant = { λ r. r.broken ≡ false → HasItsPeers (left_of r.server) };
 }
 
 impl Replay {
@@ -51,9 +51,9 @@ impl Replay {
     {
         Ok(Replay {
             conf,
-            seated: SeatedBook {
+            server: Server {
                 book: Book::new(alloc, limits)?,
-                seats: Vec::new(alloc),
+                peers: Vec::new(alloc),
             },
             broken: false,
         })
@@ -79,8 +79,8 @@ impl Replay {
         // The moves of sessions are made in the order of work: each by the first that can, clients by rising number, then handlers by rising key.
         ensures order { IfSome (told result) (λ outputs. (steps : List Past)
             × ServesInOrder self.old.conf self.old.left now happening.now outputs steps self.new.left) }
-        // whatever the order of arrival, the seats stand in that order
-        ensures seats { are_in_order self.new.left.seats ≡ true }
+        // whatever the order of arrival, the peers stand in that order
+        ensures peers { are_in_order self.new.left.peers ≡ true }
         ensures conf { self.new.conf ≡ self.old.conf }
 
         ensures unknown { self.old.broken ≡ false → (result ≡ Err TakeFault.Unknown) ↔ (is_misplaced self.old.left.world happening.now ≡ true) }
@@ -93,10 +93,10 @@ impl Replay {
         if self.broken {
             return Err(TakeFault::NoMemory);
         }
-        if self.seated.is_misplaced(happening) {
+        if self.server.is_misplaced(happening) {
             return Err(TakeFault::Unknown);
         }
-        match self.seated.act(alloc, &self.conf, now, happening) {
+        match self.server.act(alloc, &self.conf, now, happening) {
             Ok(out) => Ok(out),
             Err(_) => {
                 self.broken = true;

@@ -1,0 +1,14 @@
+use Rattle.std.proofs.Common.{[], refl}
+use Rattle.rk_machine.specs.declared.event.Event.TheVariants.{Launched}
+use Rattle.rk_machine.specs.declared.event.Ran.TheVariants as ran
+use Rattle.rk_machine.specs.Allowed.{done}
+use Rattle.rk_served.specs.declared.happening.Happening.TheVariants as happening
+use Rattle.rk_served.specs.declared.happening.StartResult.TheVariants.{Failed}
+use Rattle.rk_served.specs.Left.{one_step}
+use Rattle.rk_served.proofs.OwnSteps.{begins_quiet}
+use Rattle.rk_served.proofs.server.Server.launch.Goals as goal
+
+pub returns-in-Failed : goal.returns-in-Failed
+returns-in-Failed c conf =
+    rw c.in-Failed.is (begins_quiet conf c.args.now (happening.StartResult c.args.key Failed) _ _ _
+    (one_step c.args.now (Launched c.args.key ran.Failed) done []) refl c.fail.ensures)

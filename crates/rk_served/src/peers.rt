@@ -1,0 +1,110 @@
+//! The peers that are there, in the order in which they move.
+ghost use Rattle.std.specs.Prelude.{◌≡◌, ◌<◌, true, length, IfSome, IfNone, OnOk, slice_get, position};
+ghost use Rattle.std.specs.List.{position_or_len};
+ghost use Rattle.rk_names.specs.declared.numbers.SessionId.TheVariants.{Client, Handler};
+ghost use Rattle.rk_machine.specs.Laws.{same_session};
+ghost use Rattle.rk_served.specs.Left.{without};
+ghost use Rattle.rk_served.specs.Standing.{comes_before, are_in_order};
+ghost use Rattle.rk_served.specs.WhoIsThere.{peer_of, are_apart, Sits};
+ghost use Rattle.rk_served.specs.OwnStep.{Adds};
+
+use crate::peer::Peer;
+use rk_names::SessionId;
+use std::alloc::AllocError;
+
+/// Whether the two are one.
+fn same(one: &SessionId, other: &SessionId) -> bool
+    ensures { result ≡ same_session one.now other.now }
+{
+    match one {
+        SessionId::Client(n) => is_client(other, *n),
+        SessionId::Handler(k) => is_handler(other, k.get()),
+    }
+}
+
+/// Whether it is the client of this number.
+fn is_client(who: &SessionId, client: u32) -> bool
+    ensures { result ≡ same_session (Client client) who.now }
+{
+    match who {
+        SessionId::Client(n) => client == *n,
+        SessionId::Handler(_) => false,
+    }
+}
+
+/// Whether it is the handler of the key of this number.
+fn is_handler(who: &SessionId, key: u32) -> bool
+    ensures { result ≡ same_session (Handler key) who.now }
+{
+    match who {
+        SessionId::Client(_) => false,
+        SessionId::Handler(k) => key == k.get(),
+    }
+}
+
+/// Where the peer of this one is.
+pub fn index_of(peers: &[Peer], who: &SessionId) -> Option<usize>
+    ensures found { IfSome result (λ i. IfSome (slice_get peers.now i) (λ x. (x.who ≡ who.now) × (peer_of peers.now who.now ≡ Some x))) }
+    ensures within { IfSome result (λ i. i < length peers.now) }
+    ensures none { IfNone result (peer_of peers.now who.now ≡ None) }
+{
+    for (i, peer) in peers.iter().enumerate() {
+        if same(&peer.who, who) {
+            return Some(i);
+        }
+    }
+    None
+}
+
+/// Whether the one comes before the other: clients by rising number, and then handlers by rising key.
+fn comes_before(one: &SessionId, other: &SessionId) -> bool
+    ensures { result ≡ comes_before one.now other.now }
+{
+    one < other
+}
+
+/// Where the first one sits that this one comes before.
+fn first_behind(peers: &[Peer], who: &SessionId) -> Option<usize>
+    ensures { result ≡ position (λ x. comes_before who.now x.who) peers.now }
+{
+    peers.iter().position(|peer| comes_before(who, &peer.who))
+}
+
+/// Where a peer of this one is to stand: in front of the first that it comes before, or behind all.
+fn rank(peers: &[Peer], who: &SessionId) -> usize
+    ensures { result ≡ position_or_len (λ x. comes_before who.now x.who) peers.now }
+{
+    first_behind(peers, who).unwrap_or(peers.len())
+}
+
+/// Puts a peer among the others, at its place in the order.
+pub fn add(peers: &mut Vec<Peer>, peer: Peer) -> Result<(), AllocError>
+    ensures adds { OnOk result (Adds peer peers.old.items peers.new.items) }
+    ensures order { are_in_order peers.old.items ≡ true → are_in_order peers.new.items ≡ true }
+{
+    let index = rank(peers, &peer.who);
+    peers.insert(index, peer)?;
+    Ok(())
+}
+
+/// Takes the peer of this one away.
+pub fn remove(peers: &mut Vec<Peer>, who: &SessionId)
+    ensures without { peers.new.items ≡ without who.now peers.old.items }
+    ensures order { are_in_order peers.old.items ≡ true → are_in_order peers.new.items ≡ true }
+{
+    peers.retain(|peer| !same(&peer.who, who));
+}
+
+/// Takes the peer of this one away.
+pub fn take(peers: &mut Vec<Peer>, who: &SessionId) -> Option<Peer>
+    requires { are_apart peers.old.items ≡ true }
+    ensures found { IfSome result (λ x. Sits who.now x peers.old.items) }
+    ensures rest { IfSome result (λ x. peers.new.items ≡ without who.now peers.old.items) }
+    ensures none { IfNone result (peer_of peers.old.items who.now ≡ None) }
+    ensures order { are_in_order peers.old.items ≡ true → are_in_order peers.new.items ≡ true }
+{
+    match index_of(peers, who) {
+        Some(index) => Some(peers.remove(index)),
+        None => None,
+    }
+}

@@ -1,0 +1,219 @@
+//! The machine and the peers that are there: the moves of sessions.
+ghost use Rattle.std.specs.Prelude.{◌≡◌, true, ◌<◌, List, IfOk, OnOk, IfSome, MatchBool, vec_len, slice_get};
+ghost use Rattle.rk_conf.specs.declared.line.Line.{Line};
+ghost use Rattle.rk_machine.specs.Views.{is_ready};
+ghost use Rattle.rk_served.specs.Standing.{are_in_order};
+ghost use Rattle.rk_served.specs.Channels.{is_stream, HasFaultAt};
+ghost use Rattle.rk_served.specs.Moves.{IsAtRest};
+ghost use Rattle.rk_served.specs.WhoIsThere.{HasItsPeers};
+
+use crate::command::command_for;
+use crate::output::Output;
+use crate::peer::{Channel, Peer};
+use crate::peers;
+use crate::replies::put_reply;
+use crate::stream::Message;
+use rk_conf::Conf;
+use rk_core::{Answer, Book, Event, Ran};
+use rk_macro::Subject;
+use rk_message::Ask;
+use rk_names::{Moment, Serial, SessionId};
+use std::alloc::{AllocError, Global};
+
+/// The machine, and the peers that are there, in the order in which they move: clients by rising number, and then handlers by
+/// rising key.
+#[derive(Drop)]
+pub struct Server {
+    pub book: Book,
+    pub peers: Vec<Peer>,
+    ghost in_order: { are_in_order peers.items ≡ true },
+}
+
+impl Server {
+    ghost use Rattle.rk_served.specs.Calls.{left_of, MovesOne, MovesNext, MovesSome, AnswersOne, StartsNow, TriesAt, IsFreeAt};
+
+    /// Puts out the command of a construction that has begun, or goes on, or has its start fail.
+    pub fn start(
+        &mut self,
+        alloc: Global,
+        conf: &Conf,
+        now: Moment,
+        key: Serial,
+        subject: Subject,
+        out: &mut Vec<Output>,
+    ) -> Result<(), AllocError>
+        ensures { OnOk result (StartsNow conf.now now key subject (left_of self.old) out.old.items (left_of self.new) out.new.items) }
+    {
+        match command_for(alloc, conf, &self.book, now, key, &subject) {
+            Some(command) => {
+                let peer = Peer {
+                    who: SessionId::Handler(key),
+                    channel: Channel::Starts(command.piped),
+                    subject: Some(subject),
+                };
+                peers::add(&mut self.peers, peer)?;
+                out.push(Output::Start(key, command))?;
+                Ok(())
+            }
+            None => {
+                let _ = self.book.step(now, Event::Launched(key, Ran::Failed));
+                Ok(())
+            }
+        }
+    }
+
+    /// Makes one ask, and puts out what comes of it.
+    fn ask(
+        &mut self,
+        alloc: Global,
+        conf: &Conf,
+        now: Moment,
+        who: &SessionId,
+        ask: Ask,
+        out: &mut Vec<Output>,
+    ) -> Result<(), AllocError>
+        ensures { OnOk result (AnswersOne conf.now now (left_of self.old) who.now ask out.old.items (left_of self.new) out.new.items) }
+    {
+        match self.book.step(now, Event::Asked(*who, ask)) {
+            Answer::Start(key, subject) => self.start(alloc, conf, now, key, subject, out),
+            answer => put_reply(alloc, who, answer, out),
+        }
+    }
+
+    /// The session of a peer collects its outcome.
+    fn collect_at(
+        &mut self,
+        alloc: Global,
+        now: Moment,
+        index: usize,
+        out: &mut Vec<Output>,
+    ) -> Result<(), AllocError>
+        requires within { index < vec_len self.old.peers }
+        requires ready { IfSome (slice_get self.old.peers.items index) (λ x. (is_stream x.channel ≡ true) × (is_ready self.old.book x.who ≡ true)) }
+        ensures { (conf : List Line) → OnOk result (MovesOne conf now index (left_of self.old) out.old.items (left_of self.new) out.new.items) }
+    {
+        let who = self.peers[index].who;
+        let answer = self.book.step(now, Event::Collect(who));
+        put_reply(alloc, &self.peers[index].who, answer, out)
+    }
+
+    /// The session of a peer meets the fault of its stream.
+    fn fault_at(
+        &mut self,
+        now: Moment,
+        index: usize,
+        out: &mut Vec<Output>,
+    ) -> Result<(), AllocError>
+        requires within { index < vec_len self.old.peers }
+        requires fault { IfSome (slice_get self.old.peers.items index) (λ x. HasFaultAt x.channel) }
+        requires free { IsFreeAt (left_of self.old) index }
+        ensures { (conf : List Line) → OnOk result (MovesOne conf now index (left_of self.old) out.old.items (left_of self.new) out.new.items) }
+    {
+        match self.peers[index].who {
+            SessionId::Client(client) => {
+                let _ = self.book.step(now, Event::Gone(SessionId::Client(client)));
+                peers::remove(&mut self.peers, &SessionId::Client(client));
+                out.push(Output::Shut(client))?;
+                Ok(())
+            }
+            SessionId::Handler(key) => {
+                self.peers[index].channel.shut();
+                out.push(Output::ShutHandler(key))?;
+                Ok(())
+            }
+        }
+    }
+
+    /// The session of a peer takes the next message of its stream, if there is one.
+    fn take_at(
+        &mut self,
+        alloc: Global,
+        conf: &Conf,
+        now: Moment,
+        index: usize,
+        out: &mut Vec<Output>,
+    ) -> Result<bool, AllocError>
+        requires within { index < vec_len self.old.peers }
+        requires free { IsFreeAt (left_of self.old) index }
+        ensures { IfOk result (λ moved. TriesAt conf.now now index moved (left_of self.old) out.old.items (left_of self.new) out.new.items) }
+    {
+        match self.peers[index].channel.next(alloc)? {
+            Message::More => Ok(false),
+            Message::Asks(ask) => {
+                let who = self.peers[index].who;
+                self.ask(alloc, conf, now, &who, ask, out)?;
+                Ok(true)
+            }
+            Message::Refused(errno) => {
+                put_reply(alloc, &self.peers[index].who, Answer::Refused(errno), out)?;
+                Ok(true)
+            }
+            Message::Fault => {
+                self.fault_at(now, index, out)?;
+                Ok(true)
+            }
+        }
+    }
+
+    /// The session of a peer makes one move, if it can.
+    fn move_at(
+        &mut self,
+        alloc: Global,
+        conf: &Conf,
+        now: Moment,
+        index: usize,
+        out: &mut Vec<Output>,
+    ) -> Result<bool, AllocError>
+        requires { index < vec_len self.old.peers }
+        ensures { IfOk result (λ moved. TriesAt conf.now now index moved (left_of self.old) out.old.items (left_of self.new) out.new.items) }
+    {
+        let peer = &self.peers[index];
+        if !peer.channel.is_stream() {
+            return Ok(false);
+        }
+        if self.book.ready(&peer.who) {
+            self.collect_at(alloc, now, index, out)?;
+            return Ok(true);
+        }
+        if self.book.waits(&peer.who) || !peer.channel.is_open() {
+            return Ok(false);
+        }
+        self.take_at(alloc, conf, now, index, out)
+    }
+
+    /// The first session that can makes one move.
+    fn move_one(
+        &mut self,
+        alloc: Global,
+        conf: &Conf,
+        now: Moment,
+        out: &mut Vec<Output>,
+    ) -> Result<bool, AllocError>
+        ensures { IfOk result (λ moved. MatchBool moved
+            (MovesNext conf.now now (left_of self.old) out.old.items (left_of self.new) out.new.items)
+            ((left_of self.new ≡ left_of self.old) × (out.new.items ≡ out.old.items) × IsAtRest (left_of self.old))) }
+    {
+        for index in 0..self.peers.len() {
+            if self.move_at(alloc, conf, now, index, out)? {
+                return Ok(true);
+            }
+        }
+        Ok(false)
+    }
+
+    /// Moves until no session can move.
+    pub fn move_all(
+        &mut self,
+        alloc: Global,
+        conf: &Conf,
+        now: Moment,
+        out: &mut Vec<Output>,
+    ) -> Result<(), AllocError>
+        requires { HasItsPeers (left_of self.old) }
+        ensures moves { OnOk result (MovesSome conf.now now (left_of self.old) out.old.items (left_of self.new) out.new.items) }
+        ensures at_rest { OnOk result (IsAtRest (left_of self.new)) }
+    {
+        while self.move_one(alloc, conf, now, out)? {}
+        Ok(())
+    }
+}
