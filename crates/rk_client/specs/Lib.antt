@@ -1,0 +1,5 @@
+pub mod Numbers
+pub mod Arguments
+pub mod Peer
+pub mod Printed
+pub mod Words
