@@ -1,21 +1,29 @@
-"""The built `reqkeyd`, as LLVM makes it and as the toolchain's own compiler does, and the count of what passed on them.
+"""The built programs, as LLVM makes them and as the toolchain's own compiler does, and the count of what passed on them.
 
-The folder PROGRAMS of the environment, where it is named, has the one program to be tried in their place (`make quick`).
+The folder PROGRAMS of the environment, where it is named, has the programs to be tried in their place (`make quick`).
 """
 import os
 import pathlib
 import sys
 
 top = pathlib.Path(__file__).resolve().parent.parent
-out = top / "crates" / "reqkeyd" / "out"
-
-PROGRAMS = [top / os.environ["PROGRAMS"] / "reqkeyd"] if "PROGRAMS" in os.environ else [out / "reqkeyd", out / "reqkeyd.by-rattle"]
 
 
-def check_all(cases, fault):
+def built(name):
+    """Where a program is."""
+    if "PROGRAMS" in os.environ:
+        return [top / os.environ["PROGRAMS"] / name]
+    out = top / "crates" / name / "out"
+    return [out / name, out / f"{name}.by-rattle"]
+
+
+PROGRAMS = built("reqkeyd")
+
+
+def check_all(cases, fault, programs=PROGRAMS):
     """Tries each case, a name and what it is, on each program; `fault` says what went wrong, or None. Prints the count, and ends."""
     passed = failed = 0
-    for program in PROGRAMS:
+    for program in programs:
         if not program.exists():
             print(f"{program} is not built")
             failed += 1

@@ -1,0 +1,274 @@
+//! The manual, for words that ask for it, and what is wrong with words that ask for nothing.
+ghost use Rattle.std.specs.Prelude.{◌≡◌, ◌≤◌, true, map, string_bytes};
+ghost use Rattle.reqkeyctl.specs.Calls.{asks_help, is_help};
+ghost use Rattle.reqkeyctl.specs.Outcome.{HasTold};
+
+use crate::telling::{misused, no_memory, tell};
+use clap::error::ErrorKind;
+use clap::{Arg, ArgAction, Command, Error};
+use rk_client::ArgumentFault;
+use rk_message::{AskShape, FieldKind, Op};
+use rk_names::Errno;
+use std::alloc::{AllocError, Global};
+use std::io::Write;
+
+/// What `--help` says before its lists.
+const ABOUT: &str = "Asks a request_key daemon for one thing, and prints its reply.
+
+With --socket it connects as a client, says who it is (HELLO), asks, and prints the reply on standard output. Without it, it speaks as a handler that \
+the daemon has started: it writes the ask to standard output, reads exactly its reply from standard input, and prints it on standard error.
+
+Options stand before the command, and all words behind it are its arguments.";
+
+/// What `--help` says behind its lists, before the errors.
+const AFTER: &str = "Arguments:
+  <key>          a serial, 0, or auth: the authority that is assumed
+  <ring>         a serial, none, thread, process, session, user or requestor
+  <setting>      keep, default, thread, process, session, user or requestor
+  <seconds>      a number of seconds from now
+  <error>        126 to 129 (below)
+  <type>         1 to 31 bytes of text, the first no dot
+  <description>  1 to 4,095 bytes of text
+  <payload>      1 to 32,767 bytes
+  <callout>      what a handler is told: at most 4,095 bytes of text
+Numbers have no sign. A payload or callout - is that byte.
+
+A reply is printed as a number, as the serials of the thread, process, session and user ring (0 for none), or as the bytes, each with a newline.
+
+Examples:
+  reqkeyctl --socket S --uid 1000 request user mykey none hello    finds a key, or has it made: its serial
+  reqkeyctl --socket S --uid 1000 read 12                          prints its payload
+  reqkeyctl --payload-from FILE instantiate 12 none                in a handler: gives the key the bytes of a file
+
+Status: 0 where a reply was printed; 1 for a refusal (errno N on standard error), a daemon that can't be reached or gives no reply \
+(reqkeyctl: socket), a file that can't be used (reqkeyctl: file), or want of memory (reqkeyctl: memory); 2 for words that are no call.
+
+Errors:";
+
+/// Says what was asked for, or what is wrong with the words: `fault`, where they could be read.
+pub fn explain<W: Write, E: Write>(
+    alloc: Global,
+    words: &[String],
+    fault: Option<ArgumentFault>,
+    writer: &mut W,
+    errors: &mut E,
+) -> u8
+    ensures told { result ≡ 0 → (asks_help (map string_bytes words.now) ≡ true) × HasTold (W.contents writer.old) (W.contents writer.new) }
+    ensures usage { result ≡ 2 → writer.new ≡ writer.old }
+    ensures status { result ≤ 2 }
+{
+    let helps = asks_help(words);
+    if let (false, Some(ArgumentFault::Bad(kind))) = (helps, fault) {
+        return misused(rule(kind), errors);
+    }
+    match found(alloc, words) {
+        Ok(None) => misused(
+            "error: the options do not go with the command, see --help\n",
+            errors,
+        ),
+        Ok(Some(error)) => show(alloc, helps, &error, writer, errors),
+        Err(_) => no_memory(errors),
+    }
+}
+
+/// What the manual finds of the words: what was asked for or is wrong, if anything.
+fn found(alloc: Global, words: &[String]) -> Result<Option<Error>, AllocError> {
+    let names = names(alloc)?;
+    let after = after(alloc)?;
+    let command = command(alloc, names.as_slice(), after.as_str())?;
+    match command.try_get_matches_from(words) {
+        Ok(_) => Ok(None),
+        Err(error) => Ok(Some(error)),
+    }
+}
+
+/// Shows a text on the stream that it is for: help and version are asked for, all else is a fault.
+fn show<W: Write, E: Write>(
+    alloc: Global,
+    helps: bool,
+    error: &Error,
+    writer: &mut W,
+    errors: &mut E,
+) -> u8
+    ensures told { result ≡ 0 → (helps ≡ true) × HasTold (W.contents writer.old) (W.contents writer.new) }
+    ensures usage { result ≡ 2 → writer.new ≡ writer.old }
+    ensures status { result ≤ 2 }
+{
+    if error.kind() == ErrorKind::OutOfMemory {
+        return no_memory(errors);
+    }
+    let Ok(text) = error.to_string(alloc) else {
+        return no_memory(errors);
+    };
+    if error.use_stderr() || !helps {
+        return misused(&text, errors);
+    }
+    tell(text.as_bytes(), writer)
+}
+
+/// Whether a word asks for help or the version.
+fn asks_help(words: &[String]) -> bool
+    ensures { result ≡ asks_help (map string_bytes words.now) }
+{
+    match words {
+        [] => false,
+        [word, others @ ..] => is_help(word.as_str()) || asks_help(others),
+    }
+}
+
+/// Whether the word asks for help or the version.
+fn is_help(word: &str) -> bool
+    ensures { result ≡ is_help word.now }
+{
+    word == "--help" || word == "-h" || word == "--version" || word == "-V"
+}
+
+/// The names of the table's asks in lower case.
+fn names(alloc: Global) -> Result<Vec<String>, AllocError> {
+    let mut names = Vec::new(alloc);
+    for shape in AskShape::all() {
+        names.push(shape.name.to_ascii_lowercase(alloc)?)?;
+    }
+    Ok(names)
+}
+
+/// The end of the manual, with each error that the daemon answers.
+fn after(alloc: Global) -> Result<String, AllocError> {
+    let mut text = AFTER.to_string(alloc)?;
+    for number in 0..=u8::MAX {
+        if let Some(errno) = Errno::from_number(number) {
+            text.push_str(format!(in alloc; "\n  {number:>3} {}", errno.name())?.as_str())?;
+        }
+    }
+    Ok(text)
+}
+
+/// The command line: options, and a subcommand for each ask of the table.
+fn command<'a>(
+    alloc: Global,
+    names: &'a [String],
+    after: &'a str,
+) -> Result<Command<'a>, AllocError> {
+    let top = Command::new(alloc, "reqkeyctl")
+        .version("0.1.0")
+        .about(ABOUT)
+        .after_help(after)
+        .subcommand_required(true)
+        .disable_help_subcommand(true);
+    let mut command = with_options(alloc, top)?;
+    for (shape, name) in AskShape::all().iter().zip(names) {
+        command = command.subcommand(subcommand(alloc, shape, name.as_str())?)?;
+    }
+    Ok(command)
+}
+
+/// The options, by name, value and what they are for.
+const OPTIONS: [(&str, &str, &str); 6] = [
+    (
+        "socket",
+        "PATH",
+        "The socket of the daemon; without it, speak as a handler over the standard streams",
+    ),
+    ("uid", "N", "The user to act for [default: 0]"),
+    ("gid", "N", "The group to act for [default: 0]"),
+    (
+        "join",
+        "N",
+        "The session ring to join, 0 for a new one [default: 0]",
+    ),
+    (
+        "payload-from",
+        "FILE",
+        "The payload is what FILE has (- for standard input); no <payload> is given",
+    ),
+    (
+        "callout-from",
+        "FILE",
+        "The callout is what FILE has (- for standard input); no <callout> is given",
+    ),
+];
+
+/// The command line with the options.
+fn with_options<'a>(alloc: Global, top: Command<'a>) -> Result<Command<'a>, AllocError> {
+    let mut command = top;
+    for (name, value, help) in &OPTIONS {
+        command = command.arg(
+            Arg::new(alloc, name)
+                .long(name)
+                .value_name(value)
+                .help(help),
+        )?;
+    }
+    let raw = Arg::new(alloc, "raw")
+        .long("raw")
+        .action(ArgAction::SetTrue);
+    command.arg(raw.help("Write the bytes of a reply as they are, with no newline"))
+}
+
+/// The subcommand of an ask: its fields are its arguments, a callout the last one.
+fn subcommand<'a>(
+    alloc: Global,
+    shape: &AskShape,
+    name: &'a str,
+) -> Result<Command<'a>, AllocError> {
+    let mut command = Command::new(alloc, name).about(about(shape.op));
+    if shape.op == Op::Hello {
+        return Ok(command);
+    }
+    for kind in shape.fields {
+        if *kind != FieldKind::Callout {
+            command = command.arg(argument(alloc, kind.name()).required(true))?;
+        }
+    }
+    if shape.fields.contains(&FieldKind::Callout) {
+        command = command.arg(argument(alloc, FieldKind::Callout.name()))?;
+    }
+    Ok(command)
+}
+
+/// The argument of a field with this name.
+fn argument<'a>(alloc: Global, name: &'a str) -> Arg<'a> {
+    Arg::new(alloc, name).allow_hyphen_values(true)
+}
+
+/// What an ask is for.
+fn about(op: Op) -> &'static str {
+    match op {
+        Op::Hello => "Say who acts, by the options, and print the rings",
+        Op::Request => "Find a key, or have it made by a handler that is told the callout",
+        Op::Assume => "Assume the authority to make a key, or lay it down with 0",
+        Op::Instantiate => "Give the key that is being made its payload, and link it",
+        Op::Negate => "Make the key negative for so many seconds",
+        Op::Reject => "Make the key negative for so many seconds, with this error",
+        Op::Read => "Print the payload of a key",
+        Op::Describe => "Print type, owner, state and description of a key",
+        Op::Revoke => "Revoke a key",
+        Op::Timeout => "Have a key expire after so many seconds, or never with 0",
+        Op::Link => "Link a key into a ring",
+        Op::Unlink => "Take the link of a key out of a ring",
+        Op::Clear => "Take all links out of a ring",
+        Op::Default =>
+            "Set into which ring a made key goes by default, and print the setting before",
+        Op::Add => "Make a key with this payload, and print its serial",
+        Op::Callout => "Print what the requester told the handler",
+    }
+}
+
+/// What is wrong with an argument for a field.
+fn rule(kind: FieldKind) -> &'static str {
+    match kind {
+        FieldKind::Key => "error: a key is a number up to 2147483647, or auth\n",
+        FieldKind::Ring =>
+            "error: a ring is a number up to 2147483647, or none, thread, process, session, user or requestor\n",
+        FieldKind::Setting =>
+            "error: a setting is keep, default, thread, process, session, user or requestor\n",
+        FieldKind::Seconds => "error: seconds are a number up to 4294967295\n",
+        FieldKind::Error => "error: an error is a number from 126 to 129\n",
+        FieldKind::Type => "error: a type has 1 to 31 bytes of text, the first no dot\n",
+        FieldKind::Description => "error: a description has 1 to 4095 bytes of text\n",
+        FieldKind::Payload => "error: a payload has 1 to 32767 bytes\n",
+        FieldKind::Callout => "error: a callout has at most 4095 bytes of text\n",
+        FieldKind::Uid | FieldKind::Gid | FieldKind::Flags | FieldKind::Join =>
+            "error: no argument stands for this field\n",
+    }
+}

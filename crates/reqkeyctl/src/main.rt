@@ -1,0 +1,38 @@
+//! `reqkeyctl`, which asks the daemon for one thing, from a shell.
+//!
+//! `reqkeyctl --socket PATH OP ARGS` connects, says who it is, asks, and prints the reply. Without `--socket` it speaks as a handler that the daemon
+//! has started: it writes the ask to its standard output, reads the reply from its standard input, and not a byte more, and tells it on standard
+//! error. So a handler can be a shell script of a few such lines (docs/CLIENT.md).
+//!
+//! `call` reads the words, `source` a file whose bytes stand for an argument, `asking` makes the ask of both; the library `rk_client` has what is
+//! said and heard. `help` is the manual, for words that ask for it or can't be read. All that it does is one call, [`run::run_words`], over words
+//! and streams that are passed in, so that tests call what `main` calls.
+#![tactic(auto)]
+
+mod asking;
+mod call;
+mod help;
+mod run;
+mod source;
+mod telling;
+
+use std::env;
+use std::io::ErrorKind;
+use std::process::ExitCode;
+
+fn main(rt: HostRuntime) -> ExitCode {
+    let mut errors = rt.stderr();
+    let words: Vec<String> = match env::args(&rt) {
+        Ok(words) => match words.collect(rt.alloc()) {
+            Ok(words) => words,
+            Err(_) => return ExitCode::from(telling::no_memory(&mut errors)),
+        },
+        Err(error) if error.kind() == ErrorKind::OutOfMemory => {
+            return ExitCode::from(telling::no_memory(&mut errors));
+        }
+        Err(_) => return ExitCode::from(telling::usage(&mut errors)),
+    };
+    let (mut reader, mut writer) = (rt.stdin(), rt.stdout());
+    let status = run::run_words(&rt, words.as_slice(), &mut reader, &mut writer, &mut errors);
+    ExitCode::from(status)
+}

@@ -1,0 +1,125 @@
+"""The daemon's side of the protocol, written from docs/PROTOCOL.md: frames, asks as bodies, replies as bodies, and a daemon that answers what it is told."""
+import pathlib
+import socket
+import struct
+import tempfile
+import threading
+
+
+def frame(body):
+    return struct.pack(">I", len(body)) + body
+
+
+def number(value):
+    return b"\x00" + struct.pack(">I", value)
+
+
+def data(value):
+    return b"\x01" + struct.pack(">H", len(value)) + value
+
+
+def rings(thread, process, session, user):
+    return b"\x02" + struct.pack(">IIII", thread, process, session, user)
+
+
+def refused(errno):
+    return b"\x03" + bytes([errno])
+
+
+def block(text):
+    return struct.pack(">H", len(text)) + text
+
+
+def hello(uid=0, gid=0, join=0):
+    return b"\x01" + struct.pack(">IIBI", uid, gid, 0, join)
+
+
+def request(typ, description, callout, ring):
+    told = b"\x00" if callout is None else b"\x01" + block(callout)
+    return b"\x02" + block(typ) + block(description) + told + struct.pack(">i", ring)
+
+
+def on_key(op, key):
+    """ASSUME 3, READ 7, DESCRIBE 8, REVOKE 9."""
+    return bytes([op]) + struct.pack(">i", key)
+
+
+def instantiate(key, payload, ring):
+    return b"\x04" + struct.pack(">i", key) + block(payload) + struct.pack(">i", ring)
+
+
+def negate(key, seconds, ring):
+    return b"\x05" + struct.pack(">iIi", key, seconds, ring)
+
+
+def reject(key, seconds, error, ring):
+    return b"\x06" + struct.pack(">iIIi", key, seconds, error, ring)
+
+
+def timeout(key, seconds):
+    return b"\x0a" + struct.pack(">iI", key, seconds)
+
+
+def on_key_and_ring(op, key, ring):
+    """LINK 11, UNLINK 12."""
+    return bytes([op]) + struct.pack(">ii", key, ring)
+
+
+def clear(ring):
+    return b"\x0d" + struct.pack(">i", ring)
+
+
+def default(setting):
+    return b"\x0e" + struct.pack(">i", setting)
+
+
+def add(typ, description, payload, ring):
+    return b"\x0f" + block(typ) + block(description) + block(payload) + struct.pack(">i", ring)
+
+
+CALLOUT = b"\x10"
+
+
+class Daemon:
+    """A socket that serves one client: for each frame that it gets it sends the next of these bytes, and after the last one it closes.
+
+    None in their place closes without a reply; `split` sends each byte by itself. `heard` has the bodies that came."""
+
+    def __init__(self, replies, split=False):
+        self.replies, self.split = replies, split
+        self.heard, self.more = [], b""
+        self.room = tempfile.TemporaryDirectory(prefix="peer-")
+        self.path = str(pathlib.Path(self.room.name) / "s")
+
+    def __enter__(self):
+        self.listener = socket.socket(socket.AF_UNIX)
+        self.listener.bind(self.path)
+        self.listener.listen()
+        self.thread = threading.Thread(target=self.serve, daemon=True)
+        self.thread.start()
+        return self
+
+    def serve(self):
+        try:
+            client, _ = self.listener.accept()
+        except OSError:
+            return
+        with client, client.makefile("rb") as stream:
+            try:
+                for reply in self.replies:
+                    head = stream.read(4)
+                    if len(head) < 4:
+                        return
+                    self.heard.append(stream.read(struct.unpack(">I", head)[0]))
+                    if reply is None:
+                        return
+                    for piece in [bytes([byte]) for byte in reply] if self.split else [reply]:
+                        client.sendall(piece)
+                self.more = stream.read()
+            except OSError:
+                pass
+
+    def __exit__(self, *_):
+        self.listener.close()
+        self.thread.join(0 if self.thread.is_alive() and not self.heard else 20)
+        self.room.cleanup()

@@ -1,0 +1,314 @@
+#!/usr/bin/env python3
+"""Calls `reqkeyctl` with words: over a socket, on which a daemon in Python answers, and as a handler, between pipes.
+
+Each subcommand: without arguments, with bad ones, and with good ones, whose frame is compared byte by byte. Then the options, every kind of reply, and
+replies that are cut, too long, malformed, or come byte by byte.
+"""
+import os
+import pathlib
+import subprocess
+import tempfile
+
+import protocol_peer as peer
+from programs import built, check_all
+
+# what a subcommand is called with, and the body of its ask
+GOOD = [
+    (["hello"], peer.hello()),
+    (["request", "user", "a", "none"], peer.request(b"user", b"a", None, 0)),
+    (["request", "user", "a", "none", ""], peer.request(b"user", b"a", b"", 0)),
+    (["request", "user", "a", "5", "-"], peer.request(b"user", b"a", b"-", 5)),
+    (["request", "u" * 31, "d" * 4095, "requestor", "c" * 4095], peer.request(b"u" * 31, b"d" * 4095, b"c" * 4095, -8)),
+    (["request", "café", "--help", "thread", "-h"], peer.request("café".encode(), b"--help", b"-h", -1)),
+    (["assume", "3"], peer.on_key(3, 3)),
+    (["assume", "0"], peer.on_key(3, 0)),
+    (["assume", "2147483647"], peer.on_key(3, 2147483647)),
+    (["instantiate", "3", "hi", "none"], peer.instantiate(3, b"hi", 0)),
+    (["instantiate", "auth", "-", "session"], peer.instantiate(-7, b"-", -3)),
+    (["instantiate", "3", "--raw", "0"], peer.instantiate(3, b"--raw", 0)),
+    (["instantiate", "3", "p" * 32767, "none"], peer.instantiate(3, b"p" * 32767, 0)),
+    (["negate", "3", "30", "none"], peer.negate(3, 30, 0)),
+    (["negate", "3", "4294967295", "user"], peer.negate(3, 4294967295, -4)),
+    (["reject", "3", "0", "126", "none"], peer.reject(3, 0, 126, 0)),
+    (["reject", "3", "007", "129", "7"], peer.reject(3, 7, 129, 7)),
+    (["read", "3"], peer.on_key(7, 3)),
+    (["read", "auth"], peer.on_key(7, -7)),
+    (["describe", "12"], peer.on_key(8, 12)),
+    (["revoke", "12"], peer.on_key(9, 12)),
+    (["timeout", "12", "0"], peer.timeout(12, 0)),
+    (["link", "12", "process"], peer.on_key_and_ring(11, 12, -2)),
+    (["unlink", "12", "1"], peer.on_key_and_ring(12, 12, 1)),
+    (["clear", "user"], peer.clear(-4)),
+    (["clear", "none"], peer.clear(0)),
+    *[(["default", word], peer.default(value)) for word, value in
+      [("keep", -1), ("default", 0), ("thread", 1), ("process", 2), ("session", 3), ("user", 4), ("requestor", 7)]],
+    (["add", "user", "k", "v", "session"], peer.add(b"user", b"k", b"v", -3)),
+    (["add", "user", "k", "p" * 32767, "1"], peer.add(b"user", b"k", b"p" * 32767, 1)),
+    (["callout"], peer.CALLOUT),
+]
+
+# words that are no call, besides each subcommand with fewer arguments and with one more
+BAD = [
+    [], ["nothing"], ["READ", "3"], ["read", "x"], ["read", ""], ["read", "-7"], ["read", "+3"], ["read", "-1"], ["read", "2147483648"], ["read", "none"],
+    ["read", "3 "], ["read", "0x3"], ["request", ".x", "a", "none"], ["request", "", "a", "none"], ["request", "u" * 32, "a", "none"],
+    ["request", "user", "", "none"], ["request", "user", "d" * 4096, "none"], ["request", "user", "a", "auth"], ["request", "user", "a", "nowhere"],
+    ["request", "user", "a", "none", "c" * 4096], ["assume", "session"], ["instantiate", "3", "", "none"], ["instantiate", "3", "p" * 32768, "none"],
+    ["instantiate", "3", "v", "keep"], ["negate", "3", "4294967296", "none"], ["negate", "3", "-1", "none"], ["negate", "3", "soon", "none"],
+    ["reject", "3", "0", "125", "none"], ["reject", "3", "0", "130", "none"], ["reject", "3", "0", "ENOKEY", "none"], ["timeout", "3", "x"],
+    ["link", "3", "-1"], ["unlink", "x", "1"], ["clear", "-3"], ["default", "0"], ["default", "none"], ["default", "group"],
+    ["add", "user", "k", "v", "x"], ["--", "read", "3"], ["--nothing", "read", "3"], ["-s", "x", "read", "3"], ["--sock", "x", "read", "3"],
+    ["--uid", "+1", "read", "3"], ["--uid", "-1", "read", "3"], ["--uid", "4294967296", "read", "3"], ["--uid", "", "read", "3"], ["--uid", "read", "3"],
+    ["--gid", "x", "read", "3"], ["--join", "2147483648", "read", "3"], ["--uid", "1", "--uid", "1", "read", "3"], ["--raw", "--raw", "read", "3"],
+    ["--raw=1", "read", "3"], ["--socket", "a", "--socket=b", "read", "3"], ["--socket"], ["--socket", "s"], ["--uid=1"],
+    ["--payload-from", "f", "read", "3"], ["--callout-from", "f", "instantiate", "3", "none"], ["--payload-from", "-", "instantiate", "3", "none"],
+    ["--callout-from", "-", "request", "user", "a", "none"], ["--payload-from", "f", "instantiate", "3", "v", "none"],
+    ["--payload-from", "f", "instantiate", "none"], ["--payload-from", "f", "instantiate", "x", "none"],
+    ["--callout-from", "f", "request", "user", "a", "none", "c"], ["--callout-from", "f", "request", "user", "a"],
+    ["--callout-from", "f", "--payload-from", "f", "request", "user", "a", "none"], ["--payload-from", "f", "hello"], [b"\xff"], ["add", "user", b"\xff", "v", "1"],
+]
+
+# a reply, what is printed of it, and under --raw
+REPLIES = [
+    (peer.number(0), b"0\n", b"0\n"),
+    (peer.number(4294967295), b"4294967295\n", b"4294967295\n"),
+    (peer.rings(0, 0, 1, 2), b"0 0 1 2\n", b"0 0 1 2\n"),
+    (peer.rings(4294967295, 10, 0, 7), b"4294967295 10 0 7\n", b"4294967295 10 0 7\n"),
+    (peer.data(b"hi"), b"hi\n", b"hi"),
+    (peer.data(b""), b"\n", b""),
+    (peer.data(b"\x00\xff\n"), b"\x00\xff\n\n", b"\x00\xff\n"),
+    (peer.data(b"p" * 32767), b"p" * 32767 + b"\n", b"p" * 32767),
+    (peer.data(bytes(65533)), bytes(65533) + b"\n", bytes(65533)),
+]
+
+ERRNOS = [1, 2, 12, 13, 16, 22, 35, 122, 126, 127, 128, 129]
+
+# bytes that begin with no reply
+MALFORMED = {
+    "an empty body": peer.frame(b""),
+    "a length above the most": b"\x00\x01\x00\x01" + bytes(65537),
+    "a length of 4 GiB": b"\xff\xff\xff\xff",
+    "an unknown kind": peer.frame(b"\x04\x00"),
+    "a number that is cut": peer.frame(b"\x00\x00\x00\x00"),
+    "a number that goes on": peer.frame(peer.number(1) + b"\x00"),
+    "bytes that are cut": peer.frame(b"\x01\x00\x03hi"),
+    "bytes that go on": peer.frame(peer.data(b"hi") + b"\x00"),
+    "too many bytes": peer.frame(b"\x01\xff\xfe" + bytes(65533)),
+    "three rings": peer.frame(b"\x02" + bytes(12)),
+    "an errno that there is not": peer.frame(peer.refused(3)),
+    "errno 0": peer.frame(peer.refused(0)),
+    "a refusal without its errno": peer.frame(b"\x03"),
+}
+
+# bytes that end before a reply does
+CUT = {f"{cut} bytes of {len(whole)}": whole[:cut] for whole in [peer.frame(peer.data(b"hi"))] for cut in range(len(whole))}
+
+SOCKET, FILE = b"reqkeyctl: socket\n", b"reqkeyctl: file\n"
+
+
+def ran(program, words, stdin=b"", **more):
+    done = subprocess.run([program, *words], input=stdin, stdout=subprocess.PIPE, stderr=subprocess.PIPE, timeout=60, **more)
+    return done.returncode, done.stdout, done.stderr
+
+
+def differs(got, want):
+    """What differs, or None."""
+    return None if got == want else f"{str(got)[:300]}, not {str(want)[:300]}"
+
+
+def asks(program, words, ask, options=(), greeting=peer.hello()):
+    """Over the socket: the frames are those of HELLO and the ask, and nothing else, and the reply is printed."""
+    bodies = [ask] if words == ["hello"] else [greeting, ask]
+    with peer.Daemon([peer.frame(peer.rings(0, 0, 1, 2))] * (len(bodies) - 1) + [peer.frame(peer.number(7))]) as daemon:
+        got = ran(program, ["--socket", daemon.path, *options, *words])
+        daemon.thread.join(20)
+        return differs((got, daemon.heard, daemon.more), ((0, b"7\n", b""), bodies, b""))
+
+
+def handles(program, words, ask, options=()):
+    """As a handler: the ask is written, the reply is read, and not a byte more, and it is told on standard error."""
+    read, write = os.pipe()
+    with open(read, "rb", buffering=0) as left, open(write, "wb", buffering=0) as given:
+        given.write(peer.frame(peer.number(7)) + peer.frame(peer.number(8))[:7])
+        done = subprocess.run([program, *options, *words], stdin=left, stdout=subprocess.PIPE, stderr=subprocess.PIPE, timeout=60)
+        given.close()
+        return differs((done.returncode, done.stdout, done.stderr, left.read()), (0, peer.frame(ask), b"7\n", peer.frame(peer.number(8))[:7]))
+
+
+def misuses(program, words):
+    """Status 2, the usage on standard error, nothing on standard output, nothing read."""
+    read, write = os.pipe()
+    with open(read, "rb", buffering=0) as left, open(write, "wb", buffering=0) as given:
+        given.write(b"unread")
+        done = subprocess.run([program, *words], stdin=left, stdout=subprocess.PIPE, stderr=subprocess.PIPE, timeout=60)
+        given.close()
+        text = done.stderr.decode(errors="replace")
+        return differs((done.returncode, done.stdout, left.read(), "usage" in text.lower() or "error: " in text), (2, b"", b"unread", True))
+
+
+def misuses_socket(program, words):
+    """The same with a socket, to which nothing is said."""
+    with peer.Daemon([None]) as daemon:
+        got = misuses(program, ["--socket", daemon.path, *words])
+        return got or differs(daemon.heard, [])
+
+
+def prints(program, reply, want, options=(), split=False):
+    """A reply over the socket, and to a handler."""
+    with peer.Daemon([peer.frame(peer.rings(0, 0, 1, 2)), peer.frame(reply)], split) as daemon:
+        got = ran(program, ["--socket", daemon.path, *options, "read", "3"])
+    handler = ran(program, [*options, "read", "3"], peer.frame(reply))
+    return differs(got, (0, want, b"")) or differs(handler, (0, peer.frame(peer.on_key(7, 3)), want))
+
+
+def refuses(program, errno):
+    """A refusal of the ask; of HELLO, after which nothing is asked; and to a handler."""
+    text = f"errno {errno}\n".encode()
+    with peer.Daemon([peer.frame(peer.rings(0, 0, 1, 2)), peer.frame(peer.refused(errno))]) as daemon:
+        got = ran(program, ["--socket", daemon.path, "--raw", "read", "3"])
+    with peer.Daemon([peer.frame(peer.refused(errno))]) as daemon:
+        greeting = ran(program, ["--socket", daemon.path, "read", "3"])
+        daemon.thread.join(20)
+        asked = (daemon.heard, daemon.more)
+    handler = ran(program, ["read", "3"], peer.frame(peer.refused(errno)))
+    return (
+        differs(got, (1, b"", text))
+        or differs((greeting, asked), ((1, b"", text), ([peer.hello()], b"")))
+        or differs(handler, (1, peer.frame(peer.on_key(7, 3)), text))
+    )
+
+
+def fails(program, reply):
+    """Bytes that are no reply, to HELLO, to the ask, and to a handler."""
+    for replies in [[reply], [peer.frame(peer.rings(0, 0, 1, 2)), reply]]:
+        with peer.Daemon([*replies[:-1], replies[-1] or None]) as daemon:
+            got = ran(program, ["--socket", daemon.path, "read", "3"])
+        if got != (1, b"", SOCKET):
+            return f"{got} at reply {len(replies)}"
+    return differs(ran(program, ["read", "3"], reply), (1, peer.frame(peer.on_key(7, 3)), SOCKET))
+
+
+def no_daemon(program, path):
+    return differs(ran(program, ["--socket", path, "read", "3"]), (1, b"", SOCKET))
+
+
+def full_output(program):
+    """A write that fails, of the reply and of a handler's ask."""
+    with open("/dev/full", "wb") as full, peer.Daemon([peer.frame(peer.rings(0, 0, 1, 2)), peer.frame(peer.number(7))]) as daemon:
+        done = [subprocess.run([program, *words, "read", "3"], stdin=subprocess.DEVNULL, stdout=full, stderr=subprocess.PIPE, timeout=60) for words in
+                [["--socket", daemon.path], []]]
+    return differs([(it.returncode, it.stderr) for it in done], [(1, SOCKET)] * 2)
+
+
+def closed_input(program):
+    """A handler whose input ends at once, or can't be read."""
+    with open("/dev/null", "wb") as none:
+        done = subprocess.run([program, "read", "3"], stdin=none, stdout=subprocess.PIPE, stderr=subprocess.PIPE, timeout=60)
+    return differs((done.returncode, done.stderr), (1, SOCKET))
+
+
+def from_file(program, words, option, content, ask, want=(0, b"7\n", b"")):
+    """The bytes of a file stand for an argument: of a file, and of standard input; and of a file in a handler."""
+    with tempfile.TemporaryDirectory() as room:
+        path = pathlib.Path(room) / "bytes"
+        path.write_bytes(content)
+        for source, stdin in [(str(path), b"unread"), ("-", content)]:
+            with peer.Daemon([peer.frame(peer.rings(0, 0, 1, 2)), peer.frame(peer.number(7))]) as daemon:
+                got = ran(program, ["--socket", daemon.path, option, source, *words], stdin)
+                if ask is not None:
+                    daemon.thread.join(20)
+                if got != want or daemon.heard != ([peer.hello(), ask] if ask is not None else []):
+                    return f"{str(got)[:200]} {str(daemon.heard)[:200]} from {source}"
+        handler = ran(program, [f"{option}={path}", *words], peer.frame(peer.number(7)))
+        return differs(handler, (0, peer.frame(ask), b"7\n") if ask is not None else want)
+
+
+def no_file(program, path):
+    """A file that can't be read is found before the daemon is asked, and behind faults of the words."""
+    with peer.Daemon([None]) as daemon:
+        got = ran(program, ["--socket", daemon.path, "--payload-from", path, "instantiate", "3", "none"])
+        return differs((got, daemon.heard), ((1, b"", FILE), []))
+
+
+def helps(program, words, *wanted):
+    """Status 0, and these texts on standard output alone."""
+    status, output, errors = ran(program, words, b"unread")
+    missing = [it for it in wanted if it.encode() not in output]
+    return differs((status, errors, missing), (0, b"", []))
+
+
+def two_in_a_script(program):
+    """Two runs that share their pipes, as in a handler that is a shell script."""
+    script = f"{program} assume 3 && {program} instantiate 3 hi none"
+    done = subprocess.run(["/bin/sh", "-c", script], input=peer.frame(peer.number(0)) * 2, stdout=subprocess.PIPE, stderr=subprocess.PIPE, timeout=60)
+    want = peer.frame(peer.on_key(3, 3)) + peer.frame(peer.instantiate(3, b"hi", 0))
+    return differs((done.returncode, done.stdout, done.stderr), (0, want, b"0\n0\n"))
+
+
+# the arguments that each subcommand takes at least
+FEWEST = {}
+for words, _ in GOOD:
+    FEWEST[words[0]] = min(FEWEST.get(words[0], 9), len(words) - 1)
+MOST = {words[0]: max(len(it) for it, _ in GOOD if it[0] == words[0]) - 1 for words, _ in GOOD}
+
+
+def cases():
+    for words, ask in GOOD:
+        yield f"{words} over a socket", asks, words, ask
+        yield f"{words} as a handler", handles, words, ask
+    for name, fewest in FEWEST.items():
+        good = max((words for words, _ in GOOD if words[0] == name), key=len)
+        for words in [*([good[: fewest]] if fewest else []), *([[name]] if fewest > 1 else []), [*good, "more"] if len(good) == MOST[name] + 1 else []]:
+            yield f"{str(words)[:80]} is a wrong number", misuses, words
+        yield f"{name} --help", helps, [name, "--help"], f"Usage: reqkeyctl {name}"
+        yield f"{name} -h", helps, [name, "-h"], f"Usage: reqkeyctl {name}"
+    for words in BAD:
+        yield f"{str(words)[:80]} alone", misuses, words
+        if "--socket" not in words and "--socket=b" not in words and b"\xff" not in words and "-" not in words:
+            yield f"{str(words)[:80]} with a socket", misuses_socket, words
+    read, ask = ["read", "3"], peer.on_key(7, 3)
+    for options, greeting in [
+        (["--uid", "1000"], peer.hello(uid=1000)),
+        (["--uid=4294967295", "--gid=4294967295"], peer.hello(4294967295, 4294967295)),
+        (["--gid", "5", "--join", "2147483647"], peer.hello(0, 5, 2147483647)),
+        (["--join", "0", "--uid", "0007"], peer.hello(7)),
+        (["--raw"], peer.hello()),
+    ]:
+        yield f"{options}", asks, read, ask, options, greeting
+        yield f"{options} and hello", asks, ["hello"], greeting, options
+        yield f"{options} as a handler", handles, read, ask, options
+    for reply, want, raw in REPLIES:
+        yield f"the reply {reply[:12]!r}", prints, reply, want
+        yield f"the reply {reply[:12]!r} raw", prints, reply, raw, ["--raw"]
+        if len(reply) < 100:
+            yield f"the reply {reply[:12]!r} byte by byte", prints, reply, want, (), True
+    for errno in ERRNOS:
+        yield f"errno {errno}", refuses, errno
+    for name, reply in [*MALFORMED.items(), *CUT.items()]:
+        yield name, fails, reply
+    with tempfile.TemporaryDirectory() as room:
+        plain = pathlib.Path(room) / "plain"
+        plain.write_bytes(b"x")
+        for path in [f"{room}/none", str(plain), room, "/" + "l" * 120, ""]:
+            yield f"a socket at {path[:30]!r}", no_daemon, path
+        yield "a file that is not there", no_file, f"{room}/none"
+        yield "a folder for a file", no_file, room
+    yield "a full device", full_output
+    yield "an input that can't be read", closed_input
+    yield "two runs in a script", two_in_a_script
+    put, payload = ["instantiate", "3", "none"], b"\x00\xff\n-"
+    yield "a payload from a file", from_file, put, "--payload-from", payload, peer.instantiate(3, payload, 0)
+    yield "the longest payload from a file", from_file, put, "--payload-from", b"p" * 32767, peer.instantiate(3, b"p" * 32767, 0)
+    yield "too long a payload from a file", from_file, put, "--payload-from", b"p" * 32768, None, (1, b"", FILE)
+    yield "no payload from a file", from_file, put, "--payload-from", b"", None, (1, b"", FILE)
+    yield "a payload of add from a file", from_file, ["add", "user", "k", "5"], "--payload-from", payload, peer.add(b"user", b"k", payload, 5)
+    ask_key = ["request", "user", "a", "none"]
+    yield "a callout from a file", from_file, ask_key, "--callout-from", b"c\n", peer.request(b"user", b"a", b"c\n", 0)
+    yield "an empty callout from a file", from_file, ask_key, "--callout-from", b"", peer.request(b"user", b"a", b"", 0)
+    yield "a callout from a file that is no text", from_file, ask_key, "--callout-from", b"\xff", None, (1, b"", FILE)
+    for word in ["--help", "-h"]:
+        yield word, helps, [word], "Usage: reqkeyctl", *[f"  {name} " for name in FEWEST], "126 ENOKEY", "--payload-from", "Status:"
+    for word in ["--version", "-V"]:
+        yield word, helps, [word], "reqkeyctl 0.1.0"
+
+
+check_all([(name, try_it, *more) for name, try_it, *more in cases()], lambda program, try_it, *more: try_it(program, *more), built("reqkeyctl"))
