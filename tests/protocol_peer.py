@@ -81,7 +81,7 @@ CALLOUT = b"\x10"
 
 
 class Daemon:
-    """A socket that serves one client: for each frame that it gets it sends the next of these bytes, and after the last one it closes.
+    """A socket that serves one client: for each frame that it gets it sends the next of these bytes, and after the last one it sends no more.
 
     None in their place closes without a reply; `split` sends each byte by itself. `heard` has the bodies that came."""
 
@@ -115,11 +115,14 @@ class Daemon:
                         return
                     for piece in [bytes([byte]) for byte in reply] if self.split else [reply]:
                         client.sendall(piece)
+                client.shutdown(socket.SHUT_WR)
                 self.more = stream.read()
             except OSError:
                 pass
 
     def __exit__(self, *_):
+        # wakes a daemon to which nobody has connected
+        self.listener.shutdown(socket.SHUT_RDWR)
+        self.thread.join(20)
         self.listener.close()
-        self.thread.join(0 if self.thread.is_alive() and not self.heard else 20)
         self.room.cleanup()

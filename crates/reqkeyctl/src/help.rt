@@ -1,5 +1,5 @@
 //! The manual, for words that ask for it, and what is wrong with words that ask for nothing.
-ghost use Rattle.std.specs.Prelude.{◌≡◌, ◌≤◌, true, map, string_bytes};
+ghost use Rattle.std.specs.Prelude.{◌≡◌, ◌≤◌, ◌⊎◌, true, map, string_bytes};
 ghost use Rattle.reqkeyctl.specs.Calls.{asks_help, is_help};
 ghost use Rattle.reqkeyctl.specs.Outcome.{HasTold};
 
@@ -20,30 +20,40 @@ the daemon has started: it writes the ask to standard output, reads exactly its 
 
 Options stand before the command, and all words behind it are its arguments.";
 
-/// What `--help` says behind its lists, before the errors.
-const AFTER: &str = "Arguments:
-  <key>          a serial, 0, or auth: the authority that is assumed
-  <ring>         a serial, none, thread, process, session, user or requestor
-  <setting>      keep, default, thread, process, session, user or requestor
-  <seconds>      a number of seconds from now
-  <error>        126 to 129 (below)
-  <type>         1 to 31 bytes of text, the first no dot
-  <description>  1 to 4,095 bytes of text
-  <payload>      1 to 32,767 bytes
-  <callout>      what a handler is told: at most 4,095 bytes of text
-Numbers have no sign. A payload or callout - is that byte.
-
-A reply is printed as a number, as the serials of the thread, process, session and user ring (0 for none), or as the bytes, each with a newline.
+/// What `--help` says behind its lists, before the arguments.
+const AFTER: &str =
+    "A reply is printed as a number, as the serials of the thread, process, session and user ring (0 for none), or as the bytes, \
+each with a newline.
 
 Examples:
-  reqkeyctl --socket S --uid 1000 request user mykey none hello    finds a key, or has it made: its serial
-  reqkeyctl --socket S --uid 1000 read 12                          prints its payload
-  reqkeyctl --payload-from FILE instantiate 12 none                in a handler: gives the key the bytes of a file
+  reqkeyctl --socket S --uid 1000 request user mykey none hello    find a key, or have it made; prints its serial
+  reqkeyctl --socket S --uid 1000 read 12                          print its payload
+  reqkeyctl assume 12                                              in a handler: take on the authority over its key
+  reqkeyctl --payload-from FILE instantiate 12 none                in a handler: give the key the bytes of a file
 
 Status: 0 where a reply was printed; 1 for a refusal (errno N on standard error), a daemon that can't be reached or gives no reply \
 (reqkeyctl: socket), a file that can't be used (reqkeyctl: file), or want of memory (reqkeyctl: memory); 2 for words that are no call.
 
-Errors:";
+Numbers have no sign. A payload or callout - is that byte.
+
+Arguments:";
+
+/// The fields that arguments stand for.
+const ARGUMENTS: [FieldKind; 9] = [
+    FieldKind::Key,
+    FieldKind::Ring,
+    FieldKind::Setting,
+    FieldKind::Seconds,
+    FieldKind::Error,
+    FieldKind::Type,
+    FieldKind::Description,
+    FieldKind::Payload,
+    FieldKind::Callout,
+];
+
+/// What is wrong where only the options can be.
+const BAD_OPTION: &str =
+    "error: an option stands twice, has a value that is not allowed, or does not go with the command; see --help\n";
 
 /// Says what was asked for, or what is wrong with the words: `fault`, where they could be read.
 pub fn explain<W: Write, E: Write>(
@@ -59,14 +69,22 @@ pub fn explain<W: Write, E: Write>(
 {
     let helps = asks_help(words);
     if let (false, Some(ArgumentFault::Bad(kind))) = (helps, fault) {
-        return misused(rule(kind), errors);
+        return bad_argument(alloc, kind, errors);
     }
     match found(alloc, words) {
-        Ok(None) => misused(
-            "error: the options do not go with the command, see --help\n",
-            errors,
-        ),
+        Ok(None) => misused(BAD_OPTION, errors),
         Ok(Some(error)) => show(alloc, helps, &error, writer, errors),
+        Err(_) => no_memory(errors),
+    }
+}
+
+/// Says what an argument for the field is.
+fn bad_argument<E: Write>(alloc: Global, kind: FieldKind, errors: &mut E) -> u8
+    ensures { (result ≡ 1) ⊎ (result ≡ 2) }
+{
+    let (name, meaning) = (kind.name(), meaning(kind));
+    match format!(in alloc; "error: <{name}> is {meaning}\n") {
+        Ok(text) => misused(&text, errors),
         Err(_) => no_memory(errors),
     }
 }
@@ -132,9 +150,14 @@ fn names(alloc: Global) -> Result<Vec<String>, AllocError> {
     Ok(names)
 }
 
-/// The end of the manual, with each error that the daemon answers.
+/// The end of the manual, with each argument and each error that the daemon answers.
 fn after(alloc: Global) -> Result<String, AllocError> {
     let mut text = AFTER.to_string(alloc)?;
+    for kind in &ARGUMENTS {
+        let (name, meaning) = (kind.name(), meaning(*kind));
+        text.push_str(format!(in alloc; "\n  {name:<12} {meaning}")?.as_str())?;
+    }
+    text.push_str("\n\nErrors:")?;
     for number in 0..=u8::MAX {
         if let Some(errno) = Errno::from_number(number) {
             text.push_str(format!(in alloc; "\n  {number:>3} {}", errno.name())?.as_str())?;
@@ -217,18 +240,20 @@ fn subcommand<'a>(
     }
     for kind in shape.fields {
         if *kind != FieldKind::Callout {
-            command = command.arg(argument(alloc, kind.name()).required(true))?;
+            command = command.arg(argument(alloc, *kind).required(true))?;
         }
     }
     if shape.fields.contains(&FieldKind::Callout) {
-        command = command.arg(argument(alloc, FieldKind::Callout.name()))?;
+        command = command.arg(argument(alloc, FieldKind::Callout))?;
     }
     Ok(command)
 }
 
-/// The argument of a field with this name.
-fn argument<'a>(alloc: Global, name: &'a str) -> Arg<'a> {
-    Arg::new(alloc, name).allow_hyphen_values(true)
+/// The argument of a field.
+fn argument(alloc: Global, kind: FieldKind) -> Arg<'static> {
+    Arg::new(alloc, kind.name())
+        .allow_hyphen_values(true)
+        .help(meaning(kind))
 }
 
 /// What an ask is for.
@@ -254,21 +279,19 @@ fn about(op: Op) -> &'static str {
     }
 }
 
-/// What is wrong with an argument for a field.
-fn rule(kind: FieldKind) -> &'static str {
+/// What an argument for a field is.
+fn meaning(kind: FieldKind) -> &'static str {
     match kind {
-        FieldKind::Key => "error: a key is a number up to 2147483647, or auth\n",
+        FieldKind::Key => "a number up to 2147483647, or auth: the authority that is assumed",
         FieldKind::Ring =>
-            "error: a ring is a number up to 2147483647, or none, thread, process, session, user or requestor\n",
-        FieldKind::Setting =>
-            "error: a setting is keep, default, thread, process, session, user or requestor\n",
-        FieldKind::Seconds => "error: seconds are a number up to 4294967295\n",
-        FieldKind::Error => "error: an error is a number from 126 to 129\n",
-        FieldKind::Type => "error: a type has 1 to 31 bytes of text, the first no dot\n",
-        FieldKind::Description => "error: a description has 1 to 4095 bytes of text\n",
-        FieldKind::Payload => "error: a payload has 1 to 32767 bytes\n",
-        FieldKind::Callout => "error: a callout has at most 4095 bytes of text\n",
-        FieldKind::Uid | FieldKind::Gid | FieldKind::Flags | FieldKind::Join =>
-            "error: no argument stands for this field\n",
+            "a number up to 2147483647, or none, thread, process, session, user or requestor",
+        FieldKind::Setting => "keep, default, thread, process, session, user or requestor",
+        FieldKind::Seconds => "a number up to 4294967295",
+        FieldKind::Error => "the number of an error, 126 to 129",
+        FieldKind::Type => "1 to 31 bytes of text, the first no dot",
+        FieldKind::Description => "1 to 4095 bytes of text",
+        FieldKind::Payload => "1 to 32767 bytes",
+        FieldKind::Callout => "at most 4095 bytes of text, which the handler is told",
+        FieldKind::Uid | FieldKind::Gid | FieldKind::Flags | FieldKind::Join => "told by an option",
     }
 }

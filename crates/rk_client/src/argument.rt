@@ -21,13 +21,13 @@ pub struct Role {
 }
 
 /// The word for a key: the authority that is assumed (keyctl(2), "Special key IDs").
-pub static KEYS: [Role; 1] = [Role {
+static KEYS: [Role; 1] = [Role {
     name: "auth",
     number: -7,
 }];
 
 /// The words for a ring: none, one of the acting context by its role, or the requestor's (keyctl(2), "Special key IDs").
-pub static RINGS: [Role; 6] = [
+static RINGS: [Role; 6] = [
     Role {
         name: "none",
         number: 0,
@@ -55,7 +55,7 @@ pub static RINGS: [Role; 6] = [
 ];
 
 /// The words for a setting of the default ring (keyctl_set_reqkey_keyring(3)); no number stands for one.
-pub static SETTINGS: [Role; 7] = [
+static SETTINGS: [Role; 7] = [
     Role {
         name: "keep",
         number: -1,

@@ -30,7 +30,6 @@ mod op;
 mod peer;
 
 pub use answer::printed;
-pub use argument::{KEYS, RINGS, Role, SETTINGS};
 pub use asking::ask_of;
 pub use fault::{ArgumentFault, PeerFault};
 pub use numbers::number;
