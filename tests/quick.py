@@ -64,10 +64,10 @@ def main():
             keep(f"{name}.edits", own)
     if built:
         print("building the programs and running their tests", flush=True)
-        if not call("make", "build/reqkeyd"):
+        if not call("make"):
             return "a program is not built"
         programs = {**os.environ, "PROGRAMS": "build"}
-        if not all(call(f"tests/{it}", env=programs) for it in ["test_replay.py", "test_words.py"]):
+        if not all(call(f"tests/{it}", env=programs) for it in ["test_replay.py", "test_words.py", "test_client.py"]):
             return "a test of a program failed"
     print("nothing that changed fails")
     return 0

@@ -6,6 +6,7 @@ replies that are cut, too long, malformed, or come byte by byte.
 """
 import os
 import pathlib
+import shutil
 import subprocess
 import tempfile
 
@@ -244,6 +245,19 @@ def two_in_a_script(program):
     return differs((done.returncode, done.stdout, done.stderr), (0, want, b"0\n0\n"))
 
 
+def lacks_memory(program, library, words, stdin, replies, want):
+    """Each growth refused in turn, until the run needs no more: status 1 and its line, and nothing printed."""
+    for count in range(1, 100_000):
+        with peer.Daemon(replies) as daemon:
+            socket = ["--socket", daemon.path] if replies else []
+            got = ran(program, [*socket, *words], stdin, env={"LD_PRELOAD": library, "REFUSED": str(count)})
+        if got == want:
+            return None if count > 5 else f"{count - 1} growths"
+        if (got[0], got[2]) != (1, b"reqkeyctl: memory\n") or (replies and got[1]) or not want[1].startswith(got[1]):
+            return f"growth {count}: {got}"
+    return "it never ends"
+
+
 # the arguments that each subcommand takes at least
 FEWEST = {}
 for words, _ in GOOD:
@@ -251,7 +265,7 @@ for words, _ in GOOD:
 MOST = {words[0]: max(len(it) for it, _ in GOOD if it[0] == words[0]) - 1 for words, _ in GOOD}
 
 
-def cases():
+def cases(room):
     for words, ask in GOOD:
         yield f"{words} over a socket", asks, words, ask
         yield f"{words} as a handler", handles, words, ask
@@ -285,13 +299,11 @@ def cases():
         yield f"errno {errno}", refuses, errno
     for name, reply in [*MALFORMED.items(), *CUT.items()]:
         yield name, fails, reply
-    with tempfile.TemporaryDirectory() as room:
-        plain = pathlib.Path(room) / "plain"
-        plain.write_bytes(b"x")
-        for path in [f"{room}/none", str(plain), room, "/" + "l" * 120, ""]:
-            yield f"a socket at {path[:30]!r}", no_daemon, path
-        yield "a file that is not there", no_file, f"{room}/none"
-        yield "a folder for a file", no_file, room
+    (room / "plain").write_bytes(b"x")
+    for path in [room / "none", room / "plain", room, "/" + "l" * 120, ""]:
+        yield f"a socket at {str(path)[:40]!r}", no_daemon, str(path)
+    yield "a file that is not there", no_file, str(room / "none")
+    yield "a folder for a file", no_file, str(room)
     yield "a full device", full_output
     yield "an input that can't be read", closed_input
     yield "two runs in a script", two_in_a_script
@@ -305,10 +317,22 @@ def cases():
     yield "a callout from a file", from_file, ask_key, "--callout-from", b"c\n", peer.request(b"user", b"a", b"c\n", 0)
     yield "an empty callout from a file", from_file, ask_key, "--callout-from", b"", peer.request(b"user", b"a", b"", 0)
     yield "a callout from a file that is no text", from_file, ask_key, "--callout-from", b"\xff", None, (1, b"", FILE)
+    if shutil.which("gcc"):
+        library = str(room / "refusing_malloc.so")
+        subprocess.run(["gcc", "-shared", "-fPIC", "-o", library, pathlib.Path(__file__).with_name("refusing_malloc.c")], check=True)
+        welcome, seven = peer.frame(peer.rings(0, 0, 1, 2)), peer.frame(peer.number(7))
+        yield "memory of a handler", lacks_memory, library, read, seven, [], (0, peer.frame(ask), b"7\n")
+        yield "memory of a client", lacks_memory, library, read, b"", [welcome, seven], (0, b"7\n", b"")
+        long, from_input = b"p" * 32767, ["--payload-from", "-", "instantiate", "3", "none"]
+        yield "memory of long bytes", lacks_memory, library, from_input, long, [welcome, peer.frame(peer.data(long))], (0, long + b"\n", b"")
+    else:
+        print("growths that are refused: not tried, there is no gcc")
     for word in ["--help", "-h"]:
         yield word, helps, [word], "Usage: reqkeyctl", *[f"  {name} " for name in FEWEST], "126 ENOKEY", "--payload-from", "Status:"
     for word in ["--version", "-V"]:
         yield word, helps, [word], "reqkeyctl 0.1.0"
 
 
-check_all([(name, try_it, *more) for name, try_it, *more in cases()], lambda program, try_it, *more: try_it(program, *more), built("reqkeyctl"))
+with tempfile.TemporaryDirectory(prefix="client-") as folder:
+    listed = [(name, try_it, *more) for name, try_it, *more in cases(pathlib.Path(folder))]
+    check_all(listed, lambda program, try_it, *more: try_it(program, *more), built("reqkeyctl"))

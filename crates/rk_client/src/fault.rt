@@ -4,7 +4,7 @@ ghost use Rattle.rk_client.specs.declared.fault.PeerFault.TheVariants.{NoMemory}
 ghost use Rattle.rk_client.specs.declared.fault.ArgumentFault.TheVariants.{NoMemory as no_memory};
 
 use rk_message::FieldKind;
-use std::alloc::{AllocError, AllocFailed};
+use std::alloc::AllocError;
 use thiserror::Error;
 
 /// Why arguments are no ask.
@@ -48,13 +48,5 @@ impl From<AllocError> for ArgumentFault {
 
     fn from(_error: AllocError) -> ArgumentFault {
         ArgumentFault::NoMemory
-    }
-}
-
-impl<T: Drop> From<AllocFailed<T>> for PeerFault {
-    ghost from_gives = { λ _ e. e ≡ NoMemory };
-
-    fn from(_error: AllocFailed<T>) -> PeerFault {
-        PeerFault::NoMemory
     }
 }
