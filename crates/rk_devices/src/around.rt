@@ -1,0 +1,19 @@
+//! What a session or a handler's run is told by, and what is told of it.
+
+use rk_names::{Moment, Serial, SessionId};
+use std::sync::Wait;
+
+/// Tells the time.
+pub trait Clock {
+    /// The moment now. Nothing is assumed of it: a later one may be smaller.
+    fn now(&mut self) -> Moment;
+}
+
+/// Is told what happens, outside every lock; a test may hold its caller there. The daemon's returns at once.
+pub trait Gate {
+    /// The handler of this key was started, and its hall knows it.
+    fn started<R: Wait>(&self, rt: &R, key: Serial);
+
+    /// A reply to this session was written.
+    fn answered<R: Wait>(&self, rt: &R, session: SessionId);
+}

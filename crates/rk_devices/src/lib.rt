@@ -1,0 +1,30 @@
+//! The devices by which handler programs are run, as traits, and what is said to a handler's program with no hall.
+//!
+//! # Purpose
+//!
+//! A [`Launcher`] starts commands. What it starts is a [`Child`], with an input that is written, an output that is read, and an end that is waited for.
+//! The daemon has real programs behind them, and tests have what they like. A [`Clock`] tells the moment, and a [`Gate`] is told what happens, so that a
+//! test can hold a thread there.
+//!
+//! # What it promises
+//!
+//! The traits say what each call does to counts that contracts see: failures (a count that stands at the greatest u64 stays there, and counts as risen),
+//! reads, children that are out, and how the child that came back last has ended. So a contract above can bind each fault to a failure of a device, and
+//! say that every child is handed back. [`pipe_through`] writes a callout to a piped handler and keeps what it puts out, at most 32,767 bytes; what is
+//! past that is read and dropped, and gives no payload. [`read_out`] reads and drops. Both end after 1,048,576 reads, whatever the child does.
+//!
+//! # How it is built
+//!
+//! `device` has the launcher and its children, `around` clock and gate. `output` keeps what a piped handler puts out, in room that was made before its start,
+//! and `reading` reads.
+#![tactic(auto)]
+
+mod around;
+mod device;
+mod output;
+mod reading;
+
+pub use around::{Clock, Gate};
+pub use device::{Child, DeviceFault, Launcher};
+pub use output::Output;
+pub use reading::{MAX_READS, PIECE, ReadFault, pipe_through, read_out};

@@ -1,0 +1,64 @@
+//! What a piped handler puts out.
+ghost use Rattle.std.specs.Prelude.{◌≡◌, [], Some, IfOk};
+ghost use Rattle.rk_devices.specs.Outputs.{put_out, payload_of};
+
+use rk_names::Payload;
+use std::alloc::{AllocError, Global};
+use std::marker::Model;
+
+/// What a piped handler has put out: its bytes, at most 32,767, or that there were more. Its room is made at first, so that it takes no memory later.
+#[derive(Drop)]
+pub struct Output {
+    bytes: Vec<u8>,
+    over: bool,
+}
+
+impl Model for Output {
+    ghost use Rattle.std.specs.Prelude.{◌≤◌, ℕ, List, Option, Some, None, length, vec_capacity, if◌then◌else◌};
+
+    ghost Value = { Option (List ℕ) };
+
+    ghost view = { λ o. if o.over then None else Some o.bytes.items };
+
+    ghost invariant = { λ o. (32767 ≤ vec_capacity o.bytes) × (length o.bytes.items ≤ 32767) };
+}
+
+impl Output {
+    /// No bytes yet. An `Err` is want of memory for the room.
+    pub fn new(alloc: Global) -> Result<Output, AllocError>
+        ensures { IfOk result (λ o. o ≡ Some []) }
+    {
+        let bytes = Vec::with_capacity(alloc, Payload::MAX_LEN)?;
+        Ok(Output { bytes, over: false })
+    }
+
+    /// Takes what was read next. It takes no memory.
+    pub fn add(&mut self, piece: &[u8])
+        ensures { self.new ≡ put_out self.old piece.now }
+    {
+        if self.over {
+            return;
+        }
+        if self.bytes.len() + piece.len() > Payload::MAX_LEN {
+            self.over = true;
+            return;
+        }
+        match self.bytes.extend_from_slice(piece) {
+            Ok(()) => {}
+            Err(AllocError) => unreachable!(),
+        }
+    }
+
+    /// The payload that it is: none of no bytes, nor of too many. It takes no memory.
+    pub fn into_payload(self) -> Option<Payload>
+        ensures { result ≡ payload_of self }
+    {
+        if self.over {
+            return None;
+        }
+        match Payload::new(self.bytes) {
+            Ok(payload) => Some(payload),
+            Err(_) => None,
+        }
+    }
+}

@@ -1,0 +1,70 @@
+//! Reading a child's output to its end.
+ghost use Rattle.std.specs.Prelude.{◌≡◌, ◌≤◌, IfErr};
+ghost use Rattle.rk_devices.specs.Counts.{FailsReading};
+
+use crate::device::Child;
+use crate::output::Output;
+use thiserror::Error;
+
+/// The most reads of one child.
+pub const MAX_READS: u32 = 1_048_576;
+
+/// The most bytes of one read.
+pub const PIECE: usize = 4_096;
+
+/// Why a child's output was not read to its end.
+#[derive(Clone, Copy, Debug, PartialEq, Eq, Error)]
+pub enum ReadFault {
+    /// A read failed.
+    #[error("a read failed")]
+    Failed,
+    /// All reads are used up.
+    #[error("the reads are used up")]
+    UsedUp,
+}
+
+/// Reads and drops what a child that was read so often puts out, to its end.
+#[tactic(auto, using(crate::proofs::Rising::raised_up, crate::proofs::Rising::rose_from, crate::proofs::Rising::one_read))]
+pub fn read_out<C: Child>(child: &mut C, reads: u32) -> Result<(), ReadFault>
+    requires { reads ≤ C.reads child.old }
+    ensures rises { C.count child.old ≤ C.count child.new }
+    ensures fault { IfErr result (λ f. FailsReading f (C.count child.old) (C.count child.new) (C.reads child.new)) }
+    ensures waited { C.waited child.new ≡ C.waited child.old }
+{
+    let mut piece = [0u8; PIECE];
+    for _ in reads..MAX_READS {
+        match child.read(&mut piece) {
+            Ok(0) => return Ok(()),
+            Ok(_) => {}
+            Err(_) => return Err(ReadFault::Failed),
+        }
+    }
+    Err(ReadFault::UsedUp)
+}
+
+/// Writes the callout to the input of a piped handler's child, closes it, and keeps what the child puts out, to its end. That the input can't be
+/// written is passed over: a handler need not read it.
+#[tactic(auto, using(crate::proofs::Rising::raised_up, crate::proofs::Rising::rose_from, crate::proofs::Rising::one_read))]
+pub fn pipe_through<C: Child>(
+    child: &mut C,
+    callout: &[u8],
+    output: &mut Output,
+) -> Result<(), ReadFault>
+    ensures rises { C.count child.old ≤ C.count child.new }
+    ensures fault { IfErr result (λ f. FailsReading f (C.count child.old) (C.count child.new) (C.reads child.new)) }
+    ensures waited { C.waited child.new ≡ C.waited child.old }
+{
+    if !callout.is_empty() {
+        let _ = child.write(callout);
+    }
+    child.close_input();
+    let mut piece = [0u8; PIECE];
+    for _ in 0..MAX_READS {
+        match child.read(&mut piece) {
+            Ok(0) => return Ok(()),
+            Ok(count) => output.add(&piece[..count]),
+            Err(_) => return Err(ReadFault::Failed),
+        }
+    }
+    Err(ReadFault::UsedUp)
+}
