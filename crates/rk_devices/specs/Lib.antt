@@ -1,3 +1,3 @@
 pub mod Counts
-pub mod Children
+pub mod Shown
 pub mod Outputs

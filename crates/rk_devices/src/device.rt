@@ -1,8 +1,7 @@
 //! Programs that are started.
-ghost use Rattle.std.specs.Prelude.{◌≡◌, ◌≤◌, ◌+◌, ℕ, Option, Some, None, length, max, OnOk, OnErr, IfOk};
-ghost use Rattle.rk_machine.specs.declared.event.How.{How};
-ghost use Rattle.rk_devices.specs.Counts.{most, both, IsRaised};
-ghost use Rattle.rk_devices.specs.Children.{Children, one_more, one_less, end_of};
+ghost use Rattle.std.specs.Prelude.{◌≡◌, ◌≤◌, length, IfOk};
+ghost use Rattle.rk_devices.specs.Counts.{most};
+ghost use Rattle.rk_devices.specs.Shown.{ChildShown, LauncherShown, new_child, Writes, Reads, Waits, Starts, taken_back};
 
 use rk_machine::How;
 use rk_macro::Command;
@@ -15,74 +14,50 @@ pub struct DeviceFault;
 
 /// A command that was started. It can't be dropped: its launcher takes it back.
 pub trait Child {
-    /// How often a call failed, at most the greatest u64.
-    ghost count: { Self → ℕ };
-
-    /// How often it was read, at most the greatest u64.
-    ghost reads: { Self → ℕ };
-
-    /// `None` before it was waited for; then how it has ended, or `None` where the wait failed.
-    ghost waited: { Self → Option (Option How) };
+    /// Its failures, its reads, and what waiting for it came to.
+    ghost shown: { Self → ChildShown };
 
     /// Writes all bytes to its input.
     fn write(&mut self, bytes: &[u8]) -> Result<(), DeviceFault>
-        ensures count { IsRaised result (count self.old) (count self.new) }
-        ensures reads { reads self.new ≡ reads self.old }
-        ensures waited { waited self.new ≡ waited self.old };
+        ensures { Writes result (shown self.old) (shown self.new) };
 
-    /// Closes its input, if it is open. Later writes may fail.
+    /// Closes its input, if it is open. A later write may fail.
     fn close_input(&mut self)
-        ensures count { count self.new ≡ count self.old }
-        ensures reads { reads self.new ≡ reads self.old }
-        ensures waited { waited self.new ≡ waited self.old };
+        ensures { shown self.new ≡ shown self.old };
 
     /// Reads bytes of its output to the front of `buf`, and tells how many; 0 is the end of its output.
     fn read(&mut self, buf: &mut [u8]) -> Result<usize, DeviceFault>
         ensures bound { IfOk result (λ n. n ≤ length buf.old) }
-        ensures count { IsRaised result (count self.old) (count self.new) }
-        ensures reads { reads self.new ≡ both (reads self.old) 1 }
-        ensures waited { waited self.new ≡ waited self.old };
+        ensures reads { Reads result (shown self.old) (shown self.new) };
 
     /// Waits until it has ended.
     fn wait(&mut self) -> Result<How, DeviceFault>
-        ensures count { IsRaised result (count self.old) (count self.new) }
-        ensures reads { reads self.new ≡ reads self.old }
-        ensures waited { waited self.new ≡ Some (end_of result) };
+        ensures { Waits result (shown self.old) (shown self.new) };
 
-    /// How often a call failed.
+    /// How often a call failed, at most the greatest u64.
     fn failures(&self) -> u64
-        ensures { result ≡ count self.now };
+        ensures { result ≡ (shown self.now).count };
 }
 
 /// Starts commands, and takes back what it has started.
 pub trait Launcher {
-    /// How often a call failed, its own and those of children that came back, at most the greatest u64.
-    ghost count: { Self → ℕ };
+    /// Its failures, and what is known of its children.
+    ghost shown: { Self → LauncherShown };
 
-    /// The most reads of a child that came back.
-    ghost longest: { Self → ℕ };
-
-    /// Its children: how many are out, the most that were out at one time, and how the one that came back last has ended.
-    ghost children: { Self → Children };
-
+    /// What it starts.
     type Started: Child;
 
     /// Starts a command, with a pipe to its input and one from its output.
     fn start(&mut self, command: &Command) -> Result<Self::Started, DeviceFault>
-        ensures bound { count self.new ≤ most }
-        ensures count { IsRaised result (count self.old) (count self.new) }
-        ensures longest { longest self.new ≡ longest self.old }
-        ensures out { OnOk result (children self.new ≡ one_more (children self.old)) }
-        ensures none { OnErr result (children self.new ≡ children self.old) }
-        ensures fresh { IfOk result (λ c. (Self.Started.count c ≡ 0) × (Self.Started.reads c ≡ 0) × (Self.Started.waited c ≡ None)) };
+        ensures bound { (shown self.new).count ≤ most }
+        ensures starts { Starts result (shown self.old) (shown self.new) }
+        ensures fresh { IfOk result (λ child. Self.Started.shown child ≡ new_child) };
 
-    /// Takes back a child: its failures are counted as its own.
+    /// Takes back a child: its failures are counted as the launcher's.
     fn back(&mut self, child: Self::Started)
-        ensures count { count self.new ≡ both (count self.old) (Self.Started.count child) }
-        ensures longest { longest self.new ≡ max (longest self.old) (Self.Started.reads child) }
-        ensures children { children self.new ≡ one_less (children self.old) (Self.Started.waited child) };
+        ensures { shown self.new ≡ taken_back (shown self.old) (Self.Started.shown child) };
 
-    /// How often a call failed, its own and those of children that came back.
+    /// How often a call failed, its own and those of children that came back, at most the greatest u64.
     fn failures(&self) -> u64
-        ensures { result ≡ count self.now };
+        ensures { result ≡ (shown self.now).count };
 }

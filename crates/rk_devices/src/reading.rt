@@ -1,6 +1,6 @@
 //! Reading a child's output to its end.
 ghost use Rattle.std.specs.Prelude.{◌≡◌, ◌≤◌, IfErr};
-ghost use Rattle.rk_devices.specs.Counts.{FailsReading};
+ghost use Rattle.rk_devices.specs.Shown.{FailsReading, GoesOn};
 
 use crate::device::Child;
 use crate::output::Output;
@@ -24,12 +24,10 @@ pub enum ReadFault {
 }
 
 /// Reads and drops what a child that was read so often puts out, to its end.
-#[tactic(auto, using(crate::proofs::Rising::raised_up, crate::proofs::Rising::rose_from, crate::proofs::Rising::one_read))]
 pub fn read_out<C: Child>(child: &mut C, reads: u32) -> Result<(), ReadFault>
-    requires { reads ≤ C.reads child.old }
-    ensures rises { C.count child.old ≤ C.count child.new }
-    ensures fault { IfErr result (λ f. FailsReading f (C.count child.old) (C.count child.new) (C.reads child.new)) }
-    ensures waited { C.waited child.new ≡ C.waited child.old }
+    requires { reads ≤ (C.shown child.old).reads }
+    ensures goes_on { GoesOn (C.shown child.old) (C.shown child.new) }
+    ensures fault { IfErr result (λ f. FailsReading f (C.shown child.old) (C.shown child.new)) }
 {
     let mut piece = [0u8; PIECE];
     for _ in reads..MAX_READS {
@@ -44,15 +42,13 @@ pub fn read_out<C: Child>(child: &mut C, reads: u32) -> Result<(), ReadFault>
 
 /// Writes the callout to the input of a piped handler's child, closes it, and keeps what the child puts out, to its end. That the input can't be
 /// written is passed over: a handler need not read it.
-#[tactic(auto, using(crate::proofs::Rising::raised_up, crate::proofs::Rising::rose_from, crate::proofs::Rising::one_read))]
 pub fn pipe_through<C: Child>(
     child: &mut C,
     callout: &[u8],
     output: &mut Output,
 ) -> Result<(), ReadFault>
-    ensures rises { C.count child.old ≤ C.count child.new }
-    ensures fault { IfErr result (λ f. FailsReading f (C.count child.old) (C.count child.new) (C.reads child.new)) }
-    ensures waited { C.waited child.new ≡ C.waited child.old }
+    ensures goes_on { GoesOn (C.shown child.old) (C.shown child.new) }
+    ensures fault { IfErr result (λ f. FailsReading f (C.shown child.old) (C.shown child.new)) }
 {
     if !callout.is_empty() {
         let _ = child.write(callout);

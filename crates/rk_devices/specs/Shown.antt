@@ -1,0 +1,67 @@
+-- What is seen of children and their launcher, and what a call does to it.
+use Rattle.std.specs.Prelude.{ℕ, ◌≡◌, ◌≤◌, ◌+◌, ◌-◌, max, Option, Some, None, Result, Ok, Err}
+use Rattle.rk_machine.specs.declared.event.How.{How}
+use Rattle.rk_devices.specs.declared.device.DeviceFault.{DeviceFault}
+use Rattle.rk_devices.specs.declared.reading.ReadFault.{ReadFault}
+use Rattle.rk_devices.specs.declared.reading.ReadFault.TheVariants.{Failed, UsedUp}
+use Rattle.rk_devices.specs.Counts.{Rose, both, raised, IsRaised}
+
+-- a child: how often a call failed; how often it was read; and `None` before it was waited for, then how it has ended, or `None` where the wait failed
+pub record ChildShown : Type 0 where
+  pub count : ℕ
+  pub reads : ℕ
+  pub waited : Option (Option How)
+
+-- a launcher: how often a call failed, its own and those of children that came back; the most reads of a child that came back; how many children are out; the
+-- most that were out at one time; and `waited` of the child that came back last
+pub record LauncherShown : Type 0 where
+  pub count : ℕ
+  pub longest : ℕ
+  pub out : ℕ
+  pub deepest : ℕ
+  pub last : Option (Option How)
+
+-- a child that was just started
+abbrev pub new_child : ChildShown
+new_child = record { count = 0; reads = 0; waited = None }
+
+-- how a child has ended that was waited for, `None` where the wait failed
+abbrev pub end_of : Result How DeviceFault → Option How
+end_of (Ok how) = Some how
+end_of (Err e) = None
+
+-- a write: one that failed raised the count, and all else is as before
+abbrev pub Writes : Result Unit DeviceFault → ChildShown → ChildShown → Type 0
+Writes r old new = IsRaised r old.count new.count × (new ≡ record old { count = new.count })
+
+-- a read: one that failed raised the count, and it is one read more
+abbrev pub Reads : Result ℕ DeviceFault → ChildShown → ChildShown → Type 0
+Reads r old new = IsRaised r old.count new.count × (new ≡ record old { count = new.count; reads = raised old.reads })
+
+-- a wait: one that failed raised the count, and what it came to is known
+abbrev pub Waits : Result How DeviceFault → ChildShown → ChildShown → Type 0
+Waits r old new = IsRaised r old.count new.count × (new ≡ record old { count = new.count; waited = Some (end_of r) })
+
+-- what was done with a child: its counts did not fall, and it was not waited for
+pub record GoesOn (old new : ChildShown) : Type 0 where
+  pub count : old.count ≤ new.count
+  pub reads : old.reads ≤ new.reads
+  pub waited : new.waited ≡ old.waited
+
+-- why a child was not read to its end: a read failed, and the count rose; or it was read as often as it may be
+abbrev pub FailsReading : ReadFault → ChildShown → ChildShown → Type 0
+FailsReading Failed old new = Rose old.count new.count
+FailsReading UsedUp old new = 1048576 ≤ new.reads
+
+-- a child more is out
+abbrev pub one_more : LauncherShown → LauncherShown
+one_more l = record l { out = l.out + 1; deepest = max l.deepest (l.out + 1) }
+
+-- a start: a new child is out, or the count rose and all else is as before
+abbrev pub Starts : {A : Type 0} → Result A DeviceFault → LauncherShown → LauncherShown → Type 0
+Starts (Ok child) old new = new ≡ one_more old
+Starts (Err e) old new = Rose old.count new.count × (new ≡ record old { count = new.count })
+
+-- a child came back: its failures are the launcher's
+abbrev pub taken_back : LauncherShown → ChildShown → LauncherShown
+taken_back l c = record l { count = both l.count c.count; longest = max l.longest c.reads; out = l.out - 1; last = c.waited }
