@@ -1,0 +1,3 @@
+pub mod Replies
+pub mod Said
+pub mod Stays

@@ -1,0 +1,30 @@
+//! One message of a session, from its body to its reply.
+//!
+//! # Purpose
+//!
+//! A client on its socket and a plain handler on its pipes speak the same frames. What they have in common is here: an ask is made in a hall
+//! ([`ask_in`]), what it waits for is collected ([`settled`]), and what is to be said of it ([`Saying`]) is spelt as the frame of a reply
+//! ([`answer_frame`], [`refusal_frame`]). Between the call and what is said of it the caller brings a start to its end.
+//!
+//! # What it promises
+//!
+//! A call is refused as the hall's is. Where the hall's record is full, its volume goes to the [`Shelf`], the ask is read again from its body and the
+//! call made once more, and only a refusal then is answered. What is said of an ask is the answer of one receipt, of the ask itself or of the collect
+//! of its outcome; EDQUOT or ENOMEM where its call was refused; or nothing, where the seat has seen more than the hall has. The bytes of a reply are
+//! the one spelling of what the answer says, behind their length. A refusal's take no memory, so that want of memory can be told too.
+//!
+//! # How it is built
+//!
+//! `calls` has the calls with their second try, `saying` what is to be said, `replies` the bytes, `shelf` where volumes go. In `specs/`, `Said` says
+//! why a reply is given, `Replies` how it is spelt, and `Stays` what a seat keeps.
+#![tactic(auto)]
+
+mod calls;
+mod replies;
+mod saying;
+mod shelf;
+
+pub use calls::{ask_in, open_in};
+pub use replies::{answer_frame, refusal_frame};
+pub use saying::{Saying, refused, settled};
+pub use shelf::Shelf;

@@ -1,0 +1,75 @@
+//! What is to be said of a message.
+ghost use Rattle.rk_talk.specs.Said.{IsCollected, Settles, IsRefusal};
+ghost use Rattle.rk_talk.specs.Stays.{Stays};
+
+use rk_devices::Clock;
+use rk_hall::{CallFault, HallNo, Halls, Names, Owed, Receipt, Seat};
+use rk_machine::Answer;
+use rk_names::{Errno, Moment, SessionId};
+use rk_wait::await_outcome;
+use std::sync::Wait;
+
+/// What is to be said of a message.
+#[derive(Debug, Drop)]
+pub enum Saying {
+    /// What this receipt's answer says.
+    Noted(Receipt),
+    /// This errno.
+    Short(Errno),
+    /// Nothing: the session is at its end.
+    Behind,
+}
+
+// The outcome of the session's wait.
+fn collected<N: Names, R: Wait>(
+    rt: &R,
+    halls: &Halls<N>,
+    seat: &mut Seat<N>,
+    hall: HallNo,
+    now: Moment,
+    session: SessionId,
+) -> Saying
+    ensures said { IsCollected hall now session result }
+    ensures stays { Stays seat.old seat.new }
+{
+    let Owed { value, receipt } = await_outcome(rt, halls, seat, hall, session, now);
+    drop(value);
+    match receipt {
+        Ok(receipt) => Saying::Noted(receipt),
+        Err(_) => Saying::Behind,
+    }
+}
+
+/// What is to be said of an ask whose call gave this receipt: its answer, or where the session waits, the outcome of its wait, when it is there. Its
+/// start is to be brought to its end before. It may wait.
+pub fn settled<N: Names, R: Wait, C: Clock>(
+    rt: &R,
+    halls: &Halls<N>,
+    seat: &mut Seat<N>,
+    hall: HallNo,
+    session: SessionId,
+    receipt: Receipt,
+    clock: &mut C,
+) -> Saying
+    ensures said { Settles hall session receipt result }
+    ensures stays { Stays seat.old seat.new }
+{
+    match receipt.answer() {
+        Answer::Done(_) | Answer::Refused(_) => Saying::Noted(receipt),
+        Answer::Start(_, _) | Answer::Waiting(_) | Answer::Negate(_) => {
+            collected(rt, halls, seat, hall, clock.now(), session)
+        }
+    }
+}
+
+/// What is to be said of an ask whose call was refused: EDQUOT where the record is full, ENOMEM for want of memory, and nothing where the session's
+/// seat has seen more than the hall has.
+pub fn refused(fault: CallFault) -> Saying
+    ensures { IsRefusal fault result }
+{
+    match fault {
+        CallFault::Behind { .. } => Saying::Behind,
+        CallFault::Full => Saying::Short(Errno::Edquot),
+        CallFault::NoMemory => Saying::Short(Errno::Enomem),
+    }
+}

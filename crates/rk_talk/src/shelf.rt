@@ -1,0 +1,10 @@
+//! Where volumes go that a hall has handed out.
+
+use rk_hall::{Names, Volume};
+use std::sync::Wait;
+
+/// Takes the volumes of the halls' records, outside every lock.
+pub trait Shelf<N: Names> {
+    /// A volume that was handed out.
+    fn put<R: Wait>(&self, rt: &R, volume: Volume<N>);
+}
