@@ -1,0 +1,45 @@
+use Rattle.std.proofs.Common.{◌≤◌, ◌+◌, ◌-◌, ◌*◌, length}
+use Rattle.rk_devices.specs.Shown.{GoesOn}
+use Rattle.rk_talk.specs.Stays.{Stays}
+use Rattle.rk_child.specs.Driving.{Runs}
+use Rattle.rk_child.proofs.+driving.Given as goal
+
+abbrev pub decreases-asks::answer_all : goal.decreases-asks::answer_all
+decreases-asks::answer_all g l = 7 * (256 - l.depth) + 2
+
+abbrev pub decreases-asks::answer_next : goal.decreases-asks::answer_next
+decreases-asks::answer_next g l = 7 * (256 - l.depth) + 1
+
+abbrev pub decreases-asks::answered : goal.decreases-asks::answered
+decreases-asks::answered g l = 7 * (256 - l.depth)
+
+abbrev pub decreases-asks::serve_asks : goal.decreases-asks::serve_asks
+decreases-asks::serve_asks g l = 7 * (256 - l.depth) + 3
+
+abbrev pub decreases-driving::attend : goal.decreases-driving::attend
+decreases-driving::attend g l = 7 * (256 - l.running.now.depth) + 4
+
+abbrev pub decreases-driving::drive : goal.decreases-driving::drive
+decreases-driving::drive g l = 7 * (256 - l.launch.depth) + 6
+
+abbrev pub decreases-driving::run : goal.decreases-driving::run
+decreases-driving::run g l = 7 * (256 - l.launch.depth) + 5
+
+abbrev pub invariant-asks::answer_all-loop : goal.invariant-asks::answer_all-loop
+invariant-asks::answer_all-loop g l = record {
+  runs : Runs (l.depth + 1) (g.L.Launcher.shown l.fn.launcher) (g.L.Launcher.shown l.launcher);
+  child : GoesOn (g.L.Started.Child.shown l.fn.child) (g.L.Started.Child.shown l.child);
+  stays : Stays l.fn.seat l.seat;
+}
+
+abbrev pub decreases-asks::answer_all-loop : goal.decreases-asks::answer_all-loop
+decreases-asks::answer_all-loop g l = length l.frames.bytes
+
+abbrev pub invariant-asks::serve_asks-loop-reads : goal.invariant-asks::serve_asks-loop-reads
+invariant-asks::serve_asks-loop-reads g l = record {
+  room : 4096 ≤ l.frames.room;
+  reads : l.reads ≤ (g.L.Started.Child.shown l.child).reads;
+  runs : Runs (l.depth + 1) (g.L.Launcher.shown l.fn.launcher) (g.L.Launcher.shown l.launcher);
+  child : GoesOn (g.L.Started.Child.shown l.fn.child) (g.L.Started.Child.shown l.child);
+  stays : Stays l.fn.seat l.seat;
+}

@@ -1,0 +1,3 @@
+pub mod Words
+pub mod Running
+pub mod Taking

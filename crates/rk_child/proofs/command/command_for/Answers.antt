@@ -1,0 +1,24 @@
+use Rattle.std.proofs.Common.{List, ℕ, subst}
+use Rattle.std.specs.Prelude.{Some}
+use Rattle.rk_conf.specs.Choice.{IsChosen}
+use Rattle.rk_macro.specs.declared.subject.Subject.{Subject}
+use Rattle.rk_macro.specs.Ops.{op_name}
+use Rattle.rk_child.specs.Commands.{IsCommandFor}
+use Rattle.rk_child.proofs.Words.{words_of_calls}
+use Rattle.rk_child.proofs.command.command_for.Goals as goal
+
+pub returns-in-Ok : goal.returns-in-Ok
+returns-in-Ok g c =
+    let s = c.subject-subject.result.now in
+    let line = c.in_ok-line.line.now in
+    let of_op : IsChosen c.args.conf.now (op_name s.op) s.typ s.desc s.callout (Some line)
+    = subst (λ (o : List ℕ). IsChosen c.args.conf.now o s.typ s.desc s.callout (Some line)) c.as_bytes.ensures.value c.in_ok-line.ensures in
+    let told : IsCommandFor c.args.conf.now s c.in-Ok.command = record {
+      line = line;
+      chosen = of_op;
+      path = c.in-Ok.ensures.path;
+      piped = c.in-Ok.ensures.piped;
+      words = words_of_calls _ s line.args c.in-Ok.command.words c.in-Ok.ensures.words;
+      short = c.in-Ok.ensures.short;
+    } in
+    subst (λ (x : Subject). IsCommandFor c.args.conf.now x c.in-Ok.command) c.subject-subject.ensures told

@@ -1,0 +1,4 @@
+pub mod Commands
+pub mod Driving
+pub mod Rooms
+pub mod Turned

@@ -1,0 +1,162 @@
+//! A launch is brought to its end.
+ghost use Rattle.std.specs.Prelude.{◌≡◌, ◌≤◌, ◌+◌, IfSome, IfErr};
+ghost use Rattle.rk_devices.specs.Counts.{most};
+ghost use Rattle.rk_devices.specs.Shown.{FailsReading, GoesOn};
+ghost use Rattle.rk_talk.specs.Stays.{Stays, SeesOn, clients_at};
+ghost use Rattle.rk_child.specs.Driving.{Runs, FaultRose, TellsEnd, HasRun};
+ghost use Rattle.rk_child.specs.Rooms.{IsEmptyRoom};
+
+use crate::asks::serve_asks;
+use crate::command::{Prepared, prepare};
+use crate::driven::{Driven, later};
+use crate::ending::wait_for;
+use crate::room::Room;
+use crate::spent::{begin, fail, finish};
+use rk_conf::Conf;
+use rk_devices::{Child, Clock, Gate, Launcher, ReadFault, pipe_through, read_out};
+use rk_hall::{Halls, Launch, Names, Running, Seat};
+use rk_names::Payload;
+use rk_talk::Shelf;
+use std::alloc::Global;
+use std::sync::Wait;
+
+/// The greatest depth of a launch that is started.
+const MAX_DEPTH: u8 = 8;
+
+/// Brings a launch to its end: its command is started, served and waited for, and then the one that says that the key can't be made, where it is to follow.
+#[cycle(driving)]
+pub fn drive<N: Names, R: Wait, L: Launcher, C: Clock, G: Gate, S: Shelf<N>>(
+    rt: &R,
+    alloc: Global,
+    halls: &Halls<N>,
+    seat: &mut Seat<N>,
+    launch: Launch<N>,
+    conf: &Conf,
+    launcher: &mut L,
+    clock: &mut C,
+    gate: &G,
+    shelf: &S,
+) -> Driven
+    requires { (L.shown launcher.old).count ≤ most }
+    ensures runs { Runs launch.depth (L.shown launcher.old) (L.shown launcher.new) }
+    ensures fault { FaultRose result (L.shown launcher.old) (L.shown launcher.new) }
+    ensures end { TellsEnd result (L.shown launcher.old) (L.shown launcher.new) }
+    ensures clients { clients_at seat.new ≡ clients_at seat.old }
+    ensures seen { SeesOn seat.old seat.new }
+{
+    if launch.depth() > MAX_DEPTH {
+        fail(rt, halls, seat, launch, clock);
+        return Driven::NotStarted;
+    }
+    let (first, next) = run(
+        rt, alloc, halls, seat, launch, conf, launcher, clock, gate, shelf,
+    );
+    let Some(launch) = next else {
+        return first;
+    };
+    let (second, next) = run(
+        rt, alloc, halls, seat, launch, conf, launcher, clock, gate, shelf,
+    );
+    if let Some(launch) = next {
+        fail(rt, halls, seat, launch, clock);
+    }
+    later(first, second)
+}
+
+// One command, from its start to its end. A launch comes back where another command is to follow.
+#[cycle(driving)]
+fn run<N: Names, R: Wait, L: Launcher, C: Clock, G: Gate, S: Shelf<N>>(
+    rt: &R,
+    alloc: Global,
+    halls: &Halls<N>,
+    seat: &mut Seat<N>,
+    launch: Launch<N>,
+    conf: &Conf,
+    launcher: &mut L,
+    clock: &mut C,
+    gate: &G,
+    shelf: &S,
+) -> (Driven, Option<Launch<N>>)
+    requires bound { (L.shown launcher.old).count ≤ most }
+    requires depth { launch.depth ≤ 8 }
+    ensures runs { Runs launch.depth (L.shown launcher.old) (L.shown launcher.new) }
+    ensures fault { FaultRose result.0 (L.shown launcher.old) (L.shown launcher.new) }
+    ensures end { TellsEnd result.0 (L.shown launcher.old) (L.shown launcher.new) }
+    ensures next { IfSome result.1 (λ l. (l.depth ≡ launch.depth) × HasRun result.0) }
+    ensures stays { Stays seat.old seat.new }
+{
+    let Some(prepared) = prepare(rt, alloc, halls, &launch, conf, clock.now()) else {
+        fail(rt, halls, seat, launch, clock);
+        return (Driven::NotStarted, None);
+    };
+    let Prepared { command, room } = prepared;
+    let Ok(mut child) = launcher.start(&command) else {
+        fail(rt, halls, seat, launch, clock);
+        return (Driven::StartFailed, None);
+    };
+    let Some(running) = begin(rt, halls, seat, launch, room.ran(), clock) else {
+        child.close_input();
+        let read = read_out(&mut child, 0);
+        let driven = wait_for(&mut child, read);
+        launcher.back(child);
+        return (driven, None);
+    };
+    gate.started(rt, running.key());
+    let (read, payload) = attend(
+        rt, alloc, halls, seat, &running, room, &mut child, conf, launcher, clock, gate, shelf,
+    );
+    let driven = wait_for(&mut child, read);
+    launcher.back(child);
+    let next = finish(rt, halls, seat, running, driven.how(), payload, clock);
+    (driven, next)
+}
+
+// Serves the asks of a plain handler, or pipes the callout through a piped one.
+#[cycle(driving)]
+fn attend<N: Names, R: Wait, L: Launcher, C: Clock, G: Gate, S: Shelf<N>>(
+    rt: &R,
+    alloc: Global,
+    halls: &Halls<N>,
+    seat: &mut Seat<N>,
+    running: &Running<N>,
+    room: Room,
+    child: &mut L::Started,
+    conf: &Conf,
+    launcher: &mut L,
+    clock: &mut C,
+    gate: &G,
+    shelf: &S,
+) -> (Result<(), ReadFault>, Option<Payload>)
+    requires bound { (L.shown launcher.old).count ≤ most }
+    requires empty { IsEmptyRoom room }
+    ensures runs { Runs (running.now.depth + 1) (L.shown launcher.old) (L.shown launcher.new) }
+    ensures child { GoesOn (L.Started.shown child.old) (L.Started.shown child.new) }
+    ensures fault { IfErr result.0 (λ f. FailsReading f (L.Started.shown child.old) (L.Started.shown child.new)) }
+    ensures stays { Stays seat.old seat.new }
+{
+    match room {
+        Room::Plain(frames) => {
+            let read = serve_asks(
+                rt,
+                alloc,
+                halls,
+                seat,
+                running.key(),
+                running.depth(),
+                frames,
+                child,
+                conf,
+                launcher,
+                clock,
+                gate,
+                shelf,
+            );
+            (read, None)
+        }
+        Room::Piped(output) => {
+            let mut output = output;
+            let read = pipe_through(child, running.subject().callout.as_bytes(), &mut output);
+            (read, output.into_payload())
+        }
+    }
+}

@@ -1,0 +1,45 @@
+//! Handlers: one program from its start to its end.
+//!
+//! # Purpose
+//!
+//! A start in a hall hands out a `Launch`, which can't be dropped. [`drive`] brings it to its end: it picks the line for its subject, makes the
+//! command, starts it, serves what it says, waits for it, and tells the hall how it has ended. Where a piped command failed, it runs the one with the
+//! op `negate` next.
+//!
+//! # What it promises
+//!
+//! *No orphan.* Each launch is spent, its own and those of the starts that its handlers ask for, whichever start, write, read or wait fails; each
+//! child comes back to its launcher. Starts are nested at most eight deep, since a nested one is started only where it is deeper than its handler's
+//! own.
+//!
+//! *Faults.* What is told ([`Driven`]) is how the child has ended that came back last. `StartFailed` and `WaitFailed` come only where the launcher's
+//! count of failures rose, its children's counted, and `ReadFailed` only there or where a child was read 1,048,576 times. After a read that failed a
+//! child is not waited for.
+//!
+//! *A plain handler* has each ask answered in order, by the hall of its key. A reply that can't be written, a frame that none has, or an ask of which
+//! nothing can be said ends its asks: its input is closed, and what it still puts out is read and dropped. *A piped handler* is written the callout,
+//! and what it puts out is the payload, where there are 1 to 32,767 bytes; that its input can't be written is passed over.
+//!
+//! What a run needs is made before its start: want of memory there is told as a start that failed. Not promised: that a child ends, and what it says.
+//!
+//! # How it is built
+//!
+//! `driving` and `asks` call each other, since an ask may start a handler: `driving` has one launch and one command, `asks` the messages of a plain
+//! handler. Around them, `command` has the command, `room` what is made before the start, `spent` what is told to a hall of a launch, `replying` the
+//! replies, `ending` the wait, and `driven` what is told.
+//!
+//! In `specs/`, `Driving` says what is done with a launcher and what is told, `Commands` what a command is, `Rooms` and `Turned` what is held of a
+//! stream.
+#![tactic(auto)]
+
+mod asks;
+mod command;
+mod driven;
+mod driving;
+mod ending;
+mod replying;
+mod room;
+mod spent;
+
+pub use driven::Driven;
+pub use driving::drive;

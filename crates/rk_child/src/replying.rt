@@ -1,0 +1,41 @@
+//! Replies to a plain handler.
+ghost use Rattle.rk_devices.specs.Shown.{GoesOn};
+
+use rk_devices::{Child, Gate};
+use rk_names::{Errno, SessionId};
+use rk_talk::{Saying, answer_frame, refusal_frame};
+use std::alloc::Global;
+use std::sync::Wait;
+
+// Writes what is to be said, in one write; where there is no memory for the reply, it is want of memory. False where it can't be written, or nothing
+// is to be said.
+fn is_said<C: Child>(alloc: Global, child: &mut C, saying: Saying) -> bool
+    ensures { GoesOn (C.shown child.old) (C.shown child.new) }
+{
+    match saying {
+        Saying::Noted(receipt) => match answer_frame(alloc, receipt.answer()) {
+            Ok(bytes) => child.write(&bytes).is_ok(),
+            Err(_) => child.write(&refusal_frame(Errno::Enomem)).is_ok(),
+        },
+        Saying::Short(errno) => child.write(&refusal_frame(errno)).is_ok(),
+        Saying::Behind => false,
+    }
+}
+
+/// Replies to the handler of this session, and tells the gate. False where its asks are at their end: the reply can't be written, or there is none.
+pub fn reply<R: Wait, C: Child, G: Gate>(
+    rt: &R,
+    alloc: Global,
+    child: &mut C,
+    session: SessionId,
+    saying: Saying,
+    gate: &G,
+) -> bool
+    ensures { GoesOn (C.shown child.old) (C.shown child.new) }
+{
+    if !is_said(alloc, child, saying) {
+        return false;
+    }
+    gate.answered(rt, session);
+    true
+}
