@@ -1,4 +1,5 @@
 pub mod Commands
 pub mod Driving
+pub mod Replying
 pub mod Rooms
 pub mod Turned

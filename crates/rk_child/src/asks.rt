@@ -7,7 +7,7 @@ ghost use Rattle.rk_talk.specs.Stays.{Stays};
 ghost use Rattle.rk_devices.specs.Shown.{FailsReading, GoesOn};
 ghost use Rattle.rk_child.specs.Driving.{Runs};
 ghost use Rattle.rk_child.specs.Rooms.{IsEmpty};
-ghost use Rattle.rk_child.specs.Turned.{TakesOne};
+ghost use Rattle.rk_child.specs.Turned.{Turns};
 
 use crate::driving::drive;
 use crate::replying::reply;
@@ -36,7 +36,7 @@ pub enum Turned {
 /// Reads what a plain handler puts out to its end, and answers each ask in it. A reply that can't be written, a length that no frame has, or an ask of
 /// which nothing can be said ends the asks: then the input is closed, and the rest is read and dropped.
 #[cycle(driving)]
-pub fn serve_asks<N: Names, R: Wait, L: Launcher, C: Clock, G: Gate, S: Shelf<N>>(
+pub fn serve_asks<N: Names, R: Wait, L: Launcher, C: Clock, G: Gate, S: Shelf>(
     rt: &R,
     alloc: Global,
     halls: &Halls<N>,
@@ -95,7 +95,7 @@ pub fn serve_asks<N: Names, R: Wait, L: Launcher, C: Clock, G: Gate, S: Shelf<N>
 
 // Answers all messages that are there. False where the asks are at their end.
 #[cycle(driving)]
-fn answer_all<N: Names, R: Wait, L: Launcher, C: Clock, G: Gate, S: Shelf<N>>(
+fn answer_all<N: Names, R: Wait, L: Launcher, C: Clock, G: Gate, S: Shelf>(
     rt: &R,
     alloc: Global,
     halls: &Halls<N>,
@@ -129,7 +129,7 @@ fn answer_all<N: Names, R: Wait, L: Launcher, C: Clock, G: Gate, S: Shelf<N>>(
 
 // Answers the next message, if there is one.
 #[cycle(driving)]
-fn answer_next<N: Names, R: Wait, L: Launcher, C: Clock, G: Gate, S: Shelf<N>>(
+fn answer_next<N: Names, R: Wait, L: Launcher, C: Clock, G: Gate, S: Shelf>(
     rt: &R,
     alloc: Global,
     halls: &Halls<N>,
@@ -145,7 +145,7 @@ fn answer_next<N: Names, R: Wait, L: Launcher, C: Clock, G: Gate, S: Shelf<N>>(
     shelf: &S,
 ) -> Turned
     requires bound { (L.shown launcher.old).count ≤ most }
-    ensures takes { TakesOne result frames.old frames.new }
+    ensures takes { Turns result frames.old frames.new }
     ensures runs { Runs (depth + 1) (L.shown launcher.old) (L.shown launcher.new) }
     ensures child { GoesOn (L.Started.shown child.old) (L.Started.shown child.new) }
     ensures stays { Stays seat.old seat.new }
@@ -169,7 +169,7 @@ fn answer_next<N: Names, R: Wait, L: Launcher, C: Clock, G: Gate, S: Shelf<N>>(
 // What is to be said of the message with this body: it is asked in the hall of the handler's key, and what it starts is brought to its end. A start
 // that is no deeper than the handler's own is ended as one that failed.
 #[cycle(driving)]
-fn answered<N: Names, R: Wait, L: Launcher, C: Clock, G: Gate, S: Shelf<N>>(
+fn answered<N: Names, R: Wait, L: Launcher, C: Clock, G: Gate, S: Shelf>(
     rt: &R,
     alloc: Global,
     halls: &Halls<N>,

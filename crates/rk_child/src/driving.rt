@@ -25,7 +25,7 @@ const MAX_DEPTH: u8 = 8;
 
 /// Brings a launch to its end: its command is started, served and waited for, and then the one that says that the key can't be made, where it is to follow.
 #[cycle(driving)]
-pub fn drive<N: Names, R: Wait, L: Launcher, C: Clock, G: Gate, S: Shelf<N>>(
+pub fn drive<N: Names, R: Wait, L: Launcher, C: Clock, G: Gate, S: Shelf>(
     rt: &R,
     alloc: Global,
     halls: &Halls<N>,
@@ -65,7 +65,7 @@ pub fn drive<N: Names, R: Wait, L: Launcher, C: Clock, G: Gate, S: Shelf<N>>(
 
 // One command, from its start to its end. A launch comes back where another command is to follow.
 #[cycle(driving)]
-fn run<N: Names, R: Wait, L: Launcher, C: Clock, G: Gate, S: Shelf<N>>(
+fn run<N: Names, R: Wait, L: Launcher, C: Clock, G: Gate, S: Shelf>(
     rt: &R,
     alloc: Global,
     halls: &Halls<N>,
@@ -113,7 +113,7 @@ fn run<N: Names, R: Wait, L: Launcher, C: Clock, G: Gate, S: Shelf<N>>(
 
 // Serves the asks of a plain handler, or pipes the callout through a piped one.
 #[cycle(driving)]
-fn attend<N: Names, R: Wait, L: Launcher, C: Clock, G: Gate, S: Shelf<N>>(
+fn attend<N: Names, R: Wait, L: Launcher, C: Clock, G: Gate, S: Shelf>(
     rt: &R,
     alloc: Global,
     halls: &Halls<N>,

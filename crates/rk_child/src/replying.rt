@@ -1,5 +1,6 @@
 //! Replies to a plain handler.
 ghost use Rattle.rk_devices.specs.Shown.{GoesOn};
+ghost use Rattle.rk_child.specs.Replying.{EndsAsks};
 
 use rk_devices::{Child, Gate};
 use rk_names::{Errno, SessionId};
@@ -10,7 +11,8 @@ use std::sync::Wait;
 // Writes what is to be said, in one write; where there is no memory for the reply, it is want of memory. False where it can't be written, or nothing
 // is to be said.
 fn is_said<C: Child>(alloc: Global, child: &mut C, saying: Saying) -> bool
-    ensures { GoesOn (C.shown child.old) (C.shown child.new) }
+    ensures goes_on { GoesOn (C.shown child.old) (C.shown child.new) }
+    ensures ends { EndsAsks result saying (C.shown child.old) (C.shown child.new) }
 {
     match saying {
         Saying::Noted(receipt) => match answer_frame(alloc, receipt.answer()) {
@@ -31,7 +33,8 @@ pub fn reply<R: Wait, C: Child, G: Gate>(
     saying: Saying,
     gate: &G,
 ) -> bool
-    ensures { GoesOn (C.shown child.old) (C.shown child.new) }
+    ensures goes_on { GoesOn (C.shown child.old) (C.shown child.new) }
+    ensures ends { EndsAsks result saying (C.shown child.old) (C.shown child.new) }
 {
     if !is_said(alloc, child, saying) {
         return false;

@@ -14,7 +14,7 @@ use std::alloc::Global;
 use std::sync::Wait;
 
 // The hall's volume is handed out, so that there are places again.
-fn make_places<N: Names, R: Wait, S: Shelf<N>>(
+fn make_places<N: Names, R: Wait, S: Shelf>(
     rt: &R,
     halls: &Halls<N>,
     hall: HallNo,
@@ -35,7 +35,7 @@ fn make_places<N: Names, R: Wait, S: Shelf<N>>(
 /// Asks what the body spells, as `Halls::call` does. Where the record is full, its volume goes to the shelf, the ask is read again from its body, since
 /// the refused call has it, and the call is made once more; only a refusal then is answered. Want of memory for the second reading is `NoMemory`. It may
 /// wait.
-pub fn ask_in<N: Names, R: Wait, S: Shelf<N>>(
+pub fn ask_in<N: Names, R: Wait, S: Shelf>(
     rt: &R,
     alloc: Global,
     halls: &Halls<N>,
@@ -68,7 +68,7 @@ pub fn ask_in<N: Names, R: Wait, S: Shelf<N>>(
 }
 
 /// Opens the session there, as `Halls::call` does. Where the record is full, its volume goes to the shelf, and the call is made once more. It may wait.
-pub fn open_in<N: Names, R: Wait, S: Shelf<N>>(
+pub fn open_in<N: Names, R: Wait, S: Shelf>(
     rt: &R,
     halls: &Halls<N>,
     seat: &mut Seat<N>,

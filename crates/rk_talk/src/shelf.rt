@@ -4,7 +4,7 @@ use rk_hall::{Names, Volume};
 use std::sync::Wait;
 
 /// Takes the volumes of the halls' records, outside every lock.
-pub trait Shelf<N: Names> {
+pub trait Shelf {
     /// A volume that was handed out.
-    fn put<R: Wait>(&self, rt: &R, volume: Volume<N>);
+    fn put<N: Names, R: Wait>(&self, rt: &R, volume: Volume<N>);
 }
