@@ -13,5 +13,5 @@ TakesOne old new = (body : List ℕ) × TakesBody body old.bytes new.bytes
 -- stands that no frame has, or behind a message
 abbrev pub Turns : Turned → Unread → Unread → Type 0
 Turns Replied old new = TakesOne old new
-Turns NoneYet old new = IsPartial old.bytes × (new.bytes ≡ old.bytes) × (4096 ≤ new.room)
+Turns NoneYet old new = IsPartial new.bytes × (new.bytes ≡ old.bytes) × (4096 ≤ new.room)
 Turns AtEnd old new = HasFault old.bytes ⊎ TakesOne old new

@@ -2,6 +2,7 @@
 ghost use Rattle.std.specs.Prelude.{◌≡◌, ◌≤◌, ◌<◌, ◌+◌, length, MatchBool, IfErr};
 ghost use Rattle.rk_names.specs.declared.numbers.SessionId.TheVariants.{Handler};
 ghost use Rattle.rk_devices.specs.Counts.{most};
+ghost use Rattle.rk_frame.specs.Streams.{IsPartial};
 ghost use Rattle.rk_talk.specs.Said.{Says};
 ghost use Rattle.rk_talk.specs.Stays.{Stays};
 ghost use Rattle.rk_devices.specs.Shown.{FailsReading, GoesOn};
@@ -111,7 +112,7 @@ fn answer_all<N: Names, R: Wait, L: Launcher, C: Clock, G: Gate, S: Shelf>(
     shelf: &S,
 ) -> bool
     requires bound { (L.shown launcher.old).count ≤ most }
-    ensures room { MatchBool result (4096 ≤ frames.new.room) (Unit {0}) }
+    ensures left { MatchBool result (IsPartial frames.new.bytes × (4096 ≤ frames.new.room)) (Unit {0}) }
     ensures runs { Runs (depth + 1) (L.shown launcher.old) (L.shown launcher.new) }
     ensures child { GoesOn (L.Started.shown child.old) (L.Started.shown child.new) }
     ensures stays { Stays seat.old seat.new }
