@@ -1,0 +1,101 @@
+//! A program that was started.
+ghost use Rattle.std.specs.Prelude.{◌≡◌, None};
+ghost use Rattle.rk_devices.specs.Counts.{Rose, raised};
+ghost use Rattle.rk_devices.specs.Shown.{ChildShown};
+ghost use Rattle.rk_programs.specs.Ended.{ended_as};
+
+use crate::counting::one_more;
+use rk_devices::{Child, DeviceFault};
+use rk_machine::How;
+use std::io::{Read, Write};
+use std::process::{self, ExitStatus, OpenProcess};
+
+/// A program that was started, with its two pipes. It can't be dropped: its launcher takes it back.
+pub struct Program<P: OpenProcess> {
+    pub(crate) child: process::Child<P>,
+    pub(crate) failed: u64,
+    pub(crate) reads: u64,
+    pub(crate) waited: Option<Option<How>>,
+}
+
+impl<P: OpenProcess> Program<P> {
+    /// What was just started.
+    pub(crate) fn new(child: process::Child<P>) -> Program<P>
+        ensures { (result.failed ≡ 0) × (result.reads ≡ 0) × (result.waited ≡ None) }
+    {
+        Program {
+            child,
+            failed: 0,
+            reads: 0,
+            waited: None,
+        }
+    }
+
+    /// Counts a failure.
+    fn fault(&mut self) -> DeviceFault
+        ensures count { self.new.failed ≡ raised self.old.failed }
+        ensures rose { Rose self.old.failed self.new.failed }
+        ensures reads { self.new.reads ≡ self.old.reads }
+        ensures waited { self.new.waited ≡ self.old.waited }
+    {
+        self.failed = one_more(self.failed);
+        DeviceFault
+    }
+}
+
+/// How a program has ended: by its status, or by a signal (`waitpid(2)`).
+fn ending(status: ExitStatus) -> How
+    ensures { result ≡ ended_as status }
+{
+    match status.code() {
+        Some(code) => How::Exit(u8::try_from(code).unwrap_or(u8::MAX)),
+        None => How::Signal,
+    }
+}
+
+impl<P: OpenProcess> Child for Program<P> {
+    ghost shown = { λ p. record { count = p.failed; reads = p.reads; waited = p.waited } };
+
+    fn write(&mut self, bytes: &[u8]) -> Result<(), DeviceFault> {
+        let Some(input) = &mut self.child.stdin else {
+            return Err(self.fault());
+        };
+        match input.write_all(bytes) {
+            Ok(()) => Ok(()),
+            Err(_) => Err(self.fault()),
+        }
+    }
+
+    fn close_input(&mut self) {
+        drop(self.child.stdin.take());
+    }
+
+    fn read(&mut self, buf: &mut [u8]) -> Result<usize, DeviceFault> {
+        self.reads = one_more(self.reads);
+        let Some(output) = &mut self.child.stdout else {
+            return Ok(0);
+        };
+        match output.read(buf) {
+            Ok(count) => Ok(count),
+            Err(_) => Err(self.fault()),
+        }
+    }
+
+    fn wait(&mut self) -> Result<How, DeviceFault> {
+        match self.child.wait() {
+            Ok(status) => {
+                let how = ending(status);
+                self.waited = Some(Some(how));
+                Ok(how)
+            }
+            Err(_) => {
+                self.waited = Some(None);
+                Err(self.fault())
+            }
+        }
+    }
+
+    fn failures(&self) -> u64 {
+        self.failed
+    }
+}

@@ -1,0 +1,97 @@
+//! The launcher of real programs.
+ghost use Rattle.std.specs.Prelude.{◌≡◌};
+ghost use Rattle.rk_devices.specs.Shown.{LauncherShown};
+
+use crate::counting::one_more;
+use crate::making::made;
+use crate::program::Program;
+use crate::unwaited::Unwaited;
+use rk_devices::{DeviceFault, Launcher};
+use rk_machine::How;
+use rk_macro::Command;
+use std::alloc::Global;
+use std::io;
+use std::process::{self, Processes};
+
+/// Starts programs, and takes them back.
+#[derive(Drop)]
+pub struct Programs<'a, R: Processes> {
+    rt: &'a R,
+    alloc: Global,
+    failed: u64,
+    longest: u64,
+    out: u64,
+    deepest: u64,
+    last: Option<Option<How>>,
+    unwaited: Unwaited<R::Started>,
+}
+
+impl<'a, R: Processes> Programs<'a, R> {
+    /// A launcher that has started nothing. It takes no memory.
+    pub fn new(rt: &'a R, alloc: Global) -> Programs<'a, R> {
+        Programs {
+            rt,
+            alloc,
+            failed: 0,
+            longest: 0,
+            out: 0,
+            deepest: 0,
+            last: None,
+            unwaited: Unwaited::new(alloc),
+        }
+    }
+}
+
+/// Starts the program of the command.
+fn spawn<R: Processes>(
+    rt: &R,
+    alloc: Global,
+    command: &Command,
+) -> io::Result<process::Child<R::Started>> {
+    made(alloc, command)?.spawn(rt)
+}
+
+impl<'a, R: Processes> Launcher for Programs<'a, R> {
+    ghost shown = { λ l. record { count = l.failed; longest = l.longest; out = l.out; deepest = l.deepest; last = l.last } };
+
+    type Started = Program<R::Started>;
+
+    fn start(&mut self, command: &Command) -> Result<Program<R::Started>, DeviceFault> {
+        self.unwaited.let_ended_go();
+        if self.out == u64::MAX {
+            self.failed = one_more(self.failed);
+            return Err(DeviceFault);
+        }
+        match spawn(self.rt, self.alloc, command) {
+            Ok(child) => {
+                self.out += 1;
+                self.deepest = self.deepest.max(self.out);
+                Ok(Program::new(child))
+            }
+            Err(_) => {
+                self.failed = one_more(self.failed);
+                Err(DeviceFault)
+            }
+        }
+    }
+
+    fn back(&mut self, child: Program<R::Started>) {
+        let Program {
+            child,
+            failed,
+            reads,
+            waited,
+        } = child;
+        self.failed = self.failed.saturating_add(failed);
+        self.longest = self.longest.max(reads);
+        self.out = self.out.saturating_sub(1);
+        self.last = waited;
+        if !matches!(waited, Some(Some(_))) {
+            self.unwaited.keep(child);
+        }
+    }
+
+    fn failures(&self) -> u64 {
+        self.failed
+    }
+}

@@ -1,0 +1,33 @@
+//! Programs that came back before they were waited for.
+
+use std::alloc::Global;
+use std::process::{Child, OpenProcess};
+
+/// Programs that were not waited for. One that has ended stays in the list of processes until it is asked (`waitpid(2)`), so they are asked now and then.
+#[derive(Drop)]
+pub struct Unwaited<P: OpenProcess + Drop> {
+    children: Vec<Child<P>>,
+}
+
+impl<P: OpenProcess + Drop> Unwaited<P> {
+    /// None yet. It takes no memory.
+    pub fn new(alloc: Global) -> Unwaited<P> {
+        Unwaited {
+            children: Vec::new(alloc),
+        }
+    }
+
+    /// Keeps one, its pipes closed. Where there is no memory for it, it is let go.
+    pub fn keep(&mut self, child: Child<P>) {
+        let mut child = child;
+        drop(child.stdin.take());
+        drop(child.stdout.take());
+        let _ = self.children.push(child);
+    }
+
+    /// Lets go of those that have ended meanwhile.
+    pub fn let_ended_go(&mut self) {
+        self.children
+            .retain_mut(|child| !matches!(child.try_wait(), Ok(Some(_))));
+    }
+}
