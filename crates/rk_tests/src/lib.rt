@@ -13,13 +13,16 @@
 //!
 //! A module for each layer, and in it one for each library or subject: `values` (names, frames, messages, patterns, the configuration, commands), `state`
 //! (tables, keys, rings, sessions, the definitions of the machine), `book` (what happens to a Book, in plain lines), `record` (a hall, its turns and volumes),
-//! `halls` (four halls that threads share), `replay` (lines, happenings, scripts). `same` compares a value with the one that was worked out.
+//! `halls` (four halls that threads share), `programs` (handlers that are really started), `replay` (lines, happenings, scripts). `same` compares a value with
+//! the one that was worked out.
 #![tactic(auto)]
 
 #[cfg(test)]
 mod book;
 #[cfg(test)]
 mod halls;
+#[cfg(test)]
+mod programs;
 #[cfg(test)]
 mod record;
 #[cfg(test)]
