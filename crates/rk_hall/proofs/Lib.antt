@@ -1,1 +1,2 @@
 pub mod WhatIsSeen
+pub mod Starts

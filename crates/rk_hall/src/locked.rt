@@ -195,11 +195,12 @@ impl<N: Names, const H: u64> Locked<N, H> {
             };
         }
         let receipt = turn_owed(&mut self.hall, &mut self.calls, part, now, event);
-        let value = if matches!(ran, Ran::Failed) {
-            spend(&mut self.out, &mut self.home, ticket);
-            None
-        } else {
-            Some(ticket)
+        let value = match ran {
+            Ran::Plain | Ran::Piped => Some(ticket),
+            Ran::Failed => {
+                spend(&mut self.out, &mut self.home, ticket);
+                None
+            }
         };
         Owed {
             value,
@@ -348,6 +349,7 @@ impl<N: Names, const H: u64> Locked<N, H> {
 }
 
 /// What a call has begun: a ticket, where its answer is a start.
+#[tactic(auto, using(crate::proofs::Starts::none_begun))]
 fn begin<N: Names, const H: u64>(
     hall: &Hall,
     out: &mut Book<Out<N, H>>,
@@ -363,8 +365,9 @@ fn begin<N: Names, const H: u64>(
     ensures parts { home.new.parts + begun answer.now ≡ home.old.parts }
     ensures amount { home.new.amount ≡ home.old.amount }
 {
-    match (answer, subject) {
-        (Answer::Start(key, _), Some(subject)) => {
+    let subject = subject?;
+    match answer {
+        Answer::Start(key, _) => {
             out.add(home, 1);
             let share = home.split_off(1, 1);
             Some(Begun {
@@ -374,7 +377,7 @@ fn begin<N: Names, const H: u64>(
                 ticket: Ticket { share },
             })
         }
-        _ => None,
+        _ => unreachable!(),
     }
 }
 

@@ -51,9 +51,7 @@ impl<N: Names, const H: u64> Part<N, H> {
     pub(crate) fn lose_client(&mut self)
         ensures { self.new ≡ without_client self.old }
     {
-        if self.clients > 0 {
-            self.clients -= 1;
-        }
+        self.clients = self.clients.saturating_sub(1);
     }
 
     /// Takes the receipt of a turn, whose number has to be above all that were seen.

@@ -1,4 +1,4 @@
-use Rattle.std.proofs.Common.{arith}
+use Rattle.std.proofs.Common.{◌∙◌, arith}
 use Rattle.rk_machine.proofs.OwedSteps.EachRecorded.{constructions_owed}
 use Rattle.rk_hall.proofs.locked.Locked.put_stray.Goals as goal
 
@@ -15,3 +15,25 @@ overflow_add-self g c =
     let least = s.least in
     let most = s.most in
     let few = constructions_owed c.self.inside.hall.world in omega arith
+
+pub invariant_of-self : goal.invariant_of-self
+invariant_of-self g c =
+    let i = c.self.invariant in
+    let home = i.home in
+    let spare = i.spare in
+    let part = c.args.ticket.part in
+    let one = c.args.ticket.one in
+    let parts = c.merge.ensures.parts in
+    let amount = c.merge.ensures.amount in
+    let audited = c.audit.ensures.parts in
+    let counted = c.audit.ensures.amount in
+    record {
+      number = i.number;
+      calls = i.calls;
+      pool = i.pool;
+      most = i.most;
+      gone = i.gone;
+      out = c.audit.ensures.total ∙ i.out;
+      home = omega arith;
+      spare = omega arith;
+    }
