@@ -1,2 +1,3 @@
 pub mod WhatIsSeen
+pub mod Receipts
 pub mod Starts

@@ -1,3 +1,5 @@
 pub mod Seats
 pub mod Locked
 pub mod Tickets
+pub mod Closed
+pub mod Settle

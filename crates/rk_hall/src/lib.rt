@@ -17,6 +17,10 @@
 //! only by [`Halls::launched`], and a `Running` only by [`Halls::ended`]. Under each lock there are as many constructions as tokens that are out and strays,
 //! and the steps are as many as the turns of all seats, those that were given back counted too.
 //!
+//! *Receipts.* When all is over, [`settle`] compares the records with the seats and with the receipts that came of them: it answers `Ok` exactly where the
+//! turns of the seats are all steps, and every receipt stands in the record of its hall, by rising number. Else it names what is missed, or the first
+//! receipt at fault.
+//!
 //! A seat, a token or a volume works only with the `Halls` that made it, by its type. Not promised: that a lock is ever got, that a waiter wakes, and
 //! any order between threads beyond the numbers.
 //!
@@ -28,12 +32,16 @@
 //!
 //! `names` and `fresh` have the ledgers of a `Halls`. `part` is a seat's part in one hall, `ticket` the right to say what becomes of one construction:
 //! each has a share of a ledger. `opening` makes a hall without a step. `locked` is what is under the lock of a hall, with the whole contract of each
-//! call, `lock` takes the lock, and `halls` chooses the hall. `seat` and `token` have what callers hold, `volume` a volume that was handed out, `lapse` why there is no receipt.
+//! call, `lock` takes the lock, and `halls` chooses the hall. `seat` and `token` have what callers hold, `volume` a volume that was handed out, `lapse`
+//! why there is no receipt. `closed` is a hall that was taken out of its lock, `genuine` looks for receipts in it, and `settling` puts the four together.
 //!
-//! In `specs/`, `Seats` says what a call does to a seat, `Locked` what the lock keeps and what a call does under it, `Tickets` of which hall a ticket is.
+//! In `specs/`, `Seats` says what a call does to a seat, `Locked` what the lock keeps and what a call does under it, `Tickets` of which hall a ticket is,
+//! `Closed` what is known of a hall without its lock, `Settle` what a settlement answers.
 #![tactic(auto)]
 
+mod closed;
 mod fresh;
+mod genuine;
 mod halls;
 mod lapse;
 mod lock;
@@ -42,6 +50,7 @@ mod names;
 mod opening;
 mod part;
 mod seat;
+mod settling;
 mod ticket;
 mod token;
 mod volume;
@@ -52,5 +61,6 @@ pub use lapse::{CallFault, Lapse, Owed};
 pub use names::{Calls, Names, Out};
 pub use rk_record::{Hall, HallFault, HallNo, Receipt, Recorded, Rejoin, Told, rejoin};
 pub use seat::Seat;
+pub use settling::{SettleFault, Total, settle};
 pub use token::{Launch, Running};
 pub use volume::Volume;

@@ -6,6 +6,7 @@ ghost use Rattle.rk_record.specs.Copies.{told_of, started};
 ghost use Rattle.rk_record.specs.declared.hall_no.HallNo.{HallNo};
 ghost use Rattle.rk_hall.specs.Seats.{no_calls, after_call, IsCall, CallRefused, runs_on, without_client, IsOutcomeOrNone, OwedPart};
 
+use crate::closed::Closed;
 use crate::fresh::Ledgers;
 use crate::lapse::{CallFault, Lapse, Owed};
 use crate::locked::{Begun, Locked};
@@ -172,5 +173,13 @@ impl<N: Names, const H: u64> Lock<N, H> {
         ensures { IfOk result (λ v. hall_number v.hall ≡ H) }
     {
         self.locked.lock(rt).roll()
+    }
+
+    /// The hall, out of its lock.
+    pub(crate) fn close(self) -> Closed<N, H>
+        ensures { result.live ≡ 0 }
+    {
+        let Lock { locked, moved: _ } = self;
+        Closed::of(locked.into_inner())
     }
 }

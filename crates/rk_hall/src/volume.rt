@@ -1,9 +1,9 @@
 //! A volume of a record, of one `Halls`.
-ghost use Rattle.std.specs.Prelude.{◌≡◌};
+ghost use Rattle.std.specs.Prelude.{◌≡◌, ◌↔◌, IsTrue};
 ghost use Rattle.rk_record.specs.Record.{Runs};
 
 use crate::names::Names;
-use rk_record::{HallNo, Recorded};
+use rk_record::{HallNo, Receipt, Recorded};
 use std::marker::{Model, PhantomData};
 
 /// A volume of a hall's record, handed out. It works only with the `Halls` that made it.
@@ -51,5 +51,12 @@ impl<N: Names> Volume<N> {
         ensures run { Runs self.now.opening self.now.steps self.now.closing }
     {
         self.volume.steps()
+    }
+
+    /// Whether it is the one that a receipt names.
+    pub(crate) fn is_named_by(&self, receipt: &Receipt) -> bool
+        ensures { IsTrue result ↔ ((self.now.hall ≡ receipt.now.hall) × (self.now.index ≡ receipt.now.volume)) }
+    {
+        self.hall() == receipt.hall() && self.index() == receipt.volume()
     }
 }

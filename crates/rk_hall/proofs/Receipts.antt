@@ -1,0 +1,229 @@
+-- Receipts and volumes that are looked at one by one.
+use Rattle.std.proofs.Common.{◌≡◌, ◌⊎◌, inl, inr, ⊎_elim, ℕ, ◌+◌, ◌<◌, ◌≤◌, List, length, get_or, refl, sym, ap, subst, ◌∙◌, arith}
+use Rattle.std.specs.Prelude.{slice_get, Option, Some, None, MatchOption, Err}
+use Rattle.std.proofs.lemmas.Bool.{cases_lt}
+use Rattle.std.proofs.lemmas.Option.{slice_get_read, slice_get_within}
+use Rattle.rk_record.specs.Record.{HallShown}
+use Rattle.rk_record.specs.Turns.{Noted}
+use Rattle.rk_record.specs.Volumes.{VolumeShown}
+use Rattle.rk_record.specs.declared.hall_no.HallNo.TheVariants.{Zero, One, Two, Three}
+use Rattle.rk_hall.specs.declared.settling.SettleFault.{SettleFault}
+use Rattle.rk_hall.specs.declared.settling.SettleFault.TheVariants.{Uneven, Missing, Forged}
+use Rattle.rk_record.specs.declared.hall_no.HallNo.{HallNo}
+use Rattle.rk_hall.specs.Seats.{SeatShown}
+use Rattle.rk_hall.specs.Closed.{FourShown, closed_of, turns_of, with_seats}
+use Rattle.rk_hall.specs.Settle.{StandsIn, IsHandedIn, Stands, IsGenuine, AreGenuine, FirstAtFault, HasFault, AreGenuineBelow, HasFirstFault, total_of, IsEven, Settles}
+
+-- an item of a loop is that of its place
+pub at_place : {A : Type 0} (xs : List A) (i : ℕ) (x : A) → i < length xs → x ≡ get_or xs i x → slice_get xs i ≡ Some x
+at_place xs i x lt is = slice_get_read xs (length xs) i x refl lt is
+
+-- two items of one place
+pub same_item : {A : Type 0} (xs : List A) (i : ℕ) (x y : A) → slice_get xs i ≡ Some x → slice_get xs i ≡ Some y → x ≡ y
+same_item xs i x y a b = cc
+
+pub same_here : {A : Type 0} (xs : List A) (k i : ℕ) (x y : A) → k ≡ i → slice_get xs k ≡ Some x → slice_get xs i ≡ Some y → x ≡ y
+same_here xs k i x y e a b = same_item xs i x y (subst (λ (n : ℕ). slice_get xs n ≡ Some x) e a) b
+
+-- below the next place: below this one, or here
+pub here_or_before : (k i : ℕ) → k < i + 1 → (k < i) ⊎ (k ≡ i)
+here_or_before k i lt = ⊎_elim (λ (l : k < i). inl l) (λ (g : i ≤ k). inr (omega arith)) (cases_lt k i)
+
+-- ---- receipts
+
+-- the receipts of a hall before a place are genuine, and this is the greatest of their numbers
+pub record AreHeard (h : HallShown) (volumes : List VolumeShown) (receipts : List Noted) (place last : ℕ) : Type 0 where
+  pub genuine : AreGenuine h volumes receipts place
+  pub above : (k : ℕ) (s : Noted) → k < place → slice_get receipts k ≡ Some s → s.hall ≡ h.no → s.number ≤ last
+  pub reached : 0 < last → (k : ℕ) × (s : Noted) × (k < place) × (slice_get receipts k ≡ Some s) × (s.hall ≡ h.no) × (s.number ≡ last)
+
+pub heard_none : (h : HallShown) (volumes : List VolumeShown) (receipts : List Noted) → AreHeard h volumes receipts 0 0
+heard_none h volumes receipts = record {
+  genuine = λ k s lt at hall. absurd (omega (arith, lt));
+  above = λ k s lt at hall. absurd (omega (arith, lt));
+  reached = λ lt. absurd (omega (arith, lt));
+}
+
+-- a receipt of another hall
+pub heard_other : (h : HallShown) (volumes : List VolumeShown) (receipts : List Noted) (i last : ℕ) (r : Noted)
+    → AreHeard h volumes receipts i last → slice_get receipts i ≡ Some r → (r.hall ≡ h.no → ⊥) → AreHeard h volumes receipts (i + 1) last
+heard_other h volumes receipts i last r heard at other = record {
+  genuine = λ k s lt found hall.
+      ⊎_elim (λ (b : k < i). heard.genuine k s b found hall)
+      (λ (e : k ≡ i). absurd (other (subst (λ (x : Noted). x.hall ≡ h.no) (same_here receipts k i s r e found at) hall)))
+      (here_or_before k i lt);
+  above = λ k s lt found hall.
+      ⊎_elim (λ (b : k < i). heard.above k s b found hall)
+      (λ (e : k ≡ i). absurd (other (subst (λ (x : Noted). x.hall ≡ h.no) (same_here receipts k i s r e found at) hall)))
+      (here_or_before k i lt);
+  reached = λ lt. let w = heard.reached lt in (w.0, w.1, omega (arith, w.2), w.3, w.4, w.5);
+}
+
+-- a genuine receipt of the hall
+pub heard_more : (h : HallShown) (volumes : List VolumeShown) (receipts : List Noted) (i last : ℕ) (r : Noted)
+    → AreHeard h volumes receipts i last → slice_get receipts i ≡ Some r → r.hall ≡ h.no → last < r.number → Stands h volumes r
+    → AreHeard h volumes receipts (i + 1) r.number
+heard_more h volumes receipts i last r heard at hall rises stands =
+    let here : IsGenuine h volumes receipts i r = record {
+      rises = λ k s lt found same. let le = heard.above k s lt found (same ∙ hall) in omega (arith, le, rises);
+      stands = stands;
+    } in
+    record {
+      genuine = λ k s lt found is.
+          ⊎_elim (λ (b : k < i). heard.genuine k s b found is)
+          (λ (e : k ≡ i).
+          let same = sym (same_here receipts k i s r e found at) in
+          subst (λ (x : Noted). IsGenuine h volumes receipts k x) same (subst (λ (n : ℕ). IsGenuine h volumes receipts n r) (sym e) here))
+          (here_or_before k i lt);
+      above = λ k s lt found is.
+          ⊎_elim (λ (b : k < i). let le = heard.above k s b found is in let most : s.number ≤ r.number = omega (arith, le, rises) in most)
+          (λ (e : k ≡ i).
+          let same = sym (same_here receipts k i s r e found at) in
+          subst (λ (x : Noted). x.number ≤ r.number) same (omega arith))
+          (here_or_before k i lt);
+      reached = λ lt. (i, r, omega arith, at, hall, refl);
+    }
+
+-- what stands has a number
+numbered : (h : HallShown) (volumes : List VolumeShown) (r : Noted) → Stands h volumes r → 0 < r.number
+numbered h volumes r (inl here) = let e = here.1.number in omega (arith, e)
+numbered h volumes r (inr there) = let e = there.2.number in omega (arith, e)
+
+-- the first that is not genuine
+pub at_fault : (h : HallShown) (volumes : List VolumeShown) (receipts : List Noted) (i last : ℕ) (r : Noted)
+    → AreHeard h volumes receipts i last → slice_get receipts i ≡ Some r → r.hall ≡ h.no → (last < r.number → Stands h volumes r → ⊥)
+    → FirstAtFault h volumes receipts r
+at_fault h volumes receipts i last r heard at hall unlike =
+    let above : IsGenuine h volumes receipts i r → last < r.number =
+    λ g. ⊎_elim
+    (λ (some : 0 < last).
+    let w = heard.reached some in
+    let lt = g.rises w.0 w.1 w.2 w.3 (w.4 ∙ sym hall) in
+    let e = w.5 in let more : last < r.number = omega (arith, lt, e) in more)
+    (λ (none : last ≤ 0). let lt = numbered h volumes r g.stands in omega (arith, lt, none))
+    (cases_lt 0 last) in
+    record { place = i; found = at; hall = hall; first = heard.genuine; fault = λ g. unlike (above g) g.stands }
+
+-- past the last one all are genuine
+pub genuine_end : (h : HallShown) (volumes : List VolumeShown) (receipts : List Noted) (i last : ℕ)
+    → AreHeard h volumes receipts i last → length receipts ≤ i → AreGenuine h volumes receipts (length receipts)
+genuine_end h volumes receipts i last heard le k s lt found hall = heard.genuine k s (omega (arith, lt, le)) found hall
+
+-- ---- hall by hall
+
+pub below_none : (k : FourShown) (volumes : List VolumeShown) (receipts : List Noted) → AreGenuineBelow k volumes receipts 0
+below_none k volumes receipts hall lt = absurd (omega (arith, lt))
+
+pub below_one : (k : FourShown) (volumes : List VolumeShown) (receipts : List Noted) → AreGenuine k.zero.hall volumes receipts (length receipts)
+    → AreGenuineBelow k volumes receipts 1
+below_one k volumes receipts in_zero Zero lt = in_zero
+below_one k volumes receipts in_zero One lt = absurd (omega (arith, lt))
+below_one k volumes receipts in_zero Two lt = absurd (omega (arith, lt))
+below_one k volumes receipts in_zero Three lt = absurd (omega (arith, lt))
+
+pub below_two : (k : FourShown) (volumes : List VolumeShown) (receipts : List Noted) → AreGenuine k.zero.hall volumes receipts (length receipts)
+    → AreGenuine k.one.hall volumes receipts (length receipts) → AreGenuineBelow k volumes receipts 2
+below_two k volumes receipts in_zero in_one Zero lt = in_zero
+below_two k volumes receipts in_zero in_one One lt = in_one
+below_two k volumes receipts in_zero in_one Two lt = absurd (omega (arith, lt))
+below_two k volumes receipts in_zero in_one Three lt = absurd (omega (arith, lt))
+
+pub below_three : (k : FourShown) (volumes : List VolumeShown) (receipts : List Noted) → AreGenuine k.zero.hall volumes receipts (length receipts)
+    → AreGenuine k.one.hall volumes receipts (length receipts) → AreGenuine k.two.hall volumes receipts (length receipts)
+    → AreGenuineBelow k volumes receipts 3
+below_three k volumes receipts in_zero in_one in_two Zero lt = in_zero
+below_three k volumes receipts in_zero in_one in_two One lt = in_one
+below_three k volumes receipts in_zero in_one in_two Two lt = in_two
+below_three k volumes receipts in_zero in_one in_two Three lt = absurd (omega (arith, lt))
+
+-- what is found in hall 3, where the halls below it have no fault
+pub found_last : (k : FourShown) (volumes : List VolumeShown) (receipts : List Noted) (found : Option SettleFault)
+    → AreGenuine k.zero.hall volumes receipts (length receipts) → AreGenuine k.one.hall volumes receipts (length receipts)
+    → AreGenuine k.two.hall volumes receipts (length receipts)
+    → MatchOption found (AreGenuine k.three.hall volumes receipts (length receipts)) (λ fault. HasFault k.three.hall volumes receipts fault)
+    → MatchOption found (AreGenuineBelow k volumes receipts 4) (λ fault. HasFirstFault k volumes receipts fault)
+found_last k volumes receipts (Some fault) in_zero in_one in_two in_three = (Three, below_three k volumes receipts in_zero in_one in_two, in_three)
+found_last k volumes receipts None in_zero in_one in_two in_three = all_four
+  where
+    all_four : AreGenuineBelow k volumes receipts 4
+    all_four Zero lt = in_zero
+    all_four One lt = in_one
+    all_four Two lt = in_two
+    all_four Three lt = in_three
+
+-- what is said of one hall is said of another that is the same
+pub genuine_there : (h h' : HallShown) (volumes : List VolumeShown) (receipts : List Noted) → h ≡ h' → AreGenuine h volumes receipts (length receipts)
+    → AreGenuine h' volumes receipts (length receipts)
+genuine_there h h' volumes receipts is all = subst (λ (x : HallShown). AreGenuine x volumes receipts (length receipts)) is all
+
+pub fault_there : (h h' : HallShown) (volumes : List VolumeShown) (receipts : List Noted) (fault : SettleFault) → h ≡ h'
+    → HasFault h volumes receipts fault → HasFault h' volumes receipts fault
+fault_there h h' volumes receipts fault is has = subst (λ (x : HallShown). HasFault x volumes receipts fault) is has
+
+pub found_there : (h h' : HallShown) (volumes : List VolumeShown) (receipts : List Noted) (found : Option SettleFault) → h ≡ h'
+    → MatchOption found (AreGenuine h volumes receipts (length receipts)) (λ fault. HasFault h volumes receipts fault)
+    → MatchOption found (AreGenuine h' volumes receipts (length receipts)) (λ fault. HasFault h' volumes receipts fault)
+found_there h h' volumes receipts found is what =
+    subst (λ (x : HallShown). MatchOption found (AreGenuine x volumes receipts (length receipts)) (λ fault. HasFault x volumes receipts fault)) is what
+
+-- a fault of a receipt is one of two kinds
+pub settles_fault : (k : FourShown) (volumes : List VolumeShown) (receipts : List Noted) (fault : SettleFault) → IsEven (total_of k)
+    → HasFirstFault k volumes receipts fault → Settles k volumes receipts (Err fault)
+settles_fault k volumes receipts (Uneven steps held) even found = absurd found.2.2
+settles_fault k volumes receipts (Missing hall volume) even found = (even, found)
+settles_fault k volumes receipts (Forged hall number) even found = (even, found)
+
+-- ---- seats
+
+-- halls to which no turn was handed in have those of the seats
+pub turns_in : (k k' : FourShown) (seats : List SeatShown) → k' ≡ with_seats k seats
+    → (k.zero.live ≡ 0) × (k.one.live ≡ 0) × (k.two.live ≡ 0) × (k.three.live ≡ 0)
+    → (hall : HallNo) → (closed_of hall k').live ≡ turns_of hall seats
+turns_in k k' seats is none Zero = let e = ap (λ (x : FourShown). x.zero.live) is in let n = none.0 in omega (arith, e, n)
+turns_in k k' seats is none One = let e = ap (λ (x : FourShown). x.one.live) is in let n = none.1 in omega (arith, e, n)
+turns_in k k' seats is none Two = let e = ap (λ (x : FourShown). x.two.live) is in let n = none.2 in omega (arith, e, n)
+turns_in k k' seats is none Three = let e = ap (λ (x : FourShown). x.three.live) is in let n = none.3 in omega (arith, e, n)
+
+-- ---- volumes
+
+-- no volume before a place is named by the receipt
+abbrev pub NoneNamed : List VolumeShown → Noted → ℕ → Type 0
+NoneNamed volumes r i = (v : VolumeShown) (m : IsHandedIn volumes r v) → m.place < i → ⊥
+
+pub one_named : (volumes : List VolumeShown) (r : Noted) (i : ℕ) (v : VolumeShown) → slice_get volumes i ≡ Some v
+    → (v.hall ≡ r.hall) × (v.index ≡ r.volume) → IsHandedIn volumes r v
+one_named volumes r i v at named = record { place = i; found = at; hall = named.0; index = named.1 }
+
+-- a volume before the next place that is not the one here is before this place
+handed_in_before : (P : VolumeShown → Type 0) (volumes : List VolumeShown) (r : Noted) (i : ℕ) (v : VolumeShown) → slice_get volumes i ≡ Some v
+    → ((v.hall ≡ r.hall) × (v.index ≡ r.volume) → P v → ⊥) → (u : VolumeShown) (m : IsHandedIn volumes r u) → m.place < i + 1
+    → P u → m.place < i
+handed_in_before P volumes r i v at other u m lt holds =
+    ⊎_elim (λ (b : m.place < i). b)
+    (λ (e : m.place ≡ i).
+    let same = same_here volumes m.place i u v e m.found at in
+    absurd (other (subst (λ (x : VolumeShown). (x.hall ≡ r.hall) × (x.index ≡ r.volume)) same (m.hall, m.index)) (subst P same holds)))
+    (here_or_before m.place i lt)
+
+pub none_named_more : (volumes : List VolumeShown) (r : Noted) (i : ℕ) (v : VolumeShown) → NoneNamed volumes r i → slice_get volumes i ≡ Some v
+    → ((v.hall ≡ r.hall) × (v.index ≡ r.volume) → ⊥) → NoneNamed volumes r (i + 1)
+none_named_more volumes r i v none at other u m lt =
+    none u m (handed_in_before (λ x. Unit {0}) volumes r i v at (λ n t. other n) u m lt tt)
+
+pub none_named_end : (volumes : List VolumeShown) (r : Noted) (i : ℕ) → NoneNamed volumes r i → length volumes ≤ i
+    → (v : VolumeShown) × IsHandedIn volumes r v → ⊥
+none_named_end volumes r i none le w = let lt = slice_get_within volumes w.1.place w.0 w.1.found in none w.0 w.1 (omega (arith, lt, le))
+
+-- the receipt stands in no volume before a place
+abbrev pub StandsInNone : List VolumeShown → Noted → ℕ → Type 0
+StandsInNone volumes r i = (v : VolumeShown) (m : IsHandedIn volumes r v) → m.place < i → StandsIn v.before v.steps r → ⊥
+
+pub stands_in_none_more : (volumes : List VolumeShown) (r : Noted) (i : ℕ) (v : VolumeShown) → StandsInNone volumes r i → slice_get volumes i ≡ Some v
+    → (((v.hall ≡ r.hall) × (v.index ≡ r.volume)) × StandsIn v.before v.steps r → ⊥) → StandsInNone volumes r (i + 1)
+stands_in_none_more volumes r i v none at other u m lt stands =
+    none u m (handed_in_before (λ x. StandsIn x.before x.steps r) volumes r i v at (λ n t. other (n, t)) u m lt stands) stands
+
+pub stands_in_none_end : (volumes : List VolumeShown) (r : Noted) (i : ℕ) → StandsInNone volumes r i → length volumes ≤ i
+    → (v : VolumeShown) × IsHandedIn volumes r v × StandsIn v.before v.steps r → ⊥
+stands_in_none_end volumes r i none le w =
+    let lt = slice_get_within volumes w.1.place w.0 w.1.found in none w.0 w.1 (omega (arith, lt, le)) w.2

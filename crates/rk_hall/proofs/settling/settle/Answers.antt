@@ -1,0 +1,10 @@
+use Rattle.rk_hall.proofs.Receipts.{turns_in}
+use Rattle.rk_hall.proofs.settling.settle.Goals as goal
+
+pub returns : goal.returns
+returns g c = record {
+  halls = c.take_in.new.self;
+  sound = c.settle-settled.ensures.sound;
+  turns = turns_in c.of-closed.result c.take_in.new.self c.args.seats.items c.take_in.ensures c.of-closed.ensures;
+  settles = c.settle-settled.ensures.settles;
+}

@@ -1,0 +1,112 @@
+//! Whether seats and receipts agree with the records, when all is over.
+ghost use Rattle.std.specs.Prelude.{◌≡◌, ◌+◌, ◌≤◌, ◌^◌, MatchOption};
+ghost use Rattle.rk_hall.specs.Settle.{total_of, AreGenuineBelow, HasFirstFault, AreSound, Settles, SettlesSome};
+
+use crate::closed::AllClosed;
+use crate::genuine::first_fault;
+use crate::halls::Halls;
+use crate::names::Names;
+use crate::seat::Seat;
+use crate::volume::Volume;
+use rk_record::{HallNo, Receipt};
+
+/// The sums of the four records.
+#[derive(Clone, Copy, PartialEq, Eq, Debug)]
+pub struct Total {
+    /// The steps, of all volumes.
+    pub steps: u64,
+    /// The turns of the seats that were handed in.
+    pub live: u64,
+    /// The turns of the seats that were given back before.
+    pub retired: u64,
+    /// The tokens that were spent though nothing was owed.
+    pub strays: u64,
+}
+
+/// Why a settlement fails.
+#[derive(Clone, Copy, PartialEq, Eq, Debug)]
+pub enum SettleFault {
+    /// There are so many steps, and the seats that were handed in or given back made only `held` turns: a seat is missed.
+    Uneven { steps: u64, held: u64 },
+    /// The first receipt at fault is of a volume that is neither the one that its hall records nor handed in.
+    Missing { hall: HallNo, volume: u64 },
+    /// The first receipt at fault has this number: it is not above those of its hall that come before it, or no step of its volume has its number,
+    /// moment, event and answer.
+    Forged { hall: HallNo, number: u64 },
+}
+
+/// Compares the records of four halls with the seats that made them and with the receipts that came of them. It takes no memory, and ends the
+/// halls either way.
+///
+/// [`SettleFault::Uneven`] comes exactly where the turns of the seats that are handed in, and of those that were given back, are not all steps of the
+/// four halls. Else hall by hall, from hall 0 on, the first receipt is sought that is not numbered above those of its hall before it, or that does
+/// not stand in its volume with its moment, event and answer: [`SettleFault::Missing`] where its volume is neither the one that the hall records nor
+/// among those that are handed in, or else [`SettleFault::Forged`]. Receipts of several halls may come in any order among one another.
+pub fn settle<N: Names>(
+    halls: Halls<N>,
+    volumes: &[Volume<N>],
+    seats: Vec<Seat<N>>,
+    receipts: &[Receipt],
+) -> Result<Total, SettleFault>
+    ensures { SettlesSome volumes.now seats.items receipts.now result }
+{
+    let mut closed = AllClosed::of(halls);
+    closed.take_in(seats);
+    let settled = closed.settle(volumes, receipts);
+    drop(closed);
+    settled
+}
+
+impl<N: Names> AllClosed<N> {
+    fn settle(&self, volumes: &[Volume<N>], receipts: &[Receipt]) -> Result<Total, SettleFault>
+        ensures sound { AreSound self.now }
+        ensures settles { Settles self.now volumes.now receipts.now result }
+    {
+        let total = self.total();
+        let held = total.live + total.retired;
+        if total.steps != held {
+            return Err(SettleFault::Uneven {
+                steps: total.steps,
+                held,
+            });
+        }
+        match self.first_fault(volumes, receipts) {
+            Some(fault) => Err(fault),
+            None => Ok(total),
+        }
+    }
+
+    /// The sums of the four records.
+    fn total(&self) -> Total
+        ensures sums { result ≡ total_of self.now }
+        ensures most { result.live + result.retired ≤ 2 ^ 63 }
+        ensures sound { AreSound self.now }
+    {
+        Total {
+            steps: self.zero.steps() + self.one.steps() + self.two.steps() + self.three.steps(),
+            live: self.zero.live + self.one.live + self.two.live + self.three.live,
+            retired: self.zero.retired + self.one.retired + self.two.retired + self.three.retired,
+            strays: self.zero.strays + self.one.strays + self.two.strays + self.three.strays,
+        }
+    }
+
+    /// The first fault of a receipt, hall by hall.
+    fn first_fault(&self, volumes: &[Volume<N>], receipts: &[Receipt]) -> Option<SettleFault>
+        ensures { MatchOption result (AreGenuineBelow self.now volumes.now receipts.now 4)
+            (λ fault. HasFirstFault self.now volumes.now receipts.now fault) }
+    {
+        match first_fault(self.hall(HallNo::Zero), volumes, receipts) {
+            Some(fault) => return Some(fault),
+            None => {}
+        }
+        match first_fault(self.hall(HallNo::One), volumes, receipts) {
+            Some(fault) => return Some(fault),
+            None => {}
+        }
+        match first_fault(self.hall(HallNo::Two), volumes, receipts) {
+            Some(fault) => return Some(fault),
+            None => {}
+        }
+        first_fault(self.hall(HallNo::Three), volumes, receipts)
+    }
+}
