@@ -1,5 +1,5 @@
 -- What the words of a call ask for.
-use Rattle.std.specs.Prelude.{◌≡◌, ℕ, List, ◌∷◌, ◌++◌, Bool, ◌||◌, codes, Some, ◌⊎◌}
+use Rattle.std.specs.Prelude.{◌≡◌, ℕ, List, ◌∷◌, ◌++◌, take, Bool, ◌||◌, codes, Some, ◌⊎◌}
 use Rattle.std.specs.Str.{bytes_eq}
 use Rattle.std.specs.List.{list_any}
 use Rattle.rk_message.specs.declared.ask.Ask.{Ask}
@@ -20,6 +20,14 @@ is_help word = bytes_eq word (codes "--help") || bytes_eq word (codes "-h") || b
 -- such a word is among the words
 abbrev pub asks_help : List (List ℕ) → Bool
 asks_help words = list_any is_help words
+
+-- a word that begins as the option of the socket does
+abbrev pub is_socket : List ℕ → Bool
+is_socket word = bytes_eq (take 8 word) (codes "--socket")
+
+-- such a word is among the words
+abbrev pub names_socket : List (List ℕ) → Bool
+names_socket words = list_any is_socket words
 
 -- the arguments, or the arguments and among them the bytes of a file
 abbrev pub HoldsAll : List (List ℕ) → List (List ℕ) → Type 0

@@ -11,7 +11,7 @@ use Rattle.rk_message.specs.Asks.{ask_op}
 use Rattle.reqkeyctl.specs.declared.call.Options.{Options}
 use Rattle.rk_client.specs.Peer.{HasAsked, HasGreeted, is_refusal}
 use Rattle.rk_client.specs.Printed.{printed}
-use Rattle.reqkeyctl.specs.Calls.{asks_help, CallsFor}
+use Rattle.reqkeyctl.specs.Calls.{asks_help, names_socket, CallsFor}
 
 -- it wrote a text, whatever it says: what was written, before and after
 abbrev pub HasTold : Option (List ℕ) → Option (List ℕ) → Type 0
@@ -22,8 +22,8 @@ pub data HasDone (words : List (List ℕ)) (unread unread' written written' told
   explained : asks_help words ≡ true → HasTold written written' → HasDone words unread unread' written written' told told'
   asked_as_handler : (ask : Ask) (reply : Reply) (raw : Bool) → CallsFor words ask → HasAsked written written' unread unread' ask reply
       → is_refusal reply ≡ false → Appends told told' (printed raw reply) → HasDone words unread unread' written written' told told'
-  asked_as_client : (ask : Ask) (reply : Reply) (raw : Bool) → CallsFor words ask → is_refusal reply ≡ false → Appends written written' (printed raw reply)
-      → HasDone words unread unread' written written' told told'
+  asked_as_client : (ask : Ask) (reply : Reply) (raw : Bool) → names_socket words ≡ true → CallsFor words ask → is_refusal reply ≡ false
+      → Appends written written' (printed raw reply) → HasDone words unread unread' written written' told told'
 
 -- who acts with these options: no ring of its own, and 0 for what is not given
 abbrev pub greeting_of : Options → Ask

@@ -1,6 +1,6 @@
 //! The words of a call: options, an op and its arguments.
-ghost use Rattle.std.specs.Prelude.{◌≡◌, ◌≤◌, IfSome, map, string_bytes};
-ghost use Rattle.reqkeyctl.specs.Calls.{EndsIn};
+ghost use Rattle.std.specs.Prelude.{◌≡◌, ◌≤◌, ◌⊎◌, IfSome, IsSome, None, true, map, codes, string_bytes};
+ghost use Rattle.reqkeyctl.specs.Calls.{EndsIn, names_socket};
 
 use rk_client::{number, op_named};
 use rk_message::Op;
@@ -39,7 +39,8 @@ impl<'a> Call<'a> {
     /// The call that the words say, of which the first is the name of the program; `None` where they say none. Options come first, each at most
     /// once, as `--uid 5` or `--uid=5`; all words behind the op are its arguments, whatever they look like.
     pub fn read(words: &'a [String]) -> Option<Call<'a>>
-        ensures { IfSome result (λ call. EndsIn (map string_bytes words.now) call.op (map string_bytes call.arguments.now)) }
+        ensures ends { IfSome result (λ call. EndsIn (map string_bytes words.now) call.op (map string_bytes call.arguments.now)) }
+        ensures socket { IfSome result (λ call. IsSome call.options.socket → names_socket (map string_bytes words.now) ≡ true) }
     {
         let (_program, words) = words.split_first()?;
         read_behind(words, Options::none())
@@ -48,7 +49,9 @@ impl<'a> Call<'a> {
 
 /// The call of the words, behind options that were read.
 fn read_behind<'a>(words: &'a [String], options: Options<'a>) -> Option<Call<'a>>
-    ensures { IfSome result (λ call. EndsIn (map string_bytes words.now) call.op (map string_bytes call.arguments.now)) }
+    ensures ends { IfSome result (λ call. EndsIn (map string_bytes words.now) call.op (map string_bytes call.arguments.now)) }
+    ensures socket { IfSome result (λ call. IsSome call.options.socket
+        → IsSome options.entry.socket ⊎ (names_socket (map string_bytes words.now) ≡ true)) }
 {
     let (word, rest) = words.split_first()?;
     if let Some(op) = op_named(word.as_str()) {
@@ -70,7 +73,9 @@ fn read_behind<'a>(words: &'a [String], options: Options<'a>) -> Option<Call<'a>
 
 impl<'a> Options<'a> {
     /// No option.
-    fn none() -> Options<'a> {
+    fn none() -> Options<'a>
+        ensures { result.socket ≡ None }
+    {
         Options {
             socket: None,
             uid: None,
@@ -83,7 +88,9 @@ impl<'a> Options<'a> {
     }
 
     /// `--raw` too; `None` where it was there.
-    fn with_raw(self) -> Option<Options<'a>> {
+    fn with_raw(self) -> Option<Options<'a>>
+        ensures { IfSome result (λ o. o.socket ≡ self.entry.socket) }
+    {
         if self.raw {
             return None;
         }
@@ -91,7 +98,9 @@ impl<'a> Options<'a> {
     }
 
     /// The option of this name too; `None` where there is no such option, it was there, or its value is not allowed.
-    fn with(self, name: &str, value: &'a str) -> Option<Options<'a>> {
+    fn with(self, name: &str, value: &'a str) -> Option<Options<'a>>
+        ensures { IfSome result (λ o. IsSome o.socket → IsSome self.entry.socket ⊎ (name.now ≡ codes "--socket")) }
+    {
         let mut options = self;
         match name {
             "--socket" => options.socket = once(self.socket, value)?,

@@ -1,11 +1,11 @@
 -- A reply's frame at the front of what is left to read, and what shows that there is none.
-use Rattle.std.proofs.Common.{◌≡◌, ℕ, suc, ◌+◌, ◌^◌, ◌<◌, ◌≤◌, List, [], ◌∷◌, ◌++◌, length, take, drop, refl, sym, ap, subst, ◌∙◌, append_assoc, arith, ◌⊎◌, inl, inr}
+use Rattle.std.proofs.Common.{◌≡◌, ℕ, ◌^◌, ◌<◌, List, ◌++◌, length, take, refl, sym, ap, ◌∙◌, append_assoc, arith, ◌⊎◌, inl, inr}
 use Rattle.std.proofs.Common.{Option, Some, None, IfSome}
 use Rattle.std.specs.Int.{w32, to_be_bytes, from_be_bytes}
 use Rattle.std.specs.Io.KnownBytes.{Consumes}
 use Rattle.std.proofs.lemmas.List.{take_at, drop_at}
 use Rattle.std.proofs.lemmas.Nat.{from_be_bytes-to_be_bytes_4}
-use Rattle.rk_frame.specs.Framing.{IsBody, frame, HasNoFrame}
+use Rattle.rk_frame.specs.Framing.{IsBody, HasNoFrame}
 use Rattle.rk_frame.proofs.Lengths.{front_len, shows, none_empty, none_long}
 use Rattle.rk_message.specs.declared.reply.Reply.{Reply}
 use Rattle.rk_message.specs.Wire.{spelling}

@@ -1,4 +1,4 @@
-use Rattle.std.proofs.Common.{◌≢◌, length, rules, arith}
+use Rattle.std.proofs.Common.{◌≢◌, length, rules}
 use Rattle.rk_client.proofs.Arguments.{no_request}
 use Rattle.rk_client.proofs.asking.request.Goals as goal
 

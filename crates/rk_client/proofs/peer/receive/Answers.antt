@@ -1,4 +1,4 @@
-use Rattle.std.proofs.Common.{◌≡◌, ◌<◌, ◌^◌, ◌⊎◌, length, vec_len, arith, rules, inl, inr, sym, ◌∙◌}
+use Rattle.std.proofs.Common.{◌≡◌, ◌<◌, ◌^◌, ◌⊎◌, vec_len, arith, rules, inl, inr, ◌∙◌}
 use Rattle.rk_client.proofs.Frames.{no_length, no_body}
 use Rattle.rk_client.proofs.peer.receive.Goals as goal
 
