@@ -23,7 +23,13 @@ use std::sync::Wait;
 /// The greatest depth of a launch that is started.
 const MAX_DEPTH: u8 = 8;
 
-/// Brings a launch to its end: its command is started, served and waited for, and then the one that says that the key can't be made, where it is to follow.
+/// Brings a launch to its end: its command is started, served and waited for, and then, where the hall hands out the construction once more, the one that
+/// says that the key can't be made (request-key.conf(5), "negate").
+///
+/// Whatever fails, the launch and those of its handler's own starts are spent, and each child is handed back to the launcher. A launch that is deeper than
+/// 8 is ended as a start that failed, and so is one for which there is no command, or no memory for what its run needs; want of memory later is told to
+/// the handler as ENOMEM. What is told is how the child has ended that came back last, or that there was none. It may wait, for its children, for
+/// outcomes and for locks, and holds no lock while it calls a device, the gate or the shelf.
 #[cycle(driving)]
 pub fn drive<N: Names, R: Wait, L: Launcher, C: Clock, G: Gate, S: Shelf>(
     rt: &R,
