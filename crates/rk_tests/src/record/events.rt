@@ -1,12 +1,14 @@
-//! What happens to the halls of the tests.
+//! What happens to the halls of the tests, and tables of it.
 ghost use Rattle.std.specs.Prelude.{◌≤◌, IfOk};
 
+use crate::same::same;
 use rk_core::Limits;
-use rk_machine::{Answer, Event};
+use rk_machine::{Answer, Event, How, Ran};
 use rk_message::{Ask, Reply};
 use rk_names::{Callout, Description, Errno, Moment, Payload, Serial, SessionId, TypeName};
 use rk_record::{Hall, HallFault, HallNo, Receipt};
 use std::alloc::{AllocError, Global};
+use std::process::Abort;
 
 /// The client of the tests.
 pub const CLIENT: SessionId = SessionId::Client(1);
@@ -46,7 +48,7 @@ pub fn hello() -> Event {
 }
 
 /// The client adds the key of this name, with the payload `v`, to its session ring.
-pub fn add(alloc: Global, name: &[u8]) -> Result<Event, AllocError> {
+fn add(alloc: Global, name: &[u8]) -> Result<Event, AllocError> {
     Ok(Event::Asked(
         CLIENT,
         Ask::Add {
@@ -59,7 +61,7 @@ pub fn add(alloc: Global, name: &[u8]) -> Result<Event, AllocError> {
 }
 
 /// The client requests the key of this name, with the callout `x`.
-pub fn request(alloc: Global, name: &[u8]) -> Result<Event, AllocError> {
+fn request(alloc: Global, name: &[u8]) -> Result<Event, AllocError> {
     let callout = Callout::new(alloc, b"x").map_err(|_| AllocError)?;
     Ok(Event::Asked(
         CLIENT,
@@ -112,13 +114,59 @@ pub fn in_words(answer: &Answer) -> Said {
     }
 }
 
-/// What a turn at this second has said.
-pub fn turn(hall: &mut Hall, second: u64, event: Event) -> Said {
-    told(&hall.turn(Moment(second), event))
+/// The serial of this number.
+pub fn key(number: u32) -> Result<Serial, AllocError> {
+    Serial::new(number).ok_or(AllocError)
+}
+
+/// What happens, in a table.
+#[derive(Clone, Copy)]
+pub enum Happens {
+    Opened,
+    Hello,
+    Add(&'static [u8]),
+    Request(&'static [u8]),
+    Launched(u32, Ran),
+    /// The handler of this key has ended, and has put these bytes out.
+    Ended(u32, How, &'static [u8]),
+    Collect,
+    Gone,
+}
+
+/// The event of a table's line.
+fn event(alloc: Global, happens: Happens) -> Result<Event, AllocError> {
+    match happens {
+        Happens::Opened => Ok(Event::Opened(CLIENT)),
+        Happens::Hello => Ok(hello()),
+        Happens::Add(name) => add(alloc, name),
+        Happens::Request(name) => request(alloc, name),
+        Happens::Launched(number, ran) => Ok(Event::Launched(key(number)?, ran)),
+        Happens::Ended(number, how, bytes) => Ok(Event::Ended(
+            key(number)?,
+            how,
+            Some(payload(alloc, bytes)?),
+        )),
+        Happens::Collect => Ok(Event::Collect(CLIENT)),
+        Happens::Gone => Ok(Event::Gone(CLIENT)),
+    }
+}
+
+/// Plays a table: each line has its second, what happens, and what is said to it.
+pub fn play(
+    rt: &impl Abort,
+    alloc: Global,
+    hall: &mut Hall,
+    table: &[(u64, Happens, Said)],
+) -> Result<(), AllocError> {
+    for (second, happens, said) in table {
+        let event = event(alloc, *happens)?;
+        same(rt, told(hall.turn(Moment(*second), event)), *said);
+    }
+    Ok(())
 }
 
 /// What the receipt says, or why there is none.
-pub fn told(receipt: &Result<Receipt, HallFault>) -> Said {
+fn told(receipt: Result<Receipt, HallFault>) -> Said {
     match receipt {
         Ok(receipt) => in_words(receipt.answer()),
         Err(HallFault::Full) => Said::Full,

@@ -1,12 +1,12 @@
 //! The turns of one hall, and what their receipts say.
 use crate::record::events::{
-    CLIENT, Said, add, description, hall, hello, in_words, payload, request, turn, user,
+    CLIENT, Happens, Said, description, hall, hello, in_words, key, payload, play, user,
 };
 use crate::same::same;
 use rk_machine::{Event, How, Ran};
 use rk_names::{Errno, Moment, Serial, SessionId};
-use rk_record::{HallNo, Told};
-use std::alloc::AllocError;
+use rk_record::{Hall, HallNo, Receipt, Told};
+use std::alloc::{AllocError, Global};
 use std::process::Abort;
 use std::test::Fail;
 
@@ -31,99 +31,105 @@ fn halls_are_told_by_remainders(rt: HostRuntime) -> Result<(), Fail> {
     Ok(())
 }
 
+/// Up to the start of a piped handler.
+const BEGUN: &[(u64, Happens, Said)] = &[
+    (100, Happens::Opened, Said::Number(0)),
+    (100, Happens::Hello, Said::Rings(4, 8)),
+    (100, Happens::Add(b"b"), Said::Number(12)),
+    (100, Happens::Request(b"a"), Said::Start(16)),
+];
+
+/// From there to its end, and on.
+const ENDED: &[(u64, Happens, Said)] = &[
+    (101, Happens::Launched(16, Ran::Piped), Said::Number(0)),
+    (
+        102,
+        Happens::Ended(16, How::Exit(0), b"hi"),
+        Said::Number(0),
+    ),
+    (102, Happens::Collect, Said::Number(16)),
+    (102, Happens::Collect, Said::Refused(Errno::Einval)),
+    (103, Happens::Gone, Said::Number(0)),
+];
+
+/// What the hall tells of a client that waits for key 16, and of that key.
+fn tells_of_the_wait(rt: &impl Abort, alloc: Global, hall: &Hall) -> Result<(), AllocError> {
+    let key_16 = key(16)?;
+    same(
+        rt,
+        (hall.waits(&CLIENT), hall.ready(&CLIENT)),
+        (true, false),
+    );
+    same(
+        rt,
+        (hall.depth(key_16), hall.depth(key(12)?)),
+        (Some(1), None),
+    );
+    let (typ, description) = (user(alloc)?, description(alloc, b"b")?);
+    let found = hall.peek(key_16, &typ, &description, Moment(100));
+    same(rt, found == Some(b"v".as_slice()), true);
+    let end = Event::Ended(key_16, How::Exit(0), Some(payload(alloc, b"hi")?));
+    same(rt, hall.owes(&end), false);
+    Ok(())
+}
+
 /// A piped handler makes a key: each turn, and what the hall tells between them.
+fn makes_a_key(rt: &impl Abort, alloc: Global, hall: &mut Hall) -> Result<(), AllocError> {
+    play(rt, alloc, hall, BEGUN)?;
+    tells_of_the_wait(rt, alloc, hall)?;
+    play(rt, alloc, hall, ENDED)?;
+    same(rt, (hall.index(), hall.before(), hall.count()), (1, 0, 9));
+    same(rt, (hall.steps().len(), hall.no()), (9, HallNo::Zero));
+    Ok(())
+}
+
 #[test]
 fn a_piped_handler_makes_a_key(rt: HostRuntime) -> Result<(), Fail> {
-    let alloc = rt.alloc();
-    let mut hall = hall(alloc, 64)?;
-    let key = Serial::new(12).ok_or(AllocError)?;
+    let mut hall = hall(rt.alloc(), 64)?;
+    let made = makes_a_key(&rt, rt.alloc(), &mut hall);
+    drop(hall);
+    Ok(made?)
+}
+
+/// Whether each of the first two steps is the one that the receipt says.
+fn steps_told(hall: &Hall, receipt: &Receipt) -> (bool, bool) {
+    match hall.steps() {
+        [first, second, ..] => (receipt.is_of(first), receipt.is_of(second)),
+        _ => (false, false),
+    }
+}
+
+/// What the receipt of a HELLO says, the second step of a hall.
+fn says_hello(rt: &impl Abort, receipt: &Receipt) {
     same(
-        &rt,
-        turn(&mut hall, 100, Event::Opened(CLIENT)),
-        Said::Number(0),
+        rt,
+        (receipt.hall(), receipt.volume(), receipt.number()),
+        (HallNo::Zero, 1, 2),
     );
-    same(&rt, turn(&mut hall, 100, hello()), Said::Rings(4, 8));
+    same(rt, receipt.now(), Moment(101));
     same(
-        &rt,
-        turn(&mut hall, 100, add(alloc, b"b")?),
-        Said::Number(12),
+        rt,
+        matches!(receipt.told(), Told::Asked(SessionId::Client(1), _)),
+        true,
     );
-    same(
-        &rt,
-        turn(&mut hall, 100, request(alloc, b"a")?),
-        Said::Start(16),
-    );
-    let key_16 = Serial::new(16).ok_or(AllocError)?;
-    same(&rt, hall.waits(&CLIENT), true);
-    same(&rt, hall.ready(&CLIENT), false);
-    same(&rt, hall.depth(key_16), Some(1));
-    same(&rt, hall.depth(key), None);
-    let found = hall.peek(
-        key_16,
-        &user(alloc)?,
-        &description(alloc, b"b")?,
-        Moment(100),
-    );
-    same(&rt, found == Some(b"v".as_slice()), true);
-    same(
-        &rt,
-        turn(&mut hall, 101, Event::Launched(key_16, Ran::Piped)),
-        Said::Number(0),
-    );
-    let end = Event::Ended(key_16, How::Exit(0), Some(payload(alloc, b"hi")?));
-    same(&rt, hall.owes(&end), true);
-    same(&rt, turn(&mut hall, 102, end), Said::Number(0));
-    same(&rt, hall.ready(&CLIENT), true);
-    same(
-        &rt,
-        turn(&mut hall, 102, Event::Collect(CLIENT)),
-        Said::Number(16),
-    );
-    same(
-        &rt,
-        turn(&mut hall, 102, Event::Collect(CLIENT)),
-        Said::Refused(Errno::Einval),
-    );
-    same(
-        &rt,
-        turn(&mut hall, 103, Event::Gone(CLIENT)),
-        Said::Number(0),
-    );
-    same(&rt, (hall.index(), hall.before(), hall.count()), (1, 0, 9));
-    same(&rt, hall.steps().len(), 9);
-    same(&rt, hall.no(), HallNo::Zero);
-    Ok(())
+    same(rt, receipt.told().is_of(&hello()), true);
+    same(rt, receipt.told().is_of(&Event::Opened(CLIENT)), false);
+    same(rt, in_words(receipt.answer()), Said::Rings(4, 8));
 }
 
 /// A receipt says the step, and is told from any other.
 #[test]
 fn a_receipt_says_its_step(rt: HostRuntime) -> Result<(), Fail> {
-    let alloc = rt.alloc();
-    let mut hall = hall(alloc, 64)?;
-    let opened = hall
-        .turn(Moment(100), Event::Opened(CLIENT))
-        .map_err(|_| AllocError)?;
-    let greeted = hall.turn(Moment(101), hello()).map_err(|_| AllocError)?;
-    same(
-        &rt,
-        (greeted.hall(), greeted.volume(), greeted.number()),
-        (HallNo::Zero, 1, 2),
-    );
-    same(&rt, greeted.now(), Moment(101));
-    same(
-        &rt,
-        matches!(greeted.told(), Told::Asked(SessionId::Client(1), _)),
-        true,
-    );
-    same(&rt, greeted.told().is_of(&hello()), true);
-    same(&rt, greeted.told().is_of(&Event::Opened(CLIENT)), false);
-    for (at, (first, second)) in [(true, false), (false, true)].iter().enumerate() {
-        let Some(step) = hall.steps().get(at) else {
-            return Err(Fail::from(AllocError));
-        };
-        same(&rt, opened.is_of(step), *first);
-        same(&rt, greeted.is_of(step), *second);
+    let mut hall = hall(rt.alloc(), 64)?;
+    let opened = hall.turn(Moment(100), Event::Opened(CLIENT));
+    let greeted = hall.turn(Moment(101), hello());
+    if let Ok(receipt) = &opened {
+        same(&rt, steps_told(&hall, receipt), (true, false));
     }
-    same(&rt, in_words(&greeted.into_answer()), Said::Rings(4, 8));
+    if let Ok(receipt) = &greeted {
+        says_hello(&rt, receipt);
+        same(&rt, steps_told(&hall, receipt), (false, true));
+    }
+    same(&rt, (opened.is_ok(), greeted.is_ok()), (true, true));
     Ok(())
 }

@@ -1,42 +1,34 @@
 //! The volumes of a hall's record.
-use crate::record::events::{CLIENT, Said, add, hall, hello, limits, turn};
+use crate::record::events::{Happens, Said, hall, limits, play};
 use crate::same::same;
-use rk_machine::{Answer, Event};
+use rk_machine::Answer;
 use rk_message::Reply;
-use rk_names::Moment;
 use rk_record::{Hall, HallNo, Recorded, Rejoin, Volume, rejoin};
 use std::alloc::{AllocError, Global};
 use std::process::Abort;
 use std::test::Fail;
 
-/// A hall whose first volume of six steps has five and a place that is owed, and that volume.
-fn rolled(rt: &impl Abort, alloc: Global) -> Result<(Hall, Volume), AllocError> {
-    let mut hall = hall(alloc, 6)?;
-    same(
-        rt,
-        turn(&mut hall, 100, Event::Opened(CLIENT)),
-        Said::Number(0),
-    );
-    same(rt, turn(&mut hall, 100, hello()), Said::Rings(4, 8));
-    same(
-        rt,
-        turn(&mut hall, 100, add(alloc, b"a")?),
-        Said::Number(12),
-    );
-    same(
-        rt,
-        turn(&mut hall, 100, add(alloc, b"b")?),
-        Said::Number(16),
-    );
-    same(
-        rt,
-        turn(&mut hall, 100, add(alloc, b"c")?),
-        Said::Number(20),
-    );
-    same(rt, turn(&mut hall, 100, add(alloc, b"d")?), Said::Full);
+/// Five steps fill a volume of six, since the client's end is owed.
+const FILLED: &[(u64, Happens, Said)] = &[
+    (100, Happens::Opened, Said::Number(0)),
+    (100, Happens::Hello, Said::Rings(4, 8)),
+    (100, Happens::Add(b"a"), Said::Number(12)),
+    (100, Happens::Add(b"b"), Said::Number(16)),
+    (100, Happens::Add(b"c"), Said::Number(20)),
+    (100, Happens::Add(b"d"), Said::Full),
+];
+
+/// What goes on in the next volume.
+const NEXT: &[(u64, Happens, Said)] = &[
+    (100, Happens::Add(b"d"), Said::Number(24)),
+    (101, Happens::Gone, Said::Number(0)),
+];
+
+/// Fills the first volume of a hall of six steps, and hands it out.
+fn rolled(rt: &impl Abort, alloc: Global, hall: &mut Hall) -> Result<Volume, AllocError> {
+    play(rt, alloc, hall, FILLED)?;
     same(rt, hall.count(), 5);
-    let volume = hall.roll().map_err(|_| AllocError)?;
-    Ok((hall, volume))
+    hall.roll().map_err(|_| AllocError)
 }
 
 /// A step once more, with this answer.
@@ -62,76 +54,109 @@ fn copied(alloc: Global, steps: &[Recorded], wrong: usize) -> Result<Vec<Recorde
     Ok(copies)
 }
 
-/// The numbers of steps go on over volumes, and the volumes join to a run.
-#[test]
-fn volumes_join_to_a_run(rt: HostRuntime) -> Result<(), Fail> {
-    let alloc = rt.alloc();
-    let (mut hall, volume) = rolled(&rt, alloc)?;
+/// What the first volume says, and what the hall says once it is handed out.
+fn tells_of_the_volume(rt: &impl Abort, hall: &Hall, volume: &Volume) {
     same(
-        &rt,
+        rt,
         (volume.hall(), volume.index(), volume.before()),
         (HallNo::Zero, 1, 0),
     );
-    same(&rt, volume.steps().len(), 5);
+    same(rt, volume.steps().len(), 5);
     same(
-        &rt,
+        rt,
         (hall.index(), hall.before(), hall.steps().len()),
         (2, 5, 0),
     );
-    let added = hall
-        .turn(Moment(100), add(alloc, b"d")?)
-        .map_err(|_| AllocError)?;
-    same(&rt, (added.volume(), added.number()), (2, 6));
-    let gone = hall
-        .turn(Moment(101), Event::Gone(CLIENT))
-        .map_err(|_| AllocError)?;
-    same(&rt, (gone.volume(), gone.number()), (2, 7));
-    same(
-        &rt,
-        rejoin(alloc, limits()?, &[volume.steps(), hall.steps()]),
-        Ok(7),
-    );
+}
+
+/// The numbers of steps go on in the next volume, and both join to a run.
+fn joins(
+    rt: &impl Abort,
+    alloc: Global,
+    hall: &mut Hall,
+    volume: &Volume,
+) -> Result<(), AllocError> {
+    play(rt, alloc, hall, NEXT)?;
+    same(rt, (hall.index(), hall.count()), (2, 7));
+    let joined = rejoin(alloc, limits()?, &[volume.steps(), hall.steps()]);
+    same(rt, joined, Ok(7));
     Ok(())
 }
 
 /// What was answered otherwise, or is left out, is found, and where.
-#[test]
-fn what_is_no_run_is_broken(rt: HostRuntime) -> Result<(), Fail> {
-    let alloc = rt.alloc();
-    let (mut hall, volume) = rolled(&rt, alloc)?;
-    same(
-        &rt,
-        turn(&mut hall, 100, add(alloc, b"d")?),
-        Said::Number(24),
-    );
+fn breaks(
+    rt: &impl Abort,
+    alloc: Global,
+    hall: &mut Hall,
+    volume: &Volume,
+) -> Result<(), AllocError> {
+    play(rt, alloc, hall, NEXT)?;
     let changed = copied(alloc, volume.steps(), 4)?;
     let joined = rejoin(alloc, limits()?, &[&changed, hall.steps()]);
-    same(&rt, joined, Err(Rejoin::Broken { number: 5 }));
+    same(rt, joined, Err(Rejoin::Broken { number: 5 }));
     let alone = rejoin(alloc, limits()?, &[hall.steps()]);
-    same(&rt, alone, Err(Rejoin::Broken { number: 1 }));
-    same(&rt, rejoin(alloc, limits()?, &[]), Ok(0));
+    same(rt, alone, Err(Rejoin::Broken { number: 1 }));
+    same(rt, rejoin(alloc, limits()?, &[]), Ok(0));
     Ok(())
 }
 
-/// A hall may roll at any time, also with nothing recorded.
+/// What is tried of a hall and its first volume.
+#[derive(Clone, Copy)]
+enum Trial {
+    Joins,
+    Breaks,
+}
+
+/// Rolls a new hall, and tries it.
+fn tried(rt: &impl Abort, alloc: Global, trial: Trial) -> Result<(), AllocError> {
+    let mut hall = hall(alloc, 6)?;
+    let volume = rolled(rt, alloc, &mut hall);
+    let ended = match &volume {
+        Ok(volume) => {
+            tells_of_the_volume(rt, &hall, volume);
+            match trial {
+                Trial::Joins => joins(rt, alloc, &mut hall, volume),
+                Trial::Breaks => breaks(rt, alloc, &mut hall, volume),
+            }
+        }
+        Err(_) => Err(AllocError),
+    };
+    drop(volume);
+    drop(hall);
+    ended
+}
+
 #[test]
-fn a_hall_rolls_many_times_in_a_row(rt: HostRuntime) -> Result<(), Fail> {
-    let alloc = rt.alloc();
-    let (mut hall, _volume) = rolled(&rt, alloc)?;
+fn volumes_join_to_a_run(rt: HostRuntime) -> Result<(), Fail> {
+    Ok(tried(&rt, rt.alloc(), Trial::Joins)?)
+}
+
+#[test]
+fn what_is_no_run_is_broken(rt: HostRuntime) -> Result<(), Fail> {
+    Ok(tried(&rt, rt.alloc(), Trial::Breaks)?)
+}
+
+/// A hall may roll at any time, also with nothing recorded.
+fn rolls_on(rt: &impl Abort, alloc: Global, hall: &mut Hall) -> Result<(), AllocError> {
+    drop(rolled(rt, alloc, hall)?);
     for index in 2u64..50 {
         let volume = hall.roll().map_err(|_| AllocError)?;
         same(
-            &rt,
+            rt,
             (volume.index(), volume.before(), volume.steps().len()),
             (index, 5, 0),
         );
     }
-    same(&rt, (hall.index(), hall.count()), (50, 5));
-    same(
-        &rt,
-        turn(&mut hall, 100, add(alloc, b"d")?),
-        Said::Number(24),
-    );
-    same(&rt, hall.count(), 6);
+    same(rt, (hall.index(), hall.count()), (50, 5));
+    play(rt, alloc, hall, NEXT)?;
+    same(rt, hall.count(), 7);
     Ok(())
+}
+
+#[test]
+fn a_hall_rolls_many_times_in_a_row(rt: HostRuntime) -> Result<(), Fail> {
+    let mut hall = hall(rt.alloc(), 6)?;
+    let ended = rolls_on(&rt, rt.alloc(), &mut hall);
+    drop(hall);
+    Ok(ended?)
 }
