@@ -2,7 +2,7 @@
 ghost use Rattle.std.specs.Prelude.{◌≡◌};
 ghost use Rattle.rk_hall.specs.Seats.{IsCall};
 
-use rk_hall::{Called, Fresh, HallNo, Halls, Lapse, Launch, Names, Owed, Seat};
+use rk_hall::{Called, Fresh, HallNo, Halls, Lapse, Launch, Names, Owed, Receipt, Running, Seat};
 use rk_machine::{Answer, Event, How, Ran};
 use rk_macro::Op;
 use rk_message::{Ask, Reply};
@@ -113,95 +113,134 @@ fn greeted<N: Names, R: Wait + Abort>(rt: &R, halls: &Halls<N>, seat: &mut Seat<
     );
 }
 
-/// A key from its request to its outcome, by a piped handler, and a client from its coming to its end.
-fn makes_a_key<N: Names, R: Wait + Abort>(rt: &R, alloc: Global, halls: Halls<N>) {
-    let mut seat = halls.seat(rt).expect(rt, "a seat");
-    greeted(rt, &halls, &mut seat);
-    assert_eq!(rt; seat.clients(), 1);
-    let launch = started(
-        rt,
-        &halls,
-        &mut seat,
-        Event::Asked(CLIENT, request(rt, alloc)),
-    );
-    assert_eq!(rt; launch.key().get(), 12);
-    assert_eq!(rt; launch.depth(), 1);
-    let Owed { value, receipt } = halls.launched(rt, &mut seat, NOW, launch, Ran::Piped);
-    assert_eq!(rt; receipt.expect(rt, "a receipt").number(), 4);
-    let running = value.expect(rt, "a handler that runs");
+/// The number of the step that a receipt says, 0 where there is none.
+fn step(receipt: Result<Receipt, Lapse>) -> u64 {
+    match receipt {
+        Ok(receipt) => receipt.number(),
+        Err(_) => 0,
+    }
+}
+
+/// Whether there was nothing that was owed.
+fn is_stray(receipt: Result<Receipt, Lapse>) -> bool {
+    match receipt {
+        Ok(_) => false,
+        Err(lapse) => lapse == Lapse::Stray,
+    }
+}
+
+/// The client's outcome, which comes with the step of this number.
+fn outcome<N: Names, R: Wait + Abort>(
+    rt: &R,
+    halls: &Halls<N>,
+    seat: &mut Seat<N>,
+    number: u64,
+) -> Answer {
+    let Owed { value, receipt } = await_outcome(rt, halls, seat, HallNo::Zero, CLIENT, NOW);
+    assert_eq!(rt; step(receipt), number);
+    value
+}
+
+/// The piped handler of key 12 runs, by the step of this number.
+fn runs<N: Names, R: Wait + Abort>(
+    rt: &R,
+    halls: &Halls<N>,
+    seat: &mut Seat<N>,
+    launch: Launch<N>,
+    number: u64,
+) -> Running<N> {
+    assert_eq!(rt; (launch.key().get(), launch.depth()), (12, 1));
+    let Owed { value, receipt } = halls.launched(rt, seat, NOW, launch, Ran::Piped);
+    assert_eq!(rt; step(receipt), number);
+    value.expect(rt, "a handler that runs")
+}
+
+/// The handler has ended, and put `v` out.
+fn ends_well<N: Names, R: Wait + Abort>(
+    rt: &R,
+    alloc: Global,
+    halls: &Halls<N>,
+    seat: &mut Seat<N>,
+    running: Running<N>,
+) {
     let payload = Payload::new(Vec::from_slice(alloc, b"v").expect(rt, "memory")).ok();
-    let Owed { value, receipt } = halls.ended(rt, &mut seat, NOW, running, How::Exit(0), payload);
-    assert_eq!(rt; receipt.expect(rt, "a receipt").number(), 5);
-    refuse_launch(rt, &halls, &mut seat, value);
-    let Owed { value, receipt } = await_outcome(rt, &halls, &mut seat, HallNo::Zero, CLIENT, NOW);
-    assert!(rt; is_number(&value, 12));
-    assert_eq!(rt; receipt.expect(rt, "a receipt").number(), 6);
-    let Owed { value: (), receipt } = halls.gone(rt, &mut seat, HallNo::Zero, NOW, CLIENT);
-    assert_eq!(rt; receipt.expect(rt, "a receipt").number(), 7);
+    let Owed { value, receipt } = halls.ended(rt, seat, NOW, running, How::Exit(0), payload);
+    assert_eq!(rt; step(receipt), 5);
+    refuse_launch(rt, halls, seat, value);
+}
+
+/// A key from its request to its outcome, by a piped handler, and a client from its coming to its end.
+fn makes_a_key<N: Names, R: Wait + Abort>(
+    rt: &R,
+    alloc: Global,
+    halls: &Halls<N>,
+    seat: &mut Seat<N>,
+) {
+    greeted(rt, halls, seat);
+    let asked = Event::Asked(CLIENT, request(rt, alloc));
+    let launch = started(rt, halls, seat, asked);
+    let running = runs(rt, halls, seat, launch, 4);
+    ends_well(rt, alloc, halls, seat, running);
+    let answer = outcome(rt, halls, seat, 6);
+    assert!(rt; is_number(&answer, 12));
+    let Owed { value: (), receipt } = halls.gone(rt, seat, HallNo::Zero, NOW, CLIENT);
+    assert_eq!(rt; step(receipt), 7);
     assert_eq!(rt; seat.clients(), 0);
-    halls.retire(rt, seat);
 }
 
 /// A collect where no client was opened is a stray: EINVAL, and no step.
-fn strays<N: Names, R: Wait + Abort>(rt: &R, halls: Halls<N>) {
-    let mut seat = halls.seat(rt).expect(rt, "a seat");
-    let Owed { value, receipt } = await_outcome(rt, &halls, &mut seat, HallNo::Zero, NOBODY, NOW);
+fn strays<N: Names, R: Wait + Abort>(rt: &R, halls: &Halls<N>, seat: &mut Seat<N>) {
+    let Owed { value, receipt } = await_outcome(rt, halls, seat, HallNo::Zero, NOBODY, NOW);
     assert!(rt; value.equals(&Answer::Refused(Errno::Einval)));
-    assert_eq!(rt; receipt.err(), Some(Lapse::Stray));
-    let Owed { value: (), receipt } = halls.gone(rt, &mut seat, HallNo::Zero, NOW, NOBODY);
-    assert_eq!(rt; receipt.err(), Some(Lapse::Stray));
-    let opened = answered(rt, &halls, &mut seat, Event::Opened(CLIENT), 1);
+    assert!(rt; is_stray(receipt));
+    let Owed { value: (), receipt } = halls.gone(rt, seat, HallNo::Zero, NOW, NOBODY);
+    assert!(rt; is_stray(receipt));
+    let opened = answered(rt, halls, seat, Event::Opened(CLIENT), 1);
     assert!(rt; is_number(&opened, 0));
-    halls.retire(rt, seat);
+}
+
+/// The handler has failed, and another is to follow.
+fn ends_badly<N: Names, R: Wait + Abort>(
+    rt: &R,
+    halls: &Halls<N>,
+    seat: &mut Seat<N>,
+    running: Running<N>,
+) -> Launch<N> {
+    let Owed { value, receipt } = halls.ended(rt, seat, NOW, running, How::Exit(1), None);
+    assert_eq!(rt; step(receipt), 5);
+    value.expect(rt, "another handler")
 }
 
 /// A piped handler that fails is followed by another, for the same key, which is told to negate it.
-fn is_followed<N: Names, R: Wait + Abort>(rt: &R, alloc: Global, halls: Halls<N>) {
-    let mut seat = halls.seat(rt).expect(rt, "a seat");
-    greeted(rt, &halls, &mut seat);
-    let launch = started(
-        rt,
-        &halls,
-        &mut seat,
-        Event::Asked(CLIENT, request(rt, alloc)),
-    );
+fn is_followed<N: Names, R: Wait + Abort>(
+    rt: &R,
+    alloc: Global,
+    halls: &Halls<N>,
+    seat: &mut Seat<N>,
+) {
+    greeted(rt, halls, seat);
+    let asked = Event::Asked(CLIENT, request(rt, alloc));
+    let launch = started(rt, halls, seat, asked);
     assert_eq!(rt; launch.subject().op, Op::Create);
-    let Owed { value, receipt: _ } = halls.launched(rt, &mut seat, NOW, launch, Ran::Piped);
-    let running = value.expect(rt, "a handler that runs");
-    let Owed { value, receipt: _ } = halls.ended(rt, &mut seat, NOW, running, How::Exit(1), None);
-    let launch = value.expect(rt, "another handler");
+    let running = runs(rt, halls, seat, launch, 4);
+    let launch = ends_badly(rt, halls, seat, running);
     assert_eq!(rt; launch.key().get(), 12);
     assert_eq!(rt; launch.subject().op, Op::Negate);
-    fail(rt, &halls, &mut seat, launch);
-    let Owed { value, receipt: _ } = await_outcome(
-        rt,
-        &halls,
-        &mut seat,
-        HallNo::Zero,
-        CLIENT,
-        NOW,
-    );
-    assert!(rt; value.equals(&Answer::Refused(Errno::Enokey)));
-    halls.retire(rt, seat);
+    fail(rt, halls, seat, launch);
+    let answer = outcome(rt, halls, seat, 7);
+    assert!(rt; answer.equals(&Answer::Refused(Errno::Enokey)));
 }
 
-/// A seat that has heard a greater number is behind, and one that is told of the next is not.
-fn hears<N: Names, R: Wait + Abort>(rt: &R, halls: Halls<N>) {
-    let mut first = halls.seat(rt).expect(rt, "a seat");
-    let called = halls.call(rt, &mut first, HallNo::Zero, NOW, Event::Opened(CLIENT));
+/// A seat that has heard a greater number passes it with its next one.
+fn hears<N: Names, R: Wait + Abort>(rt: &R, halls: &Halls<N>, seat: &mut Seat<N>) {
+    let called = halls.call(rt, seat, HallNo::Zero, NOW, Event::Opened(CLIENT));
     let Called { receipt, launch } = called.expect(rt, "a receipt");
-    refuse_launch(rt, &halls, &mut first, launch);
+    refuse_launch(rt, halls, seat, launch);
     let mut second = halls.seat(rt).expect(rt, "a seat");
     second.hear(&receipt);
-    let opened = answered(
-        rt,
-        &halls,
-        &mut second,
-        Event::Opened(SessionId::Client(2)),
-        2,
-    );
+    let next = Event::Opened(SessionId::Client(2));
+    let opened = answered(rt, halls, &mut second, next, 2);
     assert!(rt; is_number(&opened, 0));
-    halls.retire(rt, first);
     halls.retire(rt, second);
 }
 
@@ -221,12 +260,15 @@ fn play<N: Names, R: Wait + Abort>(rt: &R, alloc: Global, fresh: Fresh, scene: S
     requires three { (fresh.three.calls.name ≡ N.name 6) × (fresh.three.out.name ≡ N.name 7) }
 {
     let halls: Halls<N> = Halls::new(alloc, fresh, 60).expect(rt, "memory");
+    let mut seat = halls.seat(rt).expect(rt, "a seat");
     match scene {
-        Scene::MakesAKey => makes_a_key(rt, alloc, halls),
-        Scene::Strays => strays(rt, halls),
-        Scene::IsFollowed => is_followed(rt, alloc, halls),
-        Scene::Hears => hears(rt, halls),
+        Scene::MakesAKey => makes_a_key(rt, alloc, &halls, &mut seat),
+        Scene::Strays => strays(rt, &halls, &mut seat),
+        Scene::IsFollowed => is_followed(rt, alloc, &halls, &mut seat),
+        Scene::Hears => hears(rt, &halls, &mut seat),
     }
+    halls.retire(rt, seat);
+    drop(halls);
 }
 
 /// Plays a scene under ledgers that are named here.

@@ -82,7 +82,7 @@ pub fn description(alloc: Global, name: &[u8]) -> Result<Description, AllocError
     Description::new(alloc, name).map_err(|_| AllocError)
 }
 
-pub fn payload(alloc: Global, bytes: &[u8]) -> Result<Payload, AllocError> {
+fn payload(alloc: Global, bytes: &[u8]) -> Result<Payload, AllocError> {
     Payload::new(Vec::from_slice(alloc, bytes)?).map_err(|_| AllocError)
 }
 

@@ -1,11 +1,11 @@
 //! The turns of one hall, and what their receipts say.
 use crate::record::events::{
-    CLIENT, Happens, Said, description, hall, hello, in_words, key, payload, play, user,
+    CLIENT, Happens, Said, description, hall, hello, in_words, key, play, user,
 };
 use crate::same::same;
 use rk_machine::{Event, How, Ran};
-use rk_names::{Errno, Moment, Serial, SessionId};
-use rk_record::{Hall, HallNo, Receipt, Told};
+use rk_names::{Errno, Moment, Serial};
+use rk_record::{Hall, HallNo, Receipt};
 use std::alloc::{AllocError, Global};
 use std::process::Abort;
 use std::test::Fail;
@@ -53,8 +53,7 @@ const ENDED: &[(u64, Happens, Said)] = &[
 ];
 
 /// What the hall tells of a client that waits for key 16, and of that key.
-fn tells_of_the_wait(rt: &impl Abort, alloc: Global, hall: &Hall) -> Result<(), AllocError> {
-    let key_16 = key(16)?;
+fn tells_of_the_wait(rt: &impl Abort, hall: &Hall, key_12: Serial, key_16: Serial) {
     same(
         rt,
         (hall.waits(&CLIENT), hall.ready(&CLIENT)),
@@ -62,21 +61,26 @@ fn tells_of_the_wait(rt: &impl Abort, alloc: Global, hall: &Hall) -> Result<(), 
     );
     same(
         rt,
-        (hall.depth(key_16), hall.depth(key(12)?)),
+        (hall.depth(key_16), hall.depth(key_12)),
         (Some(1), None),
     );
+    same(rt, hall.owes(&Event::Launched(key_16, Ran::Piped)), true);
+    same(rt, hall.owes(&Event::Collect(CLIENT)), false);
+}
+
+/// What a handler of this key finds under the name `b`.
+fn found(alloc: Global, hall: &Hall, key: Serial) -> Result<Option<usize>, AllocError> {
     let (typ, description) = (user(alloc)?, description(alloc, b"b")?);
-    let found = hall.peek(key_16, &typ, &description, Moment(100));
-    same(rt, found == Some(b"v".as_slice()), true);
-    let end = Event::Ended(key_16, How::Exit(0), Some(payload(alloc, b"hi")?));
-    same(rt, hall.owes(&end), false);
-    Ok(())
+    let bytes = hall.peek(key, &typ, &description, Moment(100));
+    Ok(bytes.map(|bytes| bytes.len()))
 }
 
 /// A piped handler makes a key: each turn, and what the hall tells between them.
 fn makes_a_key(rt: &impl Abort, alloc: Global, hall: &mut Hall) -> Result<(), AllocError> {
     play(rt, alloc, hall, BEGUN)?;
-    tells_of_the_wait(rt, alloc, hall)?;
+    let (key_12, key_16) = (key(12)?, key(16)?);
+    tells_of_the_wait(rt, hall, key_12, key_16);
+    same(rt, found(alloc, hall, key_16)?, Some(1));
     play(rt, alloc, hall, ENDED)?;
     same(rt, (hall.index(), hall.before(), hall.count()), (1, 0, 9));
     same(rt, (hall.steps().len(), hall.no()), (9, HallNo::Zero));
@@ -91,12 +95,9 @@ fn a_piped_handler_makes_a_key(rt: HostRuntime) -> Result<(), Fail> {
     Ok(made?)
 }
 
-/// Whether each of the first two steps is the one that the receipt says.
-fn steps_told(hall: &Hall, receipt: &Receipt) -> (bool, bool) {
-    match hall.steps() {
-        [first, second, ..] => (receipt.is_of(first), receipt.is_of(second)),
-        _ => (false, false),
-    }
+/// Whether the step at this place is the one that the receipt says.
+fn is_of(hall: &Hall, receipt: &Receipt, at: usize) -> bool {
+    hall.steps().get(at).is_some_and(|step| receipt.is_of(step))
 }
 
 /// What the receipt of a HELLO says, the second step of a hall.
@@ -107,29 +108,43 @@ fn says_hello(rt: &impl Abort, receipt: &Receipt) {
         (HallNo::Zero, 1, 2),
     );
     same(rt, receipt.now(), Moment(101));
-    same(
-        rt,
-        matches!(receipt.told(), Told::Asked(SessionId::Client(1), _)),
-        true,
-    );
     same(rt, receipt.told().is_of(&hello()), true);
     same(rt, receipt.told().is_of(&Event::Opened(CLIENT)), false);
     same(rt, in_words(receipt.answer()), Said::Rings(4, 8));
+}
+
+/// The client comes; the receipt says that step.
+fn opens(rt: &impl Abort, hall: &mut Hall) -> bool {
+    let receipt = hall.turn(Moment(100), Event::Opened(CLIENT));
+    match &receipt {
+        Ok(receipt) => {
+            same(rt, is_of(hall, receipt, 0), true);
+            true
+        }
+        Err(_) => false,
+    }
+}
+
+/// It says who it is; the receipt says that step, and no other.
+fn greets(rt: &impl Abort, hall: &mut Hall) -> bool {
+    let receipt = hall.turn(Moment(101), hello());
+    match &receipt {
+        Ok(receipt) => {
+            says_hello(rt, receipt);
+            same(rt, is_of(hall, receipt, 0), false);
+            same(rt, is_of(hall, receipt, 1), true);
+            true
+        }
+        Err(_) => false,
+    }
 }
 
 /// A receipt says the step, and is told from any other.
 #[test]
 fn a_receipt_says_its_step(rt: HostRuntime) -> Result<(), Fail> {
     let mut hall = hall(rt.alloc(), 64)?;
-    let opened = hall.turn(Moment(100), Event::Opened(CLIENT));
-    let greeted = hall.turn(Moment(101), hello());
-    if let Ok(receipt) = &opened {
-        same(&rt, steps_told(&hall, receipt), (true, false));
-    }
-    if let Ok(receipt) = &greeted {
-        says_hello(&rt, receipt);
-        same(&rt, steps_told(&hall, receipt), (false, true));
-    }
-    same(&rt, (opened.is_ok(), greeted.is_ok()), (true, true));
+    let both = (opens(&rt, &mut hall), greets(&rt, &mut hall));
+    drop(hall);
+    same(&rt, both, (true, true));
     Ok(())
 }
