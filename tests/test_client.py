@@ -231,9 +231,10 @@ def no_file(program, path):
 
 
 def helps(program, words, *wanted):
-    """Status 0, and these texts on standard output alone."""
+    """Status 0, and these texts on standard output alone, where the usage has the name of the file."""
     status, output, errors = ran(program, words, b"unread")
-    missing = [it for it in wanted if it.encode() not in output]
+    own = pathlib.Path(program).name
+    missing = [it for it in wanted if it.replace("Usage: reqkeyctl", f"Usage: {own}").encode() not in output]
     return differs((status, errors, missing), (0, b"", []))
 
 
