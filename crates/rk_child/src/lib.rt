@@ -43,3 +43,4 @@ mod spent;
 
 pub use driven::Driven;
 pub use driving::drive;
+pub use spent::fail;

@@ -1,0 +1,163 @@
+-- The clients of a seat, hall by hall.
+use Rattle.std.proofs.Common.{◌≡◌, ◌≤◌, ◌<◌, ℕ, ◌+◌, ◌-◌, inl, refl, sym, ap, ◌∙◌, subst, arith}
+use Rattle.std.specs.Prelude.{Option, Some, None, Result, Ok, Err}
+use Rattle.rk_names.specs.declared.numbers.SessionId.{SessionId}
+use Rattle.rk_machine.specs.declared.event.Event.{Event}
+use Rattle.rk_machine.specs.declared.event.Event.TheVariants.{Opened}
+use Rattle.rk_machine.specs.declared.event.Answer.{Answer}
+use Rattle.rk_machine.specs.declared.event.Answer.TheVariants as answer
+use Rattle.rk_record.specs.declared.told.Told.TheVariants as told
+use Rattle.rk_talk.specs.declared.saying.Saying.{Saying}
+use Rattle.rk_talk.specs.declared.saying.Saying.TheVariants as saying
+use Rattle.rk_talk.specs.Said.{IsCalled, IsRefused, IsToWait}
+use Rattle.rk_record.specs.declared.hall_no.HallNo.{HallNo}
+use Rattle.rk_record.specs.declared.hall_no.HallNo.TheVariants.{Zero, One, Two, Three}
+use Rattle.rk_record.specs.Turns.{Noted}
+use Rattle.rk_hall.specs.declared.lapse.Lapse.{Lapse}
+use Rattle.rk_hall.specs.Seats.{PartShown, SeatShown, part, with_part, after_call, without_client, opens, OwedSeen}
+use Rattle.rk_talk.specs.Stays.{Clients, Stays, SeesOn, clients_at, with_one, without_one}
+use Rattle.rk_talk.proofs.Seats.{call_stays, owed_stays, stays_on}
+use Rattle.rk_session.specs.Talk.{HasOpened, Leaves, Moves, Refuses}
+
+-- a part that has seen no less
+sees_part : (h : HallNo) (s : SeatShown) (p : PartShown) → (part h s).seen ≤ p.seen → SeesOn s (with_part h s p)
+sees_part Zero s p le Zero = le
+sees_part Zero s p le One = omega arith
+sees_part Zero s p le Two = omega arith
+sees_part Zero s p le Three = omega arith
+sees_part One s p le Zero = omega arith
+sees_part One s p le One = le
+sees_part One s p le Two = omega arith
+sees_part One s p le Three = omega arith
+sees_part Two s p le Zero = omega arith
+sees_part Two s p le One = omega arith
+sees_part Two s p le Two = le
+sees_part Two s p le Three = omega arith
+sees_part Three s p le Zero = omega arith
+sees_part Three s p le One = omega arith
+sees_part Three s p le Two = omega arith
+sees_part Three s p le Three = le
+
+more_part : (h : HallNo) (s : SeatShown) (p : PartShown) → p.clients ≡ (part h s).clients + 1 → clients_at (with_part h s p) ≡ with_one h (clients_at s)
+more_part Zero s p e = ap (λ n. record (clients_at s) { zero = n }) e
+more_part One s p e = ap (λ n. record (clients_at s) { one = n }) e
+more_part Two s p e = ap (λ n. record (clients_at s) { two = n }) e
+more_part Three s p e = ap (λ n. record (clients_at s) { three = n }) e
+
+fewer_part : (h : HallNo) (s : SeatShown) → clients_at (with_part h s (without_client (part h s))) ≡ without_one h (clients_at s)
+fewer_part Zero s = refl
+fewer_part One s = refl
+fewer_part Two s = refl
+fewer_part Three s = refl
+
+pub sees_then : (a b c : SeatShown) → SeesOn a b → SeesOn b c → SeesOn a c
+sees_then a b c f g h = let one = f h in let two = g h in omega (arith, one, two)
+
+pub sees_same : (s : SeatShown) → SeesOn s s
+sees_same s h = omega arith
+
+less : {a b : ℕ} → a < b → a ≤ b
+less lt = omega (arith, lt)
+
+-- a call that opened a client
+pub call_opens : (h : HallNo) (old new : SeatShown) (e : Event) (r : Noted) → opens e r.answer ≡ 1 → (part h old).seen < r.number
+    → new ≡ with_part h old (after_call (part h old) e r) → (clients_at new ≡ with_one h (clients_at old)) × SeesOn old new
+call_opens h old new e r one lt is = (
+  ap clients_at is ∙ more_part h old (after_call (part h old) e r) (ap (λ n. (part h old).clients + n) one),
+  subst (SeesOn old) (sym is) (sees_part h old (after_call (part h old) e r) (less lt)),
+)
+
+same_seen : (h : HallNo) (s : SeatShown) → (part h s).seen ≤ (without_client (part h s)).seen
+same_seen h s = omega arith
+
+-- a client that was reported gone
+pub gone_leaves : (h : HallNo) (now : ℕ) (e : Event) (old new : SeatShown) (r : Result Noted Lapse)
+    → OwedSeen h now e (with_part h old (without_client (part h old))) new r → Leaves h old new
+gone_leaves h now e old new r seen =
+    let mid : SeatShown = with_part h old (without_client (part h old)) in
+    let stays : Stays mid new = owed_stays h now e mid new r seen in
+    (stays.clients ∙ fewer_part h old, sees_then old mid new (sees_part h old (without_client (part h old)) (same_seen h old)) stays.seen)
+
+less_more : (n : ℕ) → n + 1 - 1 ≡ n
+less_more n = omega arith
+
+-- one more and one fewer
+pub without_with : (h : HallNo) (c : Clients) → without_one h (with_one h c) ≡ c
+without_with Zero c = ap (λ n. record c { zero = n }) (less_more c.zero)
+without_with One c = ap (λ n. record c { one = n }) (less_more c.one)
+without_with Two c = ap (λ n. record c { two = n }) (less_more c.two)
+without_with Three c = ap (λ n. record c { three = n }) (less_more c.three)
+
+-- one more there, then one fewer here, where one stood
+pub moved_on : (here there : HallNo) (c : Clients) → without_one here (with_one there (with_one here c)) ≡ with_one there c
+moved_on Zero Zero c = ap (λ n. record c { zero = n }) (less_more (c.zero + 1))
+moved_on Zero One c = ap (λ n. record c { zero = n; one = c.one + 1 }) (less_more c.zero)
+moved_on Zero Two c = ap (λ n. record c { zero = n; two = c.two + 1 }) (less_more c.zero)
+moved_on Zero Three c = ap (λ n. record c { zero = n; three = c.three + 1 }) (less_more c.zero)
+moved_on One Zero c = ap (λ n. record c { one = n; zero = c.zero + 1 }) (less_more c.one)
+moved_on One One c = ap (λ n. record c { one = n }) (less_more (c.one + 1))
+moved_on One Two c = ap (λ n. record c { one = n; two = c.two + 1 }) (less_more c.one)
+moved_on One Three c = ap (λ n. record c { one = n; three = c.three + 1 }) (less_more c.one)
+moved_on Two Zero c = ap (λ n. record c { two = n; zero = c.zero + 1 }) (less_more c.two)
+moved_on Two One c = ap (λ n. record c { two = n; one = c.one + 1 }) (less_more c.two)
+moved_on Two Two c = ap (λ n. record c { two = n }) (less_more (c.two + 1))
+moved_on Two Three c = ap (λ n. record c { two = n; three = c.three + 1 }) (less_more c.two)
+moved_on Three Zero c = ap (λ n. record c { three = n; zero = c.zero + 1 }) (less_more c.three)
+moved_on Three One c = ap (λ n. record c { three = n; one = c.one + 1 }) (less_more c.three)
+moved_on Three Two c = ap (λ n. record c { three = n; two = c.two + 1 }) (less_more c.three)
+moved_on Three Three c = ap (λ n. record c { three = n }) (less_more (c.three + 1))
+
+-- a client that was opened there and is gone here has moved
+pub moves_over : (here to : HallNo) (old mid new : SeatShown) → (clients_at mid ≡ with_one to (clients_at old)) × SeesOn old mid → Leaves here mid new →
+    Moves here to old new
+moves_over here to old mid new opened left = (
+  λ others is. left.0 ∙ ap (without_one here) (opened.0 ∙ ap (with_one to) is) ∙ moved_on here to others,
+  sees_then old mid new opened.1 left.1,
+)
+
+-- one move after the other
+pub moves_then : (a b c : HallNo) (x y z : SeatShown) → Moves a b x y → Moves b c y z → Moves a c x z
+moves_then a b c x y z f g = (λ others is. g.0 others (f.0 others is), sees_then x y z f.1 g.1)
+
+-- where nothing moved
+pub stays_moves : (h : HallNo) (old new : SeatShown) → Stays old new → Moves h h old new
+stays_moves h old new s = (λ others is. s.clients ∙ is, s.seen)
+
+-- a session's client came and went
+pub came_and_went : (here to : HallNo) (a b c d : SeatShown) → (clients_at b ≡ with_one here (clients_at a)) × SeesOn a b → Moves here to b c → Leaves to c d →
+    Stays a d
+came_and_went here to a b c d opened moved left = record {
+  clients = left.0 ∙ ap (without_one to) (moved.0 (clients_at a) opened.0) ∙ without_with to (clients_at a);
+  seen = sees_then a b d opened.1 (sees_then b c d moved.1 left.1);
+}
+
+-- what was not opened opened no client
+none_waits : (session : SessionId) (a : Answer) → IsToWait a → opens (Opened session) a ≡ 0
+none_waits session (answer.Done r) waits = absurd waits
+none_waits session (answer.Start k subject) waits = refl
+none_waits session (answer.Negate k) waits = refl
+none_waits session (answer.Waiting k) waits = refl
+none_waits session (answer.Refused e) waits = absurd waits
+
+none_refused : (session : SessionId) (a : Answer) → IsRefused a → opens (Opened session) a ≡ 0
+none_refused session (answer.Done r) is = absurd is
+none_refused session (answer.Start k subject) is = absurd is
+none_refused session (answer.Negate k) is = absurd is
+none_refused session (answer.Waiting k) is = absurd is
+none_refused session (answer.Refused e) is = refl
+
+-- an opening whose call gave this receipt
+pub opened_by : (session : SessionId) (h : HallNo) (now : ℕ) (old mid new : SeatShown) (r : Noted) (result : Option Saying)
+    → IsCalled h now (told.Opened session) (part h old) r → mid ≡ with_part h old (after_call (part h old) (Opened session) r) → Stays mid new →
+    Refuses r result
+    → HasOpened session h old new result
+opened_by session h now old mid new r None called is stays (reply, done) =
+    let more = call_opens h old mid (Opened session) r (ap (opens (Opened session)) done) called.3 is in
+    (stays.clients ∙ more.0, sees_then old mid new more.1 stays.seen)
+opened_by session h now old mid new r (Some (saying.Noted m)) called is stays (same, refused) = (
+  stays_on old mid new (call_stays h old mid (Opened session) r (none_refused session r.answer refused) called.3 is) stays,
+  (ap (λ (n : Noted). n.told) same ∙ called.2, subst (λ (n : Noted). IsRefused n.answer) (sym same) refused),
+)
+opened_by session h now old mid new r (Some (saying.Short e)) called is stays (memory, waits) =
+    (stays_on old mid new (call_stays h old mid (Opened session) r (none_waits session r.answer waits) called.3 is) stays, inl memory)
+opened_by session h now old mid new r (Some saying.Behind) called is stays refuses = absurd refuses

@@ -1,0 +1,13 @@
+use Rattle.rk_names.specs.declared.numbers.SessionId.TheVariants.{Client}
+use Rattle.rk_record.specs.declared.hall_no.HallNo.TheVariants.{Zero}
+use Rattle.rk_session.proofs.Seats.{came_and_went}
+use Rattle.rk_session.proofs.Talks.{untold_ends}
+use Rattle.rk_session.proofs.serving.serve.Goals as goal
+
+pub returns-in-Some-clause-talked : goal.returns-in-Some-clause-talked
+returns-in-Some-clause-talked g c = untold_ends (Client c.args.client) (g.W.Wire.shown c.args.wire.now)
+
+pub returns-clause-stays : goal.returns-clause-stays
+returns-clause-stays g c =
+    came_and_went Zero c.talk-served.new.place.hall c.args.seat.now c.open.new.seat c.talk-served.new.seat c.leave.new.seat c.in-None.ensures
+    c.talk-served.ensures.moves c.leave.ensures

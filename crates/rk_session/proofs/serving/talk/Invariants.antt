@@ -1,0 +1,19 @@
+use Rattle.std.proofs.Common.{◌≡◌, ◌≤◌, ◌+◌}
+use Rattle.rk_names.specs.declared.numbers.SessionId.TheVariants.{Client}
+use Rattle.rk_frame.specs.Streams.{IsPartial}
+use Rattle.rk_devices.specs.Counts.{most}
+use Rattle.rk_session.specs.Talk.{Moves}
+use Rattle.rk_session.proofs.Talks.{Stands}
+use Rattle.rk_session.proofs.serving.talk.Given as goal
+
+abbrev pub invariant-loop : goal.invariant-loop
+invariant-loop g l = record {
+  bound : (g.L.Launcher.shown l.launcher).count ≤ most;
+  stands : Stands (Client l.client) (g.W.Wire.shown l.fn.wire) (g.W.Wire.shown l.wire) l.frames.bytes;
+  is_partial : IsPartial l.frames.bytes;
+  room : 4096 ≤ l.frames.room;
+  least : l.counter ≤ (g.W.Wire.shown l.wire).reads;
+  greatest : (g.W.Wire.shown l.wire).reads ≤ (g.W.Wire.shown l.fn.wire).reads + l.counter;
+  count : (g.W.Wire.shown l.wire).count ≡ (g.W.Wire.shown l.fn.wire).count;
+  moves : Moves l.fn.place.hall l.place.hall l.fn.seat l.seat;
+}

@@ -1,0 +1,10 @@
+use Rattle.std.proofs.Common.{subst, sym}
+use Rattle.rk_talk.specs.Replies.{ReplyFramed}
+use Rattle.rk_session.proofs.Sayings.{noted_speaks}
+use Rattle.rk_session.proofs.turns.tell.Goals as goal
+
+pub returns-in-Ok-clause-speaks : goal.returns-in-Ok-clause-speaks
+returns-in-Ok-clause-speaks g c =
+    let framed = subst (λ a. ReplyFramed a c.in-Ok.bytes.items) c.answer.ensures c.in-Ok.ensures in
+    noted_speaks c.args.receipt c.write.result c.deref.result.now _ _ _ (subst (ReplyFramed c.args.receipt.answer) (sym c.deref.ensures.value) framed)
+    c.note.ensures c.write.ensures

@@ -1,0 +1,36 @@
+-- What is seen of a client's wire, and what a call does to it.
+use Rattle.std.specs.Prelude.{◌≡◌, ℕ, List, [], ◌∷◌, ◌++◌, take, Option, option_map, Result, Ok, Err}
+use Rattle.rk_devices.specs.declared.device.DeviceFault.{DeviceFault}
+use Rattle.rk_devices.specs.Counts.{Rose, raised}
+use Rattle.rk_record.specs.Turns.{Noted}
+
+-- what happens on a wire: bytes come, none at the end of the input; a receipt is noted; bytes are written
+pub data Happened : Type 0 where
+  Heard : List ℕ → Happened
+  HasNoted : Noted → Happened
+  Said : List ℕ → Happened
+
+-- a wire: how often a call failed; how often it was read; and what happened on it, first things first, where it tells that
+pub record WireShown : Type 0 where
+  pub count : ℕ
+  pub reads : ℕ
+  pub story : Option (List Happened)
+
+-- this happened, too
+abbrev pub and_then : Option (List Happened) → List Happened → Option (List Happened)
+and_then story more = option_map (λ s. s ++ more) story
+
+-- a read: the bytes at the front of the buffer came, or it failed and the count rose
+abbrev pub Reads : Result ℕ DeviceFault → List ℕ → WireShown → WireShown → Type 0
+Reads (Ok n) buf old new = new ≡ record old { reads = raised old.reads; story = and_then old.story (Heard (take n buf) ∷ []) }
+Reads (Err e) buf old new = Rose old.count new.count × (new ≡ record old { count = new.count; reads = raised old.reads })
+
+-- a write of these bytes: they were written, or it failed, the first ones were, and the count rose
+abbrev pub Writes : Result Unit DeviceFault → List ℕ → WireShown → WireShown → Type 0
+Writes (Ok u) bytes old new = new ≡ record old { story = and_then old.story (Said bytes ∷ []) }
+Writes (Err e) bytes old new = Rose old.count new.count × (first others : List ℕ) × (bytes ≡ first ++ others)
+    × (new ≡ record old { count = new.count; story = and_then old.story (Said first ∷ []) })
+
+-- a receipt was noted
+abbrev pub Notes : Noted → WireShown → WireShown → Type 0
+Notes n old new = new ≡ record old { story = and_then old.story (HasNoted n ∷ []) }
