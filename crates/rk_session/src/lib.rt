@@ -12,9 +12,9 @@
 //! without a receipt is the errno of a body that spells no ask, ENOMEM, or EDQUOT. A session that waits isn't read. In every exit the seat has as many
 //! clients, hall by hall, as before: the client is reported gone. A fault is told only where the wire's count of failures rose. It ends at 1,048,576 reads.
 //!
-//! A client stands in hall 0 until it says HELLO, which moves it to the hall of its uid.
-//!
 //! # How it is built
+//!
+//! A client stands in hall 0 until it says HELLO, which moves it to the hall of its uid; no contract says in which hall a message is asked.
 //!
 //! `wire` is the trait, `answering` finds what is to be said of a message, `turns` notes and writes it, and `serving` reads. What is common to clients and
 //! plain handlers is in rk_talk. In `specs/`, `Wires` says what is seen of a wire, and `Talk` what a session does.
