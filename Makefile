@@ -12,6 +12,7 @@ all: $(addprefix build/,$(PROGRAMS))  ## Prove and build the programs, into buil
 
 bench: all  ## Prove and build the programs, and build their peers in C, into build/ (bench/README.md)
 	@$(MAKE) -C bench --no-print-directory
+	@bench/rattle/build.py hall_bench
 
 # What a program is made of: any change of a crate makes it anew.
 SOURCES := $(shell find crates -path '*/out' -prune -o -type f \( -name '*.rt' -o -name '*.antt' \) -print) crates.txt
@@ -27,12 +28,14 @@ build/%: $(SOURCES) | toolchain
 	@cp crates/$*/out/$* $@
 
 # The program as it was built, or else as the toolchain runs it before its proofs.
-DEMO = $(if $(wildcard build/reqkeyd),build/reqkeyd replay,bash -c 'cd crates/reqkeyd && rt try -- replay 2> ../../build/try.log')
+REQKEYD = $(if $(wildcard build/reqkeyd),build/reqkeyd,bash -c 'cd crates/reqkeyd && exec rt try -- "$$@" 2> ../../build/try.log' reqkeyd)
 
-demo: toolchain  ## Run the example script, and show what each of its lines does
+demo: toolchain  ## Run the example script and the daemon, and show what they do
 	@mkdir -p build
-	@[ -x build/reqkeyd ] || echo "Running reqkeyd before its proofs, about a minute (build/try.log); make proves and builds it first."
-	@examples/demo.py examples/first-path.script $(DEMO)
+	@[ -x build/reqkeyd ] || echo "Running reqkeyd before its proofs, twice about a minute (build/try.log); make proves and builds it first."
+	@examples/demo.py examples/first-path.script $(REQKEYD) replay
+	@echo
+	@examples/serve.py $(REQKEYD)
 
 quick: toolchain  ## Check what changed since the last time, over kept work, in minutes; no verdict
 	@tests/quick.py

@@ -11,7 +11,7 @@ hall     what a call costs behind a lock: `hall_bench` and bench/c/hall.c
 spawn    starts of programs: `spawn_bench` and bench/c/spawn.c
 serve    `reqkeyd serve` and bench/c/echo.c, both driven by bench/c/load.c over a socket
 
-Where the project's program is not there yet, the peer is measured alone.
+Where the project's program is not built, the peer is measured alone.
 
 Times are processor times, the least of so many runs; what a script sets up before its measured lines is run alone and taken off. Instructions are
 those that callgrind counts, which no other work on the machine disturbs, over N lines (2,000; 0 for none).

@@ -20,6 +20,16 @@ def built(name):
 PROGRAMS = built("reqkeyd")
 
 
+def client_of(program):
+    """The reqkeyctl that was built as this reqkeyd was."""
+    return built("reqkeyctl")[PROGRAMS.index(program)]
+
+
+def differs(got, want):
+    """What differs, or None."""
+    return None if got == want else f"{str(got)[:300]}, not {str(want)[:300]}"
+
+
 def check_all(cases, fault, programs=PROGRAMS):
     """Tries each case, a name and what it is, on each program; `fault` says what went wrong, or None. Prints the count, and ends."""
     passed = failed = 0

@@ -30,8 +30,8 @@ def block(text):
     return struct.pack(">H", len(text)) + text
 
 
-def hello(uid=0, gid=0, join=0):
-    return b"\x01" + struct.pack(">IIBI", uid, gid, 0, join)
+def hello(uid=0, gid=0, join=0, flags=0):
+    return b"\x01" + struct.pack(">IIBI", uid, gid, flags, join)
 
 
 def request(typ, description, callout, ring):

@@ -67,7 +67,7 @@ def main():
         if not call("make"):
             return "a program is not built"
         programs = {**os.environ, "PROGRAMS": "build"}
-        if not all(call(f"tests/{it}", env=programs) for it in ["test_replay.py", "test_words.py", "test_client.py"]):
+        if not all(call(f"tests/{it}", env=programs) for it in ["test_replay.py", "test_words.py", "test_client.py", "test_serve.py", "test_manuals.py"]):
             return "a test of a program failed"
     print("nothing that changed fails")
     return 0

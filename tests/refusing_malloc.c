@@ -1,21 +1,25 @@
-/* Loaded before the C library (LD_PRELOAD): the growth whose number stands in REFUSED, counted from 1, is refused; no other is. */
+/* Loaded before the C library (LD_PRELOAD): the growth whose number stands in REFUSED, counted from 1, is refused; no other is, and none of the programs
+   that this one starts. */
 #include <errno.h>
 #include <stdlib.h>
 
 extern void *__libc_malloc(size_t size);
 extern void *__libc_realloc(void *block, size_t size);
 
+static long left;
+
+__attribute__((constructor)) static void begin(void) {
+    const char *number = getenv("REFUSED");
+    left = number ? atol(number) : 0;
+    unsetenv("LD_PRELOAD");
+}
+
+/* Threads count together; past the refused one the count only falls. */
 static int refused(void) {
-    static long left = -1;
-    if (left < 0) {
-        const char *number = getenv("REFUSED");
-        left = number ? atol(number) : 0;
-    }
-    if (left > 0 && --left == 0) {
-        errno = ENOMEM;
-        return 1;
-    }
-    return 0;
+    if (__atomic_fetch_sub(&left, 1, __ATOMIC_RELAXED) != 1)
+        return 0;
+    errno = ENOMEM;
+    return 1;
 }
 
 void *malloc(size_t size) {

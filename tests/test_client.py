@@ -11,7 +11,7 @@ import subprocess
 import tempfile
 
 import protocol_peer as peer
-from programs import built, check_all
+from programs import built, check_all, differs
 
 # what a subcommand is called with, and the body of its ask
 GOOD = [
@@ -109,11 +109,6 @@ SOCKET, FILE = b"reqkeyctl: socket\n", b"reqkeyctl: file\n"
 def ran(program, words, stdin=b"", **more):
     done = subprocess.run([program, *words], input=stdin, stdout=subprocess.PIPE, stderr=subprocess.PIPE, timeout=60, **more)
     return done.returncode, done.stdout, done.stderr
-
-
-def differs(got, want):
-    """What differs, or None."""
-    return None if got == want else f"{str(got)[:300]}, not {str(want)[:300]}"
 
 
 def asks(program, words, ask, options=(), greeting=peer.hello()):

@@ -1,5 +1,5 @@
 #!/usr/bin/env python3
-"""Tries examples/demo.py on scripts of every kind, with tests/fake_replay.py in place of the program."""
+"""Tries examples/demo.py on scripts of every kind, with tests/fake_replay.py in place of the program, and examples/serve.py on the built daemon."""
 import pathlib
 import subprocess
 import sys
@@ -9,6 +9,7 @@ top = pathlib.Path(__file__).resolve().parent.parent
 sys.path.insert(0, str(top / "tools"))
 import script
 from counted import Counted
+from programs import PROGRAMS, client_of
 
 count = Counted()
 demo = top / "examples" / "demo.py"
@@ -70,6 +71,36 @@ SHOWN = [
     ),
 ]
 
+SERVED = """The configuration of the daemon:
+
+create  user  debug:*  *  |/bin/cat
+create  user  mail:*   *  ../examples/handler.py %k %d told
+
+
+A client connects, and says who it is: user 1000. Its session ring is 4, and the user's ring is 8.
+   c1  HELLO 1000 1000 0 0                             c1 <- rings 0 0 4 8
+
+It requests a key with the callout `hello`. There is none, so /bin/cat makes it: it is handed
+the callout, and puts out the payload. The key is 12, linked in the user's ring (-4).
+   c1  REQUEST user debug:a =hello -4                  c1 <- 12
+   c1  READ 12                                         c1 <- bytes hello
+
+A key that is there is found, and nothing is started.
+   c1  REQUEST user debug:a =again 0                   c1 <- 12
+
+This key is made by examples/handler.py, which speaks the protocol itself.
+   c1  REQUEST user mail:joe =letter 0                 c1 <- 16
+       its handler: ASSUME 16                             h16 <- 0
+       its handler: CALLOUT                               h16 <- bytes letter
+       its handler: INSTANTIATE 16 mail:joe:letter 0      h16 <- 0
+   c1  READ 16                                         c1 <- bytes mail:joe:letter
+
+No line is for this key.
+   c1  REQUEST user other =x 0                         c1 <- ENOKEY (126)
+
+The client has gone, and the daemon, which was told to serve one, ends.
+"""
+
 # A command that is not as the program is, what is told of it, and the status.
 FAULTS = [
     (["/nothing/there"], "No such file", 1),
@@ -127,6 +158,25 @@ def beside(rows, words):
     return False
 
 
+def by_hand(program):
+    """The commands of README, with what they print there."""
+    block = next(it for it in (top / "README.md").read_text().split("```\n") if it.startswith("$ echo"))
+    got, started = [], None
+    with tempfile.TemporaryDirectory() as room:
+        for line in [line for line in block.splitlines() if line.startswith("$ ")]:
+            words = line[2:].replace("/tmp/", f"{room}/").replace("build/reqkeyd", str(program)).replace("build/reqkeyctl", str(client_of(program)))
+            got.append(line)
+            if words.endswith("&"):
+                started = subprocess.Popen(f"exec {words[:-1]}", shell=True, stderr=subprocess.PIPE, text=True)
+                got.append(started.stderr.readline().rstrip("\n"))
+            else:
+                ran = subprocess.run(words, shell=True, stdout=subprocess.PIPE, stderr=subprocess.STDOUT, text=True, timeout=60)
+                got += ran.stdout.splitlines()
+        status = started.wait(60)
+        started.stderr.close()
+    count.same(f"README by hand, {program.name}", (got, status), (block.splitlines(), 0))
+
+
 for words, want, status in SHOWN:
     check(words, words, want, status)
 example = top / "examples" / "first-path.script"
@@ -137,6 +187,14 @@ scenarios()
 for command, told, status in FAULTS:
     output, ended, errors = shown(example, command)
     count.same(command, (output, ended, told in errors), ("", status, True))
+serve = top / "examples" / "serve.py"
+for program in PROGRAMS:
+    ran = subprocess.run([serve, program], capture_output=True, text=True, timeout=60)
+    count.same(f"{serve.name} {program.name}", (ran.stdout, ran.returncode, ran.stderr), (SERVED, 0, ""))
+    by_hand(program)
+for command, told in [(["/nothing/there"], "No such file"), (["false"], "did not start"), (["echo"], "did not start"), ([], "usage: serve.py COMMAND ..")]:
+    ran = subprocess.run([serve, *command], capture_output=True, text=True, timeout=60)
+    count.same(f"serve.py {command}", ("HELLO" in ran.stdout, ran.returncode, told in ran.stderr), (False, 1 if command else 2, True))
 ran = subprocess.run([demo, "x"], capture_output=True, text=True)
 count.same("too few words", (ran.returncode, ran.stderr), (2, "usage: demo.py SCRIPT COMMAND ..\n"))
 count.end()

@@ -4,18 +4,28 @@ import subprocess
 
 from programs import check_all
 
+# a configuration without a line, and a place where no socket can be
+PATHS = ["--conf", "/dev/null", "--socket", "/dev/null/none"]
+
 # the words, the status, what standard output has and what standard error has; None is nothing at all
 CALLS = [
     ([], 2, None, "Usage: reqkeyd"),
     (["replay"], 0, None, None),
     (["replay", "more"], 2, None, "unexpected argument 'more'"),
     (["replay", "--fast"], 2, None, "unexpected argument '--fast'"),
-    (["serve"], 2, None, "unrecognized subcommand 'serve'"),
+    (["serve"], 2, None, "required arguments were not provided"),
+    (["serve", "--socket", "S"], 2, None, "--conf <PATH>"),
+    (["serve", "--nothing"], 2, None, "unexpected argument '--nothing'"),
+    (["serve", *PATHS, "--sessions", "65"], 2, None, "usage: reqkeyd replay | reqkeyd serve --socket PATH --conf PATH [OPTIONS]"),
+    (["serve", "--conf", "/dev/null/none", "--socket", "/dev/null/none"], 1, None, "reqkeyd: conf\n"),
+    (["serve", *PATHS], 1, None, "reqkeyd: socket\n"),
+    (["server"], 2, None, "unrecognized subcommand 'server'"),
     (["--nothing"], 2, None, "unexpected argument '--nothing'"),
     ([b"\xff"], 2, None, "usage: reqkeyd replay"),
     (["--help"], 0, "Usage: reqkeyd", None),
     (["-h"], 0, "Usage: reqkeyd", None),
     (["replay", "--help"], 0, "Runs a script from standard input", None),
+    (["serve", "--help"], 0, "Answers a Unix socket", None),
     (["--version"], 0, "reqkeyd 0.1.0", None),
     (["-V"], 0, "reqkeyd 0.1.0", None),
 ]

@@ -26,7 +26,7 @@ const AFTER: &str =
 each with a newline.
 
 Examples:
-  reqkeyctl --socket S --uid 1000 request user mykey none hello    find a key, or have it made; prints its serial
+  reqkeyctl --socket S --uid 1000 request user mykey user hello    find a key, or have it made; prints its serial
   reqkeyctl --socket S --uid 1000 read 12                          print its payload
   reqkeyctl assume 12                                              in a handler: take on the authority over its key
   reqkeyctl --payload-from FILE instantiate 12 none                in a handler: give the key the bytes of a file

@@ -11,6 +11,12 @@ asks_replay (name ∷ []) = false
 asks_replay (name ∷ word ∷ []) = bytes_eq word (codes "replay")
 asks_replay (name ∷ word ∷ more ∷ words) = false
 
+-- the word behind the name of the program is `serve`
+abbrev pub names_serve : List (List ℕ) → Bool
+names_serve [] = false
+names_serve (name ∷ []) = false
+names_serve (name ∷ word ∷ words) = bytes_eq word (codes "serve")
+
 -- it read a script to its end and wrote what is written for it: what was left to read, and what was written, before and after
 abbrev pub HasPlayed : Option (List ℕ) → Option (List ℕ) → Option (List ℕ) → Type 0
 HasPlayed unread contents contents' = IfSome unread (λ input. (text : List ℕ) × IsWritten input text × Appends contents contents' text)

@@ -1,7 +1,74 @@
 //! The command line.
 use clap::error::ErrorKind;
-use clap::{Command, Error};
+use clap::{Arg, Command, Error};
 use std::alloc::{AllocError, Global};
+
+/// What `serve --help` says before its options.
+const SERVE: &str =
+    "Answers a Unix socket: keys are found, or made by the handler programs of a configuration.
+
+Connections are served by so many workers at a time; more connections wait, and none is lost. A socket's file that a daemon left behind is \
+replaced, any other file is not.";
+
+/// What `serve --help` says behind its options.
+const AFTER: &str =
+    "Numbers have no sign. Once connections are accepted, standard error says reqkeyd: ready. Sessions that end badly, connections that can't be \
+accepted, and volumes of the record that are dropped (volume HALL INDEX STEPS) are told there, too.
+
+Example:
+  echo 'create user p:* * |/bin/cat' > /etc/reqkeyd.conf
+  reqkeyd serve --socket /run/reqkeyd/socket --conf /etc/reqkeyd.conf &
+  reqkeyctl --socket /run/reqkeyd/socket --uid 1000 request user p:1 user hello
+
+Status: 0 after the connections of --clients; 2 for words that are no call; 1 for a configuration that can't be read (reqkeyd: conf) or has a fault \
+(reqkeyd: conf line 3: C1), a socket that can't be opened or is in use (reqkeyd: socket), or want of memory (reqkeyd: memory).";
+
+/// The options of `serve`, by name, value and what they are for; the first two must be there.
+const OPTIONS: [(&str, &str, &str); 6] = [
+    (
+        "socket",
+        "PATH",
+        "Where the socket is made, in a folder that is there",
+    ),
+    (
+        "conf",
+        "PATH",
+        "The configuration, read once at the start (docs/CONFIGURATION.md)",
+    ),
+    (
+        "negative",
+        "N",
+        "For how many seconds a key is negative that its handler did not make, 0 to 4294967295 [default: 60]",
+    ),
+    (
+        "sessions",
+        "N",
+        "How many connections are served at a time, 1 to 64 [default: 64]",
+    ),
+    (
+        "clients",
+        "N",
+        "End after so many connections, 0 to 4294967295, 0 for never [default: 0]",
+    ),
+    (
+        "mode",
+        "OCTAL",
+        "The permissions of the socket's file, 0 to 777 in octal [default: 600]",
+    ),
+];
+
+/// How many of the options must be there.
+const REQUIRED: usize = 2;
+
+/// `serve` with its options.
+fn serve<'a>(alloc: Global) -> Result<Command<'a>, AllocError> {
+    let mut serve = Command::new(alloc, "serve").about(SERVE).after_help(AFTER);
+    for (at, (name, value, help)) in OPTIONS.iter().enumerate() {
+        let option = Arg::new(alloc, name).long(name).value_name(value);
+        serve = serve.arg(option.required(at < REQUIRED).help(help))?;
+    }
+    Ok(serve)
+}
 
 /// What may stand on the command line.
 pub fn command<'a>(alloc: Global) -> Result<Command<'a>, AllocError> {
@@ -13,7 +80,8 @@ pub fn command<'a>(alloc: Global) -> Result<Command<'a>, AllocError> {
         .about("A user-space daemon for the construction protocol of request_key(2)")
         .subcommand_required(true)
         .disable_help_subcommand(true)
-        .subcommand(replay)
+        .subcommand(replay)?
+        .subcommand(serve(alloc)?)
 }
 
 /// Whether only memory was lacking.

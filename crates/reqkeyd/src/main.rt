@@ -1,9 +1,9 @@
 //! `reqkeyd`, the request_key daemon.
 //!
 //! `reqkeyd replay` runs a script from its standard input to its standard output: what happens, line by line, and what the daemon does
-//! (docs/SCRIPTS.md). `serve`, which answers a socket, is not there yet.
+//! (docs/SCRIPTS.md). `reqkeyd serve` answers a Unix socket (docs/PROTOCOL.md, man/reqkeyd.8).
 //!
-//! All that it does is one call, [`run::run_words`], over words and streams that are passed in, so that tests call what `main` calls.
+//! All that it does is one call, [`run::run_words`], over the words, the streams and the process that are passed in.
 #![tactic(auto)]
 
 mod args;

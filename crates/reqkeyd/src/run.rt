@@ -1,12 +1,20 @@
 //! What the words ask for, done over the streams that are passed in.
-ghost use Rattle.std.specs.Prelude.{◌≡◌, ◌≤◌, true, false, map, string_bytes};
-ghost use Rattle.reqkeyd.specs.Outcome.{asks_replay, HasPlayed, HasTold};
+ghost use Rattle.std.specs.Prelude.{◌≡◌, ◌≤◌, true, false, map, string_bytes, IfSome};
+ghost use Rattle.reqkeyd.specs.Outcome.{asks_replay, names_serve, HasPlayed, HasTold};
 
 use crate::args::{command, is_memory};
 use clap::Error;
+use log::Log;
+use rk_daemon::{Settings, serve};
 use rk_replay::run_script;
 use std::alloc::Global;
-use std::io::{Read, Write};
+use std::fs::Files;
+use std::io::{Eprint, Read, Write};
+use std::net::Net;
+use std::process::{Processes, SystemProcess};
+use std::sync::Wait;
+use std::thread::Threads;
+use std::time::Clock;
 
 /// The status of a run that failed.
 const FAILED: u8 = 1;
@@ -26,7 +34,9 @@ pub fn no_memory<E: Write>(errors: &mut E) -> u8
 pub fn usage<E: Write>(errors: &mut E) -> u8
     ensures { result ≡ 2 }
 {
-    let _ = errors.write_all(b"usage: reqkeyd replay\n");
+    let _ = errors.write_all(
+        b"usage: reqkeyd replay | reqkeyd serve --socket PATH --conf PATH [OPTIONS]\n",
+    );
     USAGE
 }
 
@@ -79,14 +89,26 @@ fn is_replay(words: &[String]) -> bool
 /// `errors`.
 ///
 /// The first word is the name of the program. Where `replay` is the only other one, a script is read from `reader` and played to
-/// `writer`. For all other words nothing is read. Help and the version are asked for, so they are written to `writer` with status 0.
-pub fn run_words<R: AllocGlobal, I: Read, W: Write, E: Write>(
-    rt: &R,
-    words: &[String],
-    reader: &mut I,
-    writer: &mut W,
-    errors: &mut E,
-) -> u8
+/// `writer`. For all other words nothing is read. `serve` with its options runs the daemon, to its end: 1 where it could not begin, with the fault on
+/// `errors`. Help and the version are asked for, so they are written to `writer` with status 0.
+pub fn run_words<
+    R: Files
+        + Net
+        + Threads
+        + Wait
+        + Processes<Started = SystemProcess>
+        + Clock
+        + Eprint
+        + Log
+        + AllocGlobal
+        + Clone
+        + Send
+        + Drop
+        + 'static,
+    I: Read,
+    W: Write,
+    E: Write,
+>(rt: &R, words: &[String], reader: &mut I, writer: &mut W, errors: &mut E) -> u8
     // `replay` and nothing else: with status 0 it has written the lines of a served list for the happenings of the script that it read.
     ensures played { asks_replay (map string_bytes words.now) ≡ true → result ≡ 0
         → HasPlayed (I.remaining reader.old) (W.contents writer.old) (W.contents writer.new) }
@@ -97,14 +119,56 @@ pub fn run_words<R: AllocGlobal, I: Read, W: Write, E: Write>(
     ensures told { asks_replay (map string_bytes words.now) ≡ false → result ≡ 0 → HasTold (W.contents writer.old) (W.contents writer.new) }
     ensures usage { result ≡ 2 → writer.new ≡ writer.old }
 
-    ensures quiet { result ≡ 0 → errors.new ≡ errors.old }
+    // but for `serve`, whose daemon says when it is ready, nothing is said of a run that ends well.
+    ensures quiet { names_serve (map string_bytes words.now) ≡ false → result ≡ 0 → errors.new ≡ errors.old }
     ensures status { result ≤ 2 }
 {
     let alloc = rt.alloc();
     if is_replay(words) {
         return replay(alloc, reader, writer, errors);
     }
-    explain(alloc, words, writer, errors)
+    match settings_of(words) {
+        Some(settings) => daemon(rt, &settings, errors),
+        None => explain(alloc, words, writer, errors),
+    }
+}
+
+/// The settings of words that ask for the daemon.
+fn settings_of<'a>(words: &'a [String]) -> Option<Settings<'a>>
+    ensures { IfSome result (λ s. names_serve (map string_bytes words.now) ≡ true) }
+{
+    match words {
+        [_, word, options @ ..] if word.as_str() == "serve" => Settings::read(options),
+        _ => None,
+    }
+}
+
+/// Runs the daemon.
+fn daemon<
+    R: Files
+        + Net
+        + Threads
+        + Wait
+        + Processes<Started = SystemProcess>
+        + Clock
+        + Eprint
+        + Log
+        + AllocGlobal
+        + Clone
+        + Send
+        + Drop
+        + 'static,
+    E: Write,
+>(rt: &R, settings: &Settings<'_>, errors: &mut E) -> u8
+    ensures status { result ≤ 1 }
+{
+    match serve(rt, settings, errors) {
+        Ok(()) => 0,
+        Err(fault) => {
+            let _ = writeln!(errors, "reqkeyd: {fault}");
+            FAILED
+        }
+    }
 }
 
 /// Answers words that ask for no script: help, the version, or what they lack.

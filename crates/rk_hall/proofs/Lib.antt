@@ -1,3 +1,4 @@
 pub mod WhatIsSeen
 pub mod Receipts
 pub mod Starts
+pub mod Crossing

@@ -1,66 +1,59 @@
--- What is said of a message.
-use Rattle.std.proofs.Common.{◌≡◌, ℕ, List, [], ◌∷◌, ◌++◌, inl, inr, refl, sym, ap, ◌∙◌, subst, append_assoc}
+-- What is said of a message, and how it is told.
+use Rattle.std.proofs.Common.{◌≡◌, ℕ, List, [], ◌∷◌, inl, inr, refl, sym, ap, ◌∙◌, subst, append_assoc}
 use Rattle.std.specs.Prelude.{Option, Some, None, Result, Ok, Err}
-use Rattle.rk_names.specs.declared.errors.Errno.TheVariants.{Enomem}
 use Rattle.rk_names.specs.declared.numbers.SessionId.{SessionId}
+use Rattle.rk_names.specs.declared.errors.Errno.{Errno}
 use Rattle.rk_message.specs.declared.ask.Ask.{Ask}
-use Rattle.rk_message.specs.declared.reply.Reply.{Reply}
-use Rattle.rk_message.specs.declared.reply.Reply.TheVariants as reply
-use Rattle.rk_message.specs.Bodies.{Spells}
+use Rattle.rk_message.specs.declared.fault.Fault.{Fault}
+use Rattle.rk_message.specs.declared.fault.ReadError.{ReadError}
+use Rattle.rk_message.specs.declared.fault.ReadError.TheVariants as unreadable
+use Rattle.rk_message.specs.Faults.{error_answer}
+use Rattle.rk_message.specs.Leftmost.{IsFaultOf}
+use Rattle.rk_message.specs.Table.{asks}
 use Rattle.rk_devices.specs.declared.device.DeviceFault.{DeviceFault}
 use Rattle.rk_devices.specs.Counts.{Rose}
+use Rattle.rk_record.specs.declared.hall_no.HallNo.{HallNo}
+use Rattle.rk_record.specs.declared.told.Told.TheVariants as told
 use Rattle.rk_record.specs.Turns.{Noted}
 use Rattle.rk_hall.specs.declared.lapse.CallFault.{CallFault}
 use Rattle.rk_hall.specs.declared.lapse.CallFault.TheVariants as fault
 use Rattle.rk_talk.specs.declared.saying.Saying.{Saying}
 use Rattle.rk_talk.specs.declared.saying.Saying.TheVariants as saying
-use Rattle.rk_talk.specs.Said.{IsHello, IsNoteOf, IsRefusal, Says, Opens, NoMemory, NoPlaces, IsOfAsk}
-use Rattle.rk_talk.specs.Replies.{reply_bytes, reply_of, ReplyFramed}
+use Rattle.rk_talk.specs.Said.{IsRefusal, IsCollected, Settles, Asks, Collects}
+use Rattle.rk_talk.specs.Replies.{ReplyFramed}
 use Rattle.rk_session.specs.Wires.{Happened, HasNoted, Said, WireShown, and_then, Notes, Writes}
-use Rattle.rk_session.specs.declared.serving.Served.{Served}
-use Rattle.rk_session.specs.declared.serving.Served.TheVariants.{WriteFault, Behind}
-use Rattle.rk_session.specs.Talk.{IsOpening, Replies, Speaks, Tells, TurnEnds, ended, spoken}
+use Rattle.rk_session.specs.Parts.{Speaks, ended, spoken}
+use Rattle.rk_session.specs.Places.{IsSaid, IsShut, NotRead, Says}
+use Rattle.rk_session.specs.declared.standing.Place.{Place}
 
--- what is said of a HELLO whose client could not move
-pub opening_says : (session : SessionId) (body : List ℕ) (a : Ask) (s : Saying) → Spells a body → IsHello a → IsOpening session s → Says session body s
-opening_says session body a (saying.Noted n) spells hello is = (a, spells, Opens hello is.0 is.1)
-opening_says session body a (saying.Short e) spells hello (inl is) = NoMemory is
-opening_says session body a (saying.Short e) spells hello (inr is) = NoPlaces a spells is
-opening_says session body a saying.Behind spells hello is = (a, spells)
+-- of a body that was not read
+pub not_read : (session : SessionId) (from : Place) (body : List ℕ) (error : ReadError) (e : Errno)
+    → ((f : Fault) → ◌≡◌ {A = Result Ask ReadError} (Err error) (Err (unreadable.Fault f)) → IsFaultOf asks body f) → e ≡ error_answer error → Says session from body (saying.Short e) from
+not_read session from body (unreadable.Fault f) e found is = NotRead e (inl (f, found f refl, is))
+not_read session from body unreadable.NoMemory e found is = NotRead e (inr is)
 
--- an opening that was refused
-pub refused_opening : (session : SessionId) (f : CallFault) (s : Saying) → IsRefusal f s → IsOpening session s
-refused_opening session (fault.Behind seen found) s is = subst (IsOpening session) (sym is) tt
-refused_opening session fault.Full s is = subst (IsOpening session) (sym is) (inr refl)
-refused_opening session fault.NoMemory s is = subst (IsOpening session) (sym is) (inl refl)
+-- of an ask whose call was refused
+pub refused_said : (session : SessionId) (hall : HallNo) (a : Ask) (f : CallFault) (s : Saying) → IsRefusal f s → IsSaid session hall a s
+refused_said session hall a (fault.Behind seen found) s is = subst (IsSaid session hall a) (sym is) tt
+refused_said session hall a fault.Full s is = subst (IsSaid session hall a) (sym is) (inr refl)
+refused_said session hall a fault.NoMemory s is = subst (IsSaid session hall a) (sym is) (inl refl)
 
--- the reply is the one of the message
-told_replies : (session : SessionId) (body : List ℕ) (s : Saying) (note : Option Noted) (r : Reply) → Says session body s → Tells s note r
-    → Replies session body note r
-told_replies session body (saying.Noted n) (Some m) r says tells =
-    (subst (IsNoteOf session body) (sym tells.0) says, ap (λ (x : Noted). reply_of x.answer) tells.0 ∙ tells.1)
-told_replies session body (saying.Noted n) None r says tells = (Enomem, NoMemory refl, tells)
-told_replies session body (saying.Short e) None r says tells = (e, says, tells)
-told_replies session body (saying.Short e) (Some m) r says tells = absurd tells
-told_replies session body saying.Behind _ r says tells = absurd tells
+-- of an opening whose call was refused
+pub refused_shut : (session : SessionId) (hall : HallNo) (f : CallFault) (s : Saying) → IsRefusal f s → IsShut session hall s
+refused_shut session hall (fault.Behind seen found) s is = subst (IsShut session hall) (sym is) tt
+refused_shut session hall fault.Full s is = subst (IsShut session hall) (sym is) (inr refl)
+refused_shut session hall fault.NoMemory s is = subst (IsShut session hall) (sym is) (inl refl)
 
--- what was said ends the turn
-pub speaks_ends : (session : SessionId) (body : List ℕ) (x : Saying) (old new : WireShown) → Says session body x → Speaks x (Ok tt) old new
-    → TurnEnds session body (Ok tt) old new
-speaks_ends session body x old new says (note, r, tells, is) = (note, r, told_replies session body x note r says tells, is)
+collected_said : (hall : HallNo) (now : ℕ) (session : SessionId) (a : Ask) (s : Saying) → IsCollected hall now session s → IsSaid session hall a s
+collected_said hall now session a (saying.Noted n) is = (is.0, Collects is.2)
+collected_said hall now session a (saying.Short e) is = absurd is
+collected_said hall now session a saying.Behind is = tt
 
-pub speaks_in_part : (session : SessionId) (body : List ℕ) (x : Saying) (e : DeviceFault) (old new : WireShown) → Says session body x → Speaks x (Err e) old new
-    → TurnEnds session body (Err WriteFault) old new
-speaks_in_part session body x e old new says (note, r, first, others, tells, cut, rose, is) =
-    (note, r, first, others, told_replies session body x note r says tells, cut, rose, is)
-
--- what was said is the turn's
-pub speaks_turn : (session : SessionId) (body : List ℕ) (x : Saying) (reply : Result Unit DeviceFault) (result : Result Unit Served) (old new : WireShown)
-    → Says session body x → Speaks x reply old new → result ≡ ended reply → TurnEnds session body result old new
-speaks_turn session body x (Ok u) result old new says speaks is =
-    subst (λ r. TurnEnds session body r old new) (sym is) (speaks_ends session body x old new says speaks)
-speaks_turn session body x (Err e) result old new says speaks is =
-    subst (λ r. TurnEnds session body r old new) (sym is) (speaks_in_part session body x e old new says speaks)
+-- of an ask whose call gave this receipt
+pub settled_said : (hall : HallNo) (session : SessionId) (a : Ask) (r : Noted) (s : Saying) → r.hall ≡ hall → r.told ≡ told.Asked session a
+    → Settles hall session r s → IsSaid session hall a s
+settled_said hall session a r s here told (inl is) = subst (IsSaid session hall a) (sym is.0) (here, Asks told)
+settled_said hall session a r s here told (inr waits) = collected_said hall waits.1 session a s waits.2
 
 two_more : (story : Option (List Happened)) (x y : Happened) → and_then (and_then story (x ∷ [])) (y ∷ []) ≡ and_then story (x ∷ y ∷ [])
 two_more None x y = refl
@@ -68,7 +61,7 @@ two_more (Some s) x y = ap Some (append_assoc s (x ∷ []) (y ∷ []))
 
 -- a receipt was noted, and then its reply written, or tried
 pub noted_speaks : (n : Noted) (result : Result Unit DeviceFault) (bytes : List ℕ) (old mid new : WireShown) → ReplyFramed n.answer bytes → Notes n old mid
-    → Writes result bytes mid new → Speaks (saying.Noted n) result old new
+    → Writes result bytes mid new → Speaks (saying.Noted n) (ended result) old new
 noted_speaks n (Ok u) bytes old mid new (r, replied, spelt) noted wrote = (
   Some n,
   r,

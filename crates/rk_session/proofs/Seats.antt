@@ -1,6 +1,6 @@
 -- The clients of a seat, hall by hall.
 use Rattle.std.proofs.Common.{◌≡◌, ◌≤◌, ◌<◌, ℕ, ◌+◌, ◌-◌, inl, refl, sym, ap, ◌∙◌, subst, arith}
-use Rattle.std.specs.Prelude.{Option, Some, None, Result, Ok, Err}
+use Rattle.std.specs.Prelude.{Option, Some, None, Result}
 use Rattle.rk_names.specs.declared.numbers.SessionId.{SessionId}
 use Rattle.rk_machine.specs.declared.event.Event.{Event}
 use Rattle.rk_machine.specs.declared.event.Event.TheVariants.{Opened}
@@ -9,7 +9,7 @@ use Rattle.rk_machine.specs.declared.event.Answer.TheVariants as answer
 use Rattle.rk_record.specs.declared.told.Told.TheVariants as told
 use Rattle.rk_talk.specs.declared.saying.Saying.{Saying}
 use Rattle.rk_talk.specs.declared.saying.Saying.TheVariants as saying
-use Rattle.rk_talk.specs.Said.{IsCalled, IsRefused, IsToWait}
+use Rattle.rk_talk.specs.Said.{IsCalled, IsToWait}
 use Rattle.rk_record.specs.declared.hall_no.HallNo.{HallNo}
 use Rattle.rk_record.specs.declared.hall_no.HallNo.TheVariants.{Zero, One, Two, Three}
 use Rattle.rk_record.specs.Turns.{Noted}
@@ -17,7 +17,8 @@ use Rattle.rk_hall.specs.declared.lapse.Lapse.{Lapse}
 use Rattle.rk_hall.specs.Seats.{PartShown, SeatShown, part, with_part, after_call, without_client, opens, OwedSeen}
 use Rattle.rk_talk.specs.Stays.{Clients, Stays, SeesOn, clients_at, with_one, without_one}
 use Rattle.rk_talk.proofs.Seats.{call_stays, owed_stays, stays_on}
-use Rattle.rk_session.specs.Talk.{HasOpened, Leaves, Moves, Refuses}
+use Rattle.rk_session.specs.Moving.{HasOpened, Leaves, Moves, Refuses}
+use Rattle.rk_session.specs.Places.{IsRefused}
 
 -- a part that has seen no less
 sees_part : (h : HallNo) (s : SeatShown) (p : PartShown) → (part h s).seen ≤ p.seen → SeesOn s (with_part h s p)
@@ -156,7 +157,7 @@ opened_by session h now old mid new r None called is stays (reply, done) =
     (stays.clients ∙ more.0, sees_then old mid new more.1 stays.seen)
 opened_by session h now old mid new r (Some (saying.Noted m)) called is stays (same, refused) = (
   stays_on old mid new (call_stays h old mid (Opened session) r (none_refused session r.answer refused) called.3 is) stays,
-  (ap (λ (n : Noted). n.told) same ∙ called.2, subst (λ (n : Noted). IsRefused n.answer) (sym same) refused),
+  (ap (λ (n : Noted). n.hall) same ∙ called.0, ap (λ (n : Noted). n.told) same ∙ called.2, subst (λ (n : Noted). IsRefused n.answer) (sym same) refused),
 )
 opened_by session h now old mid new r (Some (saying.Short e)) called is stays (memory, waits) =
     (stays_on old mid new (call_stays h old mid (Opened session) r (none_waits session r.answer waits) called.3 is) stays, inl memory)

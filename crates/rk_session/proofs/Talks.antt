@@ -1,128 +1,140 @@
 -- A talk, message by message.
-use Rattle.std.proofs.Common.{◌≡◌, ℕ, suc, ◌<◌, ◌≤◌, ◌+◌, List, [], ◌∷◌, ◌++◌, length, refl, sym, ap, ◌∙◌, subst, append_assoc, append-nil, arith}
-use Rattle.std.specs.Prelude.{Option, Some, None, Result, Ok, Err, Bool, true, false, take, nat_lt, if◌then◌else◌}
-use Rattle.rk_devices.specs.Counts.{most, raised}
+use Rattle.std.proofs.Common.{◌≡◌, ℕ, suc, ◌<◌, ◌≤◌, ◌+◌, List, [], ◌∷◌, ◌++◌, length, refl, sym, ap, ◌∙◌, subst, append-nil, arith}
+use Rattle.std.specs.Prelude.{Option, Some, Ok, Err, Bool, true, false, take, nat_lt, if◌then◌else◌}
 use Rattle.std.proofs.lemmas.Bool.{ltb-false}
 use Rattle.std.proofs.lemmas.List.{length-append}
 use Rattle.rk_names.specs.declared.numbers.SessionId.{SessionId}
-use Rattle.rk_frame.specs.Framing.{IsBody, frame}
+use Rattle.rk_frame.specs.Framing.{frame}
 use Rattle.rk_frame.specs.Streams.{TakesBody, IsPartial, HasFault}
-use Rattle.rk_message.specs.declared.reply.Reply.{Reply}
-use Rattle.rk_record.specs.Turns.{Noted}
+use Rattle.rk_frame.specs.Unread.{Unread}
 use Rattle.rk_talk.specs.Replies.{reply_bytes}
+use Rattle.rk_devices.specs.Counts.{most, raised}
 use Rattle.rk_devices.specs.declared.device.DeviceFault.{DeviceFault}
 use Rattle.rk_session.specs.Wires.{Happened, Heard, WireShown, and_then, Reads}
 use Rattle.rk_session.specs.declared.serving.Served.{Served}
 use Rattle.rk_session.specs.declared.serving.Served.TheVariants.{Ended, ReadFault, WriteFault, Malformed, TurnsUsed, Behind}
-use Rattle.rk_frame.specs.Unread.{Unread}
-use Rattle.rk_session.specs.Talk.{
-  Turn,
-  Replies,
-  Talking,
-  begins,
-  hears,
-  turns,
-  told_in,
-  spoken,
-  GoesOn,
-  EndsHere,
-  Ends,
-  TurnEnds,
-  IsEndInTurns,
-  TakesOne,
-  TakesAll,
-  Talked,
-}
+use Rattle.rk_session.specs.declared.standing.Place.{Place}
+use Rattle.rk_session.specs.Places.{Says, at_first}
+use Rattle.rk_session.specs.Talk.{Turn, Talking, begins, hears, turns, told_in, Talked}
+use Rattle.rk_session.specs.Parts.{GoesOn, EndsHere, TurnEnds, IsEndInTurns, TakesOne, TakesAll}
 
 -- what a wire tells, with more
-pub story_then : (story : Option (List Happened)) (s more : List Happened) → story ≡ Some s → and_then story more ≡ Some (s ++ more)
+story_then : (story : Option (List Happened)) (s more : List Happened) → story ≡ Some s → and_then story more ≡ Some (s ++ more)
 story_then story s more is = ap (λ x. and_then x more) is
 
 -- where nothing happened and nothing was taken
-pub goes_nowhere : (session : SessionId) (old new : WireShown) (held held' : List ℕ) → new ≡ old → held' ≡ held → GoesOn session old held new held'
-goes_nowhere session old new held held' same kept begun story is t =
-    (story, ap (λ (w : WireShown). w.story) same ∙ is, subst (Talking session begun story) (sym kept) t)
+pub goes_nowhere : (session : SessionId) (old new : WireShown) (held held' : List ℕ) (from to : Place) → new ≡ old → held' ≡ held → to ≡ from
+    → GoesOn session old held from new held' to
+goes_nowhere session old new held held' from to same kept stayed begun story is t = (
+  story,
+  ap (λ (w : WireShown). w.story) same ∙ is,
+  subst (Talking session begun story held') (sym stayed) (subst (λ h. Talking session begun story h from) (sym kept) t),
+)
 
 -- one after the other
-pub goes_then : (session : SessionId) (a b c : WireShown) (x y z : List ℕ) → GoesOn session a x b y → GoesOn session b y c z → GoesOn session a x c z
-goes_then session a b c x y z f g begun story is t = let one = f begun story is t in g begun one.0 one.1 one.2
+pub goes_then : (session : SessionId) (a b c : WireShown) (x y z : List ℕ) (p q r : Place) → GoesOn session a x p b y q → GoesOn session b y q c z r
+    → GoesOn session a x p c z r
+goes_then session a b c x y z p q r f g begun story is t = let one = f begun story is t in g begun one.0 one.1 one.2
 
 -- and then the end
-pub ends_then : (session : SessionId) (served : Served) (a b c : WireShown) (x y : List ℕ) → GoesOn session a x b y → EndsHere session served b y c
-    → EndsHere session served a x c
-ends_then session served a b c x y f g begun story is t = let one = f begun story is t in g begun one.0 one.1 one.2
+pub ends_then : (session : SessionId) (served : Served) (a b c : WireShown) (x y : List ℕ) (p q : Place) → GoesOn session a x p b y q
+    → EndsHere session served b y q c → EndsHere session served a x p c
+ends_then session served a b c x y p q f g begun story is t = let one = f begun story is t in g begun one.0 one.1 one.2
 
 -- one message more, with its reply
-pub turn_goes : (session : SessionId) (body : List ℕ) (old new : WireShown) (held held' : List ℕ) → TakesBody body held held'
-    → TurnEnds session body (Ok tt) old new → GoesOn session old held new held'
-turn_goes session body old new held held' takes (note, r, replies, is) begun story told t =
+pub turn_goes : (session : SessionId) (body : List ℕ) (old new : WireShown) (held held' : List ℕ) (from to : Place) → TakesBody body held held'
+    → TurnEnds session from body to (Ok tt) old new → GoesOn session old held from new held' to
+turn_goes session body old new held held' from to takes (s, says, (note, r, tells, is)) begun story told t =
     let one : Turn = record { body = body; note = note; reply = r } in (
       story ++ told_in note (reply_bytes r),
       ap (λ (w : WireShown). w.story) is ∙ story_then old.story story (told_in note (reply_bytes r)) told,
-      turns session begun story held' one (subst (Talking session begun story) takes.front t) (takes.is_body, replies),
+      turns session begun story held' one from to (subst (λ h. Talking session begun story h from) takes.front t) (takes.is_body, s, says, tells),
     )
 
 -- the end at a message
-pub turn_ends : (session : SessionId) (body : List ℕ) (served : Served) (old new : WireShown) (held held' : List ℕ) → TakesBody body held held'
-    → TurnEnds session body (Err served) old new → IsEndInTurns served × EndsHere session served old held new
-turn_ends session body WriteFault old new held held' takes (note, r, first, others, replies, cut, rose, is) = (
+pub turn_ends : (session : SessionId) (body : List ℕ) (served : Served) (old new : WireShown) (held held' : List ℕ) (from to : Place)
+    → TakesBody body held held' → TurnEnds session from body to (Err served) old new → IsEndInTurns served × EndsHere session served old held from new
+turn_ends session body WriteFault old new held held' from to takes (s, says, (note, r, first, others, tells, cut, rose, is)) = (
   tt,
   λ begun story told t.
       let one : Turn = record { body = body; note = note; reply = r } in (
         story ++ told_in note first,
         ap (λ (w : WireShown). w.story) is ∙ story_then old.story story (told_in note first) told,
-        (story, one, held', first, others, subst (Talking session begun story) takes.front t, (takes.is_body, replies), cut, refl),
+        (
+          story,
+          one,
+          from,
+          to,
+          held',
+          first,
+          others,
+          subst (λ h. Talking session begun story h from) takes.front t,
+          (takes.is_body, s, says, tells),
+          cut,
+          refl,
+        ),
       ),
 )
-turn_ends session body Behind old new held held' takes (a, spells, is) = (
+turn_ends session body Behind old new held held' from to takes (s, says, (none, is)) = (
   tt,
-  λ begun story told t.
-      (story, ap (λ (w : WireShown). w.story) is ∙ told, (body, held', a, subst (Talking session begun story) takes.front t, takes.is_body, spells)),
+  λ begun story told t. (
+    story,
+    ap (λ (w : WireShown). w.story) is ∙ told,
+    (
+      body,
+      held',
+      from,
+      to,
+      subst (λ h. Talking session begun story h from) takes.front t,
+      takes.is_body,
+      subst (λ x. Says session from body x to) none says,
+    ),
+  ),
 )
-turn_ends session body Ended old new held held' takes ends = absurd ends
-turn_ends session body ReadFault old new held held' takes ends = absurd ends
-turn_ends session body Malformed old new held held' takes ends = absurd ends
-turn_ends session body TurnsUsed old new held held' takes ends = absurd ends
+turn_ends session body Ended old new held held' from to takes (s, says, none) = absurd none
+turn_ends session body ReadFault old new held held' from to takes (s, says, none) = absurd none
+turn_ends session body Malformed old new held held' from to takes (s, says, none) = absurd none
+turn_ends session body TurnsUsed old new held held' from to takes (s, says, none) = absurd none
 
 -- the end at a length that no frame has
-pub malformed_ends : (session : SessionId) (old new : WireShown) (held : List ℕ) → HasFault held → new ≡ old
-    → IsEndInTurns Malformed × EndsHere session Malformed old held new
-malformed_ends session old new held bad same = (tt, λ begun story told t. (story, ap (λ (w : WireShown). w.story) same ∙ told, (held, t, bad)))
+pub malformed_ends : (session : SessionId) (old new : WireShown) (held : List ℕ) (from : Place) → HasFault held → new ≡ old
+    → IsEndInTurns Malformed × EndsHere session Malformed old held from new
+malformed_ends session old new held from bad same =
+    (tt, λ begun story told t. (story, ap (λ (w : WireShown). w.story) same ∙ told, (held, from, t, bad)))
 
--- what a session tells since it began: how far it has come, and what it holds
-abbrev pub Stands : SessionId → WireShown → WireShown → List ℕ → Type 0
-Stands session begun now held = (first : List Happened) → begun.story ≡ Some first → (story : List Happened) × (now.story ≡ Some story) ×
-    Talking session first story held
+-- what a session tells since it began: how far it has come, what it holds, and where its client stands
+abbrev pub Stands : SessionId → WireShown → WireShown → List ℕ → Place → Type 0
+Stands session begun now held place = (first : List Happened) → begun.story ≡ Some first → (story : List Happened) × (now.story ≡ Some story) ×
+    Talking session first story held place
 
-pub stands_first : (session : SessionId) (w : WireShown) → Stands session w w []
+pub stands_first : (session : SessionId) (w : WireShown) → Stands session w w [] at_first
 stands_first session w first is = (first, is, begins session first)
 
 -- more bytes came
-pub stands_heard : (session : SessionId) (begun old new : WireShown) (held held' piece : List ℕ) → Stands session begun old held → IsPartial held
-    → new.story ≡ and_then old.story (Heard piece ∷ []) → held' ≡ held ++ piece → Stands session begun new held'
-stands_heard session begun old new held held' piece s none is fed first begins_so =
+stands_heard : (session : SessionId) (begun old new : WireShown) (held held' piece : List ℕ) (place : Place) → Stands session begun old held place
+    → IsPartial held → new.story ≡ and_then old.story (Heard piece ∷ []) → held' ≡ held ++ piece → Stands session begun new held' place
+stands_heard session begun old new held held' piece place s none is fed first begins_so =
     let one = s first begins_so in (
       one.0 ++ Heard piece ∷ [],
       is ∙ story_then old.story one.0 (Heard piece ∷ []) one.1,
-      subst (Talking session first (one.0 ++ Heard piece ∷ [])) (sym fed) (hears session first one.0 held piece one.2 none),
+      subst (λ h. Talking session first (one.0 ++ Heard piece ∷ []) h place) (sym fed) (hears session first one.0 held piece place one.2 none),
     )
 
 -- messages got their replies
-pub stands_on : (session : SessionId) (begun old new : WireShown) (held held' : List ℕ) → Stands session begun old held → GoesOn session old held new held'
-    → Stands session begun new held'
-stands_on session begun old new held held' s goes first is = let one = s first is in goes first one.0 one.1 one.2
+pub stands_on : (session : SessionId) (begun old new : WireShown) (held held' : List ℕ) (from to : Place) → Stands session begun old held from
+    → GoesOn session old held from new held' to → Stands session begun new held' to
+stands_on session begun old new held held' from to s goes first is = let one = s first is in goes first one.0 one.1 one.2
 
 -- a piece came
-pub stands_read : (session : SessionId) (begun old mid : WireShown) (held held' buf : List ℕ) (n : ℕ) → Stands session begun old held → IsPartial held
-    → Reads (Ok n) buf old mid → held' ≡ held ++ take n buf → Stands session begun mid held'
-stands_read session begun old mid held held' buf n s none read fed =
-    stands_heard session begun old mid held held' (take n buf) s none (ap (λ (w : WireShown). w.story) read) fed
+pub stands_read : (session : SessionId) (begun old mid : WireShown) (held held' buf : List ℕ) (place : Place) (n : ℕ) → Stands session begun old held place
+    → IsPartial held → Reads (Ok n) buf old mid → held' ≡ held ++ take n buf → Stands session begun mid held' place
+stands_read session begun old mid held held' buf place n s none read fed =
+    stands_heard session begun old mid held held' (take n buf) place s none (ap (λ (w : WireShown). w.story) read) fed
 
 -- the end behind them
-pub stands_ends : (session : SessionId) (served : Served) (begun old new : WireShown) (held : List ℕ) → Stands session begun old held
-    → EndsHere session served old held new
-    → (first : List Happened) → begun.story ≡ Some first → (story : List Happened) × (new.story ≡ Some story) × Ends session served first story
-stands_ends session served begun old new held s ends first is = let one = s first is in ends first one.0 one.1 one.2
+pub stands_ends : (session : SessionId) (served : Served) (begun old new : WireShown) (held : List ℕ) (place : Place) → Stands session begun old held place
+    → EndsHere session served old held place new → Talked session served begun new
+stands_ends session served begun old new held place s ends first is = let one = s first is in ends first one.0 one.1 one.2
 
 -- a body that is taken leaves fewer bytes
 pub takes_fewer : (body old new : List ℕ) → TakesBody body old new → length new < length old
@@ -139,42 +151,45 @@ nothing_held = (λ body more is e. absurd (none body more e), refl)
     none body more e = let f : 0 ≡ suc (suc (suc (suc (length (body ++ more))))) = ap length e in omega (arith, f)
 
 -- one message was taken, and got its reply
-pub taken_goes : (session : SessionId) (old new : WireShown) (f f' : Unread) → TakesOne session (Ok true) old f new f' → GoesOn session old f.bytes new f'.bytes
-taken_goes session old new f f' (body, takes, ends) = turn_goes session body old new f.bytes f'.bytes takes ends
+pub taken_goes : (session : SessionId) (old new : WireShown) (f f' : Unread) (from to : Place) → TakesOne session (Ok true) old f from new f' to
+    → GoesOn session old f.bytes from new f'.bytes to
+taken_goes session old new f f' from to (body, takes, ends) = turn_goes session body old new f.bytes f'.bytes from to takes ends
 
-pub taken_fewer : (session : SessionId) (old new : WireShown) (f f' : Unread) → TakesOne session (Ok true) old f new f' → length f'.bytes < length f.bytes
-taken_fewer session old new f f' (body, takes, ends) = takes_fewer body f.bytes f'.bytes takes
+pub taken_fewer : (session : SessionId) (old new : WireShown) (f f' : Unread) (from to : Place) → TakesOne session (Ok true) old f from new f' to
+    → length f'.bytes < length f.bytes
+taken_fewer session old new f f' from to (body, takes, ends) = takes_fewer body f.bytes f'.bytes takes
 
 -- no message is left
-pub all_taken : (session : SessionId) (old mid new : WireShown) (f g h : Unread) → GoesOn session old f.bytes mid g.bytes →
-    TakesOne session (Ok false) mid g new h
-    → TakesAll session (Ok tt) old f new h
-all_taken session old mid new f g h goes (none, kept, room, same) =
-    (goes_then session old mid new f.bytes g.bytes h.bytes goes (goes_nowhere session mid new g.bytes h.bytes same kept), none, room)
+pub all_taken : (session : SessionId) (old mid new : WireShown) (f g h : Unread) (p q r : Place) → GoesOn session old f.bytes p mid g.bytes q
+    → TakesOne session (Ok false) mid g q new h r → TakesAll session (Ok tt) old f p new h r
+all_taken session old mid new f g h p q r goes (none, kept, room, same, stayed) = (
+  goes_then session old mid new f.bytes g.bytes h.bytes p q r goes (goes_nowhere session mid new g.bytes h.bytes q r same kept stayed),
+  none,
+  room,
+)
 
 -- the input is at its end
-pub read_ends : (session : SessionId) (begun old new : WireShown) (held buf : List ℕ) → Stands session begun old held → IsPartial held →
-    Reads (Ok 0) buf old new
-    → Talked session Ended begun new
-read_ends session begun old new held buf s none read first is =
-    let stands = stands_heard session begun old new held held [] s none (ap (λ (w : WireShown). w.story) read) (sym (append-nil held)) first is in
-    (stands.0, stands.1, (held, stands.2, none))
+pub read_ends : (session : SessionId) (begun old new : WireShown) (held buf : List ℕ) (place : Place) → Stands session begun old held place →
+    IsPartial held → Reads (Ok 0) buf old new → Talked session Ended begun new
+read_ends session begun old new held buf place s none read first is =
+    let stands = stands_heard session begun old new held held [] place s none (ap (λ (w : WireShown). w.story) read) (sym (append-nil held)) first is in
+    (stands.0, stands.1, (held, place, stands.2, none))
 
 -- a read failed
-pub fault_ends : (session : SessionId) (e : DeviceFault) (begun old new : WireShown) (held buf : List ℕ) → Stands session begun old held → IsPartial held
-    → Reads (Err e) buf old new → Talked session ReadFault begun new
-fault_ends session e begun old new held buf s none read first is =
+pub fault_ends : (session : SessionId) (e : DeviceFault) (begun old new : WireShown) (held buf : List ℕ) (place : Place)
+    → Stands session begun old held place → IsPartial held → Reads (Err e) buf old new → Talked session ReadFault begun new
+fault_ends session e begun old new held buf place s none read first is =
     let stands = s first is in
-    (stands.0, ap (λ (w : WireShown). w.story) read.1 ∙ stands.1, (held, stands.2, none))
+    (stands.0, ap (λ (w : WireShown). w.story) read.1 ∙ stands.1, (held, place, stands.2, none))
 
 -- the reads are used up
-pub used_ends : (session : SessionId) (begun now : WireShown) (held : List ℕ) → Stands session begun now held → IsPartial held →
-    Talked session TurnsUsed begun now
-used_ends session begun now held s none first is = let stands = s first is in (stands.0, stands.1, (held, stands.2, none))
+pub used_ends : (session : SessionId) (begun now : WireShown) (held : List ℕ) (place : Place) → Stands session begun now held place → IsPartial held
+    → Talked session TurnsUsed begun now
+used_ends session begun now held place s none first is = let stands = s first is in (stands.0, stands.1, (held, place, stands.2, none))
 
 -- a client that was not opened
 pub untold_ends : (session : SessionId) (w : WireShown) → Talked session Ended w w
-untold_ends session w first is = (first, is, ([], begins session first, nothing_held))
+untold_ends session w first is = (first, is, ([], at_first, begins session first, nothing_held))
 
 -- one read more
 pub least_more : (k old mid new : ℕ) → k ≤ old → k < 1048576 → mid ≡ raised old → new ≡ mid → k + 1 ≤ new

@@ -1,2 +1,5 @@
 pub mod Wires
+pub mod Places
 pub mod Talk
+pub mod Parts
+pub mod Moving

@@ -12,16 +12,22 @@
 //! without a receipt is the errno of a body that spells no ask, ENOMEM, or EDQUOT. A session that waits isn't read. In every exit the seat has as many
 //! clients, hall by hall, as before: the client is reported gone. A fault is told only where the wire's count of failures rose. It ends at 1,048,576 reads.
 //!
+//! *Halls.* A client stands in hall 0 at first, without a context. It has one after a HELLO that was answered as done. A HELLO of a client without a context
+//! is asked in the hall of its uid, where the client stands from then on; where it could not be opened there, it stays, and what is noted is the refused
+//! opening in that hall. Every other ask is made in the hall where the client stands. The receipt that is noted of an ask, or of its collect, is of the hall
+//! where it was made.
+//!
 //! # How it is built
 //!
-//! A client stands in hall 0 until it says HELLO, which moves it to the hall of its uid; no contract says in which hall a message is asked.
-//!
-//! `wire` is the trait, `answering` finds what is to be said of a message, `turns` notes and writes it, and `serving` reads. What is common to clients and
-//! plain handlers is in rk_talk. In `specs/`, `Wires` says what is seen of a wire, and `Talk` what a session does.
+//! `wire` is the trait, `standing` opens a client, moves it and reports it gone, `answering` finds what is to be said of a message, `turns` notes and writes
+//! it, and `serving` reads. What is common to clients and plain handlers is in rk_talk. In `specs/`, `Talk` is to be read first: what a session does. It
+//! cites `Places`, what is to be said of a message and where the client stands then, and `Wires`, what is seen of a wire. `Parts` and `Moving` are of
+//! the functions inside: a part of a talk, and the clients of a seat.
 #![tactic(auto)]
 
 mod answering;
 mod serving;
+mod standing;
 mod turns;
 mod wire;
 

@@ -3,9 +3,12 @@ ghost use Rattle.std.specs.Prelude.{◌≡◌, ◌≤◌, ◌+◌, [], MatchBool
 ghost use Rattle.rk_names.specs.declared.numbers.SessionId.TheVariants.{Client};
 ghost use Rattle.rk_devices.specs.Counts.{most};
 ghost use Rattle.rk_talk.specs.Stays.{Stays};
-ghost use Rattle.rk_session.specs.Talk.{Counts, EndCounts, Moves, TakesAll, Talked};
+ghost use Rattle.rk_session.specs.Moving.{Moves};
+ghost use Rattle.rk_session.specs.Parts.{Counts, TakesAll};
+ghost use Rattle.rk_session.specs.Places.{at_first};
+ghost use Rattle.rk_session.specs.Talk.{EndCounts, Talked};
 
-use crate::answering::{Place, leave, open};
+use crate::standing::{Place, leave, open};
 use crate::turns::next_turn;
 use crate::wire::Wire;
 use rk_conf::Conf;
@@ -54,7 +57,7 @@ fn take_all<N: Names, R: Wait, W: Wire, L: Launcher, C: Clock, G: Gate, S: Shelf
 ) -> Result<(), Served>
     requires bound { (L.shown launcher.old).count ≤ most }
     ensures bound { (L.shown launcher.new).count ≤ most }
-    ensures takes { TakesAll (Client client) result (W.shown wire.old) frames.old (W.shown wire.new) frames.new }
+    ensures takes { TakesAll (Client client) result (W.shown wire.old) frames.old place.old (W.shown wire.new) frames.new place.new }
     ensures count { Counts result (W.shown wire.old).count (W.shown wire.new).count }
     ensures reads { (W.shown wire.new).reads ≡ (W.shown wire.old).reads }
     ensures moves { Moves place.old.hall place.new.hall seat.old seat.new }
@@ -70,7 +73,7 @@ fn take_all<N: Names, R: Wait, W: Wire, L: Launcher, C: Clock, G: Gate, S: Shelf
     }
 }
 
-// The reads of a client that was opened.
+// The reads of a client that was just opened.
 fn talk<N: Names, R: Wait, W: Wire, L: Launcher, C: Clock, G: Gate, S: Shelf>(
     rt: &R,
     alloc: Global,
@@ -87,6 +90,7 @@ fn talk<N: Names, R: Wait, W: Wire, L: Launcher, C: Clock, G: Gate, S: Shelf>(
     shelf: &S,
 ) -> Served
     requires frames { (frames.bytes ≡ []) × (4096 ≤ frames.room) }
+    requires first { place.old ≡ at_first }
     requires bound { (L.shown launcher.old).count ≤ most }
     ensures bound { (L.shown launcher.new).count ≤ most }
     ensures talked { Talked (Client client) result (W.shown wire.old) (W.shown wire.new) }
@@ -171,6 +175,6 @@ pub fn serve<N: Names, R: Wait, W: Wire, L: Launcher, C: Clock, G: Gate, S: Shel
         rt, alloc, halls, seat, &mut place, client, frames, conf, wire, launcher, clock, gate,
         shelf,
     );
-    leave(rt, halls, seat, place.hall, client, clock);
+    drop(leave(rt, halls, seat, place.hall, client, clock));
     served
 }

@@ -2,12 +2,13 @@
 ghost use Rattle.std.specs.Prelude.{◌≡◌, ◌≤◌};
 ghost use Rattle.rk_names.specs.declared.numbers.SessionId.TheVariants.{Client};
 ghost use Rattle.rk_devices.specs.Counts.{most};
-ghost use Rattle.rk_talk.specs.Said.{Says};
 ghost use Rattle.rk_talk.specs.declared.saying.Saying.TheVariants as saying;
-ghost use Rattle.rk_session.specs.Talk.{Counts, Moves, Speaks, TurnEnds, TakesOne, ended};
+ghost use Rattle.rk_session.specs.Moving.{Moves};
+ghost use Rattle.rk_session.specs.Parts.{Counts, Speaks, TurnEnds, TakesOne, ended};
 
-use crate::answering::{Place, answered};
+use crate::answering::answered;
 use crate::serving::Served;
+use crate::standing::Place;
 use crate::wire::Wire;
 use rk_conf::Conf;
 use rk_devices::{Clock, DeviceFault, Gate, Launcher};
@@ -20,7 +21,7 @@ use std::sync::Wait;
 
 // Notes the receipt, and then writes the reply of its answer. Where there is no memory for the reply, it is want of memory, and nothing is noted.
 fn tell<W: Wire>(alloc: Global, wire: &mut W, receipt: Receipt) -> Result<(), DeviceFault>
-    ensures speaks { Speaks (saying.Noted receipt) result (W.shown wire.old) (W.shown wire.new) }
+    ensures speaks { Speaks (saying.Noted receipt) (ended result) (W.shown wire.old) (W.shown wire.new) }
     ensures reads { (W.shown wire.new).reads ≡ (W.shown wire.old).reads }
 {
     match answer_frame(alloc, receipt.answer()) {
@@ -34,7 +35,7 @@ fn tell<W: Wire>(alloc: Global, wire: &mut W, receipt: Receipt) -> Result<(), De
 
 // Writes an errno.
 fn refuse<W: Wire>(wire: &mut W, errno: Errno) -> Result<(), DeviceFault>
-    ensures speaks { Speaks (saying.Short errno) result (W.shown wire.old) (W.shown wire.new) }
+    ensures speaks { Speaks (saying.Short errno) (ended result) (W.shown wire.old) (W.shown wire.new) }
     ensures reads { (W.shown wire.new).reads ≡ (W.shown wire.old).reads }
 {
     wire.write(&refusal_frame(errno))
@@ -64,16 +65,13 @@ fn say<R: Wait, W: Wire, G: Gate>(
     alloc: Global,
     wire: &mut W,
     client: u32,
-    body: &[u8],
     saying: Saying,
     gate: &G,
 ) -> Result<(), Served>
-    requires { Says (Client client) body.now saying }
-    ensures ends { TurnEnds (Client client) body.now result (W.shown wire.old) (W.shown wire.new) }
+    ensures speaks { Speaks saying result (W.shown wire.old) (W.shown wire.new) }
     ensures count { Counts result (W.shown wire.old).count (W.shown wire.new).count }
     ensures reads { (W.shown wire.new).reads ≡ (W.shown wire.old).reads }
 {
-    let _ = body;
     match saying {
         Saying::Noted(receipt) => written(rt, client, tell(alloc, wire, receipt), gate),
         Saying::Short(errno) => written(rt, client, refuse(wire, errno), gate),
@@ -99,7 +97,7 @@ fn turn<N: Names, R: Wait, W: Wire, L: Launcher, C: Clock, G: Gate, S: Shelf>(
 ) -> Result<(), Served>
     requires bound { (L.shown launcher.old).count ≤ most }
     ensures bound { (L.shown launcher.new).count ≤ most }
-    ensures ends { TurnEnds (Client client) body.now result (W.shown wire.old) (W.shown wire.new) }
+    ensures ends { TurnEnds (Client client) place.old body.now place.new result (W.shown wire.old) (W.shown wire.new) }
     ensures count { Counts result (W.shown wire.old).count (W.shown wire.new).count }
     ensures reads { (W.shown wire.new).reads ≡ (W.shown wire.old).reads }
     ensures moves { Moves place.old.hall place.new.hall seat.old seat.new }
@@ -107,7 +105,7 @@ fn turn<N: Names, R: Wait, W: Wire, L: Launcher, C: Clock, G: Gate, S: Shelf>(
     let saying = answered(
         rt, alloc, halls, seat, place, client, body, conf, launcher, clock, gate, shelf,
     );
-    say(rt, alloc, wire, client, body, saying, gate)
+    say(rt, alloc, wire, client, saying, gate)
 }
 
 /// Takes the next message, if there is one, and says what is to be said of it. An `Err` is the session's end.
@@ -128,7 +126,7 @@ pub fn next_turn<N: Names, R: Wait, W: Wire, L: Launcher, C: Clock, G: Gate, S: 
 ) -> Result<bool, Served>
     requires bound { (L.shown launcher.old).count ≤ most }
     ensures bound { (L.shown launcher.new).count ≤ most }
-    ensures takes { TakesOne (Client client) result (W.shown wire.old) frames.old (W.shown wire.new) frames.new }
+    ensures takes { TakesOne (Client client) result (W.shown wire.old) frames.old place.old (W.shown wire.new) frames.new place.new }
     ensures count { Counts result (W.shown wire.old).count (W.shown wire.new).count }
     ensures reads { (W.shown wire.new).reads ≡ (W.shown wire.old).reads }
     ensures moves { Moves place.old.hall place.new.hall seat.old seat.new }

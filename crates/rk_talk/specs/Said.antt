@@ -4,7 +4,6 @@ use Rattle.rk_names.specs.declared.errors.Errno.{Errno}
 use Rattle.rk_names.specs.declared.errors.Errno.TheVariants.{Enomem, Edquot}
 use Rattle.rk_names.specs.declared.numbers.SessionId.{SessionId}
 use Rattle.rk_message.specs.declared.ask.Ask.{Ask}
-use Rattle.rk_message.specs.declared.ask.Ask.TheVariants as ask
 use Rattle.rk_message.specs.Bodies.{Spells, IsRefusedAs}
 use Rattle.rk_machine.specs.declared.event.Answer.{Answer}
 use Rattle.rk_machine.specs.declared.event.Answer.TheVariants as answer
@@ -28,21 +27,10 @@ abbrev pub HasLaunch : HallNo → Answer → Option TokenShown → Type 0
 HasLaunch hall a (Some l) = (l.hall ≡ hall) × (a ≡ answer.Start l.key l.subject)
 HasLaunch hall a None = started a ≡ None
 
--- the ask that gives a session its context
-abbrev pub IsHello : Ask → Type 0
-IsHello (ask.Hello _ _ _ _ _) = Unit {0}
-IsHello _ = ⊥
-
--- an answer that is a refusal
-abbrev pub IsRefused : Answer → Type 0
-IsRefused (answer.Refused e) = Unit {0}
-IsRefused _ = ⊥
-
--- the receipt is of this session's ask, of its collect, or of its refused opening before a HELLO
+-- the receipt is of this session's ask, or of its collect
 pub data IsOfAsk (session : SessionId) (a : Ask) (n : Noted) : Type 0 where
   Asks : n.told ≡ told.Asked session a → IsOfAsk session a n
   Collects : n.told ≡ told.Collect session → IsOfAsk session a n
-  Opens : IsHello a → n.told ≡ told.Opened session → IsRefused n.answer → IsOfAsk session a n
 
 -- the body spells an ask, and the receipt is one of it
 abbrev pub IsNoteOf : SessionId → List ℕ → Noted → Type 0

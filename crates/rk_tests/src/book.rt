@@ -3,7 +3,7 @@
 //! A test is a table of lines, each with its answer: what happens to a request_key daemon, and what it says. Every answer was worked out by
 //! hand from docs/MACHINE.md and the manuals, and none was taken from a run. Scenarios of the machine are scripts, in tests/replay.
 //! Here is what those can't play: growths that are refused one by one (`rt try --test --fail-alloc N`), events out of turn, what a book tells
-//! without a step, other serials than those from 1 on, and the answers with the shortest and the longest fields.
+//! without a step, and other serials than those from 1 on.
 //!
 //! # Lines
 //!
@@ -13,14 +13,13 @@
 //! | Line | What happens |
 //! |---|---|
 //! | `100 open c1` | client 1 is there, at the moment 100 |
-//! | `c1 REQUEST user a =x 0` | client 1 asks: the ask's name, then its fields in the order of docs/PROTOCOL.md; a callout is `=x`, none is `-` |
+//! | `c1 hello 1000 1000 3 0` | client 1 says who it is: uid, gid, its own rings (1 a thread ring, 2 a process ring, 3 both), the session ring to join, or 0 |
+//! | `c1 request user a none x` | client 1 asks, in the words of `reqkeyctl` (docs/CLIENT.md) |
 //! | `launched 3 plain` | the handler of key 3 runs; or `piped`, `failed` |
 //! | `ended 3 exit 0 hi` | it ended, with what it put out, if anything; or `signal`, `fault` |
 //! | `collect c1` | client 1 takes the outcome of its wait |
 //! | `gone c1` | client 1 is gone |
 //! | `ready c1`, `waits c1`, `there 1`, `stage 3`, `depth 3`, `peek 3 user a`, `owes gone c1`, `owed c1` | nothing happens: the book is only asked |
-//!
-//! Numbers are those of the asks themselves: rings -1 to -4 are thread, process, session and user, -8 the requestor's, 0 none.
 //!
 //! # Answers
 //!
@@ -29,7 +28,7 @@
 //! | `0`, `3` | done; a number, as the serial of a key |
 //! | `rings 0 0 1 2` | the thread, process, session and user ring of a new context |
 //! | `bytes hi` | a payload, a description or a callout |
-//! | `start 3 user a x 1000 1000 0 0 1` | a start: key, type, description, callout, and the requester's uid, gid, thread, process and session ring |
+//! | `start 3` | a start: the key |
 //! | `waiting 3` | the session waits for key 3 |
 //! | `E126` | refused, by the number of errno(3) |
 //! | `yes`, `no`, `none`, `starting` | what a book that was only asked says |
@@ -37,7 +36,7 @@
 //!
 //! # How it is built
 //!
-//! `words` takes a line apart, `asks` and `moves` read it, `answers` prints what is answered, and here the tables are played: `growths` those of `scenes`, on
+//! `words` takes a line apart, `moves` reads it, `answers` prints what is answered, and here the tables are played: `growths` those of `scenes`, on
 //! two books of which one is a step behind; `misuse`, `views` and `limits` their own.
 use crate::book::answers::play;
 use crate::book::moves::read;
@@ -48,7 +47,6 @@ use std::process::Abort;
 use std::test::Fail;
 
 mod answers;
-mod asks;
 mod growths;
 mod limits;
 mod misuse;
@@ -64,21 +62,21 @@ type Row = (&'static str, &'static str);
 /// A client has a new session ring, and the user ring of its uid.
 const ALONE: &[Row] = &[
     ("100 open c1", "0"),
-    ("c1 HELLO 1000 1000 0 0", "rings 0 0 1 2"),
+    ("c1 hello 1000 1000 0 0", "rings 0 0 1 2"),
 ];
 
 /// A second client joins the session ring of the first.
 const TWO: &[Row] = &[
     ("100 open c1", "0"),
-    ("c1 HELLO 1000 1000 0 0", "rings 0 0 1 2"),
+    ("c1 hello 1000 1000 0 0", "rings 0 0 1 2"),
     ("open c2", "0"),
-    ("c2 HELLO 1000 1000 0 1", "rings 0 0 1 2"),
+    ("c2 hello 1000 1000 0 1", "rings 0 0 1 2"),
 ];
 
 /// A client with a thread ring.
 const THREAD: &[Row] = &[
     ("100 open c1", "0"),
-    ("c1 HELLO 1000 1000 1 0", "rings 1 0 2 3"),
+    ("c1 hello 1000 1000 1 0", "rings 1 0 2 3"),
 ];
 
 /// A book whose keys stay negative for 60 seconds, and whose first serial is this one.
@@ -139,8 +137,15 @@ fn play_tables(
     Ok(())
 }
 
+/// Plays the tables one after the other on a new book, whose first serial is this one.
+fn play_from(rt: &impl Abort, alloc: Global, first: u32, tables: &[&[Row]]) -> Result<(), Fail> {
+    let mut book = new_book(rt, alloc, first)?;
+    let played = play_tables(rt, alloc, &mut book, tables);
+    drop(book);
+    played
+}
+
 /// Plays the tables one after the other on a new book.
 fn play_all(rt: &impl Abort, alloc: Global, tables: &[&[Row]]) -> Result<(), Fail> {
-    let mut book = new_book(rt, alloc, 1)?;
-    play_tables(rt, alloc, &mut book, tables)
+    play_from(rt, alloc, 1, tables)
 }

@@ -1,5 +1,3 @@
-//! The replay: `lines` reads and writes single lines as docs/SCRIPTS.md says, `take` plays happenings and each fault of the streams, `script` runs whole
-//! scripts from a reader to a writer.
-mod lines;
+//! The replay: `take` plays happenings while growths are refused, `script` runs scripts from a reader that fails, or to a writer that does.
 mod script;
 mod take;

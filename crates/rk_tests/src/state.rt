@@ -1,8 +1,5 @@
-//! The libraries of the daemon's state: `table` and `hashed` for rk_table, `keys` for rk_keys, `rings` for rk_rings, `auths` for rk_auth, `machine` for
-//! rk_machine. `proofs/Rising.antt` is for the rings that are made together.
+//! The libraries of the daemon's state, where no script shows them: `table` for rk_table, `rings` for rk_rings, `auths` for rk_auth, `machine` for rk_machine.
 mod auths;
-mod hashed;
-mod keys;
 mod machine;
 mod rings;
 mod table;

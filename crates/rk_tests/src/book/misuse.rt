@@ -13,14 +13,14 @@ const OF_NOTHING: &[Row] = &[
     ("collect h3", "E22"),
     ("launched 3 plain", "E22"),
     ("ended 3 exit 0", "E22"),
-    ("c2 HELLO 1000 1000 0 0", "E22"),
-    ("h3 ASSUME 3", "E22"),
-    ("c1 CALLOUT", "E13"),
-    ("c1 HELLO 1000 1000 0 0", "rings 0 0 1 2"),
-    ("c1 CALLOUT", "E126"),
-    ("c1 READ -7", "E126"),
-    ("c1 READ 0", "E22"),
-    ("c1 READ 1", "E126"),
+    ("c2 hello 1000 1000 0 0", "E22"),
+    ("h3 assume 3", "E22"),
+    ("c1 callout", "E13"),
+    ("c1 hello 1000 1000 0 0", "rings 0 0 1 2"),
+    ("c1 callout", "E126"),
+    ("c1 read auth", "E126"),
+    ("c1 read 0", "E22"),
+    ("c1 read 1", "E126"),
 ];
 
 #[test]
@@ -30,28 +30,28 @@ fn events_of_nothing(rt: HostRuntime) -> Result<(), Fail> {
 
 /// A session that waits asks nothing, and each event has its turn once.
 const OUT_OF_TURN: &[Row] = &[
-    ("c1 REQUEST user a =x 0", "start 3 user a x 1000 1000 0 0 1"),
-    ("c1 READ 3", "E16"),
-    ("c1 HELLO 1000 1000 0 0", "E16"),
+    ("c1 request user a none x", "start 3"),
+    ("c1 read 3", "E16"),
+    ("c1 hello 1000 1000 0 0", "E16"),
     ("ended 3 exit 0", "E22"),
     ("launched 3 plain", "0"),
     ("launched 3 plain", "E22"),
     ("launched 3 failed", "E22"),
     ("open h3", "E22"),
     ("gone h3", "E22"),
-    ("h3 CALLOUT", "E13"),
-    ("h3 HELLO 1000 1000 0 0", "E13"),
-    ("h3 ASSUME 3", "0"),
-    ("h3 HELLO 1000 1000 0 0", "E22"),
+    ("h3 callout", "E13"),
+    ("h3 hello 1000 1000 0 0", "E13"),
+    ("h3 assume 3", "0"),
+    ("h3 hello 1000 1000 0 0", "E22"),
     ("ended 3 exit 0", "0"),
     ("ended 3 exit 0", "E22"),
     ("launched 3 plain", "E22"),
-    ("h3 ASSUME 3", "E22"),
+    ("h3 assume 3", "E22"),
     ("collect c1", "E126"),
     ("collect c1", "E22"),
     ("gone c1", "0"),
     ("gone c1", "E22"),
-    ("c1 READ 3", "E22"),
+    ("c1 read 3", "E22"),
 ];
 
 #[test]
@@ -61,16 +61,16 @@ fn events_out_of_turn(rt: HostRuntime) -> Result<(), Fail> {
 
 /// What a plain handler puts out is no payload, and a piped one has no session.
 const OF_A_PLAIN_HANDLER: &[Row] = &[
-    ("c1 REQUEST user a =x 0", "start 3 user a x 1000 1000 0 0 1"),
+    ("c1 request user a none x", "start 3"),
     ("launched 3 plain", "0"),
     ("ended 3 exit 0 hi", "0"),
     ("collect c1", "E126"),
 ];
 
 const OF_A_PIPED_HANDLER: &[Row] = &[
-    ("c1 REQUEST user a =x 0", "start 3 user a x 1000 1000 0 0 1"),
+    ("c1 request user a none x", "start 3"),
     ("launched 3 piped", "0"),
-    ("h3 ASSUME 3", "E22"),
+    ("h3 assume 3", "E22"),
 ];
 
 #[test]
@@ -81,16 +81,16 @@ fn plain_and_piped_handlers_differ(rt: HostRuntime) -> Result<(), Fail> {
 
 /// A handler that ends while it waits: its wait is gone with it.
 const OF_A_HANDLER_THAT_ENDED: &[Row] = &[
-    ("c1 REQUEST user a =x 0", "start 3 user a x 1000 1000 0 0 1"),
-    ("c2 REQUEST user b =x 0", "start 4 user b x 1000 1000 0 0 1"),
+    ("c1 request user a none x", "start 3"),
+    ("c2 request user b none x", "start 4"),
     ("launched 3 plain", "0"),
     ("launched 4 plain", "0"),
-    ("h3 ASSUME 3", "0"),
-    ("h3 REQUEST user b =x 0", "waiting 4"),
+    ("h3 assume 3", "0"),
+    ("h3 request user b none x", "waiting 4"),
     ("ended 3 signal", "0"),
     ("collect h3", "E22"),
-    ("h4 ASSUME 4", "0"),
-    ("h4 INSTANTIATE 4 b 0", "0"),
+    ("h4 assume 4", "0"),
+    ("h4 instantiate 4 b none", "0"),
     ("collect h3", "E22"),
 ];
 

@@ -1,9 +1,10 @@
 //! A line of a scenario: what happens, or what the book is asked, and when.
-use crate::book::asks::read_ask;
-use crate::book::words::{Fault, Words, payload, session};
+use crate::book::words::{Fault, number, payload, serial, session, words};
+use rk_client::{ask_of, op_named};
 use rk_core::{Event, How, Ran};
+use rk_message::Ask;
 use rk_names::{Description, Moment, Payload, Serial, SessionId, TypeName};
-use std::alloc::Global;
+use std::alloc::{AllocError, Global};
 
 /// A line that was read.
 #[derive(Drop)]
@@ -38,92 +39,101 @@ pub enum Move {
 
 /// The line that these words are.
 pub fn read(alloc: Global, line: &str) -> Result<Line, Fault> {
-    let mut words = Words::new(line);
-    let first = words.word()?;
-    match first.parse::<u64>() {
-        Err(_) => Ok(Line {
-            moment: None,
-            told: read_move(alloc, first, &mut words)?,
-        }),
-        Ok(moment) => {
-            let first = words.word()?;
-            Ok(Line {
-                moment: Some(Moment(moment)),
-                told: read_move(alloc, first, &mut words)?,
-            })
-        }
+    let words = words(alloc, line)?;
+    let moment = match words.first() {
+        Some(first) => first.parse::<u64>().ok(),
+        None => None,
+    };
+    let told = match moment {
+        None => read_move(alloc, &words)?,
+        Some(_) => read_move(alloc, &words[1..])?,
+    };
+    Ok(Line {
+        moment: moment.map(|seconds| Moment(seconds)),
+        told,
+    })
+}
+
+fn read_move(alloc: Global, words: &[&str]) -> Result<Move, Fault> {
+    match words {
+        ["ready", id] => Ok(Move::Ready(session(*id)?)),
+        ["waits", id] => Ok(Move::Waits(session(*id)?)),
+        ["there", client] => Ok(Move::There(number(*client)?)),
+        ["stage", key] => Ok(Move::Stage(serial(*key)?)),
+        ["owed", id] => Ok(Move::Owed(session(*id)?)),
+        ["depth", key] => Ok(Move::Depth(serial(*key)?)),
+        ["owes", event @ ..] => Ok(Move::Owes(read_event(alloc, event)?)),
+        ["peek", key, typ, description] => peek(alloc, *key, *typ, *description),
+        event => Ok(Move::Step(read_event(alloc, event)?)),
     }
 }
 
-fn read_move(alloc: Global, first: &str, words: &mut Words<'_>) -> Result<Move, Fault> {
-    match first {
-        "ready" => Ok(Move::Ready(words.session()?)),
-        "waits" => Ok(Move::Waits(words.session()?)),
-        "there" => Ok(Move::There(words.number()?)),
-        "stage" => Ok(Move::Stage(words.serial()?)),
-        "owed" => Ok(Move::Owed(words.session()?)),
-        "depth" => Ok(Move::Depth(words.serial()?)),
-        "owes" => {
-            let first = words.word()?;
-            Ok(Move::Owes(read_event(alloc, first, words)?))
-        }
-        "peek" => {
-            let key = words.serial()?;
-            let typ = words.type_name(alloc)?;
-            let description = words.description(alloc)?;
-            Ok(Move::Peek(key, typ, description))
-        }
-        first => Ok(Move::Step(read_event(alloc, first, words)?)),
-    }
+fn peek(alloc: Global, key: &str, typ: &str, description: &str) -> Result<Move, Fault> {
+    let key = serial(key)?;
+    let typ = TypeName::new(alloc, typ.as_bytes())?;
+    let description = Description::new(alloc, description.as_bytes())?;
+    Ok(Move::Peek(key, typ, description))
 }
 
-fn read_event(alloc: Global, first: &str, words: &mut Words<'_>) -> Result<Event, Fault> {
-    match first {
-        "open" => Ok(Event::Opened(words.session()?)),
-        "gone" => Ok(Event::Gone(words.session()?)),
-        "collect" => Ok(Event::Collect(words.session()?)),
-        "launched" => {
-            let key = words.serial()?;
-            Ok(Event::Launched(key, ran(words.word()?)?))
+fn read_event(alloc: Global, words: &[&str]) -> Result<Event, Fault> {
+    match words {
+        ["open", id] => Ok(Event::Opened(session(*id)?)),
+        ["gone", id] => Ok(Event::Gone(session(*id)?)),
+        ["collect", id] => Ok(Event::Collect(session(*id)?)),
+        ["launched", key, "plain"] => Ok(Event::Launched(serial(*key)?, Ran::Plain)),
+        ["launched", key, "piped"] => Ok(Event::Launched(serial(*key)?, Ran::Piped)),
+        ["launched", key, "failed"] => Ok(Event::Launched(serial(*key)?, Ran::Failed)),
+        ["ended", key, "exit", status, out @ ..] => {
+            let status = u8::try_from(number(*status)?).ok().ok_or(Fault::Word)?;
+            ended(alloc, *key, How::Exit(status), out)
         }
-        "ended" => {
-            let key = words.serial()?;
-            let how = how(words)?;
-            Ok(Event::Ended(key, how, put_out(alloc, words)?))
+        ["ended", key, "signal", out @ ..] => ended(alloc, *key, How::Signal, out),
+        ["ended", key, "fault", out @ ..] => ended(alloc, *key, How::Fault, out),
+        [id, op, arguments @ ..] => {
+            let id = session(*id)?;
+            Ok(Event::Asked(id, asked(alloc, *op, arguments)?))
         }
-        first => {
-            let id = session(first)?;
-            let name = words.word()?;
-            Ok(Event::Asked(id, read_ask(alloc, name, words)?))
-        }
-    }
-}
-
-fn ran(word: &str) -> Result<Ran, Fault> {
-    match word {
-        "plain" => Ok(Ran::Plain),
-        "piped" => Ok(Ran::Piped),
-        "failed" => Ok(Ran::Failed),
         _ => Err(Fault::Word),
     }
 }
 
-fn how(words: &mut Words<'_>) -> Result<How, Fault> {
-    match words.word()? {
-        "exit" => {
-            let status = u8::try_from(words.number()?).ok().ok_or(Fault::Word)?;
-            Ok(How::Exit(status))
-        }
-        "signal" => Ok(How::Signal),
-        "fault" => Ok(How::Fault),
-        _ => Err(Fault::Word),
-    }
+/// The handler has ended, with what it put out, if anything.
+fn ended(alloc: Global, key: &str, how: How, out: &[&str]) -> Result<Event, Fault> {
+    let key = serial(key)?;
+    let put_out: Option<Payload> = match out.first() {
+        None => None,
+        Some(word) => Some(payload(alloc, *word)?),
+    };
+    Ok(Event::Ended(key, how, put_out))
 }
 
-/// What a handler put out, if anything.
-fn put_out(alloc: Global, words: &mut Words<'_>) -> Result<Option<Payload>, Fault> {
-    match words.last() {
-        None => Ok(None),
-        Some(word) => Ok(Some(payload(alloc, word)?)),
+/// The ask of these words, which are those of `reqkeyctl`, but for HELLO.
+fn asked(alloc: Global, op: &str, arguments: &[&str]) -> Result<Ask, Fault> {
+    if let ("hello", [uid, gid, rings, join]) = (op, arguments) {
+        return hello(*uid, *gid, *rings, *join);
     }
+    let op = op_named(op).ok_or(Fault::Word)?;
+    let arguments = bytes_of(alloc, arguments)?;
+    Ok(ask_of(alloc, op, &arguments)?)
+}
+
+fn bytes_of<'a>(alloc: Global, words: &[&'a str]) -> Result<Vec<&'a [u8]>, AllocError> {
+    let mut bytes = Vec::new(alloc);
+    for word in words {
+        bytes.push(word.as_bytes())?;
+    }
+    Ok(bytes)
+}
+
+/// Who asks: uid, gid, whether a thread ring (1) or a process ring (2) is wanted, and the session ring that is joined, or 0.
+fn hello(uid: &str, gid: &str, rings: &str, join: &str) -> Result<Ask, Fault> {
+    let (uid, gid) = (number(uid)?, number(gid)?);
+    let (rings, join) = (number(rings)?, number(join)?);
+    Ok(Ask::Hello {
+        uid,
+        gid,
+        thread: rings % 2 == 1,
+        process: rings / 2 == 1,
+        join: Serial::new(join),
+    })
 }

@@ -24,26 +24,23 @@ pub(super) const FOLLOWED_BY_NONE: &[Row] = &[
 /// Another handler has the authority of the first, and says for how long there is no key.
 pub(super) const NEGATED_BY_THE_SECOND: &[Row] = &[
     ("launched 3 plain", "0"),
-    ("h3 ASSUME 3", "0"),
-    ("h3 CALLOUT", "bytes x"),
-    ("h3 NEGATE 3 30 0", "0"),
+    ("h3 assume 3", "0"),
+    ("h3 callout", "bytes x"),
+    ("h3 negate 3 30 none", "0"),
     ("100 ended 3 exit 0", "0"),
     ("collect c1", "E126"),
-    ("129 c1 REQUEST user a =x 0", "E126"),
-    (
-        "130 c1 REQUEST user a =x 0",
-        "start 4 user a x 1000 1000 0 0 1",
-    ),
+    ("129 c1 request user a none x", "E126"),
+    ("130 c1 request user a none x", "start 4"),
 ];
 
 /// Another handler makes the key after all.
 const MADE_BY_THE_SECOND: &[Row] = &[
     ("launched 3 plain", "0"),
-    ("h3 ASSUME 3", "0"),
-    ("h3 INSTANTIATE 3 hi 0", "0"),
+    ("h3 assume 3", "0"),
+    ("h3 instantiate 3 hi none", "0"),
     ("ended 3 exit 1", "0"),
     ("collect c1", "3"),
-    ("c1 READ 3", "bytes hi"),
+    ("c1 read 3", "bytes hi"),
 ];
 
 /// No third handler follows.

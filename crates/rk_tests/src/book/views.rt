@@ -3,9 +3,9 @@ use super::*;
 
 /// A payload is seen by the handler of a key, in the rings of its requester, as long as its authority is unspent.
 const WHAT_A_HANDLER_SEES: &[Row] = &[
-    ("c1 ADD user b hi -3", "3"),
+    ("c1 add user b hi session", "3"),
     ("peek 3 user b", "none"),
-    ("c1 REQUEST user a =x 0", "start 4 user a x 1000 1000 0 0 1"),
+    ("c1 request user a none x", "start 4"),
     ("peek 4 user b", "bytes hi"),
     ("peek 4 user c", "none"),
     ("peek 4 other b", "none"),
@@ -39,12 +39,12 @@ const IN_PEACE: &[Row] = &[
     ("owes gone c9", "no"),
     ("owes gone h3", "no"),
     ("owes open c9", "no"),
-    ("owes c1 CALLOUT", "no"),
+    ("owes c1 callout", "no"),
 ];
 
 const WHILE_IT_STARTS: &[Row] = &[
-    ("c1 REQUEST user a =x 0", "start 3 user a x 1000 1000 0 0 1"),
-    ("c2 REQUEST user a =x 0", "waiting 3"),
+    ("c1 request user a none x", "start 3"),
+    ("c2 request user a none x", "waiting 3"),
     ("waits c1", "yes"),
     ("waits c2", "yes"),
     ("ready c1", "no"),
@@ -64,9 +64,9 @@ const WHILE_IT_RUNS: &[Row] = &[
     ("owed h3", "1 1"),
     ("owes launched 3 plain", "no"),
     ("owes ended 3 signal", "yes"),
-    ("h3 ASSUME 3", "0"),
+    ("h3 assume 3", "0"),
     ("depth 3", "1"),
-    ("h3 NEGATE 3 10 0", "0"),
+    ("h3 negate 3 10 none", "0"),
     ("depth 3", "none"),
     ("ready c1", "no"),
     ("owes collect c1", "no"),

@@ -1,14 +1,12 @@
 //! The words of a line.
-use rk_names::{Callout, Description, NameFault, Payload, Serial, SessionId, TypeName};
+use rk_client::ArgumentFault;
+use rk_names::{NameFault, Payload, Serial, SessionId};
 use std::alloc::{AllocError, Global};
-use std::str::SplitWhitespace;
 
 /// Why a line can't be read.
 #[derive(Debug, Drop)]
 pub enum Fault {
-    /// A word is missing.
-    Missing,
-    /// A word is not what stands there.
+    /// A word is missing, or is not what stands there.
     Word,
     NoMemory,
 }
@@ -23,72 +21,35 @@ impl From<NameFault> for Fault {
     fn from(fault: NameFault) -> Fault {
         match fault {
             NameFault::NoMemory => Fault::NoMemory,
-            NameFault::Empty | NameFault::TooLong | NameFault::Dot | NameFault::Byte => Fault::Word,
+            _ => Fault::Word,
         }
     }
 }
 
-/// What is left of a line.
-#[derive(Drop)]
-pub struct Words<'a> {
-    rest: SplitWhitespace<'a>,
+impl From<ArgumentFault> for Fault {
+    fn from(fault: ArgumentFault) -> Fault {
+        match fault {
+            ArgumentFault::NoMemory => Fault::NoMemory,
+            _ => Fault::Word,
+        }
+    }
 }
 
-impl<'a> Words<'a> {
-    pub fn new(line: &'a str) -> Words<'a> {
-        Words {
-            rest: line.split_whitespace(),
-        }
+/// The words of a line, as arguments.
+pub fn words<'a>(alloc: Global, line: &'a str) -> Result<Vec<&'a str>, AllocError> {
+    let mut words = Vec::new(alloc);
+    for word in line.split_whitespace() {
+        words.push(word)?;
     }
+    Ok(words)
+}
 
-    /// The next word.
-    pub fn word(&mut self) -> Result<&'a str, Fault> {
-        self.rest.next().ok_or(Fault::Missing)
-    }
+pub fn number(word: &str) -> Result<u32, Fault> {
+    word.parse::<u32>().ok().ok_or(Fault::Word)
+}
 
-    /// The next word, if there is one.
-    pub fn last(&mut self) -> Option<&'a str> {
-        self.rest.next()
-    }
-
-    pub fn number(&mut self) -> Result<u32, Fault> {
-        self.word()?.parse::<u32>().ok().ok_or(Fault::Word)
-    }
-
-    /// A key, a ring or a setting, as an ask names it.
-    pub fn signed(&mut self) -> Result<i32, Fault> {
-        self.word()?.parse::<i32>().ok().ok_or(Fault::Word)
-    }
-
-    pub fn serial(&mut self) -> Result<Serial, Fault> {
-        Serial::new(self.number()?).ok_or(Fault::Word)
-    }
-
-    pub fn session(&mut self) -> Result<SessionId, Fault> {
-        session(self.word()?)
-    }
-
-    pub fn type_name(&mut self, alloc: Global) -> Result<TypeName, Fault> {
-        Ok(TypeName::new(alloc, self.word()?.as_bytes())?)
-    }
-
-    pub fn description(&mut self, alloc: Global) -> Result<Description, Fault> {
-        Ok(Description::new(alloc, self.word()?.as_bytes())?)
-    }
-
-    pub fn payload(&mut self, alloc: Global) -> Result<Payload, Fault> {
-        payload(alloc, self.word()?)
-    }
-
-    /// `-` is no callout, `=` an empty one.
-    pub fn callout(&mut self, alloc: Global) -> Result<Option<Callout>, Fault> {
-        let word = self.word()?;
-        if word == "-" {
-            return Ok(None);
-        }
-        let told = word.strip_prefix('=').ok_or(Fault::Word)?;
-        Ok(Some(Callout::new(alloc, told.as_bytes())?))
-    }
+pub fn serial(word: &str) -> Result<Serial, Fault> {
+    Serial::new(number(word)?).ok_or(Fault::Word)
 }
 
 pub fn payload(alloc: Global, word: &str) -> Result<Payload, Fault> {
@@ -97,10 +58,9 @@ pub fn payload(alloc: Global, word: &str) -> Result<Payload, Fault> {
 
 /// `c1` is a client, `h3` the handler of a key.
 pub fn session(word: &str) -> Result<SessionId, Fault> {
-    if let Some(number) = word.strip_prefix('c') {
-        return Ok(SessionId::Client(number.parse::<u32>().ok().ok_or(Fault::Word)?));
+    if let Some(client) = word.strip_prefix('c') {
+        return Ok(SessionId::Client(number(client)?));
     }
-    let number = word.strip_prefix('h').ok_or(Fault::Word)?;
-    let number = number.parse::<u32>().ok().ok_or(Fault::Word)?;
-    Ok(SessionId::Handler(Serial::new(number).ok_or(Fault::Word)?))
+    let key = word.strip_prefix('h').ok_or(Fault::Word)?;
+    Ok(SessionId::Handler(serial(key)?))
 }

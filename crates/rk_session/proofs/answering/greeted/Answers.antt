@@ -1,5 +1,11 @@
-use Rattle.rk_session.proofs.Sayings.{opening_says}
+use Rattle.rk_session.specs.Places.{Greets, ShutOut}
 use Rattle.rk_session.proofs.answering.greeted.Goals as goal
 
 pub returns-in-Some-clause-says : goal.returns-in-Some-clause-says
-returns-in-Some-clause-says g c = opening_says _ _ c.args.ask c.in-Some.saying c.requires.spells c.requires.hello c.in-Some.ensures.1
+returns-in-Some-clause-says g c =
+    ShutOut c.args.ask c.in-Some.saying c.args.there c.requires.spells c.requires.first c.requires.hello c.in-Some.ensures.1 c.in-Some.ensures.2
+
+pub returns-clause-says : goal.returns-clause-says
+returns-clause-says g c =
+    Greets c.args.ask c.asked-saying.result (record { hall = c.args.there; greeted = c.is_done-place.result }) c.requires.spells c.requires.first
+    c.requires.hello c.asked-saying.ensures.says c.is_done-place.ensures

@@ -10,4 +10,4 @@ returns-in-Some-clause-talked g c = untold_ends (Client c.args.client) (g.W.Wire
 pub returns-clause-stays : goal.returns-clause-stays
 returns-clause-stays g c =
     came_and_went Zero c.talk-served.new.place.hall c.args.seat.now c.open.new.seat c.talk-served.new.seat c.leave.new.seat c.in-None.ensures
-    c.talk-served.ensures.moves c.leave.ensures
+    c.talk-served.ensures.moves c.leave.ensures.leaves

@@ -9,7 +9,7 @@ pub loop-served-init : goal.loop-served-init
 loop-served-init g c = record {
   bound = c.requires.bound;
   goes = goes_nowhere (Client c.args.client) (g.W.Wire.shown c.args.wire.now) (g.W.Wire.shown c.args.wire.now) c.args.frames.now.bytes c.args.frames.now.bytes
-      refl refl;
+      c.args.place.now c.args.place.now refl refl refl;
   count = refl;
   reads = refl;
   moves = stays_moves _ _ _ (stays_same _);
@@ -17,7 +17,7 @@ loop-served-init g c = record {
 
 pub loop-served-smaller : goal.loop-served-smaller
 loop-served-smaller g c = taken_fewer (Client c.args.client) (g.W.Wire.shown c.loop-served.wire) (g.W.Wire.shown c.next_turn.new.wire) c.loop-served.frames
-    c.next_turn.new.frames (rw c.in-Ok-true.field-0-test at c.in-Ok-true.ensures.takes)
+    c.next_turn.new.frames c.loop-served.place c.next_turn.new.place (rw c.in-Ok-true.field-0-test at c.in-Ok-true.ensures.takes)
 
 pub loop-served-preserved : goal.loop-served-preserved
 loop-served-preserved g c =
@@ -26,9 +26,9 @@ loop-served-preserved g c =
     record {
       bound = e.bound;
       goes = goes_then (Client c.args.client) (g.W.Wire.shown c.args.wire.now) (g.W.Wire.shown c.loop-served.wire) (g.W.Wire.shown c.next_turn.new.wire)
-          c.args.frames.now.bytes c.loop-served.frames.bytes c.next_turn.new.frames.bytes i.goes
+          c.args.frames.now.bytes c.loop-served.frames.bytes c.next_turn.new.frames.bytes c.args.place.now c.loop-served.place c.next_turn.new.place i.goes
           (taken_goes (Client c.args.client) (g.W.Wire.shown c.loop-served.wire) (g.W.Wire.shown c.next_turn.new.wire) c.loop-served.frames
-          c.next_turn.new.frames (rw c.in-Ok-true.field-0-test at e.takes));
+          c.next_turn.new.frames c.loop-served.place c.next_turn.new.place (rw c.in-Ok-true.field-0-test at e.takes));
       count = e.count ∙ i.count;
       reads = e.reads ∙ i.reads;
       moves = moves_then _ _ _ _ _ _ i.moves e.moves;
@@ -37,7 +37,7 @@ loop-served-preserved g c =
 pub returns-in-Ok-false-clause-takes : goal.returns-in-Ok-false-clause-takes
 returns-in-Ok-false-clause-takes g c =
     all_taken (Client c.args.client) (g.W.Wire.shown c.args.wire.now) (g.W.Wire.shown c.loop-served.wire) (g.W.Wire.shown c.next_turn.new.wire)
-    c.args.frames.now c.loop-served.frames c.next_turn.new.frames c.loop-served.invariant.goes
+    c.args.frames.now c.loop-served.frames c.next_turn.new.frames c.args.place.now c.loop-served.place c.next_turn.new.place c.loop-served.invariant.goes
     (rw c.in-Ok-false.field-0-test at c.in-Ok-false.ensures.takes)
 
 pub returns-in-Ok-false-clause-moves : goal.returns-in-Ok-false-clause-moves
@@ -47,7 +47,8 @@ pub returns-in-Err-clause-takes : goal.returns-in-Err-clause-takes
 returns-in-Err-clause-takes g c = (
   c.in-Err.ensures.takes.0,
   ends_then (Client c.args.client) c.in-Err.served (g.W.Wire.shown c.args.wire.now) (g.W.Wire.shown c.loop-served.wire)
-      (g.W.Wire.shown c.next_turn.new.wire) c.args.frames.now.bytes c.loop-served.frames.bytes c.loop-served.invariant.goes c.in-Err.ensures.takes.1,
+      (g.W.Wire.shown c.next_turn.new.wire) c.args.frames.now.bytes c.loop-served.frames.bytes c.args.place.now c.loop-served.place
+      c.loop-served.invariant.goes c.in-Err.ensures.takes.1,
 )
 
 pub returns-in-Err-clause-moves : goal.returns-in-Err-clause-moves

@@ -1,9 +1,9 @@
 use Rattle.std.proofs.Common.{refl, sym, ap, ◌∙◌, subst, arith}
 use Rattle.rk_names.specs.declared.numbers.SessionId.TheVariants.{Client}
 use Rattle.rk_frame.specs.Streams.{IsPartial}
-use Rattle.rk_session.specs.Wires.{WireShown, Reads}
-use Rattle.rk_session.specs.declared.serving.Served.TheVariants.{TurnsUsed}
-use Rattle.rk_session.specs.Talk.{IsEndInTurns}
+use Rattle.rk_session.specs.Wires.{WireShown}
+use Rattle.rk_session.specs.Parts.{IsEndInTurns}
+use Rattle.rk_session.specs.Places.{at_first}
 use Rattle.rk_talk.proofs.Seats.{stays_same}
 use Rattle.rk_session.proofs.Seats.{moves_then, stays_moves}
 use Rattle.rk_session.proofs.Talks.{Stands, least_more, most_more, nothing_held, read_ends, stands_ends, stands_first, stands_on, stands_read}
@@ -12,8 +12,10 @@ use Rattle.rk_session.proofs.serving.talk.Goals as goal
 pub loop-init : goal.loop-init
 loop-init g c = record {
   bound = c.requires.bound;
-  stands = subst (Stands (Client c.args.client) (g.W.Wire.shown c.args.wire.now) (g.W.Wire.shown c.args.wire.now)) (sym c.requires.frames.0)
-      (stands_first (Client c.args.client) (g.W.Wire.shown c.args.wire.now));
+  stands = subst (Stands (Client c.args.client) (g.W.Wire.shown c.args.wire.now) (g.W.Wire.shown c.args.wire.now) c.args.frames.bytes)
+      (sym c.requires.first)
+      (subst (λ held. Stands (Client c.args.client) (g.W.Wire.shown c.args.wire.now) (g.W.Wire.shown c.args.wire.now) held at_first)
+      (sym c.requires.frames.0) (stands_first (Client c.args.client) (g.W.Wire.shown c.args.wire.now)));
   is_partial = subst IsPartial (sym c.requires.frames.0) nothing_held;
   room = c.requires.frames.1;
   least = omega arith;
@@ -25,15 +27,15 @@ loop-init g c = record {
 pub returns-in-Ok-eq0-clause-talked : goal.returns-in-Ok-eq0-clause-talked
 returns-in-Ok-eq0-clause-talked g c =
     read_ends (Client c.args.client) (g.W.Wire.shown c.args.wire.now) (g.W.Wire.shown c.loop.wire) (g.W.Wire.shown c.read.new.self) c.loop.frames.bytes
-    c.read.new.buf c.loop.invariant.stands c.loop.invariant.is_partial
+    c.read.new.buf c.loop.place c.loop.invariant.stands c.loop.invariant.is_partial
     (rw c.in-Ok-eq0.field-0-test at c.in-Ok-eq0.ensures.reads)
 
 pub returns-in-Err-take_all-clause-talked : goal.returns-in-Err-take_all-clause-talked
 returns-in-Err-take_all-clause-talked g c =
     stands_ends (Client c.args.client) c.in-Err-take_all.served (g.W.Wire.shown c.args.wire.now) (g.W.Wire.shown c.read.new.self)
-    (g.W.Wire.shown c.take_all.new.wire) c.feed.new.self.bytes
+    (g.W.Wire.shown c.take_all.new.wire) c.feed.new.self.bytes c.loop.place
     (stands_read (Client c.args.client) (g.W.Wire.shown c.args.wire.now) (g.W.Wire.shown c.loop.wire) (g.W.Wire.shown c.read.new.self) c.loop.frames.bytes
-    c.feed.new.self.bytes c.read.new.buf c.in-Ok.count c.loop.invariant.stands
+    c.feed.new.self.bytes c.read.new.buf c.loop.place c.in-Ok.count c.loop.invariant.stands
     c.loop.invariant.is_partial c.in-Ok.ensures.reads c.in-Ok-feed.ensures.ok)
     c.in-Err-take_all.ensures.takes.1
 
@@ -48,9 +50,9 @@ loop-preserved g c =
     record {
       bound = e.bound;
       stands = stands_on (Client c.args.client) (g.W.Wire.shown c.args.wire.now) (g.W.Wire.shown c.read.new.self) (g.W.Wire.shown c.take_all.new.wire)
-          c.feed.new.self.bytes c.take_all.new.frames.bytes
+          c.feed.new.self.bytes c.take_all.new.frames.bytes c.loop.place c.take_all.new.place
           (stands_read (Client c.args.client) (g.W.Wire.shown c.args.wire.now) (g.W.Wire.shown c.loop.wire) (g.W.Wire.shown c.read.new.self)
-          c.loop.frames.bytes c.feed.new.self.bytes c.read.new.buf c.in-Ok.count i.stands i.is_partial c.in-Ok.ensures.reads
+          c.loop.frames.bytes c.feed.new.self.bytes c.read.new.buf c.loop.place c.in-Ok.count i.stands i.is_partial c.in-Ok.ensures.reads
           c.in-Ok-feed.ensures.ok)
           e.takes.0;
       is_partial = e.takes.1;

@@ -6,4 +6,4 @@ use Rattle.rk_session.proofs.turns.next_turn.Goals as goal
 pub returns-in-Err-clause-takes : goal.returns-in-Err-clause-takes
 returns-in-Err-clause-takes g c =
     let h = subst (λ r. Leaves r c.args.frames.now c.next.follows.lender-at-none) c.in-Whole.is c.next.follows.holds-at-none in
-    turn_ends _ _ c.in-Err.served _ _ _ _ (record { is_body = h.0.0; front = h.0.1 }) c.in-Err.ensures.ends
+    turn_ends _ _ c.in-Err.served _ _ _ _ c.args.place.now c.turn.new.place (record { is_body = h.0.0; front = h.0.1 }) c.in-Err.ensures.ends

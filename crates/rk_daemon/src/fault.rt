@@ -1,0 +1,21 @@
+//! Why nothing is served.
+
+use rk_conf::ConfFault;
+use thiserror::Error;
+
+/// Why nothing is served, in the order in which it is found.
+#[derive(Clone, Copy, Debug, PartialEq, Eq, Error)]
+pub enum Fault {
+    /// The configuration can't be read.
+    #[error("conf")]
+    Unreadable,
+    /// The configuration has a fault.
+    #[error("conf {0}")]
+    Conf(ConfFault),
+    /// The socket can't be opened.
+    #[error("socket")]
+    Socket,
+    /// There was no memory, or no thread could be made.
+    #[error("memory")]
+    NoMemory,
+}

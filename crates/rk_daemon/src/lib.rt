@@ -1,0 +1,27 @@
+//! The daemon that answers a socket.
+//!
+//! # Purpose
+//!
+//! [`serve`] is what `reqkeyd serve` does: it reads a configuration, takes the path of a socket, and has each connection served by one of its workers.
+//!
+//! # How it is built
+//!
+//! `settings` has what an operator sets, `fault` why nothing is served. `socket`, `clock`, `gate` and `shelf` are the devices of a session: the wire over
+//! an accepted socket, seconds of the system's monotonic clock, a gate that holds nobody, and a shelf that names a volume and drops it. `path` takes the
+//! socket's path and gives it free. `workers` serves the connections that `accepting` hands out, and `serving` puts it all together.
+#![tactic(auto)]
+
+mod accepting;
+mod clock;
+mod fault;
+mod gate;
+mod path;
+mod serving;
+mod settings;
+mod shelf;
+mod socket;
+mod workers;
+
+pub use fault::Fault;
+pub use serving::serve;
+pub use settings::Settings;

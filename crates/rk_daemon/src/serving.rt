@@ -1,0 +1,151 @@
+//! The daemon from its start to its end.
+ghost use Rattle.std.specs.Prelude.{◌≡◌};
+
+use crate::accepting::accept;
+use crate::fault::Fault;
+use crate::path::{give_free, take};
+use crate::settings::Settings;
+use crate::workers::{Shared, start};
+use log::Log;
+use rk_conf::Conf;
+use rk_hall::{Fresh, Halls, Names};
+use std::alloc::{AllocError, Global};
+use std::fs;
+use std::fs::Files;
+use std::io::{Eprint, Write};
+use std::marker::Brand;
+use std::net::Net;
+use std::os::unix::net::UnixListener;
+use std::process::{Processes, SystemProcess};
+use std::sync::{Arc, Wait};
+use std::thread::Threads;
+use std::time::{Clock, Instant};
+
+/// How many accepted connections may wait for a worker.
+const WAITING: usize = 64;
+
+/// How many steps a volume of a hall's record has. A record keeps the bytes of what it answered, up to 46 KB for a key that is read, until its volume is
+/// handed out and dropped; so this bounds what a client can have the daemon hold.
+const VOLUME: usize = 8192;
+
+/// What is said once connections are accepted.
+const READY: &[u8] = b"reqkeyd: ready\n";
+
+/// Serves what comes at the listener, with new halls.
+fn serve_at<
+    N: Names + Send + Sync + 'static,
+    R: Threads
+        + Wait
+        + Processes<Started = SystemProcess>
+        + Clock
+        + Eprint
+        + Log
+        + Clone
+        + Send
+        + Drop
+        + 'static,
+    E: Write,
+>(
+    rt: &R,
+    alloc: Global,
+    fresh: Fresh,
+    conf: Conf,
+    listener: UnixListener,
+    settings: &Settings<'_>,
+    errors: &mut E,
+) -> Result<(), AllocError>
+    requires zero { (fresh.zero.calls.name ≡ N.name 0) × (fresh.zero.out.name ≡ N.name 1) }
+    requires one { (fresh.one.calls.name ≡ N.name 2) × (fresh.one.out.name ≡ N.name 3) }
+    requires two { (fresh.two.calls.name ≡ N.name 4) × (fresh.two.out.name ≡ N.name 5) }
+    requires three { (fresh.three.calls.name ≡ N.name 6) × (fresh.three.out.name ≡ N.name 7) }
+{
+    let halls: Halls<N> = Halls::with_volume(alloc, fresh, settings.negative, VOLUME)?;
+    let Ok(begun) = Instant::now(rt) else {
+        return Err(AllocError);
+    };
+    let shared = Arc::new(
+        alloc,
+        Shared {
+            halls,
+            conf,
+            start: begun,
+        },
+    )?;
+    let (to, from) = crossbeam_channel::bounded(alloc, WAITING)?;
+    let workers = start(rt, alloc, &shared, &from, settings.sessions)?;
+    drop(from);
+    let _ = errors.write_all(READY);
+    accept(rt, &listener, &to, settings.clients);
+    drop(listener);
+    drop(to);
+    for worker in workers {
+        worker.join(rt);
+    }
+    Ok(())
+}
+
+/// Serves what comes at the listener, with halls that are named here.
+fn serve_named<
+    R: Threads
+        + Wait
+        + Processes<Started = SystemProcess>
+        + Clock
+        + Eprint
+        + Log
+        + Clone
+        + Send
+        + Drop
+        + 'static,
+    E: Write,
+>(
+    rt: &R,
+    alloc: Global,
+    conf: Conf,
+    listener: UnixListener,
+    settings: &Settings<'_>,
+    errors: &mut E,
+) -> Result<(), AllocError> {
+    let fresh = Fresh::new();
+    serve_at::<Brand, R, E>(rt, alloc, fresh, conf, listener, settings, errors)
+}
+
+/// The configuration of the file at the path.
+fn conf_at<R: Files + AllocGlobal>(rt: &R, path: &str) -> Result<Conf, Fault> {
+    let Ok(text) = fs::read(rt, path) else {
+        return Err(Fault::Unreadable);
+    };
+    match Conf::read(rt.alloc(), &text) {
+        Ok(conf) => Ok(conf),
+        Err(fault) => Err(Fault::Conf(fault)),
+    }
+}
+
+/// Reads the configuration, takes the path of the socket, and serves connections: for good, or until so many have come as the settings say, and those
+/// are served out. `errors` is told once connections are accepted.
+pub fn serve<
+    R: Files
+        + Net
+        + Threads
+        + Wait
+        + Processes<Started = SystemProcess>
+        + Clock
+        + Eprint
+        + Log
+        + AllocGlobal
+        + Clone
+        + Send
+        + Drop
+        + 'static,
+    E: Write,
+>(rt: &R, settings: &Settings<'_>, errors: &mut E) -> Result<(), Fault> {
+    let conf = conf_at(rt, settings.conf)?;
+    let Ok((listener, taken)) = take(rt, settings.socket, settings.mode) else {
+        return Err(Fault::Socket);
+    };
+    let served = serve_named(rt, rt.alloc(), conf, listener, settings, errors);
+    give_free(rt, settings.socket, taken);
+    match served {
+        Ok(()) => Ok(()),
+        Err(AllocError) => Err(Fault::NoMemory),
+    }
+}

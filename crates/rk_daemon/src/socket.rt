@@ -1,0 +1,73 @@
+//! The wire of a client over a socket.
+ghost use Rattle.std.specs.Prelude.{◌≡◌, None};
+ghost use Rattle.rk_devices.specs.Counts.{Rose, raised};
+
+use rk_devices::DeviceFault;
+use rk_hall::Receipt;
+use rk_session::Wire;
+use std::io::{Read, Write};
+use std::os::unix::net::UnixStream;
+
+/// A client's socket. It counts its failures and reads.
+#[derive(Drop)]
+pub struct Socket {
+    stream: UnixStream,
+    failed: u64,
+    reads: u64,
+}
+
+/// One more; the greatest count stays.
+fn one_more(count: u64) -> u64
+    ensures is { result ≡ raised count }
+    ensures rose { Rose count result }
+{
+    if count < u64::MAX { count + 1 } else { count }
+}
+
+impl Socket {
+    /// The socket of a connection that was accepted.
+    pub fn new(stream: UnixStream) -> Socket {
+        Socket {
+            stream,
+            failed: 0,
+            reads: 0,
+        }
+    }
+
+    /// Counts a failure.
+    fn fault(&mut self) -> DeviceFault
+        ensures count { self.new.failed ≡ raised self.old.failed }
+        ensures rose { Rose self.old.failed self.new.failed }
+        ensures reads { self.new.reads ≡ self.old.reads }
+    {
+        self.failed = one_more(self.failed);
+        DeviceFault
+    }
+}
+
+impl Wire for Socket {
+    ghost shown = { λ s. record { count = s.failed; reads = s.reads; story = None } };
+
+    fn read(&mut self, buf: &mut [u8]) -> Result<usize, DeviceFault> {
+        self.reads = one_more(self.reads);
+        match self.stream.read(buf) {
+            Ok(count) => Ok(count),
+            Err(_) => Err(self.fault()),
+        }
+    }
+
+    fn write(&mut self, bytes: &[u8]) -> Result<(), DeviceFault> {
+        match self.stream.write_all(bytes) {
+            Ok(()) => Ok(()),
+            Err(_) => Err(self.fault()),
+        }
+    }
+
+    fn note(&mut self, receipt: Receipt) {
+        drop(receipt);
+    }
+
+    fn failures(&self) -> u64 {
+        self.failed
+    }
+}

@@ -1,0 +1,170 @@
+-- Halls may go to another thread, and be shared by threads: all that they hold may. Each part is a lemma, since a search that goes down through all of
+-- them runs out of steps.
+use denote.RattleType.{RattleType}
+use Prim.Native.Nat.{ℕ}
+use denote.Param.{param, number}
+use denote.Param.Send.{IsSend, IsSync, sendable}
+use Rattle.std.proofs.Crossing.{crosses}
+use Rattle.rk_table.specs.contracts.table.Table as table
+use Rattle.rk_table.specs.contracts.hashed.HashTable as hashed
+use Rattle.rk_table.specs.contracts.counts.Counts as counts
+use Rattle.rk_keys.specs.contracts.key.Key as key
+use Rattle.rk_keys.specs.contracts.keys.Keys as keys
+use Rattle.rk_names.specs.contracts.numbers.NameNo as name
+use Rattle.rk_keys.specs.contracts.by_name.Bucket as bucket
+use Rattle.rk_keys.specs.contracts.serials.Serials as serials
+use Rattle.rk_rings.specs.contracts.row.Row as row
+use Rattle.rk_rings.specs.contracts.rings.Rings as rings
+use Rattle.rk_auth.specs.contracts.construction.Construction as construction
+use Rattle.rk_auth.specs.contracts.construction.Stage as stage
+use Rattle.rk_auth.specs.contracts.construction.Authority as authority
+use Rattle.rk_auth.specs.contracts.session.Wait as wait
+use Rattle.rk_names.specs.contracts.context.Context as context
+use Rattle.rk_auth.specs.contracts.session.Session as session
+use Rattle.rk_auth.specs.contracts.auths.Auths as auths
+use Rattle.rk_core.specs.contracts.book.Book as book
+use Rattle.rk_message.specs.contracts.ask.Ask as ask
+use Rattle.rk_message.specs.contracts.reply.Reply as reply
+use Rattle.rk_macro.specs.contracts.subject.Subject as subject
+use Rattle.rk_machine.specs.contracts.event.Event as event
+use Rattle.rk_machine.specs.contracts.event.Answer as answer
+use Rattle.rk_record.specs.contracts.recorded.Recorded as recorded
+use Rattle.rk_record.specs.contracts.room.Room as room
+use Rattle.rk_record.specs.contracts.journal.Journal as journal
+use Rattle.rk_record.specs.contracts.hall.Hall as hall
+use Rattle.std.proofs.sync.ledger.Book.TheSendSync as accounts
+use Rattle.std.proofs.sync.ledger.Share.TheSendSync as shares
+use Rattle.std.specs.contracts.alloc.Global as global
+use Rattle.rk_hall.specs.declared.names.Names as names
+use Rattle.rk_hall.specs.contracts.locked.Locked as locked
+use Rattle.rk_hall.specs.contracts.lock.Lock as lock
+use Rattle.rk_hall.specs.contracts.halls.Halls as halls
+
+pub global_send : IsSend global.the_row
+global_send = search (sendable, crosses) depth 40 fits 20000
+
+-- ---- tables
+
+pub table_send : (V : RattleType) → IsSend V → IsSend (table.the_row V)
+table_send V v = search (sendable, crosses) depth 40
+
+pub hashed_send : (V : RattleType) → IsSend V → IsSend (hashed.the_row V)
+hashed_send V v = search (sendable, crosses) depth 40
+
+pub counts_send : IsSend counts.the_row
+counts_send = search (sendable, crosses) depth 40
+
+-- ---- keys
+
+pub key_send : IsSend key.the_row
+key_send = search (sendable, crosses) depth 40
+
+pub bucket_send : IsSend bucket.the_row
+bucket_send = search (sendable, crosses) depth 40
+
+pub serials_send : IsSend serials.the_row
+serials_send = search (sendable, crosses) depth 40
+
+pub keys_send : IsSend keys.the_row
+keys_send =
+    let f = hashed_send key.the_row key_send in
+    let n = hashed_send name.the_row (search (sendable, crosses) depth 40) in
+    let b = hashed_send bucket.the_row bucket_send in
+    let c = counts_send in
+    let s = serials_send in
+    search (sendable, crosses) depth 40
+
+-- ---- rings
+
+pub row_send : IsSend row.the_row
+row_send = search (sendable, crosses) depth 40
+
+pub rings_send : IsSend rings.the_row
+rings_send = let r = table_send row.the_row row_send in let c = counts_send in search (sendable, crosses) depth 40
+
+-- ---- sessions and constructions
+
+pub context_send : IsSend context.the_row
+context_send = search (sendable, crosses) depth 40 fits 20000
+
+pub wait_send : IsSend wait.the_row
+wait_send = search (sendable, crosses) depth 40 fits 20000
+
+pub session_send : IsSend session.the_row
+session_send = let c = context_send in let w = wait_send in search (sendable, crosses) depth 40 fits 20000
+
+pub stage_send : IsSend stage.the_row
+stage_send = let c = context_send in let s = session_send in search (sendable, crosses) depth 40 fits 20000
+
+pub authority_send : IsSend authority.the_row
+authority_send = let c = context_send in search (sendable, crosses) depth 40 fits 20000
+
+pub construction_send : IsSend construction.the_row
+construction_send = let s = stage_send in let a = authority_send in search (sendable, crosses) depth 40 fits 20000
+
+pub auths_send : IsSend auths.the_row
+auths_send =
+    let c = table_send construction.the_row construction_send in
+    let s = table_send session.the_row session_send in
+    search (sendable, crosses) depth 40
+
+-- ---- the book and the record of its steps
+
+pub book_send : IsSend book.the_row
+book_send = let k = keys_send in let r = rings_send in let a = auths_send in search (sendable, crosses) depth 40
+
+pub ask_send : IsSend ask.the_row
+ask_send = search (sendable, crosses) depth 40 fits 20000
+
+pub reply_send : IsSend reply.the_row
+reply_send = search (sendable, crosses) depth 40 fits 20000
+
+pub subject_send : IsSend subject.the_row
+subject_send = search (sendable, crosses) depth 40 fits 20000
+
+pub event_send : IsSend event.the_row
+event_send = let a = ask_send in search (sendable, crosses) depth 40 fits 20000
+
+pub answer_send : IsSend answer.the_row
+answer_send = let r = reply_send in let s = subject_send in search (sendable, crosses) depth 40 fits 20000
+
+pub recorded_send : IsSend recorded.the_row
+recorded_send = let e = event_send in let a = answer_send in search (sendable, crosses) depth 40 fits 20000
+
+pub room_send : IsSend room.the_row
+room_send = search (sendable, crosses) depth 40 fits 20000
+
+pub journal_send : IsSend journal.the_row
+journal_send = let r = recorded_send in let o = room_send in search (sendable, crosses) depth 40 fits 20000
+
+pub hall_send : IsSend hall.the_row
+hall_send = let b = book_send in let j = journal_send in search (sendable, crosses) depth 40 fits 20000
+
+-- ---- the halls, whose ledgers are named by a type that may go to another thread
+
+module _ (N : RattleType) (g : names.Ghosts N.Denot) where
+  module _ (h : ℕ) where
+    pub locked_send : IsSend N → IsSend (locked.the_row N (number h) g)
+    locked_send n = let b = hall_send in search (sendable, crosses, accounts.the_send, shares.the_send) depth 40 fits 20000
+
+    pub lock_send : IsSend N → IsSend (lock.the_field N (number h) g).row
+    lock_send n = let l = locked_send n in search (sendable, crosses) depth 40 fits 20000
+
+    pub lock_sync : IsSend N → IsSync (lock.the_field N (number h) g).row
+    lock_sync n = let l = locked_send n in search (sendable, crosses) depth 40 fits 20000
+
+  pub halls_send : IsSend N → IsSend (halls.the_row N g)
+  halls_send n =
+      let a = lock_send 0 n in
+      let b = lock_send 1 n in
+      let c = lock_send 2 n in
+      let d = lock_send 3 n in
+      search (sendable, crosses) depth 40 fits 20000
+
+  pub halls_sync : IsSend N → IsSync (halls.the_row N g)
+  halls_sync n =
+      let a = lock_sync 0 n in
+      let b = lock_sync 1 n in
+      let c = lock_sync 2 n in
+      let d = lock_sync 3 n in
+      search (sendable, crosses) depth 40 fits 20000

@@ -1,0 +1,35 @@
+//! Answers in few words.
+use rk_machine::Answer;
+use rk_message::Reply;
+use rk_names::Errno;
+
+/// What is said to an event.
+#[derive(Clone, Copy, Debug, PartialEq, Eq)]
+pub enum Said {
+    Number(u32),
+    /// The session ring and the user ring.
+    Rings(u32, u32),
+    Bytes,
+    Start(u32),
+    Negate(u32),
+    Waiting(u32),
+    Refused(Errno),
+    /// Nothing, since the record is full.
+    Full,
+    /// Nothing, for want of memory.
+    NoMemory,
+}
+
+/// What was answered.
+pub fn in_words(answer: &Answer) -> Said {
+    match answer {
+        Answer::Done(Reply::Number(number)) => Said::Number(*number),
+        Answer::Done(Reply::Rings { session, user, .. }) => Said::Rings(*session, *user),
+        Answer::Done(Reply::Bytes(_)) => Said::Bytes,
+        Answer::Done(Reply::Refused(errno)) => Said::Refused(*errno),
+        Answer::Start(key, _) => Said::Start(key.get()),
+        Answer::Negate(key) => Said::Negate(key.get()),
+        Answer::Waiting(key) => Said::Waiting(key.get()),
+        Answer::Refused(errno) => Said::Refused(*errno),
+    }
+}

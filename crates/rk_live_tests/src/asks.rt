@@ -1,0 +1,51 @@
+//! What the client of the tests asks.
+use rk_message::Ask;
+use rk_names::{Callout, Description, Payload, SessionId, TypeName};
+use std::alloc::{AllocError, Global};
+
+/// The client of the tests.
+pub const CLIENT: SessionId = SessionId::Client(1);
+
+/// The client says that it is user 1000.
+pub fn hello() -> Ask {
+    Ask::Hello {
+        uid: 1000,
+        gid: 1000,
+        thread: false,
+        process: false,
+        join: None,
+    }
+}
+
+/// It adds the key of this name, with the payload `v`, to its session ring.
+pub fn add(alloc: Global, name: &[u8]) -> Result<Ask, AllocError> {
+    Ok(Ask::Add {
+        typ: user(alloc)?,
+        description: description(alloc, name)?,
+        payload: payload(alloc, b"v")?,
+        ring: -3,
+    })
+}
+
+/// It requests the key of this name, with the callout `x`.
+pub fn request(alloc: Global, name: &[u8]) -> Result<Ask, AllocError> {
+    let callout = Callout::new(alloc, b"x").map_err(|_| AllocError)?;
+    Ok(Ask::Request {
+        typ: user(alloc)?,
+        description: description(alloc, name)?,
+        callout: Some(callout),
+        destination: 0,
+    })
+}
+
+pub fn user(alloc: Global) -> Result<TypeName, AllocError> {
+    TypeName::new(alloc, b"user").map_err(|_| AllocError)
+}
+
+pub fn description(alloc: Global, name: &[u8]) -> Result<Description, AllocError> {
+    Description::new(alloc, name).map_err(|_| AllocError)
+}
+
+pub fn payload(alloc: Global, bytes: &[u8]) -> Result<Payload, AllocError> {
+    Payload::new(Vec::from_slice(alloc, bytes)?).map_err(|_| AllocError)
+}

@@ -1,0 +1,456 @@
+//! What a requester gets for each thing that a program does, and for each call of a device that fails.
+use crate::answers::Said;
+use crate::children::handling::Handling;
+use crate::fakes::launcher::{Call, Fuse, Program};
+use crate::halls::opening::{Scene, in_new_halls};
+use rk_child::Driven;
+use rk_machine::How;
+use rk_names::Errno;
+use std::alloc::Global;
+use std::process::Abort;
+use std::sync::Wait;
+
+const ASSUME_12: &[u8] = b"\0\0\0\x05\x03\0\0\0\x0c";
+
+const ASSUME_16: &[u8] = b"\0\0\0\x05\x03\0\0\0\x10";
+
+const INSTANTIATE_12: &[u8] = b"\0\0\0\x0d\x04\0\0\0\x0c\0\x02hi\0\0\0\0";
+
+const INSTANTIATE_16: &[u8] = b"\0\0\0\x0d\x04\0\0\0\x10\0\x02hi\0\0\0\0";
+
+/// For 30 seconds.
+const NEGATE_12: &[u8] = b"\0\0\0\x0d\x05\0\0\0\x0c\0\0\0\x1e\0\0\0\0";
+
+/// Of type user, with the callout `x`: the descriptions are the letters from `b` on.
+const REQUEST_B: &[u8] = b"\0\0\0\x12\x02\0\x04user\0\x01b\x01\0\x01x\0\0\0\0";
+
+const CALLOUT: &[u8] = b"\0\0\0\x01\x10";
+
+const MADE: Said = Said::Number(12);
+
+const NO_KEY: Said = Said::Refused(Errno::Enokey);
+
+const ENDED: Driven = Driven::Ended(How::Exit(0));
+
+/// So many steps has a volume, where it is not looked at.
+const STEPS: usize = 1_048_576;
+
+/// It completes key 12.
+const COMPLETES: Program = Program {
+    says: &[(1, ASSUME_12), (1, INSTANTIATE_12)],
+    endless: false,
+    ends: How::Exit(0),
+};
+
+const SILENT: Program = Program {
+    says: &[],
+    endless: false,
+    ends: How::Exit(0),
+};
+
+/// Ten bytes, which are no frame.
+const FAILS: Program = Program {
+    says: &[(10, b"a")],
+    endless: false,
+    ends: How::Exit(7),
+};
+
+const TEN: Program = Program {
+    says: &[(10, b"a")],
+    endless: false,
+    ends: How::Exit(0),
+};
+
+/// The longest payload.
+const LONGEST: Program = Program {
+    says: &[(32_767, b"a")],
+    endless: false,
+    ends: How::Exit(0),
+};
+
+const TOO_LONG: Program = Program {
+    says: &[(32_768, b"a")],
+    endless: false,
+    ends: How::Exit(0),
+};
+
+/// It completes its key, and then comes a length that no frame has.
+const MALFORMED: Program = Program {
+    says: &[
+        (1, ASSUME_12),
+        (1, INSTANTIATE_12),
+        (1, &[0, 1, 0, 1]),
+        (5_000, b"a"),
+    ],
+    endless: false,
+    ends: How::Signal,
+};
+
+const ENDLESS: Program = Program {
+    says: &[(1, ASSUME_12), (1, INSTANTIATE_12)],
+    endless: true,
+    ends: How::Exit(0),
+};
+
+/// It reads its callout thirty times before it completes its key.
+const ASKS_OFTEN: Program = Program {
+    says: &[(1, ASSUME_12), (30, CALLOUT), (1, INSTANTIATE_12)],
+    endless: false,
+    ends: How::Exit(0),
+};
+
+const NEGATES: Program = Program {
+    says: &[(1, ASSUME_12), (1, NEGATE_12)],
+    endless: false,
+    ends: How::Exit(3),
+};
+
+/// It asks for another key before it completes its own.
+const NESTS: Program = Program {
+    says: &[(1, ASSUME_12), (1, REQUEST_B), (1, INSTANTIATE_12)],
+    endless: false,
+    ends: How::Exit(6),
+};
+
+const IS_NESTED: Program = Program {
+    says: &[(1, ASSUME_16), (1, INSTANTIATE_16)],
+    endless: false,
+    ends: How::Exit(5),
+};
+
+/// A plain handler.
+const PLAIN: Handling = Handling {
+    conf: b"create * * * /bin/h %k\n",
+    programs: &[COMPLETES],
+    most: usize::MAX,
+    fuse: None,
+    driven: ENDED,
+    outcome: MADE,
+    deepest: 1,
+    words: b"/bin/h 12 ",
+    told: None,
+};
+
+/// A piped one.
+const PIPED: Handling = Handling {
+    conf: b"create * * * |/bin/p\n",
+    programs: &[TEN],
+    words: b"/bin/p ",
+    ..PLAIN
+};
+
+/// A piped one that fails, and one that says that the key can't be made.
+const FOLLOWED: Handling = Handling {
+    conf: b"create * * * |/bin/p\nnegate * * * |/bin/n %o %k\n",
+    programs: &[FAILS, NEGATES],
+    driven: Driven::Ended(How::Exit(3)),
+    outcome: NO_KEY,
+    words: b"/bin/p /bin/n negate 12 ",
+    ..PLAIN
+};
+
+/// A handler that asks for key 16.
+const NESTED: Handling = Handling {
+    programs: &[NESTS, IS_NESTED],
+    driven: Driven::Ended(How::Exit(6)),
+    deepest: 2,
+    words: b"/bin/h 12 /bin/h 16 ",
+    ..PLAIN
+};
+
+/// What the program does, which call fails; how the launch ends, and what the client is told.
+type Row = (&'static [Program], Option<Fuse>, Driven, Said);
+
+const PLAIN_ROWS: &[Row] = &[
+    (&[COMPLETES], None, ENDED, MADE),
+    (&[SILENT], None, ENDED, NO_KEY),
+    (&[FAILS], None, Driven::Ended(How::Exit(7)), NO_KEY),
+    (&[MALFORMED], None, Driven::Ended(How::Signal), MADE),
+    (&[ENDLESS], None, Driven::ReadFailed, MADE),
+    (
+        &[COMPLETES],
+        Some(Fuse(1, Call::Read, 1)),
+        Driven::ReadFailed,
+        NO_KEY,
+    ),
+    (
+        &[COMPLETES],
+        Some(Fuse(1, Call::Read, 2)),
+        Driven::ReadFailed,
+        MADE,
+    ),
+    (&[COMPLETES], Some(Fuse(1, Call::Write, 1)), ENDED, NO_KEY),
+    (&[COMPLETES], Some(Fuse(1, Call::Write, 2)), ENDED, MADE),
+    (
+        &[COMPLETES],
+        Some(Fuse(1, Call::Wait, 1)),
+        Driven::WaitFailed,
+        MADE,
+    ),
+    (
+        &[SILENT],
+        Some(Fuse(1, Call::Wait, 1)),
+        Driven::WaitFailed,
+        NO_KEY,
+    ),
+];
+
+const PIPED_ROWS: &[Row] = &[
+    (&[TEN], None, ENDED, MADE),
+    (&[SILENT], None, ENDED, NO_KEY),
+    (&[FAILS], None, Driven::Ended(How::Exit(7)), NO_KEY),
+    (&[LONGEST], None, ENDED, MADE),
+    (&[TOO_LONG], None, ENDED, NO_KEY),
+    (&[ENDLESS], None, Driven::ReadFailed, NO_KEY),
+    (
+        &[TEN],
+        Some(Fuse(1, Call::Read, 2)),
+        Driven::ReadFailed,
+        NO_KEY,
+    ),
+    (&[TEN], Some(Fuse(1, Call::Write, 1)), ENDED, MADE),
+    (
+        &[TEN],
+        Some(Fuse(1, Call::Wait, 1)),
+        Driven::WaitFailed,
+        NO_KEY,
+    ),
+];
+
+/// Plays each row over this handling.
+fn play_rows<R: Wait + Abort>(rt: &R, alloc: Global, handling: Handling, rows: &[Row]) {
+    for (programs, fuse, driven, outcome) in rows {
+        let handling = Handling {
+            programs,
+            fuse: *fuse,
+            driven: *driven,
+            outcome: *outcome,
+            ..handling
+        };
+        in_new_halls(rt, alloc, STEPS, Scene::Handling(handling));
+    }
+}
+
+#[test]
+fn what_one_handler_comes_to(rt: HostRuntime) {
+    play_rows(&rt, rt.alloc(), PLAIN, PLAIN_ROWS);
+    play_rows(&rt, rt.alloc(), PIPED, PIPED_ROWS);
+}
+
+/// Without a command nothing is started, nor where the start fails.
+const NOT_STARTED: &[Handling] = &[
+    Handling {
+        conf: b"# none\n",
+        ..NO_LINE
+    },
+    Handling {
+        conf: b"create user b * /bin/h\n",
+        ..NO_LINE
+    },
+    Handling {
+        conf: b"create * * * /bin/h %{user:x}\n",
+        ..NO_LINE
+    },
+    Handling {
+        conf: b"create * * * /bin/h\n",
+        fuse: Some(Fuse(1, Call::Start, 1)),
+        driven: Driven::StartFailed,
+        ..NO_LINE
+    },
+];
+
+const NO_LINE: Handling = Handling {
+    driven: Driven::NotStarted,
+    outcome: NO_KEY,
+    deepest: 0,
+    words: b"",
+    ..PLAIN
+};
+
+/// A handler is told what its hall answers, and a piped one the callout.
+const TOLD: &[Handling] = &[
+    Handling {
+        told: Some(b"\0\0\0\x05\0\0\0\0\0\0\0\0\x05\0\0\0\0\0"),
+        ..PLAIN
+    },
+    Handling {
+        programs: &[SILENT],
+        outcome: NO_KEY,
+        told: Some(b""),
+        ..PLAIN
+    },
+    Handling {
+        told: Some(b"x"),
+        ..PIPED
+    },
+];
+
+/// A piped handler that puts out nothing, fails or puts out too much is followed by the one that negates; where that one can't be started, it is the last.
+const SECOND: &[Handling] = &[
+    FOLLOWED,
+    Handling {
+        programs: &[SILENT, NEGATES],
+        ..FOLLOWED
+    },
+    Handling {
+        programs: &[TOO_LONG, NEGATES],
+        ..FOLLOWED
+    },
+    Handling {
+        fuse: Some(Fuse(2, Call::Start, 1)),
+        driven: Driven::Ended(How::Exit(7)),
+        words: b"/bin/p ",
+        ..FOLLOWED
+    },
+    Handling {
+        fuse: Some(Fuse(2, Call::Read, 1)),
+        driven: Driven::ReadFailed,
+        ..FOLLOWED
+    },
+];
+
+/// Whatever becomes of the handler of key 16, the first one goes on and makes key 12.
+const OF_ANOTHER_KEY: &[Handling] = &[
+    NESTED,
+    Handling {
+        fuse: Some(Fuse(2, Call::Start, 1)),
+        deepest: 1,
+        words: b"/bin/h 12 ",
+        ..NESTED
+    },
+    Handling {
+        fuse: Some(Fuse(2, Call::Read, 1)),
+        ..NESTED
+    },
+    Handling {
+        fuse: Some(Fuse(2, Call::Read, 2)),
+        ..NESTED
+    },
+    Handling {
+        fuse: Some(Fuse(2, Call::Write, 1)),
+        ..NESTED
+    },
+    Handling {
+        fuse: Some(Fuse(2, Call::Write, 2)),
+        ..NESTED
+    },
+    Handling {
+        fuse: Some(Fuse(2, Call::Wait, 1)),
+        ..NESTED
+    },
+];
+
+#[test]
+fn what_others_come_to(rt: HostRuntime) {
+    for handlings in [NOT_STARTED, TOLD, SECOND, OF_ANOTHER_KEY] {
+        for handling in handlings {
+            in_new_halls(&rt, rt.alloc(), STEPS, Scene::Handling(*handling));
+        }
+    }
+}
+
+/// Of the 26 bytes of two frames any front is too little.
+#[test]
+fn frames_that_are_cut_are_no_asks(rt: HostRuntime) {
+    for most in 0..26 {
+        let cut = Handling {
+            most,
+            outcome: NO_KEY,
+            ..PLAIN
+        };
+        in_new_halls(&rt, rt.alloc(), STEPS, Scene::Handling(cut));
+    }
+}
+
+const OFTEN: &[Program] = &[ASKS_OFTEN];
+
+#[test]
+fn volumes_are_handed_out_while_a_handler_asks(rt: HostRuntime) {
+    for steps in 9..20 {
+        let asking = Handling {
+            programs: OFTEN,
+            ..PLAIN
+        };
+        in_new_halls(&rt, rt.alloc(), steps, Scene::Handling(asking));
+    }
+}
+
+/// Each asks for one more key before it completes its own; the eighth is refused.
+const EIGHT: &[Program] = &[
+    Program {
+        says: &[
+            (1, b"\0\0\0\x05\x03\0\0\0\x0c"),
+            (1, b"\0\0\0\x12\x02\0\x04user\0\x01b\x01\0\x01x\0\0\0\0"),
+            (1, b"\0\0\0\x0d\x04\0\0\0\x0c\0\x02hi\0\0\0\0"),
+        ],
+        ..COMPLETES
+    },
+    Program {
+        says: &[
+            (1, b"\0\0\0\x05\x03\0\0\0\x10"),
+            (1, b"\0\0\0\x12\x02\0\x04user\0\x01c\x01\0\x01x\0\0\0\0"),
+            (1, b"\0\0\0\x0d\x04\0\0\0\x10\0\x02hi\0\0\0\0"),
+        ],
+        ..COMPLETES
+    },
+    Program {
+        says: &[
+            (1, b"\0\0\0\x05\x03\0\0\0\x14"),
+            (1, b"\0\0\0\x12\x02\0\x04user\0\x01d\x01\0\x01x\0\0\0\0"),
+            (1, b"\0\0\0\x0d\x04\0\0\0\x14\0\x02hi\0\0\0\0"),
+        ],
+        ..COMPLETES
+    },
+    Program {
+        says: &[
+            (1, b"\0\0\0\x05\x03\0\0\0\x18"),
+            (1, b"\0\0\0\x12\x02\0\x04user\0\x01e\x01\0\x01x\0\0\0\0"),
+            (1, b"\0\0\0\x0d\x04\0\0\0\x18\0\x02hi\0\0\0\0"),
+        ],
+        ..COMPLETES
+    },
+    Program {
+        says: &[
+            (1, b"\0\0\0\x05\x03\0\0\0\x1c"),
+            (1, b"\0\0\0\x12\x02\0\x04user\0\x01f\x01\0\x01x\0\0\0\0"),
+            (1, b"\0\0\0\x0d\x04\0\0\0\x1c\0\x02hi\0\0\0\0"),
+        ],
+        ..COMPLETES
+    },
+    Program {
+        says: &[
+            (1, b"\0\0\0\x05\x03\0\0\0\x20"),
+            (1, b"\0\0\0\x12\x02\0\x04user\0\x01g\x01\0\x01x\0\0\0\0"),
+            (1, b"\0\0\0\x0d\x04\0\0\0\x20\0\x02hi\0\0\0\0"),
+        ],
+        ..COMPLETES
+    },
+    Program {
+        says: &[
+            (1, b"\0\0\0\x05\x03\0\0\0\x24"),
+            (1, b"\0\0\0\x12\x02\0\x04user\0\x01h\x01\0\x01x\0\0\0\0"),
+            (1, b"\0\0\0\x0d\x04\0\0\0\x24\0\x02hi\0\0\0\0"),
+        ],
+        ..COMPLETES
+    },
+    Program {
+        says: &[
+            (1, b"\0\0\0\x05\x03\0\0\0\x28"),
+            (1, b"\0\0\0\x12\x02\0\x04user\0\x01i\x01\0\x01x\0\0\0\0"),
+            (1, b"\0\0\0\x0d\x04\0\0\0\x28\0\x02hi\0\0\0\0"),
+        ],
+        ..COMPLETES
+    },
+];
+
+#[test]
+fn eight_handlers_are_out_at_most(rt: HostRuntime) {
+    let eight = Handling {
+        conf: b"create * * * /bin/h\n",
+        programs: EIGHT,
+        deepest: 8,
+        words: b"/bin/h /bin/h /bin/h /bin/h /bin/h /bin/h /bin/h /bin/h ",
+        ..PLAIN
+    };
+    in_new_halls(&rt, rt.alloc(), STEPS, Scene::Handling(eight));
+}

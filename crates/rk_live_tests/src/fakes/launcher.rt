@@ -1,0 +1,237 @@
+//! A launcher of programs that are lists of bytes, with a fuse for one call.
+ghost use Rattle.std.specs.Prelude.{◌≡◌, ◌≤◌, length};
+
+use rk_devices::{Child, DeviceFault, Launcher};
+use rk_machine::How;
+use rk_macro::Command;
+use std::alloc::{AllocError, Global};
+
+/// What a program does.
+#[derive(Clone, Copy)]
+pub struct Program {
+    /// What it puts out, each so many times.
+    pub says: &'static [(usize, &'static [u8])],
+    /// Whether it then puts out one more byte for ever.
+    pub endless: bool,
+    /// How it ends.
+    pub ends: How,
+}
+
+/// Which call of a device.
+#[derive(Clone, Copy, PartialEq, Eq)]
+pub enum Call {
+    Start,
+    Read,
+    Write,
+    Wait,
+}
+
+/// The call that fails: of this child, the first one being 1, the call of this number, from 1.
+#[derive(Clone, Copy)]
+pub struct Fuse(pub usize, pub Call, pub u64);
+
+/// Starts the programs, one after the other.
+#[derive(Drop)]
+pub struct Fake {
+    alloc: Global,
+    programs: &'static [Program],
+    /// How many bytes each puts out at most.
+    most: usize,
+    fuse: Option<Fuse>,
+    /// How many were to be started.
+    asked: usize,
+    /// What the children were written, one after the other, as they came back.
+    pub told: Vec<u8>,
+    /// The path and the words of each command, a space behind each.
+    pub words: Vec<u8>,
+    pub failed: u64,
+    longest: u64,
+    pub out: u64,
+    pub deepest: u64,
+    last: Option<Option<How>>,
+}
+
+impl Fake {
+    pub fn new(alloc: Global, programs: &'static [Program], most: usize, fuse: Option<Fuse>) -> Fake
+        ensures { result.failed ≡ 0 }
+    {
+        Fake {
+            alloc,
+            programs,
+            most,
+            fuse,
+            asked: 0,
+            told: Vec::new(alloc),
+            words: Vec::new(alloc),
+            failed: 0,
+            longest: 0,
+            out: 0,
+            deepest: 0,
+            last: None,
+        }
+    }
+
+    /// The program that is next, and what it puts out; none where the start is to fail.
+    fn next(&self) -> Option<(Program, Vec<u8>)> {
+        if burns(self.fuse, self.asked, Call::Start, 1) {
+            return None;
+        }
+        let program = *self.programs.get(self.asked.checked_sub(1)?)?;
+        let mut bytes = spelled(self.alloc, program.says).ok()?;
+        bytes.truncate(self.most);
+        Some((program, bytes))
+    }
+}
+
+/// A program that runs.
+pub struct Running {
+    program: Program,
+    bytes: Vec<u8>,
+    given: usize,
+    fuse: Option<Fuse>,
+    number: usize,
+    told: Vec<u8>,
+    written: u64,
+    failed: u64,
+    reads: u64,
+    waited: Option<Option<How>>,
+}
+
+/// Whether the fuse burns at this call.
+fn burns(fuse: Option<Fuse>, child: usize, call: Call, nth: u64) -> bool {
+    match fuse {
+        None => false,
+        Some(Fuse(of, burning, number)) => of == child && burning == call && number == nth,
+    }
+}
+
+/// All bytes that a program says.
+fn spelled(alloc: Global, says: &[(usize, &[u8])]) -> Result<Vec<u8>, AllocError> {
+    let mut bytes = Vec::new(alloc);
+    for (times, said) in says {
+        for _ in 0..*times {
+            bytes.extend_from_slice(said)?;
+        }
+    }
+    Ok(bytes)
+}
+
+/// Copies as many bytes as there is room for, at most 1,000, to the front of the buffer, and says how many.
+pub fn give(bytes: &[u8], buf: &mut [u8]) -> usize
+    ensures { result ≤ length buf.old }
+{
+    let count = bytes.len().min(buf.len()).min(1_000);
+    buf[..count].copy_from_slice(&bytes[..count]);
+    count
+}
+
+impl Child for Running {
+    ghost shown = { λ c. record { count = c.failed; reads = c.reads; waited = c.waited } };
+
+    fn write(&mut self, bytes: &[u8]) -> Result<(), DeviceFault> {
+        self.written = self.written.saturating_add(1);
+        let burns = burns(self.fuse, self.number, Call::Write, self.written);
+        if burns || self.told.extend_from_slice(bytes).is_err() {
+            self.failed = self.failed.saturating_add(1);
+            return Err(DeviceFault);
+        }
+        Ok(())
+    }
+
+    fn close_input(&mut self) {}
+
+    fn read(&mut self, buf: &mut [u8]) -> Result<usize, DeviceFault> {
+        self.reads = self.reads.saturating_add(1);
+        if burns(self.fuse, self.number, Call::Read, self.reads) {
+            self.failed = self.failed.saturating_add(1);
+            return Err(DeviceFault);
+        }
+        if self.given >= self.bytes.len() {
+            return Ok(if self.program.endless {
+                give(b"a", buf)
+            } else {
+                0
+            });
+        }
+        let count = give(&self.bytes[self.given..], buf);
+        self.given = self.given.saturating_add(count);
+        Ok(count)
+    }
+
+    fn wait(&mut self) -> Result<How, DeviceFault> {
+        if burns(self.fuse, self.number, Call::Wait, 1) {
+            self.failed = self.failed.saturating_add(1);
+            self.waited = Some(None);
+            return Err(DeviceFault);
+        }
+        self.waited = Some(Some(self.program.ends));
+        Ok(self.program.ends)
+    }
+
+    fn failures(&self) -> u64 {
+        self.failed
+    }
+}
+
+impl Launcher for Fake {
+    ghost shown = { λ l. record { count = l.failed; longest = l.longest; out = l.out; deepest = l.deepest; last = l.last } };
+
+    type Started = Running;
+
+    fn start(&mut self, command: &Command) -> Result<Running, DeviceFault> {
+        self.asked = self.asked.saturating_add(1);
+        let (Some((program, bytes)), Some(out)) = (self.next(), self.out.checked_add(1)) else {
+            self.failed = self.failed.saturating_add(1);
+            return Err(DeviceFault);
+        };
+        let _ = put_words(&mut self.words, command);
+        self.out = out;
+        self.deepest = self.deepest.max(self.out);
+        Ok(Running {
+            program,
+            bytes,
+            given: 0,
+            fuse: self.fuse,
+            number: self.asked,
+            told: Vec::new(self.alloc),
+            written: 0,
+            failed: 0,
+            reads: 0,
+            waited: None,
+        })
+    }
+
+    fn back(&mut self, child: Running) {
+        let Running {
+            program: _,
+            bytes: _,
+            given: _,
+            fuse: _,
+            number: _,
+            told,
+            written: _,
+            failed,
+            reads,
+            waited,
+        } = child;
+        let _ = self.told.extend_from_slice(&told);
+        self.failed = self.failed.saturating_add(failed);
+        self.longest = self.longest.max(reads);
+        self.out = self.out.saturating_sub(1);
+        self.last = waited;
+    }
+
+    fn failures(&self) -> u64 {
+        self.failed
+    }
+}
+
+fn put_words(text: &mut Vec<u8>, command: &Command) -> Result<(), AllocError> {
+    text.extend_from_slice(command.path.as_bytes())?;
+    text.push(b' ')?;
+    for word in command.words.as_slice() {
+        text.extend_from_slice(word.as_bytes())?;
+        text.push(b' ')?;
+    }
+    Ok(())
+}

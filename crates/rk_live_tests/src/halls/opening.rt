@@ -1,0 +1,58 @@
+//! Halls of new ledgers, for a scene of their own.
+ghost use Rattle.std.specs.Prelude.{◌≡◌, ◌≤◌};
+
+use crate::children::handling::Handling;
+use crate::halls::paths::Path;
+use crate::halls::settling::{SixSteps, Volumes, hears};
+use rk_hall::{Fresh, Halls, Names};
+use std::alloc::Global;
+use std::marker::Brand;
+use std::process::Abort;
+use std::sync::Wait;
+
+/// What is done in halls of its own, from their opening to their end.
+#[derive(Clone, Copy)]
+pub enum Scene {
+    Path(Path),
+    SixSteps(SixSteps),
+    Hears,
+    Volumes(Volumes),
+    Handling(Handling),
+}
+
+impl Scene {
+    fn play<N: Names, R: Wait + Abort>(self, rt: &R, alloc: Global, halls: Halls<N>) {
+        match self {
+            Scene::Path(path) => path.play(rt, alloc, halls),
+            Scene::SixSteps(steps) => steps.play(rt, alloc, halls),
+            Scene::Hears => hears(rt, alloc, halls),
+            Scene::Volumes(volumes) => volumes.play(rt, alloc, halls),
+            Scene::Handling(handling) => handling.play(rt, alloc, halls),
+        }
+    }
+}
+
+/// Makes halls of these ledgers, and plays the scene in them.
+fn play_under<N: Names, R: Wait + Abort>(
+    rt: &R,
+    alloc: Global,
+    fresh: Fresh,
+    steps: usize,
+    scene: Scene,
+)
+    requires zero { (fresh.zero.calls.name ≡ N.name 0) × (fresh.zero.out.name ≡ N.name 1) }
+    requires one { (fresh.one.calls.name ≡ N.name 2) × (fresh.one.out.name ≡ N.name 3) }
+    requires two { (fresh.two.calls.name ≡ N.name 4) × (fresh.two.out.name ≡ N.name 5) }
+    requires three { (fresh.three.calls.name ≡ N.name 6) × (fresh.three.out.name ≡ N.name 7) }
+    requires steps { (1 ≤ steps) × (steps ≤ 1048576) }
+{
+    let halls: Halls<N> = Halls::with_volume(alloc, fresh, 60, steps).expect(rt, "memory");
+    scene.play(rt, alloc, halls);
+}
+
+/// Plays a scene in halls whose volumes may have so many steps, under ledgers that are named here.
+pub fn in_new_halls<R: Wait + Abort>(rt: &R, alloc: Global, steps: usize, scene: Scene) {
+    assert!(rt; 1 <= steps && steps <= 1_048_576);
+    let fresh = Fresh::new();
+    play_under::<Brand, R>(rt, alloc, fresh, steps, scene);
+}

@@ -1,0 +1,34 @@
+//! Tests of the libraries of the daemon that runs: what a proof of them can't show.
+//!
+//! # Purpose
+//!
+//! That calls succeed where there is memory; what a hall and its halls answer, by tables that were worked out by hand from docs/MACHINE.md and the manuals;
+//! what comes of devices that fail, and of programs that are really started. Each test uses public calls alone.
+//!
+//! They stand apart from those of the machine, in `rk_tests`, so that both are proved side by side.
+//!
+//! # How it is built
+//!
+//! `record` (a hall, its turns and volumes), `halls` (four halls and their seats), `children` (handlers) and `sessions` (whole connections), both over the
+//! devices of `fakes`, `programs` (handlers that are really started). `asks` and `answers` have what is asked and answered there; `same` compares a value
+//! with the one that was worked out.
+#![tactic(auto)]
+
+#[cfg(test)]
+mod answers;
+#[cfg(test)]
+mod asks;
+#[cfg(test)]
+mod children;
+#[cfg(test)]
+mod fakes;
+#[cfg(test)]
+mod halls;
+#[cfg(test)]
+mod programs;
+#[cfg(test)]
+mod record;
+#[cfg(test)]
+mod same;
+#[cfg(test)]
+mod sessions;

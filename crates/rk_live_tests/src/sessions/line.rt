@@ -1,0 +1,99 @@
+//! A wire that gives what a scene has, and keeps what happens on it.
+
+ghost use Rattle.std.specs.Prelude.{◌≡◌, None};
+
+use crate::fakes::launcher::give;
+use crate::sessions::turns::Turns;
+use rk_devices::DeviceFault;
+use rk_hall::Receipt;
+use rk_session::Wire;
+use std::time::Clock;
+
+/// The call of a wire that fails, counted from 1.
+#[derive(Clone, Copy, PartialEq, Eq, Debug)]
+pub enum Cut {
+    Read(u64),
+    Write(u64),
+}
+
+/// The wire of a client.
+#[derive(Drop)]
+pub struct Line<'a, R> {
+    pub rt: &'a R,
+    pub turns: &'a Turns,
+    /// What it gives, one for each read, each when its turn has come; then the end.
+    pub pieces: &'a [(u64, &'a [u8])],
+    /// Whether it gives them again and again.
+    pub endless: bool,
+    /// How many bytes may still come.
+    pub most: usize,
+    /// The turn of the end.
+    pub end: u64,
+    pub cut: Option<Cut>,
+    pub given: usize,
+    pub reads: u64,
+    pub writes: u64,
+    pub failed: u64,
+    /// What was written.
+    pub said: Vec<u8>,
+    pub noted: Vec<Receipt>,
+    /// What happened, one letter for each: r for a read, n for a receipt, w for a write that succeeded.
+    pub story: Vec<u8>,
+}
+
+impl<'a, R: Clock> Line<'a, R> {
+    fn next_piece(&mut self) -> &'a [u8]
+        ensures same { (self.new.reads ≡ self.old.reads) × (self.new.failed ≡ self.old.failed) }
+    {
+        if self.endless && self.given == self.pieces.len() {
+            self.given = 0;
+        }
+        let (turn, piece) = match self.pieces.get(self.given) {
+            Some((turn, piece)) => (*turn, *piece),
+            None => (self.end, b"".as_slice()),
+        };
+        self.given = self.given.saturating_add(1);
+        if !self.turns.wait(self.rt, turn) {
+            return b"";
+        }
+        let count = piece.len().min(self.most);
+        self.most -= count;
+        &piece[..count]
+    }
+}
+
+impl<'a, R: Clock> Wire for Line<'a, R> {
+    ghost shown = { λ w. record { count = w.failed; reads = w.reads; story = None } };
+
+    fn read(&mut self, buf: &mut [u8]) -> Result<usize, DeviceFault> {
+        self.reads = self.reads.saturating_add(1);
+        if self.cut == Some(Cut::Read(self.reads)) || self.story.push(b'r').is_err() {
+            self.failed = self.failed.saturating_add(1);
+            return Err(DeviceFault);
+        }
+        let piece = self.next_piece();
+        Ok(give(piece, buf))
+    }
+
+    fn write(&mut self, bytes: &[u8]) -> Result<(), DeviceFault> {
+        self.writes = self.writes.saturating_add(1);
+        if self.cut == Some(Cut::Write(self.writes))
+            || self.story.push(b'w').is_err()
+            || self.said.extend_from_slice(bytes).is_err()
+        {
+            self.turns.next();
+            self.failed = self.failed.saturating_add(1);
+            return Err(DeviceFault);
+        }
+        Ok(())
+    }
+
+    fn note(&mut self, receipt: Receipt) {
+        let _ = self.story.push(b'n');
+        let _ = self.noted.push(receipt);
+    }
+
+    fn failures(&self) -> u64 {
+        self.failed
+    }
+}

@@ -1,0 +1,124 @@
+//! Sessions that are served side by side.
+
+use crate::sessions::bytes::{
+    ADD, COMPLETES, HELLO, HI, JOIN, NINE, NO_KEY, OTHER_HELLO, OTHER_RINGS, READ, REQUEST, RINGS,
+    SIXTEEN, TWELVE, V,
+};
+use crate::sessions::line::Cut;
+use crate::sessions::stage::{Part, QUIET, Scene, play};
+use rk_session::Served;
+
+/// It asks for key 12 and starts its handler, which is held until turn 4.
+const STARTER: Part<'static> = Part {
+    pieces: &[(0, HELLO), (1, REQUEST)],
+    end: 5,
+    replies: &[RINGS, TWELVE],
+    story: Some(b"rnwrnwr"),
+    words: b"/bin/h 12 ",
+    ..QUIET
+};
+
+const SCENE: Scene<'static> = Scene {
+    programs: &[COMPLETES],
+    fuse: None,
+    until: 4,
+    first: STARTER,
+    second: None,
+    third: None,
+    crowd: 0,
+    steps: 9,
+};
+
+#[test]
+fn two_wait_for_one_handler(rt: HostRuntime) {
+    // the fourth moment is that of its collect: it waits then
+    let waiter = Part {
+        pieces: &[(2, JOIN), (3, REQUEST)],
+        end: 6,
+        moment: 4,
+        words: b"",
+        ..STARTER
+    };
+    let scene = Scene {
+        second: Some(waiter),
+        steps: 14,
+        ..SCENE
+    };
+    play(&rt, rt.alloc(), &scene);
+}
+
+#[test]
+fn others_are_served_while_a_handler_runs(rt: HostRuntime) {
+    let in_one_hall = Part {
+        pieces: &[(2, JOIN), (3, ADD)],
+        replies: &[RINGS, SIXTEEN],
+        words: b"",
+        ..STARTER
+    };
+    let in_another = Part {
+        pieces: &[(2, OTHER_HELLO), (3, ADD)],
+        replies: &[OTHER_RINGS, NINE],
+        ..in_one_hall
+    };
+    for (second, steps) in [(in_one_hall, 13), (in_another, 15)] {
+        let scene = Scene {
+            second: Some(second),
+            steps,
+            ..SCENE
+        };
+        play(&rt, rt.alloc(), &scene);
+    }
+}
+
+#[test]
+fn a_key_is_completed_though_its_reply_is_lost(rt: HostRuntime) {
+    let first = Part {
+        cut: Some(Cut::Write(2)),
+        served: Served::WriteFault,
+        replies: &[RINGS],
+        story: Some(b"rnwrn"),
+        ..STARTER
+    };
+    let second = Part {
+        pieces: &[(2, JOIN), (4, READ)],
+        replies: &[RINGS, HI],
+        words: b"",
+        ..STARTER
+    };
+    let scene = Scene {
+        until: 3,
+        first,
+        second: Some(second),
+        steps: 13,
+        ..SCENE
+    };
+    play(&rt, rt.alloc(), &scene);
+}
+
+#[test]
+fn each_stands_in_the_hall_of_its_uid(rt: HostRuntime) {
+    let first = Part {
+        pieces: &[(0, HELLO), (2, ADD)],
+        end: 6,
+        words: b"",
+        ..STARTER
+    };
+    let second = Part {
+        pieces: &[(1, OTHER_HELLO), (3, READ)],
+        replies: &[OTHER_RINGS, NO_KEY],
+        ..first
+    };
+    let third = Part {
+        pieces: &[(4, JOIN), (5, READ)],
+        replies: &[RINGS, V],
+        ..first
+    };
+    let scene = Scene {
+        first,
+        second: Some(second),
+        third: Some(third),
+        steps: 14,
+        ..SCENE
+    };
+    play(&rt, rt.alloc(), &scene);
+}

@@ -1,0 +1,89 @@
+//! Sessions on threads of their own act in one order: each waits until its turn has come.
+
+use crate::fakes::still::NOW;
+use rk_devices::Gate;
+use rk_names::{Moment, Serial, SessionId};
+use std::sync::Wait;
+use std::sync::atomic::AtomicU64;
+use std::sync::atomic::Ordering::SeqCst;
+use std::thread;
+use std::time::{Clock, Duration};
+
+/// Whose turn it is, and how often one was waited for in vain.
+#[derive(Drop)]
+pub struct Turns {
+    now: AtomicU64,
+    late: AtomicU64,
+}
+
+impl Turns {
+    /// The first turn is 0.
+    pub fn new() -> Turns {
+        Turns {
+            now: AtomicU64::new(0),
+            late: AtomicU64::new(0),
+        }
+    }
+
+    /// The next turn begins.
+    pub fn next(&self) {
+        self.now.fetch_add(1, SeqCst);
+    }
+
+    /// Waits for the turn, for at most 10,000 times a millisecond. Whether it came.
+    pub fn wait<R: Clock>(&self, rt: &R, turn: u64) -> bool {
+        for _ in 0..10_000 {
+            if self.now.load(SeqCst) >= turn {
+                return true;
+            }
+            let _ = thread::sleep(rt, Duration::from_millis(1));
+        }
+        self.late.fetch_add(1, SeqCst);
+        false
+    }
+
+    /// How often a turn did not come.
+    pub fn late(&self) -> u64 {
+        self.late.load(SeqCst)
+    }
+}
+
+/// A start and a reply each begin a turn; a handler that was started is held until another turn has come.
+#[derive(Drop)]
+pub struct Held<'a, R> {
+    pub rt: &'a R,
+    pub turns: &'a Turns,
+    pub until: u64,
+}
+
+impl<'a, R: Clock> Gate for Held<'a, R> {
+    fn started<W: Wait>(&self, rt: &W, key: Serial) {
+        let _ = rt;
+        let _ = key;
+        self.turns.next();
+        self.turns.wait(self.rt, self.until);
+    }
+
+    fn answered<W: Wait>(&self, rt: &W, session: SessionId) {
+        let _ = rt;
+        let _ = session;
+        self.turns.next();
+    }
+}
+
+/// It is always the same moment. Asking for it so many times begins a turn.
+#[derive(Drop)]
+pub struct Watched<'a> {
+    pub turns: &'a Turns,
+    pub left: u64,
+}
+
+impl<'a> rk_devices::Clock for Watched<'a> {
+    fn now(&mut self) -> Moment {
+        if self.left == 1 {
+            self.turns.next();
+        }
+        self.left = self.left.saturating_sub(1);
+        NOW
+    }
+}

@@ -1,0 +1,19 @@
+use Rattle.std.proofs.Common.{subst, sym}
+use Rattle.rk_names.specs.declared.numbers.SessionId.TheVariants.{Client}
+use Rattle.rk_talk.specs.Stays.{Stays}
+use Rattle.rk_talk.proofs.Seats.{stays_same}
+use Rattle.rk_session.proofs.Sayings.{refused_shut}
+use Rattle.rk_session.proofs.Seats.{opened_by}
+use Rattle.rk_session.proofs.standing.open.Goals as goal
+
+pub returns-in-Ok : goal.returns-in-Ok
+returns-in-Ok g c =
+    opened_by (Client c.args.client) c.args.hall c.now-now.result c.args.seat.now c.open_in.new.seat c.spend.new.seat c.in-Ok.field-0.receipt
+    c.refusal_of.result
+    c.in-Ok.ensures.receipt c.in-Ok.ensures.seat c.spend.ensures c.refusal_of.ensures
+
+pub returns-in-Err : goal.returns-in-Err
+returns-in-Err g c = (
+  subst (Stays c.args.seat.now) (sym c.in-Err.ensures.same) (stays_same c.args.seat.now),
+  refused_shut (Client c.args.client) c.args.hall c.in-Err.fault c.refused.result c.refused.ensures,
+)

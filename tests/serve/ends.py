@@ -1,0 +1,325 @@
+"""How clients, handlers and the daemon end, and what is then left."""
+import signal
+import subprocess
+
+import protocol_peer as ask
+from daemon import Daemon, until
+from programs import differs
+
+HELD = "create user h:* * %puppet %k\n"
+USER = -4
+
+
+def want(name=b"h:1", callout=b"x", ring=USER):
+    return ask.request(b"user", name, callout, ring)
+
+
+def completes(handler, payload=b"made"):
+    """The handler completes its key; the replies."""
+    return handler.ask(ask.on_key(3, handler.key)), handler.ask(ask.instantiate(handler.key, payload, 0))
+
+
+def quiet(client):
+    """Whether nothing has come for this client so far."""
+    client.socket.setblocking(False)
+    try:
+        return client.socket.recv(1) and False
+    except BlockingIOError:
+        return True
+    finally:
+        client.socket.settimeout(60)
+
+
+def client_killed(program):
+    """A client is killed while it waits for the key that it has asked for: another one who waits gets it, and it stays in the user ring."""
+    with Daemon(program, HELD) as daemon:
+        words = [daemon.client_program, "--socket", daemon.path, "--uid", "1000", "request", "user", "h:1", "user", "x"]
+        with subprocess.Popen(words, stdout=subprocess.PIPE, stderr=subprocess.PIPE) as starter:
+            handler = daemon.handler()
+            other = daemon.client()
+            other.send(want())
+            third = daemon.client()
+            starter.kill()
+            status = starter.wait()
+        done = completes(handler)
+        outcome = other.reply()
+        handler.ends()
+        found = third.ask(want(callout=None, ring=0))
+        return differs((status, done, outcome, found, third.ask(ask.on_key(7, 12))), (-9, (0, 0), 12, 12, b"made")) or daemon.lives()
+
+
+def all_clients_killed(program):
+    """The only client goes: its handler is served to its end."""
+    with Daemon(program, HELD) as daemon:
+        client = daemon.client()
+        client.send(want())
+        handler = daemon.handler()
+        client.socket.close()
+        done = completes(handler)
+        handler.ends(3)
+        later = daemon.client()
+        return differs((done, later.ask(want(callout=None, ring=0))), ((0, 0), 12)) or daemon.lives()
+
+
+def handler_killed(program, negative):
+    """A handler is killed: ENOKEY, and a start again when the negative time is over."""
+    with Daemon(program, HELD, "--negative", negative) as daemon, daemon.client() as client:
+        client.send(want())
+        daemon.handler().is_killed()
+        first = client.reply()
+        if negative == "4294967295":
+            second, state = client.ask(want()), client.ask(ask.on_key(8, 12))
+            return differs((first, second, state), ("E126", "E126", b"user;1000;negative;h:1")) or daemon.lives()
+        state = client.ask(ask.on_key(8, 12))
+        client.send(want())
+        handler = daemon.handler()
+        done = completes(handler)
+        handler.ends()
+        return differs((first, state, done, client.reply()), ("E126", b"user;1000;expired;h:1", (0, 0), 16)) or daemon.lives()
+
+
+def again_after(program):
+    """With a negative time of a second the handler is started again, some time."""
+    with Daemon(program, "create user t:* * %room/handler %k\n", "--negative", "1") as daemon, daemon.client() as client:
+        daemon.script("handler", '#!/bin/sh\n[ -e %room/ready ] || exit 0\n%ctl assume "$1" && %ctl instantiate "$1" made none\n')
+        first = client.ask(want(b"t:1"))
+        (daemon.room / "ready").write_text("")
+        found = until(lambda: isinstance(reply := client.ask(want(b"t:1")), int) and reply, "a key after the negative time")
+        return differs((first, found), ("E126", 16))
+
+
+def completed_and_killed(program):
+    """A handler is killed behind its completion: the key is made."""
+    with Daemon(program, HELD) as daemon, daemon.client() as client, daemon.client() as other:
+        client.send(want())
+        handler = daemon.handler()
+        other.send(want())
+        done = completes(handler)
+        early = other.reply(), quiet(client)
+        handler.is_killed()
+        return differs((done, early, client.reply()), ((0, 0), (handler.key, True), handler.key)) or daemon.lives()
+
+
+def daemon_killed(program):
+    """The daemon is killed: its clients see the end, its handlers too, and a new one begins anew at the same path."""
+    with Daemon(program, HELD) as daemon:
+        client = daemon.client()
+        client.send(want())
+        handler = daemon.handler()
+        daemon.process.kill()
+        status = daemon.process.wait()
+        ended = client.reply(), handler.all_input()
+        left = daemon.path.exists()
+        try:
+            handler.send(ask.on_key(3, 12))
+            written = "written"
+        except BrokenPipeError:
+            written = "broken"
+        handler.ends()
+        daemon.reader.join()
+        daemon.start()
+        with daemon.client() as fresh:
+            got = fresh.rings, fresh.ask(want(callout=None))
+        return differs((status, ended, left, written, got), (-9, (None, b""), True, "broken", ((0, 0, 4, 8), "E126")))
+
+
+def terminated(program):
+    """SIGTERM ends it at once, and the next start replaces what is left."""
+    with Daemon(program) as daemon:
+        daemon.client()
+        daemon.process.send_signal(signal.SIGTERM)
+        status = daemon.process.wait()
+        daemon.start()
+        return differs(status, -15) or daemon.lives()
+
+
+def garbage(program, data):
+    """A handler writes what is no frame: its input is closed, what it still writes is dropped, and it has failed when it ends."""
+    with Daemon(program, HELD, "--negative", "0") as daemon, daemon.client() as client:
+        client.send(want())
+        handler = daemon.handler()
+        first = handler.ask(ask.on_key(3, 12))
+        handler.put(data)
+        rest = handler.all_input()
+        handler.put(bytes(200_000))
+        handler.send(ask.instantiate(12, b"late", 0))
+        held = quiet(client)
+        handler.ends()
+        return differs((first, rest, held, client.reply()), (0, b"", True, "E126")) or daemon.lives()
+
+
+def no_asks(program):
+    """Bodies that spell no ask are refused, and the handler goes on."""
+    with Daemon(program, HELD) as daemon, daemon.client() as client:
+        client.send(want())
+        handler = daemon.handler()
+        refusals = handler.ask(b"\x07", b"\xff", b"\x00" * 65536, b"\x02\x00\x00", ask.on_key(3, 12) + b"\x00")
+        done = completes(handler)
+        handler.ends()
+        return differs((refusals, done, client.reply()), (["E22"] * 5, (0, 0), 12))
+
+
+def closes_output(program, after):
+    """A handler closes its output and goes on: its end is its exit."""
+    with Daemon(program, HELD, "--negative", "0") as daemon, daemon.client() as client, daemon.client() as other:
+        client.send(want())
+        handler = daemon.handler()
+        if after:
+            completes(handler)
+        handler.close_output()
+        handler.all_input()
+        state = other.ask(*[ask.on_key(8, handler.key)] * 20)[-1]
+        held = quiet(client)
+        handler.ends()
+        return differs((state, held, client.reply()), (b"user;1000;%s;h:1" % (b"valid" if after else b"building"), True, handler.key if after else "E126"))
+
+
+def child_goes_on(program):
+    """A handler exits while another process has its pipes: that one is still the handler."""
+    with Daemon(program, HELD) as daemon, daemon.client() as client:
+        client.send(want())
+        handler = daemon.handler()
+        handler.link.send(b"\0")
+        handler.link.close()
+        until(lambda: "Z" in daemon.children().values(), "the exit of the handler")
+        done = completes(handler)
+        held = quiet(client)
+        handler.close_pipes()
+        reply = client.reply()
+        return differs((done, held, reply, daemon.children()), ((0, 0), True, 12, {}))
+
+
+def replies_unread(program):
+    """A handler that closes its input gets no reply; what it has sent behind the first is not heard."""
+    with Daemon(program, HELD, "--negative", "0") as daemon, daemon.client() as client:
+        client.send(want())
+        handler = daemon.handler()
+        handler.close_input()
+        handler.send(ask.on_key(3, 12), ask.instantiate(12, b"x", 0))
+        handler.ends()
+        return differs(client.reply(), "E126") or daemon.lives()
+
+
+def waits_and_dies(program):
+    """A handler is killed while it waits for another key, which goes on for its own starter."""
+    with Daemon(program, HELD) as daemon, daemon.client() as client, daemon.client() as other:
+        other.send(want(b"h:inner"))
+        inner = daemon.handler()
+        client.send(want(b"h:outer"))
+        outer = daemon.handler()
+        outer.ask(ask.on_key(3, outer.key))
+        outer.send(want(b"h:inner", ring=0))
+        outer.is_killed()
+        done = completes(inner)
+        inner.ends()
+        return differs((done, other.reply(), client.reply()), ((0, 0), inner.key, "E126")) or daemon.lives()
+
+
+def piped(program, name, script, want_payload, callout=b"x"):
+    """What a piped program puts out."""
+    with Daemon(program, f"create user p:* * |%room/program {name}\n", "--negative", "0") as daemon, daemon.client() as client:
+        daemon.script("program", f"#!/bin/sh\n{script}\n")
+        reply = client.ask(want(b"p:1", callout))
+        if want_payload is None:
+            return differs(reply, "E126") or daemon.lives()
+        payload = client.ask(ask.on_key(7, 12))
+        return differs((reply, len(payload), payload == want_payload), (12, len(want_payload), True))
+
+
+def missing(program, line):
+    """A program that can't be started."""
+    with Daemon(program, f"create user p:* * {line}\n", "--negative", "0") as daemon, daemon.client() as client:
+        daemon.script("no_script", "")
+        (daemon.room / "no_program").write_text("x")
+        return differs([client.ask(want(b"p:1")) for _ in range(3)], ["E126"] * 3) or daemon.lives()
+
+
+def chain(program):
+    """Handlers that ask for one another's keys, eight deep; a ninth is refused. Then a circle is."""
+    with Daemon(program, HELD, "--sessions", "1") as daemon, daemon.client() as client:
+        client.send(want(b"h:0"))
+        handlers = []
+        for at in range(1, 9):
+            handlers.append(daemon.handler())
+            handlers[-1].ask(ask.on_key(3, handlers[-1].key))
+            if at < 8:
+                handlers[-1].send(want(b"h:%d" % at, ring=0))
+        last = handlers[-1]
+        refusals = last.ask(want(b"h:8", ring=0)), last.ask(want(b"h:3", ring=0)), last.ask(want(b"h:7", ring=0))
+        outcomes = []
+        for handler in reversed(handlers):
+            outcomes.append(handler.ask(ask.instantiate(handler.key, b"v", 0)))
+            handler.ends()
+            if handler is not handlers[0]:
+                outcomes.append(handlers[handlers.index(handler) - 1].reply())
+        keys = [handler.key for handler in handlers]
+        wanted = [it for key in reversed(keys[1:]) for it in (0, key)] + [0]
+        return differs((refusals, keys, outcomes, client.reply()), (("E122", "E35", "E35"), list(range(12, 44, 4)), wanted, 12))
+
+
+def many_wait(program):
+    """Many who ask for one key are one start and get one outcome."""
+    with Daemon(program, HELD) as daemon:
+        clients = [daemon.client() for _ in range(20)]
+        clients[0].send(want())
+        handler = daemon.handler()
+        for client in clients[1:]:
+            client.send(want(callout=b"another"))
+        handler.ask(ask.on_key(3, handler.key), ask.reject(handler.key, 4000, 129, 0))
+        others = [client.reply() for client in clients[1:]]
+        handler.ends()
+        return differs(([clients[0].reply(), *others], len(daemon.children())), (["E129"] * 20, 0))
+
+
+def nothing_left(program):
+    """After a hundred handlers of every kind there is no descriptor and no child left."""
+    conf = "create user c:* * |/bin/cat\ncreate user f:* * |/bin/false\ncreate user s:* * %room/handler %k\ncreate user m:* * /no/such\n"
+    conf += "create user g:* * /bin/echo garbage\nnegate user f:* * /bin/true\n"
+    with Daemon(program, conf, "--sessions", "4") as daemon, daemon.client() as client:
+        daemon.script("handler", '#!/bin/sh\nexec 2> /dev/null\n%ctl assume "$1" && %ctl instantiate "$1" made none\n')
+        with daemon.client() as other:
+            other.ask(want(b"c:first"))
+        before = until(lambda: (now := daemon.descriptors()) and now["socket"] == 2 and now, "two sockets")
+        wrong = []
+        for at in range(100):
+            kind = "cfsmg"[at % 5]
+            reply = client.ask(want(f"{kind}:{at}".encode()))
+            if isinstance(reply, int) != (kind in "cs"):
+                wrong.append((kind, at, reply))
+        until(lambda: not daemon.children(), "the end of all children")
+        return differs((wrong, daemon.descriptors()), ([], before))
+
+
+def cases():
+    for try_it in [client_killed, all_clients_killed, again_after, completed_and_killed, daemon_killed, terminated, no_asks, child_goes_on, replies_unread,
+                   waits_and_dies, chain, many_wait, nothing_left]:
+        yield try_it.__name__.replace("_", " "), try_it
+    for negative in ["0", "4294967295"]:
+        yield f"a handler that is killed, negative for {negative}", handler_killed, negative
+    for data in [b"\0\0\0\0", b"\0\1\0\1", b"\xff" * 9, b"garbage\n"]:
+        yield f"a handler that writes {data!r}", garbage, data
+    for after in [False, True]:
+        yield f"output closed, complete {after}", closes_output, after
+    big = "head -c {} /dev/zero | tr '\\0' p".format
+    for name, script, payload, *callout in [
+        ("ignores its input", "echo made", b"made\n", b"c" * 4095),
+        ("closes its input", "exec < /dev/null; echo made", b"made\n", b"c" * 4095),
+        ("has all of its input", "cat", b"c" * 4095, b"c" * 4095),
+        ("has an empty callout", "wc -c", b"0\n", b""),
+        ("puts out 32,767 bytes", big(32767), b"p" * 32767),
+        ("puts out 32,768 bytes", big(32768), None),
+        ("puts out ten million bytes", big(10_000_000), None),
+        ("puts out one byte", "printf x", b"x"),
+        ("puts out nothing", ":", None),
+        ("puts out any bytes", "printf '\\000\\377\\n'", b"\0\xff\n"),
+        ("exits with 1", "echo made; exit 1", None),
+        ("exits with 255", "echo made; exit 255", None),
+        ("is killed", "echo made; kill -9 $$", None),
+        ("closes its output and exits", "echo made; exec >&-; exit 0", b"made\n"),
+        ("closes its output and fails", "echo made; exec >&-; exit 7", None),
+        ("has no other descriptor", "ls /proc/self/fd | tr '\\n' ' '", b"0 1 2 3 "),
+        ("puts out in pieces", "for at in 1 2 3 4 5 6 7 8; do printf $at; done", b"12345678"),
+    ]:
+        yield f"a piped program that {name}", piped, name.split()[0], script, payload, *callout
+    for line in ["/no/such", "|/no/such", "/", "|/tmp", "%room/no_program", "|%room/no_program", "%room/no_script/x", "/bin/cat %{user:none}"]:
+        yield f"the line {line}", missing, line

@@ -1,0 +1,363 @@
+"""Clients that cut, flood, stall and crowd."""
+import os
+import random
+import select
+import struct
+import threading
+
+import protocol_peer as ask
+from daemon import LIMIT, Client, Daemon, GaveUp, until
+from programs import differs
+
+HELLO = ask.frame(ask.hello(1000, 1000))
+KEY = ask.frame(ask.request(b"user", b"a", b"x", -4))
+VOLUME = 8192  # steps of a volume of a hall's record
+
+
+def cut_client(program):
+    """Every proper prefix of a frame, and then the end: the frames before it are answered, and nothing else is."""
+    with Daemon(program, "create * * * |/bin/cat\n") as daemon:
+        wrong = None
+        for whole, replies, cut in [([], 0, HELLO), ([HELLO], 1, KEY), ([], 0, b"\0\1\0\0" + bytes(60_000))]:
+            for length in [*range(min(len(cut), 40)), len(cut) - 1]:
+                for shuts in [True, False]:
+                    with Client(daemon.path) as client:
+                        client.put(b"".join(whole) + cut[:length])
+                        got = client.ends() if shuts else None
+                    if shuts and len(got) != replies:
+                        wrong = wrong or f"{length} bytes: {got}"
+        return wrong or daemon.lives()
+
+
+def cut_handler(program):
+    """The same of a handler."""
+    frames = [ask.frame(ask.on_key(3, 12)), ask.frame(ask.instantiate(12, b"hi", 0))]
+    with Daemon(program, "create user h:* * %puppet %k\n", "--negative", "0") as daemon, daemon.client() as client:
+        for at, (before, cut) in enumerate([(b"", frames[0]), (frames[0], frames[1])]):
+            for length in range(len(cut)):
+                client.send(ask.request(b"user", b"h:1", b"x", -4))
+                handler = daemon.handler()
+                serial = struct.pack(">I", handler.key)
+                handler.put((before + cut).replace(struct.pack(">I", 12), serial)[: len(before) + length])
+                handler.close_output()
+                got = handler.all_input(), handler.ends(), client.reply()
+                if got[0] != ask.frame(ask.number(0)) * at or got[2] != "E126":
+                    return f"{length} bytes of frame {at}: {got}"
+        return daemon.lives()
+
+
+def byte_by_byte(program):
+    """Frames whose bytes come one by one, and several in one piece."""
+    with Daemon(program, "create user p:* * |/bin/cat\n") as daemon:
+        with daemon.client(None) as client:
+            for byte in HELLO + KEY.replace(b"\0\1a", b"\0\1b") + ask.frame(ask.on_key(7, 12)):
+                client.put(bytes([byte]))
+            first = client.ends()
+        with daemon.client(None) as client:
+            client.put(HELLO + ask.frame(ask.request(b"user", b"p:1", b"x", -4)) + ask.frame(ask.on_key(7, 20)) + ask.frame(b"\xff") * 100)
+            return differs((first, client.ends()), ([(0, 0, 4, 8), "E126", "E126"], [(0, 0, 16, 8), 20, b"x", *["E22"] * 100]))
+
+
+def bad_length(program, head):
+    """A length that no frame has: what stands before it is answered, and then the connection is closed."""
+    with Daemon(program) as daemon:
+        with daemon.client(None) as client:
+            client.put(HELLO + ask.frame(ask.add(b"user", b"k", b"v", -4)) + head)
+            got = client.rest()
+        with daemon.client(None) as client:
+            client.put(head + HELLO)
+            return differs((got, client.rest()), ([(0, 0, 4, 8), 12], [])) or daemon.lives()
+
+
+def longest(program):
+    """A frame of 65,536 bytes is read, and refused; so is one of one byte; each of the 256."""
+    with Daemon(program) as daemon, daemon.client(None) as client:
+        first = client.ask(*[bytes([op]) for op in range(256)])
+        second = client.ask(bytes(65536), ask.hello(1000), bytes(65536), ask.on_key(7, 8))
+        wanted = ["E13" if op == 16 else "E22" for op in range(256)]
+        return differs((first, second), (wanted, ["E22", (0, 0, 4, 8), "E22", "E126"]))
+
+
+def random_bytes(program):
+    """Bytes from dice, some of them in frames: every reply is one, and the daemon goes on."""
+    dice = random.Random(7)
+    with Daemon(program, "create user a* * |/bin/cat\n", "--negative", "0") as daemon:
+        for _ in range(150):
+            with Client(daemon.path) as client:
+                data = dice.choice([b"", HELLO])
+                for _ in range(dice.randrange(6)):
+                    body = dice.choice([dice.randbytes(dice.randrange(1, 60)), bytes([dice.randrange(18)]) + dice.randbytes(dice.randrange(20))])
+                    data += dice.choice([ask.frame(body), ask.frame(body), KEY, dice.randbytes(dice.randrange(9))])
+                client.put(data)
+                if dice.random() < 0.8:
+                    client.ends()
+        return daemon.lives()
+
+
+def never_reads(program):
+    """A client sends and never reads, until nothing more goes: others are served, and when it reads it has a reply to each."""
+    with Daemon(program, "", "--sessions", "2") as daemon:
+        client = daemon.client()
+        key = client.ask(ask.add(b"user", b"k", b"p" * 100, -4))
+        client.socket.setblocking(False)
+        sent, data = 0, ask.frame(ask.on_key(7, key)) * 1000
+        stuck = False
+        while not stuck:
+            try:
+                sent += client.socket.send(data[sent % len(data) :])
+            except BlockingIOError:
+                with Client(daemon.path, 1000) as other:
+                    replies = other.ask(*[ask.on_key(8, key)] * 50)
+                if set(replies) != {b"user;1000;valid;k"}:
+                    return f"another client: {replies[:3]}"
+                stuck = not writable(client)
+        client.socket.settimeout(LIMIT)
+        replies = client.ends()
+        whole = sent // 9
+        return differs((len(replies), {len(it) for it in replies}), (whole, {100})) or daemon.lives()
+
+
+def writable(client):
+    """Whether more can be sent now, as it is when the daemon reads."""
+    try:
+        client.socket.send(b"")
+    except BlockingIOError:
+        return False
+    return bool(select.select([], [client.socket], [], 0)[1])
+
+
+def closes_unread(program):
+    """Clients that ask for much, and close without reading it."""
+    with Daemon(program, "", "--sessions", "2") as daemon:
+        with daemon.client() as client:
+            key = client.ask(ask.add(b"user", b"k", b"p" * 32767, -4))
+        for _ in range(20):
+            with Client(daemon.path, 1000) as client:
+                client.put(ask.frame(ask.on_key(7, key)) * 40)
+        return daemon.lives()
+
+
+def silent(program):
+    """Clients that say nothing hold up nobody but themselves."""
+    with Daemon(program) as daemon:
+        idle = [daemon.client(None) for _ in range(63)]
+        with daemon.client() as client:
+            rings = client.rings
+        ends = [it.ends() for it in idle]
+        return differs((rings, ends), ((0, 0, 4, 8), [[]] * 63)) or daemon.lives()
+
+
+def come_and_go(program):
+    """Three hundred clients one after the other, of which some say something: nothing is left of them."""
+    with Daemon(program, "create user p:* * |/bin/cat\n") as daemon:
+        with daemon.client() as client:
+            client.ask(ask.request(b"user", b"p:1", b"x", -4))
+        before = until(lambda: (now := daemon.descriptors()) and now["socket"] == 1 and now, "one socket")
+        for at in range(300):
+            with Client(daemon.path, 1000 if at % 3 else None) as client:
+                if at % 3 == 2:
+                    client.put(HELLO[: at % 18])
+        until(lambda: daemon.descriptors() == before, f"the descriptors {before}, and not {daemon.descriptors()}")
+        return daemon.lives()
+
+
+def rings_of_many(program):
+    """More users than there are rings: EDQUOT for a new one, and the first is still served."""
+    with Daemon(program) as daemon:
+        last = None
+        for at in range(1030):
+            with Client(daemon.path, 4 * at) as client:
+                last = client.rings
+                client.ends()
+            if last == "E122":
+                break
+        with daemon.client(0) as first, daemon.client(1) as other:
+            return differs((last, at, isinstance(first.rings, tuple), other.rings), ("E122", 1023, True, (0, 0, 1, 5)))
+
+
+def one_worker(program, count):
+    """With one worker all wait for their turn, and none is lost."""
+    with Daemon(program, "", "--sessions", "1") as daemon:
+        first = daemon.client()
+        replies = {}
+
+        def comes(at):
+            try:
+                with Client(daemon.path) as client:
+                    client.put(HELLO + ask.frame(ask.add(b"user", b"k%d" % at, b"v", -3)))
+                    replies[at] = client.ends()
+            except (GaveUp, OSError) as failed:
+                replies[at] = repr(failed)
+
+        threads = [threading.Thread(target=comes, args=(at,), daemon=True) for at in range(count)]
+        for thread in threads:
+            thread.start()
+        alone = first.ask(*[ask.on_key(7, 8)] * 50), dict(replies)
+        first.socket.close()
+        for thread in threads:
+            thread.join(LIMIT)
+        wrong = [it for it in replies.values() if len(it) != 2 or not isinstance(it[0], tuple) or not isinstance(it[1], int)]
+        return differs((set(alone[0]), alone[1], len(replies), wrong[:2]), ({"E126"}, {}, count, [])) or daemon.lives()
+
+
+def all_at_once(program):
+    """Sixty-four sessions at a time: handlers for most, one that never reads, one that is silent, and two that are served meanwhile."""
+    with Daemon(program, "create user h:* * |%room/held\n") as daemon:
+        daemon.script("held", "#!/bin/sh\nread line < %room/gate\necho made\n")
+        os.mkfifo(daemon.room / "gate")
+        waiting = [daemon.client(1000 + at) for at in range(60)]
+        for at, client in enumerate(waiting):
+            client.send(ask.request(b"user", b"h:%d" % at, b"x", -4))
+        until(lambda: len(daemon.children()) == 60, "sixty handlers")
+        daemon.client(None)
+        slow = daemon.client(2000)
+        slow.put(ask.frame(ask.on_key(7, 8)) * 5000)
+        with daemon.client(3000) as one, daemon.client(3001) as two:
+            served = [it.ask(ask.add(b"user", b"k", b"v", -4), ask.on_key(8, it.rings[2])) for it in [one, two]]
+        with open(daemon.room / "gate", "wb", buffering=0) as gate:
+            gate.write(b"\n" * 60)
+            outcomes = [client.reply() for client in waiting]
+            payloads = {client.ask(ask.on_key(7, key)) for client, key in zip(waiting, outcomes) if isinstance(key, int)}
+        replies = slow.ends()
+        made = [isinstance(it, int) for it in outcomes]
+        lasting = [isinstance(it[0], int) and it[1] == "E126" for it in served]
+        want = ([True] * 60, {b"made\n"}, 5000, {"E126"}, [True, True])
+        return differs((made, payloads, len(replies), set(replies), lasting), want) or daemon.lives()
+
+
+def short_beside_long(program):
+    """Handlers that are started while others run don't hold one another's pipes: each short one ends though the long ones go on."""
+    with Daemon(program, "create user h:* * |%room/held\ncreate user p:* * |/bin/cat\n") as daemon:
+        daemon.script("held", "#!/bin/sh\nread line < %room/gate\necho made\n")
+        os.mkfifo(daemon.room / "gate")
+        held, short = [daemon.client() for _ in range(20)], [daemon.client() for _ in range(20)]
+        for at, (one, other) in enumerate(zip(held, short)):
+            one.send(ask.request(b"user", b"h:%d" % at, b"x", -3))
+            other.send(*[ask.request(b"user", b"p:%d" % (at * 5 + each), b"x", -3) for each in range(5)])
+        replies = [client.reply() for client in short for _ in range(5)]
+        until(lambda: len(daemon.children()) == 20, "twenty handlers that go on")
+        with open(daemon.room / "gate", "wb", buffering=0) as gate:
+            gate.write(b"\n" * 20)
+            outcomes = [client.reply() for client in held]
+        return differs([it for it in replies + outcomes if not isinstance(it, int)], []) or daemon.lives()
+
+
+def same_key(program):
+    """Sixty clients ask for the same keys at once, again and again: each name is made once, and all get the same serials."""
+    with Daemon(program, "create user p:* * |/bin/cat\n") as daemon:
+        clients = [daemon.client() for _ in range(60)]
+        asks = [ask.request(b"user", b"p:%d" % at, b"x", -4) for at in range(8)]
+        for client in clients:
+            client.send(*asks)
+        replies = {tuple(client.reply() for _ in asks) for client in clients}
+        return differs((len(replies), all(isinstance(it, int) for it in next(iter(replies)))), (1, True)) or daemon.lives()
+
+
+def crowd(program):
+    """Clients of four users that ask, wait, shut and vanish as dice say, all at once: nobody is left waiting, and nothing is left of them."""
+    conf = "create user a* * |/bin/cat\ncreate user b* * |/bin/false\ncreate user c* * /bin/true\nnegate user b:0 * /bin/true\n"
+    with Daemon(program, conf, "--negative", "0") as daemon:
+        with daemon.client() as client:
+            client.ask(ask.request(b"user", b"a", b"x", -4))
+        before = until(lambda: (now := daemon.descriptors()) and now["socket"] == 1 and now, "one socket")
+        wrong = []
+
+        def comes(dice):
+            try:
+                for _ in range(4):
+                    with Client(daemon.path, 1000 + dice.randrange(4)) as client:
+                        bodies = [body_of(dice) for _ in range(dice.randrange(20))]
+                        client.send(*bodies)
+                        if dice.random() < 0.7 and len(replies := client.ends()) != len(bodies):
+                            wrong.append(f"{len(replies)} replies to {len(bodies)}")
+            except (GaveUp, OSError) as failed:
+                wrong.append(repr(failed))
+
+        threads = [threading.Thread(target=comes, args=(random.Random(seed),), daemon=True) for seed in range(48)]
+        for thread in threads:
+            thread.start()
+        for thread in threads:
+            thread.join(LIMIT)
+        until(lambda: not daemon.children() and daemon.descriptors() == before, "the end of all that they had")
+        return differs((wrong[:3], [thread.is_alive() for thread in threads].count(True)), ([], 0)) or daemon.lives()
+
+
+def body_of(dice):
+    key, ring = dice.randrange(1, 300), dice.choice([0, -3, -4])
+    name = dice.choice([b"a:%d", b"a:%d", b"b:%d", b"c:%d", b"d:%d"]) % dice.randrange(4)
+    return dice.choice([
+        ask.request(b"user", name, dice.choice([None, b"x"]), ring), ask.add(b"user", name, b"v" * dice.choice([1, 32767]), ring or -3),
+        ask.on_key(dice.choice([7, 8, 9]), key), ask.on_key_and_ring(dice.choice([11, 12]), key, ring), ask.timeout(key, 0), ask.clear(ring), b"\xff",
+    ])
+
+
+def no_descriptors(program):
+    """The daemon has too few descriptors for its clients: it goes on, and serves those that come when others have gone."""
+    with Daemon(program, "create user p:* * |/bin/cat\n", files=24) as daemon:
+        clients = []
+        for _ in range(40):
+            client = Client(daemon.path)
+            clients.append(client)
+            client.put(HELLO)
+        served = [clients[0].reply(), clients[5].reply()]
+        until(lambda: daemon.lines[1:] or daemon.process.poll() is not None, "a line on standard error")
+        starved = clients[0].ask(ask.request(b"user", b"p:1", b"x", -4))
+        lines = len(daemon.lines)
+        for client in clients:
+            client.socket.close()
+        lives = until(lambda: daemon.process.poll() is not None or served_again(daemon), "a client that is served")
+        with daemon.client() as client:
+            made = client.ask(ask.request(b"user", b"p:2", b"x", -4))
+        good = [isinstance(it, tuple) for it in served]
+        return differs((good, starved, bool(lives), isinstance(made, int), lines < 1000), ([True, True], "E126", True, True, True))
+
+
+def served_again(daemon):
+    try:
+        with Client(daemon.path, 1000) as client:
+            return isinstance(client.rings, tuple)
+    except OSError:
+        return False
+
+
+def full_record(program):
+    """More steps in one hall than a volume of its record has: it is told and dropped, and nobody notices. A few places of it are kept for what is owed."""
+    with Daemon(program) as daemon, daemon.client() as client:
+        key = client.ask(ask.add(b"user", b"k", b"v", -4))
+        asks, reply = ask.frame(ask.default(-1)) * 4096, ask.frame(ask.number(0)) * 4096
+        for sent in range(0, VOLUME + 4096, 4096):
+            sender = threading.Thread(target=client.put, args=(asks,))
+            sender.start()
+            if client.take(len(reply)) != reply:
+                return f"a reply among the asks from {sent} on"
+            sender.join()
+        told = until(lambda: [line for line in daemon.lines if line.startswith("volume ")], "the line of the volume")
+        steps = int(told[0].removeprefix("volume 0 1 "))
+        return differs((client.ask(ask.on_key(7, key)), len(told), VOLUME - 64 <= steps <= VOLUME), (b"v", 1, True)) or daemon.lives()
+
+
+def four_halls(program):
+    """Four users in four halls: serials of their own, and those of another hall are none."""
+    with Daemon(program, "create user p:* * |/bin/cat\n") as daemon:
+        clients = [daemon.client(1000 + at) for at in range(4)]
+        rings = [client.rings for client in clients]
+        keys = [client.ask(ask.add(b"user", b"k", b"v%d" % at, -4)) for at, client in enumerate(clients)]
+        made = [client.ask(ask.request(b"user", b"p:1", b"x", -4)) for client in clients]
+        strange = clients[1].ask(ask.on_key(7, keys[0]), ask.on_key_and_ring(11, keys[1], 4), ask.on_key_and_ring(12, keys[0], -4), ask.clear(4))
+        join = daemon.client(1001, join=4).rings
+        other = daemon.client(1004).ask(ask.on_key(7, keys[0]), ask.clear(4))
+        again = daemon.client(1000, join=4).ask(ask.on_key(7, keys[0]))
+        want = (
+            [(0, 0, 4, 8), (0, 0, 1, 5), (0, 0, 2, 6), (0, 0, 3, 7)], [12, 9, 10, 11], [16, 13, 14, 15], ["E126"] * 4, "E126", ["E13", "E13"], b"v0",
+        )
+        return differs((rings, keys, made, strange, join, other, again), want)
+
+
+def cases():
+    for try_it in [cut_client, cut_handler, byte_by_byte, longest, random_bytes, never_reads, closes_unread, silent, come_and_go, rings_of_many,
+                   all_at_once, short_beside_long, same_key, crowd, no_descriptors, full_record, four_halls]:
+        yield try_it.__name__.replace("_", " "), try_it
+    for head in [b"\0\0\0\0", b"\0\1\0\1", b"\xff\xff\xff\xff", b"\x80\0\0\0"]:
+        yield f"the length {head.hex()}", bad_length, head
+    for count in [20, 200]:
+        yield f"{count} clients and one worker", one_worker, count

@@ -1,0 +1,243 @@
+"""Words, options, faults of the start in their order, and what may stand at the socket's path."""
+import os
+import pathlib
+import socket
+import stat
+import subprocess
+
+from daemon import LIMIT, Client, Daemon
+from programs import differs
+
+CONF_FAULTS = [
+    ("create user a *", "1: C1"),
+    ("# x\n\n  create user * * bin/h", "3: C2"),
+    ("create user * * |", "1: C2"),
+    ("create user * * /bin/h %z", "1: C3"),
+    ("create user * * /bin/h\n" + "x" * 8193, "2: C4"),
+    ("create user a\0 * /bin/h", "1: C6"),
+    (b"create user \xff * /bin/h", "1: C6"),
+    ("create user a *\ncreate user * * h", "1: C1"),
+]
+
+# the options with a number: what they are allowed to be, and what not
+NUMBERS = {
+    "--negative": (["0", "4294967295", "007"], ["4294967296", "99999999999999999999999"]),
+    "--sessions": (["1", "64", "08"], ["0", "65", "4294967296"]),
+    "--clients": (["1", "001"], ["4294967296", "99999999999999999999999"]),
+    "--mode": (["600", "0600", "777", "0"], ["8", "0o600", "0x1ff", "77777777777"]),
+}
+NO_NUMBERS = ["", "-1", "+1", "x", "1x", " 1", "1 ", "1.0", "-", "٣"]
+
+
+def words_of(daemon, *more):
+    return [daemon.program, "serve", "--socket", daemon.path, "--conf", daemon.conf, *more]
+
+
+def ended(words, **more):
+    """A run that has to end by itself."""
+    ran = subprocess.run(words, stdin=subprocess.DEVNULL, capture_output=True, timeout=LIMIT, **more)
+    return ran.returncode, ran.stdout, ran.stderr.decode(errors="replace")
+
+
+class Stopped(Daemon):
+    """A folder with a configuration, and no daemon that runs in it."""
+
+    def start(self):
+        self.process = subprocess.Popen(["true"], stdout=subprocess.PIPE, stderr=subprocess.PIPE)
+        self.process.wait()
+
+        class Nobody:
+            @staticmethod
+            def join(_):
+                pass
+
+        self.reader = Nobody
+
+
+def misuses(program, words):
+    """Status 2, the usage on standard error, nothing on standard output and nothing at the socket. The configuration, which is faulty, is not read."""
+    with Stopped(program, "create") as daemon:
+        filled = [{"S": daemon.path, "C": daemon.conf}.get(word, word) for word in words]
+        status, output, errors = ended([program, *filled])
+        said = "usage" in errors.lower() or "error: " in errors
+        return differs((status, output, said, daemon.path.exists()), (2, b"", True, False)) and f"{status} {output} {errors}"
+
+
+def takes(program, *options):
+    """It starts with these options, serves a client, and ends with 0 after it."""
+    clients = [] if "--clients" in options or any(it.startswith("--clients=") for it in options) else ["--clients", "1"]
+    with Daemon(program, "", *options, *clients) as daemon:
+        with daemon.client() as client:
+            rings = client.rings
+        return differs((rings, daemon.end(), daemon.path.exists()), ((0, 0, 4, 8), (0, []), False))
+
+
+def faults(program, conf, want):
+    """A fault of the start: its line alone, and status 1."""
+    with Stopped(program) as daemon:
+        if conf is None:
+            daemon.conf.unlink()
+        elif conf == "folder":
+            daemon.conf.unlink()
+            daemon.conf.mkdir()
+        else:
+            daemon.conf.write_bytes(conf if isinstance(conf, bytes) else conf.encode())
+        got = ended(words_of(daemon))
+        return differs((got, daemon.path.exists()), ((1, b"", f"reqkeyd: {want}\n"), False))
+
+
+def in_order(program):
+    """Of several faults the first is told: of the words, of the file, of its lines, of the socket."""
+    with Stopped(program, "create") as daemon:
+        daemon.path.write_text("plain")
+        got = [ended(words_of(daemon, "--sessions", "0"))[0], ended(words_of(daemon))]
+        daemon.conf.unlink()
+        got += [ended(words_of(daemon, "--sessions", "0"))[0], ended(words_of(daemon))]
+        daemon.conf.write_text("")
+        got += [ended(words_of(daemon))]
+        lines = [(1, b"", f"reqkeyd: {it}\n") for it in ["conf line 1: C1", "conf", "socket"]]
+        return differs((got, daemon.path.read_text()), ([2, lines[0], 2, lines[1], lines[2]], "plain"))
+
+
+def stands(program, what):
+    """Something stands at the path that is no socket without a daemon: it is told, and is not touched."""
+    with Stopped(program) as daemon:
+        listener = None
+        if what == "folder":
+            daemon.path.mkdir()
+        elif what == "full folder":
+            daemon.path.mkdir()
+            (daemon.path / "x").write_text("x")
+        elif what == "dangling link":
+            daemon.path.symlink_to(daemon.room / "nothing")
+        elif what == "link to a file":
+            daemon.path.symlink_to(daemon.conf)
+        elif what == "pipe":
+            os.mkfifo(daemon.path)
+        elif what == "datagrams":
+            listener = socket.socket(socket.AF_UNIX, socket.SOCK_DGRAM)
+            listener.bind(str(daemon.path))
+        elif what == "empty file":
+            daemon.path.write_text("")
+        before = os.lstat(daemon.path)
+        got = ended(words_of(daemon))
+        after = os.lstat(daemon.path)
+        if listener:
+            listener.close()
+        return differs((got, after.st_ino, after.st_mode), ((1, b"", "reqkeyd: socket\n"), before.st_ino, before.st_mode))
+
+
+def nowhere(program, path):
+    """A path at which no socket can be."""
+    with Stopped(program) as daemon:
+        words = [daemon.program, "serve", "--socket", path.replace("%room", str(daemon.room)), "--conf", daemon.conf]
+        return differs(ended(words), (1, b"", "reqkeyd: socket\n"))
+
+
+def longest(program, length):
+    """A path of so many bytes."""
+    with Stopped(program) as daemon:
+        folder = daemon.room / "l"
+        folder.mkdir()
+        path = f"{folder}/" + "s" * (length - len(str(folder)) - 1)
+        words = [daemon.program, "serve", "--socket", path, "--conf", daemon.conf, "--clients", "1"]
+        if length > 107:
+            return differs((ended(words), list(folder.iterdir())), ((1, b"", "reqkeyd: socket\n"), []))
+        daemon.path = pathlib.Path(path)
+        daemon.options = ("--clients", "1")
+        Daemon.start(daemon)
+        with Client(path, 1000) as client:
+            rings = client.rings
+        return differs((rings, daemon.end(), list(folder.iterdir())), ((0, 0, 4, 8), (0, []), []))
+
+
+def stale(program, linked=False):
+    """A socket at which nobody answers is replaced."""
+    with Stopped(program) as daemon:
+        left = socket.socket(socket.AF_UNIX)
+        left.bind(str(daemon.path))
+        left.close()
+        daemon.options = ("--clients", "1")
+        Daemon.start(daemon)
+        with daemon.client() as client:
+            rings = client.rings
+        return differs((rings, daemon.end(), daemon.path.exists()), ((0, 0, 4, 8), (0, []), False))
+
+
+def two(program):
+    """A second daemon at the socket of one that runs is refused, and the first goes on."""
+    with Daemon(program) as daemon:
+        got = ended(words_of(daemon))
+        mode = stat.S_ISSOCK(os.lstat(daemon.path).st_mode)
+        return differs((got, mode), ((1, b"", "reqkeyd: socket\n"), True)) or daemon.lives()
+
+
+def busy(program):
+    """The same while all its workers are busy, and more clients wait."""
+    with Daemon(program, "", "--sessions", "1") as daemon:
+        daemon.client()
+        waiting = [daemon.client(None) for _ in range(3)]
+        got = ended(words_of(daemon))
+        rings = daemon.clients[0].ask(b"\x01")
+        for client in waiting:
+            client.socket.close()
+        daemon.clients[0].socket.close()
+        return differs((got, rings), ((1, b"", "reqkeyd: socket\n"), "E22")) or daemon.lives()
+
+
+def modes(program, mask, options, want):
+    """The mode of the socket's file, whatever the mask."""
+    with Daemon(program, "", *options, mask=mask) as daemon:
+        return differs(oct(os.stat(daemon.path).st_mode & 0o7777), oct(want))
+
+
+def helps(program, words):
+    status, output, errors = ended([program, *words])
+    wanted = ["Usage: ", "--socket", "--conf", "--negative", "--sessions", "--clients", "--mode", "60", "64"] if "serve" in words else ["serve", "replay"]
+    missing = [it for it in wanted if it not in output.decode()]
+    return differs((status, missing, errors), (0, [], ""))
+
+
+def speaks_not(program):
+    """Standard output stays empty, and standard input is not read."""
+    with Daemon(program, "", "--clients", "1") as daemon:
+        daemon.client().socket.close()
+        daemon.end()
+        return differs(daemon.process.stdout.read(), b"")
+
+
+def cases():
+    base = ["serve", "--socket", "S", "--conf", "C"]
+    for words in [["serve"], base[:3], [base[0], *base[3:]], ["serve", "--socket"], [*base, "more"], [*base, "--nothing"], [*base, "--mode"],
+                  [*base, "--socket", "S"], [*base, "--conf=C"], ["serve", "--socket", "--conf", "C"], ["--socket", "S", "serve", "--conf", "C"],
+                  [*base, "--negativ", "1"], [*base, "-s", "1"], [*base, "replay"], [*base, "--sessions"], [*base, "--", "x"]]:
+        yield f"words {words}", misuses, words
+    for option, (good, bad) in NUMBERS.items():
+        for value in good:
+            yield f"{option} {value}", takes, option, value
+        yield f"{option}={good[0]}", takes, f"{option}={good[0]}"
+        for value in [*bad, *NO_NUMBERS]:
+            yield f"{option} {value!r}", misuses, [*base, option, value]
+        yield f"{option}=", misuses, [*base, f"{option}="]
+        yield f"{option} twice", misuses, [*base, option, good[0], option, good[0]]
+    for conf, want in CONF_FAULTS:
+        yield f"a configuration {conf[:40]!r}", faults, conf, f"conf line {want}"
+    yield "no configuration", faults, None, "conf"
+    yield "a folder as a configuration", faults, "folder", "conf"
+    yield "faults in their order", in_order
+    for what in ["folder", "full folder", "dangling link", "link to a file", "pipe", "datagrams", "empty file"]:
+        yield f"a {what} at the path", stands, what
+    for path in ["%room/none/s", "%room/conf/s", "/" + "l" * 200, "%room"]:
+        yield f"the path {path[:30]}", nowhere, path
+    yield "a path of 107 bytes", longest, 107
+    yield "a path of 108 bytes", longest, 108
+    yield "a socket that was left", stale
+    yield "two daemons", two
+    yield "a second one while the first is busy", busy
+    for mask in [0o000, 0o022, 0o777]:
+        yield f"the mode under {mask:o}", modes, mask, [], 0o600
+    yield "a mode of a group", modes, 0o077, ["--mode", "0660"], 0o660
+    yield "a mode for all", modes, 0o077, ["--mode=666"], 0o666
+    for words in [["--help"], ["-h"], ["serve", "--help"], ["serve", "-h"]]:
+        yield f"{words}", helps, words
+    yield "standard output", speaks_not

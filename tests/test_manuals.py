@@ -1,0 +1,142 @@
+#!/usr/bin/env python3
+"""Compares the manual pages of man/ with what the programs say of themselves and with docs/, and has groff look for faults in them."""
+import re
+import shlex
+import shutil
+import subprocess
+
+from counted import Counted
+from programs import built, top
+
+count = Counted()
+PAGES = ["reqkeyd.8", "reqkeyctl.1", "reqkeyd.conf.5"]
+
+
+def plain(words):
+    """A text of a manual page as it is read: without the changes of font, and with its dashes."""
+    return re.sub(r"\\f(\(..|.)", "", words).replace("\\-", "-").replace("\\&", "")
+
+
+def spoken(line):
+    """What a line of a manual page shows."""
+    macro, _, rest = line.partition(" ")
+    if not macro.startswith("."):
+        return plain(line)
+    words = [plain(word) for word in shlex.split(rest.replace("\\", "\\\\").replace("'", "\\'"))]
+    return ("" if macro in [".BI", ".BR", ".IB", ".IR", ".RB", ".RI"] else " ").join(words)
+
+
+def sections(page):
+    """The lines of each section of a manual page."""
+    found = {}
+    for line in (top / "man" / page).read_text().split("\n"):
+        if line.startswith(".SH "):
+            found[line[4:].strip()] = lines = []
+        elif found:
+            lines.append(line)
+    return found
+
+
+def tagged(lines):
+    """The tags of a section: the line behind each `.TP`."""
+    return [spoken(after) for line, after in zip(lines, lines[1:]) if line == ".TP"]
+
+
+def said(program, *words):
+    ran = subprocess.run([program, *words], stdin=subprocess.DEVNULL, capture_output=True, text=True, timeout=60)
+    return ran.stdout if ran.returncode == 0 else f"status {ran.returncode}: {ran.stderr}"
+
+
+def part(text, head):
+    """The lines of a program's help below this head."""
+    below = text.partition(f"\n{head}:\n")[2].partition("\n\n")[0]
+    return [line.strip() for line in below.split("\n") if line.strip()]
+
+
+def subcommands(text):
+    """The subcommands that a program's help lists."""
+    return re.findall(r"^  (\S+)", text.partition("\nCommands:\n")[2].partition("\n\n")[0], re.MULTILINE)
+
+
+def option(words):
+    """An option as its spellings and the name of its value, as `--uid N`."""
+    words = re.sub(r"[<>]", "", words)
+    return re.split(r"\s{2,}", words)[0].replace(", ", " ")
+
+
+def options(*helps):
+    """The options that the texts of help list."""
+    return sorted({option(line) for text in helps for line in part(text, "Options")})
+
+
+def calls(program, name):
+    """Each subcommand with its arguments, as the program says how to call it."""
+    usage = re.search(r"^Usage: \S+ (.*)$", said(program, name, "--help"), re.MULTILINE)
+    return re.sub(rf"\[OPTIONS\] |[<>]|^{name} ?", "", usage[1]).upper() if usage else f"no usage of {name}"
+
+
+def of_daemon(program):
+    """reqkeyd.8: its options, its subcommands, and that each option stands in the synopsis."""
+    page, top_help, serve = sections("reqkeyd.8"), said(program, "--help"), said(program, "serve", "--help")
+    listed = sorted(option(tag) for tag in tagged(page["OPTIONS"]))
+    count.same("options of reqkeyd", listed, options(top_help, serve))
+    synopsis = " ".join(spoken(line) for line in page["SYNOPSIS"])
+    count.same("synopsis of reqkeyd", [it for it in listed if it.split()[-1] != "--help" and it.split()[1 if it[1] != "-" else 0] not in synopsis], [])
+    commands = subcommands(top_help)
+    count.same("subcommands of reqkeyd", sorted(commands), ["replay", "serve"])
+    count.same("their synopsis", [it for it in commands if f"reqkeyd {it}" not in synopsis], [])
+
+
+def of_client(program):
+    """reqkeyctl.1: its options, its subcommands with their arguments, what the arguments are called, and the errors."""
+    page, text = sections("reqkeyctl.1"), said(program, "--help")
+    listed = sorted(option(tag) for tag in tagged(page["OPTIONS"]))
+    count.same("options of reqkeyctl", listed, options(text))
+    synopsis = " ".join(spoken(line) for line in page["SYNOPSIS"])
+    count.same("synopsis of reqkeyctl", [it for it in listed if not it.startswith("-h") and it.split()[1 if it[1] != "-" else 0] not in synopsis], [])
+    tags = dict(tag.partition(" ")[::2] for tag in tagged(page["COMMANDS"]))
+    count.same("subcommands of reqkeyctl", list(tags), subcommands(text))
+    for name, arguments in tags.items():
+        count.same(f"arguments of {name}", arguments, calls(program, name))
+    count.same("arguments", sorted(tagged(page["ARGUMENTS"])), sorted(line.split()[0].upper() for line in part(text, "Arguments")))
+    count.same("errors", tagged(page["ERRORS"]), part(text, "Errors"))
+
+
+def of_configuration():
+    """reqkeyd.conf.5: the macros and the codes of docs/CONFIGURATION.md."""
+    page, document = sections("reqkeyd.conf.5"), (top / "docs" / "CONFIGURATION.md").read_text()
+    macros = re.findall(r"%.", " ".join(tag for tag in tagged(page["DESCRIPTION"]) if tag.startswith("%")))
+    told = re.findall(r"^\| (`%.*?) \|", document, re.MULTILINE)
+    count.same("macros", macros, re.findall(r"%.", " ".join(told)))
+    codes = re.findall(r"^\| (C\d) \|", document, re.MULTILINE)
+    count.same("codes", tagged(page["DIAGNOSTICS"]), [code for code in codes if code != "C5"])
+
+
+def alike(page):
+    """What every page has, and what groff finds wrong with it."""
+    found, text = sections(page), (top / "man" / page).read_text()
+    wanted = ["NAME", "DESCRIPTION", "EXAMPLES", "SEE ALSO"] + ([] if page.endswith("5") else ["SYNOPSIS", "OPTIONS", "EXIT STATUS"])
+    count.same(f"sections of {page}", [it for it in wanted if it not in found], [])
+    name, number = page.rsplit(".", 1)
+    count.same(f"title of {page}", text.split("\n")[0].split()[:3], [".TH", name.upper(), number])
+    others = [it.rsplit(".", 1) for it in PAGES if it != page]
+    also = " ".join(spoken(line) for line in found["SEE ALSO"])
+    count.same(f"see also of {page}", [it for it, its in others if f"{it}({its})" not in also], [])
+    count.same(f"columns of {page}", [line for line in text.split("\n") if len(line) > 160], [])
+    if shutil.which("groff"):
+        ran = subprocess.run(["groff", "-ww", "-man", "-Tutf8", "-b", top / "man" / page], capture_output=True, text=True, timeout=60)
+        count.same(f"faults in {page}", (ran.returncode, ran.stderr), (0, ""))
+
+
+if not shutil.which("groff"):
+    print("faults in the manual pages: not looked for, there is no groff")
+for page in PAGES:
+    alike(page)
+of_configuration()
+for name, compare in [("reqkeyd", of_daemon), ("reqkeyctl", of_client)]:
+    program = built(name)[0]
+    if program.exists():
+        compare(program)
+    else:
+        count.same(f"{program} is built", False, True)
+count.end()
