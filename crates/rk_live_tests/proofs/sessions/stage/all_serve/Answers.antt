@@ -1,7 +1,7 @@
 use denote.Param.{param}
 use denote.Param.Send.{sendable}
 use Rattle.rk_hall.proofs.Crossing.{global_send, halls_sync}
-use Rattle.rk_live_tests.proofs.Crossing.{scene_sync, turns_sync}
+use Rattle.rk_live_tests.proofs.sessions.Crossing.{scene_sync, turns_sync}
 use Rattle.rk_live_tests.proofs.sessions.stage.all_serve.Goals as goal
 
 -- the threads share the halls, the scene and its turns
