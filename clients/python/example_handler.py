@@ -1,0 +1,16 @@
+#!/usr/bin/env python3
+"""A plain handler: makes keys whose payload is their callout in capitals, and says for an hour that there is none where the callout is empty.
+
+Its line in the configuration: create user capitals:* * /path/of/example_handler.py %k
+"""
+import sys
+
+import reqkey
+
+key = int(sys.argv[1])
+with reqkey.handle(key) as session:
+    callout = session.callout()
+    if callout:
+        session.instantiate(key, callout.upper().encode())
+    else:
+        session.negate(key, 3600)

@@ -1,0 +1,309 @@
+#!/usr/bin/env python3
+"""Tries the clients in C and in Python of clients/: each ask byte by byte, hostile replies, and each ask on the daemon, as a client and as a handler.
+
+Both are called by a driver (tests/clients/) that reads asks and tells what came of them, so that each table here is for both. The one in C is
+compiled twice: as users compile it, and so that a wrong access to memory ends it.
+"""
+import contextlib
+import itertools
+import pathlib
+import shutil
+import subprocess
+import sys
+import tempfile
+
+import protocol_peer as peer
+from counted import Counted
+from daemon import Daemon
+from programs import PROGRAMS, top
+
+count = Counted()
+CLIENTS, DRIVERS = top / "clients", top / "tests" / "clients"
+STRICT = ["-std=c11", "-Wall", "-Wextra", "-Wpedantic", "-Wconversion", "-Wshadow", "-Werror", "-I", str(CLIENTS / "c")]
+SANITIZED = ["-g", "-fsanitize=address,undefined", "-fno-sanitize-recover=all"]
+RINGS = peer.rings(0, 0, 1, 2)
+ANY = bytes(range(256))
+ANY_WORD = "".join(f"%{byte:02X}" for byte in ANY)
+ANY_TOLD = "".join(chr(byte) if b" "[0] < byte <= b"~"[0] and byte != b"%"[0] else f"%{byte:02X}" for byte in ANY)
+
+# what a driver is told, the body of its ask, a reply, and what the driver tells of it
+GOOD = [
+    ("hello 0 0 0 0", peer.hello(), RINGS, "0 0 1 2"),
+    ("hello 4294967295 7 3 2147483647", peer.hello(4294967295, 7, 2147483647, 3), peer.rings(4, 8, 4294967295, 0), "4 8 4294967295 0"),
+    ("hello 1 2 1 0", peer.hello(1, 2, 0, 1), RINGS, "0 0 1 2"),
+    ("hello 1 2 2 0", peer.hello(1, 2, 0, 2), RINGS, "0 0 1 2"),
+    ("request user a - 0", peer.request(b"user", b"a", None, 0), peer.number(1), "1"),
+    ("request user a  -8", peer.request(b"user", b"a", b"", -8), peer.number(2147483647), "2147483647"),
+    ("request @31 @4095 @4095 -4", peer.request(b"p" * 31, b"p" * 4095, b"p" * 4095, -4), peer.number(12), "12"),
+    ("request café a%20b %F0%9F%94%91 7", peer.request("café".encode(), b"a b", "🔑".encode(), 7), peer.number(12), "12"),
+    ("assume 0", peer.on_key(3, 0), peer.number(0), "0"),
+    ("assume 2147483647", peer.on_key(3, 2147483647), peer.number(0), "0"),
+    ("assume -2147483648", peer.on_key(3, -2147483648), peer.number(0), "0"),
+    ("instantiate 3 hi 0", peer.instantiate(3, b"hi", 0), peer.number(0), "0"),
+    (f"instantiate 3 {ANY_WORD} -3", peer.instantiate(3, ANY, -3), peer.number(0), "0"),
+    ("instantiate 3 @32767 5", peer.instantiate(3, b"p" * 32767, 5), peer.number(0), "0"),
+    ("instantiate 3 @65525 0", peer.instantiate(3, b"p" * 65525, 0), peer.number(0), "0"),
+    ("instantiate 3  0", peer.instantiate(3, b"", 0), peer.number(0), "0"),
+    ("negate 3 4294967295 -8", peer.negate(3, 4294967295, -8), peer.number(0), "0"),
+    ("reject 3 7 129 -1", peer.reject(3, 7, 129, -1), peer.number(0), "0"),
+    ("reject 3 0 4294967295 0", peer.reject(3, 0, 4294967295, 0), peer.number(0), "0"),
+    ("read 3", peer.on_key(7, 3), peer.data(b"hi"), "bytes hi"),
+    ("read -7", peer.on_key(7, -7), peer.data(b""), "bytes "),
+    ("read 3", peer.on_key(7, 3), peer.data(b"p" * 65533), "bytes " + "p" * 65533),
+    ("read 3", peer.on_key(7, 3), peer.data(b"\0%\xff "), "bytes %00%25%FF%20"),
+    ("describe 3", peer.on_key(8, 3), peer.data(b"user;0;valid;a"), "bytes user;0;valid;a"),
+    ("revoke 3", peer.on_key(9, 3), peer.number(0), "0"),
+    ("timeout 3 4294967295", peer.timeout(3, 4294967295), peer.number(0), "0"),
+    ("link 3 -2", peer.on_key_and_ring(11, 3, -2), peer.number(0), "0"),
+    ("unlink 3 4", peer.on_key_and_ring(12, 3, 4), peer.number(0), "0"),
+    ("clear -4", peer.clear(-4), peer.number(0), "0"),
+    *[(f"default {setting}", peer.default(setting), peer.number(before), str(before)) for setting, before in
+      [(-1, 0), (0, 1), (1, 2), (2, 3), (3, 4), (4, 7), (7, 0)]],
+    ("add user k v -3", peer.add(b"user", b"k", b"v", -3), peer.number(4), "4"),
+    (f"add user k {ANY_WORD} 1", peer.add(b"user", b"k", ANY, 1), peer.number(4), "4"),
+    ("callout", peer.CALLOUT, peer.data("Räuber".encode()), "bytes R%C3%A4uber"),
+]
+
+ERRNOS = {1: "EPERM", 2: "ENOENT", 12: "ENOMEM", 13: "EACCES", 16: "EBUSY", 22: "EINVAL", 35: "EDEADLK", 122: "EDQUOT", 126: "ENOKEY", 127: "EKEYEXPIRED",
+          128: "EKEYREVOKED", 129: "EKEYREJECTED"}
+
+# replies to no ask
+NO_REPLY = {
+    "an empty body": peer.frame(b""),
+    "a body above the most": b"\x00\x01\x00\x01" + bytes(65537),
+    "a body of 4 GiB": b"\xff\xff\xff\xff",
+    "an unknown kind": peer.frame(b"\x04\x00"),
+    "the greatest kind": peer.frame(b"\xff" * 65536),
+    "an errno that there is not": peer.frame(peer.refused(3)),
+    "errno 0": peer.frame(peer.refused(0)),
+    "an errno that is no byte of a refusal": peer.frame(b"\x03\x00\x00\x00\x16"),
+    "a refusal without its errno": peer.frame(b"\x03"),
+    "a refusal that goes on": peer.frame(b"\x03\x16\x00"),
+}
+NUMBER, BYTES, FOUR = peer.number(0), peer.data(b"hi"), RINGS
+# what is no reply to an ask that is answered by such a number, bytes, or rings
+WRONG = {
+    "0": [BYTES, FOUR, b"\x00", b"\x00\x00\x00\x00", NUMBER + b"\x00", peer.number(1), peer.number(4294967170), peer.number(2147483648), b"\x00" * 65536],
+    "serial": [BYTES, FOUR, b"\x00\x00\x00\x00", peer.number(1) + b"\x00", NUMBER, peer.number(2147483648), peer.number(4294967295), b"\x00" + b"\x01" * 9],
+    "setting": [BYTES, FOUR, peer.number(5), peer.number(6), peer.number(8), peer.number(4294967295), NUMBER + b"\x00"],
+    "bytes": [NUMBER, FOUR, b"\x01", b"\x01\x00", b"\x01\x00\x03hi", BYTES + b"\x00", b"\x01\xff\xfe" + bytes(65533), b"\x01\xff\xff" + bytes(65533)],
+    "text": [NUMBER, FOUR, b"\x01", b"\x01\x00\x03hi", BYTES + b"\x00"],
+    "rings": [NUMBER, BYTES, b"\x02", b"\x02" + bytes(15), b"\x02" + bytes(17), b"\x02" * 65536],
+}
+ANSWERED = {"hello": "rings", "request": "serial", "add": "serial", "read": "bytes", "describe": "text", "callout": "text", "default": "setting"}
+ONE_OF_EACH = {words.split(" ")[0]: words for words, *_ in reversed(GOOD)}
+
+# arguments that no frame can hold
+UNSPELT = ["request @65536 a - 0", "request user @65536 - 0", "request user a @65536 0", "request @40000 @40000 - 0", "instantiate 3 @65536 0",
+           "instantiate 3 @65526 0", "instantiate 3 @65535 0", "add user k @65536 0", "add user k @131077 0", "add user @30000 @40000 0"]
+
+
+class Language:
+    """A client by the words of its driver."""
+
+    def __init__(self, name, *words):
+        self.name, self.words = name, [str(word) for word in words]
+
+    def asks(self, lines):
+        """What comes of these asks over sockets, line by line."""
+        ran = subprocess.run([*self.words, "client"], input="".join(f"{line}\n" for line in lines).encode(), capture_output=True, timeout=60)
+        return told_by(ran, ran.stdout)
+
+    def handles(self, room, lines, **streams):
+        """What a handler puts out, and what comes of its asks."""
+        script, told = room / "script", room / "told"
+        script.write_text("".join(f"{line}\n" for line in lines))
+        ran = subprocess.run([*self.words, "handler", str(script), str(told)], stderr=subprocess.PIPE, timeout=60, **streams)
+        return ran.stdout, told_by(ran, told.read_bytes())
+
+
+def told_by(ran, output):
+    """The lines that a driver has told, or how it has failed."""
+    return output.decode().split("\n")[:-1] if (ran.returncode, ran.stderr) == (0, b"") else (ran.returncode, ran.stderr.decode()[-2000:])
+
+
+def sessions(client, cases):
+    """Each case in a session of its own: asks, and the bytes that come for each. What the driver tells of the asks, and what the other side has heard."""
+    with contextlib.ExitStack() as stack:
+        daemons = [stack.enter_context(peer.Daemon(replies, split)) for _, replies, split in cases]
+        told = client.asks([line for (lines, *_), daemon in zip(cases, daemons) for line in [f"connect {daemon.path}", *lines]])
+        for daemon in daemons:
+            daemon.thread.join(20)
+        if not isinstance(told, list):
+            return [(told, [])] * len(cases)
+        ends = list(itertools.accumulate(1 + len(lines) for lines, *_ in cases))
+        return [(told[end - len(case[0]) : end], daemon.heard) for end, case, daemon in zip(ends, cases, daemons)]
+
+
+def speaks(client, room):
+    """Each ask is the one frame that the protocol has for it, and its reply is told: in one session over a socket, in one handler, and byte by byte."""
+    lines, bodies, replies, wanted = zip(*GOOD)
+    [got] = sessions(client, [(lines, list(map(peer.frame, replies)), False)])
+    count.same(f"{client.name}: asks over a socket", got, (list(wanted), list(bodies)))
+    output, told = client.handles(room, lines, input=b"".join(map(peer.frame, replies)), stdout=subprocess.PIPE)
+    count.same(f"{client.name}: asks of a handler", (told, output), (list(wanted), b"".join(map(peer.frame, bodies))))
+    short = [(line, peer.frame(reply), want) for line, _, reply, want in GOOD if len(reply) < 100]
+    [got] = sessions(client, [([line for line, *_ in short], [reply for _, reply, _ in short], True)])
+    count.same(f"{client.name}: replies byte by byte", got[0], [want for *_, want in short])
+
+
+def is_refused(client):
+    """Each refusal is told by its name, and the session goes on."""
+    replies = [peer.frame(peer.refused(errno)) for errno in ERRNOS]
+    for name, (told, _) in zip(ONE_OF_EACH, sessions(client, [([line] * len(ERRNOS), replies, False) for line in ONE_OF_EACH.values()])):
+        count.same(f"{client.name}: {name} is refused", told, list(ERRNOS.values()))
+
+
+def meets_hostile(client, room):
+    """What is no reply is told so, and nothing more is asked."""
+    names, cases = [], []
+    for name, line in ONE_OF_EACH.items():
+        wrong = {f"wrong reply {body[:8].hex()} of {len(body)}": peer.frame(body) for body in WRONG[ANSWERED.get(name, "0")]}
+        for fault, reply in {**(NO_REPLY if name in ["hello", "request", "read", "revoke"] else {}), **wrong}.items():
+            names.append(f"{client.name}: {name} and {fault}")
+            cases.append(([line, "revoke 3"], [reply, peer.frame(NUMBER)], False))
+    for name, (told, heard) in zip(names, sessions(client, cases)):
+        count.same(name, (told, len(heard)), (["malformed", "ended"], 1))
+    whole = peer.frame(BYTES)
+    cuts = [whole[:cut] for cut in range(len(whole))]
+    for cut, (told, _) in zip(cuts, sessions(client, [(["read 3", "read 3"], [cut or None], False) for cut in cuts])):
+        count.same(f"{client.name}: {len(cut)} bytes of a reply", told, ["ended", "ended"])
+    for cut in [b"", whole[:3], whole[:-1]]:
+        output, told = client.handles(room, ["read 3", "read 3"], input=cut, stdout=subprocess.PIPE)
+        count.same(f"{client.name}: {len(cut)} bytes of a reply to a handler", (output, told), (peer.frame(peer.on_key(7, 3)), ["ended", "ended"]))
+
+
+def spells(client):
+    """What has no place in a frame is not sent, and the session goes on."""
+    [got] = sessions(client, [([*UNSPELT, "request user a - 0"], [peer.frame(peer.number(7))], False)])
+    count.same(f"{client.name}: too long arguments", got, (["unspelt"] * len(UNSPELT) + ["7"], [peer.request(b"user", b"a", None, 0)]))
+
+
+def fails(client, room):
+    """No daemon, and an output that takes nothing."""
+    paths = [room / "none", room, "/" + "l" * 120]
+    count.same(f"{client.name}: no daemon", client.asks([f"connect {path}" for path in paths]), ["system"] * len(paths))
+    with open("/dev/full", "wb") as full:
+        count.same(f"{client.name}: a full device", client.handles(room, ["read 3"] * 2, stdin=subprocess.DEVNULL, stdout=full)[1], ["system", "ended"])
+
+
+# as a client of user 1000 on a fresh daemon, whose serials are 4, 8, 12 ..; PIPED makes keys p:* of their callouts
+PIPED = "create user p:* * |/bin/cat\n"
+AS_CLIENT = [
+    ("read 4", "EACCES"), ("hello 1000 1000 3 96", "ENOKEY"), ("hello 1000 1000 3 0", "4 8 12 16"),
+    ("hello 1000 1000 0 0", "EINVAL"), ("request user p:1 - 0", "ENOKEY"), ("request user p:1 hello -4", "20"), ("read 20", "bytes hello"),
+    ("request .user p:1 - 0", "EPERM"), ("request user  - 0", "EINVAL"), ("request @32 a - 0", "EINVAL"), ("request user p:2 x -8", "ENOKEY"),
+    ("request user q x 0", "ENOKEY"), ("assume 20", "ENOKEY"), ("assume 0", "0"), ("instantiate 20 v 0", "EPERM"), ("negate 20 1 0", "EPERM"),
+    ("reject 20 1 129 0", "EPERM"), ("reject 20 1 3 0", "EINVAL"), ("read -7", "ENOKEY"), ("read 0", "EINVAL"), ("describe 20", "bytes user;1000;valid;p:1"),
+    ("describe 97", "ENOKEY"), ("timeout 20 4000000000", "0"), ("timeout 20 0", "0"), ("timeout 96 1", "ENOKEY"), ("link 20 -1", "0"), ("link 20 0", "ENOKEY"),
+    ("unlink 20 -1", "0"), ("unlink 20 -1", "ENOENT"), ("default -1", "0"), ("default 4", "0"), ("default 7", "4"), ("default 5", "EINVAL"),
+    (f"add user k {ANY_WORD} -3", "28"), ("read 28", f"bytes {ANY_TOLD}"), ("add user k  -3", "EINVAL"), ("add user k v 0", "ENOKEY"),
+    ("request user k - -2", "28"), ("revoke 28", "0"), ("revoke 28", "EKEYREVOKED"), ("read 28", "EKEYREVOKED"), ("clear -3", "0"), ("clear -2", "0"),
+    ("clear -8", "ENOKEY"), ("describe 28", "ENOKEY"), ("callout", "ENOKEY"), ("read 20", "bytes hello"),
+]
+
+# as the plain handler of key 12
+AS_HANDLER = [
+    ("read 12", "EACCES"), ("hello 0 0 0 0", "EACCES"), ("assume 16", "ENOKEY"), ("assume 12", "0"), ("hello 0 0 0 0", "EINVAL"),
+    ("callout", "bytes a%20callout"), ("read -7", "bytes a%20callout"), ("describe 12", "bytes user;1000;building;h:1"), ("read 12", "EBUSY"),
+    ("link 12 -3", "0"), ("unlink 12 -3", "0"), ("add user other v -8", "16"), ("read 16", "bytes v"), ("timeout 16 4000000000", "0"), ("revoke 16", "0"),
+    ("read 16", "EKEYREVOKED"), ("request user h:1 x 0", "EDEADLK"), ("request user none - 0", "ENOKEY"), ("default 1", "0"), ("default -1", "1"),
+    ("clear -1", "ENOKEY"), ("assume 0", "0"), ("callout", "EACCES"), ("assume 12", "0"), ("instantiate 16 v 0", "EPERM"), ("instantiate 12 v 99", "ENOKEY"),
+    ("negate 16 1 0", "EPERM"), ("reject 12 1 129 99", "ENOKEY"), ("instantiate 12 v 0", "0"), ("instantiate 12 v 0", "EACCES"), ("assume 12", "EKEYREVOKED"),
+]
+# how a plain handler may end a construction, and what its requester is told
+ENDS = [("instantiate 12 made 0", "12"), ("negate 12 60 0", "ENOKEY"), ("reject 12 60 127 0", "EKEYEXPIRED"), ("reject 12 60 128 -3", "EKEYREVOKED"),
+        ("reject 12 60 129 0", "EKEYREJECTED")]
+
+
+def on_daemon(client, program):
+    """Each ask as a client: done, and refused."""
+    lines, wanted = zip(*AS_CLIENT)
+    with Daemon(program, PIPED) as daemon:
+        count.same(f"{client.name}: as a client of {program.name}", differing(lines, client.asks([f"connect {daemon.path}", *lines])[1:], wanted), [])
+
+
+def on_handler(client, program):
+    """Each ask in a handler, done and refused; and each way to end a construction."""
+    for asks, outcome in [(AS_HANDLER, "12"), *[([("assume 12", "0"), (end, "0")], outcome) for end, outcome in ENDS]]:
+        lines, wanted = zip(*asks)
+        with Daemon(program, "create user h:* * %room/handler\n") as daemon:
+            (daemon.room / "script").write_text("\n".join(lines) + "\n")
+            daemon.script("handler", f"#!/bin/sh\nexec {' '.join(client.words)} handler %room/script %room/told\n")
+            asked = client.asks([f"connect {daemon.path}", "hello 1000 1000 0 0", "request user h:1 a%20callout -4"])[1:]
+            told = (daemon.room / "told").read_text().split("\n")[:-1]
+            wrong = [asked, differing(lines, told, wanted)]
+            count.same(f"{client.name}: as a handler of {program.name}: {lines[-1]}", wrong, [["0 0 4 8", outcome], []])
+
+
+def differing(lines, told, wanted):
+    """The lines of which something else was told."""
+    if not isinstance(told, list) or len(told) != len(lines):
+        return told
+    return [f"{line[:60]}: {got}, not {want}" for line, got, want in zip(lines, told, wanted) if got != want]
+
+
+def examples(program, ask, handler):
+    """The examples of a language: a client requests what a handler makes."""
+    with Daemon(program, f"create user capitals:* * {handler} %k\n") as daemon:
+        got = [subprocess.run([ask, daemon.path, *words], capture_output=True, timeout=60) for words in
+               [["user", "capitals:a", "hello"], ["user", "capitals:b", ""], ["user", "capitals:c"], ["user"]]]
+        told = [(it.returncode, b"HELLO" in it.stdout, b"ENOKEY" in it.stderr, b"usage" in it.stderr) for it in got]
+        none = (1, False, True, False)
+        count.same(f"examples {ask} on {program.name}", told, [(0, True, False, False), none, none, (2, False, False, True)])
+
+
+def compiled(room, name, *sources, flags=()):
+    """A program in C, or what the compiler said of it."""
+    out = room / name
+    made = subprocess.run(["gcc", *STRICT, *flags, "-o", out, *sources, CLIENTS / "c" / "reqkey.c"], capture_output=True, text=True, timeout=120)
+    return out if made.returncode == 0 else made.stderr
+
+
+def sanitizes(room):
+    """Whether gcc has its sanitizers here."""
+    (room / "nothing.c").write_text("int main(void) { return 0; }\n")
+    made = subprocess.run(["gcc", *SANITIZED, "-o", room / "nothing", room / "nothing.c"], capture_output=True, timeout=120)
+    return made.returncode == 0 and subprocess.run([room / "nothing"], capture_output=True, timeout=60).returncode == 0
+
+
+def languages(room):
+    """The clients that can be tried here, and their examples."""
+    example = CLIENTS / "python" / "example_client.py", CLIENTS / "python" / "example_handler.py"
+    yield Language("Python", sys.executable, "-I", "-S", DRIVERS / "driver.py"), *example
+    if not shutil.which("gcc"):
+        print("clients/c: not tried, there is no gcc")
+        return
+    example = [compiled(room, name, CLIENTS / "c" / f"{name}.c", flags=["-O2"]) for name in ["example_client", "example_handler"]]
+    drivers = {"C": compiled(room, "driver", DRIVERS / "driver.c", flags=["-O2"])}
+    if sanitizes(room):
+        drivers["C, sanitized"] = compiled(room, "driver_sanitized", DRIVERS / "driver.c", flags=SANITIZED)
+    else:
+        print("clients/c: not tried with gcc's sanitizers, which are not here")
+    faults = [it for it in [*example, *drivers.values()] if isinstance(it, str)]
+    count.same("clients/c compiles", faults, [])
+    for name, driver in drivers.items():
+        if not faults:
+            yield Language(name, driver), *example
+
+
+def main():
+    with tempfile.TemporaryDirectory(prefix="clients-") as folder:
+        room = pathlib.Path(folder)
+        for client, ask, handler in languages(room):
+            speaks(client, room)
+            is_refused(client)
+            meets_hostile(client, room)
+            spells(client)
+            fails(client, room)
+            for program in PROGRAMS:
+                if program.exists():
+                    on_daemon(client, program)
+                    on_handler(client, program)
+                    examples(program, ask, handler)
+                else:
+                    count.same(f"{program} is built", False, True)
+    count.end()
+
+
+main()
