@@ -1,0 +1,109 @@
+"""Calls the library of clients/keyutils/ as a program that is linked with it, and prints a line for each call: what it gave, or its error.
+
+usage: calls.py LIBRARY SUBJECT
+"""
+import ctypes
+import errno
+import os
+import sys
+import threading
+
+library = ctypes.CDLL(sys.argv[1], use_errno=True)
+THREAD, SESSION, USER, USER_SESSION, AUTHORITY = -1, -3, -4, -5, -7
+NOTHING = 2_000_000_000  # a serial that nothing has
+
+LEFT_OUT = ["keyctl_update", "keyctl_chown", "keyctl_setperm", "keyctl_search", "keyctl_get_security", "keyctl_get_security_alloc", "keyctl_session_to_parent",
+            "keyctl_invalidate", "keyctl_get_persistent", "keyctl_dh_compute", "keyctl_dh_compute_alloc", "keyctl_dh_compute_kdf", "keyctl_restrict_keyring",
+            "keyctl_pkey_query", "keyctl_pkey_encrypt", "keyctl_pkey_decrypt", "keyctl_pkey_sign", "keyctl_pkey_verify", "keyctl_move", "keyctl_watch_key",
+            "recursive_key_scan", "recursive_session_key_scan"]
+
+
+def call(name, *words):
+    """What a call gives: its number, or the name of its error."""
+    function = getattr(library, name)
+    function.restype = ctypes.c_int
+    function.argtypes = [ctypes.c_long if isinstance(word, int) else ctypes.c_char_p if isinstance(word, bytes) else ctypes.c_void_p for word in words]
+    ctypes.set_errno(0)
+    result = function(*words)
+    return result if result >= 0 else "EOPNOTSUPP" if ctypes.get_errno() == errno.EOPNOTSUPP else errno.errorcode[ctypes.get_errno()]
+
+
+def show(name, *words):
+    """Prints what a call gives."""
+    print(name, call(name, *words))
+
+
+def left_out():
+    """Those that don't say that they are left out."""
+    print([name for name in LEFT_OUT if call(name, 1, 0, 0, 0) != "EOPNOTSUPP"])
+
+
+def faults():
+    ring = call("keyctl_get_keyring_ID", SESSION, 0)
+    show("add_key", b"keyring", b"n", None, 0, SESSION)
+    show("add_key", None, b"n", b"v", 1, SESSION)
+    show("add_key", b"user", None, b"v", 1, SESSION)
+    show("add_key", b"user", b"n", None, 1, SESSION)
+    show("add_key", b"user", b"n", b"", 0, SESSION)
+    show("add_key", b"user", b"n", b"v" * 70000, 70000, SESSION)
+    show("request_key", None, b"n", None, 0)
+    show("keyctl_instantiate", NOTHING, None, 1, 0)
+    show("keyctl_join_session_keyring", b"a name")
+    for name in ["keyctl_describe", "keyctl_read", "keyctl_revoke", "keyctl_set_timeout"]:
+        print(name, [call(name, key, None, 0) for key in [SESSION, USER_SESSION, ring, NOTHING]])
+    show("keyctl_link", USER, SESSION)
+    show("keyctl_revoke", AUTHORITY)
+    print("keyctl_get_keyring_ID", [call("keyctl_get_keyring_ID", key, 1) for key in [THREAD, USER_SESSION, NOTHING, 0]],
+          call("keyctl_get_keyring_ID", ring, 0) == ring)
+
+
+def buffers():
+    """Bytes into buffers that are too short, and long enough, and into memory that the call gets."""
+    key, uid = call("add_key", b"user", b"n", b"hello", 5, SESSION), str(os.geteuid())
+    for name, size in [("keyctl_read", 0), ("keyctl_read", 3), ("keyctl_read", 9), ("keyctl_describe", 4), ("keyctl_describe", 99)]:
+        buffer = ctypes.create_string_buffer(b"." * 99, 99)
+        length = call(name, key, buffer, size) - (len(uid) if name == "keyctl_describe" else 0)
+        print(name, length, buffer.raw.rstrip(b".").replace(f";{uid};".encode(), b";;"))
+    held = ctypes.c_void_p()
+    print("keyctl_read_alloc", call("keyctl_read_alloc", key, ctypes.byref(held)), ctypes.string_at(held.value))
+    print("keyctl_describe_alloc", call("keyctl_describe_alloc", key, ctypes.byref(held)) == len(ctypes.string_at(held.value)))
+
+
+def raw():
+    ring = call("keyctl_get_keyring_ID", SESSION, 0)
+    key = call("add_key", b"user", b"n", b"v", 1, SESSION)
+    buffer = ctypes.create_string_buffer(99)
+    commands = [(0, SESSION, 0), (6, key, None, 0), (8, key, USER), (9, key, USER), (11, key, buffer, 99), (12, key, b"v", 1, 0), (13, key, 1, 0), (14, -1),
+                (15, key, 9), (16, key), (16, 0), (19, key, 1, 129, 0), (20, key, None, 0, 0), (31, buffer, 99), (3, key), (7, SESSION), (1, None),
+                (2, key, b"v", 1), (99, 0)]
+    for number, *words in commands:
+        got = call("keyctl", number, *words)
+        print("keyctl", number, "ring" if got == ring else "another" if number == 1 and isinstance(got, int) else "length" if number == 6 else got)
+
+
+def shared():
+    """Children and threads."""
+    ring = call("keyctl_get_keyring_ID", SESSION, 0)
+    key = call("add_key", b"user", b"n", b"v", 1, SESSION)
+    child = os.fork()
+    if child == 0:
+        os._exit(0 if call("keyctl_get_keyring_ID", SESSION, 0) == ring and call("keyctl_read", key, None, 0) == 1 and call("keyctl_revoke", key) == 0 else 1)
+    print("child", os.waitpid(child, 0)[1], call("keyctl_read", key, None, 0))
+    wrong = []
+
+    def works(number):
+        for turn in range(20):
+            name = f"{number}-{turn}".encode()
+            mine = call("add_key", b"user", name, name, len(name), SESSION)
+            if call("keyctl_read", mine, None, 0) != len(name) or call("keyctl_unlink", mine, SESSION) != 0:
+                wrong.append(name)
+
+    threads = [threading.Thread(target=works, args=(number,)) for number in range(8)]
+    for thread in threads:
+        thread.start()
+    for thread in threads:
+        thread.join()
+    print("threads", wrong)
+
+
+globals()[sys.argv[2]]()

@@ -1,0 +1,366 @@
+#!/usr/bin/env python3
+"""Runs keyutils' own programs on the daemon, by the library of clients/keyutils/: each command of keyctl without arguments, with bad ones and with good ones;
+its handlers, by the example of request-key.conf(5) and as key.dns_resolver; and the library's calls themselves.
+
+Debian's keyutils is installed where it is lacking and can be had; else nothing is tried.
+"""
+import os
+import pathlib
+import re
+import shlex
+import shutil
+import subprocess
+import sys
+import tempfile
+
+import protocol_peer as ask
+from counted import Counted
+from daemon import Daemon
+from programs import PROGRAMS, top
+
+count = Counted()
+UID = os.geteuid()
+CALLS = top / "tests" / "clients" / "calls.py"
+MISSING, REVOKED, EXPIRED, REJECTED = "Required key not available", "Key has been revoked", "Key has expired", "Key was rejected by service"
+LEFT_OUT, INVALID, DENIED, NOT_ALLOWED = "Operation not supported", "Invalid argument", "Permission denied", "Operation not permitted"
+
+SERIAL, NONE = r"\d+\n", "2000000000"
+RAW = r"user;{uid};-1;3f000000;k\n"
+
+# Commands without arguments that are no mistake; their status, and their output and errors, as patterns.
+ALONE = {
+    "new_session": (1, "", LEFT_OUT),
+    "reap": (0, "-1 keys reaped\n", ""),
+    "session": (0, "", "Joined session keyring"),
+    "show": (0, f"Session Keyring\\n{{session}}: key inaccessible \\({LEFT_OUT}\\)\\n", ""),
+    "supports": (0, "have_capabilities=1\n(have_[a-z_]+=0\n)+", ""),
+}
+
+# Runs of keyctl that follow one another: words, status, and output and errors as patterns. {key} is a key `k` of the type user with the payload `v`, alone in
+# the session ring {session}; {user} is the user ring, and {uid} who acts. What is piped in is `piped`. Keys `made:*` are made of their callout.
+CASES = [
+    [("add user n w @s", 0, SERIAL, ""), ("print %user:n", 0, "w\n", "")],
+    [("add -x user n 77_78 @s", 1, "", "hex"), ("add -x user n 7778 @s", 0, SERIAL, ""), ("print %user:n", 0, "wx\n", "")],
+    [("add user k w @s", 0, SERIAL, ""), ("print {key}", 1, "", MISSING), ("print %user:k", 0, "w\n", "")],
+    [("add user n v @t", 1, "", MISSING)],
+    [("add user n v " + NONE, 1, "", MISSING)],
+    [("add .user n v @s", 1, "", NOT_ALLOWED)],
+    [("add keyring n v @s", 1, "", LEFT_OUT)],
+    [("padd user n @s", 0, SERIAL, ""), ("print %user:n", 0, "piped\n", ""), ("padd user n @p", 1, "", MISSING)],
+    [("request user k", 0, "{key}\n", ""), ("request user none", 1, "", MISSING), ("request user k " + NONE, 1, "", MISSING)],
+    [("request user k @u", 0, "{key}\n", ""), ("unlink {key} @s", 0, "", ""), ("print {key}", 0, "v\n", ""), ("unlink {key} @u", 0, "", ""),
+     ("print {key}", 1, "", MISSING)],
+    [("request2 user made:1 hello @s", 0, SERIAL, ""), ("print %user:made:1", 0, "hello\n", ""), ("request2 user none hello", 1, "", MISSING)],
+    [("prequest2 user made:2 @s", 0, SERIAL, ""), ("print %user:made:2", 0, "piped\n", ""), ("prequest2 user none @s", 1, "", MISSING)],
+    [("print {key}", 0, "v\n", ""), ("print " + NONE, 1, "", MISSING), ("print @s", 1, "", LEFT_OUT), ("print nothing", 2, "", "Unparsable key")],
+    [("pipe {key}", 0, "v", ""), ("pipe " + NONE, 1, "", MISSING)],
+    [("read {key}", 0, "1 bytes of data in key:\n76 ?\n", ""), ("read " + NONE, 1, "", MISSING), ("read @u", 1, "", LEFT_OUT)],
+    [("describe {key}", 0, r" *{key}: alswrv-+ +{uid} +-1 user: k\n", ""), ("describe " + NONE, 1, "", MISSING), ("describe @s", 1, "", LEFT_OUT)],
+    [("rdescribe {key}", 0, RAW, ""), ("rdescribe {key} /", 0, RAW.replace(";", "/"), ""), ("rdescribe {session}", 1, "", LEFT_OUT)],
+    [("revoke {key}", 0, "", ""), ("print {key}", 1, "", REVOKED), ("describe {key}", 1, "", REVOKED), ("revoke {key}", 1, "", REVOKED)],
+    [("revoke " + NONE, 1, "", MISSING), ("revoke @s", 1, "", LEFT_OUT)],
+    [("timeout {key} 4000000000", 0, "", ""), ("timeout {key} 0", 0, "", ""), ("timeout {key} soon", 2, "", "Unparsable timeout")],
+    [("timeout " + NONE + " 1", 1, "", MISSING), ("timeout {session} 1", 1, "", LEFT_OUT)],
+    [("link {key} @u", 0, "", ""), ("unlink {key} @u", 0, "", ""), ("unlink {key} @u", 1, "", "No such file or directory")],
+    [("link {key} " + NONE, 1, "", MISSING), ("link @u @s", 1, "", LEFT_OUT), ("link {key} {key}", 1, "", MISSING), ("unlink " + NONE + " @s", 1, "", MISSING)],
+    [("clear @s", 0, "", ""), ("print {key}", 1, "", MISSING), ("clear @p", 1, "", MISSING), ("clear " + NONE, 1, "", MISSING)],
+    [("id @s", 0, "{session}\n", ""), ("id {key}", 0, "{key}\n", ""), ("id @p", 1, "", MISSING), ("id @us", 1, "", LEFT_OUT)],
+    [("id %user:k", 0, "{key}\n", ""), ("id %user:none", 1, "", "Can't find")],
+    [("instantiate {key} w @s", 1, "", NOT_ALLOWED), ("pinstantiate {key} @s", 1, "", NOT_ALLOWED), ("negate {key} 10 @s", 1, "", NOT_ALLOWED)],
+    [("reject {key} 10 rejected @s", 1, "", NOT_ALLOWED), ("reject {key} 10 13 @s", 1, "", INVALID)],
+    [("session - /bin/sh -c 'keyctl add user in w @s; keyctl print %user:in; keyctl id @s'", 0, SERIAL + "w\n" + SERIAL, "Joined session keyring: ")],
+    [("session - keyctl print {key}", 1, "", DENIED), ("session name keyctl id @s", 1, "", LEFT_OUT)],
+    [("supports capabilities", 0, "", ""), ("supports persistent_keyrings", 1, "", "")],
+    [("unlink {key}", 0, "-1 links removed\n", ""), ("print {key}", 0, "v\n", "")],
+    [("show @u", 0, "Keyring\\n{user}: key inaccessible .*", "")],
+    [("purge user", 0, ".*-1 keys\n", ""), ("print {key}", 0, "v\n", "")],
+    # what is left out
+    *[[(words, 1, ".*", LEFT_OUT)] for words in [
+        "update {key} w", "pupdate {key}", "newring n @s", "move {key} @s @u", "search @s user k", "restrict_keyring @s", "list @s", "rlist @s",
+        "chown {key} 0", "chgrp {key} 0", "setperm {key} 0x3f000000", "security {key}", "invalidate {key}", "get_persistent @s", "dh_compute {key} {key} {key}",
+        "dh_compute_kdf {key} {key} {key} 9 sha1", "dh_compute_kdf_oi {key} {key} {key} 9 sha1", "pkey_query {key} 0", "pkey_encrypt {key} 0 /dev/null",
+        "pkey_decrypt {key} 0 /dev/null", "pkey_sign {key} 0 /dev/null", "pkey_verify {key} 0 /dev/null /dev/null", "watch_add 0 {key}", "watch_rm 0 {key}",
+    ]],
+]
+
+
+def available():
+    """Whether there are a compiler and keyutils, or keyutils could be installed."""
+    if not shutil.which("gcc") or not shutil.which("make"):
+        print("clients/keyutils: not tried, there is no gcc and make")
+        return False
+    if not shutil.which("keyctl") and shutil.which("apt-get") and UID == 0:
+        quiet = {"stdin": subprocess.DEVNULL, "capture_output": True, "env": {**os.environ, "DEBIAN_FRONTEND": "noninteractive"}}
+        for words in [["install", "-y", "keyutils"], ["update"], ["install", "-y", "keyutils"]]:
+            if not shutil.which("keyctl"):
+                subprocess.run(["apt-get", *words], **quiet)
+    if not shutil.which("keyctl"):
+        print("clients/keyutils: not tried, there is no keyutils")
+    return bool(shutil.which("keyctl"))
+
+
+class Keyutils:
+    """A daemon, a client that holds a session ring, and programs in that ring."""
+
+    def __init__(self, daemon, library, *before):
+        self.daemon, self.library, self.before = daemon, library, ":".join(map(str, before))
+        self.holder = daemon.client(UID)
+        self.session = self.holder.rings[2]
+        self.environment = {
+            **os.environ, "LD_PRELOAD": ":".join(map(str, [*before, library])), "REQKEYD_SOCKET": str(daemon.path), "REQKEYD_JOIN": str(self.session),
+            "SHELL": "/bin/true", "ASAN_OPTIONS": "detect_leaks=0",
+        }
+        self.environment.pop("REQKEYD_STREAMS", None)
+
+    def run(self, *words, **changes):
+        """The status, output and errors of a program."""
+        environment = {name: value for name, value in {**self.environment, **changes}.items() if value is not None}
+        ran = subprocess.run(words, input=b"piped", capture_output=True, timeout=60, env=environment)
+        return ran.returncode, ran.stdout.decode(), ran.stderr.decode()
+
+    def key(self):
+        """A new key `k`, alone in the session ring."""
+        self.holder.ask(ask.clear(-3))
+        return self.holder.ask(ask.add(b"user", b"k", b"v", -3))
+
+    def fits(self, words, want, **known):
+        """Runs keyctl, and compares what it does with patterns."""
+        status, output, errors = self.run("keyctl", *shlex.split(words.format(**known)))
+        told, complained = [re.sub(r"\{([a-z]+)\}", lambda name: str(known[name[1]]), text) for text in want[1:]]
+        right = status == want[0] and re.fullmatch(told, output, re.DOTALL) and (complained in errors if complained else not errors)
+        count.same(f"keyctl {words}", (status, output, errors) if not right else want, want)
+
+
+def commands(keys):
+    """Each command of keyctl."""
+    for case in CASES:
+        key = keys.key()
+        for words, *want in case:
+            keys.fits(words, want, key=key, session=keys.session, user=keys.holder.rings[3], uid=UID)
+
+
+def alone(keys):
+    """Each command without arguments: its usage, but where that is a call."""
+    for name in listed():
+        keys.fits(name, ALONE.get(name, (2, "", "Format:")), session=keys.session)
+
+
+# These make a pipe for the kernel's notices first, which not every kernel has.
+NOT_TRIED = ["watch", "watch_session", "watch_sync"]
+
+
+def listed():
+    """The commands that keyctl has."""
+    usage = subprocess.run(["keyctl"], capture_output=True, text=True, timeout=60)
+    return sorted(set(re.findall(r"^  keyctl ([a-z_0-9]+)", usage.stdout + usage.stderr, re.MULTILINE)))
+
+
+def documented():
+    """The document has each command and each call, and each command is tried here."""
+    page = (top / "docs" / "KEYUTILS.md").read_text()
+    sections = {part.partition("\n")[0]: part for part in page.split("\n## ")}
+    told = {name: " ".join(re.findall(r"^\| (`.*?) \|", text, re.MULTILINE)) for name, text in sections.items()}
+    tried = {words.split()[0] for case in CASES for words, *_ in case} | set(ALONE)
+    count.same("the commands of docs/KEYUTILS.md", sorted(re.findall("`([a-z_0-9]+)`", told["Commands"])), listed())
+    count.same("the commands that are tried", sorted(set(listed()) - tried), NOT_TRIED)
+    return re.findall("`([a-zA-Z_]+)`", told["Calls"])
+
+
+def symbols(library, calls):
+    """The library has the calls of keyutils' own, in the same versions, and the document has them."""
+    place = re.search(r"libkeyutils\.so\.1 => (\S+)", subprocess.run(["ldd", shutil.which("keyctl")], capture_output=True, text=True, timeout=60).stdout)[1]
+    names = []
+    for path in [place, library]:
+        output = subprocess.run(["nm", "-D", "--defined-only", path], capture_output=True, text=True, timeout=60).stdout
+        names.append({name for _, kind, name in (line.split() for line in output.splitlines()) if kind != "A"})
+    kernel = {name for name in names[0] if "@" in name}
+    count.same("symbols of the library", sorted(kernel - names[1]), [])
+    count.same("names of the library", sorted({name.split("@")[0] for name in names[1]}), sorted({name.split("@")[0] for name in names[0]}))
+    count.same("the calls of docs/KEYUTILS.md", sorted(calls), sorted({name.split("@")[0] for name in names[0] if "_string" not in name}))
+
+
+# The example of request-key.conf(5), with the lines that Debian's file has besides, and a program that fails.
+EXAMPLE = """create user debug:* negate %plain /bin/keyctl negate %k 30 %S
+create user debug:* rejected %plain /bin/keyctl reject %k 30 %c %S
+create user debug:* expired %plain /bin/keyctl reject %k 30 %c %S
+create user debug:* revoked %plain /bin/keyctl reject %k 30 %c %S
+create user debug:loop:* * |/bin/cat
+create user debug:fails:* * |/bin/false
+create user debug:* * %plain /usr/share/keyutils/request-key-debug.sh %k %d %c %S
+create user script:* * %plain %room/script %k
+create user silent:* * %plain /bin/true
+create dns_resolver * * %plain /sbin/key.dns_resolver %k
+create user made:* * |/bin/cat
+negate * * * %plain /bin/keyctl negate %k 30 %S
+"""
+
+# A handler asks before it has named its key, and then; what it prints is no ask.
+SCRIPT = """#!/bin/sh
+keyctl request user k
+keyctl rdescribe "$1"
+keyctl print @a
+keyctl request2 user made:nested inner @s
+keyctl id @s
+keyctl timeout "$1" 4000000000
+cat
+printf made | keyctl pinstantiate "$1" @s
+keyctl negate "$1" 10 @s
+"""
+SAID = ["request_key: Permission denied", "user;{uid};-1;3f000000;script:a", "words", "{nested}", f"keyctl_get_keyring_ID: {LEFT_OUT}",
+        "keyctl_negate: Permission denied"]
+
+
+def handlers(keys):
+    """Stock handlers, each as its line of the configuration says."""
+    for name, callout, want in [
+        ("debug:xxxx", "negate", MISSING), ("debug:a", "rejected", REJECTED), ("debug:b", "expired", EXPIRED), ("debug:c", "revoked", REVOKED),
+        ("debug:fails:d", "x", MISSING), ("silent:e", "x", MISSING),
+    ]:
+        count.same(f"the handler of {name}", keys.run("keyctl", "request2", "user", name, callout, "@s"), (1, "", f"request_key: {want}\n"))
+    for name, callout, payload in [("debug:yyyy", "spoon", "Debug spoon"), ("debug:loop:zzzz", "abcdefghijkl", "abcdefghijkl")]:
+        keys.fits(f"request2 user {name} {callout} @s", (0, SERIAL, ""))
+        keys.fits(f"print %user:{name}", (0, f"{payload}\n", ""))
+    count.same("what a stock script prints", "RQDebug callout: spoon" in keys.daemon.lines, True)
+
+
+def scripted(keys):
+    """A shell script that calls keyctl, and what it prints."""
+    keys.key()
+    before = len(keys.daemon.lines)
+    keys.fits("request2 user script:a words @s", (0, SERIAL, ""))
+    keys.fits("print %user:script:a", (0, "made\n", ""))
+    keys.fits("print %user:made:nested", (0, "inner\n", ""))
+    _, nested, _ = keys.run("keyctl", "id", "%user:made:nested")
+    count.same("what a script has said", keys.daemon.lines[before:], [line.format(uid=UID, nested=nested.strip()) for line in SAID])
+
+
+def resolves(keys):
+    """key.dns_resolver for a name of /etc/hosts."""
+    hosts = re.findall(r"^(\d+\.\d+\.\d+\.\d+)\s+(\S+)", pathlib.Path("/etc/hosts").read_text(), re.MULTILINE)
+    if not hosts or not shutil.which("key.dns_resolver", path="/sbin:/usr/sbin"):
+        print("key.dns_resolver: not tried, there is no name in /etc/hosts, or no such program")
+        return
+    address, name = hosts[0]
+    status, key, errors = keys.run("keyctl", "request2", "dns_resolver", name, "ipv4", "@s")
+    count.same("key.dns_resolver", (status, errors), (0, ""))
+    keys.fits(f"pipe {key.strip()}", (0, f"{re.escape(address)}\0", ""))
+    count.same("key.dns_resolver for no name", keys.run("keyctl", "request2", "dns_resolver", "no.such.name.invalid", "ipv4", "@s")[:2], (1, ""))
+
+
+# What tests/clients/calls.py prints by each subject.
+PRINTED = {
+    "left_out": ["[]"],
+    "faults": [
+        "add_key EOPNOTSUPP", "add_key EFAULT", "add_key EINVAL", "add_key EFAULT", "add_key EINVAL", "add_key EINVAL", "request_key EFAULT",
+        "keyctl_instantiate EFAULT", "keyctl_join_session_keyring EOPNOTSUPP",
+        *[f"{name} ['EOPNOTSUPP', 'EOPNOTSUPP', 'EOPNOTSUPP', 'ENOKEY']" for name in ["keyctl_describe", "keyctl_read", "keyctl_revoke", "keyctl_set_timeout"]],
+        "keyctl_link EOPNOTSUPP", "keyctl_revoke EOPNOTSUPP", "keyctl_get_keyring_ID ['ENOKEY', 'EOPNOTSUPP', 'ENOKEY', 'EINVAL'] True",
+    ],
+    "buffers": [
+        "keyctl_read 5 b''", "keyctl_read 5 b'hel'", "keyctl_read 5 b'hello'", "keyctl_describe 20 b'user'",
+        r"keyctl_describe 20 b'user;;-1;3f000000;n\x00'", "keyctl_read_alloc 5 b'hello'", "keyctl_describe_alloc True",
+    ],
+    "raw": [f"keyctl {told}" for told in [
+        "0 ring", "6 length", "8 0", "9 0", "11 1", "12 EPERM", "13 EPERM", "14 0", "15 0", "16 ENOKEY", "16 0", "19 EPERM", "20 EINVAL", "31 2", "3 0", "7 0",
+        "1 another", "2 EOPNOTSUPP", "99 EOPNOTSUPP",
+    ]],
+    "shared": ["child 0 EKEYREVOKED", "threads []"],
+}
+
+
+def called(keys):
+    """The library's calls, by a program of their own."""
+    for subject, want in PRINTED.items():
+        status, output, errors = keys.run(sys.executable, "-I", "-S", str(CALLS), str(keys.library), subject, LD_PRELOAD=keys.before)
+        count.same(f"calls: {subject}", (status, output.split("\n")[:-1], errors), (0, want, ""))
+
+
+def without(keys, room):
+    """No daemon, and wrong ones."""
+    for changes, want in [
+        ({"REQKEYD_SOCKET": None}, "Transport endpoint is not connected"), ({"REQKEYD_SOCKET": ""}, "Transport endpoint is not connected"),
+        ({"REQKEYD_SOCKET": str(room / "none")}, "No such file or directory"), ({"REQKEYD_JOIN": NONE}, MISSING),
+        ({"REQKEYD_STREAMS": "88,89"}, "Bad file descriptor"),
+    ]:
+        count.same(f"with {changes}", keys.run("keyctl", "print", "5", **changes), (1, "", f"keyctl_read_alloc: {want}\n"))
+    for replies, want in [([None], "Connection reset by peer"), ([ask.frame(b"\x09")], "Protocol error"), ([b"\0\0\0\5\0"], "Connection reset by peer"),
+                          ([b"\xff" * 4], "Protocol error"), ([ask.frame(ask.refused(13))], DENIED)]:
+        with ask.Daemon(replies) as hostile:
+            told = keys.run("keyctl", "print", "5", REQKEYD_SOCKET=hostile.path, REQKEYD_JOIN=None)
+            count.same(f"a daemon that answers {replies}", told, (1, "", f"keyctl_read_alloc: {want}\n"))
+
+
+def placed(keys):
+    """The library in the place of the system's."""
+    key = keys.key()
+    told = keys.run("keyctl", "print", str(key), LD_PRELOAD=None, LD_LIBRARY_PATH=str(keys.library.parent))
+    count.same("in the place of the system's library", told, (0, "v\n", ""))
+
+
+def built(room, name, *flags):
+    """The library, or what was said where it could not be built."""
+    (room / name).mkdir()
+    words = ["make", "-s", "-C", top / "clients" / "keyutils", f"OUT={room / name}", f"WARNINGS=-Wall -Wextra -Werror {' '.join(flags)}"]
+    made = subprocess.run(words, capture_output=True, text=True, timeout=120)
+    count.same(f"clients/keyutils is built {' '.join(flags)}", (made.returncode, made.stderr), (0, ""))
+    return room / name / "libkeyutils.so.1" if made.returncode == 0 else None
+
+
+SANITIZED = ["-fsanitize=address,undefined", "-fno-sanitize-recover=all"]
+
+
+def sanitizer(room):
+    """The library of gcc's address sanitizer, where it is here and runs."""
+    (room / "nothing.c").write_text("int main(void) { return 0; }\n")
+    made = subprocess.run(["gcc", *SANITIZED, "-o", room / "nothing", room / "nothing.c"], capture_output=True, timeout=120)
+    ran = made.returncode == 0 and subprocess.run([room / "nothing"], capture_output=True, timeout=60).returncode == 0
+    path = subprocess.run(["gcc", "-print-file-name=libasan.so"], capture_output=True, text=True, timeout=60).stdout.strip()
+    return path if ran and path.startswith("/") else None
+
+
+def fits_header():
+    """The calls are declared as in keyutils' own header, where that is here."""
+    if pathlib.Path("/usr/include/keyutils.h").exists():
+        for name in ["calls.c", "left_out.c", "raw.c"]:
+            words = ["gcc", "-std=c11", "-D_GNU_SOURCE", "-fsyntax-only", "-Werror", "-include", "/usr/include/keyutils.h", top / "clients" / "keyutils" / name]
+            count.same(f"{name} and keyutils.h", subprocess.run(words, capture_output=True, text=True, timeout=60).stderr, "")
+
+
+def tries(program, library, sanitized, room):
+    """All of it on one program; what speaks to the daemon also by the library that ends at a wrong access to memory."""
+    with Daemon(program, EXAMPLE.replace("%plain", f"/usr/bin/env REQKEYD_STREAMS=0,1 LD_PRELOAD={library}")) as daemon:
+        daemon.script("script", SCRIPT)
+        keys = Keyutils(daemon, library)
+        alone(keys)
+        handlers(keys)
+        scripted(keys)
+        resolves(keys)
+        placed(keys)
+        for each in [keys, *([Keyutils(daemon, *sanitized)] if sanitized else [])]:
+            commands(each)
+            called(each)
+            without(each, room)
+
+
+def main():
+    if not available():
+        count.end()
+    with tempfile.TemporaryDirectory(prefix="keyutils-") as folder:
+        room = pathlib.Path(folder)
+        library, asan = built(room, "plain"), sanitizer(room)
+        sanitized = (built(room, "sanitized", *SANITIZED), asan) if asan else None
+        if not asan:
+            print("clients/keyutils: not tried with gcc's sanitizers, which are not here")
+        fits_header()
+        if library is None or sanitized and sanitized[0] is None:
+            count.end()
+        symbols(library, documented())
+        for program in PROGRAMS:
+            if program.exists():
+                tries(program, library, sanitized, room)
+            else:
+                count.same(f"{program} is built", False, True)
+    count.end()
+
+
+main()
