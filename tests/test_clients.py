@@ -8,6 +8,7 @@ import contextlib
 import itertools
 import pathlib
 import shutil
+import socket
 import subprocess
 import sys
 import tempfile
@@ -216,6 +217,34 @@ ENDS = [("instantiate 12 made 0", "12"), ("negate 12 60 0", "ENOKEY"), ("reject 
         ("reject 12 60 129 0", "EKEYREJECTED")]
 
 
+def python_alone(room):
+    """What the Python client has besides its asks: `connect`, and `with`."""
+    sys.path.insert(0, str(CLIENTS / "python"))
+    import reqkey
+
+    with peer.Daemon([peer.frame(peer.rings(4, 8, 12, 16)), peer.frame(peer.number(0))]) as daemon:
+        with reqkey.connect(daemon.path, uid=1, gid=2, thread=True, join=12) as session:
+            count.same("connect", (session.rings, session.revoke(3), daemon.heard[0]), (reqkey.Rings(4, 8, 12, 16), None, peer.hello(1, 2, 12, 1)))
+        count.same("with", raised(session.revoke, 3), "Ended: REVOKE: the session is over")
+    with peer.Daemon([peer.frame(peer.refused(13))]) as daemon:
+        count.same("a HELLO that is refused", raised(reqkey.connect, daemon.path), "Refused: HELLO: EACCES (13)")
+        daemon.thread.join(20)
+        count.same("its connection", daemon.more, b"")
+    with socket.socket(socket.AF_UNIX) as listener:
+        listener.bind(str(room / "silent"))
+        listener.listen()
+        count.same("a daemon that says nothing", raised(lambda: reqkey.connect(room / "silent", timeout=0.01)), "timeout: timed out")
+    count.same("too great a number", raised(reqkey.Session.timeout, session, 1, 2**32), "ValueError: 4294967296 is no number of 32 bits without a sign")
+
+
+def raised(call, *words):
+    """The fault that a call ends with."""
+    try:
+        return call(*words)
+    except Exception as fault:
+        return f"{type(fault).__name__.replace('TimeoutError', 'timeout')}: {fault}"
+
+
 def on_daemon(client, program):
     """Each ask as a client: done, and refused."""
     lines, wanted = zip(*AS_CLIENT)
@@ -290,6 +319,7 @@ def languages(room):
 def main():
     with tempfile.TemporaryDirectory(prefix="clients-") as folder:
         room = pathlib.Path(folder)
+        python_alone(room)
         for client, ask, handler in languages(room):
             speaks(client, room)
             is_refused(client)

@@ -84,16 +84,24 @@ CASES = [
 ]
 
 
+def install():
+    """Installs keyutils, where that goes within some minutes."""
+    quiet = {"stdin": subprocess.DEVNULL, "capture_output": True, "env": {**os.environ, "DEBIAN_FRONTEND": "noninteractive"}}
+    try:
+        for words in [["install", "-y", "keyutils"], ["update"], ["install", "-y", "keyutils"]]:
+            if not shutil.which("keyctl"):
+                subprocess.run(["apt-get", *words], timeout=120, **quiet)
+    except subprocess.TimeoutExpired:
+        pass
+
+
 def available():
     """Whether there are a compiler and keyutils, or keyutils could be installed."""
     if not shutil.which("gcc") or not shutil.which("make"):
         print("clients/keyutils: not tried, there is no gcc and make")
         return False
     if not shutil.which("keyctl") and shutil.which("apt-get") and UID == 0:
-        quiet = {"stdin": subprocess.DEVNULL, "capture_output": True, "env": {**os.environ, "DEBIAN_FRONTEND": "noninteractive"}}
-        for words in [["install", "-y", "keyutils"], ["update"], ["install", "-y", "keyutils"]]:
-            if not shutil.which("keyctl"):
-                subprocess.run(["apt-get", *words], **quiet)
+        install()
     if not shutil.which("keyctl"):
         print("clients/keyutils: not tried, there is no keyutils")
     return bool(shutil.which("keyctl"))
@@ -191,6 +199,7 @@ create user script:* * %plain %room/script %k
 create user silent:* * %plain /bin/true
 create dns_resolver * * %plain /sbin/key.dns_resolver %k
 create user made:* * |/bin/cat
+create user slow:* * |%room/slow
 negate * * * %plain /bin/keyctl negate %k 30 %S
 """
 
@@ -265,13 +274,15 @@ PRINTED = {
         "1 another", "2 EOPNOTSUPP", "99 EOPNOTSUPP",
     ]],
     "shared": ["child 0 EKEYREVOKED", "threads []"],
+    "waiting": ["child 0", "thread 7"],
 }
 
 
 def called(keys):
     """The library's calls, by a program of their own."""
     for subject, want in PRINTED.items():
-        status, output, errors = keys.run(sys.executable, "-I", "-S", str(CALLS), str(keys.library), subject, LD_PRELOAD=keys.before)
+        words = [sys.executable, "-I", "-S", str(CALLS), str(keys.library), subject]
+        status, output, errors = keys.run(*words, LD_PRELOAD=keys.before, FIFO=str(keys.daemon.room / "fifo"))
         count.same(f"calls: {subject}", (status, output.split("\n")[:-1], errors), (0, want, ""))
 
 
@@ -330,6 +341,8 @@ def tries(program, library, sanitized, room):
     """All of it on one program; what speaks to the daemon also by the library that ends at a wrong access to memory."""
     with Daemon(program, EXAMPLE.replace("%plain", f"/usr/bin/env REQKEYD_STREAMS=0,1 LD_PRELOAD={library}")) as daemon:
         daemon.script("script", SCRIPT)
+        daemon.script("slow", "#!/bin/sh\nexec cat %room/fifo\n")
+        os.mkfifo(daemon.room / "fifo")
         keys = Keyutils(daemon, library)
         alone(keys)
         handlers(keys)

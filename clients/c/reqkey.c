@@ -55,28 +55,25 @@ static const struct {
 
 enum { ERROR_COUNT = sizeof ERRORS / sizeof ERRORS[0] };
 
+/* Where the error of this result stands, or -1. */
+static int place_of(int result)
+{
+    for (int i = 0; i < ERROR_COUNT; i++)
+        if (result == -ERRORS[i].error)
+            return i;
+    return -1;
+}
+
 const char *reqkey_name(int result)
 {
-    for (size_t i = 0; i < ERROR_COUNT; i++)
-        if (result == -ERRORS[i].error)
-            return ERRORS[i].name;
-    return "?";
+    int place = place_of(result);
+    return place < 0 ? "?" : ERRORS[place].name;
 }
 
 const char *reqkey_text(int result)
 {
-    for (size_t i = 0; i < ERROR_COUNT; i++)
-        if (result == -ERRORS[i].error)
-            return ERRORS[i].text;
-    return "unknown error";
-}
-
-static bool is_refusal(int error)
-{
-    for (size_t i = 0; i < ERROR_COUNT; i++)
-        if (error == ERRORS[i].error)
-            return error < REQKEY_UNSPELT;
-    return false;
+    int place = place_of(result);
+    return place < 0 ? "unknown error" : ERRORS[place].text;
 }
 
 /* Ends the session by this error. */
@@ -276,7 +273,7 @@ static int ask(struct reqkey *session, enum reply kind)
     const unsigned char *body = session->reply;
     if (body[0] == (unsigned char)kind)
         return 0;
-    if (body[0] == REFUSED && session->replied == 2 && is_refusal(body[1]))
+    if (body[0] == REFUSED && session->replied == 2 && place_of(-body[1]) >= 0)
         return -body[1];
     return over(session, REQKEY_MALFORMED);
 }

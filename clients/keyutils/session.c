@@ -47,10 +47,16 @@ static void give_lock(void)
     pthread_mutex_unlock(&lock);
 }
 
+/* The thread that held it may be one of the parent. */
+static void renew_lock(void)
+{
+    pthread_mutex_init(&lock, NULL);
+}
+
 __attribute__((constructor)) static void loaded(void)
 {
     int input, output;
-    pthread_atfork(take_lock, give_lock, give_lock);
+    pthread_atfork(NULL, NULL, renew_lock);
     if (!streams_told(&input, &output) || input != STDIN_FILENO || output != STDOUT_FILENO)
         return;
     /* not closed by exec: they are for all programs of the handler */
@@ -113,12 +119,13 @@ static uint32_t ring_told(void)
 /* This session, which may be none, in the place of the one before. */
 static bool is_now(struct reqkey *session, const struct reqkey_rings *rings)
 {
+    struct reqkey *before = own.session;
     if (session == NULL)
         return false;
-    reqkey_free(own.session);
-    own.session = session;
-    own.owner = getpid();
     own.rings = *rings;
+    own.owner = getpid();
+    own.session = session;
+    reqkey_free(before);
     return true;
 }
 

@@ -12,11 +12,12 @@ def main() -> int:
     if len(sys.argv) not in [4, 5]:
         print(__doc__.split("\n")[2], file=sys.stderr)
         return 2
-    path, kind, description, callout = [*sys.argv[1:], None][:4]
+    path, kind, description = sys.argv[1:4]
+    callout = sys.argv[4] if len(sys.argv) == 5 else None
     try:
         with reqkey.connect(path) as session:
-            key = session.request(kind, description, callout=callout)
-            print(f"{session.describe(key)}: {session.read(key)!r}")
+            payload = session.read(session.request(kind, description, callout=callout))
+        sys.stdout.buffer.write(payload + b"\n")
     except (reqkey.Error, OSError) as fault:
         print(fault, file=sys.stderr)
         return 1

@@ -81,6 +81,21 @@ def raw():
         print("keyctl", number, "ring" if got == ring else "another" if number == 1 and isinstance(got, int) else "length" if number == 6 else got)
 
 
+def waiting():
+    """A child may call while a thread of its parent waits for a key, whose handler reads the pipe FIFO."""
+    made = []
+    thread = threading.Thread(target=lambda: made.append(call("request_key", b"user", b"slow:%d" % os.getpid(), b"x", SESSION)))
+    thread.start()
+    with open(os.environ["FIFO"], "wb") as fifo:  # as soon as the handler runs
+        child = os.fork()
+        if child == 0:
+            os._exit(0 if call("keyctl_get_keyring_ID", SESSION, 0) > 0 else 1)
+        print("child", os.waitpid(child, 0)[1])
+        fifo.write(b"payload")
+    thread.join()
+    print("thread", call("keyctl_read", made[0], None, 0))
+
+
 def shared():
     """Children and threads."""
     ring = call("keyctl_get_keyring_ID", SESSION, 0)
