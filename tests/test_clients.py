@@ -17,11 +17,11 @@ import protocol_peer as peer
 from counted import Counted
 from daemon import Daemon
 from programs import PROGRAMS, top
+from sanitizers import SANITIZED, sanitizes
 
 count = Counted()
 CLIENTS, DRIVERS = top / "clients", top / "tests" / "clients"
 STRICT = ["-std=c11", "-Wall", "-Wextra", "-Wpedantic", "-Wconversion", "-Wshadow", "-Werror", "-I", str(CLIENTS / "c")]
-SANITIZED = ["-g", "-fsanitize=address,undefined", "-fno-sanitize-recover=all"]
 RINGS = peer.rings(0, 0, 1, 2)
 ANY = bytes(range(256))
 ANY_WORD = "".join(f"%{byte:02X}" for byte in ANY)
@@ -287,13 +287,6 @@ def compiled(room, name, *sources, flags=()):
     out = room / name
     made = subprocess.run(["gcc", *STRICT, *flags, "-o", out, *sources, CLIENTS / "c" / "reqkey.c"], capture_output=True, text=True, timeout=120)
     return out if made.returncode == 0 else made.stderr
-
-
-def sanitizes(room):
-    """Whether gcc has its sanitizers here."""
-    (room / "nothing.c").write_text("int main(void) { return 0; }\n")
-    made = subprocess.run(["gcc", *SANITIZED, "-o", room / "nothing", room / "nothing.c"], capture_output=True, timeout=120)
-    return made.returncode == 0 and subprocess.run([room / "nothing"], capture_output=True, timeout=60).returncode == 0
 
 
 def languages(room):

@@ -17,10 +17,12 @@ import protocol_peer as ask
 from counted import Counted
 from daemon import Daemon
 from programs import PROGRAMS, top
+from sanitizers import SANITIZED, sanitizes
 
 count = Counted()
 UID = os.geteuid()
 CALLS = top / "tests" / "clients" / "calls.py"
+ENVIRONMENT = {"ASAN_OPTIONS": "detect_leaks=0"}  # programs that end don't give all their memory back
 MISSING, REVOKED, EXPIRED, REJECTED = "Required key not available", "Key has been revoked", "Key has expired", "Key was rejected by service"
 LEFT_OUT, INVALID, DENIED, NOT_ALLOWED = "Operation not supported", "Invalid argument", "Permission denied", "Operation not permitted"
 
@@ -116,7 +118,7 @@ class Keyutils:
         self.session = self.holder.rings[2]
         self.environment = {
             **os.environ, "LD_PRELOAD": ":".join(map(str, [*before, library])), "REQKEYD_SOCKET": str(daemon.path), "REQKEYD_JOIN": str(self.session),
-            "SHELL": "/bin/true", "ASAN_OPTIONS": "detect_leaks=0",
+            "SHELL": "/bin/true", **ENVIRONMENT,
         }
         self.environment.pop("REQKEYD_STREAMS", None)
 
@@ -317,18 +319,6 @@ def built(room, name, *flags):
     return room / name / "libkeyutils.so.1" if made.returncode == 0 else None
 
 
-SANITIZED = ["-fsanitize=address,undefined", "-fno-sanitize-recover=all"]
-
-
-def sanitizer(room):
-    """The library of gcc's address sanitizer, where it is here and runs."""
-    (room / "nothing.c").write_text("int main(void) { return 0; }\n")
-    made = subprocess.run(["gcc", *SANITIZED, "-o", room / "nothing", room / "nothing.c"], capture_output=True, timeout=120)
-    ran = made.returncode == 0 and subprocess.run([room / "nothing"], capture_output=True, timeout=60).returncode == 0
-    path = subprocess.run(["gcc", "-print-file-name=libasan.so"], capture_output=True, text=True, timeout=60).stdout.strip()
-    return path if ran and path.startswith("/") else None
-
-
 def fits_header():
     """The calls are declared as in keyutils' own header, where that is here."""
     if pathlib.Path("/usr/include/keyutils.h").exists():
@@ -337,42 +327,49 @@ def fits_header():
             count.same(f"{name} and keyutils.h", subprocess.run(words, capture_output=True, text=True, timeout=60).stderr, "")
 
 
-def tries(program, library, sanitized, room):
-    """All of it on one program; what speaks to the daemon also by the library that ends at a wrong access to memory."""
-    with Daemon(program, EXAMPLE.replace("%plain", f"/usr/bin/env REQKEYD_STREAMS=0,1 LD_PRELOAD={library}")) as daemon:
+def tries(program, library, *before):
+    """All of it on one program, where these are preloaded."""
+    preloaded = ":".join(map(str, [*before, library]))
+    with Daemon(program, EXAMPLE.replace("%plain", f"/usr/bin/env REQKEYD_STREAMS=0,1 LD_PRELOAD={preloaded}"), environment=ENVIRONMENT) as daemon:
         daemon.script("script", SCRIPT)
         daemon.script("slow", "#!/bin/sh\nexec cat %room/fifo\n")
         os.mkfifo(daemon.room / "fifo")
-        keys = Keyutils(daemon, library)
-        alone(keys)
+        keys = Keyutils(daemon, library, *before)
+        if not before:
+            alone(keys)
+            placed(keys)
+        commands(keys)
         handlers(keys)
         scripted(keys)
         resolves(keys)
-        placed(keys)
-        for each in [keys, *([Keyutils(daemon, *sanitized)] if sanitized else [])]:
-            commands(each)
-            called(each)
-            without(each, room)
+        called(keys)
+        without(keys, daemon.room)
+
+
+def libraries(room):
+    """The library as it is installed, and one that ends at a wrong access to memory, with what has to be loaded before each."""
+    yield built(room, "plain"), []
+    if sanitizes(room):
+        path = subprocess.run(["gcc", "-print-file-name=libasan.so"], capture_output=True, text=True, timeout=60).stdout.strip()
+        yield built(room, "sanitized", *SANITIZED), [path]
+    else:
+        print("clients/keyutils: not tried with gcc's sanitizers, which are not here")
 
 
 def main():
     if not available():
         count.end()
     with tempfile.TemporaryDirectory(prefix="keyutils-") as folder:
-        room = pathlib.Path(folder)
-        library, asan = built(room, "plain"), sanitizer(room)
-        sanitized = (built(room, "sanitized", *SANITIZED), asan) if asan else None
-        if not asan:
-            print("clients/keyutils: not tried with gcc's sanitizers, which are not here")
+        there = [each for each in libraries(pathlib.Path(folder)) if each[0] is not None]
         fits_header()
-        if library is None or sanitized and sanitized[0] is None:
-            count.end()
-        symbols(library, documented())
+        if there:
+            symbols(there[0][0], documented())
         for program in PROGRAMS:
-            if program.exists():
-                tries(program, library, sanitized, room)
-            else:
+            if not program.exists():
                 count.same(f"{program} is built", False, True)
+                continue
+            for library, before in there:
+                tries(program, library, *before)
     count.end()
 
 
