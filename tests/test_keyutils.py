@@ -38,6 +38,11 @@ ALONE = {
     "supports": (0, "have_capabilities=1\n(have_[a-z_]+=0\n)+", ""),
 }
 
+USAGE = (2, "", "Format:")
+
+# Commands that take any number of arguments.
+OF_ANY_LENGTH = ["pkey_decrypt", "pkey_encrypt", "pkey_query", "pkey_sign", "pkey_verify", "session", "watch_session"]
+
 # Runs of keyctl that follow one another: words, status, and output and errors as patterns. {key} is a key `k` of the type user with the payload `v`, alone in
 # the session ring {session}; {user} is the user ring, and {uid} who acts. What is piped in is `piped`. Keys `made:*` are made of their callout.
 CASES = [
@@ -149,10 +154,12 @@ def commands(keys):
             keys.fits(words, want, key=key, session=keys.session, user=keys.holder.rings[3], uid=UID)
 
 
-def alone(keys):
-    """Each command without arguments: its usage, but where that is a call."""
+def miscalled(keys):
+    """Each command without arguments, and with too many: its usage, but where that is a call."""
     for name in listed():
-        keys.fits(name, ALONE.get(name, (2, "", "Format:")), session=keys.session)
+        keys.fits(name, ALONE.get(name, USAGE), session=keys.session)
+        if name not in OF_ANY_LENGTH:
+            keys.fits(f"{name} a b c d e f g h i j k l", USAGE)
 
 
 # These make a pipe for the kernel's notices first, which not every kernel has.
@@ -336,7 +343,7 @@ def tries(program, library, *before):
         os.mkfifo(daemon.room / "fifo")
         keys = Keyutils(daemon, library, *before)
         if not before:
-            alone(keys)
+            miscalled(keys)
             placed(keys)
         commands(keys)
         handlers(keys)
