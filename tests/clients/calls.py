@@ -70,15 +70,19 @@ def buffers():
 
 
 def raw():
+    """keyctl(2) by the numbers of its commands."""
     ring = call("keyctl_get_keyring_ID", SESSION, 0)
     key = call("add_key", b"user", b"n", b"v", 1, SESSION)
     buffer = ctypes.create_string_buffer(99)
-    commands = [(0, SESSION, 0), (6, key, None, 0), (8, key, USER), (9, key, USER), (11, key, buffer, 99), (12, key, b"v", 1, 0), (13, key, 1, 0), (14, -1),
-                (15, key, 9), (16, key), (16, 0), (19, key, 1, 129, 0), (20, key, None, 0, 0), (31, buffer, 99), (3, key), (7, SESSION), (1, None),
-                (2, key, b"v", 1), (99, 0)]
-    for number, *words in commands:
-        got = call("keyctl", number, *words)
-        print("keyctl", number, "ring" if got == ring else "another" if number == 1 and isinstance(got, int) else "length" if number == 6 else got)
+    print("0", call("keyctl", 0, SESSION, 0) == ring)
+    print("6", call("keyctl", 6, key, None, 0) == call("keyctl_describe", key, None, 0))
+    for number, *words in [
+        (8, key, USER), (9, key, USER), (11, key, buffer, 99), (12, key, b"v", 1, 0), (13, key, 1, 0), (14, -1), (15, key, 9), (16, key), (16, 0),
+        (19, key, 1, 129, 0), (20, key, None, 0, 0), (31, buffer, 99), (3, key), (7, SESSION), (2, key, b"v", 1), (99, 0),
+    ]:
+        print(number, call("keyctl", number, *words))
+    another = call("keyctl", 1, None)
+    print("1", isinstance(another, int) and another != ring, call("keyctl", 0, SESSION, 0) == another)
 
 
 def waiting():
