@@ -83,7 +83,7 @@ fn plain_request(
     let description = argument::description(description)?;
     let destination = argument::ring(ring)?;
     Ok(Ask::Request {
-        typ: TypeName::from_checked(alloc, typ)?,
+        typ: TypeName::from_checked(typ),
         description: Description::from_checked(alloc, description)?,
         callout: None,
         destination,
@@ -106,7 +106,7 @@ fn telling_request(
     let callout = argument::callout(callout)?;
     let destination = argument::ring(ring)?;
     Ok(Ask::Request {
-        typ: TypeName::from_checked(alloc, typ)?,
+        typ: TypeName::from_checked(typ),
         description: Description::from_checked(alloc, description)?,
         callout: Some(Callout::from_checked(alloc, callout)?),
         destination,
@@ -178,7 +178,7 @@ fn add(alloc: Global, arguments: &[&[u8]]) -> Result<Ask, ArgumentFault>
     let payload = argument::payload(payload)?;
     let ring = argument::ring(ring)?;
     Ok(Ask::Add {
-        typ: TypeName::from_checked(alloc, typ)?,
+        typ: TypeName::from_checked(typ),
         description: Description::from_checked(alloc, description)?,
         payload: Payload::from_checked(Vec::from_slice(alloc, payload)?),
         ring,

@@ -44,7 +44,7 @@ impl<'a> BorrowedArgument<'a> {
             BorrowedArgument::Macro(argument) => Ok(argument),
             BorrowedArgument::Literal(text) => Ok(Argument::Literal(Word::new(alloc, text)?)),
             BorrowedArgument::Payload(typ, desc) => {
-                let typ = TypeName::new(alloc, typ).map_err(|_| AllocError)?;
+                let typ = TypeName::new(typ).map_err(|_| AllocError)?;
                 let desc = Description::new(alloc, desc).map_err(|_| AllocError)?;
                 Ok(Argument::Payload(Wanted { typ, desc }))
             }

@@ -16,7 +16,7 @@ use crate::part::Part;
 use crate::ticket::Ticket;
 use rk_machine::{Answer, Event, How, Ran};
 use rk_names::{Description, Errno, Moment, Payload, Serial, SessionId, TypeName};
-use rk_record::{HallFault, HallNo, Receipt, Volume};
+use rk_record::{Copies, HallFault, HallNo, Receipt, Volume};
 use std::alloc::{AllocError, Global};
 use std::sync::{Condvar, Mutex, Wait};
 
@@ -74,7 +74,9 @@ impl<N: Names, const H: u64> Lock<N, H> {
         ensures err { IfErr result (λ f. CallRefused part.old f) }
         ensures same { OnErr result (part.new ≡ part.old) }
     {
-        let called = self.locked.lock(rt).call(part, now, event);
+        // Before the lock is taken, since others wait for it.
+        let copies = Copies::of(&event).ok();
+        let called = self.locked.lock(rt).call(part, now, event, copies);
         self.moved.notify_all();
         called
     }

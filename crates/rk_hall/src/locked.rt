@@ -7,7 +7,7 @@ ghost use Rattle.rk_machine.specs.Allowed.{done};
 ghost use Rattle.rk_record.specs.HallNumbers.{hall_number};
 ghost use Rattle.rk_record.specs.Record.{IsRecord};
 ghost use Rattle.rk_record.specs.Turns.{Turned};
-ghost use Rattle.rk_record.specs.Copies.{started};
+ghost use Rattle.rk_record.specs.Copies.{started, AreCopies};
 ghost use Rattle.rk_record.specs.Volumes.{volume_of, rolled, CannotRoll};
 ghost use Rattle.rk_hall.specs.Seats.{no_calls, after_call, IsCall, runs_on, without_client, IsOutcomeOrNone, IsOutcome};
 ghost use Rattle.rk_hall.specs.Locked.{taken, RefusedUnder, OwedTurn, IsOwedOr, strays_of};
@@ -20,7 +20,7 @@ use rk_machine::{Answer, Event, How, Ran};
 use rk_macro::Subject;
 use rk_message::Reply;
 use rk_names::{Description, Errno, Moment, Payload, Serial, SessionId, TypeName};
-use rk_record::{Hall, HallFault, Receipt, Volume};
+use rk_record::{Copies, Hall, HallFault, Receipt, Volume};
 use std::alloc::{AllocError, Global};
 use std::marker::Model;
 use std::sync::ledger::{Blank, Book, Share};
@@ -121,14 +121,16 @@ impl<N: Names, const H: u64> Locked<N, H> {
         self.retired += calls;
     }
 
-    /// One call: a client that comes, or an ask.
+    /// One call: a client that comes, or an ask. The copies are of this event.
     pub(crate) fn call(
         &mut self,
         part: &mut Part<N, H>,
         now: Moment,
         event: Event,
+        copies: Option<Copies>,
     ) -> Result<(Receipt, Option<Begun<N, H>>), CallFault>
-        requires { IsCall event }
+        requires call { IsCall event }
+        requires copies { IfSome copies (λ c. AreCopies event c) }
         ensures ok { IfOk result (λ d. Turned self.old.hall now event d.0 self.new.hall) }
         ensures hall { IfOk result (λ d. hall_number d.0.hall ≡ H) }
         ensures rising { IfOk result (λ d. part.old.seen < d.0.number) }
@@ -147,7 +149,7 @@ impl<N: Names, const H: u64> Locked<N, H> {
             });
         }
         let opens = matches!(event, Event::Opened(_));
-        match self.hall.turn_to_start(now, event) {
+        match self.hall.turn_to_start(now, event, copies) {
             Ok((receipt, subject)) => {
                 let _steps = self.hall.count();
                 self.calls.audit(&mut part.share);

@@ -39,7 +39,7 @@ pub fn request(alloc: Global, name: &[u8]) -> Result<Ask, AllocError> {
 }
 
 pub fn user(alloc: Global) -> Result<TypeName, AllocError> {
-    TypeName::new(alloc, b"user").map_err(|_| AllocError)
+    TypeName::new(b"user").map_err(|_| AllocError)
 }
 
 pub fn description(alloc: Global, name: &[u8]) -> Result<Description, AllocError> {

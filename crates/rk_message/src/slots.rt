@@ -190,7 +190,7 @@ impl<'a> Slots<'a> {
         ensures { IfOk result (λ ask. (ask_message ask ≡ slots_message Request self.now) × JoinsASerial ask) }
     {
         Ok(Ask::Request {
-            typ: TypeName::from_checked(alloc, self.typ)?,
+            typ: TypeName::from_checked(self.typ),
             description: Description::from_checked(alloc, self.description)?,
             callout: match self.callout {
                 Some(text) => Some(Callout::from_checked(alloc, text)?),
@@ -216,7 +216,7 @@ impl<'a> Slots<'a> {
         ensures { IfOk result (λ ask. (ask_message ask ≡ slots_message Add self.now) × JoinsASerial ask) }
     {
         Ok(Ask::Add {
-            typ: TypeName::from_checked(alloc, self.typ)?,
+            typ: TypeName::from_checked(self.typ),
             description: Description::from_checked(alloc, self.description)?,
             payload: Payload::from_checked(Vec::from_slice(alloc, self.payload)?),
             ring: self.ring,

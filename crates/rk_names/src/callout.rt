@@ -6,12 +6,13 @@ use crate::errors::NameFault;
 use crate::text::text_fault;
 use std::alloc::{AllocError, Global};
 use std::marker::Model;
+use std::sync::Arc;
 
 /// What the requester tells the handler: 0 to 4,095 bytes of UTF-8 without a zero byte
-/// (request_key(2), `callout_info`).
+/// (request_key(2), `callout_info`). Its copies share the bytes.
 #[derive(Debug, Drop)]
 pub struct Callout {
-    bytes: Vec<u8>,
+    bytes: Arc<Vec<u8>>,
 }
 
 impl Model for Callout {
@@ -20,9 +21,9 @@ impl Model for Callout {
 
     ghost Value = { List ℕ };
 
-    ghost view = { λ n. n.bytes.items };
+    ghost view = { λ n. n.bytes.value.items };
 
-    ghost invariant = { λ n. callout_fault n.bytes.items ≡ None };
+    ghost invariant = { λ n. callout_fault n.bytes.value.items ≡ None };
 }
 
 impl Callout {
@@ -57,8 +58,9 @@ impl Callout {
         requires { callout_fault bytes.now ≡ None }
         ensures { IfOk result (λ n. n ≡ bytes.now) }
     {
+        let bytes = Vec::from_slice(alloc, bytes)?;
         Ok(Callout {
-            bytes: Vec::from_slice(alloc, bytes)?,
+            bytes: Arc::new(alloc, bytes)?,
         })
     }
 

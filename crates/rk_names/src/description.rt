@@ -6,12 +6,13 @@ use crate::errors::NameFault;
 use crate::text::text_fault;
 use std::alloc::{AllocError, Global};
 use std::marker::Model;
+use std::sync::Arc;
 
 /// What a key is called among those of its type: 1 to 4,095 bytes of UTF-8 without a zero byte
-/// (request_key(2), "DESCRIPTION").
+/// (request_key(2), "DESCRIPTION"). Its copies share the bytes.
 #[derive(Debug, Drop)]
 pub struct Description {
-    bytes: Vec<u8>,
+    bytes: Arc<Vec<u8>>,
 }
 
 impl Model for Description {
@@ -20,9 +21,9 @@ impl Model for Description {
 
     ghost Value = { List ℕ };
 
-    ghost view = { λ n. n.bytes.items };
+    ghost view = { λ n. n.bytes.value.items };
 
-    ghost invariant = { λ n. description_fault n.bytes.items ≡ None };
+    ghost invariant = { λ n. description_fault n.bytes.value.items ≡ None };
 }
 
 impl Description {
@@ -61,8 +62,9 @@ impl Description {
         requires { description_fault bytes.now ≡ None }
         ensures { IfOk result (λ n. n ≡ bytes.now) }
     {
+        let bytes = Vec::from_slice(alloc, bytes)?;
         Ok(Description {
-            bytes: Vec::from_slice(alloc, bytes)?,
+            bytes: Arc::new(alloc, bytes)?,
         })
     }
 

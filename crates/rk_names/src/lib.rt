@@ -10,10 +10,11 @@
 //! # Making them
 //!
 //! A maker tests its rule and refuses by name, in one order: `Empty`, `TooLong`, `Dot`, `Byte`, and
-//! want of memory last. So `TypeName::new(alloc, b"user")` is made, `TypeName::new(alloc, b".x")` is
+//! want of memory last. So `TypeName::new(b"user")` is made, `TypeName::new(b".x")` is
 //! refused with `Dot`. Where bytes are still borrowed, as in a message that is being read,
-//! `TypeName::fault(bytes)` applies the same rule and takes no memory, and `TypeName::from_checked`
-//! then copies what it found no fault in without another look. [`Payload::new`] moves the
+//! `TypeName::fault(bytes)` applies the same rule, and `TypeName::from_checked`
+//! then copies what it found no fault in without another look. A type lies in its value and takes no memory. The bytes of a description and of a
+//! callout are shared by its copies, so that a step, its record and its receipt have one text in memory. [`Payload::new`] moves the
 //! bytes that it is handed and takes no memory either.
 //!
 //! # How it is built

@@ -1,17 +1,18 @@
 //! The type of a key.
-ghost use Rattle.std.specs.Prelude.{◌≡◌, IfOk, IfErr, None};
-ghost use Rattle.rk_names.specs.Rules.{type_fault, IsRefusedFor};
+ghost use Rattle.std.specs.Prelude.{◌≡◌, IfOk, IfErr, None, Some};
+ghost use Rattle.rk_names.specs.Rules.{type_fault};
 
 use crate::errors::NameFault;
 use crate::text::text_fault;
-use std::alloc::{AllocError, Global};
+use arrayvec::ArrayVec;
+use std::alloc::AllocError;
 use std::marker::Model;
 
 /// The type of a key, as `user`: 1 to 31 bytes of UTF-8 without a zero byte, the first no dot
-/// (add_key(2), "DESCRIPTION" and "ERRORS").
+/// (add_key(2), "DESCRIPTION" and "ERRORS"). It lies in the value, and takes no memory.
 #[derive(Debug, Drop)]
 pub struct TypeName {
-    bytes: Vec<u8>,
+    bytes: ArrayVec<u8, 31>,
 }
 
 impl Model for TypeName {
@@ -29,8 +30,7 @@ impl TypeName {
     /// The most bytes that it has.
     pub const MAX_LEN: usize = 31;
 
-    /// The first rule that the bytes break; `None` where `new` would make them a name. It takes no
-    /// memory.
+    /// The first rule that the bytes break; `None` where `new` makes them a name.
     pub fn fault(bytes: &[u8]) -> Option<NameFault>
         ensures { result ≡ type_fault bytes.now }
     {
@@ -46,27 +46,27 @@ impl TypeName {
         text_fault(bytes)
     }
 
-    /// A copy of the bytes. Refusals in this order: `Empty`, `TooLong` past 31 bytes, `Dot`,
-    /// `Byte`, `NoMemory`.
-    pub fn new(alloc: Global, bytes: &[u8]) -> Result<TypeName, NameFault>
+    /// A copy of the bytes, which takes no memory. Refusals in this order: `Empty`, `TooLong` past 31 bytes, `Dot`, `Byte`.
+    pub fn new(bytes: &[u8]) -> Result<TypeName, NameFault>
         ensures ok { IfOk result (λ n. (n ≡ bytes.now) × (type_fault bytes.now ≡ None)) }
-        ensures err { IfErr result (λ f. IsRefusedFor f (type_fault bytes.now)) }
+        ensures err { IfErr result (λ f. type_fault bytes.now ≡ Some f) }
     {
-        if let Some(fault) = TypeName::fault(bytes) {
-            return Err(fault);
+        match TypeName::fault(bytes) {
+            Some(fault) => Err(fault),
+            None => Ok(TypeName::from_checked(bytes)),
         }
-        TypeName::from_checked(alloc, bytes).map_err(|_| NameFault::NoMemory)
     }
 
-    /// A copy of bytes in which `fault` finds none, without another look at them. Only want of
-    /// memory refuses it.
-    pub fn from_checked(alloc: Global, bytes: &[u8]) -> Result<TypeName, AllocError>
+    /// A copy of bytes in which `fault` finds none, without another look at them. It takes no memory.
+    pub fn from_checked(bytes: &[u8]) -> TypeName
         requires { type_fault bytes.now ≡ None }
-        ensures { IfOk result (λ n. n ≡ bytes.now) }
+        ensures { result ≡ bytes.now }
     {
-        Ok(TypeName {
-            bytes: Vec::from_slice(alloc, bytes)?,
-        })
+        let mut copy = ArrayVec::new();
+        match copy.try_extend_from_slice(bytes) {
+            Ok(()) => TypeName { bytes: copy },
+            Err(_) => unreachable!(),
+        }
     }
 
     /// The bytes that it was made of.

@@ -1,5 +1,5 @@
 //! A turn of a hall: one step of its book, recorded.
-ghost use Rattle.std.specs.Prelude.{◌≡◌, ◌+◌, ◌-◌, ◌<◌, ◌≤◌, ◌↔◌, true, false, length, IfOk, OnErr, OnOk, IsOk, Err};
+ghost use Rattle.std.specs.Prelude.{◌≡◌, ◌+◌, ◌-◌, ◌<◌, ◌≤◌, ◌↔◌, true, false, length, IfOk, IfSome, OnErr, OnOk, IsOk, Err};
 ghost use Rattle.rk_machine.specs.Views.{is_owed};
 ghost use Rattle.rk_machine.specs.Owing.{owed_to, ends_owed_to, need};
 ghost use Rattle.rk_record.specs.Record.{IsRecord, IsFull};
@@ -33,18 +33,26 @@ impl Hall {
         ensures owed { is_owed self.old.world event ≡ true → IsOk result }
         ensures full { (result ≡ Err HallFault.Full) ↔ IsFull self.old event }
     {
-        match self.turn_to_start(now, event) {
+        let copies = if self.book.owes(&event) {
+            None
+        } else {
+            Copies::of(&event).ok()
+        };
+        match self.turn_to_start(now, event, copies) {
             Ok((receipt, _)) => Ok(receipt),
             Err(fault) => Err(fault),
         }
     }
 
-    /// The same, with the subject of a start once more, for whoever starts the handler.
+    /// The same, with the subject of a start once more, for whoever starts the handler. The copies are of this event, so that they can be made before
+    /// the hall is locked; where there are none, and the event is not owed, it is as if a growth was refused.
     pub fn turn_to_start(
         &mut self,
         now: Moment,
         event: Event,
+        copies: Option<Copies>,
     ) -> Result<(Receipt, Option<Subject>), HallFault>
+        requires { IfSome copies (λ c. AreCopies event c) }
         ensures ok { IfOk result (λ r. Turned self.old now event r.0 self.new) }
         ensures subject { IfOk result (λ r. r.1 ≡ started r.0.answer) }
         ensures err { OnErr result (self.new ≡ self.old) }
@@ -53,7 +61,7 @@ impl Hall {
         ensures full { (result ≡ Err HallFault.Full) ↔ IsFull self.old event }
     {
         let kept = Kept::of(&self.journal);
-        let copies = prepare(&self.book, &mut self.journal, &event)?;
+        let copies = prepare(&self.book, &mut self.journal, &event, copies)?;
         let whose = event.whose();
         let owed = Kept::owed_to(&self.book, &whose);
         let answer = self.book.step(now, event);
@@ -113,9 +121,9 @@ impl Kept {
     }
 }
 
-/// What is copied before a step.
+/// What a turn copies of its event: for the record, the receipt, and whoever starts a handler.
 #[derive(Drop)]
-struct Copies {
+pub struct Copies {
     /// The event, for the record.
     event: Event,
     /// What the receipt says of it.
@@ -127,8 +135,8 @@ struct Copies {
 }
 
 impl Copies {
-    /// The copies of any event.
-    fn of(event: &Event) -> Result<Copies, AllocError>
+    /// The copies of an event. An `Err` is want of memory.
+    pub fn of(event: &Event) -> Result<Copies, AllocError>
         ensures { IfOk result (λ c. AreCopies event.now c) }
     {
         Ok(Copies {
@@ -140,9 +148,15 @@ impl Copies {
     }
 }
 
-/// Copies an event, and keeps the places that its steps may need and room for the ends of what it may start; for what is owed both are
-/// kept already. A refusal changes nothing.
-fn prepare(book: &Book, journal: &mut Journal, event: &Event) -> Result<Copies, HallFault>
+/// Keeps the places that the steps of an event may need and room for the ends of what it may start; for what is owed both are kept already, and it is
+/// copied here, without memory. A refusal changes nothing.
+fn prepare(
+    book: &Book,
+    journal: &mut Journal,
+    event: &Event,
+    copies: Option<Copies>,
+) -> Result<Copies, HallFault>
+    requires given { IfSome copies (λ c. AreCopies event.now c) }
     requires room { is_owed book.now event.now ≡ true → rooms_taken event.now ≤ journal.old.ends }
     requires ends { journal.old.ends ≤ 1048576 }
     requires fits { length journal.old.steps + journal.old.reserved ≤ journal.old.places }
@@ -159,7 +173,7 @@ fn prepare(book: &Book, journal: &mut Journal, event: &Event) -> Result<Copies, 
     }
     let kept = Kept::of(journal);
     journal.reserve(event.need())?;
-    match free_copies(journal, event) {
+    match with_ends(journal, event, copies) {
         Ok(copies) => Ok(copies),
         Err(_) => {
             journal.keep(kept.places, kept.ends);
@@ -183,14 +197,21 @@ fn owed_copies(journal: &mut Journal, event: &Event) -> Copies
     }
 }
 
-/// The copies of an event that is not owed, with room for the ends of what it may start. A refusal changes nothing.
-fn free_copies(journal: &mut Journal, event: &Event) -> Result<Copies, AllocError>
-    requires { journal.old.ends ≤ 1048576 }
+/// The copies of an event that is not owed, once there is room for the ends of what it may start. A refusal changes nothing.
+fn with_ends(
+    journal: &mut Journal,
+    event: &Event,
+    copies: Option<Copies>,
+) -> Result<Copies, AllocError>
+    requires given { IfSome copies (λ c. AreCopies event.now c) }
+    requires ends { journal.old.ends ≤ 1048576 }
     ensures copies { IfOk result (λ c. AreCopies event.now c) }
     ensures journal { OnOk result (journal.new ≡ record journal.old { ends = journal.old.ends + rooms_made event.now }) }
     ensures err { OnErr result (journal.new ≡ journal.old) }
 {
-    let copies = Copies::of(event)?;
+    let Some(copies) = copies else {
+        return Err(AllocError);
+    };
     let ends = if copies.recorded.is_some() { 2 } else { 0 };
     journal.reserve_ends(ends)?;
     Ok(copies)

@@ -70,7 +70,7 @@ fn read_move(alloc: Global, words: &[&str]) -> Result<Move, Fault> {
 
 fn peek(alloc: Global, key: &str, typ: &str, description: &str) -> Result<Move, Fault> {
     let key = serial(key)?;
-    let typ = TypeName::new(alloc, typ.as_bytes())?;
+    let typ = TypeName::new(typ.as_bytes())?;
     let description = Description::new(alloc, description.as_bytes())?;
     Ok(Move::Peek(key, typ, description))
 }

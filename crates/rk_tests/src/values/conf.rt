@@ -15,7 +15,7 @@ negate * * * /bin/keyctl negate %k 30 %S";
 
 /// The numbers of the lines that are for the creation of `user` `debug:loop:x` with the callout `q`, and of the one that is picked.
 fn fitting(alloc: Global, conf: &Conf) -> Result<(usize, usize), NameFault> {
-    let typ = TypeName::new(alloc, b"user")?;
+    let typ = TypeName::new(b"user")?;
     let desc = Description::new(alloc, b"debug:loop:x")?;
     let callout = Callout::new(alloc, b"q")?;
     let mut last = 0;
