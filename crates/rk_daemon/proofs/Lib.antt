@@ -1,1 +1,3 @@
 pub mod Crossing
+pub mod Octal
+pub mod OptionsOfWords

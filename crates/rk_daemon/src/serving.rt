@@ -1,5 +1,6 @@
 //! The daemon from its start to its end.
-ghost use Rattle.std.specs.Prelude.{◌≡◌};
+ghost use Rattle.std.specs.Prelude.{◌≡◌, IfErr};
+ghost use Rattle.rk_daemon.specs.Faults.{IsFound, IsOfConf};
 
 use crate::accepting::accept;
 use crate::fault::Fault;
@@ -110,7 +111,9 @@ fn serve_named<
 }
 
 /// The configuration of the file at the path.
-fn conf_at<R: Files + AllocGlobal>(rt: &R, path: &str) -> Result<Conf, Fault> {
+fn conf_at<R: Files + AllocGlobal>(rt: &R, path: &str) -> Result<Conf, Fault>
+    ensures { IfErr result IsOfConf }
+{
     let Ok(text) = fs::read(rt, path) else {
         return Err(Fault::Unreadable);
     };
@@ -137,7 +140,9 @@ pub fn serve<
         + Drop
         + 'static,
     E: Write,
->(rt: &R, settings: &Settings<'_>, errors: &mut E) -> Result<(), Fault> {
+>(rt: &R, settings: &Settings<'_>, errors: &mut E) -> Result<(), Fault>
+    ensures { IfErr result IsFound }
+{
     let conf = conf_at(rt, settings.conf)?;
     let Ok((listener, taken)) = take(rt, settings.socket, settings.mode) else {
         return Err(Fault::Socket);

@@ -1,6 +1,10 @@
 //! What an operator sets.
-ghost use Rattle.std.specs.Prelude.{◌≤◌, IfSome};
+ghost use Rattle.std.specs.Prelude.{◌≡◌, codes, map, option_map, string_bytes};
+ghost use Rattle.std.specs.List.{list_all};
+ghost use Rattle.rk_daemon.specs.Options.{options_of};
+ghost use Rattle.rk_daemon.specs.Settings.{is_octal_digit, number_in, number_up_to, path_in, permissions_said, set_by, settings_said, unless_zero};
 
+use crate::options::{are_known, value_of};
 use rk_client::number;
 
 /// What an operator sets.
@@ -20,109 +24,90 @@ pub struct Settings<'a> {
     pub mode: u32,
 }
 
-/// What was said, before what was not is filled in.
-#[derive(Clone, Copy, Debug)]
-struct Said<'a> {
-    socket: Option<&'a str>,
-    conf: Option<&'a str>,
-    negative: Option<u32>,
-    sessions: Option<u32>,
-    clients: Option<u32>,
-    mode: Option<u32>,
-}
-
 impl<'a> Settings<'a> {
-    /// The settings that the words say: options with their values, as `--clients 2` or `--clients=2`, in any order, each at most once; `None` where they
-    /// say none, or a path is lacking.
-    pub fn read(words: &'a [String]) -> Option<Settings<'a>> {
-        let said = read_behind(words, Said::nothing())?;
+    /// The settings that the words say: options with their values, as `--clients 2` or `--clients=2`, in any order. `None` where a name has no value,
+    /// is unknown or there twice, where a path is lacking, and where a value is no number within its bounds. `--negative` (60) and `--clients` (0) are
+    /// decimal digits up to 4294967295, `--sessions` (64) from 1 to 64, and `--mode` (600) octal digits up to 777; none has a sign.
+    pub fn read(words: &'a [String]) -> Option<Settings<'a>>
+        ensures { option_map set_by result ≡ settings_said (map string_bytes words.now) }
+    {
+        if !are_known(words) {
+            return None;
+        }
         Some(Settings {
-            socket: said.socket?,
-            conf: said.conf?,
-            negative: said.negative.unwrap_or(60),
-            sessions: said.sessions.unwrap_or(64),
-            clients: said.clients.unwrap_or(0),
-            mode: said.mode.unwrap_or(0o600),
+            socket: path(words, "--socket")?,
+            conf: path(words, "--conf")?,
+            negative: number_or(words, "--negative", u32::MAX, 60)?,
+            sessions: workers(words)?,
+            clients: number_or(words, "--clients", u32::MAX, 0)?,
+            mode: mode(words)?,
         })
     }
 }
 
-/// What the words say too.
-fn read_behind<'a>(words: &'a [String], said: Said<'a>) -> Option<Said<'a>> {
-    let Some((word, rest)) = words.split_first() else {
-        return Some(said);
-    };
-    if let Some((name, value)) = word.as_str().split_once('=') {
-        return read_behind(rest, said.with(name, value)?);
-    }
-    let (value, rest) = rest.split_first()?;
-    read_behind(rest, said.with(word.as_str(), value.as_str())?)
+/// The path that the option of this name gives.
+fn path<'a>(words: &'a [String], name: &str) -> Option<&'a str>
+    ensures { option_map (λ s. s.now) result ≡ path_in name.now (options_of (map string_bytes words.now)) }
+{
+    value_of(words, name)?
 }
 
-impl<'a> Said<'a> {
-    /// Nothing.
-    fn nothing() -> Said<'a> {
-        Said {
-            socket: None,
-            conf: None,
-            negative: None,
-            sessions: None,
-            clients: None,
-            mode: None,
-        }
-    }
-
-    /// The option of this name too; `None` where there is no such option, it was there, or its value is not allowed.
-    fn with(self, name: &str, value: &'a str) -> Option<Said<'a>> {
-        let mut said = self;
-        match name {
-            "--socket" => said.socket = once(self.socket, value)?,
-            "--conf" => said.conf = once(self.conf, value)?,
-            "--negative" => said.negative = once(self.negative, up_to(value, u32::MAX)?)?,
-            "--sessions" => said.sessions = once(self.sessions, workers(value)?)?,
-            "--clients" => said.clients = once(self.clients, up_to(value, u32::MAX)?)?,
-            "--mode" => said.mode = once(self.mode, mode(value)?)?,
-            _ => return None,
-        }
-        Some(said)
-    }
-}
-
-/// The value, where there was none before.
-fn once<T: Copy>(before: Option<T>, value: T) -> Option<Option<T>> {
-    match before {
-        None => Some(Some(value)),
-        Some(_) => None,
+/// The number that the option of this name gives, or the default.
+fn number_or(words: &[String], name: &str, limit: u32, default: u32) -> Option<u32>
+    ensures { result ≡ number_in name.now default (number_up_to limit) (options_of (map string_bytes words.now)) }
+{
+    match value_of(words, name)? {
+        Some(text) => up_to(text, limit),
+        None => Some(default),
     }
 }
 
 /// A number up to a limit.
 fn up_to(text: &str, limit: u32) -> Option<u32>
-    ensures { IfSome result (λ n. n ≤ limit) }
+    ensures { result ≡ number_up_to limit text.now }
 {
     let number = number(text.as_bytes(), u64::from(limit))?;
     Some(number as u32)
 }
 
-/// A number of workers.
-fn workers(text: &str) -> Option<u32>
-    ensures { IfSome result (λ n. (1 ≤ n) × (n ≤ 64)) }
+/// The number of workers.
+fn workers(words: &[String]) -> Option<u32>
+    ensures { result ≡ unless_zero (number_in (codes "--sessions") 64 (number_up_to 64) (options_of (map string_bytes words.now))) }
 {
-    match up_to(text, 64)? {
+    match number_or(words, "--sessions", 64, 64)? {
         0 => None,
         number => Some(number),
     }
 }
 
-/// Permission bits, in octal digits.
-fn mode(text: &str) -> Option<u32>
-    ensures { IfSome result (λ n. n ≤ 511) }
+/// The permission bits.
+fn mode(words: &[String]) -> Option<u32>
+    ensures { result ≡ number_in (codes "--mode") 0o600 permissions_said (options_of (map string_bytes words.now)) }
 {
-    if !text.as_bytes().iter().all(|byte| byte.is_ascii_digit()) {
+    match value_of(words, "--mode")? {
+        Some(text) => permissions(text),
+        None => Some(0o600),
+    }
+}
+
+/// Permission bits, in octal digits.
+fn permissions(text: &str) -> Option<u32>
+    ensures { result ≡ permissions_said text.now }
+{
+    if !are_octal(text) {
         return None;
     }
-    match u32::from_str_radix(text, 8) {
-        Ok(bits) if bits <= 0o777 => Some(bits),
-        _ => None,
-    }
+    let Ok(bits) = u32::from_str_radix(text, 8) else {
+        return None;
+    };
+    if bits <= 0o777 { Some(bits) } else { None }
+}
+
+/// Whether each byte is an octal digit.
+fn are_octal(text: &str) -> bool
+    ensures { result ≡ list_all is_octal_digit text.now }
+{
+    text.as_bytes()
+        .iter()
+        .all(|byte| matches!(*byte, b'0'..=b'7'))
 }

@@ -1,0 +1,81 @@
+-- What an operator sets, and the options that set it.
+use Rattle.std.specs.Prelude.{ℕ, Bool, List, [], ◌∷◌, ◌==◌, ◌&&◌, Option, Some, None, codes, if◌then◌else◌, nat_le}
+use Rattle.std.specs.List.{list_all, list_any}
+use Rattle.std.specs.Option.{option_and_then, option_flatten}
+use Rattle.std.specs.Str.{bytes_eq}
+use Rattle.std.specs.Str.Parse.{digits_value}
+use Rattle.rk_client.specs.Numbers.{number_said, up_to}
+use Rattle.rk_daemon.specs.declared.settings.Settings.{Settings}
+use Rattle.rk_daemon.specs.Options.{Given, all_named, options_of, value_in}
+
+-- what is set: the path of the socket and that of the configuration; seconds; how many connections are served at a time, and in all; permission bits
+pub record Set : Type 0 where
+  pub socket : List ℕ
+  pub conf : List ℕ
+  pub negative : ℕ
+  pub sessions : ℕ
+  pub clients : ℕ
+  pub mode : ℕ
+
+-- the same, of settings
+abbrev pub set_by : Settings → Set
+set_by s = record { socket = s.socket.now; conf = s.conf.now; negative = s.negative; sessions = s.sessions; clients = s.clients; mode = s.mode }
+
+-- the options that there are
+abbrev pub is_known : List ℕ → Bool
+is_known name = list_any (bytes_eq name)
+    (codes "--socket" ∷ codes "--conf" ∷ codes "--negative" ∷ codes "--sessions" ∷ codes "--clients" ∷ codes "--mode" ∷ [])
+
+abbrev pub is_octal_digit : ℕ → Bool
+is_octal_digit b = nat_le 48 b && nat_le b 55
+
+-- one octal digit or more, and no sign
+unfoldable pub octal_said : List ℕ → Option ℕ
+octal_said [] = None
+octal_said (b ∷ bs) = if list_all is_octal_digit (b ∷ bs) then Some (digits_value 8 (b ∷ bs)) else None
+
+-- permission bits
+abbrev pub permissions_said : List ℕ → Option ℕ
+permissions_said bytes = up_to 0o777 (octal_said bytes)
+
+-- a number up to a limit
+abbrev pub number_up_to : ℕ → List ℕ → Option ℕ
+number_up_to limit bytes = up_to limit (number_said bytes)
+
+abbrev pub unless_zero : Option ℕ → Option ℕ
+unless_zero None = None
+unless_zero (Some n) = if n == 0 then None else Some n
+
+-- the path that options give a name
+abbrev pub path_in : List ℕ → Option (List Given) → Option (List ℕ)
+path_in name options = option_flatten (value_in name options)
+
+-- what a value says, or the default where there is none
+abbrev pub or_default : ℕ → (List ℕ → Option ℕ) → Option (List ℕ) → Option ℕ
+or_default default said None = Some default
+or_default default said (Some value) = said value
+
+-- the number that options give a name, or the default
+abbrev pub number_in : List ℕ → ℕ → (List ℕ → Option ℕ) → Option (List Given) → Option ℕ
+number_in name default said options = option_and_then (or_default default said) (value_in name options)
+
+-- all six
+abbrev pub together : Option (List ℕ) → Option (List ℕ) → Option ℕ → Option ℕ → Option ℕ → Option ℕ → Option Set
+together (Some socket) (Some conf) (Some negative) (Some sessions) (Some clients) (Some mode) =
+    Some (record { socket = socket; conf = conf; negative = negative; sessions = sessions; clients = clients; mode = mode })
+together _ _ _ _ _ _ = None
+
+-- what options set: each is known and there once at most, the paths are there, and the numbers are numbers within their bounds
+abbrev pub set_in : Option (List Given) → Option Set
+set_in options = if all_named is_known options then together
+    (path_in (codes "--socket") options)
+    (path_in (codes "--conf") options)
+    (number_in (codes "--negative") 60 (number_up_to 4294967295) options)
+    (unless_zero (number_in (codes "--sessions") 64 (number_up_to 64) options))
+    (number_in (codes "--clients") 0 (number_up_to 4294967295) options)
+    (number_in (codes "--mode") 0o600 permissions_said options)
+    else None
+
+-- what words set
+abbrev pub settings_said : List (List ℕ) → Option Set
+settings_said words = set_in (options_of words)
