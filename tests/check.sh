@@ -2,36 +2,55 @@
 # Runs the toolchain's gate, then each test program of this folder, and adds up what passed and failed.
 #
 # The gate proves every crate and its tests from nothing, tries the edits of crates/NAME/must-fail one by one, and runs the tests and
-# the programs. A test of this folder is an executable test_*.sh or test_*.py; its last line is `N passed, M failed`.
+# the programs. A test of this folder is an executable test_*.sh or test_*.py; its last line is `N passed, M failed`, and what it prints
+# before that tells what failed. The log ends with the last ten lines of that from each program that failed, and with the programs' names.
 set -uo pipefail
 cd "$(dirname "$0")/.."
 
 passed=0
 failed=0
+names=()
+again=$(mktemp)
+
+# Counts failures of a command, and keeps the lines of its log that tell of them.
+fail() {
+    local count=$1 log=$2 name=$3
+    failed=$((failed + count))
+    names+=("failed: $name: $count")
+    if [[ $name == "rt ci" ]]; then
+        grep -aE 'NOT PROVED|NOT REFUSED|BAD EDIT|FAILED|ended with status|differ first' "$log"
+    else
+        grep -avE '^[0-9]+ passed, [0-9]+ failed$|: not (tried|looked for)|edits in [0-9]+ checks|^processor seconds|^$' "$log"
+    fi | tail -n 10 | cut -c1-200 | sed "s/^/$name| /" >> "$again"
+}
 
 # Shows what a command prints but for its closing count, which is added up. One that ends without a count,
 # or whose status disagrees with it, is a failure of its own.
 count() {
-    local log last status
+    local log last status name
     log=$(mktemp)
+    name="${*##*/}"
     "$@" 2>&1 | tee "$log" | grep --line-buffered -vE '^[0-9]+ passed, [0-9]+ failed$'
     status=${PIPESTATUS[0]}
     last=$(tail -n 1 "$log")
-    rm -f "$log"
     if [[ $last =~ ^([0-9]+)\ passed,\ ([0-9]+)\ failed$ ]]; then
         passed=$((passed + BASH_REMATCH[1]))
-        failed=$((failed + BASH_REMATCH[2]))
-        if [[ $status -ne 0 && ${BASH_REMATCH[2]} -eq 0 ]]; then
-            echo "$*: status $status though nothing failed"
-            failed=$((failed + 1))
+        if [[ ${BASH_REMATCH[2]} -ne 0 ]]; then
+            fail "${BASH_REMATCH[2]}" "$log" "$name"
+        elif [[ $status -ne 0 ]]; then
+            echo "status $status though nothing failed" >> "$log"
+            fail 1 "$log" "$name"
         fi
     else
-        echo "$*: ended without a count, status $status"
-        failed=$((failed + 1))
+        echo "ended without a count, status $status" >> "$log"
+        fail 1 "$log" "$name"
     fi
+    rm -f "$log"
 }
 
 count rt ci
+# (the libraries stand as this run has proved them)
+export PROVED=1
 for test in tests/test_*; do
     [[ -x $test ]] && count "$test"
 done
@@ -39,5 +58,8 @@ used=$(mktemp)
 times > "$used"
 echo "processor time, in programs and in the system: $(tail -n 1 "$used")"
 rm -f "$used"
+cat "$again"
+rm -f "$again"
+[[ ${#names[@]} -eq 0 ]] || printf '%s\n' "${names[@]}"
 echo "$passed passed, $failed failed"
 [[ $failed -eq 0 ]]
