@@ -14,10 +14,15 @@ def listed():
     return {line.partition(":")[0].split()[0]: line for line in lines}
 
 
+def libraries(name):
+    """All libraries that a crate uses, as its line names them."""
+    return listed()[name].partition(":")[2].split()
+
+
 def uses():
     """The crates, lowest first, each with those of the repository that it uses."""
     lines = listed()
-    left = {name: [it for it in line.partition(":")[2].split() if it in lines] for name, line in lines.items()}
+    left = {name: [it for it in libraries(name) if it in lines] for name in lines}
     found = {}
     while left:
         ready = [name for name, used in left.items() if all(it in found for it in used)]

@@ -1,10 +1,11 @@
 """Edits that must fail, of which one check of a crate tries many.
 
 An edit is a wrong body: a file with a line `file: src/NAME.rt` and then pairs of lines `old: TEXT` and `new: TEXT`, where each old text stands
-once in what the pairs before it made of that file. The prover checks each function against its own contract and its callees' contracts, so the
-edits of different functions say nothing of one another. They are made together in a copy, which is checked once. An edit is refused where a function in
-which it stands has an open goal of its own; a function that only calls one that isn't proved counts for nothing, and neither does one whose proof
-names what the edit took away, since that says nothing of its contract: an edit changes a value and keeps the names.
+once in what the pairs before it made of that file, or is one whole line of it. The prover checks each function against its own contract and its
+callees' contracts, so the edits of different functions say nothing of one another. They are made together in a copy, which is checked once; where two
+stand in one function, the second is made in a twin of it (twins.py). An edit is refused where a function in which it stands has an open goal of its
+own; a function that only calls one that isn't proved counts for nothing, and neither does one whose proof names what the edit took away, since that
+says nothing of its contract: an edit changes a value and keeps the names.
 """
 import difflib
 import re
@@ -23,12 +24,13 @@ class BadEdit(Exception):
 
 
 class Edit:
-    """A wrong body: its name, the lines that it changes in each file, and the functions in which they stand."""
+    """A wrong body: its name, the lines that it changes in each file, the functions in which they stand, and the proofs that it needs beside theirs."""
 
     def __init__(self, path, crate):
         self.name = path.name
         self.changes = {}
         self.places = set()
+        self.proofs = {}
         for file, text in made(path.read_text(), crate).items():
             before = (crate / file).read_text()
             lines = text.split("\n")
@@ -53,16 +55,26 @@ def made(said, crate):
         elif line.startswith("old: "):
             old = line.removeprefix("old: ")
         elif line.startswith("new:"):
-            if not file or not old or texts[file].count(old) != 1:
-                raise BadEdit(f"{old!r} does not stand once in {file}")
-            texts[file] = texts[file].replace(old, line.removeprefix("new:").removeprefix(" "))
+            if not file or not old:
+                raise BadEdit("a line `new:` stands before `file:` or `old:`")
+            texts[file] = replaced(texts[file], old, line.removeprefix("new:").removeprefix(" "), file)
     if not texts:
         raise BadEdit("it names no file")
     return texts
 
 
+def replaced(text, old, new, file):
+    """The text with an old part of it made new, which stands in it once or is one whole line."""
+    if text.count(old) == 1:
+        return text.replace(old, new)
+    lines = text.split("\n")
+    if lines.count(old) != 1:
+        raise BadEdit(f"{old!r} does not stand once in {file}")
+    return "\n".join(new if line == old else line for line in lines)
+
+
 def place(file, text, line):
-    """The function in which a line stands: its module path, the head of its block, and its name. None where it stands in none."""
+    """The function in which a line stands: its module path, its block, and its name. None where it stands in none."""
     for block, name, first, last in spans(text):
         if first <= line <= last:
             return module(file), block, name
@@ -70,15 +82,14 @@ def place(file, text, line):
 
 
 def spans(text):
-    """The block, name, first and last line of each function, by its layout, inner ones first."""
-    lines, found, block = text.split("\n"), [], ""
+    """The block, name, first and last line of each function, by its layout, inner ones first. A block is a type and a trait, or no name in their place."""
+    lines, found, block = text.split("\n"), [], ("", "")
     for first, line in enumerate(lines):
-        # a method's path has the type's name, and in an impl of a trait the trait's behind it
         if line.startswith("impl"):
             of_trait, of_type = IMPL.match(line).groups()
-            block = of_type + (of_trait or "")
+            block = of_type, of_trait or ""
         elif line == "}":
-            block = ""
+            block = "", ""
         head = FUNCTION.match(line)
         if head:
             ends = (i for i in range(first, len(lines)) if lines[i].startswith(head[1] + "}"))
@@ -99,21 +110,9 @@ def make(edits, crate):
         for first, end, new in sorted((it for edit in edits for it in edit.changes.get(file, [])), reverse=True):
             lines[first:end] = new
         (crate / file).write_text("\n".join(lines))
-
-
-def groups(edits):
-    """The edits in groups: no two of a group stand in functions of one name, and an edit outside of functions stands alone."""
-    found = []
-    for edit in edits:
-        functions = edit.functions()
-        for taken, members in found:
-            if functions and taken and not taken & functions:
-                taken |= functions
-                members.append(edit)
-                break
-        else:
-            found.append((set(functions), [edit]))
-    return [members for _, members in found]
+    for file, text in (it for edit in edits for it in edit.proofs.items()):
+        (crate / file).parent.mkdir(exist_ok=True)
+        (crate / file).write_text(text)
 
 
 def opened(log):
@@ -130,7 +129,16 @@ def is_refused(edit, paths):
 
 
 def is_path(path, inside, block, name):
-    """Whether a path of the check is that of a function. A method's path has the module of its type, wherever the method stands."""
-    if block:
-        return path[-1] == name and len(path) > 1 and path[-2].startswith(block)
+    """Whether a path of the check is that of a function. A method's path has the module and the name of its type, wherever the method stands, and behind
+    that name a trait's, with the trait's arguments."""
+    if any(block):
+        return path[-1] == name and len(path) > 1 and path[-2].startswith("".join(block))
     return path == (*inside, name)
+
+
+def asked(inside, block, name):
+    """What a check is asked for, so that it checks this function: its path, or the module of a trait's method."""
+    of_type, of_trait = block
+    if of_trait:
+        return "::".join(inside)
+    return f"{of_type}::{name}" if of_type else "::".join([*inside, name])

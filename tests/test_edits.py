@@ -3,13 +3,15 @@
 
     test_edits.py [CRATE ..]
 
-Works in a copy, and leaves the repository as it is. Many edits of a crate are tried in one check (edits.py); one that isn't seen to be refused there
-is tried alone. What `rt check` has kept in crates/NAME/out makes the checks short; in a clean clone the libraries are proved first.
+Works in a copy, and leaves the repository as it is. All edits of a crate are tried in one check (edits.py, twins.py), but for the few that can't be made
+beside another; one that isn't seen to be refused there is tried alone. The crates below are not proved here: within `make check`, which says so by
+PROVED in the environment, they stand as `rt ci` has just left them, and so does the proof of the crate without an edit. Elsewhere what `rt check` has
+kept in crates/NAME/out is brought up to date first, and makes the checks short.
 """
 import concurrent.futures
 import os
 import pathlib
-import resource
+import re
 import shutil
 import subprocess
 import sys
@@ -17,92 +19,144 @@ import tempfile
 
 import crates
 import edits as wrong
+import twins
 
 top = crates.top
 
 
-def copy_crates(names, source, target, whole):
-    """Copies crates with their proved libraries, and what was kept of the proofs of those in `whole`, and lists them in a crates.txt of the copy."""
-    target.mkdir()
-    (target / ".git").mkdir()
-    shutil.copy(top / "HANDLES", target)
-    for name in names:
-        left_out = ["must-fail", "edits", "*_tests", "*.o", "*.by-rattle", *(["incremental"] if name not in whole else [])]
-        shutil.copytree(source / "crates" / name, target / "crates" / name, ignore=shutil.ignore_patterns(*left_out))
-    (target / "crates.txt").write_text("".join(line for name, line in crates.listed().items() if name in names))
-
-
-def check(crate):
-    """What the check says of a crate."""
-    ran = subprocess.run(["rt", "check", "--jobs", "1"], cwd=crate, stdin=subprocess.DEVNULL, stdout=subprocess.PIPE, stderr=subprocess.STDOUT)
-    return ran.stdout.decode(errors="replace")
+class NoVerdict(Exception):
+    """The prover did not come to judge the edits: they can't be compiled, say."""
 
 
 class Trial:
-    """A crate in a copy of its own, in which its edits are tried."""
+    """A crate in a copy of its own, in which its edits are tried over built libraries."""
 
-    def __init__(self, name, built, stands_on, room):
+    def __init__(self, name, built, room):
         self.name = name
+        self.built = built
+        self.good = built / name
+        self.crate = room / name
+        self.kept = room / f"{name}.kept"
+        self.seconds = 0
         self.checks = 0
-        self.copy = room / name
-        copy_crates({name} | stands_on, built, self.copy, {name})
-        self.crate = self.copy / "crates" / name
-        self.good = room / f"{name}.src"
-        shutil.copytree(self.crate / "src", self.good)
 
     def refused(self, edits):
         """Those of the edits that are refused where they stand, all made together."""
+        shutil.rmtree(self.crate, ignore_errors=True)
+        for part in crates.PARTS:
+            if (self.good / part).is_dir():
+                shutil.copytree(self.good / part, self.crate / part)
+        wrong.make(edits, self.crate)
+        words = ["rattle", "check", *crate_words(self.name, self.built), *only(edits)]
+        said, seconds = ran([*words, *(["--incremental", self.kept] if self.kept.is_dir() else [])], self.crate)
+        self.seconds += seconds
         self.checks += 1
-        try:
-            wrong.make(edits, self.crate)
-            paths = wrong.opened(check(self.crate))
-            return {edit for edit in edits if wrong.is_refused(edit, paths)}
-        finally:
-            shutil.rmtree(self.crate / "src")
-            shutil.copytree(self.good, self.crate / "src")
+        if not re.search(r"^(only|logic)=", said, re.M):
+            raise NoVerdict("the prover gives no verdict: " + " ".join(said.strip().split("\n")[-3:])[-600:])
+        paths = wrong.opened(said)
+        return {edit.name for edit in edits if wrong.is_refused(edit, paths)}
 
     def run(self):
         """How many edits were refused, and what to say of the others."""
-        edits, faults = [], []
+        edits, faults, refused = [], [], set()
+        if (self.good / "out" / "incremental").is_dir():
+            shutil.copytree(self.good / "out" / "incremental", self.kept)
         for path in sorted((top / "crates" / self.name / "edits").glob("*.edit")):
             try:
-                edits.append(wrong.Edit(path, self.crate))
+                edits.append(wrong.Edit(path, self.good))
             except wrong.BadEdit as why:
                 faults.append(f"{self.name}/{path.name}: {why}")
-        passed = 0
-        for group in wrong.groups(edits):
-            refused = self.refused(group)
-            for edit in group:
-                if edit in refused or (len(group) > 1 and self.refused([edit])):
-                    passed += 1
-                else:
-                    faults.append(f"{self.name}/{edit.name}: no function in which it stands has an open goal of its own")
-        shutil.rmtree(self.copy)
-        return passed, faults, self.checks
+        batch, alone = twins.together(edits, self.good)
+        if alone:
+            self.kept.mkdir(exist_ok=True)
+        why = "no function in which it stands has an open goal of its own"
+        try:
+            refused |= self.refused(batch)
+            for edit in edits:
+                if edit.name not in refused:
+                    refused |= self.refused([edit])
+        except NoVerdict as said:
+            why = said
+        shutil.rmtree(self.crate)
+        shutil.rmtree(self.kept, ignore_errors=True)
+        return len(refused), [*faults, *(f"{self.name}/{edit.name}: {why}" for edit in edits if edit.name not in refused)]
+
+
+def crate_words(name, built):
+    """What a check of a crate is told, as `rattle check --help` names it: the crate, and the libraries that it uses, built."""
+    kit = pathlib.Path(subprocess.check_output(["rt", "doc"], text=True)).parent
+    used = crates.uses()
+    libraries = {it: built / it / "out" / "rlib" if it in used else kit / "rlibs" for it in ["std", *crates.libraries(name)]}
+    words = ["--crate-name", name, "src/main.rt" if (built / name / "src" / "main.rt").exists() else "src/lib.rt"]
+    for library, folder in libraries.items():
+        words += ["--extern", f"{library}={folder / library}.rlib"]
+    for folder in [kit / "rlibs", *(built / it / "out" / "rlib" for it in sorted(crates.below(used, name)))]:
+        words += ["-L", f"dependency={folder}"]
+    return [*words, "--antt-project", kit / "rattle" / "logic" / "antt-project.json", "--logic-built", kit / "logic_built"]
+
+
+def only(edits):
+    """What asks a check for the functions of these edits alone, and what they call; nothing where one stands outside of functions."""
+    asked = {wrong.asked(*function) for edit in edits for function in edit.functions()}
+    if "" in asked or not all(edit.functions() for edit in edits):
+        return []
+    return [word for it in sorted(asked) for word in ["--only", it]]
+
+
+def ran(words, folder):
+    """What a command says, and the processor seconds that it takes."""
+    with tempfile.TemporaryFile() as said:
+        started = subprocess.Popen(words, cwd=folder, stdin=subprocess.DEVNULL, stdout=said, stderr=subprocess.STDOUT)
+        _, status, used = os.wait4(started.pid, 0)
+        started.returncode = os.waitstatus_to_exitcode(status)
+        said.seek(0)
+        return said.read().decode(errors="replace"), used.ru_utime + used.ru_stime
+
+
+def brought_up_to_date(needed, room, workers):
+    """The crates in a copy, proved there over what was kept of them, and the processor seconds of that."""
+    copied = room / "built"
+    (copied / ".git").mkdir(parents=True)
+    shutil.copy(top / "HANDLES", copied)
+    (copied / "crates.txt").write_text("".join(line for name, line in crates.listed().items() if name in needed))
+    for name in needed:
+        shutil.copytree(top / "crates" / name, copied / "crates" / name, ignore=shutil.ignore_patterns("must-fail", "edits", "*_tests", "*.o", "*.by-rattle"))
+    said, seconds = ran(["rt", "all", "check", "--jobs", str(workers)], copied)
+    if f"{len(needed)} of {len(needed)} crates ok" not in said:
+        sys.exit(f"{said[-2000:]}\nthe crates themselves are not proved\n0 passed, 1 failed")
+    return copied / "crates", seconds
+
+
+def are_built(libraries):
+    """Whether these libraries stand as `rt ci` has left them, in this run of `make check`."""
+    folders = [top / "crates" / it / "out" / "rlib" for it in libraries]
+    return "PROVED" in os.environ and all((it / f"{it.parent.parent.name}.rlib").is_dir() and not (it / "stamp").exists() for it in folders)
 
 
 def main(words):
     used = crates.uses()
     names = [it for it in used if (top / "crates" / it / "edits").is_dir() and (not words or it in words)]
-    passed, failed = 0, 0
+    below = {it for name in names for it in crates.below(used, name)}
+    workers = os.cpu_count() or 1
+    passed, failed, lines = 0, 0, {}
     with tempfile.TemporaryDirectory(prefix="edits-") as name:
         room = pathlib.Path(name)
-        built = room / "built"
-        needed = {it for name in names for it in {name} | crates.below(used, name)}
-        copy_crates(needed, top, built, needed)
-        workers = os.cpu_count() or 1
-        proved = subprocess.run(["rt", "all", "check", "--jobs", str(workers)], cwd=built, stdin=subprocess.DEVNULL, stdout=subprocess.PIPE, stderr=subprocess.STDOUT)
-        if proved.returncode:
-            sys.exit(f"{proved.stdout.decode(errors='replace')[-2000:]}\nthe crates themselves are not proved\n0 passed, 1 failed")
+        built, first = (top / "crates", 0) if are_built(below) else brought_up_to_date(below | {*names}, room, workers)
         with concurrent.futures.ThreadPoolExecutor(workers) as pool:
-            for name, (well, faults, checks) in zip(names, pool.map(lambda it: Trial(it, built, crates.below(used, it), room).run(), names)):
-                print(f"{name}: {well + len(faults)} edits in {checks} checks")
+            trials = [Trial(it, built, room) for it in sorted(names, key=size, reverse=True)]
+            for trial, (refused, faults) in zip(trials, pool.map(Trial.run, trials)):
                 print("".join(f"{it}\n" for it in faults), end="", flush=True)
-                passed, failed = passed + well, failed + len(faults)
-    used = resource.getrusage(resource.RUSAGE_CHILDREN)
-    print(f"processor seconds: {used.ru_utime + used.ru_stime:.0f}")
+                passed, failed = passed + refused, failed + len(faults)
+                lines[f"{trial.name}: {refused + len(faults)} edits in {trial.checks} checks, {trial.seconds:.0f} processor seconds"] = trial.seconds
+    print("\n".join(sorted(lines, key=lines.get, reverse=True)))
+    print(f"processor seconds: {first:.0f} for the crates without an edit, {sum(lines.values()):.0f} for the edits")
     print(f"{passed} passed, {failed} failed")
     return 1 if failed else 0
+
+
+def size(name):
+    """How much of a crate there is to check."""
+    return sum(path.stat().st_size for part in crates.PARTS for path in (top / "crates" / name / part).rglob("*") if path.is_file())
 
 
 sys.exit(main(sys.argv[1:]))
