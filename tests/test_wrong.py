@@ -1,8 +1,9 @@
 #!/usr/bin/env python3
-"""Wrong bodies that no contract can refuse, and the stored run does.
+"""Wrong bodies that no contract can refuse, and a run does.
 
-A start may fail for want of memory, and no contract sees how much memory there is; so a body that never starts a command keeps its
-contract. Each edit of tests/wrong is made in a copy, and the example has to come out otherwise. `rt try` runs it before any proof.
+A start may fail for want of memory, and no contract sees how much memory there is; so a body that never starts a command keeps its contract. No contract
+names what a lock holds either, so a call of the halls that only gives up keeps its own. Each edit of tests/wrong is made in a copy. With one of rk_hall the
+tests of the halls have to fail, with any other the example has to come out otherwise. `rt try` runs both before any proof.
 """
 import pathlib
 import shutil
@@ -13,11 +14,16 @@ import tempfile
 top = pathlib.Path(__file__).resolve().parent.parent
 stored = top / "tests" / "replay" / "first_path"
 
+# The test of the halls that each of their edits has to fail, and the modules of its crate that it does without.
+OF_HALLS = b"test halls::paths::each_step_has_its_answer ... "
+LEFT_OUT = ["sessions", "programs"]
+
 
 def made(edit, copy):
-    """Makes the edit in a copy: a line `file: PATH`, and pairs of lines `old: TEXT` and `new: TEXT`."""
+    """Makes the edit in a copy: a line `file: PATH`, and pairs of lines `old: TEXT` and `new: TEXT`. The file's path."""
     name, *pairs = edit.read_text().splitlines()
-    path = copy / name.removeprefix("file: ")
+    name = name.removeprefix("file: ")
+    path = copy / name
     text = path.read_text()
     for old, new in zip(pairs[::2], pairs[1::2]):
         old, new = old.removeprefix("old: "), new.removeprefix("new: ")
@@ -25,13 +31,31 @@ def made(edit, copy):
             sys.exit(f"{edit.name}: {old!r} stands {text.count(old)} times in {path.name}")
         text = text.replace(old, new)
     path.write_text(text)
+    return name
 
 
-def output(folder):
-    """What the program in this copy writes for the stored run."""
-    words = ["rt", "try", "--", "replay"]
-    script = (stored / "script").read_bytes()
-    return subprocess.run(words, cwd=folder / "crates" / "reqkeyd", input=script, stdout=subprocess.PIPE, stderr=subprocess.DEVNULL).stdout
+def tried(folder, crate, words, **more):
+    """What `rt try` writes in a crate of this copy."""
+    return subprocess.run(["rt", "try", *words], cwd=folder / "crates" / crate, stdout=subprocess.PIPE, **more).stdout
+
+
+def replays_otherwise(copy):
+    """Whether the program runs, and not as the right body does; and what it wrote."""
+    written = tried(copy, "reqkeyd", ["--", "replay"], input=(stored / "script").read_bytes(), stderr=subprocess.DEVNULL)
+    return written.startswith(b"to 1 ") and written != (stored / "expected").read_bytes(), written
+
+
+def fails_in_halls(copy):
+    """Whether the tests run, and that of the halls fails; and what was written."""
+    source = copy / "crates" / "rk_live_tests" / "src"
+    root = (source / "lib.rt").read_text()
+    for name in LEFT_OUT:
+        root = root.replace(f"#[cfg(test)]\nmod {name};\n", "")
+        (source / f"{name}.rt").unlink()
+        shutil.rmtree(source / name, ignore_errors=True)
+    (source / "lib.rt").write_text(root)
+    written = tried(copy, "rk_live_tests", ["--test"], stdin=subprocess.DEVNULL, stderr=subprocess.STDOUT)
+    return OF_HALLS + b"FAILED" in written, written[-2000:]
 
 
 passed = failed = 0
@@ -39,13 +63,12 @@ for edit in sorted((top / "tests" / "wrong").glob("*.edit")):
     with tempfile.TemporaryDirectory() as room:
         copy = pathlib.Path(room) / "copy"
         shutil.copytree(top, copy, ignore=shutil.ignore_patterns("out", "build", ".git", "must-fail"))
-        made(edit, copy)
-        written = output(copy)
-    # the copy ran, and not as the right body does
-    if written.startswith(b"to 1 ") and written != (stored / "expected").read_bytes():
+        name = made(edit, copy)
+        is_seen, written = (fails_in_halls if name.startswith("crates/rk_hall/") else replays_otherwise)(copy)
+    if is_seen:
         passed += 1
     else:
         failed += 1
-        print(f"{edit.name}: the stored run lets it through, or it did not run: {written!r}")
+        print(f"{edit.name}: the run lets it through, or there was none: {written!r}")
 print(f"{passed} passed, {failed} failed")
 sys.exit(1 if failed else 0)
