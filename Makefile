@@ -6,7 +6,10 @@ SHELL := /bin/bash
 # The programs that users install; each is a crate of its name with a src/main.rt.
 PROGRAMS := $(patsubst crates/%/src/main.rt,%,$(wildcard crates/*/src/main.rt))
 
-.PHONY: all bench quick check demo clean help toolchain
+# The folder from which programs are taken. In build/ what is missing or old is built first; those of another one are taken as they are.
+BUILT = build
+
+.PHONY: all bench quick check demo completion clean help toolchain
 
 all: $(addprefix build/,$(PROGRAMS))  ## Prove and build the programs, into build/
 
@@ -43,11 +46,14 @@ quick: toolchain  ## Check what changed since the last time, over kept work, in 
 check: toolchain  ## Prove every crate from nothing and pass all tests; the last line counts them
 	@bash tests/check.sh
 
+completion: $(addprefix $(BUILT)/,$(PROGRAMS))  ## Write packaging/completion/ anew, of what the programs say of themselves
+	@tools/completion.py $(BUILT) packaging/completion
+
 clean:  ## Remove what make and the toolchain made
 	rm -rf build crates/*/out
 
 help:  ## List the targets
-	@sed -n 's/^\([a-z]*\):.*## \(.*\)/make \1\t\2/p' Makefile | expand -t 14
+	@sed -n 's/^\([a-z]*\):.*## \(.*\)/make \1\t\2/p' Makefile | expand -t 17
 
 toolchain:
 	@command -v rt > /dev/null || { \

@@ -67,7 +67,7 @@ def main():
         if not call("make"):
             return "a program is not built"
         programs = {**os.environ, "PROGRAMS": "build"}
-        if not all(call(f"tests/test_{it}.py", env=programs) for it in ["replay", "words", "client", "clients", "keyutils", "serve", "manuals"]):
+        if not all(call(f"tests/test_{it}.py", env=programs) for it in ["replay", "words", "client", "clients", "keyutils", "serve", "manuals", "completion"]):
             return "a test of a program failed"
     print("nothing that changed fails")
     return 0

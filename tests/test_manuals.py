@@ -4,9 +4,13 @@ import re
 import shlex
 import shutil
 import subprocess
+import sys
 
 from counted import Counted
 from programs import built, top
+
+sys.path.insert(0, str(top / "tools"))
+from program_help import option, part, said, subcommands
 
 count = Counted()
 PAGES = ["reqkeyd.8", "reqkeyctl.1", "reqkeyd.conf.5"]
@@ -40,28 +44,6 @@ def sections(page):
 def tagged(lines):
     """The tags of a section: the line behind each `.TP`."""
     return [spoken(after) for line, after in zip(lines, lines[1:]) if line == ".TP"]
-
-
-def said(program, *words):
-    ran = subprocess.run([program, *words], stdin=subprocess.DEVNULL, capture_output=True, text=True, timeout=60)
-    return ran.stdout if ran.returncode == 0 else f"status {ran.returncode}: {ran.stderr}"
-
-
-def part(text, head):
-    """The lines of a program's help below this head."""
-    below = text.partition(f"\n{head}:\n")[2].partition("\n\n")[0]
-    return [line.strip() for line in below.split("\n") if line.strip()]
-
-
-def subcommands(text):
-    """The subcommands that a program's help lists."""
-    return re.findall(r"^  (\S+)", text.partition("\nCommands:\n")[2].partition("\n\n")[0], re.MULTILINE)
-
-
-def option(words):
-    """An option as its spellings and the name of its value, as `--uid N`."""
-    words = re.sub(r"[<>]", "", words)
-    return re.split(r"\s{2,}", words)[0].replace(", ", " ")
 
 
 def options(*helps):

@@ -1,0 +1,45 @@
+# Completes the words of reqkeyd in fish. Made by tools/completion.py of what the program says of itself.
+
+# Whether this is what comes next: `command`, or behind one the name of its argument, or `in COMMAND`.
+function __reqkeyd_at
+    set -l words (commandline -opc)
+    set -e words[1]
+    set -l left command
+    set -l command reqkeyd
+    set -l dropped
+    while set -q words[1]
+        set -l word $words[1]
+        set -e words[1]
+        if test $command != reqkeyd
+            set -e left[1]
+            continue
+        end
+        switch $word
+            case '-*'
+                continue
+            case '*'
+                set command $word
+                set left
+        end
+        switch $command
+        end
+        for name in $dropped
+            set left (string match -v -- $name $left)
+        end
+    end
+    test "$left[1]" = "$argv[1]"; or test "in $command" = "$argv"
+end
+
+complete -c reqkeyd -f
+complete -c reqkeyd -n '__reqkeyd_at command' -s h -l help -d 'Print help'
+complete -c reqkeyd -n '__reqkeyd_at command' -s V -l version -d 'Print version'
+complete -c reqkeyd -n '__reqkeyd_at in replay' -s h -l help -d 'Print help'
+complete -c reqkeyd -n '__reqkeyd_at in serve' -l socket -r -F -d 'Where the socket is made, in a folder that is there'
+complete -c reqkeyd -n '__reqkeyd_at in serve' -l conf -r -F -d 'The configuration, read once at the start'
+complete -c reqkeyd -n '__reqkeyd_at in serve' -l negative -x -d 'For how many seconds a key is negative that its handler did not make, 0 to 4294967295'
+complete -c reqkeyd -n '__reqkeyd_at in serve' -l sessions -x -d 'How many connections are served at a time, 1 to 64'
+complete -c reqkeyd -n '__reqkeyd_at in serve' -l clients -x -d 'End after so many connections, 0 to 4294967295, 0 for never'
+complete -c reqkeyd -n '__reqkeyd_at in serve' -l mode -x -d 'The permissions of the socket\'s file, 0 to 777 in octal'
+complete -c reqkeyd -n '__reqkeyd_at in serve' -s h -l help -d 'Print help'
+complete -c reqkeyd -n '__reqkeyd_at command' -a replay -d 'Runs a script from standard input, and writes what the daemon does'
+complete -c reqkeyd -n '__reqkeyd_at command' -a serve -d 'Answers a Unix socket: keys are found, or made by the handler programs of a configuration'

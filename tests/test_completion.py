@@ -1,0 +1,147 @@
+#!/usr/bin/env python3
+"""Compares packaging/completion/ with what tools/completion.py makes of the built programs, and completes words by it in bash and fish, as who types them."""
+import pathlib
+import shutil
+import subprocess
+import sys
+import tempfile
+
+from counted import Counted
+from programs import PROGRAMS, client_of, top
+
+sys.path.insert(0, str(top / "tools"))
+import completion
+from program_help import option, part, said, subcommands
+
+count = Counted()
+stored = top / "packaging" / "completion"
+
+RINGS = ["none", "thread", "process", "session", "user", "requestor"]
+SETTINGS = ["keep", "default", "thread", "process", "session", "user", "requestor"]
+ERRORS = ["126", "127", "128", "129"]
+
+# What completes each argument of each command of reqkeyctl.
+ARGUMENTS = {
+    "hello": [],
+    "request": [[], [], RINGS, []],
+    "assume": [["auth"]],
+    "instantiate": [["auth"], [], RINGS],
+    "negate": [["auth"], [], RINGS],
+    "reject": [["auth"], [], ERRORS, RINGS],
+    "read": [["auth"]],
+    "describe": [["auth"]],
+    "revoke": [["auth"]],
+    "timeout": [["auth"], []],
+    "link": [["auth"], RINGS],
+    "unlink": [["auth"], RINGS],
+    "clear": [RINGS],
+    "default": [SETTINGS],
+    "add": [[], [], [], RINGS],
+    "callout": [],
+}
+
+# Calls whose last word is to be completed, which may be empty, and what it may be; some.file is the one file of the folder.
+TYPED = [
+    ("reqkeyctl un", ["unlink"]),
+    ("reqkeyctl nothing", []),
+    ("reqkeyctl --socket ", ["some.file"]),
+    ("reqkeyctl --payload-from so", ["some.file"]),
+    ("reqkeyctl --uid ", []),
+    ("reqkeyctl --uid 1000 --socket S re", ["reject", "request", "revoke", "read"]),
+    ("reqkeyctl --raw cl", ["clear"]),
+    ("reqkeyctl --payload-from some.file instantiate auth ", RINGS),
+    ("reqkeyctl --payload-from some.file add user d ", RINGS),
+    ("reqkeyctl --callout-from some.file request user d ", RINGS),
+    ("reqkeyctl --callout-from some.file request user d none ", []),
+    ("reqkeyctl link auth p", ["process"]),
+    ("reqkeyctl read --socket ", []),
+    ("reqkeyctl add --raw so", []),
+    ("reqkeyd serve --conf ", ["some.file"]),
+    ("reqkeyd serve --socket S --conf so", ["some.file"]),
+    ("reqkeyd serve --mode ", []),
+    ("reqkeyd serve --socket S --se", ["--sessions"]),
+    ("reqkeyd serve ", []),
+    ("reqkeyd replay ", []),
+]
+
+# Asks for completions as readline does: bash divides a word also at its `=`.
+DRIVER = """\
+source {0}/reqkeyd.bash
+source {0}/reqkeyctl.bash
+tried() {{
+    COMP_WORDS=("$@") COMP_CWORD=$(($# - 1)) COMPREPLY=()
+    "_$1" "$1" "${{@: -1}}" "${{@: -2:1}}"
+    echo "${{COMPREPLY[*]}}"
+}}
+"""
+
+
+def typed_calls(daemon, client):
+    """TYPED, and each command, option and argument."""
+    calls = list(TYPED)
+    for program in [daemon, client]:
+        text = said(program, "--help")
+        calls.append((f"{program.name} ", subcommands(text)))
+        calls += [(f"{program.name} {name}", [it for it in subcommands(text) if it.startswith(name)]) for name in subcommands(text)]
+        for before, help_text in [("", text)] + [(f"{name} ", said(program, name, "--help")) for name in subcommands(text)]:
+            listed = [option(line).split(" ") for line in part(help_text, "Options")]
+            long = [word for words in listed for word in words if word.startswith("--")]
+            calls.append((f"{program.name} {before}--", long))
+            calls += [(f"{program.name} {before}{name}", [it for it in long if it.startswith(name)]) for name in long]
+    for name, arguments in ARGUMENTS.items():
+        calls += [(f"reqkeyctl {name} {'x ' * at}", words) for at, words in enumerate([*arguments, []])]
+    return calls
+
+
+def run(shell, script):
+    """What a shell prints for a script, line by line, in a folder with one file."""
+    with tempfile.TemporaryDirectory() as home, tempfile.TemporaryDirectory() as room:
+        (pathlib.Path(room) / "some.file").touch()
+        home = {"HOME": home, "PATH": "/usr/bin:/bin"}
+        ran = subprocess.run([*shell, "-c", script], cwd=room, env=home, capture_output=True, text=True, timeout=60)
+    count.same(f"errors of {shell[0]}", ran.stderr, "")
+    return ran.stdout.split("\n")
+
+
+def in_bash(calls):
+    divided = [(f"reqkeyctl --payload-from{end}", ["some.file"]) for end in [" =", " = so"]]
+    divided += [("reqkeyctl --uid = 1000 revo", ["revoke"]), ("reqkeyctl --payload-from = f add user d n", ["none"])]
+    rows = [*calls, *divided]
+    lines = [f"tried {' '.join(words if words else repr('') for words in typed.split(' '))}" for typed, _ in rows]
+    got = run(["bash", "--noprofile", "--norc"], DRIVER.format(stored) + "\n".join(lines))
+    for (typed, wanted), line in zip(rows, got):
+        count.same(f"bash: {typed!r}", sorted(line.split()), sorted(wanted))
+
+
+def in_fish(calls):
+    if not shutil.which("fish"):
+        print("completion in fish: not tried, there is no fish")
+        return
+    lines = [f"source {stored}/{name}.fish" for name in completion.PROGRAMS]
+    lines += [f"complete -C '{typed}'; printf '%s\\n' ==" for typed, _ in calls]
+    blocks = "\n".join(run(["fish", "--no-config"], "\n".join(lines))).split("==\n")
+    for (typed, wanted), block in zip(calls, blocks):
+        count.same(f"fish: {typed!r}", sorted(line.split("\t")[0] for line in block.split("\n") if line), sorted(wanted))
+
+
+def in_zsh():
+    if not shutil.which("zsh"):
+        print("completion in zsh: not tried, there is no zsh")
+        return
+    for name in completion.PROGRAMS:
+        ran = subprocess.run(["zsh", "-f", "-n", stored / f"_{name}"], capture_output=True, text=True, timeout=60)
+        count.same(f"zsh reads _{name}", (ran.returncode, ran.stderr), (0, ""))
+
+
+for daemon in PROGRAMS:
+    client = client_of(daemon)
+    count.same(f"{daemon} and {client} are built", (daemon.exists(), client.exists()), (True, True))
+    if daemon.exists() and client.exists():
+        made = {name: text for program in [daemon, client] for name, text in completion.made_of(completion.read_program(program)).items()}
+        count.same(f"files of {daemon.name}", {path.name: path.read_text() for path in stored.iterdir()}, made)
+        if daemon == PROGRAMS[0]:
+            calls = typed_calls(daemon, client)
+            in_bash(calls)
+            in_fish(calls)
+in_zsh()
+count.end()

@@ -1,0 +1,328 @@
+#!/usr/bin/env python3
+"""Makes what completes the words of reqkeyd and reqkeyctl in bash, zsh and fish, of what the programs say of themselves.
+
+Use: completion.py FOLDER OUT, with the folder of the programs and the one to write to; `make completion` calls it. The programs make their help of the
+table by which they read their words, so a command, an option or a name that is new there is completed once this has run.
+"""
+import pathlib
+import re
+import shlex
+import sys
+from typing import NamedTuple
+
+from program_help import option, part, said, subcommands
+
+PROGRAMS = ["reqkeyd", "reqkeyctl"]
+FILES = {"PATH", "FILE"}  # the values that are files
+
+
+class Option(NamedTuple):
+    spellings: list
+    value: str  # the name of its value, or nothing
+    about: str
+    instead: str  # the argument that is not given where this option is, or nothing
+
+
+class Call(NamedTuple):
+    """A subcommand, or the program itself."""
+
+    about: str
+    options: list
+    arguments: list
+
+
+class Program(NamedTuple):
+    name: str
+    itself: Call
+    commands: dict
+    words: dict  # for an argument its words, each with what it is for
+
+
+def brief(text):
+    """The beginning of a description, up to where it goes into details."""
+    return re.split(r"[;(]| \[|\.(?:\s|$)", text)[0].strip()
+
+
+def read_options(text):
+    found = []
+    for line in part(text, "Options"):
+        *spellings, last = option(line).split(" ")
+        value = last if spellings and not last.startswith("-") else ""
+        about = re.split(r"\s{2,}", line, maxsplit=1)[1]
+        instead = re.search(r"no <(\w+)> is given", about)
+        found.append(Option(spellings if value else [*spellings, last], value, brief(about), instead[1] if instead else ""))
+    return found
+
+
+def words_of(rule, errors):
+    """The words that the rule of an argument names: `keep, default or user`, or of numbers those that are errors."""
+    names = re.fullmatch(r"(?:a number up to \d+, or )?((?:[a-z]+, )*[a-z]+(?: or [a-z]+)?)(?:: (.*))?", rule)
+    if names:
+        return {word: names[2] or "" for word in re.split(r", | or ", names[1])}
+    bounds = re.fullmatch(r"the number of an error, (\d+) to (\d+)", rule)
+    return {number: name for number, name in errors.items() if bounds and int(bounds[1]) <= int(number) <= int(bounds[2])}
+
+
+def read_program(path):
+    """All that a program says of its words."""
+    text = said(path, "--help")
+    errors = dict(line.split() for line in part(text, "Errors"))
+    commands, words = {}, {}
+    for name in subcommands(text):
+        its = said(path, name, "--help")
+        rules = [re.split(r"\s{2,}", line, maxsplit=1) for line in part(its, "Arguments")]
+        arguments = [argument.strip("<>[]") for argument, _ in rules]
+        words.update((argument, words_of(rule, errors)) for argument, (_, rule) in zip(arguments, rules))
+        commands[name] = Call(brief(its.partition("\n")[0]), read_options(its), arguments)
+    words = {"command": {name: call.about for name, call in commands.items()}, **{name: its for name, its in words.items() if its}}
+    return Program(path.name.partition(".")[0], Call("", read_options(text), ["command"]), commands, words)
+
+
+def spellings(options):
+    return " ".join(word for it in options for word in it.spellings)
+
+
+def filled(template, program, **parts):
+    """A template with these parts in the place of their names; a line that would be empty is left out."""
+    for name, text in {"name": program.name, **parts}.items():
+        place = f"@{name.upper()}@"
+        template = template.replace(place, text) if text else template.replace(f"{place}\n", "").replace(place, "")
+    return template
+
+
+BASH = """\
+# Completes the words of @NAME@ in bash. Made by tools/completion.py of what the program says of itself.
+_@NAME@()
+{
+    # for the program and each command its options; for each command its arguments, and for those their words; for options the names of their
+    # values, and the arguments in whose place they stand
+    local -A options=(
+@OPTIONS@
+    )
+    local -A arguments=(
+@ARGUMENTS@
+    )
+    local -A words=(
+@WORDS@
+    )
+    local -A values=(@VALUES@)
+    local -A instead=(@INSTEAD@)
+    local current=${COMP_WORDS[COMP_CWORD]} command=@NAME@ value= dropped= seen=0 candidates word at
+    local -a left=(command)
+
+    # what the words up to the current one say; those behind the first argument are arguments, whatever they look like
+    for ((at = 1; at < COMP_CWORD; at++)); do
+        word=${COMP_WORDS[at]}
+        if [[ $value ]]; then
+            [[ $word == = ]] || value=
+        elif [[ $seen == 0 && $word == -* && " ${options[$command]} " == *" $word "* ]]; then
+            value=${values[$word]}
+            dropped+=" ${instead[$word]} "
+        elif [[ $command == @NAME@ ]]; then
+            command=$word
+            left=()
+            for word in ${arguments[$command]}; do
+                [[ $dropped == *" $word "* ]] || left+=("$word")
+            done
+        else
+            seen=1
+            left=("${left[@]:1}")
+        fi
+    done
+
+    COMPREPLY=()
+    [[ $current != = ]] || current=
+    if [[ $value == PATH || $value == FILE ]]; then
+        compopt -o filenames 2> /dev/null
+        mapfile -t COMPREPLY < <(compgen -f -- "$current")
+    elif [[ ! $value ]]; then
+        candidates=${words[${left[0]:--}]}
+        [[ $current != -* || $seen == 1 ]] || candidates=${options[$command]}
+        mapfile -t COMPREPLY < <(compgen -W "$candidates" -- "$current")
+    fi
+}
+complete -F _@NAME@ @NAME@
+"""
+
+
+def bash(program):
+    def rows(table):
+        return "\n".join(f"        [{name}]={shlex.quote(text)}" for name, text in table.items() if text)
+
+    def pairs(table):
+        return " ".join(f"[{name}]={text}" for name, text in table.items() if text)
+
+    options = [it for call in [program.itself, *program.commands.values()] for it in call.options]
+    return filled(
+        BASH, program,
+        options=rows({program.name: spellings(program.itself.options), **{name: spellings(call.options) for name, call in program.commands.items()}}),
+        arguments=rows({name: " ".join(call.arguments) for name, call in program.commands.items()}),
+        words=rows({name: " ".join(its) for name, its in program.words.items()}),
+        values=pairs({word: it.value for it in options for word in it.spellings}),
+        instead=pairs({word: it.instead for it in options for word in it.spellings}),
+    )
+
+
+ZSH = """\
+#compdef @NAME@
+# Completes the words of @NAME@ in zsh. Made by tools/completion.py of what the program says of itself.
+_@NAME@()
+{
+    local curcontext=$curcontext state line name
+    local -A opt_args given
+    local -a options left arguments
+    local -A words_of=(
+@WORDS@
+    )
+
+    _arguments -C -A '-*' \\
+@ITSELF@
+        '1:command:->command' '*::argument:->argument' && return
+    given=("${(@kv)opt_args}")
+    case $state in
+    command)
+        left=(
+@COMMANDS@
+        )
+        _describe command left
+        ;;
+    argument)
+        options=('(-h --help)'{-h,--help}'[Print help]')
+        case $words[1] in
+@ARGUMENTS@
+        esac
+@INSTEAD@
+        for name in $left; do
+            arguments+=("$(($#arguments + 1)):$name:${words_of[$name]- }")
+        done
+        _arguments $options $arguments
+        ;;
+    esac
+}
+_@NAME@ "$@"
+"""
+
+
+def zsh(program):
+    def quoted(text):
+        return shlex.quote(text).replace("'\"'\"'", r"'\''")
+
+    def spec(it):
+        """An option as _arguments takes it."""
+        about = re.sub(r"([\[\]:])", r"\\\1", it.about)
+        if it.value:
+            return " ".join(quoted(f"{word}=[{about}]:{it.value}:{'_files' if it.value in FILES else ' '}") for word in it.spellings)
+        if len(it.spellings) == 1:
+            return quoted(f"{it.spellings[0]}[{about}]")
+        return quoted(f"({' '.join(it.spellings)})") + "{" + ",".join(it.spellings) + "}" + quoted(f"[{about}]")
+
+    def case(name, call):
+        own = [spec(it) for it in call.options if "--help" not in it.spellings]
+        more = "".join(f"\n                {it}" for it in own)
+        acts = ([f"options+=({more}\n            )"] if own else []) + ([f"left=({' '.join(call.arguments)})"] if call.arguments else [])
+        return "\n".join([f"        {name})", *[f"            {act}" for act in acts], "            ;;"]) if acts else None
+
+    def action(its):
+        """What completes an argument: its words alone, or each with what it is for."""
+        told = " ".join(f"{word}\\:{shlex.quote(about)}" if about else word for word, about in its.items())
+        return f"(({told}))" if any(its.values()) else f"({told})"
+
+    return filled(
+        ZSH, program,
+        words="\n".join(f"        {name} {quoted(action(its))}" for name, its in program.words.items() if name != "command"),
+        itself="\n".join(f"        {spec(it)} \\" for it in program.itself.options),
+        commands="\n".join("            " + quoted(f"{name}:{call.about}") for name, call in program.commands.items()),
+        arguments="\n".join(filter(None, (case(name, call) for name, call in program.commands.items()))),
+        instead="\n".join(f"        (( $+given[{it.spellings[0]}] )) && left=(${{left:#{it.instead}}})" for it in program.itself.options if it.instead),
+    )
+
+
+FISH = """\
+# Completes the words of @NAME@ in fish. Made by tools/completion.py of what the program says of itself.
+
+# Whether this is what comes next: `command`, or behind one the name of its argument, or `in COMMAND`.
+function __@NAME@_at
+    set -l words (commandline -opc)
+    set -e words[1]
+    set -l left command
+    set -l command @NAME@
+    set -l dropped
+    while set -q words[1]
+        set -l word $words[1]
+        set -e words[1]
+        if test $command != @NAME@
+            set -e left[1]
+            continue
+        end
+        switch $word
+@VALUES@
+            case '-*'
+                continue
+            case '*'
+                set command $word
+                set left
+        end
+        switch $command
+@ARGUMENTS@
+        end
+        for name in $dropped
+            set left (string match -v -- $name $left)
+        end
+    end
+    test "$left[1]" = "$argv[1]"; or test "in $command" = "$argv"
+end
+
+complete -c @NAME@ -f
+@OPTIONS@
+@WORDS@
+"""
+
+
+def fish(program):
+    def quoted(text):
+        return "'" + text.replace("\\", "\\\\").replace("'", "\\'") + "'"
+
+    def row(condition, it):
+        names = " ".join(f"-l {word[2:]}" if word.startswith("--") else f"-s {word[1:]}" for word in it.spellings)
+        value = " -r -F" if it.value in FILES else " -x" if it.value else ""
+        return f"complete -c {program.name} -n {quoted(f'__{program.name}_at {condition}')} {names}{value} -d {quoted(it.about)}"
+
+    def case(words, *acts):
+        return "\n".join([f"            case {words}", *[f"                {act}" for act in acts]])
+
+    values = []
+    for it in program.itself.options:
+        if it.instead:
+            values.append(case(it.spellings[0], f"set -a dropped {it.instead}", "set -e words[1]", "continue"))
+            values.append(case(f"'{it.spellings[0]}=*'", f"set -a dropped {it.instead}", "continue"))
+    others = " ".join(word for it in program.itself.options if it.value and not it.instead for word in it.spellings)
+    values += [case(others, "set -e words[1]", "continue")] if others else []
+    rows = [row("command", it) for it in program.itself.options]
+    rows += [row(f"in {name}", it) for name, call in program.commands.items() for it in call.options]
+    words = []
+    for name, its in program.words.items():
+        head = f"complete -c {program.name} -n {quoted(f'__{program.name}_at {name}')}"
+        words += [f"{head} -a {word}" + (f" -d {quoted(about)}" if about else "") for word, about in its.items()]
+    return filled(
+        FISH, program,
+        values="\n".join(values),
+        arguments="\n".join(case(name, f"set left {' '.join(call.arguments)}") for name, call in program.commands.items() if call.arguments),
+        options="\n".join(rows),
+        words="\n".join(words),
+    )
+
+
+SHELLS = {"{}.bash": bash, "_{}": zsh, "{}.fish": fish}
+
+
+def made_of(program):
+    """The files for a program, by their names."""
+    return {file.format(program.name): make(program) for file, make in SHELLS.items()}
+
+
+if __name__ == "__main__":
+    if len(sys.argv) != 3:
+        sys.exit("usage: completion.py FOLDER OUT")
+    for name in PROGRAMS:
+        for file, text in made_of(read_program(pathlib.Path(sys.argv[1]) / name)).items():
+            (pathlib.Path(sys.argv[2]) / file).write_text(text)
