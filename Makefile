@@ -9,7 +9,15 @@ PROGRAMS := $(patsubst crates/%/src/main.rt,%,$(wildcard crates/*/src/main.rt))
 # The folder from which programs are taken. In build/ what is missing or old is built first; those of another one are taken as they are.
 BUILT = build
 
-.PHONY: all bench quick check demo completion clean help toolchain
+# Where `make install` puts what: below PREFIX, and for a package below DESTDIR in turn.
+PREFIX = /usr/local
+DESTDIR =
+ZSH_DIR = $(PREFIX)/share/zsh/site-functions
+# the first folder below PREFIX in which this machine's Python looks for modules
+PYTHON_DIR = $(shell python3 -c 'import site, sys; \
+	print(next((it for it in site.getsitepackages() if it.startswith(sys.argv[1])), sys.argv[1] + "python3/dist-packages"))' '$(PREFIX)/lib/')
+
+.PHONY: all bench quick check demo install uninstall completion clean help toolchain
 
 all: $(addprefix build/,$(PROGRAMS))  ## Prove and build the programs, into build/
 
@@ -21,7 +29,8 @@ bench: all  ## Prove and build the programs, and build their peers in C, into bu
 SOURCES := $(shell find crates -path '*/out' -prune -o -type f \( -name '*.rt' -o -name '*.antt' \) -print) crates.txt
 
 # The log has a verdict for each library too; the last one is the program's.
-build/%: $(SOURCES) | toolchain
+build/%: $(SOURCES)
+	@$(MAKE) --no-print-directory toolchain
 	@mkdir -p build
 	@echo "Proving and building $*; the first time takes some minutes (build/$*.log)"
 	@rm -f crates/$*/out/$*
@@ -45,6 +54,18 @@ quick: toolchain  ## Check what changed since the last time, over kept work, in 
 
 check: toolchain  ## Prove every crate from nothing and pass all tests; the last line counts them
 	@bash tests/check.sh
+
+# The library for keyutils' own programs.
+$(BUILT)/libkeyutils.so.1: $(wildcard clients/keyutils/*) clients/c/reqkey.c clients/c/reqkey.h
+	@$(MAKE) --no-print-directory -C clients/keyutils OUT=$(abspath $(BUILT))
+
+INSTALL = BUILT='$(BUILT)' PREFIX='$(PREFIX)' DESTDIR='$(DESTDIR)' ZSH_DIR='$(ZSH_DIR)' PYTHON_DIR='$(PYTHON_DIR)' packaging/install.sh
+
+install: $(addprefix $(BUILT)/,$(PROGRAMS)) $(BUILT)/libkeyutils.so.1  ## Install what is built, below PREFIX=/usr/local (docs/INSTALL.md)
+	@$(INSTALL) install
+
+uninstall:  ## Remove what make install has put there
+	@$(INSTALL) uninstall
 
 completion: $(addprefix $(BUILT)/,$(PROGRAMS))  ## Write packaging/completion/ anew, of what the programs say of themselves
 	@tools/completion.py $(BUILT) packaging/completion

@@ -14,6 +14,7 @@ import time
 import crates
 
 kept = crates.top / "build" / "quick"
+OF_PROGRAMS = ["replay", "words", "client", "clients", "keyutils", "serve", "manuals", "completion", "install"]
 
 
 def call(*words, cwd=crates.top, **more):
@@ -67,7 +68,7 @@ def main():
         if not call("make"):
             return "a program is not built"
         programs = {**os.environ, "PROGRAMS": "build"}
-        if not all(call(f"tests/test_{it}.py", env=programs) for it in ["replay", "words", "client", "clients", "keyutils", "serve", "manuals", "completion"]):
+        if not all(call(f"tests/test_{it}.py", env=programs) for it in OF_PROGRAMS):
             return "a test of a program failed"
     print("nothing that changed fails")
     return 0

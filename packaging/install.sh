@@ -1,0 +1,68 @@
+#!/usr/bin/env bash
+# Installs the programs and what belongs to them, or removes it again: install.sh install, install.sh uninstall. `make` calls it, with these in the
+# environment.
+#
+#   BUILT       the folder that has the programs and libkeyutils.so.1
+#   PREFIX      below which everything goes
+#   DESTDIR     put before all of that, for a package
+#   PYTHON_DIR  where Python finds modules
+#   ZSH_DIR     where zsh finds functions
+set -euo pipefail
+cd "$(dirname "$0")/.."
+
+room=$(mktemp -d)
+trap 'rm -rf "$room"' EXIT
+
+# Installs a file with this mode at this place, or removes it.
+put() {
+    local mode=$1 source=$2 target=$DESTDIR$3
+    if [[ $act == install ]]; then
+        install -D -m "$mode" "$source" "$target"
+    else
+        rm -f "$target"
+    fi
+}
+
+# The same for a text that names what is installed.
+put_text() {
+    sed "s|/usr/local/|$PREFIX/|g" "$1" > "$room/text"
+    put 644 "$room/text" "$2"
+}
+
+# All that is installed.
+everything() {
+    local share=$PREFIX/share
+    local examples=$share/doc/reqkeyd/examples
+    local name
+
+    for name in reqkeyd reqkeyctl; do
+        put 755 "$BUILT/$name" "$PREFIX/bin/$name"
+        put 644 "packaging/completion/$name.bash" "$share/bash-completion/completions/$name"
+        put 644 "packaging/completion/$name.fish" "$share/fish/vendor_completions.d/$name.fish"
+        put 644 "packaging/completion/_$name" "$ZSH_DIR/_$name"
+    done
+    for name in man/*; do
+        put 644 "$name" "$share/man/man${name##*.}/${name##*/}"
+    done
+    for name in system user; do
+        put_text "packaging/systemd/$name/reqkeyd.service" "$PREFIX/lib/systemd/$name/reqkeyd.service"
+    done
+    put_text packaging/reqkeyd.conf "$examples/reqkeyd.conf"
+
+    # clients: C has its header and a source to be compiled with a program, Python its module, and keyutils' programs their library
+    put 644 clients/c/reqkey.h "$PREFIX/include/reqkey.h"
+    put 644 clients/c/reqkey.c "$share/reqkeyd/reqkey.c"
+    put 644 clients/python/reqkey.py "$PYTHON_DIR/reqkey.py"
+    put 644 "$BUILT/libkeyutils.so.1" "$PREFIX/lib/reqkeyd/libkeyutils.so.1"
+    for name in clients/*/example_*; do
+        put 644 "$name" "$examples/${name##*/}"
+    done
+}
+
+act=$1
+everything
+if [[ $act == uninstall ]]; then
+    for folder in lib/reqkeyd share/reqkeyd share/doc/reqkeyd/examples share/doc/reqkeyd; do
+        rmdir --ignore-fail-on-non-empty "$DESTDIR$PREFIX/$folder" 2> /dev/null || true
+    done
+fi

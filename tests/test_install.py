@@ -1,0 +1,168 @@
+#!/usr/bin/env python3
+"""Installs the built programs into empty folders by `make install`, looks at what is there, and uses it from there.
+
+The toolchain is not on the PATH meanwhile: what is built is installed without it.
+"""
+import os
+import pathlib
+import shutil
+import subprocess
+import sys
+import tempfile
+
+from counted import Counted
+from programs import built, top
+
+count = Counted()
+LIMIT = 120
+PATH = {"PATH": f"{pathlib.Path(sys.executable).parent}:/usr/local/bin:/usr/bin:/bin:/usr/sbin:/sbin", "LC_ALL": "C.UTF-8"}
+
+# What is installed, below a PREFIX; the module of Python and the functions of zsh have their place by options.
+PYTHON, ZSH = "lib/python3/dist-packages", "share/zsh/site-functions"
+FILES = {
+    "bin/reqkeyctl": 0o755,
+    "bin/reqkeyd": 0o755,
+    "include/reqkey.h": 0o644,
+    f"{PYTHON}/reqkey.py": 0o644,
+    "lib/reqkeyd/libkeyutils.so.1": 0o644,
+    "lib/systemd/system/reqkeyd.service": 0o644,
+    "lib/systemd/user/reqkeyd.service": 0o644,
+    "share/bash-completion/completions/reqkeyctl": 0o644,
+    "share/bash-completion/completions/reqkeyd": 0o644,
+    "share/doc/reqkeyd/examples/example_client.c": 0o644,
+    "share/doc/reqkeyd/examples/example_client.py": 0o644,
+    "share/doc/reqkeyd/examples/example_handler.c": 0o644,
+    "share/doc/reqkeyd/examples/example_handler.py": 0o644,
+    "share/doc/reqkeyd/examples/reqkeyd.conf": 0o644,
+    "share/fish/vendor_completions.d/reqkeyctl.fish": 0o644,
+    "share/fish/vendor_completions.d/reqkeyd.fish": 0o644,
+    "share/man/man1/reqkeyctl.1": 0o644,
+    "share/man/man5/reqkeyd.conf.5": 0o644,
+    "share/man/man8/reqkeyd.8": 0o644,
+    "share/reqkeyd/reqkey.c": 0o644,
+    f"{ZSH}/_reqkeyctl": 0o644,
+    f"{ZSH}/_reqkeyd": 0o644,
+}
+
+
+def run(*words, **more):
+    """Status, output and errors of a command."""
+    ran = subprocess.run(words, stdin=subprocess.DEVNULL, capture_output=True, text=True, timeout=LIMIT, **{"env": PATH, **more})
+    return ran.returncode, ran.stdout, ran.stderr
+
+
+def make(*words):
+    """Calls make for the programs of a folder; its status, and what is said of faults."""
+    status, _, errors = run("make", "-s", "-C", top, *words)
+    return status, errors
+
+
+def files(root):
+    """The files below a folder, with their modes."""
+    return {str(path.relative_to(root)): path.stat().st_mode & 0o7777 for path in root.rglob("*") if path.is_file()}
+
+
+def serves(prefix, conf):
+    """The installed programs do what the example configuration says."""
+    with tempfile.TemporaryDirectory() as room:
+        socket = f"{room}/socket"
+        words = [prefix / "bin" / "reqkeyd", "serve", "--socket", socket, "--conf", conf, "--clients", "2"]
+        daemon = subprocess.Popen(words, stdin=subprocess.DEVNULL, stdout=subprocess.DEVNULL, stderr=subprocess.PIPE, text=True, env=PATH)
+        try:
+            said = daemon.stderr.readline()
+            if said != "reqkeyd: ready\n":
+                return said
+            client = [prefix / "bin" / "reqkeyctl", "--socket", socket, "--uid", "1000"]
+            key = run(*client, "request", "user", "debug:a", "user", "hello")
+            payload = run(*client, "read", key[1].strip())
+            return key[0], payload, daemon.wait(LIMIT)
+        finally:
+            daemon.kill()
+            daemon.wait()
+            daemon.stderr.close()
+
+
+def used(name, prefix, python=PYTHON):
+    """What was installed is tried where it is: the programs, the clients, and what completes words."""
+    for program in ["reqkeyd", "reqkeyctl"]:
+        count.same(f"{name}: {program}", run(prefix / "bin" / program, "--version"), (0, f"{program} 0.1.0\n", ""))
+        completes = run("bash", "-c", f"source {prefix}/share/bash-completion/completions/{program} && complete -p {program}")
+        count.same(f"{name}: completion of {program}", completes, (0, f"complete -F _{program} {program}\n", ""))
+    examples = prefix / "share" / "doc" / "reqkeyd" / "examples"
+    count.same(f"{name}: the example configuration", serves(prefix, examples / "reqkeyd.conf"), (0, (0, "hello\n", ""), 0))
+    usage = run(sys.executable, "-B", examples / "example_client.py", env={**PATH, "PYTHONPATH": str(prefix / python)})
+    count.same(f"{name}: the client in Python", usage, (2, "", "usage: example_client.py SOCKET TYPE DESCRIPTION [CALLOUT]\n"))
+    with tempfile.TemporaryDirectory() as room:
+        client = f"{room}/client"
+        sources = [examples / "example_client.c", prefix / "share" / "reqkeyd" / "reqkey.c"]
+        count.same(f"{name}: the client in C", run("gcc", "-I", prefix / "include", "-o", client, *sources), (0, "", ""))
+        count.same(f"{name}: the client in C runs", run(client)[0], 2)
+    library = prefix / "lib" / "reqkeyd" / "libkeyutils.so.1"
+    count.same(f"{name}: keyutils' library", run(sys.executable, "-c", f"import ctypes; ctypes.CDLL('{library}').add_key"), (0, "", ""))
+
+
+def verified(prefix):
+    """What systemd itself finds in the units, which name the programs below this prefix."""
+    if not shutil.which("systemd-analyze"):
+        print("the units: not tried, there is no systemd-analyze")
+        return
+    for manager in ["system", "user"]:
+        with tempfile.TemporaryDirectory() as room:
+            environment = {**PATH, "HOME": room, "XDG_RUNTIME_DIR": room}
+            unit = prefix / "lib" / "systemd" / manager / "reqkeyd.service"
+            commands = [line.split(" ")[0] for line in unit.read_text().split("\n") if line.startswith("Exec")]
+            count.same(f"command of the unit of the {manager}", commands, [f"ExecStart={prefix}/bin/reqkeyd"])
+            found = run("systemd-analyze", f"--{manager}", "verify", "--man=no", "--recursive-errors=no", unit, env=environment)
+            count.same(f"unit of the {manager}", found, (0, "", ""))
+
+
+def by_make(ours, room):
+    """make install, into a root of its own, and make uninstall, which leaves what others have put there."""
+    root = room / "root"
+    options = [f"BUILT={ours}", f"DESTDIR={root}", f"PYTHON_DIR=/usr/local/{PYTHON}"]
+    count.same("make install", make("install", *options), (0, ""))
+    count.same("what is installed", files(root), {f"usr/local/{name}": mode for name, mode in FILES.items()})
+    named = [line for path in root.rglob("reqkeyd.service") for line in path.read_text().split("\n") if line.startswith("ExecStart=/usr/local/bin/reqkeyd ")]
+    count.same("programs of the units", len(named), 2)
+    other = root / "usr" / "local" / "share" / "doc" / "reqkeyd" / "NOTES"
+    other.touch()
+    count.same("make uninstall", make("uninstall", *options), (0, ""))
+    count.same("what is left", list(files(root)), ["usr/local/share/doc/reqkeyd/NOTES"])
+    count.same("folders of our own", [it for it in ["share/reqkeyd", "lib/reqkeyd"] if (root / "usr" / "local" / it).exists()], [])
+
+    prefix = room / "prefix"
+    options = [f"BUILT={ours}", f"PREFIX={prefix}", f"PYTHON_DIR={prefix}/{PYTHON}"]
+    count.same("make install below a prefix", make("install", *options), (0, ""))
+    count.same("what is below it", files(prefix), FILES)
+    used("prefix", prefix)
+    verified(prefix)
+    count.same("make uninstall below a prefix", (make("uninstall", *options), files(prefix)), ((0, ""), {}))
+    for name in ["reqkeyd", "reqkeyctl"]:
+        lacking = room / f"without-{name}"
+        shutil.copytree(ours, lacking)
+        (lacking / name).unlink()
+        status, errors = make("install", f"BUILT={lacking}", f"DESTDIR={room}/nothing")
+        count.same(f"without {name}", (status, (room / "nothing").exists()), (2, False))
+
+
+def main():
+    programs = [built(name)[0] for name in ["reqkeyd", "reqkeyctl"]]
+    lacking = [it for it in ["make", "gcc"] if not shutil.which(it)]
+    if lacking:
+        print(f"installing: not tried, there is no {lacking[0]}")
+        return
+    for program in programs:
+        count.same(f"{program} is built", program.exists(), True)
+    if all(program.exists() for program in programs):
+        with tempfile.TemporaryDirectory() as folder:
+            room = pathlib.Path(folder)
+            ours = room / "built"
+            ours.mkdir()
+            for program in programs:
+                shutil.copy(program, ours)
+            by_make(ours, room)
+
+
+os.umask(0o022)
+main()
+count.end()
