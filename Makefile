@@ -9,15 +9,16 @@ PROGRAMS := $(patsubst crates/%/src/main.rt,%,$(wildcard crates/*/src/main.rt))
 # The folder from which programs are taken. In build/ what is missing or old is built first; those of another one are taken as they are.
 BUILT = build
 
-# Where `make install` puts what: below PREFIX, and for a package below DESTDIR in turn.
+# Where `make install` puts what: below PREFIX, and that below DESTDIR; and where `make deb` puts its package.
 PREFIX = /usr/local
 DESTDIR =
+PACKAGES = build
 ZSH_DIR = $(PREFIX)/share/zsh/site-functions
 # the first folder below PREFIX in which this machine's Python looks for modules
 PYTHON_DIR = $(shell python3 -c 'import site, sys; \
 	print(next((it for it in site.getsitepackages() if it.startswith(sys.argv[1])), sys.argv[1] + "python3/dist-packages"))' '$(PREFIX)/lib/')
 
-.PHONY: all bench quick check demo install uninstall completion clean help toolchain
+.PHONY: all bench quick check demo install uninstall deb completion clean help toolchain
 
 all: $(addprefix build/,$(PROGRAMS))  ## Prove and build the programs, into build/
 
@@ -66,6 +67,9 @@ install: $(addprefix $(BUILT)/,$(PROGRAMS)) $(BUILT)/libkeyutils.so.1  ## Instal
 
 uninstall:  ## Remove what make install has put there
 	@$(INSTALL) uninstall
+
+deb: $(addprefix $(BUILT)/,$(PROGRAMS)) $(BUILT)/libkeyutils.so.1  ## Make a Debian package of the same, into build/
+	@BUILT='$(BUILT)' PACKAGES='$(PACKAGES)' packaging/debian/build.sh
 
 completion: $(addprefix $(BUILT)/,$(PROGRAMS))  ## Write packaging/completion/ anew, of what the programs say of themselves
 	@tools/completion.py $(BUILT) packaging/completion

@@ -9,6 +9,7 @@
 #   ZSH_DIR     where zsh finds functions
 set -euo pipefail
 cd "$(dirname "$0")/.."
+umask 022
 
 room=$(mktemp -d)
 trap 'rm -rf "$room"' EXIT

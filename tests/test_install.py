@@ -1,10 +1,12 @@
 #!/usr/bin/env python3
-"""Installs the built programs into empty folders by `make install`, looks at what is there, and uses it from there.
+"""Installs the built programs into empty folders, by `make install` and from the Debian package, looks at what is there, and uses it from there.
 
 The toolchain is not on the PATH meanwhile: what is built is installed without it.
 """
+import gzip
 import os
 import pathlib
+import re
 import shutil
 import subprocess
 import sys
@@ -134,6 +136,7 @@ def by_make(ours, room):
     options = [f"BUILT={ours}", f"PREFIX={prefix}", f"PYTHON_DIR={prefix}/{PYTHON}"]
     count.same("make install below a prefix", make("install", *options), (0, ""))
     count.same("what is below it", files(prefix), FILES)
+    count.same("its folders", {path.stat().st_mode & 0o7777 for path in prefix.rglob("*") if path.is_dir()}, {0o755})
     used("prefix", prefix)
     verified(prefix)
     count.same("make uninstall below a prefix", (make("uninstall", *options), files(prefix)), ((0, ""), {}))
@@ -143,6 +146,44 @@ def by_make(ours, room):
         (lacking / name).unlink()
         status, errors = make("install", f"BUILT={lacking}", f"DESTDIR={room}/nothing")
         count.same(f"without {name}", (status, (room / "nothing").exists()), (2, False))
+
+
+def by_package(ours, room):
+    """make deb, and what its package has; its programs run from where it was unpacked."""
+    if not shutil.which("dpkg-deb"):
+        print("the package: not tried, there is no dpkg-deb")
+        return
+    status, printed, errors = run("make", "-s", "-C", top, "deb", f"BUILT={ours}", f"PACKAGES={room}/packages")
+    package = pathlib.Path(printed.strip())
+    architecture = run("dpkg", "--print-architecture")[1].strip()
+    count.same("make deb", (status, errors, package), (0, "", room / "packages" / f"reqkeyd_0.1.0_{architecture}.deb"))
+    if status:
+        return
+    fields = dict(line.split(": ", 1) for line in run("dpkg-deb", "--field", package)[1].split("\n") if line and line[0] != " ")
+    wanted = {"Package": "reqkeyd", "Version": "0.1.0", "Architecture": architecture}
+    count.same("fields of the package", {name: fields.get(name) for name in wanted}, wanted)
+    count.same("its version of the C library", bool(re.fullmatch(r"libc6 \(>= 2\.\d+(\.\d+)?\)", fields["Depends"])), True)
+    owners = {line.split()[1] for line in run("dpkg-deb", "--contents", package)[1].split("\n") if line}
+    count.same("owners in the package", owners, {"root/root"})
+
+    root = room / "unpacked"
+    count.same("unpacking", run("dpkg-deb", "--extract", package, root), (0, "", ""))
+    wanted = {f"usr/{name}".replace(ZSH, "share/zsh/vendor-completions") + (".gz" if "/man/" in name else ""): mode for name, mode in FILES.items()}
+    count.same("files of the package", files(root), wanted | {"usr/share/doc/reqkeyd/copyright": 0o644})
+    page = root / "usr" / "share" / "man" / "man8" / "reqkeyd.8.gz"
+    count.same("manual page", gzip.decompress(page.read_bytes()), (top / "man" / "reqkeyd.8").read_bytes())
+    commands = [line for path in root.rglob("reqkeyd.service") for line in path.read_text().split("\n") if line.startswith("ExecStart=/usr/bin/reqkeyd ")]
+    count.same("programs of its units", len(commands), 2)
+    count.same("control of the package", run("dpkg-deb", "--control", package, room / "control"), (0, "", ""))
+    sums = run("md5sum", "--check", "--quiet", room / "control" / "md5sums", cwd=root)
+    count.same("sums", (sums, len((room / "control" / "md5sums").read_text().splitlines())), ((0, "", ""), len(FILES) + 1))
+    count.same("nothing is run", sorted(it.name for it in (room / "control").iterdir()), ["control", "md5sums"])
+    used("package", root / "usr")
+
+    first = package.read_bytes()
+    package.unlink()
+    count.same("make deb again", run("make", "-s", "-C", top, "deb", f"BUILT={ours}", f"PACKAGES={room}/packages")[0], 0)
+    count.same("the same bytes", package.exists() and package.read_bytes() == first, True)
 
 
 def main():
@@ -161,8 +202,9 @@ def main():
             for program in programs:
                 shutil.copy(program, ours)
             by_make(ours, room)
+            by_package(ours, room)
 
 
-os.umask(0o022)
+os.umask(0o077)  # what is installed is for everyone, whoever installs it
 main()
 count.end()
