@@ -18,7 +18,7 @@ ZSH_DIR = $(PREFIX)/share/zsh/site-functions
 PYTHON_DIR = $(shell python3 -c 'import site, sys; \
 	print(next((it for it in site.getsitepackages() if it.startswith(sys.argv[1])), sys.argv[1] + "python3/dist-packages"))' '$(PREFIX)/lib/')
 
-.PHONY: all bench quick check demo install uninstall deb completion clean help toolchain
+.PHONY: all bench quick check demo install uninstall deb completion pictures clean help toolchain
 
 all: $(addprefix build/,$(PROGRAMS))  ## Prove and build the programs, into build/
 
@@ -73,6 +73,9 @@ deb: $(addprefix $(BUILT)/,$(PROGRAMS)) $(BUILT)/libkeyutils.so.1  ## Make a Deb
 
 completion: $(addprefix $(BUILT)/,$(PROGRAMS))  ## Write packaging/completion/ anew, of what the programs say of themselves
 	@tools/completion.py $(BUILT) packaging/completion
+
+pictures:  ## Draw docs/pictures/ anew, of crates.txt and the tables of tools/picture.py
+	@tools/picture.py docs/pictures
 
 clean:  ## Remove what make and the toolchain made
 	rm -rf build crates/*/out
