@@ -4,6 +4,11 @@ use denote.Param.Send.{IsSend, IsSync, sendable, struct_send, struct_sync, recor
 use denote.Struct.Struct.{Struct}
 use denote.Struct.Declared.{shape}
 use Rattle.std.proofs.Crossing.{crosses}
+use Rattle.rk_names.specs.contracts.type_name.TypeName as typ
+use Rattle.rk_names.specs.contracts.description.Description as description
+use Rattle.rk_conf.specs.contracts.word.Word as word
+use Rattle.rk_conf.specs.contracts.argument.Wanted as wanted
+use Rattle.rk_conf.specs.contracts.argument.Argument as argument
 use Rattle.rk_conf.specs.contracts.conf.Conf as conf
 use Rattle.rk_conf.specs.contracts.line.Line as line
 use Rattle.rk_hall.specs.declared.names.Names as names
@@ -11,11 +16,41 @@ use Rattle.rk_hall.specs.contracts.halls.Halls as halls
 use Rattle.rk_hall.proofs.Crossing.{lock_send, lock_sync}
 use Rattle.rk_daemon.specs.contracts.workers.Shared as shared
 
+typ_send : IsSend typ.the_row
+typ_send = search (sendable, crosses) depth 40 fits 20000
+
+description_send : IsSend description.the_row
+description_send = search (sendable, crosses) depth 40 fits 20000
+
+word_send : IsSend word.the_row
+word_send = search (sendable, crosses) depth 40 fits 20000
+
+wanted_send : IsSend wanted.the_row
+wanted_send = let t = typ_send in let d = description_send in search (sendable, crosses) depth 40 fits 20000
+
+argument_send : IsSend argument.the_row
+argument_send = let n = wanted_send in let w = word_send in search (sendable, crosses) depth 40 fits 20000
+
 line_send : IsSend line.the_row
-line_send = search (sendable, crosses) depth 40 fits 20000
+line_send = let w = word_send in let a = argument_send in search (sendable, crosses) depth 40 fits 20000
+
+typ_sync : IsSync typ.the_row
+typ_sync = search (sendable, crosses) depth 40 fits 20000
+
+description_sync : IsSync description.the_row
+description_sync = search (sendable, crosses) depth 40 fits 20000
+
+word_sync : IsSync word.the_row
+word_sync = search (sendable, crosses) depth 40 fits 20000
+
+wanted_sync : IsSync wanted.the_row
+wanted_sync = let t = typ_sync in let d = description_sync in search (sendable, crosses) depth 40 fits 20000
+
+argument_sync : IsSync argument.the_row
+argument_sync = let n = wanted_sync in let w = word_sync in search (sendable, crosses) depth 40 fits 20000
 
 line_sync : IsSync line.the_row
-line_sync = search (sendable, crosses) depth 40 fits 20000
+line_sync = let w = word_sync in let a = argument_sync in search (sendable, crosses) depth 40 fits 20000
 
 pub conf_send : IsSend conf.the_row
 conf_send = let l = line_send in search (sendable, crosses) depth 40 fits 20000
