@@ -1,11 +1,16 @@
 """One session of the daemon beside `reqkeyd replay`: the same asks get the same replies, where a serial of the one is four times that of the other."""
+import functools
 import random
 import struct
 import subprocess
+import sys
 
 import protocol_peer as ask
 from daemon import LIMIT, Daemon, told
-from programs import differs
+from programs import differs, top
+
+sys.path.insert(0, str(top / "tools"))
+from messages import read_ask
 
 CONF = ["create user p:* * |/bin/cat", "create user f:* x* |/bin/false", "create t * * |/bin/cat", "negate user f:n* * /bin/true"]
 FOREVER = 4294967295
@@ -59,26 +64,33 @@ class Made:
 
 
 # where the serials of keys and rings stand in a body, from its end on for negative numbers
-SERIALS = {2: [-4], 3: [1], 4: [1, -4], 5: [1, -4], 6: [1, -4], 7: [1], 8: [1], 9: [1], 10: [1], 11: [1, 5], 12: [1, 5], 13: [1], 15: [-4]}
+SERIALS = {
+    1: [10], 2: [-4], 3: [1], 4: [1, -4], 5: [1, -4], 6: [1, -4], 7: [1], 8: [1], 9: [1], 10: [1], 11: [1, 5], 12: [1, 5], 13: [1], 15: [-4],
+}
 
 
-def times_four(body):
-    """The body with the serials of the daemon's first hall."""
+def moved(body, first=4):
+    """The body with the serials of the daemon's first hall, where 1 of a script is this serial and each next one is greater by four."""
     changed = bytearray(body)
-    for at in SERIALS.get(body[0], []):
+    for at in SERIALS.get(body[0], []) if spells(body) else []:
         at %= len(body)
-        if at + 4 <= len(body):
-            number = struct.unpack(">i", body[at : at + 4])[0]
-            if 0 < number < 2**29:
-                changed[at : at + 4] = struct.pack(">i", 4 * number)
+        number = struct.unpack(">i", body[at : at + 4])[0]
+        if 0 < number < 2**29:
+            changed[at : at + 4] = struct.pack(">i", first + 4 * (number - 1))
     return bytes(changed)
 
 
-def a_quarter(body, reply):
+@functools.cache
+def spells(body):
+    """Whether the fields of an ask stand in the body; one in which they don't is refused, whatever its bytes."""
+    return not read_ask(body).startswith("body ")
+
+
+def moved_back(body, reply, first=4):
     """The reply with the serials of a script."""
     if isinstance(reply, tuple):
-        return tuple(it // 4 for it in reply)
-    return reply // 4 if isinstance(reply, int) and body[0] in [2, 15] else reply
+        return tuple(it and (it - first) // 4 + 1 for it in reply)
+    return (reply - first) // 4 + 1 if isinstance(reply, int) and body[0] in [2, 15] else reply
 
 
 def happens(keys, output):
@@ -92,12 +104,12 @@ def asked(daemon, made, flags):
     """The asks, the daemon's replies, and a script of both."""
     client = daemon.client(None)
     hello = ask.hello(1000, 1000, 0, flags)
-    replies = [a_quarter(hello, client.ask(hello))]
+    replies = [moved_back(hello, client.ask(hello))]
     lines = ["accept 1", f"bytes 1 {ask.frame(hello).hex()}"]
     low = high = made.greatest = 2 + flags.bit_count()
     for _ in range(ASKS):
         body, output = made.body()
-        reply = a_quarter(body, client.ask(times_four(body)))
+        reply = moved_back(body, client.ask(moved(body)))
         replies.append(reply)
         lines.append(f"bytes 1 {ask.frame(body).hex()}")
         if output is not None:

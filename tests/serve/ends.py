@@ -1,4 +1,5 @@
 """How clients, handlers and the daemon end, and what is then left."""
+import os
 import signal
 import subprocess
 
@@ -200,6 +201,56 @@ def replies_unread(program):
         return differs(client.reply(), "E126") or daemon.lives()
 
 
+def handler_leaves(program):
+    """A handler is killed while the daemon writes to it, when nothing more goes: the signal of a broken pipe doesn't end the daemon."""
+    with Daemon(program, HELD, "--negative", "0") as daemon, daemon.client() as client:
+        client.send(want(callout=b"c" * 4095))
+        handler = daemon.handler()
+        handler.ask(ask.on_key(3, handler.key))
+        os.set_blocking(handler.output, False)
+        until(lambda: not writes(handler, ask.frame(ask.CALLOUT) * 100), "a handler to which no more goes")
+        handler.is_killed()
+        return differs(client.reply(), "E126") or daemon.lives()
+
+
+def writes(handler, data):
+    try:
+        return os.write(handler.output, data)
+    except BlockingIOError:
+        return 0
+
+
+def child_keeps(program, script, early, payload):
+    """A piped program exits while a process that it has started still has one of its pipes: its output alone holds up the end."""
+    with Daemon(program, "create user p:* * |%room/program\n", "--negative", "0") as daemon, daemon.client() as client, daemon.client() as other:
+        daemon.script("program", f"#!/bin/sh\nexec 3<&0\n({script}) &\necho made\n")
+        os.mkfifo(daemon.room / "gate")
+        client.send(want(b"p:1", b"c" * 4095))
+        with open(daemon.room / "gate", "wb", buffering=0) as gate:
+            if early:
+                outcome = client.reply()
+            else:
+                until(lambda: "Z" in daemon.children().values(), "the exit of the program")
+                held = other.ask(ask.on_key(8, 16)), quiet(client)
+            gate.write(b"\n")
+        if not early:
+            outcome = client.reply() if held == (b"user;1000;building;p:1", True) else held
+        return differs((outcome, client.ask(ask.on_key(7, 16)), daemon.children()), (16, payload, {}))
+
+
+def stopped(program):
+    """The daemon is stopped and continued again and again while it serves: nobody notices."""
+    with Daemon(program, "create user p:* * |/bin/cat\n") as daemon, daemon.client() as client, daemon.client() as idle:
+        key, got = idle.ask(ask.add(b"user", b"k", b"v", -3)), []
+        for at in range(50):
+            client.send(want(b"p:%d" % at), want(b"p:%d" % at, None))
+            daemon.process.send_signal(signal.SIGSTOP)
+            idle.send(ask.on_key(7, key))
+            daemon.process.send_signal(signal.SIGCONT)
+            got.append((client.reply(), client.reply(), idle.reply()))
+        return differs(got, [(made, made, b"v") for made in range(key + 4, key + 4 + 4 * 50, 4)]) or daemon.lives()
+
+
 def waits_and_dies(program):
     """A handler is killed while it waits for another key, which goes on for its own starter."""
     with Daemon(program, HELD) as daemon, daemon.client() as client, daemon.client() as other:
@@ -292,7 +343,7 @@ def nothing_left(program):
 
 def cases():
     for try_it in [client_killed, all_clients_killed, again_after, completed_and_killed, daemon_killed, terminated, no_asks, child_goes_on, replies_unread,
-                   waits_and_dies, chain, many_wait, nothing_left]:
+                   handler_leaves, stopped, waits_and_dies, chain, many_wait, nothing_left]:
         yield try_it.__name__.replace("_", " "), try_it
     for negative in ["0", "4294967295"]:
         yield f"a handler that is killed, negative for {negative}", handler_killed, negative
@@ -300,6 +351,9 @@ def cases():
         yield f"a handler that writes {data!r}", garbage, data
     for after in [False, True]:
         yield f"output closed, complete {after}", closes_output, after
+    waits = "read line < %room/gate; echo more"
+    yield "a piped program whose child has its output", child_keeps, waits, False, b"made\nmore\n"
+    yield "a piped program whose child has its input", child_keeps, f"exec > /dev/null; {waits}", True, b"made\n"
     big = "head -c {} /dev/zero | tr '\\0' p".format
     for name, script, payload, *callout in [
         ("ignores its input", "echo made", b"made\n", b"c" * 4095),

@@ -1,8 +1,7 @@
-"""Clients that cut, flood, stall and crowd."""
+"""Clients that flood, stall and crowd."""
 import os
 import random
 import select
-import struct
 import threading
 
 import protocol_peer as ask
@@ -12,86 +11,6 @@ from programs import differs
 HELLO = ask.frame(ask.hello(1000, 1000))
 KEY = ask.frame(ask.request(b"user", b"a", b"x", -4))
 VOLUME = 8192  # steps of a volume of a hall's record
-
-
-def cut_client(program):
-    """Every proper prefix of a frame, and then the end: the frames before it are answered, and nothing else is."""
-    with Daemon(program, "create * * * |/bin/cat\n") as daemon:
-        wrong = None
-        for whole, replies, cut in [([], 0, HELLO), ([HELLO], 1, KEY), ([], 0, b"\0\1\0\0" + bytes(60_000))]:
-            for length in [*range(min(len(cut), 40)), len(cut) - 1]:
-                for shuts in [True, False]:
-                    with Client(daemon.path) as client:
-                        client.put(b"".join(whole) + cut[:length])
-                        got = client.ends() if shuts else None
-                    if shuts and len(got) != replies:
-                        wrong = wrong or f"{length} bytes: {got}"
-        return wrong or daemon.lives()
-
-
-def cut_handler(program):
-    """The same of a handler."""
-    frames = [ask.frame(ask.on_key(3, 12)), ask.frame(ask.instantiate(12, b"hi", 0))]
-    with Daemon(program, "create user h:* * %puppet %k\n", "--negative", "0") as daemon, daemon.client() as client:
-        for at, (before, cut) in enumerate([(b"", frames[0]), (frames[0], frames[1])]):
-            for length in range(len(cut)):
-                client.send(ask.request(b"user", b"h:1", b"x", -4))
-                handler = daemon.handler()
-                serial = struct.pack(">I", handler.key)
-                handler.put((before + cut).replace(struct.pack(">I", 12), serial)[: len(before) + length])
-                handler.close_output()
-                got = handler.all_input(), handler.ends(), client.reply()
-                if got[0] != ask.frame(ask.number(0)) * at or got[2] != "E126":
-                    return f"{length} bytes of frame {at}: {got}"
-        return daemon.lives()
-
-
-def byte_by_byte(program):
-    """Frames whose bytes come one by one, and several in one piece."""
-    with Daemon(program, "create user p:* * |/bin/cat\n") as daemon:
-        with daemon.client(None) as client:
-            for byte in HELLO + KEY.replace(b"\0\1a", b"\0\1b") + ask.frame(ask.on_key(7, 12)):
-                client.put(bytes([byte]))
-            first = client.ends()
-        with daemon.client(None) as client:
-            client.put(HELLO + ask.frame(ask.request(b"user", b"p:1", b"x", -4)) + ask.frame(ask.on_key(7, 20)) + ask.frame(b"\xff") * 100)
-            return differs((first, client.ends()), ([(0, 0, 4, 8), "E126", "E126"], [(0, 0, 16, 8), 20, b"x", *["E22"] * 100]))
-
-
-def bad_length(program, head):
-    """A length that no frame has: what stands before it is answered, and then the connection is closed."""
-    with Daemon(program) as daemon:
-        with daemon.client(None) as client:
-            client.put(HELLO + ask.frame(ask.add(b"user", b"k", b"v", -4)) + head)
-            got = client.rest()
-        with daemon.client(None) as client:
-            client.put(head + HELLO)
-            return differs((got, client.rest()), ([(0, 0, 4, 8), 12], [])) or daemon.lives()
-
-
-def longest(program):
-    """A frame of 65,536 bytes is read, and refused; so is one of one byte; each of the 256."""
-    with Daemon(program) as daemon, daemon.client(None) as client:
-        first = client.ask(*[bytes([op]) for op in range(256)])
-        second = client.ask(bytes(65536), ask.hello(1000), bytes(65536), ask.on_key(7, 8))
-        wanted = ["E13" if op == 16 else "E22" for op in range(256)]
-        return differs((first, second), (wanted, ["E22", (0, 0, 4, 8), "E22", "E126"]))
-
-
-def random_bytes(program):
-    """Bytes from dice, some of them in frames: every reply is one, and the daemon goes on."""
-    dice = random.Random(7)
-    with Daemon(program, "create user a* * |/bin/cat\n", "--negative", "0") as daemon:
-        for _ in range(150):
-            with Client(daemon.path) as client:
-                data = dice.choice([b"", HELLO])
-                for _ in range(dice.randrange(6)):
-                    body = dice.choice([dice.randbytes(dice.randrange(1, 60)), bytes([dice.randrange(18)]) + dice.randbytes(dice.randrange(20))])
-                    data += dice.choice([ask.frame(body), ask.frame(body), KEY, dice.randbytes(dice.randrange(9))])
-                client.put(data)
-                if dice.random() < 0.8:
-                    client.ends()
-        return daemon.lives()
 
 
 def never_reads(program):
@@ -137,6 +56,27 @@ def closes_unread(program):
         return daemon.lives()
 
 
+def client_leaves(program):
+    """Clients that leave while the daemon writes to them, when nothing more goes: the signal of a broken pipe doesn't end it."""
+    with Daemon(program, "", "--sessions", "2") as daemon, daemon.client() as other:
+        key = other.ask(ask.add(b"user", b"k", b"p" * 32767, -4))
+        data = ask.frame(ask.on_key(7, key)) * 1000
+        for _ in range(5):
+            with Client(daemon.path, 1000) as client:
+                client.socket.setblocking(False)
+                until(lambda: not sends(client, data), "a client to which no more goes")
+            if other.ask(ask.on_key(8, key)) != b"user;1000;valid;k":
+                return "another client is not answered"
+        return daemon.lives()
+
+
+def sends(client, data):
+    try:
+        return client.socket.send(data)
+    except BlockingIOError:
+        return 0
+
+
 def silent(program):
     """Clients that say nothing hold up nobody but themselves."""
     with Daemon(program) as daemon:
@@ -148,15 +88,15 @@ def silent(program):
 
 
 def come_and_go(program):
-    """Three hundred clients one after the other, of which some say something: nothing is left of them."""
+    """Ten thousand clients one after the other, of which most say nothing, some a part of HELLO, and some HELLO: nothing is left of them."""
     with Daemon(program, "create user p:* * |/bin/cat\n") as daemon:
         with daemon.client() as client:
             client.ask(ask.request(b"user", b"p:1", b"x", -4))
         before = until(lambda: (now := daemon.descriptors()) and now["socket"] == 1 and now, "one socket")
-        for at in range(300):
-            with Client(daemon.path, 1000 if at % 3 else None) as client:
-                if at % 3 == 2:
-                    client.put(HELLO[: at % 18])
+        for at in range(10_000):
+            with Client(daemon.path, None if at % 10 else 1000) as client:
+                if at % 10 == 5:
+                    client.put(HELLO[: at // 10 % 18])
         until(lambda: daemon.descriptors() == before, f"the descriptors {before}, and not {daemon.descriptors()}")
         return daemon.lives()
 
@@ -312,6 +252,24 @@ def no_descriptors(program):
         return differs((good, starved, bool(lives), isinstance(made, int), lines < 1000), ([True, True], "E126", True, True, True))
 
 
+def few_descriptors(program):
+    """It may have so few descriptors that there is none for its handlers, or just enough: what can't be started has failed, and no descriptor is lost."""
+    conf = "create user c:* * |/bin/cat\ncreate user t:* * /bin/true\ncreate user f:* * |/bin/false\nnegate * * * /bin/true\n"
+    made = []
+    for files in range(6, 14):
+        with Daemon(program, conf, "--sessions", "1", "--negative", "0", files=files) as daemon, daemon.client() as client:
+            before = daemon.descriptors()
+            asks = [ask.request(b"user", b"%s:%d" % (kind, at), b"x", -4) for kind in [b"c", b"t", b"f"] for at in range(3)]
+            replies = client.ask(*asks)
+            made.append([isinstance(it, int) for it in replies[:3]])
+            refused = {it for it in replies if not isinstance(it, int)}
+            wrong = differs((refused, set(replies[3:]), daemon.descriptors(), daemon.children()), ({"E126"}, {"E126"}, before, {}))
+            if wrong:
+                return f"{files} descriptors: {wrong}"
+    enough = made.index([True] * 3)
+    return differs(made, [[False] * 3] * enough + [[True] * 3] * (len(made) - enough)) or differs(enough > 0, True)
+
+
 def served_again(daemon):
     try:
         with Client(daemon.path, 1000) as client:
@@ -354,10 +312,8 @@ def four_halls(program):
 
 
 def cases():
-    for try_it in [cut_client, cut_handler, byte_by_byte, longest, random_bytes, never_reads, closes_unread, silent, come_and_go, rings_of_many,
-                   all_at_once, short_beside_long, same_key, crowd, no_descriptors, full_record, four_halls]:
+    for try_it in [never_reads, closes_unread, client_leaves, silent, come_and_go, rings_of_many,
+                   all_at_once, short_beside_long, same_key, crowd, no_descriptors, few_descriptors, full_record, four_halls]:
         yield try_it.__name__.replace("_", " "), try_it
-    for head in [b"\0\0\0\0", b"\0\1\0\1", b"\xff\xff\xff\xff", b"\x80\0\0\0"]:
-        yield f"the length {head.hex()}", bad_length, head
     for count in [20, 200]:
         yield f"{count} clients and one worker", one_worker, count
