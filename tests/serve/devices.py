@@ -1,0 +1,98 @@
+"""Calls of the system that fail, one in each run of the daemon: at the start they are told, and later they end what they are of, and nothing else."""
+import errno
+import os
+import shutil
+
+import protocol_peer as ask
+from daemon import Client, until
+from scenes import CONF, Gated, greeted, library, negated, nested, played_twice, said
+
+# what is told where the daemon does not start
+LINES = ["reqkeyd: conf", "reqkeyd: socket", "reqkeyd: memory"]
+
+AT_START = ["open", "read", "socket", "bind", "listen", "chmod"]
+
+# of each call what may come in place of a reply: no key, since a start or a handler has failed, or the end of a connection
+LATER = {
+    "pipe2": ["E126"], "posix_spawn": ["E126"], "waitpid": ["E126"], "waitid": ["E126"], "read": ["E126"], "write": ["E126"],
+    "recv": [None], "send": [None], "accept4": [],
+}
+
+
+def failing(program, call, count, code):
+    """A daemon in which this call fails, of all such calls the one of this number; the file `told` is there when it has."""
+    daemon = Gated(program, CONF, "--sessions", "2", "--negative", "4000000", ready=False)
+    daemon.environment = {
+        "LD_PRELOAD": library("refusing_calls"), "CALL": call, "REFUSED": str(count), "ERROR": str(code), "TOLD": str(daemon.room / "told"),
+    }
+    return daemon
+
+
+def met(daemon):
+    return (daemon.room / "told").exists()
+
+
+def begun(daemon):
+    """Whether the daemon serves; else it has ended. The line that says so may be what failed."""
+    until(lambda: daemon.lines or daemon.process.poll() is not None or met(daemon) and connects(daemon), "a first line")
+    return daemon.process.poll() is None and daemon.lines in [[], ["reqkeyd: ready"]]
+
+
+def connects(daemon):
+    try:
+        Client(daemon.path).socket.close()
+        return True
+    except OSError:
+        return False
+
+
+def play(daemon, name):
+    """A plain handler, one in another, piped ones, and a line for negate."""
+    client, replies = greeted(daemon)
+    replies += said(client, (ask.request(b"user", b"plain:first" + name, b"x", -4), int))
+    client.socket.close()
+    return replies + nested(daemon, name) + negated(daemon, name)
+
+
+def at_start(program, call, code):
+    """A call fails that the daemon makes before it serves: it says what is amiss, with status 1, and can be started again; or it serves all the same."""
+    for count in range(1, 1000):
+        with failing(program, call, count, code) as daemon:
+            if not begun(daemon):
+                status, lines = daemon.end()
+                if status != 1 or len(lines) != 1 or lines[0] not in LINES:
+                    return f"{call} {count}: status {status} {lines}"
+                daemon.environment = None
+                daemon.start()
+                until(lambda: daemon.lines, "the ready line")
+            elif not met(daemon):
+                return None
+            if wrong := daemon.lives():
+                return f"{call} {count}: {wrong}"
+    return "it never ends"
+
+
+def later(program, call, code):
+    """A call fails while the daemon serves: what may come of it comes, and behind it all is as told. No descriptor is left."""
+    count, more = 1, True
+    while more:
+        with failing(program, call, count, code) as daemon:
+            if begun(daemon):
+                early, before = met(daemon), until(lambda: (now := daemon.descriptors()) and now["socket"] == 1 and now, "one socket")
+                _, wrong = played_twice(daemon, play, [] if early else LATER[call])
+                until(lambda: daemon.descriptors() == before, f"the descriptors {before}, and not {daemon.descriptors()}")
+                if wrong:
+                    return f"{call} {count}, {wrong}"
+                more = met(daemon)
+        count += 1 if "EVERY" in os.environ else 1 + count // 4
+    return None
+
+
+def cases():
+    if shutil.which("gcc"):
+        for call in AT_START:
+            yield f"a call of {call} at the start that fails", at_start, call, errno.EIO
+        for call in LATER:
+            yield f"a call of {call} that fails", later, call, errno.EIO
+    else:
+        print("calls that fail: not tried, there is no gcc")
