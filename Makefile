@@ -18,7 +18,7 @@ ZSH_DIR = $(PREFIX)/share/zsh/site-functions
 PYTHON_DIR = $(shell python3 -c 'import site, sys; \
 	print(next((it for it in site.getsitepackages() if it.startswith(sys.argv[1])), sys.argv[1] + "python3/dist-packages"))' '$(PREFIX)/lib/')
 
-.PHONY: all bench quick check demo install uninstall deb completion pictures clean help toolchain
+.PHONY: all bench quick check demo soak install uninstall deb completion pictures clean help toolchain
 
 all: $(addprefix build/,$(PROGRAMS))  ## Prove and build the programs, into build/
 
@@ -76,6 +76,12 @@ completion: $(addprefix $(BUILT)/,$(PROGRAMS))  ## Write packaging/completion/ a
 
 pictures:  ## Draw docs/pictures/ anew, of crates.txt and the tables of tools/picture.py
 	@tools/picture.py docs/pictures
+
+# How long the soak takes.
+MINUTES = 10
+
+soak: all  ## Use the built daemon hard for MINUTES=10, and look at what is left of it; no part of the gate
+	@tests/soak.py build/reqkeyd $(MINUTES)
 
 clean:  ## Remove what make and the toolchain made
 	rm -rf build crates/*/out

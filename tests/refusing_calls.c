@@ -64,6 +64,7 @@ int open(const char *path, int flags, ...) {
     return refused("open") ? -1 : NEXT(open)(path, flags, mode);
 }
 
-int posix_spawn(pid_t *child, const char *path, const posix_spawn_file_actions_t *files, const posix_spawnattr_t *how, char *const words[], char *const environment[]) {
+int posix_spawn(pid_t *child, const char *path, const posix_spawn_file_actions_t *files, const posix_spawnattr_t *how, char *const words[],
+                char *const environment[]) {
     return refused("posix_spawn") ? error : NEXT(posix_spawn)(child, path, files, how, words, environment);
 }

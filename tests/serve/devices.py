@@ -72,19 +72,19 @@ def at_start(program, call, code):
     return "it never ends"
 
 
-def later(program, call, code):
-    """A call fails while the daemon serves: what may come of it comes, and behind it all is as told. No descriptor is left."""
+def later(program, call, code, may):
+    """A call fails while the daemon serves: one of these may come of it, and behind it all is as told. No descriptor is left."""
     count, more = 1, True
     while more:
         with failing(program, call, count, code) as daemon:
             if begun(daemon):
                 early, before = met(daemon), until(lambda: (now := daemon.descriptors()) and now["socket"] == 1 and now, "one socket")
-                _, wrong = played_twice(daemon, play, [] if early else LATER[call])
+                _, wrong = played_twice(daemon, play, [] if early else may)
                 until(lambda: daemon.descriptors() == before, f"the descriptors {before}, and not {daemon.descriptors()}")
                 if wrong:
                     return f"{call} {count}, {wrong}"
                 more = met(daemon)
-        count += 1 if "EVERY" in os.environ else 1 + count // 4
+        count += 1 if "EVERY" in os.environ else 1 + count // 3
     return None
 
 
@@ -92,7 +92,9 @@ def cases():
     if shutil.which("gcc"):
         for call in AT_START:
             yield f"a call of {call} at the start that fails", at_start, call, errno.EIO
-        for call in LATER:
-            yield f"a call of {call} that fails", later, call, errno.EIO
+        for call, may in LATER.items():
+            yield f"a call of {call} that fails", later, call, errno.EIO, may
+        for call in ["send", "accept4", "waitpid"]:
+            yield f"a call of {call} that is interrupted is made again", later, call, errno.EINTR, []
     else:
         print("calls that fail: not tried, there is no gcc")

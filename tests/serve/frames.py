@@ -188,7 +188,7 @@ def cuts(bodies, tried, dice):
     earlier one of its op in the scenario, at one."""
     for at, body in enumerate(bodies):
         like, some = (body[0], len(body), at > 0), dice.randrange(len(body) + 4)
-        lengths = [some] if like in tried or at > 30 else {*range(min(len(body) + 4, 64)), some, len(body) + 3}
+        lengths = [some] if like in tried or at > 16 else {*range(min(len(body) + 4, 64)), some, len(body) + 3}
         yield from ((at, length) for length in lengths)
         tried.add(like)
 

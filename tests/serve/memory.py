@@ -107,7 +107,7 @@ def refused_in(program, play):
             return wrong
         seen += noticed
         unseen = 0 if noticed else unseen + 1
-        count += 1 if "EVERY" in os.environ else 1 + count // 15
+        count += 1 if "EVERY" in os.environ else 1 + count // 10
     return None if seen > 3 else f"{seen} growths were noticed"
 
 

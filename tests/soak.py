@@ -1,0 +1,208 @@
+#!/usr/bin/env python3
+"""Uses `reqkeyd serve` hard for some minutes, and then looks at what is left of it. On demand: `make soak MINUTES=10`.
+
+usage: soak.py PROGRAM [MINUTES [SEED]]
+
+Sixty-four clients at a time ask at random, come and go, and some vanish while they wait. Handlers make their keys, fail, hang until they are let go, and are
+killed. Every reply has to be of a kind that docs/PROTOCOL.md allows there, and all who read a key, which is made by one construction, read the same
+payload. At the end nobody waits, no descriptor, no child and no zombie is left, and the memory is what it was after the first tenth of the time and a bound.
+"""
+import collections
+import os
+import pathlib
+import random
+import signal
+import sys
+import threading
+import time
+
+sys.path.insert(0, str(pathlib.Path(__file__).resolve().parent))
+os.environ.setdefault("PROGRAMS", "build")  # where reqkeyctl is, which the handlers run
+import protocol_peer as ask
+from daemon import LIMIT, Client, Daemon, GaveUp, until
+
+SESSIONS = 64
+GROWTH = 32 * 2**20  # bytes by which the memory may grow behind the first tenth, when the records of some halls may not have been full yet
+
+# the kinds of handlers: each writes a payload of its own where it makes a key, so that two constructions never give the same payload
+CONF = """create user good:* * %room/makes %k
+create user slow:* * %room/slow %k
+create user fail:* * /bin/false
+create user dies:* * |%room/dies
+create user pipe:* * |%room/pipes
+create user hang:* * %room/hangs %k
+negate user dies:*1 * %room/makes %k
+"""
+SCRIPTS = {
+    "makes": '%ctl assume "$1" && %ctl instantiate "$1" "$1-$$" none\n',
+    "slow": '%ctl assume "$1" && %ctl request user "good:$1" none x && %ctl instantiate "$1" "$1-$$" none\n',
+    "dies": "echo half\nkill -9 $$\n",
+    "pipes": "cat > /dev/null\necho $$-$(cat /proc/self/stat | cut -d ' ' -f 22)\n",
+    "hangs": 'read line < %room/gate\n%ctl assume "$1" && %ctl instantiate "$1" "$1-$$" none\n',
+}
+KINDS = ["good", "pipe", "slow", "fail", "dies", "hang", "none"]
+
+# what each ask of a client that has said HELLO may be answered by docs/PROTOCOL.md: any value of the type, or one of these
+OUTCOMES = {"E126", "E127", "E128", "E129"}
+ALLOWED = {
+    2: (int, OUTCOMES | {"E122"}), 7: (bytes, OUTCOMES | {"E13", "E16", "E22"}), 8: (bytes, {"E126", "E13", "E22"}), 9: ((), {0, "E126", "E128", "E13", "E22"}),
+    10: ((), {0, "E126", "E127", "E128", "E13", "E22"}), 11: ((), OUTCOMES | {0, "E122", "E13", "E22"}), 12: ((), {0, "E2", "E126", "E22"}),
+    13: ((), {0}), 14: (int, {"E22"}), 15: (int, {"E122"}), 255: ((), {"E22"}),
+}
+
+# what the daemon says: when it is ready, what its handlers have said last, volumes of the record, and sessions that were cut
+TOLD = ("reqkeyd: ready", "volume ", "[WARN ")
+
+
+class Soak:
+    """What all clients have in common."""
+
+    def __init__(self, daemon, seed):
+        self.daemon, self.seed = daemon, seed
+        self.end, self.wrong = None, []
+        self.replies, self.payloads, self.lock = collections.Counter(), {}, threading.Lock()
+
+    def goes_on(self):
+        return time.monotonic() < self.end and not self.wrong
+
+    def hears(self, uid, body, reply):
+        """Judges a reply, and keeps what was read of a key."""
+        kind, errors = ALLOWED[body[0]]
+        with self.lock:
+            self.replies[reply if isinstance(reply, str) else type(reply).__name__] += 1
+            if not isinstance(reply, kind) and reply not in errors:
+                self.wrong.append(f"{reply} to {body.hex()}")
+            if body[0] == 7 and isinstance(reply, bytes):
+                key = uid % 4, body
+                if self.payloads.setdefault(key, reply) != reply:
+                    self.wrong.append(f"{body.hex()} is {reply} and was {self.payloads[key]}")
+
+    # ---- clients
+
+    def body(self, dice, known):
+        key, ring = dice.choice(known or [12]), dice.choice([-3, -4, -4])
+        name = f"{dice.choice(KINDS)}:{dice.randrange(8)}".encode()
+        return dice.choice([
+            *[ask.request(b"user", name, dice.choice([None, b"x", b"y" * 400]), dice.choice([0, -3, -4]))] * 6, *[ask.on_key(7, key)] * 6,
+            ask.on_key(8, key), ask.on_key(9, key), ask.timeout(key, dice.choice([0, 1, 1000])), ask.on_key_and_ring(11, key, ring),
+            ask.on_key_and_ring(12, key, ring), ask.clear(ring), ask.default(dice.randrange(-1, 8)), ask.add(b"user", name, os.urandom(8), ring), b"\xff",
+        ])
+
+    def comes(self, dice):
+        """One connection, of which each reply is heard, or which is closed with asks under way."""
+        uid, known = 1000 + dice.randrange(6), []
+        with Client(self.daemon.path, uid) as client:
+            if not isinstance(client.rings, tuple):
+                self.wrong.append(f"HELLO: {client.rings}")
+            for _ in range(dice.randrange(60)):
+                bodies = [self.body(dice, known) for _ in range(dice.choice([1, 1, 1, 5]))]
+                client.send(*bodies)
+                if dice.random() < 0.02:
+                    return
+                for body in bodies:
+                    reply = client.reply()
+                    self.hears(uid, body, reply)
+                    if body[0] in [2, 15] and isinstance(reply, int):
+                        known.append(reply)
+
+    def client(self, number):
+        dice = random.Random(f"{self.seed} {number}")
+        try:
+            while self.goes_on():
+                self.comes(dice)
+        except (GaveUp, OSError) as failed:
+            self.wrong.append(f"client {number}: {failed!r}")
+
+    # ---- handlers
+
+    def disturb(self, stop):
+        """Lets the handlers that hang go on, and kills some of all."""
+        dice = random.Random(self.seed)
+        gate = os.open(self.daemon.room / "gate", os.O_RDWR | os.O_NONBLOCK)
+        while not stop.is_set():
+            if dice.random() < 0.2 and (children := list(self.daemon.children())):
+                self.kill(dice.choice(children))
+            try:
+                os.write(gate, b"\n" * 4)
+            except BlockingIOError:
+                pass
+            stop.wait(0.05)
+        os.close(gate)
+
+    def kill(self, pid):
+        """Kills a child of the daemon; one that has gone since is passed over."""
+        try:
+            handle = os.pidfd_open(pid)
+        except ProcessLookupError:
+            return
+        if pid in self.daemon.children():
+            try:
+                signal.pidfd_send_signal(handle, signal.SIGKILL)
+            except ProcessLookupError:
+                pass
+        os.close(handle)
+
+
+def memory_of(daemon):
+    """The bytes that the daemon has in memory."""
+    return int(pathlib.Path(f"/proc/{daemon.process.pid}/statm").read_text().split()[1]) * os.sysconf("SC_PAGE_SIZE")
+
+
+def left(daemon, before):
+    """What is left of the clients and handlers, when all have gone."""
+    until(lambda: not daemon.children(), "the end of all children")
+    until(lambda: daemon.descriptors() == before, f"the descriptors {before}, and not {daemon.descriptors()}")
+
+
+def soak(program, minutes, seed):
+    """Runs it, and gives what was wrong, the replies, and the memory after a tenth of the time and at the end."""
+    # with one pool of memory for all threads, what one has freed another uses, and what grows is no longer used by any
+    with Daemon(program, CONF, "--negative", "1", environment={"MALLOC_ARENA_MAX": "1"}) as daemon:
+        for name, text in SCRIPTS.items():
+            daemon.script(name, f"#!/bin/sh\nexec 2> /dev/null\n{text}")
+        os.mkfifo(daemon.room / "gate")
+        with daemon.client() as client:
+            client.ask(ask.request(b"user", b"pipe:first", b"x", -4))
+        before = until(lambda: (now := daemon.descriptors()) and now["socket"] == 1 and now, "one socket")
+        all_of_it, stop = Soak(daemon, seed), threading.Event()
+        all_of_it.end = time.monotonic() + 60 * minutes
+        disturber = threading.Thread(target=all_of_it.disturb, args=(stop,), daemon=True)
+        clients = [threading.Thread(target=all_of_it.client, args=(number,), daemon=True) for number in range(SESSIONS)]
+        for thread in [disturber, *clients]:
+            thread.start()
+        time.sleep(6 * minutes)
+        first = memory_of(daemon)
+        for thread in clients:
+            thread.join(60 * minutes + LIMIT)
+        wrong = all_of_it.wrong + [f"{sum(thread.is_alive() for thread in clients)} clients wait"] * any(thread.is_alive() for thread in clients)
+        try:
+            left(daemon, before)
+        except GaveUp as failed:
+            wrong.append(str(failed))
+        stop.set()
+        disturber.join(LIMIT)
+        last = memory_of(daemon)
+        if last > first + GROWTH:
+            wrong.append(f"the memory has grown from {first} bytes to {last}")
+        if lives := daemon.lives():
+            wrong.append(lives)
+        wrong += [line for line in daemon.lines if not line.startswith(TOLD)]
+        return wrong, all_of_it.replies, first, last, sum(line.startswith("volume") for line in daemon.lines)
+
+
+def main(words):
+    if not 1 <= len(words) <= 3:
+        print(__doc__.split("\n\n")[1], file=sys.stderr)
+        return 2
+    program, minutes, seed = pathlib.Path(words[0]), float(words[1]) if len(words) > 1 else 10, words[2] if len(words) > 2 else "1"
+    wrong, replies, first, last, volumes = soak(program, minutes, seed)
+    for line in wrong[:20]:
+        print(line[:300])
+    told = ", ".join(f"{count} {kind}" for kind, count in sorted(replies.items(), key=lambda it: -it[1]))
+    print(f"{replies.total()} replies: {told}; {volumes} volumes; memory {first // 1024} KiB, then {last // 1024} KiB")
+    print("soak: clean" if not wrong else f"soak: {len(wrong)} wrong")
+    return 1 if wrong else 0
+
+
+if __name__ == "__main__":
+    sys.exit(main(sys.argv[1:]))
