@@ -81,7 +81,7 @@ pictures:  ## Draw docs/pictures/ anew, of crates.txt and the tables of tools/pi
 MINUTES = 10
 
 soak: all  ## Use the built daemon hard for MINUTES=10, and look at what is left of it; no part of the gate
-	@tests/soak.py build/reqkeyd $(MINUTES)
+	@PROGRAMS=build tests/soak.py $(MINUTES)
 
 clean:  ## Remove what make and the toolchain made
 	rm -rf build crates/*/out

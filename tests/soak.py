@@ -1,7 +1,7 @@
 #!/usr/bin/env python3
 """Uses `reqkeyd serve` hard for some minutes, and then looks at what is left of it. On demand: `make soak MINUTES=10`.
 
-usage: soak.py PROGRAM [MINUTES [SEED]]
+usage: soak.py [MINUTES [SEED]]
 
 Sixty-four clients at a time ask at random, come and go, and some vanish while they wait. Handlers make their keys, fail, hang until they are let go, and are
 killed. Every reply has to be of a kind that docs/PROTOCOL.md allows there, and all who read a key, which is made by one construction, read the same
@@ -11,15 +11,16 @@ import collections
 import os
 import pathlib
 import random
+import re
 import signal
 import sys
 import threading
 import time
 
 sys.path.insert(0, str(pathlib.Path(__file__).resolve().parent))
-os.environ.setdefault("PROGRAMS", "build")  # where reqkeyctl is, which the handlers run
 import protocol_peer as ask
 from daemon import LIMIT, Client, Daemon, GaveUp, until
+from programs import PROGRAMS
 
 SESSIONS = 64
 GROWTH = 32 * 2**20  # bytes by which the memory may grow behind the first tenth, when the records of some halls may not have been full yet
@@ -191,11 +192,11 @@ def soak(program, minutes, seed):
 
 
 def main(words):
-    if not 1 <= len(words) <= 3:
+    if len(words) > 2 or not all(re.fullmatch("[0-9]+([.][0-9]+)?", word) for word in words[:1]):
         print(__doc__.split("\n\n")[1], file=sys.stderr)
         return 2
-    program, minutes, seed = pathlib.Path(words[0]), float(words[1]) if len(words) > 1 else 10, words[2] if len(words) > 2 else "1"
-    wrong, replies, first, last, volumes = soak(program, minutes, seed)
+    minutes, seed = [*words, *["10", "1"][len(words) :]]
+    wrong, replies, first, last, volumes = soak(PROGRAMS[0], float(minutes), seed)
     for line in wrong[:20]:
         print(line[:300])
     told = ", ".join(f"{count} {kind}" for kind, count in sorted(replies.items(), key=lambda it: -it[1]))

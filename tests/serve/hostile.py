@@ -256,15 +256,15 @@ def few_descriptors(program):
     """It may have so few descriptors that there is none for its handlers, or just enough: what can't be started has failed, and no descriptor is lost."""
     conf = "create user c:* * |/bin/cat\ncreate user t:* * /bin/true\ncreate user f:* * |/bin/false\nnegate * * * /bin/true\n"
     made = []
-    for files in range(6, 14):
+    for files in range(6, 16):
         with Daemon(program, conf, "--sessions", "1", "--negative", "0", files=files) as daemon, daemon.client() as client:
             before = daemon.descriptors()
             asks = [ask.request(b"user", b"%s:%d" % (kind, at), b"x", -4) for kind in [b"c", b"t", b"f"] for at in range(3)]
             replies = client.ask(*asks)
             made.append([isinstance(it, int) for it in replies[:3]])
             refused = {it for it in replies if not isinstance(it, int)}
-            wrong = differs((refused, set(replies[3:]), daemon.descriptors(), daemon.children()), ({"E126"}, {"E126"}, before, {}))
-            if wrong:
+            until(lambda: daemon.descriptors() == before and not daemon.children(), "the end of all handlers")
+            if wrong := differs((refused, set(replies[3:])), ({"E126"}, {"E126"})):
                 return f"{files} descriptors: {wrong}"
     enough = made.index([True] * 3)
     return differs(made, [[False] * 3] * enough + [[True] * 3] * (len(made) - enough)) or differs(enough > 0, True)
