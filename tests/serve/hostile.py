@@ -9,7 +9,6 @@ from daemon import LIMIT, Client, Daemon, GaveUp, until
 from programs import differs
 
 HELLO = ask.frame(ask.hello(1000, 1000))
-KEY = ask.frame(ask.request(b"user", b"a", b"x", -4))
 VOLUME = 8192  # steps of a volume of a hall's record
 
 

@@ -11,7 +11,7 @@ import subprocess
 import tempfile
 
 import protocol_peer as ask
-from daemon import LIMIT, Client, Daemon, until
+from daemon import LIMIT, Client, Daemon
 
 FOLDER = tempfile.TemporaryDirectory(prefix="refusing-")
 
