@@ -116,9 +116,10 @@ def make(edits, crate):
 
 
 def opened(log):
-    """The paths of the functions that have an open goal or a wrong answer of their own, in what a check said."""
+    """The paths of the functions that have an open goal or a wrong answer of their own, in what a check said. The folder of the answers of a function that
+    calls itself has a + before its name."""
     paths = {tuple(path.split("::")[1:]) for path, _ in UNPROVED.findall(log)}
-    return paths | {tuple(path.split("/")) for path, said in WRONG_ANSWER.findall(log) if not NAMES.search(said)}
+    return paths | {tuple(path.replace("+", "").split("/")) for path, said in WRONG_ANSWER.findall(log) if not NAMES.search(said)}
 
 
 def is_refused(edit, paths):
