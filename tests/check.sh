@@ -3,7 +3,8 @@
 #
 # The gate proves every crate and its tests from nothing, tries the edits of crates/NAME/must-fail one by one, and runs the tests and
 # the programs. A test of this folder is an executable test_*.sh or test_*.py; its last line is `N passed, M failed`, and what it prints
-# before that tells what failed. The log ends with the last ten lines of that from each program that failed, and with the programs' names.
+# before that tells what failed. The log ends with what each program took of processors, with the last ten lines from each one that failed, and
+# with the names of those.
 set -uo pipefail
 cd "$(dirname "$0")/.."
 
@@ -11,6 +12,8 @@ passed=0
 failed=0
 names=()
 again=$(mktemp)
+taken=$(mktemp)
+used=$(mktemp)
 
 # Counts failures of a command, and keeps the lines of its log that tell of them.
 fail() {
@@ -24,12 +27,20 @@ fail() {
     fi | tail -n 10 | cut -c1-200 | sed "s/^/$name| /" >> "$again"
 }
 
+# Sets `seconds` to the processor time of all that this run has waited for. (A subshell would count its own alone.)
+processors() {
+    times > "$used"
+    seconds=$(tail -n 1 "$used" | tr 'ms' '  ' | awk '{ printf "%.0f", 60 * ($1 + $3) + $2 + $4 }')
+}
+
 # Shows what a command prints but for its closing count, which is added up. One that ends without a count,
 # or whose status disagrees with it, is a failure of its own.
 count() {
-    local log last status name
+    local log last status name before
     log=$(mktemp)
     name="${*##*/}"
+    processors
+    before=$seconds
     "$@" 2>&1 | tee "$log" | grep --line-buffered -vE '^[0-9]+ passed, [0-9]+ failed$'
     status=${PIPESTATUS[0]}
     last=$(tail -n 1 "$log")
@@ -46,6 +57,8 @@ count() {
         fail 1 "$log" "$name"
     fi
     rm -f "$log"
+    processors
+    echo "$((seconds - before)) $name" >> "$taken"
 }
 
 count rt ci
@@ -54,12 +67,10 @@ export PROVED=1
 for test in tests/test_*; do
     [[ -x $test ]] && count "$test"
 done
-used=$(mktemp)
-times > "$used"
-echo "processor time, in programs and in the system: $(tail -n 1 "$used")"
-rm -f "$used"
+echo "processor seconds, $seconds in all:"
+sort -rn "$taken"
 cat "$again"
-rm -f "$again"
+rm -f "$taken" "$used" "$again"
 [[ ${#names[@]} -eq 0 ]] || printf '%s\n' "${names[@]}"
 echo "$passed passed, $failed failed"
 [[ $failed -eq 0 ]]
