@@ -7,42 +7,13 @@ import pathlib
 import sys
 from typing import NamedTuple
 
+from drawing import BLUE, DARK, GREY, INK, LINE, PAPER, SAND, Drawing
 from layered import Rows, layers_of, reaches, reduced
 
 sys.path.insert(0, str(pathlib.Path(__file__).resolve().parent.parent / "tests"))
 import crates
 
-INK, LINE, PAPER = "#1f2430", "#6b7280", "#ffffff"
-PROGRAM, MACHINE, AROUND, APART = "#2f3b52", "#d9e8f5", "#fbe5c8", "#e8e8ec"
-
-
-class Drawing:
-    """An SVG that is put together piece by piece."""
-
-    def __init__(self, width, height, title):
-        self.parts = [
-            f'<svg xmlns="http://www.w3.org/2000/svg" width="{width}" height="{height}" viewBox="0 0 {width} {height}" '
-            f'font-family="DejaVu Sans, Verdana, sans-serif" font-size="13" role="img">',
-            f"<title>{title}</title>",
-            '<defs><marker id="tip" viewBox="0 0 10 10" refX="9" refY="5" markerWidth="8" markerHeight="8" orient="auto-start-reverse">'
-            f'<path d="M0 0L10 5L0 10z" fill="{LINE}"/></marker></defs>',
-            f'<rect width="{width}" height="{height}" rx="6" fill="{PAPER}"/>',
-        ]
-
-    def box(self, x, y, width, height, fill, stroke=LINE, more=""):
-        self.parts.append(f'<rect x="{x}" y="{y}" width="{width}" height="{height}" rx="7" fill="{fill}" stroke="{stroke}"{more}/>')
-
-    def text(self, x, y, words, fill=INK, anchor="middle", size=13, bold=False):
-        weight = ' font-weight="bold"' if bold else ""
-        self.parts.append(f'<text x="{x}" y="{y}" fill="{fill}" text-anchor="{anchor}" font-size="{size}"{weight}>{words}</text>')
-
-    def line(self, path, tip=False):
-        end = ' marker-end="url(#tip)"' if tip else ""
-        self.parts.append(f'<path d="{path}" fill="none" stroke="{LINE}" stroke-width="1.4"{end}/>')
-
-    def done(self):
-        return "\n".join([*self.parts, "</svg>", ""])
-
+PROGRAM, MACHINE, AROUND, APART = DARK, BLUE, SAND, GREY
 
 # ---- the crates
 
