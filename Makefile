@@ -74,8 +74,9 @@ deb: $(addprefix $(BUILT)/,$(PROGRAMS)) $(BUILT)/libkeyutils.so.1  ## Make a Deb
 completion: $(addprefix $(BUILT)/,$(PROGRAMS))  ## Write packaging/completion/ anew, of what the programs say of themselves
 	@tools/completion.py $(BUILT) packaging/completion
 
-pictures:  ## Draw docs/pictures/ anew, of crates.txt and the tables of tools/picture.py
+pictures:  ## Draw docs/pictures/ anew, of crates.txt and the tables of tools/picture.py, and bench/pictures/, of bench/README.md
 	@tools/picture.py docs/pictures
+	@bench/run.py pictures
 
 # How long the soak takes.
 MINUTES = 10

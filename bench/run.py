@@ -1,7 +1,7 @@
 #!/usr/bin/env python3
-"""Measures the programs beside their peers in C, in turn in one run, and prints the ratios beside those to be reached.
+"""Measures the programs beside their peers in C, in turn in one run, prints the ratios beside those to be reached, and draws them.
 
-usage: run.py [--lines N] [--runs N] [--instructions N] [--asks N] [--only WORDS] WHAT ..
+usage: run.py [--lines N] [--runs N] [--instructions N] [--asks N] [--only WORDS] [--folder FOLDER] WHAT ..
 
 replay   `reqkeyd replay` and bench/c/replay.c on the scripts of loads.py, whose outputs have to be equal byte by byte
 steps    the same two: what a step costs, by the number of keys, less what a line takes by itself; and steps of bench/c/book.c, which reads no script
@@ -10,13 +10,15 @@ profile  where `reqkeyd replay` spends its instructions on those scripts
 hall     what a call costs behind a lock: `hall_bench` and bench/c/hall.c
 spawn    starts of programs: `spawn_bench` and bench/c/spawn.c
 serve    `reqkeyd serve` and bench/c/echo.c, both driven by bench/c/load.c over a socket
+pictures measures nothing: draws bench/pictures/ anew, of the tables of bench/README.md
 
-Where the project's program is not built, the peer is measured alone.
+Where the project's program is not built, the peer is measured alone. What is measured is drawn in FOLDER/WHAT.svg, of the printed tables (build/bench/).
 
 Times are processor times, the least of so many runs; what a script sets up before its measured lines is run alone and taken off. Instructions are
 those that callgrind counts, which no other work on the machine disturbs, over N lines (2,000; 0 for none).
 """
 import argparse
+import contextlib
 import os
 import pathlib
 import re
@@ -26,6 +28,7 @@ import sys
 import tempfile
 import time
 
+import figures
 import loads
 
 top = pathlib.Path(__file__).resolve().parent.parent
@@ -141,7 +144,7 @@ def players():
 
 def replay(options):
     programs = players()
-    print("Ratios are Rattle's to C's, to be at most 6.0 in each row; lines a second of hits at least 1,000,000.\n")
+    print(f"Ratios are Rattle's to C's, to be {figures.LINE} in each row; lines a second of hits at least 1,000,000.\n")
     columns = ["lines/s Rattle", "C", "time", "instructions/line Rattle", "C", "instructions", "peak KiB Rattle", "C", "script + output KiB"]
     table("load", "lines", *columns)
     hits = [("hits, ten times the lines", loads.hits, 0.1)] if options.lines >= 1000 else []
@@ -218,7 +221,7 @@ def steps(options):
 
 
 def tell_steps(found, title):
-    print(f"\n{title}: ns a step, and how many times that with 200 keys, which is to be at most 1.3\n")
+    print(f"\n{title}: ns a step, and how many times that with 200 keys, which is to be {figures.GROWTH}\n")
     table("step", "program", *[f"{int(size):,} keys" for size in SIZES])
     for step in found[C]:
         for who, steps in found.items():
@@ -231,10 +234,11 @@ def tell_steps(found, title):
 
 
 def memory(options):
-    print("Peak memory with 200,000 keys less that with 200, for each key; names of 6 to 8 bytes and payloads of 1 are in it. To be at most 400.\n")
+    print(f"Peak memory with 200,000 keys less that with 200, for each key, to be {figures.KEY} bytes; names of 6 to 8 bytes and payloads of 1 are in it\n")
+    programs = players()
     table("program", "KiB with 200", "KiB with 200,000", "bytes a key")
     scripts = [loads.text(*loads.refusals(1, others)) for others in (OTHERS[0], OTHERS[-1])]
-    for who, words in players().items():
+    for who, words in programs.items():
         few, many = (run(words, script)[1] - len(script) // 1024 for script in scripts)
         row([who, f"{few:,}", f"{many:,}", f"{(many - few) * 1024 / (199 * OTHERS[-1]):,.0f}"])
 
@@ -249,15 +253,20 @@ def profile(options):
     print(f"Shares of instructions, {options.instructions:,} lines of each load\n")
     table("load", "functions")
     for name, load, _ in loads.LOADS:
-        before, after = load(options.instructions)
-        if (options.only and options.only not in name) or len(before) > 10_000:
+        if options.only and options.only not in name:
             continue
-        with tempfile.TemporaryDirectory() as folder:
-            instructions([built("reqkeyd"), "replay"], loads.text(before, after), f"{folder}/out")
-            told = subprocess.run(["callgrind_annotate", f"{folder}/out"], stdout=subprocess.PIPE, text=True).stdout
-        found = [FUNCTION.fullmatch(line) for line in told.splitlines()]
-        functions = [f"`{it['name']}` {it['share']}%" for it in found if it and float(it["share"]) < 100]
-        row([name, ", ".join(functions[:6])])
+        before, after = load(options.instructions)
+        if len(before) <= 10_000:
+            row([name, ", ".join(f"`{function}` {share}%" for function, share in shares(loads.text(before, after)))])
+
+
+def shares(script):
+    """The six functions that take most of a script's instructions, each with its share."""
+    with tempfile.TemporaryDirectory() as folder:
+        instructions([built("reqkeyd"), "replay"], script, f"{folder}/out")
+        told = subprocess.run(["callgrind_annotate", f"{folder}/out"], stdout=subprocess.PIPE, text=True).stdout
+    found = [FUNCTION.fullmatch(line) for line in told.splitlines()]
+    return [(it["name"], it["share"]) for it in found if it and float(it["share"]) < 100][:6]
 
 
 # ---- what prints its rates itself
@@ -302,8 +311,8 @@ def hall(options):
 
 
 def spawn(options):
-    print("Starts a second, Rattle's to C's to be at least 0.95\n")
     for more in [], ["--resident", "256"]:
+        print(f"\nStarts a second, Rattle's to C's to be {figures.STARTS}\n")
         tell_rates(rates(both("spawn", "spawn_bench", more), options.runs), "starts")
 
 
@@ -355,12 +364,11 @@ def serve(options):
     with tempfile.TemporaryDirectory() as name:
         found = servers(pathlib.Path(name))
         try:
-            print("Asks a second for a key that is there, Rattle's to C's to be at least 0.9\n")
-            drive(found, options, CONNECTIONS, [])
+            print(f"Asks a second for a key that is there, Rattle's to C's to be {figures.ASKS}\n")
+            drive(found, options)
             if RATTLE in found:
-                print("\nKeys made by /bin/cat, beside the starts of `spawn`, to be at least 0.95 of them\n")
-                drive({RATTLE: found[RATTLE]}, argparse.Namespace(runs=options.runs, asks=400), ["1", "8"], ["made"])
-                tell_rates(rates({C: [peer("spawn")]}, options.runs), "starts")
+                print(f"\nKeys made by /bin/cat, beside as many starts at a time by the peer of `spawn`, to be {figures.STARTS} of them\n")
+                drive_made(found[RATTLE], options.runs)
             print("\nMemory after asks, which is to stay as it is\n")
             table("program", "KiB after 10,000", "KiB after 1,000,000")
             for who, server in found.items():
@@ -375,27 +383,75 @@ def resident_after(server, asks):
     return server.resident()
 
 
-def drive(found, options, connections, more):
+def drive(found, options):
     table("connections", "program", "asks/s", "to C's", "latency")
-    for count in connections:
-        loads_of = {who: [peer("load"), server.path, count, str(options.asks), *more] for who, server in found.items()}
+    for count in CONNECTIONS:
+        loads_of = {who: [peer("load"), server.path, count, str(options.asks)] for who, server in found.items()}
         for best in rates(loads_of, options.runs).values():
             for who, (rate, latency) in best.items():
-                row([count, who, f"{rate:,}", f"{rate / best[C][0]:.2f}" if C in best else "-", latency.strip(", ")])
+                row([count, who, f"{rate:,}", f"{rate / best[C][0]:.2f}", latency.strip(", ")])
 
 
-def main():
+def drive_made(server, runs):
+    table("connections", "keys/s", "starts/s C", "ratio", "latency")
+    loads_of = {count: [peer("load"), server.path, count, "400", "made"] for count in ("1", "8")}
+    keys = {count: rate for best in rates(loads_of, runs).values() for count, rate in best.items()}
+    starts = rates({C: [peer("spawn")]}, runs)
+    for count, (rate, latency) in keys.items():
+        begun = next(best[C][0] for of, best in starts.items() if of.startswith(f"/bin/cat, {count} at a time"))
+        row([count, f"{rate:,}", f"{begun:,}", f"{rate / begun:.2f}", latency.strip(", ")])
+
+
+# ---- pictures
+
+
+class Kept:
+    """What is printed, which is shown, too."""
+
+    def __init__(self):
+        self.text, self.shown = "", sys.stdout
+
+    def write(self, text):
+        self.text += text
+        return self.shown.write(text)
+
+    def flush(self):
+        self.shown.flush()
+
+
+def pictures():
+    for name, text in figures.made().items():
+        (top / "bench" / "pictures" / name).write_text(text)
+
+
+def measured(what, options):
+    """Runs a bench, and draws what it has told."""
+    kept = Kept()
+    with contextlib.redirect_stdout(kept):
+        globals()[what](options)
+    text, path = figures.drawn(what, kept.text), options.folder / f"{what}.svg"
+    if text:
+        path.parent.mkdir(parents=True, exist_ok=True)
+        path.write_text(text)
+    print(f"run.py: {path} is drawn" if text else f"run.py: {what} has no figure to be drawn", file=sys.stderr)
+
+
+def main(words=None):
     parser = argparse.ArgumentParser(description=__doc__.split("\n")[0])
-    parser.add_argument("what", nargs="+", choices=["replay", "steps", "memory", "profile", "hall", "spawn", "serve"])
+    parser.add_argument("what", nargs="+", choices=[*figures.BENCHES, "pictures"])
     parser.add_argument("--lines", type=int, default=20000)
     parser.add_argument("--runs", type=int, default=5)
     parser.add_argument("--instructions", type=int, default=2000, metavar="LINES")
     parser.add_argument("--asks", type=int, default=100000, help="how many asks of each number of connections")
     parser.add_argument("--only", help="the loads of replay whose names have these words")
-    options = parser.parse_args()
+    parser.add_argument("--folder", type=pathlib.Path, default=top / "build" / "bench", help="where what was measured is drawn")
+    options = parser.parse_args(words)
     try:
         for what in options.what:
-            globals()[what](options)
+            if what == "pictures":
+                pictures()
+            else:
+                measured(what, options)
     except Wrong as wrong:
         print(f"run.py: {wrong}", file=sys.stderr)
         return 1
