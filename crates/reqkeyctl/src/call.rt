@@ -2,8 +2,9 @@
 ghost use Rattle.std.specs.Prelude.{◌≡◌, ◌≤◌, ◌⊎◌, IfSome, IsSome, None, true, map, codes, string_bytes};
 ghost use Rattle.reqkeyctl.specs.Calls.{EndsIn, names_socket};
 
-use rk_client::{number, op_named};
+use rk_client::op_named;
 use rk_message::Op;
+use rk_text::number;
 
 /// What stands before the op.
 #[derive(Clone, Copy, Debug)]

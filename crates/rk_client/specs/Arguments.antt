@@ -1,6 +1,7 @@
 -- What the arguments of an op say.
 use Rattle.std.specs.Prelude.{◌≡◌, ℕ, ℤ, pos, negsuc, List, [], ◌∷◌, codes, map, Option, Some, None, option_map, option_and_then, Result, Ok, Err, IsSome, IfOk, if◌then◌else◌}
 use Rattle.std.specs.Str.{bytes_eq}
+use Rattle.rk_text.specs.Numbers.{number_of, up_to}
 use Rattle.rk_names.specs.declared.errors.NameFault.{NameFault}
 use Rattle.rk_names.specs.Rules.{type_fault, description_fault, payload_fault, callout_fault}
 use Rattle.rk_names.specs.Numbers.{key_error_named}
@@ -15,7 +16,6 @@ use Rattle.rk_message.specs.Asks.{ask_op, ask_values, error_number}
 use Rattle.rk_client.specs.declared.argument.Role.{Role}
 use Rattle.rk_client.specs.declared.fault.ArgumentFault.{ArgumentFault}
 use Rattle.rk_client.specs.declared.fault.ArgumentFault.TheVariants.{Count, Bad, NoMemory}
-use Rattle.rk_client.specs.Numbers.{number_said, up_to}
 
 -- the words and numbers of a table
 abbrev pub roles : List Role → List (List ℕ × ℤ)
@@ -49,7 +49,7 @@ first_of None other = other
 
 -- 0, or a serial
 abbrev pub serial_said : List ℕ → Option ℤ
-serial_said word = option_map pos (up_to 2147483647 (number_said word))
+serial_said word = option_map pos (up_to 2147483647 (number_of word))
 
 -- where a rule finds no fault
 abbrev pub unless : Option NameFault → Value → Option Value
@@ -65,8 +65,8 @@ value_said field.Callout word = unless (callout_fault word) (Maybe (Some word))
 value_said field.Key word = option_map I32 (first_of (role_of key_roles word) (serial_said word))
 value_said field.Ring word = option_map I32 (first_of (role_of ring_roles word) (serial_said word))
 value_said field.Setting word = option_map I32 (role_of setting_roles word)
-value_said field.Seconds word = option_map U32 (up_to 4294967295 (number_said word))
-value_said field.Error word = option_map (λ e. U32 (error_number e)) (option_and_then key_error_named (up_to 4294967295 (number_said word)))
+value_said field.Seconds word = option_map U32 (up_to 4294967295 (number_of word))
+value_said field.Error word = option_map (λ e. U32 (error_number e)) (option_and_then key_error_named (up_to 4294967295 (number_of word)))
 value_said _ word = None
 
 -- the field of a kind, where its argument may be left out: a callout alone may

@@ -1,4 +1,3 @@
-pub mod Numbers
 pub mod Arguments
 pub mod Peer
 pub mod Printed

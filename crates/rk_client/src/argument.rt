@@ -7,9 +7,9 @@ ghost use Rattle.rk_message.specs.Asks.{error_number};
 ghost use Rattle.rk_client.specs.Arguments.{role_of, roles, serial_said, IsSaid};
 
 use crate::fault::ArgumentFault;
-use crate::numbers::number;
 use rk_message::FieldKind;
 use rk_names::{Callout, Description, KeyError, Payload, TypeName};
+use rk_text::number;
 
 /// A word that stands for a number.
 #[derive(Clone, Copy, Debug, PartialEq, Eq)]

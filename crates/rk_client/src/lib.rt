@@ -15,8 +15,7 @@
 //!
 //! # How it is built
 //!
-//! `numbers` and `argument` read one argument each: a number, a key, a ring, a setting, a name. `asking` puts those of an op together, `op` finds
-//! the op by its word. The table of asks in `rk_message` has which arguments an op takes; their order on a command line is that of its fields,
+//! `argument` reads one argument: a number, a key, a ring, a setting, a name. `asking` puts those of an op together, `op` finds the op by its word. The table of asks in `rk_message` has which arguments an op takes; their order on a command line is that of its fields,
 //! but for the callout, which comes last, since it may be left out. `peer` has the frames, `answer` the text. What an argument says stands in
 //! `specs/Arguments.antt`, what was written and read in `specs/Peer.antt`.
 #![tactic(auto)]
@@ -25,13 +24,11 @@ mod answer;
 mod argument;
 mod asking;
 mod fault;
-mod numbers;
 mod op;
 mod peer;
 
 pub use answer::printed;
 pub use asking::ask_of;
 pub use fault::{ArgumentFault, PeerFault};
-pub use numbers::number;
 pub use op::op_named;
 pub use peer::{exchange, exchange_greeted, is_refusal};

@@ -4,7 +4,7 @@ use Rattle.std.specs.List.{list_all, list_any}
 use Rattle.std.specs.Option.{option_and_then, option_flatten}
 use Rattle.std.specs.Str.{bytes_eq}
 use Rattle.std.specs.Str.Parse.{digits_value}
-use Rattle.rk_client.specs.Numbers.{number_said, up_to}
+use Rattle.rk_text.specs.Numbers.{number_of, up_to}
 use Rattle.rk_daemon.specs.declared.settings.Settings.{Settings}
 use Rattle.rk_daemon.specs.Options.{Given, all_named, options_of, value_in}
 
@@ -40,7 +40,7 @@ permissions_said bytes = up_to 0o777 (octal_said bytes)
 
 -- a number up to a limit
 abbrev pub number_up_to : ℕ → List ℕ → Option ℕ
-number_up_to limit bytes = up_to limit (number_said bytes)
+number_up_to limit bytes = up_to limit (number_of bytes)
 
 abbrev pub unless_zero : Option ℕ → Option ℕ
 unless_zero None = None

@@ -5,7 +5,7 @@ ghost use Rattle.rk_daemon.specs.Options.{options_of};
 ghost use Rattle.rk_daemon.specs.Settings.{is_octal_digit, number_in, number_up_to, path_in, permissions_said, set_by, settings_said, unless_zero};
 
 use crate::options::{are_known, value_of};
-use rk_client::number;
+use rk_text::number;
 
 /// What an operator sets.
 #[derive(Clone, Copy, Debug)]

@@ -2,5 +2,4 @@ pub mod Heads
 pub mod Bodies
 pub mod Scripts
 pub mod LinesLeft
-pub mod Numbers
 pub mod BytesRead

@@ -1,21 +1,10 @@
 -- What a field of a script line is read as.
-use Rattle.std.specs.Prelude.{ℕ, ◌-◌, ◌^◌, List, length, ◌&&◌, Option, Some, None, option_and_then, nat_lt, nat_le, if◌then◌else◌}
+use Rattle.std.specs.Prelude.{ℕ, ◌-◌, ◌^◌, List, length, Option, None, option_and_then, nat_lt, if◌then◌else◌}
 use Rattle.std.specs.Result.{result_ok}
-use Rattle.std.specs.List.{list_all}
-use Rattle.std.specs.Char.{is_ascii_digit}
-use Rattle.std.specs.Str.Parse.{digits_value}
 use Rattle.hex.specs.Hex.{decode_of}
+use Rattle.rk_text.specs.Numbers.{number_of, up_to}
 use Rattle.rk_text.specs.Text.{has_bytes}
 use Rattle.rk_names.specs.Numbers.{serial_of}
-
--- one decimal digit or more, and no sign
-unfoldable pub number_of : List ℕ → Option ℕ
-number_of field = if has_bytes field && list_all is_ascii_digit field then Some (digits_value 10 field) else None
-
--- where it is not above the limit
-abbrev pub up_to : ℕ → Option ℕ → Option ℕ
-up_to limit None = None
-up_to limit (Some n) = if nat_le n limit then Some n else None
 
 -- a number with at most 20 digits
 abbrev pub short_number : List ℕ → Option ℕ

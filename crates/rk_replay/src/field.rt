@@ -6,10 +6,9 @@ ghost use Rattle.rk_replay.specs.Values.{moment_of, seconds_of, client_of, key_o
 ghost use Rattle.rk_replay.specs.Fields.{Gives, first_as, alone};
 ghost use Rattle.rk_replay.specs.declared.field.Misread.TheVariants.{NoMemory};
 
-use crate::number::number;
 use hex::FromHexError;
 use rk_served::Bytes;
-use rk_text::{Space, cut_field};
+use rk_text::{Space, cut_field, number};
 use std::alloc::{AllocError, Global};
 
 /// Why fields say nothing.

@@ -16,12 +16,11 @@
 //! # How it is built
 //!
 //! `script` reads and writes the streams, `settings` holds what the head of a script sets, and `playing` goes through its lines.
-//! `number`, `field` and `verb` read a line from its front, each in time in proportion to what it reads.
+//! `field` and `verb` read a line from its front, each in time in proportion to what it reads.
 #![tactic(auto)]
 
 mod fault;
 mod field;
-mod number;
 mod playing;
 mod script;
 mod script_line;

@@ -1,2 +1,3 @@
 pub mod TextRules
 pub mod Cuts
+mod Digits

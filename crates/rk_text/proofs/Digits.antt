@@ -10,15 +10,15 @@ use Rattle.std.proofs.lemmas.Str.{IsUtf8-from_ascii}
 use Rattle.std.proofs.lemmas.Str.Parse.{IsNumeralModel, numerals_by_value, parse_digits}
 use Rattle.std.proofs.lemmas.Bool.{cases_lt}
 use Rattle.std.proofs.lemmas.Bool.Decides.{nat_tests}
-use Rattle.rk_client.specs.Numbers.{number_said, up_to}
+use Rattle.rk_text.specs.Numbers.{number_of, up_to}
 
 own : IsNumeralModel (λ ds. list_all is_ascii_digit ds ≡ true) (digits_value 10)
 own = numerals_by_value _ (search rules)
 
 -- ---- the tests that come before
 
-pub not_digits : (word : List ℕ) (limit : ℕ) → list_all is_ascii_digit word ≡ false → None ≡ up_to limit (number_said word)
-unfolding number_said
+pub not_digits : (bytes : List ℕ) (limit : ℕ) → list_all is_ascii_digit bytes ≡ false → None ≡ up_to limit (number_of bytes)
+unfolding number_of
 not_digits [] limit h = refl
 not_digits (b ∷ bs) limit h = rw h refl
 
@@ -45,14 +45,14 @@ up_to-le limit n h = (let e : nat_le n limit ≡ true = grind (arith, nat_tests)
 pub up_to-gt : (limit n : ℕ) → limit < n → up_to limit (Some n) ≡ None
 up_to-gt limit n h = (let e : nat_le n limit ≡ false = grind (arith, nat_tests) in rw e refl)
 
-pub parsed : (word : List ℕ) (n : ℕ) → list_all is_ascii_digit word ≡ true → ParsesUnsigned {E = ℕ} 64 10 word (Ok n) → number_said word ≡ Some n
-unfolding number_said
+pub parsed : (bytes : List ℕ) (n : ℕ) → list_all is_ascii_digit bytes ≡ true → ParsesUnsigned {E = ℕ} 64 10 bytes (Ok n) → number_of bytes ≡ Some n
+unfolding number_of
 parsed [] n h p = (let q = parse_digits own {E = ℕ} 64 [] (Ok n) p h in absurd (omega (arith, q.0.1)))
 parsed (b ∷ bs) n h p = (let q = parse_digits own {E = ℕ} 64 (b ∷ bs) (Ok n) p h in rw h (ap Some (sym q.1)))
 
-pub not_parsed : (E : Type 0) (word : List ℕ) (limit : ℕ) (e : E) → limit < 2 ^ 64 → list_all is_ascii_digit word ≡ true
-    → ParsesUnsigned {E = E} 64 10 word (Err e) → None ≡ up_to limit (number_said word)
-unfolding number_said
+pub not_parsed : (E : Type 0) (bytes : List ℕ) (limit : ℕ) (e : E) → limit < 2 ^ 64 → list_all is_ascii_digit bytes ≡ true
+    → ParsesUnsigned {E = E} 64 10 bytes (Err e) → None ≡ up_to limit (number_of bytes)
+unfolding number_of
 not_parsed E [] limit e small h p = refl
 not_parsed E (b ∷ bs) limit e small h p =
     let q = parse_digits own {E = E} 64 (b ∷ bs) (Err e) p h in
