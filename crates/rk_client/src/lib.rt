@@ -15,9 +15,10 @@
 //!
 //! # How it is built
 //!
-//! `argument` reads one argument: a number, a key, a ring, a setting, a name. `asking` puts those of an op together, `op` finds the op by its word. The table of asks in `rk_message` has which arguments an op takes; their order on a command line is that of its fields,
-//! but for the callout, which comes last, since it may be left out. `peer` has the frames, `answer` the text. What an argument says stands in
-//! `specs/Arguments.antt`, what was written and read in `specs/Peer.antt`.
+//! `argument` reads one argument: a number, a key, a ring, a setting, a name. `asking` puts those of an op together, `op` finds the op by its word.
+//! The table of asks in `rk_message` has which arguments an op takes; their order on a command line is that of its fields, but for the callout, which
+//! comes last, since it may be left out. `peer` has the frames, `answer` the text. What an argument says stands in `specs/Arguments.antt`, what was
+//! written and read in `specs/Peer.antt`.
 #![tactic(auto)]
 
 mod answer;

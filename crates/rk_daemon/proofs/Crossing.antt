@@ -14,6 +14,7 @@ use Rattle.rk_conf.specs.contracts.line.Line as line
 use Rattle.rk_hall.specs.declared.names.Names as names
 use Rattle.rk_hall.specs.contracts.halls.Halls as halls
 use Rattle.rk_hall.proofs.Crossing.{lock_send, lock_sync}
+use Rattle.rk_daemon.specs.contracts.held.Held as held
 use Rattle.rk_daemon.specs.contracts.workers.Shared as shared
 
 typ_send : IsSend typ.the_row
@@ -58,15 +59,21 @@ conf_send = let l = line_send in search (sendable, crosses) depth 40 fits 20000
 pub conf_sync : IsSync conf.the_row
 conf_sync = let l = line_sync in search (sendable, crosses) depth 40 fits 20000
 
+held_send : IsSend (Struct (shape held.the_type))
+held_send = search (sendable, crosses) depth 40 fits 20000
+
+held_sync : IsSync (Struct (shape held.the_type))
+held_sync = search (sendable, crosses) depth 40 fits 20000
+
 module _ (N : RattleType) (g : names.Ghosts N.Denot) (n : IsSend N) where
   pub shared_send : IsSend (shared.the_row N g)
   shared_send =
       let h : IsSend (Struct (shape (halls.the_type N g))) = struct_send (shape (halls.the_type N g))
       (lock_send N g 0 n, (lock_send N g 1 n, (lock_send N g 2 n, (lock_send N g 3 n, tt)))) in
-      recorded_send _ _ _ (shared.the_type N g).to_one (struct_send (shape (shared.the_type N g)) (h, (conf_send, (search sendable depth 20, tt))))
+      recorded_send _ _ _ (shared.the_type N g).to_one (struct_send (shape (shared.the_type N g)) (h, (conf_send, (search sendable depth 20, (held_send, tt)))))
 
   pub shared_sync : IsSync (shared.the_row N g)
   shared_sync =
       let h : IsSync (Struct (shape (halls.the_type N g))) = struct_sync (shape (halls.the_type N g))
       (lock_sync N g 0 n, (lock_sync N g 1 n, (lock_sync N g 2 n, (lock_sync N g 3 n, tt)))) in
-      recorded_sync _ _ _ (shared.the_type N g).to_one (struct_sync (shape (shared.the_type N g)) (h, (conf_sync, (search sendable depth 20, tt))))
+      recorded_sync _ _ _ (shared.the_type N g).to_one (struct_sync (shape (shared.the_type N g)) (h, (conf_sync, (search sendable depth 20, (held_sync, tt)))))

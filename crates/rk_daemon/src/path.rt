@@ -3,7 +3,7 @@
 use std::fs::Files;
 use std::io::ErrorKind;
 use std::net::Net;
-use std::os::fd::{AsFd, AsRawFd};
+use std::os::fd::{AsFd, AsRawFd, OwnedFd};
 use std::os::unix::fs::{FileTypeExt, MetadataExt, PermissionsExt};
 use std::os::unix::net::{SocketAddr, UnixListener, UnixStream};
 use std::{fs, io};
@@ -38,16 +38,25 @@ fn is_left_over<R: Files + Net>(rt: &R, path: &str) -> io::Result<bool> {
     }
 }
 
-/// Makes a socket at the path, where no file may stand, and listens. Nobody can connect before its permissions are set.
-fn open<R: Files + Net>(rt: &R, path: &str, mode: u32) -> io::Result<UnixListener> {
-    let address = SocketAddr::from_pathname(path)?;
-    let socket = rt.unix_socket()?;
-    rt.bind_unix(socket.as_fd(), &address)?;
+/// Has the socket of the file at the path listen. Nobody can connect before its permissions are set.
+fn listen<R: Files>(rt: &R, socket: OwnedFd, path: &str, mode: u32) -> io::Result<UnixListener> {
     fs::set_permissions(rt, path, fs::Permissions::from_mode(mode))?;
     if libc::net::listen(socket.as_raw_fd(), BACKLOG) != 0 {
         return Err(io::Error::from(ErrorKind::Other));
     }
     Ok(UnixListener::from(socket))
+}
+
+/// Makes a socket at the path, where no file may stand, and listens. Where it can't listen, its file goes again.
+fn open<R: Files + Net>(rt: &R, path: &str, mode: u32) -> io::Result<UnixListener> {
+    let address = SocketAddr::from_pathname(path)?;
+    let socket = rt.unix_socket()?;
+    rt.bind_unix(socket.as_fd(), &address)?;
+    let listener = listen(rt, socket, path, mode);
+    if listener.is_err() {
+        let _ = fs::remove_file(rt, path);
+    }
+    listener
 }
 
 /// Takes the path: a socket with these permissions on which nobody listens any more is replaced, and any other file is left.

@@ -4,6 +4,7 @@ ghost use Rattle.rk_daemon.specs.Faults.{IsFound, IsOfConf};
 
 use crate::accepting::accept;
 use crate::fault::Fault;
+use crate::held::Held;
 use crate::path::{give_free, take};
 use crate::settings::Settings;
 use crate::workers::{Shared, start};
@@ -25,8 +26,8 @@ use std::time::{Clock, Instant};
 /// How many accepted connections may wait for a worker.
 const WAITING: usize = 64;
 
-/// How many steps a volume of a hall's record has. A record keeps the bytes of what it answered, up to 46 KB for a key that is read, until its volume is
-/// handed out and dropped; so this bounds what a client can have the daemon hold.
+/// How many steps a volume of a hall's record has at most. A record keeps the bytes of what was asked and answered until its volume is handed out and
+/// dropped, which is done earlier where these come to much (`gate`).
 const VOLUME: usize = 8192;
 
 /// What is said once connections are accepted.
@@ -70,6 +71,7 @@ fn serve_at<
             halls,
             conf,
             start: begun,
+            held: Held::new(),
         },
     )?;
     let (to, from) = crossbeam_channel::bounded(alloc, WAITING)?;

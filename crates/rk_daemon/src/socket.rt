@@ -2,16 +2,18 @@
 ghost use Rattle.std.specs.Prelude.{◌≡◌, None};
 ghost use Rattle.rk_devices.specs.Counts.{Rose, raised};
 
+use crate::held::{Held, taken_by};
 use rk_devices::DeviceFault;
 use rk_hall::Receipt;
 use rk_session::Wire;
 use std::io::{Read, Write};
 use std::os::unix::net::UnixStream;
 
-/// A client's socket. It counts its failures and reads.
+/// A client's socket. It counts its failures and reads, and what its asks put into the records.
 #[derive(Drop)]
-pub struct Socket {
+pub struct Socket<'a> {
     stream: UnixStream,
+    held: &'a Held,
     failed: u64,
     reads: u64,
 }
@@ -24,11 +26,12 @@ fn one_more(count: u64) -> u64
     if count < u64::MAX { count + 1 } else { count }
 }
 
-impl Socket {
-    /// The socket of a connection that was accepted.
-    pub fn new(stream: UnixStream) -> Socket {
+impl<'a> Socket<'a> {
+    /// The socket of a connection that was accepted, which counts what the records hold here.
+    pub fn new(stream: UnixStream, held: &'a Held) -> Socket<'a> {
         Socket {
             stream,
+            held,
             failed: 0,
             reads: 0,
         }
@@ -45,7 +48,7 @@ impl Socket {
     }
 }
 
-impl Wire for Socket {
+impl<'a> Wire for Socket<'a> {
     ghost shown = { λ s. record { count = s.failed; reads = s.reads; story = None } };
 
     fn read(&mut self, buf: &mut [u8]) -> Result<usize, DeviceFault> {
@@ -64,6 +67,7 @@ impl Wire for Socket {
     }
 
     fn note(&mut self, receipt: Receipt) {
+        self.held.add(receipt.hall(), taken_by(&receipt));
         drop(receipt);
     }
 

@@ -3,7 +3,8 @@ ghost use Rattle.std.specs.Prelude.{◌≤◌};
 ghost use Rattle.rk_devices.specs.Counts.{most};
 
 use crate::clock::Seconds;
-use crate::gate::OpenGate;
+use crate::gate::Relief;
+use crate::held::Held;
 use crate::shelf::Named;
 use crate::socket::Socket;
 use crossbeam_channel::Receiver;
@@ -41,6 +42,8 @@ pub struct Shared<N: Names> {
     pub conf: Conf,
     /// When the daemon has started.
     pub start: Instant,
+    /// How much the halls' records hold.
+    pub held: Held,
 }
 
 /// Serves one connection to its end.
@@ -60,9 +63,10 @@ fn serve_client<N: Names, R: Wait + Clock + Eprint + Log, L: Launcher>(
         warn!(rt; "session {number}: no memory");
         return;
     };
-    let mut socket = Socket::new(stream);
+    let mut socket = Socket::new(stream, &shared.held);
     let mut clock = Seconds::since(rt, shared.start);
-    let (gate, shelf) = (OpenGate, Named::new(rt));
+    let shelf = Named::new(rt);
+    let gate = Relief::new(&shared.halls, &shared.held, &shelf);
     let served = serve(
         rt,
         alloc,

@@ -9,7 +9,8 @@
 //! # What it promises
 //!
 //! What is cut off is the first of `lines_of` and of `fields_of` (`specs/Text.antt`), and the rest has the others. A field and a rest of text are
-//! text. A number is `number_of` the bytes (`specs/Numbers.antt`), where it is not above a limit. Nothing is copied and no memory is taken; whatever the bytes are, there is an answer, in time in proportion to their number.
+//! text. A number is `number_of` the bytes (`specs/Numbers.antt`), where it is not above a limit. Nothing is copied and no memory is taken; whatever
+//! the bytes are, there is an answer, in time in proportion to their number.
 //!
 //! # How it is built
 //!

@@ -1,0 +1,60 @@
+//! How much the halls' records hold.
+
+use rk_hall::{HallNo, Receipt, Told};
+use rk_machine::Answer;
+use std::sync::atomic::{AtomicU64, Ordering};
+
+/// How many bytes of asks and replies each hall's record has taken since its volume was last handed out, about. Threads count here without a lock.
+#[derive(Drop)]
+pub struct Held {
+    zero: AtomicU64,
+    one: AtomicU64,
+    two: AtomicU64,
+    three: AtomicU64,
+}
+
+impl Held {
+    /// Nothing is held.
+    pub fn new() -> Held {
+        Held {
+            zero: AtomicU64::new(0),
+            one: AtomicU64::new(0),
+            two: AtomicU64::new(0),
+            three: AtomicU64::new(0),
+        }
+    }
+
+    fn of(&self, hall: HallNo) -> &AtomicU64 {
+        match hall {
+            HallNo::Zero => &self.zero,
+            HallNo::One => &self.one,
+            HallNo::Two => &self.two,
+            HallNo::Three => &self.three,
+        }
+    }
+
+    /// Counts so many bytes more in the record of this hall.
+    pub fn add(&self, hall: HallNo, bytes: u64) {
+        self.of(hall).fetch_add(bytes, Ordering::Relaxed);
+    }
+
+    /// Whether the record of this hall has taken more than so many bytes. Then its volume is to be handed out, and it is counted from 0 again, so that one
+    /// of several threads is told.
+    pub fn is_over(&self, hall: HallNo, most: u64) -> bool {
+        let bytes = self.of(hall);
+        bytes.load(Ordering::Relaxed) > most && bytes.swap(0, Ordering::Relaxed) > most
+    }
+}
+
+/// How many bytes the step of this receipt has put into its hall's record: those of the ask and of its reply.
+pub fn taken_by(receipt: &Receipt) -> u64 {
+    let asked = match receipt.told() {
+        Told::Asked(_, ask) => ask.body_len(),
+        _ => 0,
+    };
+    let answered = match receipt.answer() {
+        Answer::Done(reply) => reply.body_len(),
+        _ => 0,
+    };
+    (asked + answered) as u64
+}
