@@ -297,20 +297,32 @@ def long_payloads(program):
     """Long payloads in one hall: the volume of its record is handed out long before it has all its steps, and what the daemon holds stays bounded."""
     with Daemon(program) as daemon, daemon.client() as client:
         add = ask.add(b"user", b"k", b"v" * 32000, -4)
-        before = resident(daemon)
+        before = memory(daemon, "VmRSS")
         for sent in range(0, 2500, 10):
             keys = client.ask(*[add] * 10)
             if not all(isinstance(key, int) for key in keys):
                 return f"a reply among the asks from {sent} on: {keys}"
         lines = until(lambda: len(told := [line for line in daemon.lines if line.startswith("volume ")]) > 3 and told, "the lines of the volumes")
         steps = [int(line.split(" ")[3]) for line in lines]
-        return differs((len(steps), min(steps) > 400, max(steps) < 800, resident(daemon) - before < 100 << 10), (4, True, True, True)) or daemon.lives()
+        return differs((len(steps), min(steps) > 400, max(steps) < 800, memory(daemon, "VmRSS") - before < 100 << 10), (4, True, True, True)) or daemon.lives()
 
 
-def resident(daemon):
-    """The KiB of memory that a daemon has."""
+def many_made_keys(program):
+    """Keys of a few bytes that handlers have made take little: what the room for a long output took is given back, and the record is bounded."""
+    with Daemon(program, "create user p:* * |/bin/cat\n") as daemon:
+        clients = [daemon.client(1000 + 4 * at) for at in range(8)]
+        before = memory(daemon, "VmData")
+        for at in range(120):
+            keys = [client.ask(ask.request(b"user", b"p:%d" % at, b"made", -4)) for client in clients]
+            if not all(isinstance(key, int) for key in keys):
+                return f"a reply among the requests for p:{at}: {keys}"
+        return differs(memory(daemon, "VmData") - before < 40 << 10, True) or daemon.lives()
+
+
+def memory(daemon, kind):
+    """The KiB of memory of this kind that a daemon has (proc_pid_status(5)): what is resident, VmRSS, or what it may write to, VmData."""
     with open(f"/proc/{daemon.process.pid}/status") as status:
-        return next(int(line.split()[1]) for line in status if line.startswith("VmRSS:"))
+        return next(int(line.split()[1]) for line in status if line.startswith(f"{kind}:"))
 
 
 def four_halls(program):
@@ -332,7 +344,7 @@ def four_halls(program):
 
 def cases():
     for try_it in [never_reads, closes_unread, client_leaves, silent, come_and_go, rings_of_many,
-                   all_at_once, short_beside_long, same_key, crowd, no_descriptors, few_descriptors, full_record, long_payloads, four_halls]:
+                   all_at_once, short_beside_long, same_key, crowd, no_descriptors, few_descriptors, full_record, long_payloads, many_made_keys, four_halls]:
         yield try_it.__name__.replace("_", " "), try_it
     for count in [20, 200]:
         yield f"{count} clients and one worker", one_worker, count

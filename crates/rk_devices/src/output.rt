@@ -49,14 +49,17 @@ impl Output {
         }
     }
 
-    /// The payload that it is: none of no bytes, nor of too many. It takes no memory.
+    /// The payload that it is: none of no bytes, nor of too many. What it does not need of the room is given back; where that takes memory that is
+    /// lacking, the payload keeps the room.
     pub fn into_payload(self) -> Option<Payload>
         ensures { result ≡ payload_of self }
     {
         if self.over {
             return None;
         }
-        match Payload::new(self.bytes) {
+        let mut bytes = self.bytes;
+        bytes.shrink_to_fit();
+        match Payload::new(bytes) {
             Ok(payload) => Some(payload),
             Err(_) => None,
         }
