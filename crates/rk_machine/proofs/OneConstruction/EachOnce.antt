@@ -5,6 +5,8 @@ use Rattle.std.specs.List.{list_any}
 use Rattle.std.specs.Ordering.{nat_cmp}
 use Rattle.std.specs.FinMap as map
 use Rattle.rk_auth.specs.declared.construction.Stage.TheVariants.{Negating}
+use Rattle.rk_machine.specs.declared.event.Event.{Event}
+use Rattle.rk_machine.specs.declared.event.Answer.{Answer}
 use Rattle.rk_machine.specs.World.{World, empty_world}
 use Rattle.rk_machine.specs.Steps.{Beginning, Past, Run, Step}
 use Rattle.rk_machine.specs.Laws.{happened, never, is_start, is_launch, is_negate, since_negate, is_ending, is_completion, OnceFor, EachOnce}
@@ -344,6 +346,11 @@ good_after q d dn own_ask t o n (assumed_now y key m te named was runs mine new)
     let e : as_assumed m y ≡ x = some_shape (sym new ∙ is) in
     let one = mine k (ap (λ (z : Shape). z.assumed) e ∙ own) in
     (one.0, sym (ap (λ (z : Shape). z.unspent) e) ∙ one.1, sym (ap (λ (z : Shape). z.starting) e) ∙ runs)
+
+-- what handlers have assumed stays their own
+pub goods_after : (old : World) (now : ℕ) (e : Event) (a : Answer) (new : World) → Step old now e a new → Goods old.sessions → Goods new.sessions
+goods_after old now e a new step good q =
+    good_after q _ _ _ _ _ _ (turns old now e a new (effect old now e a new step) good q) (good q)
 
 -- ---- every run
 
