@@ -2,6 +2,9 @@ pub mod ServedLaws
 pub mod Turns
 pub mod PeerLists
 pub mod Standings
+pub mod Places
+pub mod Watching
+pub mod Queues
 pub mod PeersFit
 pub mod Kept
 pub mod Weight

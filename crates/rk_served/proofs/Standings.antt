@@ -18,7 +18,7 @@ use Rattle.rk_served.proofs.PeerLists.{both, both_of, some_peer}
 -- ---- the order
 
 -- who comes before one that comes before another comes before that one
-before_trans : (s t u : SessionId) → comes_before s t ≡ true → comes_before t u ≡ true → comes_before s u ≡ true
+pub before_trans : (s t u : SessionId) → comes_before s t ≡ true → comes_before t u ≡ true → comes_before s u ≡ true
 before_trans (Client l) (Client m) (Client n) e f = grind (arith, nat_tests)
 before_trans (Client l) (Client m) (Handler k) e f = refl
 before_trans (Client l) (Handler j) (Client n) e f = absurd (cc)
@@ -28,12 +28,12 @@ before_trans (Handler i) (Handler j) (Client n) e f = absurd (cc)
 before_trans (Handler i) (Handler j) (Handler k) e f = grind (arith, nat_tests)
 
 -- nobody comes before himself
-before_self : (s : SessionId) → comes_before s s ≡ false
+pub before_self : (s : SessionId) → comes_before s s ≡ false
 before_self (Client n) = grind (arith, nat_tests)
 before_self (Handler k) = grind (arith, nat_tests)
 
 -- who does not come before one does not come before those that it comes behind
-not_before : (s t u : SessionId) → comes_before t u ≡ true → not (comes_before s u) ≡ true → not (comes_before s t) ≡ true
+pub not_before : (s t u : SessionId) → comes_before t u ≡ true → not (comes_before s u) ≡ true → not (comes_before s t) ≡ true
 not_before s t u e f = by_test (comes_before s t) refl
   where
     by_test : (b : Bool) → comes_before s t ≡ b → not b ≡ true

@@ -11,4 +11,5 @@ pub mod Order
 pub mod WhoIsThere
 pub mod Channels
 pub mod Calls
+pub mod Queued
 pub mod View

@@ -56,6 +56,17 @@ is_misplaced w (happening.HandlerReadFault k) = not (is_running w k)
 is_misplaced w (happening.HandlerEnded k how) = not (is_running w k)
 is_misplaced w (happening.WaitFault k) = not (is_running w k)
 
+-- the client or the handler to whom it happens
+abbrev pub whose : Happening → SessionId
+whose (happening.Accept n) = Client n
+whose (happening.Bytes n bytes) = Client n
+whose (happening.Gone n) = Client n
+whose (happening.StartResult k r) = Handler k
+whose (happening.HandlerBytes k bytes) = Handler k
+whose (happening.HandlerReadFault k) = Handler k
+whose (happening.HandlerEnded k how) = Handler k
+whose (happening.WaitFault k) = Handler k
+
 -- ---- what it does to the peers
 
 -- who it is about has this, and afterwards has that

@@ -14,6 +14,7 @@ ghost use Rattle.rk_served.specs.Left.{no_step, one_step};
 ghost use Rattle.rk_served.specs.OwnStep.{has_client, is_to_start, is_running, is_misplaced, Lengthens, ClientGoes, FailsToRun, negated};
 ghost use Rattle.rk_served.specs.Order.{ActsInOrder};
 ghost use Rattle.rk_served.specs.WhoIsThere.{HasItsPeers, has_peer};
+ghost use Rattle.rk_served.specs.Queued.{IsStill};
 ghost use Rattle.rk_served.specs.Calls.{left_of, is_refused, MakesOwnStep, IsStartAt, HasEnded, EndsOne};
 
 use crate::bytes::Bytes;
@@ -21,6 +22,7 @@ use crate::happening::{Happening, StartResult};
 use crate::output::{Output, Outputs};
 use crate::peer::{Channel, Peer};
 use crate::peers;
+use crate::queue::Queue;
 use crate::server::Server;
 use crate::stream::Stream;
 use rk_auth::Stage;
@@ -328,14 +330,18 @@ impl Server {
         conf: &Conf,
         now: Moment,
         happening: &Happening,
+        queue: &mut Queue,
     ) -> Result<Outputs, AllocError>
         requires has_peers { HasItsPeers (left_of self.old) }
+        requires still { IsStill queue.old (left_of self.old) }
         requires placed { is_misplaced self.old.book happening.now ≡ false }
-        ensures { IfOk result (λ out. (steps : List Past) × ActsInOrder conf.now (left_of self.old) now happening.now out steps (left_of self.new)) }
+        ensures acts { IfOk result (λ out. (steps : List Past) × ActsInOrder conf.now (left_of self.old) now happening.now out steps (left_of self.new)) }
+        ensures still { OnOk result (IsStill queue.new (left_of self.new)) }
     {
         let mut out = Vec::new(alloc);
         self.own_step(alloc, conf, now, happening, &mut out)?;
-        self.move_all(alloc, conf, now, &mut out)?;
+        self.stir(alloc, &happening.whose(), queue)?;
+        self.move_all(alloc, conf, now, queue, &mut out)?;
         Ok(Outputs::new(out))
     }
 }

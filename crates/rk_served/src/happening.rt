@@ -1,7 +1,10 @@
 //! What happens to a replay.
+ghost use Rattle.std.specs.Prelude.{◌≡◌};
+ghost use Rattle.rk_served.specs.OwnStep.{whose};
+
 use crate::bytes::Bytes;
 use rk_core::How;
-use rk_names::Serial;
+use rk_names::{Serial, SessionId};
 
 /// What became of a command that was to be started.
 #[derive(Clone, Copy, Debug, PartialEq, Eq)]
@@ -31,4 +34,22 @@ pub enum Happening {
     HandlerEnded(Serial, How),
     /// A handler could not be waited for.
     WaitFault(Serial),
+}
+
+impl Happening {
+    /// The client or the handler to whom it happens.
+    pub fn whose(&self) -> SessionId
+        ensures { result ≡ whose self.now }
+    {
+        match self {
+            Happening::Accept(client) | Happening::Bytes(client, _) | Happening::Gone(client) => {
+                SessionId::Client(*client)
+            }
+            Happening::StartResult(key, _)
+            | Happening::HandlerBytes(key, _)
+            | Happening::HandlerReadFault(key)
+            | Happening::HandlerEnded(key, _)
+            | Happening::WaitFault(key) => SessionId::Handler(*key),
+        }
+    }
 }

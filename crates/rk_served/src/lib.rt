@@ -17,7 +17,8 @@
 //!
 //! `stream` cuts frames and reads asks. A peer is a client, or a construction with its handler; `peer` and `peers` say who is there.
 //! `command` makes the words of a command, `replies` makes frames of answers. `server` is the machine with the peers, and moves
-//! sessions; `acting` takes the own step of a happening, and `replay` is what the crates above see. Each move makes the rest lighter:
+//! sessions; `acting` takes the own step of a happening, and `replay` is what the crates above see. `queue` knows who may move, and who waits for
+//! which key: only those that a step can have freed are asked again, and not all who are there. Each move makes the rest lighter:
 //! fewer unused bytes, a stream that is shut, or a wait that has ended; so the moves come to an end (`proofs/Weight.antt`).
 #![tactic(auto)]
 
@@ -29,12 +30,13 @@ mod happening;
 mod output;
 mod peer;
 mod peers;
+mod queue;
 mod replay;
 mod replies;
 mod server;
 mod stream;
 
-pub use bytes::Bytes;
+pub use crate::bytes::Bytes;
 pub use fault::TakeFault;
 pub use happening::{Happening, StartResult};
 pub use output::{Output, Outputs};

@@ -1,6 +1,6 @@
 //! The peers that are there, in the order in which they move.
-ghost use Rattle.std.specs.Prelude.{◌≡◌, ◌<◌, true, length, IfSome, IfNone, OnOk, slice_get, position};
-ghost use Rattle.std.specs.List.{position_or_len};
+ghost use Rattle.std.specs.Prelude.{◌≡◌, ◌<◌, true, length, IfSome, IfNone, OnOk, slice_get};
+ghost use Rattle.std.specs.List.{position_or_len, prefix_len};
 ghost use Rattle.rk_names.specs.declared.numbers.SessionId.TheVariants.{Client, Handler};
 ghost use Rattle.rk_machine.specs.Laws.{same_session};
 ghost use Rattle.rk_served.specs.Left.{without};
@@ -42,45 +42,50 @@ fn is_handler(who: &SessionId, key: u32) -> bool
     }
 }
 
-/// Where the peer of this one is.
-pub fn index_of(peers: &[Peer], who: &SessionId) -> Option<usize>
-    ensures found { IfSome result (λ i. IfSome (slice_get peers.now i) (λ x. (x.who ≡ who.now) × (peer_of peers.now who.now ≡ Some x))) }
-    ensures within { IfSome result (λ i. i < length peers.now) }
-    ensures none { IfNone result (peer_of peers.now who.now ≡ None) }
-{
-    for (i, peer) in peers.iter().enumerate() {
-        if same(&peer.who, who) {
-            return Some(i);
-        }
-    }
-    None
-}
-
 /// Whether the one comes before the other: clients by rising number, and then handlers by rising key.
-fn comes_before(one: &SessionId, other: &SessionId) -> bool
+pub fn comes_before(one: &SessionId, other: &SessionId) -> bool
     ensures { result ≡ comes_before one.now other.now }
 {
     one < other
 }
 
-/// Where the first one sits that this one comes before.
-fn first_behind(peers: &[Peer], who: &SessionId) -> Option<usize>
-    ensures { result ≡ position (λ x. comes_before who.now x.who) peers.now }
+/// How many come before this one. It looks at as many peers as their number can be halved.
+fn count_before(peers: &[Peer], who: &SessionId) -> usize
+    requires { are_in_order peers.now ≡ true }
+    ensures { result ≡ prefix_len (λ x. comes_before x.who who.now) peers.now }
 {
-    peers.iter().position(|peer| comes_before(who, &peer.who))
+    peers.partition_point(|peer| comes_before(&peer.who, who))
 }
 
-/// Where a peer of this one is to stand: in front of the first that it comes before, or behind all.
+/// Where the peer of this one is. It looks at as many peers as their number can be halved.
+pub fn index_of(peers: &[Peer], who: &SessionId) -> Option<usize>
+    requires { are_in_order peers.now ≡ true }
+    ensures found { IfSome result (λ i. IfSome (slice_get peers.now i) (λ x. (x.who ≡ who.now) × (peer_of peers.now who.now ≡ Some x))) }
+    ensures within { IfSome result (λ i. i < length peers.now) }
+    ensures none { IfNone result (peer_of peers.now who.now ≡ None) }
+{
+    let index = count_before(peers, who);
+    if index < peers.len() && same(&peers[index].who, who) {
+        Some(index)
+    } else {
+        None
+    }
+}
+
+/// Where a peer of this one is to stand: in front of the first that it comes before, or behind all. It looks at as many peers as their number can
+/// be halved.
 fn rank(peers: &[Peer], who: &SessionId) -> usize
+    requires { are_in_order peers.now ≡ true }
     ensures { result ≡ position_or_len (λ x. comes_before who.now x.who) peers.now }
 {
-    first_behind(peers, who).unwrap_or(peers.len())
+    peers.partition_point(|peer| !comes_before(who, &peer.who))
 }
 
 /// Puts a peer among the others, at its place in the order.
 pub fn add(peers: &mut Vec<Peer>, peer: Peer) -> Result<(), AllocError>
+    requires { are_in_order peers.old.items ≡ true }
     ensures adds { OnOk result (Adds peer peers.old.items peers.new.items) }
-    ensures order { are_in_order peers.old.items ≡ true → are_in_order peers.new.items ≡ true }
+    ensures order { are_in_order peers.new.items ≡ true }
 {
     let index = rank(peers, &peer.who);
     peers.insert(index, peer)?;
@@ -97,11 +102,12 @@ pub fn remove(peers: &mut Vec<Peer>, who: &SessionId)
 
 /// Takes the peer of this one away.
 pub fn take(peers: &mut Vec<Peer>, who: &SessionId) -> Option<Peer>
-    requires { are_apart peers.old.items ≡ true }
+    requires apart { are_apart peers.old.items ≡ true }
+    requires order { are_in_order peers.old.items ≡ true }
     ensures found { IfSome result (λ x. Sits who.now x peers.old.items) }
     ensures rest { IfSome result (λ x. peers.new.items ≡ without who.now peers.old.items) }
     ensures none { IfNone result (peer_of peers.old.items who.now ≡ None) }
-    ensures order { are_in_order peers.old.items ≡ true → are_in_order peers.new.items ≡ true }
+    ensures order { are_in_order peers.new.items ≡ true }
 {
     match index_of(peers, who) {
         Some(index) => Some(peers.remove(index)),

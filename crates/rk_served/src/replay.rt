@@ -11,6 +11,7 @@ ghost use Rattle.rk_served.specs.View.{told};
 use crate::fault::TakeFault;
 use crate::happening::Happening;
 use crate::output::Outputs;
+use crate::queue::Queue;
 use crate::server::Server;
 use rk_conf::Conf;
 use rk_core::{Book, Limits};
@@ -23,6 +24,7 @@ use std::marker::Model;
 pub struct Replay {
     conf: Conf,
     server: Server,
+    queue: Queue,
     broken: bool,
 }
 
@@ -30,6 +32,7 @@ impl Model for Replay {
     ghost use Rattle.std.specs.Prelude.{◌≡◌, false};
     ghost use Rattle.rk_served.specs.WhoIsThere.{HasItsPeers};
     ghost use Rattle.rk_served.specs.Calls.{left_of};
+    ghost use Rattle.rk_served.specs.Queued.{IsStill};
     ghost use Rattle.rk_served.specs.View.{View, view_code};
 
     ghost Value = { View };
@@ -38,7 +41,7 @@ impl Model for Replay {
 
     ghost view = { λ r. record { conf = r.conf; left = left_of r.server; broken = r.broken } };
 
-    ghost invariant = { λ r. r.broken ≡ false → HasItsPeers (left_of r.server) };
+    ghost invariant = { λ r. r.broken ≡ false → HasItsPeers (left_of r.server) × IsStill r.queue (left_of r.server) };
 }
 
 impl Replay {
@@ -55,6 +58,7 @@ impl Replay {
                 book: Book::new(alloc, limits)?,
                 peers: Vec::new(alloc),
             },
+            queue: Queue::new(alloc),
             broken: false,
         })
     }
@@ -96,7 +100,10 @@ impl Replay {
         if self.server.is_misplaced(happening) {
             return Err(TakeFault::Unknown);
         }
-        match self.server.act(alloc, &self.conf, now, happening) {
+        match self
+            .server
+            .act(alloc, &self.conf, now, happening, &mut self.queue)
+         {
             Ok(out) => Ok(out),
             Err(_) => {
                 self.broken = true;

@@ -1,5 +1,5 @@
 //! The machine and the peers that are there: the moves of sessions.
-ghost use Rattle.std.specs.Prelude.{◌≡◌, true, ◌<◌, List, IfOk, OnOk, IfSome, MatchBool, vec_len, slice_get};
+ghost use Rattle.std.specs.Prelude.{◌≡◌, true, false, ◌<◌, List, IfOk, OnOk, IfSome, MatchBool, vec_len, slice_get};
 ghost use Rattle.rk_conf.specs.declared.line.Line.{Line};
 ghost use Rattle.rk_machine.specs.Views.{is_ready};
 ghost use Rattle.rk_served.specs.Standing.{are_in_order};
@@ -11,6 +11,7 @@ use crate::command::command_for;
 use crate::output::Output;
 use crate::peer::{Channel, Peer};
 use crate::peers;
+use crate::queue::Queue;
 use crate::replies::put_reply;
 use crate::stream::Message;
 use rk_conf::Conf;
@@ -31,6 +32,8 @@ pub struct Server {
 
 impl Server {
     ghost use Rattle.rk_served.specs.Calls.{left_of, MovesOne, MovesNext, MovesSome, AnswersOne, StartsNow, TriesAt, IsFreeAt};
+    ghost use Rattle.rk_served.specs.Calls.{MovesBy, RestsBy};
+    ghost use Rattle.rk_served.specs.Queued.{IsWatched, IsStill, Stirs, Wakes, Parks};
 
     /// Puts out the command of a construction that has begun, or goes on, or has its start fail.
     pub fn start(
@@ -181,22 +184,83 @@ impl Server {
         self.take_at(alloc, conf, now, index, out)
     }
 
-    /// The first session that can makes one move.
+    /// This session makes one move, if it is there and can.
+    fn move_by(
+        &mut self,
+        alloc: Global,
+        conf: &Conf,
+        now: Moment,
+        who: &SessionId,
+        out: &mut Vec<Output>,
+    ) -> Result<bool, AllocError>
+        ensures { IfOk result (λ moved. MatchBool moved
+            (MovesBy conf.now now who.now (left_of self.old) out.old.items (left_of self.new) out.new.items)
+            ((left_of self.new ≡ left_of self.old) × (out.new.items ≡ out.old.items) × RestsBy who.now (left_of self.old))) }
+    {
+        match peers::index_of(&self.peers, who) {
+            Some(index) => self.move_at(alloc, conf, now, index, out),
+            None => Ok(false),
+        }
+    }
+
+    /// A session has moved: it may move again, and so may all who wait for a key whose construction it has completed or ended. Its own key may be
+    /// that, and one that it has just begun, where the start failed at once.
+    pub fn stir(&self, alloc: Global, who: &SessionId, queue: &mut Queue) -> Result<(), AllocError>
+        ensures { OnOk result (Stirs self.now.book who.now queue.old queue.new) }
+    {
+        queue.push(*who)?;
+        if let SessionId::Handler(key) = who {
+            self.wake(alloc, *key, queue)?;
+        }
+        if let Some(key) = self.book.awaited(who) {
+            self.wake(alloc, key, queue)?;
+        }
+        Ok(())
+    }
+
+    /// All who wait for a key may move, if its authority is spent.
+    fn wake(&self, alloc: Global, key: Serial, queue: &mut Queue) -> Result<(), AllocError>
+        ensures { OnOk result (Wakes self.now.book key queue.old queue.new) }
+    {
+        if self.book.depth(key).is_none() {
+            queue.wake(alloc, key)?;
+        }
+        Ok(())
+    }
+
+    /// A session can't move. If it waits for a key, the queue knows it by that key from now on.
+    fn park(&self, alloc: Global, who: SessionId, queue: &mut Queue) -> Result<(), AllocError>
+        ensures { OnOk result (Parks self.now.book who queue.old queue.new) }
+    {
+        if let Some(key) = self.book.awaited(&who) {
+            queue.park(alloc, key, who)?;
+        }
+        Ok(())
+    }
+
+    /// The first session that can makes one move. Of those in the queue that come before it, none can.
     fn move_one(
         &mut self,
         alloc: Global,
         conf: &Conf,
         now: Moment,
+        queue: &mut Queue,
         out: &mut Vec<Output>,
     ) -> Result<bool, AllocError>
-        ensures { IfOk result (λ moved. MatchBool moved
+        requires has_peers { HasItsPeers (left_of self.old) }
+        requires watched { IsWatched queue.old (left_of self.old) }
+        ensures moves { IfOk result (λ moved. MatchBool moved
             (MovesNext conf.now now (left_of self.old) out.old.items (left_of self.new) out.new.items)
             ((left_of self.new ≡ left_of self.old) × (out.new.items ≡ out.old.items) × IsAtRest (left_of self.old))) }
+        ensures watched { OnOk result (IsWatched queue.new (left_of self.new)) }
+        ensures still { IfOk result (λ moved. moved ≡ false → IsStill queue.new (left_of self.new)) }
     {
-        for index in 0..self.peers.len() {
-            if self.move_at(alloc, conf, now, index, out)? {
+        while let Some(who) = queue.pop() {
+            if self.move_by(alloc, conf, now, &who, out)? {
+                self.stir(alloc, &who, queue)?;
                 return Ok(true);
             }
+            self.park(alloc, who, queue)?;
         }
         Ok(false)
     }
@@ -207,13 +271,16 @@ impl Server {
         alloc: Global,
         conf: &Conf,
         now: Moment,
+        queue: &mut Queue,
         out: &mut Vec<Output>,
     ) -> Result<(), AllocError>
-        requires { HasItsPeers (left_of self.old) }
+        requires has_peers { HasItsPeers (left_of self.old) }
+        requires watched { IsWatched queue.old (left_of self.old) }
         ensures moves { OnOk result (MovesSome conf.now now (left_of self.old) out.old.items (left_of self.new) out.new.items) }
         ensures at_rest { OnOk result (IsAtRest (left_of self.new)) }
+        ensures still { OnOk result (IsStill queue.new (left_of self.new)) }
     {
-        while self.move_one(alloc, conf, now, out)? {}
+        while self.move_one(alloc, conf, now, queue, out)? {}
         Ok(())
     }
 }

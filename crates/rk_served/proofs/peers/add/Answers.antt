@@ -24,9 +24,9 @@ returns-clause-adds c = record {
 }
 
 pub returns-clause-order : goal.returns-clause-order
-returns-clause-order c order =
+returns-clause-order c =
     let xs = c.args.peers.now.items in
     let x : Peer = c.args.peer in
     let at : c.rank-index.result ≡ position_or_len (λ (y : Peer). comes_before c.args.peer.who y.who) xs = search rules in
     let items : c.insert.new.self.items ≡ insert xs c.rank-index.result x = search rules in
-    ap are_in_order (items ∙ ap (λ (i : ℕ). insert xs i x) at) ∙ order_inserted xs x order
+    ap are_in_order (items ∙ ap (λ (i : ℕ). insert xs i x) at) ∙ order_inserted xs x c.requires

@@ -1,18 +1,33 @@
-use Rattle.std.proofs.Common.{refl, sym, ◌∙◌, add-one}
-use Rattle.std.proofs.lemmas.Option.{slice_get_read}
+use Rattle.std.proofs.Common.{◌≡◌, refl, sym, ap, ◌∙◌, arith, rules}
+use Rattle.std.specs.Prelude.{Some, slice_get}
+use Rattle.std.proofs.lemmas.Option.{slice_get_read, slice_get_within}
+use Rattle.rk_machine.specs.Laws.{same_session}
 use Rattle.rk_machine.proofs.Effects.WaitsAfter.{same-true}
-use Rattle.rk_served.proofs.PeerLists.{peer_more, peer_found}
+use Rattle.rk_served.specs.declared.peer.Peer.{Peer}
+use Rattle.rk_served.proofs.PeerLists.{some_peer}
+use Rattle.rk_served.proofs.Places.{found_there, none_there}
 use Rattle.rk_served.proofs.peers.index_of.Goals as goal
+use Rattle.rk_served.proofs.peers.index_of.Goals.{else-index-peers-via-then-index-peers+else-same, else-index-peers-via-else-index-peers}
 
 pub returns-then-same-clause-found : goal.returns-then-same-clause-found
 returns-then-same-clause-found c =
-    let x = c.index-peers-i.result in
-    let at = slice_get_read c.args.peers.now _ c.loop-i.i x refl c.loop-i-test.true c.index-peers-i.is in
-    let same = sym c.same.ensures ∙ c.if-same.true in
-    rw at (same-true x.who c.args.who.now same, peer_found c.args.peers.now c.loop-i.i x c.args.who.now c.loop-i.invariant at same)
+    let xs = c.args.peers.now in
+    let x = c.index-peers-index.result in
+    let at = slice_get_read xs _ c.count_before-index.result x refl c.if-index-peers.true c.index-peers-index.is in
+    let same = ap (λ (y : Peer). same_session y.who c.args.who.now) c.index-peers-index.is ∙ sym c.same.ensures ∙ c.if-same.true in
+    rw at (same-true x.who c.args.who.now same, found_there c.args.who.now xs x (ap (slice_get xs) (sym c.count_before-index.ensures) ∙ at) same)
 
-pub loop-i-preserved : goal.loop-i-preserved
-loop-i-preserved c =
-    let x = c.index-peers-i.result in
-    let at = slice_get_read c.args.peers.now _ c.loop-i.i x refl c.loop-i-test.true c.index-peers-i.is in
-    rw (add-one c.loop-i.i) (peer_more c.args.peers.now c.loop-i.i x c.args.who.now c.loop-i.invariant at (sym c.same.ensures ∙ c.if-same.false))
+pub returns-else-index-peers-clause-none : goal.returns-else-index-peers-clause-none
+returns-else-index-peers-clause-none c =
+    let xs = c.args.peers.now in
+    let who = c.args.who.now in
+    let place = c.count_before-index.ensures in
+    elim c.else-index-peers.branch [
+      | else-index-peers-via-then-index-peers+else-same w ↦
+          let at = slice_get_read xs _ c.count_before-index.result w.index-peers-index.result refl w.if-index-peers.true w.index-peers-index.is in
+          none_there who xs c.requires (λ x there. ap (λ (y : Peer). same_session y.who who) (some_peer (sym there ∙ ap (slice_get xs) (sym place) ∙ at))
+          ∙ ap (λ (y : Peer). same_session y.who who) w.index-peers-index.is ∙ sym w.same.ensures ∙ w.if-same.false)
+      | else-index-peers-via-else-index-peers w ↦
+          none_there who xs c.requires (λ x there. absurd
+          (let inside = slice_get_within xs _ x (ap (slice_get xs) place ∙ there) in let past = w.if-index-peers.false in grind arith))
+    ]

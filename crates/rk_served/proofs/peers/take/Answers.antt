@@ -13,7 +13,8 @@ returns-in-Some-clause-rest c =
     let within = rw c.deref.ensures.value at c.in-Some.ensures.within in
     let at = slice_get_read xs _ i x refl within c.remove.ensures.value in
     let found = MatchOption-at_some _ _ x at (rw c.deref.ensures.value at c.in-Some.ensures.found) in
-    c.remove.ensures.items ∙ removed_at xs i c.args.who.now x c.requires at found.0
+    c.remove.ensures.items ∙ removed_at xs i c.args.who.now x c.requires.apart at found.0
 
 pub returns-in-Some-clause-order : goal.returns-in-Some-clause-order
-returns-in-Some-clause-order c order = ap are_in_order (returns-in-Some-clause-rest c) ∙ order_without c.args.who.now c.args.peers.now.items order
+returns-in-Some-clause-order c =
+    ap are_in_order (returns-in-Some-clause-rest c) ∙ order_without c.args.who.now c.args.peers.now.items c.requires.order

@@ -10,12 +10,12 @@ returns-then-is_misplaced-clause-served c =
 
 pub invariant_of-self : goal.invariant_of-self
 invariant_of-self c fine =
-    let acts = c.in-Ok.ensures in
-    acts_keeps_peers _ _ _ _ _ _ _ acts.1.acts (c.self.invariant fine)
+    let acts = c.in-Ok.ensures.acts in
+    (acts_keeps_peers _ _ _ _ _ _ _ acts.1.acts (c.self.invariant fine).0, c.in-Ok.ensures.still)
 
 pub returns-in-Ok-clause-served : goal.returns-in-Ok-clause-served
 returns-in-Ok-clause-served c =
-    rw (← c.self.view_is) (acts_next _ _ _ _ _ _ _ c.in-Ok.ensures.1.acts)
+    rw (← c.self.view_is) (acts_next _ _ _ _ _ _ _ c.in-Ok.ensures.acts.1.acts)
 
 pub returns-then-is_misplaced-clause-order : goal.returns-then-is_misplaced-clause-order
 returns-then-is_misplaced-clause-order c =
@@ -23,4 +23,4 @@ returns-then-is_misplaced-clause-order c =
 
 pub returns-in-Ok-clause-order : goal.returns-in-Ok-clause-order
 returns-in-Ok-clause-order c =
-    rw (← c.self.view_is) c.in-Ok.ensures
+    rw (← c.self.view_is) c.in-Ok.ensures.acts

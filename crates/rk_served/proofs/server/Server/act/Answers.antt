@@ -1,18 +1,28 @@
-use Rattle.std.proofs.Common.{List, ◌++◌, refl, ap, ◌∙◌}
+use Rattle.std.proofs.Common.{List, ◌++◌, refl, ap, ◌∙◌, subst}
 use Rattle.rk_served.specs.declared.output.Output.{Output}
 use Rattle.rk_served.specs.Served.{steps_of, outputs_of}
 use Rattle.rk_served.specs.Calls.{left_of}
 use Rattle.rk_served.proofs.Kept.{begins_keeps_peers}
 use Rattle.rk_served.proofs.Orders.{moves_of}
+use Rattle.rk_names.specs.declared.numbers.SessionId.{SessionId}
+use Rattle.rk_served.specs.Queued.{Stirs}
+use Rattle.rk_served.proofs.Watching.{watched_begun}
 use Rattle.rk_served.proofs.server.Server.act.Goals as goal
 
-pub move_all-requires : goal.move_all-requires
-move_all-requires c =
+pub move_all-requires-clause-has_peers : goal.move_all-requires-clause-has_peers
+move_all-requires-clause-has_peers c =
     let own = c.in_ok-own_step.ensures in
     begins_keeps_peers c.args.conf.now c.args.now c.args.happening.now (left_of c.args.self.now) own.part _ c.requires.placed own.own_step c.requires.has_peers
 
-pub returns : goal.returns
-returns c =
+pub move_all-requires-clause-watched : goal.move_all-requires-clause-watched
+move_all-requires-clause-watched c =
+    let own = c.in_ok-own_step.ensures in
+    watched_begun c.args.conf.now c.args.now c.args.happening.now (left_of c.args.self.now) (left_of c.own_step.new.self) own.part c.args.queue.now
+    c.stir.new.queue own.own_step c.requires.has_peers c.requires.still
+    (subst (λ (s : SessionId). Stirs c.own_step.new.self.book s c.args.queue.now c.stir.new.queue) c.whose.ensures c.in_ok-stir.ensures)
+
+pub returns-clause-acts : goal.returns-clause-acts
+returns-clause-acts c =
     let own = c.in_ok-own_step.ensures in
     let more = c.in_ok-move_all.ensures.moves in (
       own.part.steps ++ steps_of more.parts,

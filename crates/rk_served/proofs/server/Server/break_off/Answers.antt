@@ -17,4 +17,4 @@ returns-in-Some c =
     (has_ended c.args.conf.now c.args.now key old x sits Fault None _ c.requires.has_peers c.requires.owed refl c.in-Some.ensures.rest))
 
 pub invariant_of-self : goal.invariant_of-self
-invariant_of-self c = record { in_order = c.take.ensures.order c.args.self.now.in_order }
+invariant_of-self c = record { in_order = c.take.ensures.order }

@@ -16,4 +16,4 @@ returns-in-Some c =
     (has_ended c.args.conf.now c.args.now key old x sits c.args.how c.into_payload.result _ c.requires.has_peers c.requires.owed refl c.in-Some.ensures.rest))
 
 pub invariant_of-self : goal.invariant_of-self
-invariant_of-self c = record { in_order = c.take.ensures.order c.args.self.now.in_order }
+invariant_of-self c = record { in_order = c.take.ensures.order }

@@ -1,9 +1,52 @@
-use Rattle.rk_served.specs.Calls.{left_of}
-use Rattle.rk_served.proofs.Orders.{moves_next}
+use Rattle.std.proofs.Common.{subst, ◌∙◌}
+use Rattle.rk_served.specs.Left.{Left}
+use Rattle.rk_served.specs.Calls.{left_of, RestsBy}
+use Rattle.rk_served.specs.Queued.{IsWatchedBut, Parks}
+use Rattle.rk_served.proofs.Watching.{watched_popped, watched_after, watched_parked, moves_first, at_rest, emptied}
 use Rattle.rk_served.proofs.server.Server.move_one.Goals as goal
 
-pub returns-then-branch : goal.returns-then-branch
-returns-then-branch c =
-    let one = rw (c.if-branch.true, c.loop-index.invariant.same, c.loop-index.invariant.put) at c.in_ok-move_at.ensures in
-    moves_next c.args.conf.now c.args.now c.loop-index.index (left_of c.args.self.now) c.args.out.now.items
-    (left_of c.move_at.new.self) c.move_at.new.out.items c.args.self.now.in_order c.loop-index.invariant.below one
+pub returns-then-branch-clause-moves : goal.returns-then-branch-clause-moves
+returns-then-branch-clause-moves c =
+    let old = left_of c.args.self.now in
+    let by = rw (c.if-branch.true, c.loop-who.invariant.same, c.loop-who.invariant.put) at c.in_ok-move_by.ensures in
+    let but = watched_popped c.in-Some.who c.loop-who.queue c.pop.new.self old c.loop-who.invariant.watched c.in-Some.ensures.others c.in-Some.ensures.waiters in
+    moves_first c.args.conf.now c.args.now c.in-Some.who c.pop.new.self old (left_of c.move_by.new.self) c.args.out.now.items c.move_by.new.out.items by but
+    c.in-Some.ensures.first
+
+pub returns-then-branch-clause-watched : goal.returns-then-branch-clause-watched
+returns-then-branch-clause-watched c =
+    let old = left_of c.args.self.now in
+    let by = rw (c.if-branch.true, c.loop-who.invariant.same, c.loop-who.invariant.put) at c.in_ok-move_by.ensures in
+    let but = watched_popped c.in-Some.who c.loop-who.queue c.pop.new.self old c.loop-who.invariant.watched c.in-Some.ensures.others c.in-Some.ensures.waiters in
+    watched_after c.args.conf.now c.args.now c.in-Some.who c.pop.new.self c.stir.new.queue old (left_of c.move_by.new.self) c.args.out.now.items
+    c.move_by.new.out.items by c.requires.has_peers but c.in_ok-stir.ensures
+
+pub loop-who-preserved : goal.loop-who-preserved
+loop-who-preserved c =
+    let old = left_of c.args.self.now in
+    let no = rw c.if-branch.false at c.in_ok-move_by.ensures in
+    let but = watched_popped c.in-Some.who c.loop-who.queue c.pop.new.self old c.loop-who.invariant.watched c.in-Some.ensures.others c.in-Some.ensures.waiters in
+    record {
+      same = no.0 ∙ c.loop-who.invariant.same;
+      put = no.1 ∙ c.loop-who.invariant.put;
+      watched = watched_parked c.in-Some.who c.pop.new.self c.park.new.queue old c.requires.has_peers.apart but
+          (subst (λ (l : Left). RestsBy c.in-Some.who l) c.loop-who.invariant.same no.2)
+          (subst (λ (l : Left). Parks l.world c.in-Some.who c.pop.new.self c.park.new.queue) (no.0 ∙ c.loop-who.invariant.same) c.in_ok-park.ensures);
+    }
+
+pub returns-clause-moves : goal.returns-clause-moves
+returns-clause-moves c = (
+  c.loop-who.invariant.same,
+  c.loop-who.invariant.put,
+  at_rest c.loop-who.queue (left_of c.args.self.now) c.loop-who.invariant.watched c.in_default.ensures.none,
+)
+
+pub returns-clause-watched : goal.returns-clause-watched
+returns-clause-watched c =
+    (emptied c.loop-who.queue c.pop.new.self (left_of c.args.self.now) (left_of c.loop-who.self) c.loop-who.invariant.same c.loop-who.invariant.watched
+    c.in_default.ensures.none c.in_default.ensures.unchanged c.in_default.ensures.waiters).watched
+
+pub returns-clause-still : goal.returns-clause-still
+returns-clause-still c _ =
+    emptied c.loop-who.queue c.pop.new.self (left_of c.args.self.now) (left_of c.loop-who.self) c.loop-who.invariant.same c.loop-who.invariant.watched
+    c.in_default.ensures.none c.in_default.ensures.unchanged c.in_default.ensures.waiters

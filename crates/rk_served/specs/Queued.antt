@@ -1,0 +1,89 @@
+-- Who stands in a queue, and when nobody else may move.
+use Rattle.std.specs.Prelude.{◌≡◌, ◌⊎◌, ℕ, List, [], length, Some, None}
+use Rattle.std.specs.List.{All, Contains}
+use Rattle.std.specs.Global.{Vec}
+use Rattle.std.specs.Ordering.{nat_cmp}
+use Rattle.std.specs.Option.{option_map_or}
+use Rattle.std.specs.FinMap as map
+use Rattle.rk_names.specs.declared.numbers.SessionId.{SessionId}
+use Rattle.rk_names.specs.declared.numbers.SessionId.TheVariants.{Handler}
+use Rattle.rk_auth.specs.Sessions.{unspent}
+use Rattle.rk_machine.specs.World.{World}
+use Rattle.rk_machine.proofs.Effects.OfOneConstruction.{Goods}
+use Rattle.rk_machine.proofs.Effects.WhoIsWoken.{awaited}
+use Rattle.rk_served.specs.declared.queue.Queue.{Queue}
+use Rattle.rk_served.specs.Left.{Left}
+use Rattle.rk_served.specs.Moves.{CannotMove}
+
+abbrev pub size : Queue → ℕ
+size q = length q.movers.items
+
+-- one of those that may move
+abbrev pub IsMover : Queue → SessionId → Type 0
+IsMover q s = Contains q.movers.items s
+
+-- those that wait for k
+abbrev pub waiters_at : map.FinMap nat_cmp (Vec SessionId) → ℕ → List SessionId
+waiters_at facts k = option_map_or (λ list. list.items) (map.get facts k) []
+
+-- one of them
+abbrev pub IsWaiter : Queue → ℕ → SessionId → Type 0
+IsWaiter q k s = Contains (waiters_at q.waiting.facts k) s
+
+abbrev pub KeepsMovers : Queue → Queue → Type 0
+KeepsMovers old new = (s : SessionId) → IsMover old s → IsMover new s
+
+abbrev pub KeepsWaiters : Queue → Queue → Type 0
+KeepsWaiters old new = (k : ℕ) (s : SessionId) → IsWaiter old k s → IsWaiter new k s
+
+-- who waits for a key still does, or may move
+abbrev pub KeepsKnown : Queue → Queue → Type 0
+KeepsKnown old new = (k : ℕ) (s : SessionId) → IsWaiter old k s → IsMover new s ⊎ IsWaiter new k s
+
+-- ---- nobody else may move
+
+-- who is none of these can't move, and where he waits for a key, he is one of those
+pub record Watches (Moves : SessionId → Type 0) (Waits : ℕ → SessionId → Type 0) (left : Left) : Type 0 where
+  pub movers : All (λ x. Moves x.who ⊎ CannotMove left.world x.who x.channel) left.peers
+  pub waiters : (k : ℕ) (s : SessionId) → awaited left.world s ≡ Some k → Moves s ⊎ Waits k s
+  -- no handler has assumed another's authority
+  pub own : Goods left.world.sessions
+
+-- a queue knows all who may move, and all who wait
+abbrev pub IsWatched : Queue → Left → Type 0
+IsWatched q left = Watches (IsMover q) (IsWaiter q) left
+
+-- the same, beside one who was taken out
+abbrev pub IsWatchedBut : SessionId → Queue → Left → Type 0
+IsWatchedBut who q left = Watches (λ s. (s ≡ who) ⊎ IsMover q s) (IsWaiter q) left
+
+-- nobody may move, and the queue knows all who wait
+pub record IsStill (q : Queue) (left : Left) : Type 0 where
+  pub watched : IsWatched q left
+  pub none : (s : SessionId) → IsMover q s → ⊥
+
+-- ---- who moved may have freed others
+
+-- k is the key of this one, or the one for which it waits
+abbrev pub IsKeyOf : World → SessionId → ℕ → Type 0
+IsKeyOf w who k = (who ≡ Handler k) ⊎ (awaited w who ≡ Some k)
+
+-- all who wait for a key of this one whose authority is spent may move, and this one itself
+pub record Stirs (w : World) (who : SessionId) (old new : Queue) : Type 0 where
+  pub itself : IsMover new who
+  pub movers : KeepsMovers old new
+  pub known : KeepsKnown old new
+  pub woken : (k : ℕ) → IsKeyOf w who k → unspent w.sessions k ≡ None → (s : SessionId) → IsWaiter old k s → IsMover new s
+
+-- all who wait for k may move, if its authority is spent
+pub record Wakes (w : World) (k : ℕ) (old new : Queue) : Type 0 where
+  pub movers : KeepsMovers old new
+  pub known : KeepsKnown old new
+  pub woken : unspent w.sessions k ≡ None → (s : SessionId) → IsWaiter old k s → IsMover new s
+
+-- this one can't move, and where it waits, the queue knows it
+pub record Parks (w : World) (who : SessionId) (old new : Queue) : Type 0 where
+  pub movers : KeepsMovers old new
+  pub waiters : KeepsWaiters old new
+  pub itself : (k : ℕ) → awaited w who ≡ Some k → IsWaiter new k who
+  pub same_size : size new ≡ size old
