@@ -103,7 +103,7 @@ impl Replay {
         match self
             .server
             .act(alloc, &self.conf, now, happening, &mut self.queue)
-         {
+        {
             Ok(out) => Ok(out),
             Err(_) => {
                 self.broken = true;

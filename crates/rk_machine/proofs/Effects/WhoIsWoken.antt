@@ -1,5 +1,5 @@
 -- What a step leaves of the waits of others, and who of them may collect only now.
-use Rattle.std.proofs.Common.{◌≡◌, ◌⊎◌, ℕ, Bool, true, false, cond, ◌&&◌, refl, sym, ap, ◌∙◌, subst, inl, inr}
+use Rattle.std.proofs.Common.{◌≡◌, ◌⊎◌, ℕ, Bool, true, false, cond, ◌&&◌, refl, sym, ap, ◌∙◌, inl, inr}
 use Rattle.std.specs.Prelude.{Option, Some, None, nat_eq, is_some, option_map, option_and_then}
 use Rattle.std.specs.Option.{option_map_or}
 use Rattle.std.specs.Ordering.{nat_cmp}
@@ -16,10 +16,9 @@ use Rattle.rk_auth.specs.declared.session.Outcome.{Outcome}
 use Rattle.rk_auth.specs.declared.construction.Stage.TheVariants.{Plain, Piped, Negating}
 use Rattle.rk_auth.specs.declared.construction.Construction.{Construction}
 use Rattle.rk_auth.specs.Sessions.{Sessions, new_session, wait_of, unspent}
-use Rattle.rk_auth.specs.Changes.{spent, all_told, told_wait, new_wait, without_construction, with_construction, with_context, ready_outcome}
+use Rattle.rk_auth.specs.Changes.{spent, all_told, told_wait, new_wait, with_context, ready_outcome}
 use Rattle.rk_machine.specs.declared.event.Event.{Event}
 use Rattle.rk_machine.specs.declared.event.Event.TheVariants.{Opened, Asked, Launched, Ended, Collect, Gone}
-use Rattle.rk_machine.specs.declared.event.Ran.{Ran}
 use Rattle.rk_machine.specs.declared.event.Ran.TheVariants as ran
 use Rattle.rk_machine.specs.declared.event.Answer.{Answer}
 use Rattle.rk_machine.specs.declared.event.Answer.TheVariants.{Done, Start, Waiting, Refused, Negate}
@@ -69,7 +68,7 @@ use Rattle.rk_machine.proofs.Effects.WaitsAfter.{
   wait_came,
   wait_went,
 }
-use Rattle.rk_machine.proofs.Effects.OfOneConstruction.{Goods, concluder, by_key}
+use Rattle.rk_machine.proofs.Effects.OfOneConstruction.{Goods, concluder}
 use Rattle.rk_machine.proofs.Effects.WaitsAreTheWorlds.{IdleFresh, there_issued}
 use Rattle.rk_machine.proofs.Effects.AuthoritiesAfter.{unspent_concluded, unspent_ended}
 use Rattle.rk_machine.proofs.Effects.StagesByStep.{Kind, to_start, to_follow, kind_in, kind_of, kind_after, launched_kind, kinds}
