@@ -31,7 +31,7 @@ use Rattle.rk_machine.specs.declared.event.Answer.TheVariants.{Start, Negate}
 use Rattle.rk_machine.specs.World.{World}
 use Rattle.rk_machine.specs.Allowed.{done, refused_if}
 use Rattle.rk_machine.specs.Steps.{Step, may_launch}
-use Rattle.rk_machine.specs.Views.{is_ready, has_wait}
+use Rattle.rk_machine.specs.Views.{is_ready, has_wait, awaited}
 use Rattle.rk_machine.specs.Laws.{same_session}
 use Rattle.rk_machine.specs.Owing.{whose as about}
 use Rattle.rk_machine.proofs.Found.Refusals.{unless}
@@ -42,7 +42,7 @@ use Rattle.rk_machine.proofs.Effects.WaitsAreTheWorlds.{after, tied}
 use Rattle.rk_machine.proofs.Effects.AuthoritiesAfter.{unspent_ended}
 use Rattle.rk_machine.proofs.Effects.ClientsByStep.{ready_waits}
 use Rattle.rk_machine.proofs.Effects.UndrawnIsIdle.{IsIdle, idle_fresh, idle_step, start_draws}
-use Rattle.rk_machine.proofs.Effects.WhoIsWoken.{awaited, others, still_awaited, woken}
+use Rattle.rk_machine.proofs.Effects.WhoIsWoken.{others, still_awaited, woken}
 use Rattle.rk_machine.proofs.OneConstruction.EachOnce.{goods_after}
 use Rattle.rk_served.specs.declared.happening.Happening.{Happening}
 use Rattle.rk_served.specs.declared.happening.Happening.TheVariants as happening

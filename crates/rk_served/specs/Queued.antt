@@ -9,8 +9,8 @@ use Rattle.rk_names.specs.declared.numbers.SessionId.{SessionId}
 use Rattle.rk_names.specs.declared.numbers.SessionId.TheVariants.{Handler}
 use Rattle.rk_auth.specs.Sessions.{unspent}
 use Rattle.rk_machine.specs.World.{World}
+use Rattle.rk_machine.specs.Views.{awaited}
 use Rattle.rk_machine.proofs.Effects.OfOneConstruction.{Goods}
-use Rattle.rk_machine.proofs.Effects.WhoIsWoken.{awaited}
 use Rattle.rk_served.specs.declared.queue.Queue.{Queue}
 use Rattle.rk_served.specs.Left.{Left}
 use Rattle.rk_served.specs.Moves.{CannotMove}

@@ -26,7 +26,7 @@ use Rattle.rk_machine.specs.World.{World, tidied}
 use Rattle.rk_machine.specs.Links.{unlinked_in, cleared_in}
 use Rattle.rk_machine.specs.Completion.{announced, outcome_of, keys_ended, sessions_ended, ended}
 use Rattle.rk_machine.specs.Steps.{Step}
-use Rattle.rk_machine.specs.Views.{is_ready}
+use Rattle.rk_machine.specs.Views.{is_ready, awaited}
 use Rattle.rk_machine.specs.Laws.{same_session, is_done}
 use Rattle.rk_machine.specs.Owing.{whose, is_followed}
 use Rattle.rk_machine.proofs.Found.Refusals.{none_is}
@@ -179,10 +179,6 @@ by_effect old now e a new (finished k how payload st condition ev is running fin
 pub others : (old : World) (now : ℕ) (e : Event) (a : Answer) (new : World) → Step old now e a new → IdleFresh old → Goods old.sessions → (s : SessionId)
     → same_session (whose e) s ≡ false → Others old e new s
 others old now e a new step idle good s apart = by_effect old now e a new (effect old now e a new step) idle good s apart
-
--- on which key a session waits
-abbrev pub awaited : World → SessionId → Option ℕ
-awaited w s = option_map (λ v. v.key) (wait_of w.sessions s)
 
 told_key : (k : ℕ) (o : Outcome) (x : Option Wait) → option_map (λ (v : Wait). v.key) (option_map (told_wait k o) x) ≡ option_map (λ (v : Wait). v.key) x
 told_key k o None = refl

@@ -2,7 +2,7 @@ use Rattle.std.proofs.Common.{◌≡◌, ℕ, refl, sym, ◌∙◌, subst}
 use Rattle.std.specs.Prelude.{Some}
 use Rattle.rk_names.specs.declared.numbers.SessionId.{SessionId}
 use Rattle.rk_names.specs.declared.numbers.SessionId.TheVariants.{Handler}
-use Rattle.rk_machine.proofs.Effects.WhoIsWoken.{awaited}
+use Rattle.rk_machine.specs.Views.{awaited}
 use Rattle.rk_served.specs.declared.queue.Queue.{Queue}
 use Rattle.rk_served.proofs.Watching.{WakesFor, wakes_one, wakes_none, stirred, same_handler, some_key}
 use Rattle.rk_served.proofs.server.Server.stir.Goals as goal
