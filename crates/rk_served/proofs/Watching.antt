@@ -3,6 +3,7 @@ use Rattle.std.proofs.Common.{◌≡◌, ◌⊎◌, ℕ, zero, suc, Bool, true, 
 use Rattle.std.specs.Prelude.{Option, Some, None, IfSome, MatchOption, is_some, is_none, option_map, option_and_then, nat_eq, slice_get, slice_set}
 use Rattle.std.specs.List.{All, Contains}
 use Rattle.std.specs.Global.{Vec}
+use Rattle.std.specs.declared.cmp.Reverse.{Reverse}
 use Rattle.std.specs.FinMap.{get-empty}
 use Rattle.std.specs.Ordering.{nat_cmp}
 use Rattle.rk_auth.specs.declared.session.Session.{Session}
@@ -57,6 +58,7 @@ use Rattle.rk_served.specs.Moves.{CannotMove, IsAtRest}
 use Rattle.rk_served.specs.OwnStep.{whose, Adds, OwnStep, EndsBy, is_last, is_followed, is_not_followed}
 use Rattle.rk_served.specs.WhoIsThere.{peer_of, has_peer, are_apart, HasItsPeers}
 use Rattle.rk_served.specs.Standing.{comes_before}
+use Rattle.rk_served.specs.Movers.{reversed}
 use Rattle.rk_served.specs.Calls.{MovesBy, MovesNext, TriesAt, RestsBy}
 use Rattle.rk_served.specs.Queued.{IsMover, IsWaiter, Watches, IsWatched, IsWatchedBut, IsStill, IsKeyOf, Stirs, Wakes, Parks, KeepsMovers, KeepsKnown, waiters_at}
 use Rattle.rk_served.proofs.PeerLists.{both, not_false, some_peer}
@@ -488,12 +490,12 @@ watched_on who old new q q' m w stirs = record {
     ]
 
 same_waiters : (q q' : Queue) → q'.waiting ≡ q.waiting → (k : ℕ) (s : SessionId) → IsWaiter q k s → IsWaiter q' k s
-same_waiters q q' same k s h = subst (λ (t : Stored (Vec SessionId)). Contains (waiters_at t.facts k) s) (sym same) h
+same_waiters q q' same k s h = subst (λ (t : Stored (Vec (Reverse SessionId))). Contains (waiters_at t.facts k) (reversed s)) (sym same) h
 
 -- none was there to be taken out
-pub emptied : (q q' : Queue) (left left' : Left) → left' ≡ left → IsWatched q left → ((s : SessionId) → IsMover q s → ⊥) → q'.movers ≡ q.movers
+pub emptied : (q q' : Queue) (left left' : Left) → left' ≡ left → IsWatched q left → ((s : SessionId) → IsMover q s → ⊥) → ((s : SessionId) → IsMover q' s → ⊥)
     → q'.waiting ≡ q.waiting → IsStill q' left'
-emptied q q' left left' is w none movers waiting =
+emptied q q' left left' is w none still_none waiting =
     subst (IsStill q') (sym is)
     (record {
       watched = record {
@@ -502,7 +504,7 @@ emptied q q' left left' is w none movers waiting =
         waiters = λ k s on. elim (w.waiters k s on) [ inl e ↦ absurd (none s e) | inr e ↦ inr (same_waiters q q' waiting k s e) ];
         own = w.own;
       };
-      none = λ s h. none s (subst (λ (v : Vec SessionId). Contains v.items s) movers h);
+      none = still_none;
     })
 
 -- one more may be out of it
@@ -681,7 +683,7 @@ stirred w who q0 q1 q2 q3 itself movers waiting own other = record {
 }
   where
     waits : (k : ℕ) (s : SessionId) → IsWaiter q0 k s → IsWaiter q1 k s
-    waits k s h = subst (λ (t : Stored (Vec SessionId)). Contains (waiters_at t.facts k) s) (sym waiting) h
+    waits k s h = subst (λ (t : Stored (Vec (Reverse SessionId))). Contains (waiters_at t.facts k) (reversed s)) (sym waiting) h
 
 -- ---- at the beginning
 

@@ -3,6 +3,7 @@ pub mod Streams
 pub mod Message
 pub mod Left
 pub mod Standing
+pub mod Movers
 pub mod Commands
 pub mod Moves
 pub mod OwnStep

@@ -1,7 +1,9 @@
 -- Who stands in a queue, and when nobody else may move.
-use Rattle.std.specs.Prelude.{◌≡◌, ◌⊎◌, ℕ, List, [], length, Some, None}
+use Rattle.std.specs.Prelude.{◌≡◌, ◌⊎◌, ℕ, List, [], Some, None}
 use Rattle.std.specs.List.{All, Contains}
 use Rattle.std.specs.Global.{Vec}
+use Rattle.std.specs.BinaryHeap.{heap_items, heap_len}
+use Rattle.std.specs.declared.cmp.Reverse.{Reverse}
 use Rattle.std.specs.Ordering.{nat_cmp}
 use Rattle.std.specs.Option.{option_map_or}
 use Rattle.std.specs.FinMap as map
@@ -14,21 +16,22 @@ use Rattle.rk_machine.proofs.Effects.OfOneConstruction.{Goods}
 use Rattle.rk_served.specs.declared.queue.Queue.{Queue}
 use Rattle.rk_served.specs.Left.{Left}
 use Rattle.rk_served.specs.Moves.{CannotMove}
+use Rattle.rk_served.specs.Movers.{reversed}
 
 abbrev pub size : Queue → ℕ
-size q = length q.movers.items
+size q = heap_len q.movers
 
 -- one of those that may move
 abbrev pub IsMover : Queue → SessionId → Type 0
-IsMover q s = Contains q.movers.items s
+IsMover q s = Contains (heap_items q.movers) (reversed s)
 
 -- those that wait for k
-abbrev pub waiters_at : map.FinMap nat_cmp (Vec SessionId) → ℕ → List SessionId
+abbrev pub waiters_at : map.FinMap nat_cmp (Vec (Reverse SessionId)) → ℕ → List (Reverse SessionId)
 waiters_at facts k = option_map_or (λ list. list.items) (map.get facts k) []
 
 -- one of them
 abbrev pub IsWaiter : Queue → ℕ → SessionId → Type 0
-IsWaiter q k s = Contains (waiters_at q.waiting.facts k) s
+IsWaiter q k s = Contains (waiters_at q.waiting.facts k) (reversed s)
 
 abbrev pub KeepsMovers : Queue → Queue → Type 0
 KeepsMovers old new = (s : SessionId) → IsMover old s → IsMover new s

@@ -1,6 +1,6 @@
 -- The order in which sessions move, and in which the peers stand.
-use Rattle.std.specs.Prelude.{◌≡◌, Bool, true, false, not, ◌&&◌, nat_lt, List, [], ◌∷◌}
-use Rattle.std.specs.List.{All, list_all}
+use Rattle.std.specs.Prelude.{Bool, true, false, not, ◌&&◌, nat_lt, List, [], ◌∷◌}
+use Rattle.std.specs.List.{list_all}
 use Rattle.rk_names.specs.declared.numbers.SessionId.{SessionId}
 use Rattle.rk_names.specs.declared.numbers.SessionId.TheVariants.{Client, Handler}
 use Rattle.rk_served.specs.declared.peer.Peer.{Peer}
@@ -16,7 +16,3 @@ comes_before (Handler j) (Handler k) = nat_lt j k
 abbrev pub are_in_order : List Peer → Bool
 are_in_order [] = true
 are_in_order (x ∷ xs) = list_all (λ y. not (comes_before y.who x.who)) xs && are_in_order xs
-
--- none of these comes before this one
-abbrev pub ComesFirst : SessionId → List SessionId → Type 0
-ComesFirst s xs = All (λ t. comes_before t s ≡ false) xs

@@ -1,37 +1,24 @@
 //! Who may move, and who waits for which key.
-ghost use Rattle.std.specs.Prelude.{◌≡◌, ◌⊎◌, ◌<◌, false, length, slice_get, IfSome, IfNone, OnOk};
+ghost use Rattle.std.specs.Prelude.{◌≡◌, ◌⊎◌, ◌<◌, false, IfSome, IfNone, OnOk};
 ghost use Rattle.std.specs.FinMap as map;
-ghost use Rattle.rk_served.specs.Standing.{comes_before, ComesFirst};
+ghost use Rattle.std.specs.BinaryHeap.{IsHeap, heap_items};
+ghost use Rattle.std.proofs.Props.{props};
+ghost use Rattle.rk_served.specs.Standing.{comes_before};
+ghost use Rattle.rk_served.specs.Movers.{first_is_greatest};
 
-use crate::peers::comes_before;
 use rk_names::{Serial, SessionId};
 use rk_table::HashTable;
 use std::alloc::{AllocError, Global};
+use std::cmp::Reverse;
+use std::collections::BinaryHeap;
 
-/// The sessions that may move, and by each key those that wait for it. Who can't move, or waits no more, may stand here too: he is taken out when he
-/// is looked at.
+/// The sessions that may move, in a heap with the first of them at its top, and by each key those that wait for it. Who can't move, or waits no more,
+/// may stand here too: he is taken out when he is looked at.
 #[derive(Drop)]
 pub struct Queue {
-    movers: Vec<SessionId>,
-    waiting: HashTable<Vec<SessionId>>,
-}
-
-/// Where the one stands that none comes before.
-fn first_of(movers: &[SessionId]) -> Option<usize>
-    ensures first { IfSome result (λ i. IfSome (slice_get movers.now i) (λ x. ComesFirst x movers.now)) }
-    ensures within { IfSome result (λ i. i < length movers.now) }
-    ensures none { IfNone result (length movers.now ≡ 0) }
-{
-    if movers.is_empty() {
-        return None;
-    }
-    let mut first = 0;
-    for index in 0..movers.len() {
-        if comes_before(&movers[index], &movers[first]) {
-            first = index;
-        }
-    }
-    Some(first)
+    movers: BinaryHeap<Reverse<SessionId>>,
+    waiting: HashTable<Vec<Reverse<SessionId>>>,
+    ghost in_order: { IsHeap first_is_greatest (heap_items movers) } by { Prim.hlevel props },
 }
 
 impl Queue {
@@ -42,7 +29,7 @@ impl Queue {
         ensures { (s : SessionId) → IsMover result s → ⊥ }
     {
         Queue {
-            movers: Vec::new(alloc),
+            movers: BinaryHeap::new(alloc),
             waiting: HashTable::new(alloc),
         }
     }
@@ -53,27 +40,27 @@ impl Queue {
         ensures movers { OnOk result (KeepsMovers self.old self.new) }
         ensures waiters { self.new.waiting ≡ self.old.waiting }
     {
-        self.movers.push(who)?;
+        self.movers.push(Reverse(who))?;
         Ok(())
     }
 
-    /// Takes out the first of those that may move. It takes no memory, and looks at all of them.
+    /// Takes out the first of those that may move. It takes no memory, and compares no more of them than the logarithm of their number says.
     pub fn pop(&mut self) -> Option<SessionId>
         ensures others { IfSome result (λ who. (s : SessionId) → IsMover self.old s → (s ≡ who) ⊎ IsMover self.new s) }
         ensures first { IfSome result (λ who. (s : SessionId) → IsMover self.new s → comes_before s who ≡ false) }
         ensures fewer { IfSome result (λ who. size self.new < size self.old) }
         ensures none { IfNone result ((s : SessionId) → IsMover self.old s → ⊥) }
-        ensures unchanged { IfNone result (self.new.movers ≡ self.old.movers) }
+        ensures still_none { IfNone result ((s : SessionId) → IsMover self.new s → ⊥) }
         ensures waiters { self.new.waiting ≡ self.old.waiting }
     {
-        match first_of(&self.movers) {
-            Some(index) => Some(self.movers.swap_remove(index)),
+        match self.movers.pop() {
+            Some(Reverse(who)) => Some(who),
             None => None,
         }
     }
 
     /// Takes out those that wait for a key. It takes no memory.
-    fn taken(&mut self, alloc: Global, key: Serial) -> Vec<SessionId>
+    fn taken(&mut self, alloc: Global, key: Serial) -> Vec<Reverse<SessionId>>
         ensures items { result.items ≡ waiters_at self.old.waiting.facts key }
         ensures facts { self.new.waiting.facts ≡ map.remove self.old.waiting.facts key }
         ensures movers { self.new.movers ≡ self.old.movers }
@@ -91,7 +78,7 @@ impl Queue {
         ensures waiters { OnOk result (KeepsWaiters self.old self.new) }
     {
         let mut list = self.taken(alloc, key);
-        list.push(who)?;
+        list.push(Reverse(who))?;
         self.waiting.reserve(1)?;
         self.waiting.insert(key.get(), list);
         Ok(())
@@ -103,8 +90,8 @@ impl Queue {
         ensures movers { OnOk result (KeepsMovers self.old self.new) }
         ensures known { OnOk result (KeepsKnown self.old self.new) }
     {
-        let mut list = self.taken(alloc, key);
-        self.movers.append(&mut list)?;
+        let mut woken = BinaryHeap::from(self.taken(alloc, key));
+        self.movers.append(&mut woken)?;
         Ok(())
     }
 }

@@ -2,8 +2,10 @@ use Rattle.std.proofs.Common.{refl, ap, ◌∙◌, cond, Bool, ◌++◌, List, [
 use Rattle.std.specs.Prelude.{None, Option}
 use Rattle.std.specs.FinMap as map
 use Rattle.std.proofs.lemmas.Bool.{eq-eqb}
+use Rattle.std.specs.declared.cmp.Reverse.{Reverse}
 use Rattle.rk_names.specs.declared.numbers.SessionId.{SessionId}
 use Rattle.rk_machine.proofs.Found.InMaps.{get_removed}
+use Rattle.rk_served.specs.Movers.{reversed}
 use Rattle.rk_served.proofs.Queues.{one_parked, others_wait}
 use Rattle.rk_served.proofs.queue.Queue.park.Goals as goal
 
@@ -15,12 +17,12 @@ insert-requires-clause-new c =
 
 pub returns-clause-who : goal.returns-clause-who
 returns-clause-who c =
-    one_parked c.args.self.now.waiting.facts c.insert.new.self.facts c.args.key c.push.new.self c.args.who
+    one_parked c.args.self.now.waiting.facts c.insert.new.self.facts c.args.key c.push.new.self (reversed c.args.who)
     (rw (c.insert.ensures.facts, c.reserve.ensures.facts, c.taken-list.ensures.facts, c.get.ensures.number) refl)
-    (c.in_ok-push.ensures.items ∙ ap (λ (xs : List SessionId). xs ++ c.args.who ∷ []) c.taken-list.ensures.items)
+    (c.in_ok-push.ensures.items ∙ ap (λ (xs : List (Reverse SessionId)). xs ++ reversed c.args.who ∷ []) c.taken-list.ensures.items)
 
 pub returns-clause-waiters : goal.returns-clause-waiters
-returns-clause-waiters c =
-    others_wait c.args.self.now.waiting.facts c.insert.new.self.facts c.args.key c.push.new.self c.args.who
+returns-clause-waiters c k s =
+    others_wait c.args.self.now.waiting.facts c.insert.new.self.facts c.args.key c.push.new.self (reversed c.args.who)
     (rw (c.insert.ensures.facts, c.reserve.ensures.facts, c.taken-list.ensures.facts, c.get.ensures.number) refl)
-    (c.in_ok-push.ensures.items ∙ ap (λ (xs : List SessionId). xs ++ c.args.who ∷ []) c.taken-list.ensures.items)
+    (c.in_ok-push.ensures.items ∙ ap (λ (xs : List (Reverse SessionId)). xs ++ reversed c.args.who ∷ []) c.taken-list.ensures.items) k (reversed s)

@@ -44,9 +44,9 @@ returns-clause-moves c = (
 pub returns-clause-watched : goal.returns-clause-watched
 returns-clause-watched c =
     (emptied c.loop-who.queue c.pop.new.self (left_of c.args.self.now) (left_of c.loop-who.self) c.loop-who.invariant.same c.loop-who.invariant.watched
-    c.in_default.ensures.none c.in_default.ensures.unchanged c.in_default.ensures.waiters).watched
+    c.in_default.ensures.none c.in_default.ensures.still_none c.in_default.ensures.waiters).watched
 
 pub returns-clause-still : goal.returns-clause-still
 returns-clause-still c _ =
     emptied c.loop-who.queue c.pop.new.self (left_of c.args.self.now) (left_of c.loop-who.self) c.loop-who.invariant.same c.loop-who.invariant.watched
-    c.in_default.ensures.none c.in_default.ensures.unchanged c.in_default.ensures.waiters
+    c.in_default.ensures.none c.in_default.ensures.still_none c.in_default.ensures.waiters
