@@ -249,6 +249,19 @@ sort_none (x ∷ xs) s none =
     let apart = apart_from x xs s none in
     ap (λ (b : Bool). cond (not b) (x ∷ without s xs) (without s xs)) apart.0 ∙ ap (λ (ys : List Peer). x ∷ ys) (sort_none xs s apart.1)
 
+-- who has none, of whom none is taken
+pub without_none : (xs : List Peer) (s : SessionId) → peer_of xs s ≡ None → without s xs ≡ xs
+without_none xs s none = sort_none xs s (sym (sort_at_is xs s) ∙ ap (option_map sort) none)
+
+-- one of its own was taken already
+pub without_removed : (xs : List Peer) (i : ℕ) (s : SessionId) (y : Peer) → slice_get xs i ≡ Some y → y.who ≡ s → without s (remove xs i) ≡ without s xs
+without_removed [] i s y at is = absurd (cc)
+without_removed (x ∷ xs) zero s y at is =
+    let who : x.who ≡ s = ap (λ (v : Peer). v.who) (some_peer at) ∙ is in
+    sym (ap (λ (b : Bool). cond (not b) (x ∷ without s xs) (without s xs)) (ap (λ v. same_session v s) who ∙ same-self s))
+without_removed (x ∷ xs) (suc i) s y at is =
+    ap (λ (ys : List Peer). cond (not (same_session x.who s)) (x ∷ ys) ys) (without_removed xs i s y at is)
+
 pub removed_at : (xs : List Peer) (i : ℕ) (s : SessionId) (y : Peer) → are_apart xs ≡ true → slice_get xs i ≡ Some y → y.who ≡ s → remove xs i ≡ without s xs
 removed_at [] i s y apart at is = absurd (cc)
 removed_at (x ∷ xs) zero s y apart at is =

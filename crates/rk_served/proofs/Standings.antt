@@ -2,7 +2,7 @@
 use Rattle.std.proofs.Common.{◌≡◌, ℕ, zero, suc, ◌+◌, ◌<◌, ◌≤◌, Bool, true, false, cond, not, ◌&&◌, List, [], ◌∷◌, ◌++◌, refl, sym, ap, ◌∙◌, subst}
 use Rattle.std.proofs.Common.{arith, length, take, drop, get_or, ltb, take-append-drop}
 use Rattle.std.specs.Prelude.{Option, Some, None, IfSome, slice_get, slice_set, insert, position, unwrap_or}
-use Rattle.std.specs.List.{All, list_all, position_or_len}
+use Rattle.std.specs.List.{All, list_all, position_or_len, remove}
 use Rattle.std.proofs.lemmas.Bool.Decides.{nat_tests}
 use Rattle.std.proofs.lemmas.List.Sums.{prefix_len-le-length}
 use Rattle.std.proofs.lemmas.List.Elements.{All-nil, All-cons}
@@ -126,6 +126,22 @@ order_without s (x ∷ xs) order =
         → are_in_order (cond b (x ∷ without s xs) (without s xs)) ≡ true
     by_test own rest true = both_of (list_all (λ y. not (comes_before y.who x.who)) (without s xs)) (are_in_order (without s xs)) own rest
     by_test own rest false = rest
+
+all_removed : (p : Peer → Bool) (xs : List Peer) (i : ℕ) → list_all p xs ≡ true → list_all p (remove xs i) ≡ true
+all_removed p [] zero all = refl
+all_removed p [] (suc i) all = refl
+all_removed p (x ∷ xs) zero all = (both (p x) (list_all p xs) all).1
+all_removed p (x ∷ xs) (suc i) all = (let parts = both (p x) (list_all p xs) all in
+    both_of (p x) (list_all p (remove xs i)) parts.0 (all_removed p xs i parts.1))
+
+pub order_removed : (xs : List Peer) (i : ℕ) → are_in_order xs ≡ true → are_in_order (remove xs i) ≡ true
+order_removed [] zero order = refl
+order_removed [] (suc i) order = refl
+order_removed (x ∷ xs) zero order = (both (list_all (λ y. not (comes_before y.who x.who)) xs) (are_in_order xs) order).1
+order_removed (x ∷ xs) (suc i) order =
+    let parts = both (list_all (λ y. not (comes_before y.who x.who)) xs) (are_in_order xs) order in
+    both_of (list_all (λ y. not (comes_before y.who x.who)) (remove xs i)) (are_in_order (remove xs i))
+    (all_removed (λ y. not (comes_before y.who x.who)) xs i parts.0) (order_removed xs i parts.1)
 
 -- ---- another peer of the same one
 

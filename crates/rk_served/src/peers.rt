@@ -92,12 +92,16 @@ pub fn add(peers: &mut Vec<Peer>, peer: Peer) -> Result<(), AllocError>
     Ok(())
 }
 
-/// Takes the peer of this one away.
+/// Takes the peer of this one away. It looks at as many peers as their number can be halved.
 pub fn remove(peers: &mut Vec<Peer>, who: &SessionId)
+    requires { are_in_order peers.old.items ≡ true }
     ensures without { peers.new.items ≡ without who.now peers.old.items }
-    ensures order { are_in_order peers.old.items ≡ true → are_in_order peers.new.items ≡ true }
+    ensures order { are_in_order peers.new.items ≡ true }
 {
-    peers.retain(|peer| !same(&peer.who, who));
+    // Nobody has two, but the order alone does not say so.
+    while let Some(index) = index_of(peers, who) {
+        let _ = peers.remove(index);
+    }
 }
 
 /// Takes the peer of this one away.
