@@ -77,24 +77,18 @@ impl Server {
 /// Own steps.
 impl Server {
     /// Bytes come, for a stream or from a piped handler.
-    fn lengthen(&mut self, who: &SessionId, bytes: &[u8]) -> Result<(), AllocError>
+    fn lengthen(&mut self, alloc: Global, who: &SessionId, bytes: &[u8]) -> Result<(), AllocError>
         requires { has_peer self.old.peers.items who.now ≡ true }
         ensures { OnOk result (Lengthens who.now bytes.now (left_of self.old) (no_step []) (left_of self.new)) }
     {
         if let Some(index) = peers::index_of(&self.peers, who) {
-            self.peers[index].channel.feed(bytes)?;
+            self.peers[index].channel.feed(alloc, bytes)?;
         }
         Ok(())
     }
 
     /// A client comes, or is refused.
-    fn accept(
-        &mut self,
-        alloc: Global,
-        now: Moment,
-        client: u32,
-        out: &mut Vec<Output>,
-    ) -> Result<(), AllocError>
+    fn accept(&mut self, now: Moment, client: u32, out: &mut Vec<Output>) -> Result<(), AllocError>
         requires { has_client self.old.book client ≡ false }
         ensures { (conf : List Line) →
             OnOk result (MakesOwnStep conf now (happening.Accept client) (left_of self.old) out.old.items (left_of self.new) out.new.items) }
@@ -108,7 +102,7 @@ impl Server {
         }
         let peer = Peer {
             who: SessionId::Client(client),
-            channel: Channel::Talks(Stream::new(alloc)?),
+            channel: Channel::Talks(Stream::new()),
             subject: None,
         };
         peers::add(&mut self.peers, peer)
@@ -124,22 +118,14 @@ impl Server {
     }
 
     /// A plain handler runs, with an empty stream.
-    fn run_plain(
-        &mut self,
-        alloc: Global,
-        now: Moment,
-        key: Serial,
-        index: usize,
-    ) -> Result<(), AllocError>
+    fn run_plain(&mut self, now: Moment, key: Serial, index: usize)
         requires starts { IsStartAt self.old.peers.items index key false }
         requires owed { is_to_start self.old.book key ≡ true }
         ensures { (conf : List Line) (put : List Output) →
-            OnOk result (MakesOwnStep conf now (happening.StartResult key Started) (left_of self.old) put (left_of self.new) put) }
+            MakesOwnStep conf now (happening.StartResult key Started) (left_of self.old) put (left_of self.new) put }
     {
-        let channel = Channel::Talks(Stream::new(alloc)?);
         let _ = self.book.step(now, Event::Launched(key, Ran::Plain));
-        self.peers[index].channel = channel;
-        Ok(())
+        self.peers[index].channel = Channel::Talks(Stream::new());
     }
 
     /// A piped handler runs, and is handed its callout.
@@ -179,7 +165,7 @@ impl Server {
             if self.peers[index].channel.is_piped() {
                 return self.run_piped(alloc, now, key, index, out);
             }
-            return self.run_plain(alloc, now, key, index);
+            self.run_plain(now, key, index);
         }
         Ok(())
     }
@@ -304,9 +290,9 @@ impl Server {
         ensures { OnOk result (MakesOwnStep conf.now now happening.now (left_of self.old) out.old.items (left_of self.new) out.new.items) }
     {
         match happening {
-            Happening::Accept(client) => self.accept(alloc, now, *client, out),
+            Happening::Accept(client) => self.accept(now, *client, out),
             Happening::Bytes(client, bytes) => {
-                self.lengthen(&SessionId::Client(*client), bytes.as_slice())
+                self.lengthen(alloc, &SessionId::Client(*client), bytes.as_slice())
             }
             Happening::Gone(client) => {
                 self.leave(now, *client);
@@ -314,7 +300,7 @@ impl Server {
             }
             Happening::StartResult(key, started) => self.launch(alloc, now, *key, *started, out),
             Happening::HandlerBytes(key, bytes) => {
-                self.lengthen(&SessionId::Handler(*key), bytes.as_slice())
+                self.lengthen(alloc, &SessionId::Handler(*key), bytes.as_slice())
             }
             Happening::HandlerEnded(key, how) => self.finish(alloc, conf, now, *key, *how, out),
             Happening::HandlerReadFault(key) | Happening::WaitFault(key) => {

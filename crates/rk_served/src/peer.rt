@@ -42,11 +42,11 @@ impl Channel {
     }
 
     /// Takes the next bytes. The only refusal is want of memory.
-    pub fn feed(&mut self, bytes: &[u8]) -> Result<(), AllocError>
+    pub fn feed(&mut self, alloc: Global, bytes: &[u8]) -> Result<(), AllocError>
         ensures { OnOk result (self.new ≡ channel_with bytes.now self.old) }
     {
         match self {
-            Channel::Talks(stream) => stream.feed(bytes),
+            Channel::Talks(stream) => stream.feed(alloc, bytes),
             Channel::Pipes(held) => held.extend(bytes),
             Channel::Starts(_) => Ok(()),
         }

@@ -1,5 +1,6 @@
 //! The stream of a session.
-ghost use Rattle.std.specs.Prelude.{◌≡◌, IfOk, OnOk};
+ghost use Rattle.std.specs.Prelude.{◌≡◌, Bool, IfOk, OnOk};
+ghost use Rattle.rk_served.specs.Message.{IsNext};
 
 use rk_frame::{Frames, Next};
 use rk_message::{Ask, ReadError};
@@ -20,58 +21,60 @@ pub enum Message {
     Fault,
 }
 
-/// The bytes that came from a session and were not used yet. A stream that is shut takes none any more.
+/// The bytes that came from a session and were not used yet. A stream that is shut takes none any more. Before bytes come it has no room for any.
 #[derive(Drop)]
 pub struct Stream {
-    frames: Frames,
+    frames: Option<Frames>,
     is_shut: bool,
 }
 
 impl Model for Stream {
+    ghost use Rattle.std.specs.Prelude.{[]};
+    ghost use Rattle.std.specs.Option.{option_map_or};
     ghost use Rattle.rk_served.specs.Unused.{Unused};
 
     ghost Value = { Unused };
 
-    ghost view = { λ s. record { bytes = s.frames.bytes; is_shut = s.is_shut } };
+    ghost view = { λ s. record { bytes = option_map_or (λ f. f.bytes) s.frames []; is_shut = s.is_shut } };
 }
 
 impl Stream {
     ghost use Rattle.rk_served.specs.Streams.{no_bytes, lengthened, closed};
     ghost use Rattle.rk_served.specs.Message.{IsNext};
 
-    /// No bytes yet. The only refusal is want of memory.
-    pub fn new(alloc: Global) -> Result<Stream, AllocError>
-        ensures { IfOk result (λ s. s ≡ no_bytes) }
+    /// No bytes yet. It takes no memory.
+    pub fn new() -> Stream
+        ensures { result ≡ no_bytes }
     {
-        let frames = Frames::new(alloc)?;
-        Ok(Stream {
-            frames,
+        Stream {
+            frames: None,
             is_shut: false,
-        })
+        }
     }
 
     /// Takes the next bytes, or passes them over where it is shut. The only refusal is want of memory.
-    pub fn feed(&mut self, bytes: &[u8]) -> Result<(), AllocError>
+    pub fn feed(&mut self, alloc: Global, bytes: &[u8]) -> Result<(), AllocError>
         ensures { OnOk result (self.new ≡ lengthened bytes.now self.old) }
     {
         if self.is_shut {
             return Ok(());
         }
-        self.frames.feed(bytes)
+        match &mut self.frames {
+            Some(frames) => frames.feed(bytes),
+            None => {
+                self.frames = Some(fed(alloc, bytes)?);
+                Ok(())
+            }
+        }
     }
 
     /// The next message, after which the stream goes on behind it. The only refusal is want of memory for an ask.
     pub fn next(&mut self, alloc: Global) -> Result<Message, AllocError>
         ensures { IfOk result (λ m. IsNext m self.old self.new) }
     {
-        match self.frames.next() {
-            Next::Whole(body) => match Ask::read(alloc, body) {
-                Ok(ask) => Ok(Message::Asks(ask)),
-                Err(ReadError::Fault(fault)) => Ok(Message::Refused(fault.errno())),
-                Err(ReadError::NoMemory) => Err(AllocError),
-            },
-            Next::More => Ok(Message::More),
-            Next::Fault(_) => Ok(Message::Fault),
+        match &mut self.frames {
+            Some(frames) => next_in(alloc, frames),
+            None => Ok(Message::More),
         }
     }
 
@@ -87,5 +90,30 @@ impl Stream {
         ensures { self.new ≡ closed self.old }
     {
         self.is_shut = true;
+    }
+}
+
+/// Frames of which these bytes are the first. The only refusal is want of memory.
+fn fed(alloc: Global, bytes: &[u8]) -> Result<Frames, AllocError>
+    ensures { IfOk result (λ f. f.bytes ≡ bytes.now) }
+{
+    let mut frames = Frames::new(alloc)?;
+    frames.feed(bytes)?;
+    Ok(frames)
+}
+
+/// The next message of some frames, which go on behind it. The only refusal is want of memory for an ask.
+fn next_in(alloc: Global, frames: &mut Frames) -> Result<Message, AllocError>
+    ensures { (is_shut : Bool) → IfOk result (λ m. IsNext m (record { bytes = frames.old.bytes; is_shut = is_shut })
+        (record { bytes = frames.new.bytes; is_shut = is_shut })) }
+{
+    match frames.next() {
+        Next::Whole(body) => match Ask::read(alloc, body) {
+            Ok(ask) => Ok(Message::Asks(ask)),
+            Err(ReadError::Fault(fault)) => Ok(Message::Refused(fault.errno())),
+            Err(ReadError::NoMemory) => Err(AllocError),
+        },
+        Next::More => Ok(Message::More),
+        Next::Fault(_) => Ok(Message::Fault),
     }
 }

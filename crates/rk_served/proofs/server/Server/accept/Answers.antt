@@ -7,7 +7,7 @@ pub returns : goal.returns
 returns c conf =
     on_ok_weaker c.add.result
     (λ adds. accepted_one conf c.args.now c.args.client _ _ _ c.step-answer.result c.step-answer.ensures.step (sym c.is_refused.ensures
-    ∙ c.if-is_refused.false) (rw c.in_ok-new.ensures at adds))
+    ∙ c.if-is_refused.false) (rw c.new.ensures at adds))
     c.add.ensures.adds
 
 pub returns-then-is_refused : goal.returns-then-is_refused

@@ -20,12 +20,12 @@ returns c conf put =
     (slice_get_within xs i (peer (Handler c.args.key) (Starts _) (Some c.requires.starts.0)) there) c.index_mut.ensures.value in
     let same = some_peer (sym at ∙ there) in
     plain_one conf c.args.now c.args.key _ _ put put i c.requires.starts c.step.result c.requires.owed c.step.ensures.step
-    (ap (λ (x : Peer). slice_set xs i (peer x.who (Talks c.in_ok-new.field-0) x.subject)) same
-    ∙ ap (λ (u : Unused). slice_set xs i (peer (Handler c.args.key) (Talks u) (Some c.requires.starts.0))) c.in_ok-new.ensures)
+    (ap (λ (x : Peer). slice_set xs i (peer x.who (Talks c.new.result) x.subject)) same
+    ∙ ap (λ (u : Unused). slice_set xs i (peer (Handler c.args.key) (Talks u) (Some c.requires.starts.0))) c.new.ensures)
 
 pub invariant_of-self : goal.invariant_of-self
 invariant_of-self c =
     record {
       in_order = order_replaced c.args.self.now.peers.items c.args.index c.index_mut.result.now
-          (Talks c.in_ok-new.field-0) c.index_mut.ensures.value c.args.self.now.in_order;
+          (Talks c.new.result) c.index_mut.ensures.value c.args.self.now.in_order;
     }
