@@ -1,12 +1,13 @@
 -- What an operator sets, and the options that set it.
 use Rattle.std.specs.Prelude.{ℕ, Bool, List, [], ◌∷◌, ◌==◌, ◌&&◌, Option, Some, None, codes, if◌then◌else◌, nat_le}
 use Rattle.std.specs.List.{list_all, list_any}
-use Rattle.std.specs.Option.{option_and_then, option_flatten}
 use Rattle.std.specs.Str.{bytes_eq}
 use Rattle.std.specs.Str.Parse.{digits_value}
-use Rattle.rk_text.specs.Numbers.{number_of, up_to}
+use Rattle.rk_text.specs.Numbers.{up_to}
+use Rattle.rk_options.specs.Options as shared
+use Rattle.rk_options.specs.Options.{Given, all_named}
+use Rattle.rk_options.specs.Values.{number_in, number_up_to, path_in}
 use Rattle.rk_daemon.specs.declared.settings.Settings.{Settings}
-use Rattle.rk_daemon.specs.Options.{Given, all_named, options_of, value_in}
 
 -- what is set: the path of the socket and that of the configuration; seconds; how many connections are served at a time, and in all; permission bits
 pub record Set : Type 0 where
@@ -20,6 +21,10 @@ pub record Set : Type 0 where
 -- the same, of settings
 abbrev pub set_by : Settings → Set
 set_by s = record { socket = s.socket.now; conf = s.conf.now; negative = s.negative; sessions = s.sessions; clients = s.clients; mode = s.mode }
+
+-- the options that words say, of which none is a flag
+abbrev pub options_of : List (List ℕ) → Option (List Given)
+options_of words = shared.options_of [] words
 
 -- the options that there are
 abbrev pub is_known : List ℕ → Bool
@@ -38,26 +43,9 @@ octal_said (b ∷ bs) = if list_all is_octal_digit (b ∷ bs) then Some (digits_
 abbrev pub permissions_said : List ℕ → Option ℕ
 permissions_said bytes = up_to 0o777 (octal_said bytes)
 
--- a number up to a limit
-abbrev pub number_up_to : ℕ → List ℕ → Option ℕ
-number_up_to limit bytes = up_to limit (number_of bytes)
-
 abbrev pub unless_zero : Option ℕ → Option ℕ
 unless_zero None = None
 unless_zero (Some n) = if n == 0 then None else Some n
-
--- the path that options give a name
-abbrev pub path_in : List ℕ → Option (List Given) → Option (List ℕ)
-path_in name options = option_flatten (value_in name options)
-
--- what a value says, or the default where there is none
-abbrev pub or_default : ℕ → (List ℕ → Option ℕ) → Option (List ℕ) → Option ℕ
-or_default default said None = Some default
-or_default default said (Some value) = said value
-
--- the number that options give a name, or the default
-abbrev pub number_in : List ℕ → ℕ → (List ℕ → Option ℕ) → Option (List Given) → Option ℕ
-number_in name default said options = option_and_then (or_default default said) (value_in name options)
 
 -- all six
 abbrev pub together : Option (List ℕ) → Option (List ℕ) → Option ℕ → Option ℕ → Option ℕ → Option ℕ → Option Set

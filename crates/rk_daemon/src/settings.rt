@@ -1,11 +1,10 @@
 //! What an operator sets.
 ghost use Rattle.std.specs.Prelude.{◌≡◌, codes, map, option_map, string_bytes};
 ghost use Rattle.std.specs.List.{list_all};
-ghost use Rattle.rk_daemon.specs.Options.{options_of};
-ghost use Rattle.rk_daemon.specs.Settings.{is_octal_digit, number_in, number_up_to, path_in, permissions_said, set_by, settings_said, unless_zero};
+ghost use Rattle.rk_options.specs.Values.{number_in, number_up_to, path_in};
+ghost use Rattle.rk_daemon.specs.Settings.{is_octal_digit, options_of, permissions_said, set_by, settings_said, unless_zero};
 
-use crate::options::{are_known, value_of};
-use rk_text::number;
+use crate::options::{are_known, number_or, value_of};
 
 /// What an operator sets.
 #[derive(Clone, Copy, Debug)]
@@ -50,24 +49,6 @@ fn path<'a>(words: &'a [String], name: &str) -> Option<&'a str>
     ensures { option_map (λ s. s.now) result ≡ path_in name.now (options_of (map string_bytes words.now)) }
 {
     value_of(words, name)?
-}
-
-/// The number that the option of this name gives, or the default.
-fn number_or(words: &[String], name: &str, limit: u32, default: u32) -> Option<u32>
-    ensures { result ≡ number_in name.now default (number_up_to limit) (options_of (map string_bytes words.now)) }
-{
-    match value_of(words, name)? {
-        Some(text) => up_to(text, limit),
-        None => Some(default),
-    }
-}
-
-/// A number up to a limit.
-fn up_to(text: &str, limit: u32) -> Option<u32>
-    ensures { result ≡ number_up_to limit text.now }
-{
-    let number = number(text.as_bytes(), u64::from(limit))?;
-    Some(number as u32)
 }
 
 /// The number of workers.
