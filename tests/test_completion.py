@@ -61,6 +61,10 @@ TYPED = [
     ("reqkeyd serve --mode ", []),
     ("reqkeyd serve --socket S --se", ["--sessions"]),
     ("reqkeyd serve ", []),
+    ("reqkeyd check --conf ", ["some.file"]),
+    ("reqkeyd pick --conf so", ["some.file"]),
+    ("reqkeyd pick --negate --ke", ["--key"]),
+    ("reqkeyd pick --uid ", []),
     ("reqkeyd replay ", []),
 ]
 

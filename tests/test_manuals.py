@@ -59,14 +59,16 @@ def calls(program, name):
 
 def of_daemon(program):
     """reqkeyd.8: its options, its subcommands, and that each option stands in the synopsis."""
-    page, top_help, serve = sections("reqkeyd.8"), said(program, "--help"), said(program, "serve", "--help")
+    page, top_help = sections("reqkeyd.8"), said(program, "--help")
+    helps = [said(program, it, "--help") for it in ["serve", "check", "pick"]]
     listed = sorted(option(tag) for tag in tagged(page["OPTIONS"]))
-    count.same("options of reqkeyd", listed, options(top_help, serve))
+    count.same("options of reqkeyd", listed, options(top_help, *helps))
     synopsis = " ".join(spoken(line) for line in page["SYNOPSIS"])
     count.same("synopsis of reqkeyd", [it for it in listed if it.split()[-1] != "--help" and it.split()[1 if it[1] != "-" else 0] not in synopsis], [])
     commands = subcommands(top_help)
-    count.same("subcommands of reqkeyd", sorted(commands), ["replay", "serve"])
+    count.same("subcommands of reqkeyd", sorted(commands), ["check", "pick", "replay", "serve"])
     count.same("their synopsis", [it for it in commands if f"reqkeyd {it}" not in synopsis], [])
+    count.same("names of pick", [it for it in [calls(program, "pick").partition("PATH ")[2]] if it not in synopsis], [])
 
 
 def of_client(program):

@@ -7,13 +7,16 @@ _reqkeyd()
         [reqkeyd]='-h --help -V --version'
         [replay]='-h --help'
         [serve]='--socket --conf --negative --sessions --clients --mode -h --help'
+        [check]='--conf -h --help'
+        [pick]='--conf --negate --uid --gid --key --thread --process --session -h --help'
     )
     local -A arguments=(
+        [pick]='type description callout'
     )
     local -A words=(
-        [command]='replay serve'
+        [command]='replay serve check pick'
     )
-    local -A values=([--socket]=PATH [--conf]=PATH [--negative]=N [--sessions]=N [--clients]=N [--mode]=OCTAL)
+    local -A values=([--socket]=PATH [--conf]=PATH [--negative]=N [--sessions]=N [--clients]=N [--mode]=OCTAL [--uid]=N [--gid]=N [--key]=N [--thread]=N [--process]=N [--session]=N)
     local -A instead=()
     local current=${COMP_WORDS[COMP_CWORD]} command=reqkeyd value= dropped= seen=0 candidates word at
     local -a left=(command)

@@ -22,6 +22,8 @@ function __reqkeyd_at
                 set left
         end
         switch $command
+            case pick
+                set left type description callout
         end
         for name in $dropped
             set left (string match -v -- $name $left)
@@ -41,5 +43,18 @@ complete -c reqkeyd -n '__reqkeyd_at in serve' -l sessions -x -d 'How many conne
 complete -c reqkeyd -n '__reqkeyd_at in serve' -l clients -x -d 'End after so many connections, 0 to 4294967295, 0 for never'
 complete -c reqkeyd -n '__reqkeyd_at in serve' -l mode -x -d 'The permissions of the socket\'s file, 0 to 777 in octal'
 complete -c reqkeyd -n '__reqkeyd_at in serve' -s h -l help -d 'Print help'
+complete -c reqkeyd -n '__reqkeyd_at in check' -l conf -r -F -d 'The configuration'
+complete -c reqkeyd -n '__reqkeyd_at in check' -s h -l help -d 'Print help'
+complete -c reqkeyd -n '__reqkeyd_at in pick' -l conf -r -F -d 'The configuration'
+complete -c reqkeyd -n '__reqkeyd_at in pick' -l negate -d 'What is run after a piped program failed, in place of what makes the key'
+complete -c reqkeyd -n '__reqkeyd_at in pick' -l uid -x -d 'The user that asks, 0 to 4294967295'
+complete -c reqkeyd -n '__reqkeyd_at in pick' -l gid -x -d 'Its group, 0 to 4294967295'
+complete -c reqkeyd -n '__reqkeyd_at in pick' -l key -x -d 'The serial of the key that is to be made, 1 to 2147483647'
+complete -c reqkeyd -n '__reqkeyd_at in pick' -l thread -x -d 'The user\'s thread ring, 0 to 2147483647, 0 for none'
+complete -c reqkeyd -n '__reqkeyd_at in pick' -l process -x -d 'Its process ring, 0 to 2147483647, 0 for none'
+complete -c reqkeyd -n '__reqkeyd_at in pick' -l session -x -d 'Its session ring, 0 to 2147483647, 0 for none'
+complete -c reqkeyd -n '__reqkeyd_at in pick' -s h -l help -d 'Print help'
 complete -c reqkeyd -n '__reqkeyd_at command' -a replay -d 'Runs a script from standard input, and writes what the daemon does'
 complete -c reqkeyd -n '__reqkeyd_at command' -a serve -d 'Answers a Unix socket: keys are found, or made by the handler programs of a configuration'
+complete -c reqkeyd -n '__reqkeyd_at command' -a check -d 'Tells how many lines of a configuration name a program, or its first fault'
+complete -c reqkeyd -n '__reqkeyd_at command' -a pick -d 'Tells which line of a configuration a request chooses, and what would be started'

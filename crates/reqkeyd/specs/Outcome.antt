@@ -1,8 +1,10 @@
 -- What the program does on its streams, by the words that it is called with.
-use Rattle.std.specs.Prelude.{ℕ, Bool, false, List, [], ◌∷◌, codes, Option, IfSome}
+use Rattle.std.specs.Prelude.{ℕ, Bool, false, List, [], ◌∷◌, codes, Option, None, IfSome}
 use Rattle.std.specs.Str.{bytes_eq}
 use Rattle.std.specs.Io.KnownBytes.{Appends}
 use Rattle.rk_replay.specs.Written.{IsWritten}
+use Rattle.rk_preview.specs.Asked.{Asked, asked_said}
+use Rattle.rk_preview.specs.Told.{IsTold}
 
 -- the words are the name of the program and `replay`, and nothing else
 abbrev pub asks_replay : List (List ℕ) → Bool
@@ -24,3 +26,12 @@ HasPlayed unread contents contents' = IfSome unread (λ input. (text : List ℕ)
 -- it wrote a text, whatever it says: what was written, before and after
 abbrev pub HasTold : Option (List ℕ) → Option (List ℕ) → Type 0
 HasTold contents contents' = (text : List ℕ) × Appends contents contents' text
+
+-- what the words behind the name of the program ask of a configuration
+abbrev pub asks_preview : List (List ℕ) → Option Asked
+asks_preview [] = None
+asks_preview (name ∷ words) = asked_said words
+
+-- it wrote what the text of some configuration has to say to that: what was written, before and after
+abbrev pub HasShown : Asked → Option (List ℕ) → Option (List ℕ) → Type 0
+HasShown asked contents contents' = (input text : List ℕ) × IsTold asked input text × Appends contents contents' text

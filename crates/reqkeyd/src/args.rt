@@ -1,4 +1,5 @@
 //! The command line.
+use crate::preview_args::{check, pick};
 use clap::error::ErrorKind;
 use clap::{Arg, Command, Error};
 use std::alloc::{AllocError, Global};
@@ -81,7 +82,9 @@ pub fn command<'a>(alloc: Global) -> Result<Command<'a>, AllocError> {
         .subcommand_required(true)
         .disable_help_subcommand(true)
         .subcommand(replay)?
-        .subcommand(serve(alloc)?)
+        .subcommand(serve(alloc)?)?
+        .subcommand(check(alloc)?)?
+        .subcommand(pick(alloc)?)
 }
 
 /// Whether only memory was lacking.

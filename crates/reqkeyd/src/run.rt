@@ -1,13 +1,17 @@
 //! What the words ask for, done over the streams that are passed in.
-ghost use Rattle.std.specs.Prelude.{◌≡◌, ◌≤◌, true, false, map, string_bytes, IfSome};
-ghost use Rattle.reqkeyd.specs.Outcome.{asks_replay, names_serve, HasPlayed, HasTold};
+ghost use Rattle.std.specs.Prelude.{◌≡◌, ◌≤◌, true, false, map, string_bytes, IfOk, IfSome, OnErr, IsSome, option_map};
+ghost use Rattle.std.specs.Io.KnownBytes.{Appends};
+ghost use Rattle.rk_preview.specs.Views.{asked_by};
+ghost use Rattle.reqkeyd.specs.Outcome.{asks_preview, asks_replay, names_serve, HasPlayed, HasShown, HasTold};
 
 use crate::args::{command, is_memory};
+use crate::showing::show;
 use clap::Error;
 use log::Log;
 use rk_daemon::{Settings, serve};
+use rk_preview::Preview;
 use rk_replay::run_script;
-use std::alloc::Global;
+use std::alloc::{AllocError, Global};
 use std::fs::Files;
 use std::io::{Eprint, Read, Write};
 use std::net::Net;
@@ -17,7 +21,7 @@ use std::thread::Threads;
 use std::time::Clock;
 
 /// The status of a run that failed.
-const FAILED: u8 = 1;
+pub const FAILED: u8 = 1;
 
 /// The status of words that ask for nothing that there is.
 const USAGE: u8 = 2;
@@ -35,17 +39,18 @@ pub fn usage<E: Write>(errors: &mut E) -> u8
     ensures { result ≡ 2 }
 {
     let _ = errors.write_all(
-        b"usage: reqkeyd replay | reqkeyd serve --socket PATH --conf PATH [OPTIONS]\n",
+        b"usage: reqkeyd replay | reqkeyd serve --socket PATH --conf PATH [OPTIONS] | reqkeyd check --conf PATH | \
+reqkeyd pick --conf PATH [OPTIONS] TYPE DESCRIPTION CALLOUT\n",
     );
     USAGE
 }
 
 /// Tells what was asked for.
-fn tell<W: Write>(text: &str, writer: &mut W) -> u8
-    ensures told { result ≡ 0 → HasTold (W.contents writer.old) (W.contents writer.new) }
+pub fn tell<W: Write>(text: &[u8], writer: &mut W) -> u8
+    ensures told { result ≡ 0 → Appends (W.contents writer.old) (W.contents writer.new) text.now }
     ensures status { result ≤ 1 }
 {
-    let Ok(()) = writer.write_all(text.as_bytes()) else {
+    let Ok(()) = writer.write_all(text) else {
         return FAILED;
     };
     match writer.flush() {
@@ -71,7 +76,7 @@ fn refused<W: Write, E: Write>(alloc: Global, error: &Error, writer: &mut W, err
         let _ = errors.write_all(text.as_bytes());
         return USAGE;
     }
-    tell(&text, writer)
+    tell(text.as_bytes(), writer)
 }
 
 /// Whether the words are the name of the program and `replay`, and nothing else.
@@ -90,6 +95,7 @@ fn is_replay(words: &[String]) -> bool
 ///
 /// The first word is the name of the program. Where `replay` is the only other one, a script is read from `reader` and played to
 /// `writer`. For all other words nothing is read. `serve` with its options runs the daemon, to its end: 1 where it could not begin, with the fault on
+/// `errors`. `check` and `pick` with theirs write what a configuration has to say: 1 where it can't be read, has a fault or chooses no line, with that on
 /// `errors`. Help and the version are asked for, so they are written to `writer` with status 0.
 pub fn run_words<
     R: Files
@@ -114,7 +120,12 @@ pub fn run_words<
         → HasPlayed (I.remaining reader.old) (W.contents writer.old) (W.contents writer.new) }
     ensures runs { asks_replay (map string_bytes words.now) ≡ true → result ≤ 1 }
 
-    // other words: nothing is read; help and version are told with status 0, and nothing is with status 2.
+    // `check` or `pick`: with status 0 it has written what the text of some configuration has to say to that.
+    ensures shown { IfSome (asks_preview (map string_bytes words.now)) (λ asked. result ≡ 0
+        → HasShown asked (W.contents writer.old) (W.contents writer.new)) }
+    ensures looks { IsSome (asks_preview (map string_bytes words.now)) → result ≤ 1 }
+
+    // other words than `replay`: nothing is read; help and version are told with status 0, and nothing is with status 2.
     ensures unread { asks_replay (map string_bytes words.now) ≡ false → reader.new ≡ reader.old }
     ensures told { asks_replay (map string_bytes words.now) ≡ false → result ≡ 0 → HasTold (W.contents writer.old) (W.contents writer.new) }
     ensures usage { result ≡ 2 → writer.new ≡ writer.old }
@@ -127,9 +138,25 @@ pub fn run_words<
     if is_replay(words) {
         return replay(alloc, reader, writer, errors);
     }
+    match preview_of(alloc, words) {
+        Ok(Some(preview)) => return show(rt, &preview, writer, errors),
+        Ok(None) => {}
+        Err(AllocError) => return no_memory(errors),
+    }
     match settings_of(words) {
         Some(settings) => daemon(rt, &settings, errors),
         None => explain(alloc, words, writer, errors),
+    }
+}
+
+/// What words ask to see of a configuration, if they do. The only refusal is want of memory, for words that do.
+fn preview_of<'a>(alloc: Global, words: &'a [String]) -> Result<Option<Preview<'a>>, AllocError>
+    ensures said { IfOk result (λ r. option_map asked_by r ≡ asks_preview (map string_bytes words.now)) }
+    ensures memory { OnErr result (IsSome (asks_preview (map string_bytes words.now))) }
+{
+    match words {
+        [_, words @ ..] => Preview::read(alloc, words),
+        [] => Ok(None),
     }
 }
 

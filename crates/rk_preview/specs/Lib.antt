@@ -1,0 +1,9 @@
+pub mod Rules
+pub mod Named
+pub mod Numbers
+pub mod Asked
+pub mod Text
+pub mod Told
+pub mod Views
+pub mod Outlines
+pub mod Laws

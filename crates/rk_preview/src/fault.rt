@@ -1,0 +1,64 @@
+//! Why nothing is told of a configuration.
+ghost use Rattle.std.specs.Prelude.{◌≡◌};
+ghost use Rattle.rk_preview.specs.Rules.{rule_text, failure_text};
+
+use rk_conf::{ConfFault, ConfKind};
+use rk_macro::ExpandFault;
+use std::fmt;
+
+/// Why nothing is told of a configuration.
+#[derive(Clone, Copy, Debug, PartialEq, Eq)]
+pub enum Fault {
+    /// It has a fault. It is shown as `conf line 3: C1: fewer than five fields`.
+    Conf(ConfFault),
+    /// No line is for the request. It is shown as `no line`.
+    NoLine,
+    /// The words of the chosen line, by its number, can't be made. It is shown as `line 3: X3: ..`.
+    NoWords(usize, ExpandFault),
+    /// There was no memory for what is told. It is shown as `memory`.
+    NoMemory,
+}
+
+/// The rule of a line that is broken, in words, as docs/CONFIGURATION.md has them under "What is refused".
+pub fn rule(kind: ConfKind) -> &'static str
+    ensures { result.now ≡ rule_text kind }
+{
+    match kind {
+        ConfKind::TooLong => "more than 8192 bytes",
+        ConfKind::BadByte => "not UTF-8, or a zero byte",
+        ConfKind::TooFewFields => "fewer than five fields",
+        ConfKind::ProgNotAbsolute => "the program does not begin with /",
+        ConfKind::BadMacro => "an argument begins with % and is no macro",
+        ConfKind::NoMemory => "no memory",
+    }
+}
+
+/// Why words can't be made, in words.
+fn failure(fault: ExpandFault) -> &'static str
+    ensures { result.now ≡ failure_text fault }
+{
+    match fault {
+        ExpandFault::NoKey =>
+            "an argument %{..} is the payload of a key, which only a daemon can look up",
+        ExpandFault::NotText => "a payload is no text",
+        ExpandFault::TooLong => "the words are more than 65536 bytes",
+        ExpandFault::NoMemory => "no memory",
+    }
+}
+
+impl fmt::Display for Fault {
+    fn fmt<W: fmt::Write>(&self, f: &mut fmt::Formatter<W>) -> fmt::Result {
+        match self {
+            Fault::Conf(fault) => write!(f, "conf {}: {}", fault, rule(fault.kind)),
+            Fault::NoLine => f.write_str("no line"),
+            Fault::NoWords(line, fault) => write!(
+                f,
+                "line {}: {}: {}",
+                line,
+                fault,
+                failure(*fault)
+            ),
+            Fault::NoMemory => f.write_str("memory"),
+        }
+    }
+}
