@@ -1,6 +1,6 @@
 -- What an expansion says of calls that find no key.
 use Rattle.std.proofs.Common.{◌≡◌, ℕ, List, [], ◌∷◌, ap, sym, ◌∙◌, inl, inr}
-use Rattle.std.specs.Prelude.{Option, None, Result, Ok, Err}
+use Rattle.std.specs.Prelude.{Option, None, Result, Ok}
 use Rattle.std.specs.declared.alloc.AllocError.{AllocError}
 use Rattle.std.specs.Global.{Vec}
 use Rattle.rk_conf.specs.declared.argument.Wanted.{Wanted}
@@ -9,7 +9,7 @@ use Rattle.rk_conf.specs.declared.argument.Argument.TheVariants as argument
 use Rattle.rk_macro.specs.declared.fault.ExpandFault.{ExpandFault}
 use Rattle.rk_macro.specs.declared.fault.ExpandFault.TheVariants.{NoKey, NotText, TooLong, NoMemory}
 use Rattle.rk_macro.specs.declared.subject.Subject.{Subject}
-use Rattle.rk_macro.specs.Lookup.{Lookup, payload_shown, answers_of}
+use Rattle.rk_macro.specs.Lookup.{payload_shown, answers_of}
 use Rattle.rk_macro.specs.Expansion.{StandsFor, OnPayload, AreWords, Fails, FailsNext, FailsAt}
 use Rattle.rk_preview.specs.Told.{finds_none}
 

@@ -1,11 +1,9 @@
 -- What is told of a configuration.
-use Rattle.std.specs.Prelude.{◌≡◌, ℕ, List, [], length, Option, Some, None, Result, Ok, Err}
-use Rattle.std.specs.declared.alloc.AllocError.{AllocError}
+use Rattle.std.specs.Prelude.{◌≡◌, ℕ, List, [], length, Option, Some, None, Ok}
 use Rattle.rk_conf.specs.declared.line.Line.{Line}
 use Rattle.rk_conf.specs.Choice.{IsChosen}
 use Rattle.rk_conf.specs.Faults.{IsFaultFor}
 use Rattle.rk_conf.specs.Reading.{faults_in, lines_in}
-use Rattle.rk_macro.specs.declared.fault.ExpandFault.{ExpandFault}
 use Rattle.rk_macro.specs.declared.subject.Subject.{Subject}
 use Rattle.rk_macro.specs.Lookup.{Lookup}
 use Rattle.rk_macro.specs.Ops.{op_name, is_piped}
