@@ -42,6 +42,7 @@ complete -c reqkeyd -n '__reqkeyd_at in serve' -l negative -x -d 'For how many s
 complete -c reqkeyd -n '__reqkeyd_at in serve' -l sessions -x -d 'How many connections are served at a time, 1 to 64'
 complete -c reqkeyd -n '__reqkeyd_at in serve' -l clients -x -d 'End after so many connections, 0 to 4294967295, 0 for never'
 complete -c reqkeyd -n '__reqkeyd_at in serve' -l mode -x -d 'The permissions of the socket\'s file, 0 to 777 in octal'
+complete -c reqkeyd -n '__reqkeyd_at in serve' -l keyutils -r -F -d 'Have handlers that ask preload this library, so that keyutils\' own programs are handlers'
 complete -c reqkeyd -n '__reqkeyd_at in serve' -s h -l help -d 'Print help'
 complete -c reqkeyd -n '__reqkeyd_at in check' -l conf -r -F -d 'The configuration'
 complete -c reqkeyd -n '__reqkeyd_at in check' -s h -l help -d 'Print help'

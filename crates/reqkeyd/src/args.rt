@@ -25,7 +25,7 @@ Status: 0 after the connections of --clients; 2 for words that are no call; 1 fo
 (reqkeyd: conf line 3: C1), a socket that can't be opened or is in use (reqkeyd: socket), or want of memory (reqkeyd: memory).";
 
 /// The options of `serve`, by name, value and what they are for; the first two must be there.
-const OPTIONS: [(&str, &str, &str); 6] = [
+const OPTIONS: [(&str, &str, &str); 7] = [
     (
         "socket",
         "PATH",
@@ -55,6 +55,11 @@ const OPTIONS: [(&str, &str, &str); 6] = [
         "mode",
         "OCTAL",
         "The permissions of the socket's file, 0 to 777 in octal [default: 600]",
+    ),
+    (
+        "keyutils",
+        "FILE",
+        "Have handlers that ask preload this library, so that keyutils' own programs are handlers",
     ),
 ];
 

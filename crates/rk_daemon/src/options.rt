@@ -7,13 +7,14 @@ ghost use Rattle.rk_daemon.specs.Settings.{is_known, options_of};
 use rk_options::Options;
 
 /// The names of the options that there are; each has a value.
-const NAMES: [&str; 6] = [
+const NAMES: [&str; 7] = [
     "--socket",
     "--conf",
     "--negative",
     "--sessions",
     "--clients",
     "--mode",
+    "--keyutils",
 ];
 
 /// The value of the option of this name: `Some(None)` where it isn't there, `None` where it is there twice, or the words are no options.

@@ -65,6 +65,10 @@ fn serve_at<
     let Ok(begun) = Instant::now(rt) else {
         return Err(AllocError);
     };
+    let keyutils = match settings.keyutils {
+        Some(path) => Some(String::from_str(alloc, path)?),
+        None => None,
+    };
     let shared = Arc::new(
         alloc,
         Shared {
@@ -72,6 +76,7 @@ fn serve_at<
             conf,
             start: begun,
             held: Held::new(),
+            keyutils,
         },
     )?;
     let (to, from) = crossbeam_channel::bounded(alloc, WAITING)?;

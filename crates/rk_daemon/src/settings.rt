@@ -2,9 +2,10 @@
 ghost use Rattle.std.specs.Prelude.{◌≡◌, codes, map, option_map, string_bytes};
 ghost use Rattle.std.specs.List.{list_all};
 ghost use Rattle.rk_options.specs.Values.{number_in, number_up_to, path_in};
-ghost use Rattle.rk_daemon.specs.Settings.{is_octal_digit, options_of, permissions_said, set_by, settings_said, unless_zero};
+ghost use Rattle.rk_daemon.specs.Settings.{is_octal_digit, library_in, options_of, permissions_said, set_by, settings_said, unless_zero};
 
 use crate::options::{are_known, number_or, value_of};
+use rk_variables::is_library;
 
 /// What an operator sets.
 #[derive(Clone, Copy, Debug)]
@@ -21,12 +22,15 @@ pub struct Settings<'a> {
     pub clients: u32,
     /// Who may connect: the permission bits of the socket's file, at most 0o777.
     pub mode: u32,
+    /// The library that plain handlers preload, by which keyutils' calls are the daemon's.
+    pub keyutils: Option<&'a str>,
 }
 
 impl<'a> Settings<'a> {
     /// The settings that the words say: options with their values, as `--clients 2` or `--clients=2`, in any order. `None` where a name has no value,
     /// is unknown or there twice, where a path is lacking, and where a value is no number within its bounds. `--negative` (60) and `--clients` (0) are
-    /// decimal digits up to 4294967295, `--sessions` (64) from 1 to 64, and `--mode` (600) octal digits up to 777; none has a sign.
+    /// decimal digits up to 4294967295, `--sessions` (64) from 1 to 64, and `--mode` (600) octal digits up to 777; none has a sign. `--keyutils` is an
+    /// absolute path without a space or a colon, and there is none unless it is given.
     pub fn read(words: &'a [String]) -> Option<Settings<'a>>
         ensures { option_map set_by result ≡ settings_said (map string_bytes words.now) }
     {
@@ -40,6 +44,7 @@ impl<'a> Settings<'a> {
             sessions: workers(words)?,
             clients: number_or(words, "--clients", u32::MAX, 0)?,
             mode: mode(words)?,
+            keyutils: library(words)?,
         })
     }
 }
@@ -68,6 +73,20 @@ fn mode(words: &[String]) -> Option<u32>
     match value_of(words, "--mode")? {
         Some(text) => permissions(text),
         None => Some(0o600),
+    }
+}
+
+/// The library.
+fn library<'a>(words: &'a [String]) -> Option<Option<&'a str>>
+    ensures { option_map (option_map (λ s. s.now)) result ≡ library_in (codes "--keyutils") (options_of (map string_bytes words.now)) }
+{
+    match value_of(words, "--keyutils")? {
+        Some(path) => if is_library(path) {
+            Some(Some(path))
+        } else {
+            None
+        },
+        None => Some(None),
     }
 }
 

@@ -44,6 +44,8 @@ pub struct Shared<N: Names> {
     pub start: Instant,
     /// How much the halls' records hold.
     pub held: Held,
+    /// The library that plain handlers preload.
+    pub keyutils: Option<String>,
 }
 
 /// Serves one connection to its end.
@@ -96,7 +98,8 @@ fn work<N: Names, R: Wait + Processes + Clock + Eprint + Log>(
     let Some(mut seat) = shared.halls.seat(rt) else {
         return;
     };
-    let mut launcher = Programs::new(rt, alloc);
+    let keyutils = shared.keyutils.as_ref().map(|path| path.as_str());
+    let mut launcher = Programs::new(rt, alloc, keyutils);
     for client in clients.iter(rt) {
         serve_client(rt, alloc, shared, &mut seat, &mut launcher, client);
     }

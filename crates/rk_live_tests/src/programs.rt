@@ -60,7 +60,7 @@ fn run<L: Launcher>(
 
 /// Each script, what it puts out and how it ends.
 fn scripts<R: Processes + Abort>(rt: &R, alloc: Global) -> Result<(), Fail> {
-    let mut programs = Programs::new(rt, alloc);
+    let mut programs = Programs::new(rt, alloc, None);
     for (text, callout, wanted, how) in [
         ("cat", "callout", "callout", How::Exit(0)),
         ("printf %s \"$1\"; exit 3", "", "a b", How::Exit(3)),
@@ -97,7 +97,7 @@ fn programs_end_and_put_out(rt: HostRuntime) -> Result<(), Fail> {
 
 /// What can't be started is a failure, and nothing of it is left.
 fn refusals<R: Processes + Abort>(rt: &R, alloc: Global) {
-    let mut programs = Programs::new(rt, alloc);
+    let mut programs = Programs::new(rt, alloc, None);
     for path in ["/no/such/program", "/etc/passwd", "/"] {
         let ran = run(&mut programs, alloc, command(alloc, path, &[]), b"");
         same(rt, ran, None);
@@ -119,7 +119,7 @@ fn length<L: Launcher>(launcher: &mut L, alloc: Global, text: &str) -> Option<us
 
 /// What is put out is a payload up to 32,767 bytes.
 fn lengths<R: Processes + Abort>(rt: &R, alloc: Global) {
-    let mut programs = Programs::new(rt, alloc);
+    let mut programs = Programs::new(rt, alloc, None);
     for (text, wanted) in [
         ("cat", Some(4_095)),
         ("true", None),
@@ -145,7 +145,7 @@ fn counted<L: Launcher>(launcher: &mut L, alloc: Global) -> Option<Vec<u8>> {
 
 /// Of 200 in a row nothing is left, nor of one that came back before it was waited for.
 fn leftovers<R: Processes + Abort>(rt: &R, alloc: Global) {
-    let mut programs = Programs::new(rt, alloc);
+    let mut programs = Programs::new(rt, alloc, None);
     let before = counted(&mut programs, alloc);
     for _ in 0..200 {
         let _ = run(&mut programs, alloc, command(alloc, "/bin/true", &[]), b"");
@@ -170,7 +170,7 @@ fn leave<L: Launcher>(launcher: &mut L, alloc: Global) -> Option<()> {
 
 /// A program that came back before it was waited for is let go at a later start, once it has ended.
 fn unwaited<R: Processes + Abort>(rt: &R, alloc: Global) {
-    let mut programs = Programs::new(rt, alloc);
+    let mut programs = Programs::new(rt, alloc, None);
     let before = counted(&mut programs, alloc);
     same(rt, leave(&mut programs, alloc), Some(()));
     let _ = run(&mut programs, alloc, script(alloc, "sleep 0.3"), b"");

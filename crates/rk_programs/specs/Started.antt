@@ -1,13 +1,31 @@
 -- What is started for a command.
-use Rattle.std.specs.Prelude.{◌≡◌, ℕ, List, None, false}
-use Rattle.std.specs.declared.process.command.Command.{Command as Made}
-use Rattle.std.specs.Process.{command_program, command_args, command_var, command_dir, clears_env}
+use Rattle.std.specs.Prelude.{◌≡◌, ◌≢◌, ℕ, List, Option, Some, None, false, codes, if◌then◌else◌}
+use Rattle.rk_variables.specs.Starts.{Start}
 use Rattle.rk_macro.specs.declared.command.Command.{Command}
 
 -- the program at the command's path, with its words, in the environment and the folder of the daemon
-pub record IsOf {A : Type 0} (command : Command) (made : Made A) : Type 0 where
-  pub program : command_program made ≡ command.path
-  pub words : command_args made ≡ command.words
-  pub keeps : clears_env made ≡ false
-  pub same : (name : List ℕ) → command_var made name ≡ None
-  pub folder : command_dir made ≡ None
+pub record IsCalled (command : Command) (s : Start) : Type 0 where
+  pub program : s.program ≡ command.path
+  pub words : s.words ≡ command.words
+  pub same : (name : List ℕ) → s.variable name ≡ None
+  pub keeps : s.clears ≡ false
+  pub folder : s.folder ≡ None
+
+-- the variables of a handler that is told no library, and of one that is: it is preloaded, and finds the daemon at standard input and output. All others are
+-- the daemon's
+abbrev pub Told : Option (List ℕ) → (List ℕ → Option (Option (List ℕ))) → Type 0
+Told None variable = (name : List ℕ) → variable name ≡ None
+Told (Some library) variable = (variable (codes "LD_PRELOAD") ≡ Some (Some library)) × (variable (codes "REQKEYD_STREAMS") ≡ Some (Some (codes "0,1")))
+    × ((name : List ℕ) → name ≢ codes "LD_PRELOAD" → name ≢ codes "REQKEYD_STREAMS" → variable name ≡ None)
+
+-- the library of keyutils' calls, for a handler that asks; a piped one does not
+abbrev pub library_for : Command → Option (List ℕ) → Option (List ℕ)
+library_for command keyutils = if command.piped then None else keyutils
+
+-- the program at the command's path, with its words, in the daemon's folder, and with what it is told
+pub record IsOf (command : Command) (keyutils : Option (List ℕ)) (s : Start) : Type 0 where
+  pub program : s.program ≡ command.path
+  pub words : s.words ≡ command.words
+  pub told : Told (library_for command keyutils) s.variable
+  pub keeps : s.clears ≡ false
+  pub folder : s.folder ≡ None

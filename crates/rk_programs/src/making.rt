@@ -1,14 +1,35 @@
 //! What is started for a command.
-ghost use Rattle.std.specs.Prelude.{IfOk};
-ghost use Rattle.rk_programs.specs.Started.{IsOf};
+ghost use Rattle.std.specs.Prelude.{◌≡◌, IfOk, option_map};
+ghost use Rattle.rk_variables.specs.Starts.{start_of};
+ghost use Rattle.rk_programs.specs.Started.{IsCalled, IsOf};
 
 use rk_macro::Command;
+use rk_variables::with;
 use std::alloc::{AllocError, Global};
 use std::process::{self, Stdio};
 
-/// The program of this command and its words, with pipes for its standard input and output. The only refusal is want of memory.
-pub fn made(alloc: Global, command: &Command) -> Result<process::Command, AllocError>
-    ensures { IfOk result (λ made. IsOf command.now made) }
+/// The program of this command and its words, with pipes for its standard input and output. A handler that asks is told the library by which keyutils'
+/// calls are the daemon's, where there is one, and that they go over these pipes; a piped one is not. The only refusal is want of memory.
+pub fn made(
+    alloc: Global,
+    command: &Command,
+    keyutils: Option<&str>,
+) -> Result<process::Command, AllocError>
+    ensures { IfOk result (λ made. IsOf command.now (option_map (λ s. s.now) keyutils.entry) (start_of made)) }
+{
+    let called = called(alloc, command)?;
+    match keyutils {
+        Some(library) if !command.piped => {
+            let told = with(called, "LD_PRELOAD", library)?;
+            with(told, "REQKEYD_STREAMS", "0,1")
+        }
+        _ => Ok(called),
+    }
+}
+
+/// The program of this command and its words, with pipes for its standard input and output.
+fn called(alloc: Global, command: &Command) -> Result<process::Command, AllocError>
+    ensures { IfOk result (λ made. IsCalled command.now (start_of made)) }
 {
     let mut made = process::Command::new(alloc, command.path.as_str())?;
     for word in command.words.as_slice() {

@@ -18,6 +18,7 @@ use std::process::{self, Processes};
 pub struct Programs<'a, R: Processes> {
     rt: &'a R,
     alloc: Global,
+    keyutils: Option<&'a str>,
     failed: u64,
     longest: u64,
     out: u64,
@@ -27,11 +28,13 @@ pub struct Programs<'a, R: Processes> {
 }
 
 impl<'a, R: Processes> Programs<'a, R> {
-    /// A launcher that has started nothing. It takes no memory.
-    pub fn new(rt: &'a R, alloc: Global) -> Programs<'a, R> {
+    /// A launcher that has started nothing, with the library that handlers are told by which keyutils' calls are the daemon's, if there is one. It takes
+    /// no memory.
+    pub fn new(rt: &'a R, alloc: Global, keyutils: Option<&'a str>) -> Programs<'a, R> {
         Programs {
             rt,
             alloc,
+            keyutils,
             failed: 0,
             longest: 0,
             out: 0,
@@ -47,8 +50,9 @@ fn spawn<R: Processes>(
     rt: &R,
     alloc: Global,
     command: &Command,
+    keyutils: Option<&str>,
 ) -> io::Result<process::Child<R::Started>> {
-    made(alloc, command)?.spawn(rt)
+    made(alloc, command, keyutils)?.spawn(rt)
 }
 
 impl<'a, R: Processes> Launcher for Programs<'a, R> {
@@ -57,19 +61,20 @@ impl<'a, R: Processes> Launcher for Programs<'a, R> {
     type Started = Program<R::Started>;
 
     fn start(&mut self, command: &Command) -> Result<Program<R::Started>, DeviceFault> {
+        let failed = self.failed;
         self.unwaited.let_ended_go();
         if self.out == u64::MAX {
-            self.failed = one_more(self.failed);
+            self.failed = one_more(failed);
             return Err(DeviceFault);
         }
-        match spawn(self.rt, self.alloc, command) {
+        match spawn(self.rt, self.alloc, command, self.keyutils) {
             Ok(child) => {
                 self.out += 1;
                 self.deepest = self.deepest.max(self.out);
                 Ok(Program::new(child))
             }
             Err(_) => {
-                self.failed = one_more(self.failed);
+                self.failed = one_more(failed);
                 Err(DeviceFault)
             }
         }

@@ -1,6 +1,6 @@
 use Rattle.std.proofs.Common.{◌≡◌, ℕ, List, false, None, take}
 use Rattle.std.specs.Process.{command_program, command_args, command_var, command_dir, clears_env}
-use Rattle.rk_programs.proofs.making.made.Given as goal
+use Rattle.rk_programs.proofs.making.called.Given as goal
 
 abbrev pub invariant-loop-word : goal.invariant-loop-word
 invariant-loop-word l =
