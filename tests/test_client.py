@@ -254,6 +254,19 @@ def lacks_memory(program, library, words, stdin, replies, want):
     return "it never ends"
 
 
+def run_lacks_memory(program, library):
+    """The same of a program that is run, which is not started then."""
+    for count in range(1, 100_000):
+        with peer.Daemon([peer.frame(peer.rings(0, 0, 1, 2))]) as daemon:
+            words = ["run", "--socket", daemon.path, "--library", library, "--", "/bin/true"]
+            got = ran(program, words, env={"LD_PRELOAD": library, "REFUSED": str(count)})
+        if got == (0, b"", b""):
+            return None if count > 5 else f"{count - 1} growths"
+        if got != (1, b"", b"reqkeyctl: memory\n"):
+            return f"growth {count}: {got}"
+    return "it never ends"
+
+
 # the arguments that each subcommand takes at least
 FEWEST = {}
 for words, _ in GOOD:
@@ -319,12 +332,14 @@ def cases(room):
         welcome, seven = peer.frame(peer.rings(0, 0, 1, 2)), peer.frame(peer.number(7))
         yield "memory of a handler", lacks_memory, library, read, seven, [], (0, peer.frame(ask), b"7\n")
         yield "memory of a client", lacks_memory, library, read, b"", [welcome, seven], (0, b"7\n", b"")
+        yield "memory of a run", run_lacks_memory, library
         long, from_input = b"p" * 32767, ["--payload-from", "-", "instantiate", "3", "none"]
         yield "memory of long bytes", lacks_memory, library, from_input, long, [welcome, peer.frame(peer.data(long))], (0, long + b"\n", b"")
     else:
         print("growths that are refused: not tried, there is no gcc")
     for word in ["--help", "-h"]:
         yield word, helps, [word], "Usage: reqkeyctl", *[f"  {name} " for name in FEWEST], "126 ENOKEY", "--payload-from", "Status:"
+        yield f"run {word}", helps, ["run", word], "Usage: reqkeyctl run", "--library", "126"
     for word in ["--version", "-V"]:
         yield word, helps, [word], "reqkeyctl 0.1.0"
 

@@ -68,7 +68,7 @@ def serves(prefix, conf):
     """The installed programs do what the example configuration says."""
     with tempfile.TemporaryDirectory() as room:
         socket = f"{room}/socket"
-        words = [prefix / "bin" / "reqkeyd", "serve", "--socket", socket, "--conf", conf, "--clients", "2"]
+        words = [prefix / "bin" / "reqkeyd", "serve", "--socket", socket, "--conf", conf, "--clients", "3"]
         daemon = subprocess.Popen(words, stdin=subprocess.DEVNULL, stdout=subprocess.DEVNULL, stderr=subprocess.PIPE, text=True, env=PATH)
         try:
             said = daemon.stderr.readline()
@@ -77,7 +77,8 @@ def serves(prefix, conf):
             client = [prefix / "bin" / "reqkeyctl", "--socket", socket, "--uid", "1000"]
             key = run(*client, "request", "user", "debug:a", "user", "hello")
             payload = run(*client, "read", key[1].strip())
-            return key[0], payload, daemon.wait(LIMIT)
+            library = run(prefix / "bin" / "reqkeyctl", "run", "--socket", socket, "--", "/bin/sh", "-c", 'echo "$LD_PRELOAD"')
+            return key[0], payload, library, daemon.wait(LIMIT)
         finally:
             daemon.kill()
             daemon.wait()
@@ -91,7 +92,9 @@ def used(name, prefix, python=PYTHON):
         completes = run("bash", "-c", f"source {prefix}/share/bash-completion/completions/{program} && complete -p {program}")
         count.same(f"{name}: completion of {program}", completes, (0, f"complete -F _{program} {program}\n", ""))
     examples = prefix / "share" / "doc" / "reqkeyd" / "examples"
-    count.same(f"{name}: the example configuration", serves(prefix, examples / "reqkeyd.conf"), (0, (0, "hello\n", ""), 0))
+    library = prefix / "lib" / "reqkeyd" / "libkeyutils.so.1"
+    served = serves(prefix, examples / "reqkeyd.conf")
+    count.same(f"{name}: the example configuration, and the library of a run", served, (0, (0, "hello\n", ""), (0, f"{library}\n", ""), 0))
     usage = run(sys.executable, "-B", examples / "example_client.py", env={**PATH, "PYTHONPATH": str(prefix / python)})
     count.same(f"{name}: the client in Python", usage, (2, "", "usage: example_client.py SOCKET TYPE DESCRIPTION [CALLOUT]\n"))
     with tempfile.TemporaryDirectory() as room:
@@ -99,7 +102,6 @@ def used(name, prefix, python=PYTHON):
         sources = [examples / "example_client.c", prefix / "share" / "reqkeyd" / "reqkey.c"]
         count.same(f"{name}: the client in C", run("gcc", "-I", prefix / "include", "-o", client, *sources), (0, "", ""))
         count.same(f"{name}: the client in C runs", run(client)[0], 2)
-    library = prefix / "lib" / "reqkeyd" / "libkeyutils.so.1"
     count.same(f"{name}: keyutils' library", run(sys.executable, "-c", f"import ctypes; ctypes.CDLL('{library}').add_key"), (0, "", ""))
 
 

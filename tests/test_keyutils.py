@@ -1,6 +1,7 @@
 #!/usr/bin/env python3
 """Runs keyutils' own programs on the daemon, by the library of clients/keyutils/: each command of keyctl without arguments, with bad ones and with good ones;
-its handlers, by the example of request-key.conf(5) and as key.dns_resolver; and the library's calls themselves.
+its handlers, by the example of request-key.conf(5) and as key.dns_resolver; and the library's calls themselves. Once by variables, and once by `reqkeyctl run`
+and `reqkeyd serve --keyutils`, which set them.
 
 Debian's keyutils is installed where it is lacking and can be had; else nothing is tried.
 """
@@ -15,7 +16,7 @@ import tempfile
 
 import protocol_peer as ask
 from counted import Counted
-from daemon import Daemon
+from daemon import Daemon, until
 from programs import PROGRAMS, top
 from sanitizers import SANITIZED, sanitizes
 
@@ -265,6 +266,134 @@ def resolves(keys):
     count.same("key.dns_resolver for no name", keys.run("keyctl", "request2", "dns_resolver", "no.such.name.invalid", "ipv4", "@s")[:2], (1, ""))
 
 
+def told(daemon, lines):
+    """What these lines say of the variables that a handler is told: the library, and whether there are streams."""
+    found = dict(line.partition("=")[::2] for line in lines if line.startswith(("LD_PRELOAD=", "REQKEYD_STREAMS=")))
+    return found.get("LD_PRELOAD"), bool(re.fullmatch(r"\d+,\d+", found.get("REQKEYD_STREAMS", "")))
+
+
+def stock(program, library):
+    """Handlers as `serve --keyutils` starts them, by lines without variables; and what it tells each kind of handler."""
+    lines = EXAMPLE.replace("%plain ", "") + "create user asks:* * /usr/bin/env\ncreate user piped:* * |/usr/bin/env\n"
+    with Daemon(program, lines, "--keyutils", library) as daemon:
+        daemon.script("script", SCRIPT)
+        keys = Keyutils(daemon, library)
+        handlers(keys)
+        scripted(keys)
+        resolves(keys)
+        keys.fits("request2 user piped:a x @s", (0, SERIAL, ""))
+        count.same("what a piped handler is told", told(daemon, keys.run("keyctl", "pipe", "%user:piped:a")[1].split("\n")), (None, False))
+        daemon.lines.clear()
+        keys.fits("request2 user asks:a x @s", (1, "", MISSING))
+        until(lambda: all(told(daemon, daemon.lines)), "the variables of a handler")
+        count.same("what a handler that asks is told", told(daemon, daemon.lines), (str(library), True))
+
+
+class Runner:
+    """Programs that `reqkeyctl run` runs, in an environment without any of the variables."""
+
+    def __init__(self, program, path, library):
+        self.program, self.path, self.library = program, path, library
+
+    def run(self, *words, options=None, piped=b"", **changes):
+        """The status, output and errors of a program."""
+        options = ["--socket", self.path, "--library", self.library] if options is None else options
+        unset = ["LD_PRELOAD", "REQKEYD_SOCKET", "REQKEYD_JOIN", "REQKEYD_STREAMS"]
+        environment = {**{name: value for name, value in os.environ.items() if name not in unset}, **changes}
+        words = [self.program, "run", *options, "--", *words]
+        ran = subprocess.run(words, input=piped, capture_output=True, timeout=60, env=environment)
+        return ran.returncode, ran.stdout.decode(), ran.stderr.decode()
+
+    def shell(self, script, **more):
+        return self.run("/bin/sh", "-c", script, **more)
+
+    def same(self, name, got, want):
+        count.same(f"reqkeyctl run: {name}", got, want)
+
+    def fits(self, name, got, status, output, errors=""):
+        """Compares what came with a status, a pattern, and errors."""
+        want = (status, output, errors)
+        self.same(name, want if re.fullmatch(output, got[1], re.DOTALL) and (got[0], got[2]) == (status, errors) else got, want)
+
+
+def shares(runner, daemon):
+    """What a program and all that it starts have in common, as long as it runs."""
+    runner.fits("keyctl", runner.run("keyctl", "add", "user", "k", "v", "@s"), 0, SERIAL)
+    script = "keyctl id @s; keyctl add user k v @s >&2; keyctl print %user:k; sh -c 'sh -c \"keyctl id @s\"; keyctl print %user:k'; echo $REQKEYD_JOIN"
+    status, output, errors = runner.shell(script)
+    lines = output.split("\n")
+    runner.same("a script shares its ring", (status, lines[1:], errors[:-1].isdigit()), (0, ["v", lines[0], "v", lines[0], ""], True))
+    client = daemon.client(UID)
+    count.same("the ring of a program that has ended", client.ask(ask.on_key(7, int(errors))), "E126")
+    runner.fits("keyctl request2", runner.shell("keyctl request2 user made:a hello && keyctl print %user:made:a"), 0, SERIAL + "hello\n")
+    outer = runner.shell(f"keyctl id @s; {shlex.quote(str(runner.program))} run --library {runner.library} -- keyctl id @s")
+    rings = outer[1].split()
+    runner.same("a run in a run has a ring of its own", (outer[0], len(set(rings)), outer[2]), (0, 2, ""))
+    runner.fits("another user", runner.run("keyctl", "id", "@u", options=["--socket", runner.path, "--library", runner.library, "--uid", str(UID + 1)]), 1, "",
+                f"keyctl_get_keyring_ID: {MISSING}\n")
+
+
+def passes(runner):
+    """What a program has of its caller: words, streams, the environment but for the variables, the folder."""
+    runner.fits("words", runner.run("printf", "%s|", "--help", "--", "run", "a b", ""), 0, re.escape("--help|--|run|a b||"))
+    runner.fits("standard streams", runner.shell("cat; echo told >&2", piped=b"heard"), 0, "heard", "told\n")
+    runner.fits("the folder", runner.run("pwd"), 0, re.escape(os.getcwd()) + "\n")
+    shown = 'echo "$LD_PRELOAD $REQKEYD_SOCKET ${REQKEYD_STREAMS-none} $MINE"'
+    library, path = str(runner.library), str(runner.path)
+    runner.fits("variables", runner.shell(shown, MINE="mine"), 0, re.escape(f"{library} {path} none mine\n"))
+    runner.fits("a library that is there stays", runner.shell(shown, LD_PRELOAD=library), 0, re.escape(f"{library}:{library} {path} none \n"))
+    runner.fits("a handler's streams do not", runner.shell(shown, REQKEYD_STREAMS="88,89"), 0, re.escape(f"{library} {path} none \n"))
+    runner.fits("the socket of the environment", runner.run("keyctl", "id", "@s", options=["--library", library], REQKEYD_SOCKET=path), 0, SERIAL)
+    runner.fits("a socket that is named comes first", runner.run("keyctl", "id", "@s", REQKEYD_SOCKET="/no/such"), 0, SERIAL)
+
+
+def ends(runner, room):
+    """The status of a program, and of one that is not started."""
+    for script, want in [("exit 0", 0), ("exit 7", 7), ("exit 255", 255), ("kill -9 $$", 137), ("kill -TERM $$", 143)]:
+        runner.fits(script, runner.shell(script), want, "")
+    plain = room / "plain"
+    plain.write_text("#!/bin/sh\n")
+    for words, want in [(["no-such-program"], 127), (["/no/such/program"], 127), ([""], 127), ([plain], 126), ([room], 126)]:
+        runner.fits(f"{words}", runner.run(*words), want, "", "reqkeyctl: program\n")
+
+
+def refuses(runner, room):
+    """No daemon, wrong ones, no library, and words that are no call."""
+    library = ["--library", runner.library]
+    socket = ["--socket", runner.path]
+    for options in [library, [*library, "--socket", room / "none"], [*library, "--socket", room]]:
+        runner.same(f"{options}", runner.run("echo", "ran", options=options), (1, "", "reqkeyctl: socket\n"))
+    for wanted in ["/no/such/library", str(room / "none")]:
+        runner.same(f"the library {wanted}", runner.run("echo", "ran", options=[*socket, "--library", wanted]), (1, "", "reqkeyctl: file\n"))
+    unheard = "reqkeyctl: socket\n"
+    for reply, want in [(None, unheard), (ask.frame(b"\x09"), unheard), (ask.frame(ask.number(5)), unheard), (ask.frame(ask.data(b"x")), unheard),
+                        (ask.frame(ask.refused(13)), "errno 13\n")]:
+        with ask.Daemon([reply]) as hostile:
+            runner.same(f"a daemon that answers {reply}", runner.run("echo", "ran", options=[*library, "--socket", hostile.path]), (1, "", want))
+    with ask.Daemon([ask.frame(ask.rings(0, 0, 41, 42))]) as daemon:
+        told = runner.shell("echo $REQKEYD_JOIN", options=[*library, "--socket", daemon.path, "--uid", "7", "--gid=8"])
+        daemon.thread.join(20)
+        runner.same("what is asked", (told, daemon.heard, daemon.more), ((0, "41\n", ""), [ask.hello(7, 8)], b""))
+    with ask.Daemon([ask.frame(ask.rings(0, 0, 41, 42))]) as daemon:
+        runner.run("true", options=[*library, "--socket", daemon.path])
+        runner.same("who asks", daemon.heard, [ask.hello(UID, os.getegid())])
+    wrong = [["--uid", "x"], ["--uid", "4294967296"], ["--socket"], ["--join", "1"], ["--raw"], ["--socket", "a", "--socket=b"]]
+    wrong += [["--library", path] for path in ["libkeyutils.so.1", "/a:/b", "/a b", ""]]
+    for words in [[], ["--"], ["true"], *([*options, "--", "true"] for options in wrong)]:
+        ran = subprocess.run([runner.program, "run", *words], stdin=subprocess.DEVNULL, capture_output=True, timeout=60)
+        runner.same(f"no call {words}", (ran.returncode, ran.stdout, ran.stderr != b""), (2, b"", True))
+
+
+def runs(program, library):
+    """`reqkeyctl run`."""
+    with Daemon(program, "create user made:* * |/bin/cat\n") as daemon:
+        runner = Runner(daemon.client_program, daemon.path, library)
+        shares(runner, daemon)
+        passes(runner)
+        ends(runner, daemon.room)
+        refuses(runner, daemon.room)
+
+
 # What tests/clients/calls.py prints by each subject.
 PRINTED = {
     "left_out": ["[]"],
@@ -377,6 +506,9 @@ def main():
                 continue
             for library, before in there:
                 tries(program, library, *before)
+                if not before:
+                    stock(program, library)
+                    runs(program, library)
     count.end()
 
 

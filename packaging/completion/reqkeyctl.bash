@@ -21,6 +21,7 @@ _reqkeyctl()
         [default]='-h --help'
         [add]='-h --help'
         [callout]='-h --help'
+        [run]='--socket --uid --gid --library -h --help'
     )
     local -A arguments=(
         [request]='type description ring callout'
@@ -37,15 +38,16 @@ _reqkeyctl()
         [clear]=ring
         [default]=setting
         [add]='type description payload ring'
+        [run]='program>...'
     )
     local -A words=(
-        [command]='hello request assume instantiate negate reject read describe revoke timeout link unlink clear default add callout'
+        [command]='hello request assume instantiate negate reject read describe revoke timeout link unlink clear default add callout run'
         [ring]='none thread process session user requestor'
         [key]=auth
         [error]='126 127 128 129'
         [setting]='keep default thread process session user requestor'
     )
-    local -A values=([--socket]=PATH [--uid]=N [--gid]=N [--join]=N [--payload-from]=FILE [--callout-from]=FILE)
+    local -A values=([--socket]=PATH [--uid]=N [--gid]=N [--join]=N [--payload-from]=FILE [--callout-from]=FILE [--library]=FILE)
     local -A instead=([--payload-from]=payload [--callout-from]=callout)
     local current=${COMP_WORDS[COMP_CWORD]} command=reqkeyctl value= dropped= seen=0 candidates word at
     local -a left=(command)

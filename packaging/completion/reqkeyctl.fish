@@ -67,6 +67,8 @@ function __reqkeyctl_at
                 set left setting
             case add
                 set left type description payload ring
+            case run
+                set left program>...
         end
         for name in $dropped
             set left (string match -v -- $name $left)
@@ -101,6 +103,11 @@ complete -c reqkeyctl -n '__reqkeyctl_at in clear' -s h -l help -d 'Print help'
 complete -c reqkeyctl -n '__reqkeyctl_at in default' -s h -l help -d 'Print help'
 complete -c reqkeyctl -n '__reqkeyctl_at in add' -s h -l help -d 'Print help'
 complete -c reqkeyctl -n '__reqkeyctl_at in callout' -s h -l help -d 'Print help'
+complete -c reqkeyctl -n '__reqkeyctl_at in run' -l socket -r -F -d 'The socket of the daemon'
+complete -c reqkeyctl -n '__reqkeyctl_at in run' -l uid -x -d 'The user to act for'
+complete -c reqkeyctl -n '__reqkeyctl_at in run' -l gid -x -d 'The group to act for'
+complete -c reqkeyctl -n '__reqkeyctl_at in run' -l library -r -F -d 'The library that is preloaded, an absolute path'
+complete -c reqkeyctl -n '__reqkeyctl_at in run' -s h -l help -d 'Print help'
 complete -c reqkeyctl -n '__reqkeyctl_at command' -a hello -d 'Say who acts, by the options, and print the rings'
 complete -c reqkeyctl -n '__reqkeyctl_at command' -a request -d 'Find a key, or have it made by a handler that is told the callout'
 complete -c reqkeyctl -n '__reqkeyctl_at command' -a assume -d 'Assume the authority to make a key, or lay it down with 0'
@@ -117,6 +124,7 @@ complete -c reqkeyctl -n '__reqkeyctl_at command' -a clear -d 'Take all links ou
 complete -c reqkeyctl -n '__reqkeyctl_at command' -a default -d 'Set into which ring a made key goes by default, and print the setting before'
 complete -c reqkeyctl -n '__reqkeyctl_at command' -a add -d 'Make a key with this payload, and print its serial'
 complete -c reqkeyctl -n '__reqkeyctl_at command' -a callout -d 'Print what the requester told the handler'
+complete -c reqkeyctl -n '__reqkeyctl_at command' -a run -d 'Run a program in a new session ring, and have the daemon answer its calls of keyutils'
 complete -c reqkeyctl -n '__reqkeyctl_at ring' -a none
 complete -c reqkeyctl -n '__reqkeyctl_at ring' -a thread
 complete -c reqkeyctl -n '__reqkeyctl_at ring' -a process

@@ -1,5 +1,5 @@
 -- What the program did on its streams.
-use Rattle.std.specs.Prelude.{◌≡◌, ◌⊎◌, ℕ, List, Option, option_and_then, Bool, true, false}
+use Rattle.std.specs.Prelude.{◌≡◌, ◌⊎◌, ℕ, List, Option, IsSome, option_and_then, Bool, true, false}
 use Rattle.std.specs.Option.{unwrap_or}
 use Rattle.std.specs.Io.KnownBytes.{Appends}
 use Rattle.rk_message.specs.declared.ask.Ask.{Ask}
@@ -11,6 +11,7 @@ use Rattle.rk_message.specs.Asks.{ask_op}
 use Rattle.reqkeyctl.specs.declared.call.Options.{Options}
 use Rattle.rk_client.specs.Peer.{HasAsked, HasGreeted, is_refusal}
 use Rattle.rk_client.specs.Printed.{printed}
+use Rattle.rk_run.specs.Words.{wanted_said}
 use Rattle.reqkeyctl.specs.Calls.{asks_help, names_socket, CallsFor}
 
 -- it wrote a text, whatever it says: what was written, before and after
@@ -24,6 +25,7 @@ pub data HasDone (words : List (List ℕ)) (unread unread' written written' told
       → is_refusal reply ≡ false → Appends told told' (printed raw reply) → HasDone words unread unread' written written' told told'
   asked_as_client : (ask : Ask) (reply : Reply) (raw : Bool) → names_socket words ≡ true → CallsFor words ask → is_refusal reply ≡ false
       → Appends written written' (printed raw reply) → HasDone words unread unread' written written' told told'
+  ran : IsSome (wanted_said words) → unread' ≡ unread → written' ≡ written → HasDone words unread unread' written written' told told'
 
 -- who acts with these options: no ring of its own, and 0 for what is not given
 abbrev pub greeting_of : Options → Ask

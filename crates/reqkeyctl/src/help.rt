@@ -18,7 +18,7 @@ const ABOUT: &str = "Asks a request_key daemon for one thing, and prints its rep
 With --socket it connects as a client, says who it is (HELLO), asks, and prints the reply on standard output. Without it, it speaks as a handler that \
 the daemon has started: it writes the ask to standard output, reads exactly its reply from standard input, and prints it on standard error.
 
-Options stand before the command, and all words behind it are its arguments.";
+Options stand before the command, and all words behind it are its arguments. But run starts a program, and has options of its own.";
 
 /// What `--help` says behind its lists, before the arguments.
 const AFTER: &str =
@@ -30,6 +30,7 @@ Examples:
   reqkeyctl --socket S --uid 1000 read 12                          print its payload
   reqkeyctl assume 12                                              in a handler: take on the authority over its key
   reqkeyctl --payload-from FILE instantiate 12 none                in a handler: give the key the bytes of a file
+  reqkeyctl run --socket S -- keyctl request2 user mykey hello     run keyutils' keyctl on the daemon's keys
 
 Status: 0 where a reply was printed; 1 for a refusal (errno N on standard error), a daemon that can't be reached or gives no reply \
 (reqkeyctl: socket), a file that can't be used (reqkeyctl: file), or want of memory (reqkeyctl: memory); 2 for words that are no call.
@@ -37,6 +38,35 @@ Status: 0 where a reply was printed; 1 for a refusal (errno N on standard error)
 Numbers have no sign. A payload or callout - is that byte.
 
 Arguments:";
+
+/// What `run --help` says before its lists.
+const RUN: &str =
+    "Run a program in a new session ring, and have the daemon answer its calls of keyutils";
+
+/// What `run --help` says behind its lists.
+const AFTER_RUN: &str =
+    "keyutils' programs, such as keyctl, find the daemon by a library that is preloaded. The program, and all that it starts, share one session ring, which \
+lasts until it has ended. It has the standard streams; its environment is the caller's, with LD_PRELOAD, REQKEYD_SOCKET and REQKEYD_JOIN.
+
+Status: the program's own; 128 and the number of the signal that has killed it; 127 where there is no such program, and 126 where it can't be started \
+(reqkeyctl: program); 1 for a refusal (errno N on standard error), a daemon that can't be reached (reqkeyctl: socket), a library that is not there \
+(reqkeyctl: file), or want of memory (reqkeyctl: memory).";
+
+/// The options of `run`, by name, value and what they are for.
+const RUN_OPTIONS: [(&str, &str, &str); 4] = [
+    (
+        "socket",
+        "PATH",
+        "The socket of the daemon [default: REQKEYD_SOCKET of the environment]",
+    ),
+    ("uid", "N", "The user to act for [default: the caller]"),
+    ("gid", "N", "The group to act for [default: the caller's]"),
+    (
+        "library",
+        "FILE",
+        "The library that is preloaded, an absolute path [default: the one that is installed]",
+    ),
+];
 
 /// The fields that arguments stand for.
 const ARGUMENTS: [FieldKind; 9] = [
@@ -166,7 +196,7 @@ fn after(alloc: Global) -> Result<String, AllocError> {
     Ok(text)
 }
 
-/// The command line: options, and a subcommand for each ask of the table.
+/// The command line: options, a subcommand for each ask of the table, and `run`.
 fn command<'a>(
     alloc: Global,
     names: &'a [String],
@@ -182,7 +212,22 @@ fn command<'a>(
     for (shape, name) in AskShape::all().iter().zip(names) {
         command = command.subcommand(subcommand(alloc, shape, name.as_str())?)?;
     }
-    Ok(command)
+    command.subcommand(run(alloc)?)
+}
+
+/// `run` with its options, and the program behind `--`.
+fn run<'a>(alloc: Global) -> Result<Command<'a>, AllocError> {
+    let mut command = Command::new(alloc, "run").about(RUN).after_help(AFTER_RUN);
+    for (name, value, help) in &RUN_OPTIONS {
+        command = command.arg(
+            Arg::new(alloc, name)
+                .long(name)
+                .value_name(value)
+                .help(help),
+        )?;
+    }
+    let program = Arg::new(alloc, "program").required(true).last(true);
+    command.arg(program.num_args(1..).help("The program and its words"))
 }
 
 /// The options, by name, value and what they are for.

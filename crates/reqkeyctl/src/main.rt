@@ -4,18 +4,22 @@
 //! has started: it writes the ask to its standard output, reads the reply from its standard input, and not a byte more, and tells it on standard
 //! error. So a handler can be a shell script of a few such lines (docs/CLIENT.md).
 //!
+//! `reqkeyctl run -- PROGRAM WORDS` runs a program in a session ring of its own, to which keyutils' calls are the daemon's (docs/KEYUTILS.md).
+//!
 //! `call` reads the words, `source` a file whose bytes stand for an argument, `asking` makes the ask of both; the library `rk_client` has what is
-//! said and heard. `help` is the manual, for words that ask for it or can't be read. All that it does is one call, [`run::run_words`], over words
-//! and streams that are passed in, so that tests call what `main` calls.
+//! said and heard. `running` runs a program, by the library `rk_run`. `help` is the manual, for words that ask for it or can't be read. All that it does is
+//! one call, [`run::run_words`], over words, streams and a host that are passed in.
 #![tactic(auto)]
 
 mod asking;
 mod call;
 mod help;
 mod run;
+mod running;
 mod source;
 mod telling;
 
+use rk_run::System;
 use std::env;
 use std::io::ErrorKind;
 use std::process::ExitCode;
@@ -33,6 +37,14 @@ fn main(rt: HostRuntime) -> ExitCode {
         Err(_) => return ExitCode::from(telling::usage(&mut errors)),
     };
     let (mut reader, mut writer) = (rt.stdin(), rt.stdout());
-    let status = run::run_words(&rt, words.as_slice(), &mut reader, &mut writer, &mut errors);
+    let mut host = System::new(&rt, rt.alloc());
+    let status = run::run_words(
+        &rt,
+        &mut host,
+        words.as_slice(),
+        &mut reader,
+        &mut writer,
+        &mut errors,
+    );
     ExitCode::from(status)
 }

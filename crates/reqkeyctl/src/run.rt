@@ -1,15 +1,19 @@
 //! What the words ask for, done over the streams that are passed in.
-ghost use Rattle.std.specs.Prelude.{◌≡◌, ◌≤◌, IfOk, None, map, string_bytes};
+ghost use Rattle.std.specs.Prelude.{◌≡◌, ◌≤◌, IfOk, IfSome, None, map, string_bytes};
 ghost use Rattle.rk_client.specs.Peer.{HasAsked, HasGreeted};
+ghost use Rattle.rk_run.specs.Words.{wanted_said};
 ghost use Rattle.reqkeyctl.specs.Calls.{CallsFor};
 ghost use Rattle.reqkeyctl.specs.Outcome.{HasDone, HasConversed};
+ghost use Rattle.reqkeyctl.specs.Programs.{RunsAs};
 
 use crate::asking::{AskFault, ask_for, greeting};
 use crate::call::{Call, Options};
 use crate::help::explain;
+use crate::running::run_program;
 use crate::telling::{answer, answer_alone, no_file, no_memory, no_peer, refused};
 use rk_client::{PeerFault, exchange, exchange_greeted};
 use rk_message::{Ask, Op, Reply};
+use rk_run::{Host, Wanted};
 use std::alloc::Global;
 use std::fs::Files;
 use std::io::{Read, Write};
@@ -22,8 +26,13 @@ use std::os::unix::net::UnixStream;
 /// The first word is the name of the program. With `--socket` the reply is printed on `writer`, and `reader` is read only for a file `-`. Without
 /// it the peer is at the streams: one ask is written to `writer`, one reply read from `reader`, and it is printed on `errors`. Help and the version
 /// are written to `writer`.
-pub fn run_words<R: AllocGlobal + Net + Files, I: Read, W: Write, E: Write>(
+///
+/// Where the second word is `run`, and what follows are its options, `--` and a program, that program is run by `host` in a session ring of its own
+/// ([`rk_run::run`]), and the status is the program's; 127 where there is no such program and 126 where it can't be started; 1 where it was not run
+/// otherwise, with a line on `errors`.
+pub fn run_words<R: AllocGlobal + Net + Files, H: Host, I: Read, W: Write, E: Write>(
     rt: &R,
+    host: &mut H,
     words: &[String],
     reader: &mut I,
     writer: &mut W,
@@ -33,6 +42,30 @@ pub fn run_words<R: AllocGlobal + Net + Files, I: Read, W: Write, E: Write>(
     ensures done { result ≡ 0 → HasDone (map string_bytes words.now) (I.remaining reader.old) (I.remaining reader.new)
         (W.contents writer.old) (W.contents writer.new) (E.contents errors.old) (E.contents errors.new) }
     // words that ask for nothing read and write nothing
+    ensures usage { result ≡ 2 → (reader.new ≡ reader.old) × (writer.new ≡ writer.old) }
+
+    // a program that is wanted is run, and nothing is read or written here
+    ensures runs { IfSome (wanted_said (map string_bytes words.now)) (λ said. RunsAs said (H.story host.old) (H.story host.new) result
+        × (reader.new ≡ reader.old) × (writer.new ≡ writer.old)) }
+    // for other words none is
+    ensures asks { wanted_said (map string_bytes words.now) ≡ None → (host.new ≡ host.old) × (result ≤ 2) }
+{
+    match Wanted::read(words) {
+        Some(wanted) => run_program(rt.alloc(), host, &wanted, errors),
+        None => ask_words(rt, words, reader, writer, errors),
+    }
+}
+
+/// Does what other words ask for: one ask, or help.
+fn ask_words<R: AllocGlobal + Net + Files, I: Read, W: Write, E: Write>(
+    rt: &R,
+    words: &[String],
+    reader: &mut I,
+    writer: &mut W,
+    errors: &mut E,
+) -> u8
+    ensures done { result ≡ 0 → HasDone (map string_bytes words.now) (I.remaining reader.old) (I.remaining reader.new)
+        (W.contents writer.old) (W.contents writer.new) (E.contents errors.old) (E.contents errors.new) }
     ensures usage { result ≡ 2 → (reader.new ≡ reader.old) × (writer.new ≡ writer.old) }
     ensures status { result ≤ 2 }
 {

@@ -40,6 +40,11 @@ pub fn no_file<E: Write>(errors: &mut E) -> u8
     FAILED
 }
 
+/// A program that is not there, can't be started, or whose end is not known.
+pub fn no_program<E: Write>(errors: &mut E) {
+    let _ = errors.write_all(b"reqkeyctl: program\n");
+}
+
 /// The usage in one line, for words that are not text.
 pub fn usage<E: Write>(errors: &mut E) -> u8
     ensures { result ≡ 2 }

@@ -1,6 +1,6 @@
 use Rattle.std.proofs.Common.{refl}
 use Rattle.reqkeyctl.specs.Outcome.{asked_as_handler, asked_as_client}
-use Rattle.reqkeyctl.proofs.run.run_words.Goals as goal
+use Rattle.reqkeyctl.proofs.run.ask_words.Goals as goal
 
 pub returns-in-Ok-over_socket-clause-done : goal.returns-in-Ok-over_socket-clause-done
 returns-in-Ok-over_socket-clause-done g c =

@@ -1,0 +1,5 @@
+pub mod Ending
+pub mod Runs
+pub mod Starts
+pub mod Story
+pub mod Words

@@ -1,0 +1,93 @@
+-- What is done of a run, and what comes of it.
+use Rattle.std.specs.Prelude.{◌≡◌, ℕ, true, false, List, [], ◌∷◌, ◌++◌, Option, Some, None, Result, Ok, Err, option_map, string_bytes}
+use Rattle.std.specs.Option.{unwrap_or}
+use Rattle.std.specs.declared.process.status.ExitStatus.{ExitStatus}
+use Rattle.rk_client.specs.declared.fault.PeerFault.{PeerFault}
+use Rattle.rk_client.specs.declared.fault.PeerFault.TheVariants as peer
+use Rattle.rk_message.specs.declared.ask.Ask.{Ask}
+use Rattle.rk_message.specs.declared.ask.Ask.TheVariants.{Hello}
+use Rattle.rk_message.specs.declared.reply.Reply.{Reply}
+use Rattle.rk_message.specs.declared.reply.Reply.TheVariants as reply
+use Rattle.rk_run.specs.declared.fault.RunFault.{RunFault}
+use Rattle.rk_run.specs.declared.fault.RunFault.TheVariants as fault
+use Rattle.rk_run.specs.declared.host.Here.{Here}
+use Rattle.rk_run.specs.declared.host.StartFault.{StartFault}
+use Rattle.rk_run.specs.declared.host.StartFault.TheVariants as start
+use Rattle.rk_run.specs.declared.wanted.Wanted.{Wanted}
+use Rattle.rk_run.specs.Ending.{status_of}
+use Rattle.rk_run.specs.Starts.{IsStart}
+use Rattle.rk_variables.specs.Starts.{Start}
+use Rattle.rk_run.specs.Story.{Event, Looked, Sought, Greeted, Started, Waited, Closed, and_then}
+
+-- HELLO with a new session ring and no other, for who is named, or else for who runs it
+abbrev pub hello_of : Wanted → Here → Ask
+hello_of w here = Hello (unwrap_or w.uid here.uid) (unwrap_or w.gid here.gid) false false None
+
+-- the first of two, or else the second
+abbrev pub or_else : {X : Type 0} → Option X → Option X → Option X
+or_else (Some x) other = Some x
+or_else None other = other
+
+-- the socket that is named, or else the one that is told already
+abbrev pub socket_of : Wanted → Here → Option (List ℕ)
+socket_of w here = or_else (option_map (λ s. s.now) w.socket) (option_map string_bytes here.socket)
+
+-- the library that is named, or else the one that is installed
+abbrev pub library_of : Wanted → Here → List ℕ
+library_of w here = unwrap_or (option_map (λ s. s.now) w.library) (string_bytes here.installed)
+
+-- the session ring, as HELLO is answered; a refusal; any other reply is none to HELLO
+abbrev pub ring_in : Reply → Result ℕ RunFault
+ring_in (reply.Rings thread process session user) = Ok session
+ring_in (reply.Refused e) = Err (fault.Refused e)
+ring_in (reply.Number n) = Err fault.Socket
+ring_in (reply.Bytes bytes) = Err fault.Socket
+
+-- why there is no reply
+abbrev pub unheard : PeerFault → RunFault
+unheard peer.Lost = fault.Socket
+unheard peer.Malformed = fault.Socket
+unheard peer.NoMemory = fault.NoMemory
+
+-- why nothing was started
+abbrev pub unstarted_by : StartFault → RunFault
+unstarted_by start.NotFound = fault.NotFound
+unstarted_by start.Unstartable = fault.Unstartable
+unstarted_by start.NoMemory = fault.NoMemory
+
+-- how the program has ended
+abbrev pub ending : Option ExitStatus → Result ℕ RunFault
+ending (Some status) = Ok (status_of status)
+ending None = Err fault.Unknown
+
+-- what is done while the connection is open, HELLO having been answered so, and what comes of it
+pub data InSession (w : Wanted) (here : Here) (socket : List ℕ) (answer : Reply) : List Event → Result ℕ RunFault → Type 0 where
+  turned_away : (e : RunFault) → ring_in answer ≡ Err e → InSession w here socket answer [] (Err e)
+  crowded : (ring : ℕ) → ring_in answer ≡ Ok ring → InSession w here socket answer [] (Err fault.NoMemory)
+  unstarted : (ring : ℕ) (s : Start) (e : StartFault) → ring_in answer ≡ Ok ring
+      → IsStart w (library_of w here) (option_map string_bytes here.preloaded) socket ring s
+      → InSession w here socket answer (Started s (Err e) ∷ []) (Err (unstarted_by e))
+  ended : (ring : ℕ) (s : Start) (status : Option ExitStatus) → ring_in answer ≡ Ok ring
+      → IsStart w (library_of w here) (option_map string_bytes here.preloaded) socket ring s
+      → InSession w here socket answer (Started s (Ok tt) ∷ Waited status ∷ []) (ending status)
+
+-- what is done of a run, first things first, and what comes of it. The library is there before anybody is asked; HELLO is the first that is asked; all else
+-- is done before the connection is closed
+pub data Runs (w : Wanted) : List Event → Result ℕ RunFault → Type 0 where
+  blind : Runs w [] (Err fault.NoMemory)
+  nowhere : (here : Here) → socket_of w here ≡ None → Runs w (Looked here ∷ []) (Err fault.Socket)
+  without : (here : Here) (socket : List ℕ) → socket_of w here ≡ Some socket
+      → Runs w (Looked here ∷ Sought (library_of w here) false ∷ []) (Err fault.File)
+  unanswered : (here : Here) (socket : List ℕ) (e : PeerFault) → socket_of w here ≡ Some socket
+      → Runs w (Looked here ∷ Sought (library_of w here) true ∷ Greeted socket (hello_of w here) (Err e) ∷ []) (Err (unheard e))
+  answered : (here : Here) (socket : List ℕ) (answer : Reply) (events : List Event) (r : Result ℕ RunFault) → socket_of w here ≡ Some socket
+      → InSession w here socket answer events r
+      → Runs w (Looked here ∷ Sought (library_of w here) true ∷ Greeted socket (hello_of w here) (Ok answer) ∷ events ++ Closed ∷ []) r
+
+-- the same, done behind what was done before
+abbrev pub HasRun : Wanted → Option (List Event) → Option (List Event) → Result ℕ RunFault → Type 0
+HasRun w before after r = (events : List Event) × (after ≡ and_then before events) × Runs w events r
+
+-- and within a session
+abbrev pub HasRunIn : Wanted → Here → List ℕ → Reply → Option (List Event) → Option (List Event) → Result ℕ RunFault → Type 0
+HasRunIn w here socket answer before after r = (events : List Event) × (after ≡ and_then before events) × InSession w here socket answer events r

@@ -1,0 +1,32 @@
+-- What is started in a session ring.
+use Rattle.std.specs.Prelude.{◌≡◌, ◌≢◌, ℕ, false, List, [], ◌∷◌, ◌++◌, Option, Some, None, codes, decimal, map, string_bytes}
+use Rattle.rk_run.specs.declared.wanted.Wanted.{Wanted}
+use Rattle.rk_variables.specs.Starts.{Start}
+
+-- a library, and behind it what was to be preloaded before; a colon stands between them (ld.so(8))
+abbrev pub preloads : List ℕ → Option (List ℕ) → List ℕ
+preloads library None = library
+preloads library (Some []) = library
+preloads library (Some (b ∷ bs)) = library ++ codes ":" ++ (b ∷ bs)
+
+-- a program with its words, in the environment and the folder where it is called
+pub record IsCalled (path : List ℕ) (arguments : List (List ℕ)) (s : Start) : Type 0 where
+  pub program : s.program ≡ path
+  pub words : s.words ≡ arguments
+  pub same : (name : List ℕ) → s.variable name ≡ None
+  pub keeps : s.clears ≡ false
+  pub folder : s.folder ≡ None
+
+-- the program that is wanted, with its words, in the folder where it is called. It preloads the library, and is told the daemon's socket and its session
+-- ring; it is not told that it is a handler; all other variables are as they are
+pub record IsStart (w : Wanted) (library : List ℕ) (before : Option (List ℕ)) (path : List ℕ) (ring : ℕ) (s : Start) : Type 0 where
+  pub program : s.program ≡ w.program.now
+  pub words : s.words ≡ map string_bytes w.words.now
+  pub preload : s.variable (codes "LD_PRELOAD") ≡ Some (Some (preloads library before))
+  pub socket : s.variable (codes "REQKEYD_SOCKET") ≡ Some (Some path)
+  pub join : s.variable (codes "REQKEYD_JOIN") ≡ Some (Some (decimal ring))
+  pub streams : s.variable (codes "REQKEYD_STREAMS") ≡ Some None
+  pub others : (name : List ℕ) → name ≢ codes "LD_PRELOAD" → name ≢ codes "REQKEYD_SOCKET" → name ≢ codes "REQKEYD_JOIN" → name ≢ codes "REQKEYD_STREAMS"
+      → s.variable name ≡ None
+  pub keeps : s.clears ≡ false
+  pub folder : s.folder ≡ None

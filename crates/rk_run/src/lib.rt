@@ -1,0 +1,34 @@
+//! A program that is started in a session ring of its own.
+//!
+//! # Purpose
+//!
+//! [`run`] is what `reqkeyctl run` does: it connects to the daemon, says HELLO with a new session ring, starts a program to which keyutils' calls are
+//! the daemon's, by a library that is preloaded, and keeps its connection until the program has ended. So the ring is there as long, for the program and
+//! for all that it starts.
+//!
+//! # What it promises
+//!
+//! Whatever its [`Host`] answers, what is done of it is a run as `specs/Runs.antt` says: HELLO is asked first; the program is started with its own words,
+//! and with exactly the variables of `specs/Starts.antt` besides those that are there; the connection is closed behind the wait for its end, and not
+//! before; and what is answered is its status, as a shell tells it, or why there is none. What a host does out there no contract can say: [`System`] is
+//! the one that calls the system.
+//!
+//! # How it is built
+//!
+//! `wanted` reads the words, `host` has the trait of what a run does outside of itself, `starting` makes the command, `status` tells how a program has
+//! ended, and `running` puts it together. `fault` says why there is no status. `system` is the host that there is.
+#![tactic(auto)]
+
+mod fault;
+mod host;
+mod running;
+mod starting;
+mod status;
+mod system;
+mod wanted;
+
+pub use fault::RunFault;
+pub use host::{Here, Host, StartFault};
+pub use running::run;
+pub use system::System;
+pub use wanted::Wanted;

@@ -1,0 +1,143 @@
+//! A run from its start to its end.
+ghost use Rattle.std.specs.Prelude.{◌≡◌, option_map, string_bytes};
+ghost use Rattle.rk_run.specs.Runs.{HasRun, HasRunIn, hello_of, library_of, ring_in, socket_of, unheard, unstarted_by};
+
+use crate::fault::RunFault;
+use crate::host::{Here, Host, StartFault};
+use crate::starting::made;
+use crate::status::status_of;
+use crate::wanted::Wanted;
+use rk_client::PeerFault;
+use rk_message::{Ask, Reply};
+use std::alloc::Global;
+
+/// Runs the program that is wanted in a session ring of its own, and gives its status as a shell tells it.
+///
+/// The socket, the user, the group and the library are those that are named, or else those of the host. Refusals, in this order: `NoMemory`; `Socket`
+/// where none is named; `File` where the library is not there; `Socket` where nobody answers or the answer is none to HELLO; `Refused` where HELLO is;
+/// `NotFound` and `Unstartable` where the program is not started, and `Unknown` where its end is not told. The connection is closed behind each.
+pub fn run<H: Host>(alloc: Global, host: &mut H, wanted: &Wanted<'_>) -> Result<u8, RunFault>
+    ensures { HasRun wanted.now (H.story host.old) (H.story host.new) result }
+{
+    let Ok(here) = host.look() else {
+        return Err(RunFault::NoMemory);
+    };
+    let Some(socket) = socket_of(wanted, &here) else {
+        return Err(RunFault::Socket);
+    };
+    if !host.has(library_of(wanted, &here)) {
+        return Err(RunFault::File);
+    }
+    match host.greet(socket, &hello_of(wanted, &here)) {
+        Ok(reply) => {
+            let ended = in_session(alloc, host, wanted, &here, socket, &reply);
+            host.close();
+            ended
+        }
+        Err(fault) => Err(unheard(fault)),
+    }
+}
+
+/// Runs the program while the connection is open, on which HELLO was answered so.
+fn in_session<H: Host>(
+    alloc: Global,
+    host: &mut H,
+    wanted: &Wanted<'_>,
+    here: &Here,
+    socket: &str,
+    reply: &Reply,
+) -> Result<u8, RunFault>
+    ensures { HasRunIn wanted.now here.now socket.now reply.now (H.story host.old) (H.story host.new) result }
+{
+    let ring = match ring_in(reply) {
+        Ok(ring) => ring,
+        Err(fault) => return Err(fault),
+    };
+    let (library, before) = (library_of(wanted, here), preloaded(here));
+    let Ok(command) = made(alloc, wanted, library, before, socket, ring) else {
+        return Err(RunFault::NoMemory);
+    };
+    if let Err(fault) = host.start(command) {
+        return Err(unstarted_by(fault));
+    }
+    match host.wait() {
+        Some(status) => Ok(status_of(status)),
+        None => Err(RunFault::Unknown),
+    }
+}
+
+/// HELLO with a new session ring and no other.
+fn hello_of(wanted: &Wanted<'_>, here: &Here) -> Ask
+    ensures { result ≡ hello_of wanted.now here.now }
+{
+    Ask::Hello {
+        uid: wanted.uid.unwrap_or(here.uid),
+        gid: wanted.gid.unwrap_or(here.gid),
+        thread: false,
+        process: false,
+        join: None,
+    }
+}
+
+/// The socket that is named, or else the one that is told already.
+fn socket_of<'a, 'w: 'a>(wanted: &Wanted<'w>, here: &'a Here) -> Option<&'a str>
+    ensures { option_map (λ s. s.now) result ≡ socket_of wanted.now here.now }
+{
+    match (wanted.socket, &here.socket) {
+        (Some(path), _) => Some(path),
+        (None, Some(path)) => Some(path.as_str()),
+        (None, None) => None,
+    }
+}
+
+/// The library that is named, or else the one that is installed.
+fn library_of<'a, 'w: 'a>(wanted: &Wanted<'w>, here: &'a Here) -> &'a str
+    ensures { result.now ≡ library_of wanted.now here.now }
+{
+    match wanted.library {
+        Some(path) => path,
+        None => here.installed.as_str(),
+    }
+}
+
+/// What is to be preloaded already.
+fn preloaded(here: &Here) -> Option<&str>
+    ensures { option_map (λ s. s.now) result ≡ option_map string_bytes here.now.preloaded }
+{
+    match &here.preloaded {
+        Some(text) => Some(text.as_str()),
+        None => None,
+    }
+}
+
+/// The session ring in a reply to HELLO.
+fn ring_in(reply: &Reply) -> Result<u32, RunFault>
+    ensures { result ≡ ring_in reply.now }
+{
+    match reply {
+        Reply::Rings { session, .. } => Ok(*session),
+        Reply::Refused(errno) => Err(RunFault::Refused(*errno)),
+        Reply::Number(_) | Reply::Bytes(_) => Err(RunFault::Socket),
+    }
+}
+
+/// Why there is no reply.
+fn unheard(fault: PeerFault) -> RunFault
+    ensures { result ≡ unheard fault }
+{
+    match fault {
+        PeerFault::Lost | PeerFault::Malformed => RunFault::Socket,
+        PeerFault::NoMemory => RunFault::NoMemory,
+    }
+}
+
+/// Why nothing was started.
+fn unstarted_by(fault: StartFault) -> RunFault
+    ensures { result ≡ unstarted_by fault }
+{
+    match fault {
+        StartFault::NotFound => RunFault::NotFound,
+        StartFault::Unstartable => RunFault::Unstartable,
+        StartFault::NoMemory => RunFault::NoMemory,
+    }
+}
