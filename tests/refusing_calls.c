@@ -32,7 +32,8 @@ __attribute__((constructor)) static void begin(void) {
 static int refused(const char *name) {
     if (!call || strcmp(name, call) != 0 || __atomic_fetch_sub(&left, 1, __ATOMIC_RELAXED) != 1)
         return 0;
-    syscall(SYS_close, syscall(SYS_openat, AT_FDCWD, told, O_CREAT | O_WRONLY, 0600));
+    /* without a descriptor, since a test may count those just now */
+    syscall(SYS_mknodat, AT_FDCWD, told, S_IFREG | 0600, 0);
     errno = error;
     return 1;
 }
