@@ -6,7 +6,7 @@ use rk_names::Payload;
 use std::alloc::{AllocError, Global};
 use std::marker::Model;
 
-/// What a piped handler has put out: its bytes, at most 32,767, or that there were more. Its room is made at first, so that it takes no memory later.
+/// What a piped handler has put out: its bytes, at most 32,767, or that there were more. Its room is made at first, so that none is wanted while bytes come.
 #[derive(Drop)]
 pub struct Output {
     bytes: Vec<u8>,

@@ -12,8 +12,8 @@ use std::alloc::{AllocError, Global};
 use std::cmp::Reverse;
 use std::collections::BinaryHeap;
 
-/// The sessions that may move, in a heap with the first of them at its top, and by each key those that wait for it. Who can't move, or waits no more,
-/// may stand here too: he is taken out when he is looked at.
+/// The sessions that may move, in a heap with the first of them at its top, and by each key those that wait for it. One that can't move, or waits
+/// no more, may stand here too: it is taken out when it is looked at.
 #[derive(Drop)]
 pub struct Queue {
     movers: BinaryHeap<Reverse<SessionId>>,
