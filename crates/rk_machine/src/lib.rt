@@ -29,8 +29,8 @@
 //!
 //! # How it is built
 //!
-//! `event` has what happens and what is answered, `copying` and `equality` copy and compare them, `greeting` and `asker` have what the definitions
-//! of the asks speak of, `owing` counts what is owed, and `laws` has the one call that promises the laws.
+//! `event` has what happens and what is answered, `greeting` and `asker` have what the definitions of the asks speak of, `owing` counts what is owed,
+//! and `laws` has the one call that promises the laws.
 //!
 //! `proofs/Effects/KindsOfStep.antt` turns a step inside out once: whatever step the machine may take is one of some twenty, each with what it found and what it
 //! leaves. Every law is proved over these (`proofs/EveryRun/KeepsLaws.antt`), and so is what others hold of every step: which constructions and clients there
@@ -39,8 +39,6 @@
 #![tactic(auto)]
 
 mod asker;
-mod copying;
-mod equality;
 mod event;
 mod greeting;
 mod laws;

@@ -2,7 +2,6 @@
 ghost use Rattle.std.specs.Prelude.{◌≡◌};
 
 use rk_names::{Callout, Description, Serial, TypeName};
-use std::alloc::AllocError;
 
 /// What a command is to do with the key (request-key.conf(5), "op").
 #[derive(Clone, Copy, Debug, PartialEq, Eq)]
@@ -33,7 +32,7 @@ impl Op {
 /// The request that a command is started for: the key under construction, the callout, and the requester.
 ///
 /// A ring that is absent, or was dropped, is 0.
-#[derive(Debug, Drop)]
+#[derive(Clone, Debug, Drop, PartialEq, Eq)]
 pub struct Subject {
     /// The key under construction.
     pub key: Serial,
@@ -57,25 +56,6 @@ pub struct Subject {
     pub session: u32,
 }
 
-impl Clone for Subject {
-    ghost is_clone = { λ subject copy. copy ≡ subject };
-
-    fn clone(&self) -> Result<Subject, AllocError> {
-        Ok(Subject {
-            key: self.key,
-            op: self.op,
-            typ: self.typ.clone()?,
-            desc: self.desc.clone()?,
-            callout: self.callout.clone()?,
-            uid: self.uid,
-            gid: self.gid,
-            thread: self.thread,
-            process: self.process,
-            session: self.session,
-        })
-    }
-}
-
 impl Subject {
     ghost use Rattle.std.specs.Prelude.{◌≡◌, ◌↔◌, IsTrue};
 
@@ -83,27 +63,6 @@ impl Subject {
     pub fn equals(&self, other: &Subject) -> bool
         ensures { IsTrue result ↔ (self.now ≡ other.now) }
     {
-        self.has_names_of(other) && self.has_numbers_of(other)
-    }
-
-    fn has_names_of(&self, other: &Subject) -> bool
-        ensures { IsTrue result ↔ ((self.now.typ ≡ other.now.typ) × (self.now.desc ≡ other.now.desc) × (self.now.callout ≡ other.now.callout)) }
-    {
-        self.typ.as_bytes() == other.typ.as_bytes()
-            && self.desc.as_bytes() == other.desc.as_bytes()
-            && self.callout.as_bytes() == other.callout.as_bytes()
-    }
-
-    fn has_numbers_of(&self, other: &Subject) -> bool
-        ensures { IsTrue result ↔ ((self.now.key ≡ other.now.key) × (self.now.op ≡ other.now.op) × (self.now.uid ≡ other.now.uid) × (self.now.gid ≡ other.now.gid)
-            × (self.now.thread ≡ other.now.thread) × (self.now.process ≡ other.now.process) × (self.now.session ≡ other.now.session)) }
-    {
-        self.key == other.key
-            && self.op == other.op
-            && self.uid == other.uid
-            && self.gid == other.gid
-            && self.thread == other.thread
-            && self.process == other.process
-            && self.session == other.session
+        self == other
     }
 }

@@ -11,3 +11,4 @@ pub mod Lengths
 pub mod Kept
 pub mod Lines
 pub mod Slotted
+pub mod Equal

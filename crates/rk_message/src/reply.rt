@@ -73,7 +73,7 @@ impl Clone for ReplyBytes {
 }
 
 /// What a session is answered.
-#[derive(Debug, Drop)]
+#[derive(Clone, Debug, Drop, PartialEq, Eq)]
 pub enum Reply {
     /// The serial of a key, the setting before, or 0 where there is nothing to tell.
     Number(u32),

@@ -20,13 +20,14 @@
 //! # How it is built
 //!
 //! A file for each name (`type_name`, `description`, `callout`) and for `payload`; `numbers` has what
-//! is a number, `errors` the refusals. The rules stand once, in `specs/Rules.antt`, as functions from bytes to the first fault;
-//! a maker, its test on borrowed bytes and its reader all cite them.
+//! is a number, `errors` the refusals, `equality` tells whether two names have the same bytes. The rules stand once, in
+//! `specs/Rules.antt`, as functions from bytes to the first fault; a maker, its test on borrowed bytes and its reader all cite them.
 #![tactic(auto)]
 
 mod callout;
 mod context;
 mod description;
+mod equality;
 mod errors;
 mod numbers;
 mod payload;
