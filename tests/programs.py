@@ -4,6 +4,7 @@ The folder PROGRAMS of the environment, where it is named, has the programs to b
 """
 import os
 import pathlib
+import subprocess
 import sys
 
 top = pathlib.Path(__file__).resolve().parent.parent
@@ -23,6 +24,11 @@ PROGRAMS = built("reqkeyd")
 def client_of(program):
     """The reqkeyctl that was built as this reqkeyd was."""
     return built("reqkeyctl")[PROGRAMS.index(program)]
+
+
+def version():
+    """What a program says behind its name of its version: a number, and the toolchain."""
+    return f"0.1.0 ({subprocess.check_output(['rt', 'version'], text=True).strip()})"
 
 
 def differs(got, want):

@@ -11,7 +11,7 @@ import subprocess
 import tempfile
 
 import protocol_peer as peer
-from programs import built, check_all, differs
+from programs import built, check_all, differs, version
 
 # what a subcommand is called with, and the body of its ask
 GOOD = [
@@ -341,7 +341,7 @@ def cases(room):
         yield word, helps, [word], "Usage: reqkeyctl", *[f"  {name} " for name in FEWEST], "126 ENOKEY", "--payload-from", "Status:"
         yield f"run {word}", helps, ["run", word], "Usage: reqkeyctl run", "--library", "126"
     for word in ["--version", "-V"]:
-        yield word, helps, [word], "reqkeyctl 0.1.0"
+        yield word, helps, [word], f"reqkeyctl {version()}"
 
 
 with tempfile.TemporaryDirectory(prefix="client-") as folder:

@@ -13,7 +13,7 @@ import sys
 import tempfile
 
 from counted import Counted
-from programs import built, top
+from programs import built, top, version
 
 count = Counted()
 LIMIT = 120
@@ -88,7 +88,7 @@ def serves(prefix, conf):
 def used(name, prefix, python=PYTHON):
     """What was installed is tried where it is: the programs, the clients, and what completes words."""
     for program in ["reqkeyd", "reqkeyctl"]:
-        count.same(f"{name}: {program}", run(prefix / "bin" / program, "--version"), (0, f"{program} 0.1.0\n", ""))
+        count.same(f"{name}: {program}", run(prefix / "bin" / program, "--version"), (0, f"{program} {version()}\n", ""))
         completes = run("bash", "-c", f"source {prefix}/share/bash-completion/completions/{program} && complete -p {program}")
         count.same(f"{name}: completion of {program}", completes, (0, f"complete -F _{program} {program}\n", ""))
     examples = prefix / "share" / "doc" / "reqkeyd" / "examples"

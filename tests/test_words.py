@@ -2,7 +2,7 @@
 """Calls `reqkeyd` with words: which status, and what is said on which stream."""
 import subprocess
 
-from programs import check_all
+from programs import check_all, version
 
 # a configuration without a line, and a place where no socket can be
 PATHS = ["--conf", "/dev/null", "--socket", "/dev/null/none"]
@@ -33,8 +33,8 @@ CALLS = [
     (["serve", "--help"], 0, "Answers a Unix socket", None),
     (["check", "--help"], 0, "Tells how many lines", None),
     (["pick", "--help"], 0, "Tells which line", None),
-    (["--version"], 0, "reqkeyd 0.1.0", None),
-    (["-V"], 0, "reqkeyd 0.1.0", None),
+    (["--version"], 0, f"reqkeyd {version()}\n", None),
+    (["-V"], 0, f"reqkeyd {version()}\n", None),
 ]
 
 

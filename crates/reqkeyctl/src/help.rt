@@ -12,6 +12,9 @@ use rk_names::Errno;
 use std::alloc::{AllocError, Global};
 use std::io::Write;
 
+/// The version, and what `rt version` says of the toolchain that proved and built it.
+const VERSION: &str = "0.1.0 (rattle-kit-13b logic dac8208d650f15bf)";
+
 /// What `--help` says before its lists.
 const ABOUT: &str = "Asks a request_key daemon for one thing, and prints its reply.
 
@@ -203,7 +206,7 @@ fn command<'a>(
     after: &'a str,
 ) -> Result<Command<'a>, AllocError> {
     let top = Command::new(alloc, "reqkeyctl")
-        .version("0.1.0")
+        .version(VERSION)
         .about(ABOUT)
         .after_help(after)
         .subcommand_required(true)

@@ -4,6 +4,9 @@ use clap::error::ErrorKind;
 use clap::{Arg, Command, Error};
 use std::alloc::{AllocError, Global};
 
+/// The version, and what `rt version` says of the toolchain that proved and built it.
+const VERSION: &str = "0.1.0 (rattle-kit-13b logic dac8208d650f15bf)";
+
 /// What `serve --help` says before its options.
 const SERVE: &str =
     "Answers a Unix socket: keys are found, or made by the handler programs of a configuration.
@@ -82,7 +85,7 @@ pub fn command<'a>(alloc: Global) -> Result<Command<'a>, AllocError> {
         "Runs a script from standard input, and writes what the daemon does",
     );
     Command::new(alloc, "reqkeyd")
-        .version("0.1.0")
+        .version(VERSION)
         .about("A user-space daemon for the construction protocol of request_key(2)")
         .subcommand_required(true)
         .disable_help_subcommand(true)
