@@ -34,6 +34,14 @@ pub fn no_memory<E: Write>(errors: &mut E) -> u8
     FAILED
 }
 
+/// The answer to a script that could not be played to its end.
+fn no_script<E: Write>(errors: &mut E) -> u8
+    ensures { result ≡ 1 }
+{
+    let _ = errors.write_all(b"reqkeyd: script\n");
+    FAILED
+}
+
 /// The usage in one line, for words that are not text, and for those that could be read and ask for nothing.
 pub fn usage<E: Write>(errors: &mut E) -> u8
     ensures { result ≡ 2 }
@@ -232,9 +240,6 @@ fn replay<I: Read, W: Write, E: Write>(
 {
     match run_script(alloc, reader, writer) {
         Ok(()) => 0,
-        Err(_) => {
-            let _ = errors.write_all(b"reqkeyd: script\n");
-            FAILED
-        }
+        Err(_) => no_script(errors),
     }
 }
