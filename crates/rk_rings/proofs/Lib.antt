@@ -2,6 +2,8 @@ pub mod Finds
 pub mod Counts
 pub mod Links
 pub mod Named
+pub mod Turned
+pub mod UserRings
 pub mod Changed
 pub mod Made
 pub mod Counted

@@ -6,7 +6,7 @@ use Rattle.std.specs.List.{list_any}
 use Rattle.std.specs.Ordering.{nat_cmp, eq_by_cmp}
 use Rattle.std.specs.Cmp.{nat_cmp_total}
 use Rattle.std.specs.FinMap.{FinMap, get, values, len, insert, remove, empty, contains_key, get-insert, get-empty}
-use Rattle.std.proofs.lemmas.Bool.{both_ways, eqb-true, eq-eqb, le-ltb, ne_eqb, leb-false, not-false}
+use Rattle.std.proofs.lemmas.Bool.{both_ways, le-ltb, ne_eqb, leb-false, not-false}
 use Rattle.rk_names.specs.Numbers.{serial_of}
 use Rattle.rk_table.specs.Maps.{kept_where}
 use Rattle.rk_table.proofs.Gets.{get_kept_where}
@@ -62,13 +62,6 @@ is_serial k low high =
     ∙ ap (λ b. cond b None (Some k)) (le-ltb 2147483647 k high)
 
 -- ---- what is found by the number of its name
-
-pub by_number : (m : FinMap nat_cmp ℕ) (n : ℕ) (o : Option ℕ) → FindsEntry (λ k v. nat_eq v n) m o →
-    MatchOption o ((k : ℕ) → ¬ (get m k ≡ Some n)) (λ k. get m k ≡ Some n)
-by_number m n None h = λ k there. no_entry (λ (e : ℕ × ℕ). nat_eq e.1 n) m k n h there (eq-eqb n n refl)
-by_number m n (Some k) h =
-    elim (get m k) as (λ o. option_map_or (λ v. nat_eq v n) o false ≡ true →
-    o ≡ Some n) [ None ↦ λ e. absurd (both_ways false refl e) | Some v ↦ λ e. ap (λ x. Some x) (eqb-true v n e) ] h.0
 
 pub any_key : (m : FinMap nat_cmp ℕ) (o : Option ℕ) → FindsEntry (λ k v. true) m o →
     MatchOption o ((k : ℕ) → contains_key m k ≡ false) (λ k. contains_key m k ≡ true)

@@ -1,10 +1,12 @@
 //! All rings.
-ghost use Rattle.std.specs.Prelude.{◌≡◌, ◌≤◌, ◌-◌, ◌==◌, ℕ, false, IfOk, vec_len, if◌then◌else◌};
+ghost use Rattle.std.specs.Prelude.{◌≡◌, ◌≤◌, ◌<◌, ◌-◌, ◌+◌, ◌==◌, ℕ, true, false, Some, None, IfOk, vec_len, if◌then◌else◌};
+ghost use Rattle.std.specs.FinMap as map;
 ghost use Rattle.std.specs.Option.{option_map_or};
 ghost use Rattle.rk_table.specs.Stored.{places};
 ghost use Rattle.rk_table.specs.Counts.{count_at, ArePositive};
 ghost use Rattle.std.specs.Prelude.{map as list_map};
 ghost use Rattle.rk_rings.specs.Numbered.{new_ring, AreSerials};
+ghost use Rattle.rk_rings.specs.UserRings.{IsHis, AreUserRings};
 ghost use Rattle.rk_rings.specs.Making.{with_entries, HasEachNew};
 
 use crate::changes::{IsUserRing, Link, Unlink};
@@ -21,12 +23,13 @@ pub const MAX_RINGS: usize = 1_024;
 
 /// The live rings by their serials, each with room for its 256 links, of which no two are to keys of one name.
 ///
-/// A call that is given a ring looks at 11 of 1,024 rings to find it, and at 9 of its 256 links to find a key; where it looks for a name,
-/// it walks over the links of that ring.
+/// A call that is given a ring looks at 11 of 1,024 rings to find it, and at 9 of its 256 links to find a key or a name.
 #[derive(Drop)]
 pub struct Rings {
     /// Each ring by its serial.
     rows: Table<Row>,
+    /// A user ring of each user who has one, by his uid.
+    users: Table<Serial>,
     /// In how many rings each key is linked.
     counts: Counts,
 }
@@ -38,6 +41,7 @@ impl Model for Rings {
     ghost use Rattle.std.specs.FinMap as map;
     ghost use Rattle.rk_rings.specs.Numbered.{Numbered, numbered_code, AreSerials, HaveEachNameOnce};
     ghost use Rattle.rk_rings.specs.Counted.{AreCounted};
+    ghost use Rattle.rk_rings.specs.UserRings.{AreUserRings};
 
     ghost Value = { map.FinMap nat_cmp Numbered };
 
@@ -45,7 +49,7 @@ impl Model for Rings {
 
     ghost view = { λ r. r.rows.facts };
 
-    ghost invariant = { λ r. record { rows : (map.len r.rows.facts ≤ 1024) × AreSerials r.rows.facts × HaveEachNameOnce r.rows.facts; counted : AreCounted r.rows.facts r.counts } };
+    ghost invariant = { λ r. record { rows : (map.len r.rows.facts ≤ 1024) × AreSerials r.rows.facts × HaveEachNameOnce r.rows.facts; users : AreUserRings r.rows.facts r.users.facts; counted : AreCounted r.rows.facts r.counts } };
 }
 
 impl Rings {
@@ -53,6 +57,7 @@ impl Rings {
     ghost use Rattle.std.specs.FinMap as map;
     ghost use Rattle.std.specs.Option.{option_map, option_map_or, option_copied};
     ghost use Rattle.rk_table.specs.Maps.{changed_at};
+    ghost use Rattle.rk_rings.specs.UserRings.{is_his};
     ghost use Rattle.rk_rings.specs.Numbered.{Numbered, HasEachNameOnce, AreNew, with_rings, is_user_ring, is_full, is_full_at, holds, is_held, linked, unlinked, cleared, IsMatch};
 
     /// No ring. It takes no memory until `make`.
@@ -61,6 +66,7 @@ impl Rings {
     {
         Rings {
             rows: Table::new(alloc),
+            users: Table::new(alloc),
             counts: Counts::new(alloc),
         }
     }
@@ -94,11 +100,11 @@ impl Rings {
         Some((row.kind(), row.uid()))
     }
 
-    /// The user ring of a user; `None` where none is live (user-keyring(7)). It walks over all rings.
+    /// The user ring of a user; `None` where none is live (user-keyring(7)).
     pub fn user_ring(&self, uid: u32) -> Option<Serial>
         ensures { MatchOption result ((k : ℕ) (r : Numbered) → map.get self.now k ≡ Some r → is_user_ring uid r ≡ false) (λ k. option_map_or (is_user_ring uid) (map.get self.now k) false ≡ true) }
     {
-        Serial::new(self.rows.find(&IsUserRing(uid))?)
+        self.users.get(uid).copied()
     }
 
     /// Whether the key is linked in the ring.
@@ -153,14 +159,14 @@ impl Rings {
         let Ok(rows) = new_rows(alloc, wanted) else {
             return Err(RingFault::NoMemory);
         };
-        if self.rows.reserve(rows.len()).is_err() {
+        if self.rows.reserve(rows.len()).is_err() || self.users.reserve(rows.len()).is_err() {
             return Err(RingFault::NoMemory);
         }
         let links = MAX_LINKS * (self.rows.len() + rows.len());
         let Ok(()) = self.counts.reserve(links.saturating_sub(self.counts.len())) else {
             return Err(RingFault::NoMemory);
         };
-        insert_rows(&mut self.rows, rows);
+        insert_rows(&mut self.rows, &mut self.users, rows);
         Ok(())
     }
 
@@ -246,7 +252,7 @@ impl Rings {
         }
     }
 
-    /// Drops a ring with its links. It takes no memory.
+    /// Drops a ring with its links. It takes no memory. Where it is a user ring, it looks through all rings for another of that user.
     ///
     /// `NoRing` exactly where there is no such ring, and then nothing changes.
     pub fn drop_ring(&mut self, ring: Serial) -> Result<(), RingFault>
@@ -259,12 +265,21 @@ impl Rings {
             return Err(RingFault::NoRing);
         }
         self.empty(ring);
+        let user = self.user_of(ring);
         self.rows.remove(ring.get());
+        renew_user(&self.rows, &mut self.users, user);
         Ok(())
     }
 
+    /// The user of a user ring; `None` for any other ring, and where there is no such ring.
+    fn user_of(&self, ring: Serial) -> Option<u32>
+        ensures { MatchOption result ((uid : ℕ) → is_his self.now uid ring ≡ false) (λ uid. is_his self.now uid ring ≡ true) }
+    {
+        self.row(ring)?.user()
+    }
+
     /// The key of that name in the ring, which has no other; `None` where there is none, or no such ring. It takes no
-    /// memory, and walks over the links of the ring.
+    /// memory.
     pub fn find_in(&self, ring: Serial, name: NameNo) -> Option<Serial>
         ensures { IsMatch self.now name (Some ring) result }
     {
@@ -294,14 +309,55 @@ fn new_rows(alloc: Global, wanted: &[NewRing]) -> Result<Vec<(Serial, Row)>, All
     Ok(rows)
 }
 
-/// Puts rings at new serials into places that were reserved.
-fn insert_rows(table: &mut Table<Row>, rows: Vec<(Serial, Row)>)
+/// Puts rings at new serials into places that were reserved, and users who had no user ring beside them.
+fn insert_rows(table: &mut Table<Row>, users: &mut Table<Serial>, rows: Vec<(Serial, Row)>)
     requires new { HasEachNew rows.items table.old.facts }
     requires room { vec_len rows ≤ table.old.room }
+    requires user_room { vec_len rows ≤ users.old.room }
     ensures facts { table.new.facts ≡ with_entries rows.items table.old.facts }
     ensures serials { AreSerials table.old.facts → AreSerials table.new.facts }
+    ensures users { AreUserRings table.old.facts users.old.facts → AreUserRings table.new.facts users.new.facts }
 {
     for (serial, row) in rows {
+        note_user(users, serial, &row);
         table.insert(serial.get(), row);
     }
+}
+
+/// Notes the user of a new ring, where it is a user ring and he had none.
+fn note_user(users: &mut Table<Serial>, serial: Serial, row: &Row)
+    requires room { 0 < users.old.room }
+    ensures users { (m : Rings) → map.get m serial ≡ None → AreUserRings m users.old.facts → AreUserRings (map.insert m serial row.now) users.new.facts }
+    ensures room { users.old.room ≤ users.new.room + 1 }
+{
+    let Some(uid) = row.user() else {
+        return;
+    };
+    if !users.contains(uid) {
+        users.insert(uid, serial);
+    }
+}
+
+/// After a ring was dropped: another user ring of its user, where there is one.
+fn renew_user(rows: &Table<Row>, users: &mut Table<Serial>, user: Option<u32>)
+    requires serials { AreSerials rows.now.facts }
+    requires had { (uid : ℕ) → user ≡ Some uid → map.contains_key users.old.facts uid ≡ true }
+    requires others { (uid : ℕ) → ¬ (user ≡ Some uid) → IsHis rows.now.facts uid (map.get users.old.facts uid) }
+    ensures { AreUserRings rows.now.facts users.new.facts }
+{
+    let Some(uid) = user else {
+        return;
+    };
+    users.remove(uid);
+    if let Some(other) = find_user_ring(rows, uid) {
+        users.insert(uid, other);
+    }
+}
+
+/// A user ring of the user, by a walk over all rings.
+fn find_user_ring(rows: &Table<Row>, uid: u32) -> Option<Serial>
+    requires { AreSerials rows.now.facts }
+    ensures { IsHis rows.now.facts uid result }
+{
+    Serial::new(rows.find(&IsUserRing(uid))?)
 }

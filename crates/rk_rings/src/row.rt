@@ -1,16 +1,20 @@
-//! One ring, with places for 256 links.
-ghost use Rattle.std.specs.Prelude.{◌≡◌};
+//! One ring, with places for 256 links, found by their keys and by their names.
+ghost use Rattle.std.specs.Prelude.{◌≡◌, ◌<◌, ◌==◌, not, false};
+ghost use Rattle.std.specs.FinMap as map;
+ghost use Rattle.rk_table.specs.Maps.{kept_where};
+ghost use Rattle.rk_table.specs.Stored.{places};
+ghost use Rattle.rk_rings.specs.ByName.{AreByName};
 
 use crate::kind::{NewRing, RingKind};
 use rk_names::{NameNo, Serial};
-use rk_table::{Table, Test};
+use rk_table::{ChangeOnce, Table, Test};
 use std::alloc::{AllocError, Global};
 use std::marker::Model;
 
 /// The most links of a ring.
 pub const MAX_LINKS: usize = 256;
 
-/// One ring: whose it is, and the keys that are linked in it with the numbers of their names.
+/// One ring: whose it is, and the keys that are linked in it with the numbers of their names, of which no two have one.
 #[derive(Drop)]
 pub struct Row {
     /// What it is for.
@@ -19,12 +23,15 @@ pub struct Row {
     uid: u32,
     /// The number of each key's name, by the key's serial.
     links: Table<NameNo>,
+    /// The same links the other way round: each key, by the number of its name.
+    by_name: Table<Serial>,
 }
 
 impl Model for Row {
     ghost use Rattle.std.specs.Prelude.{◌≡◌};
     ghost use Rattle.rk_table.specs.Stored.{places};
     ghost use Rattle.rk_rings.specs.Numbered.{Numbered, numbered_code, AreSerials};
+    ghost use Rattle.rk_rings.specs.ByName.{AreByName};
 
     ghost Value = { Numbered };
 
@@ -32,14 +39,14 @@ impl Model for Row {
 
     ghost view = { λ r. record { kind = r.kind; uid = r.uid; links = r.links.facts } };
 
-    ghost invariant = { λ r. (places r.links ≡ 256) × AreSerials r.links.facts };
+    ghost invariant = { λ r. record { links : (places r.links ≡ 256) × AreSerials r.links.facts; by_name : (places r.by_name ≡ 256) × AreByName r.links.facts r.by_name.facts } };
 }
 
 impl Row {
     ghost use Rattle.std.specs.Prelude.{◌≡◌, ◌||◌, not, false, true, Some, None, IfOk, MatchOption, ℕ};
     ghost use Rattle.std.specs.FinMap as map;
     ghost use Rattle.std.specs.Option.{option_map_or};
-    ghost use Rattle.rk_rings.specs.Numbered.{is_full, has_number, linked, unlinked, new_ring};
+    ghost use Rattle.rk_rings.specs.Numbered.{is_full, is_user_ring, has_number, linked, unlinked, new_ring};
 
     /// An empty ring, with its places.
     pub fn new(alloc: Global, wanted: NewRing) -> Result<Row, AllocError>
@@ -49,6 +56,7 @@ impl Row {
             kind: wanted.kind,
             uid: wanted.uid,
             links: Table::with_room(alloc, MAX_LINKS)?,
+            by_name: Table::with_room(alloc, MAX_LINKS)?,
         })
     }
 
@@ -64,6 +72,16 @@ impl Row {
         ensures { result ≡ self.now.uid }
     {
         self.uid
+    }
+
+    /// The user, where it is a user ring.
+    pub fn user(&self) -> Option<u32>
+        ensures { MatchOption result ((uid : ℕ) → is_user_ring uid self.now ≡ false) (λ uid. is_user_ring uid self.now ≡ true) }
+    {
+        match self.kind {
+            RingKind::User => Some(self.uid),
+            RingKind::Thread | RingKind::Process | RingKind::Session => None,
+        }
     }
 
     /// Whether the key is linked.
@@ -91,7 +109,7 @@ impl Row {
         ensures { result ≡ option_map_or (has_number self.now) name false }
     {
         match name {
-            Some(number) => self.links.any(&HasNumber(number)),
+            Some(number) => self.by_name.contains(number.0),
             None => false,
         }
     }
@@ -100,7 +118,7 @@ impl Row {
     pub fn find(&self, name: NameNo) -> Option<Serial>
         ensures { MatchOption result ((k : ℕ) → ¬ (map.get self.now.links k ≡ Some name)) (λ k. map.get self.now.links k ≡ Some name) }
     {
-        Serial::new(self.links.find(&HasNumber(name))?)
+        self.by_name.get(name.0).copied()
     }
 
     /// A key that is linked, if there is one.
@@ -118,7 +136,7 @@ impl Row {
         if self.links.contains(key.get()) {
             return;
         }
-        self.links.retain(&HasOther(name));
+        give_way(&mut self.links, &mut self.by_name, key, name);
         self.links.insert(key.get(), name);
     }
 
@@ -126,37 +144,42 @@ impl Row {
     pub fn unlink(&mut self, key: Serial)
         ensures { self.new ≡ unlinked key self.old }
     {
+        let Some(name) = self.links.get(key.get()).copied() else {
+            return;
+        };
         self.links.remove(key.get());
+        self.by_name.remove(name.0);
     }
 }
 
-/// Links of keys whose name has this number.
-#[derive(Clone, Copy)]
-struct HasNumber(NameNo);
-
-impl Test<NameNo> for HasNumber {
-    ghost use Rattle.std.specs.Prelude.{◌==◌};
-
-    ghost passes = { λ t k n. n == t.0 };
-
-    fn passes(&self, key: u32, value: &NameNo) -> bool {
-        let _ = key;
-        *value == self.0
+/// Takes out the link of the key of a name, where there is one, so that another may take its place; by its name the other is found already.
+fn give_way(links: &mut Table<NameNo>, by_name: &mut Table<Serial>, key: Serial, name: NameNo)
+    requires index { AreByName links.old.facts by_name.old.facts }
+    requires new { map.contains_key links.old.facts key ≡ false }
+    requires room { map.contains_key by_name.old.facts name ≡ false → 0 < by_name.old.room }
+    ensures links { links.new.facts ≡ kept_where (λ j m. not (m == name)) links.old.facts }
+    ensures places { places links.new ≡ places links.old }
+    ensures name_places { places by_name.new ≡ places by_name.old }
+    ensures index { AreByName (map.insert links.new.facts key name) by_name.new.facts }
+{
+    match by_name.get(name.0).copied() {
+        Some(rival) => {
+            links.remove(rival.get());
+            by_name.change(name.0, Become(key));
+        }
+        None => by_name.insert(name.0, key),
     }
 }
 
-/// Links of keys whose name has another number.
+/// The name stands for this key from now on.
 #[derive(Clone, Copy)]
-struct HasOther(NameNo);
+struct Become(Serial);
 
-impl Test<NameNo> for HasOther {
-    ghost use Rattle.std.specs.Prelude.{◌==◌, not};
+impl ChangeOnce<Serial> for Become {
+    ghost changed = { λ b _. b.0 };
 
-    ghost passes = { λ t k n. not (n == t.0) };
-
-    fn passes(&self, key: u32, value: &NameNo) -> bool {
-        let _ = key;
-        *value != self.0
+    fn change(self, key: &mut Serial) {
+        *key = self.0;
     }
 }
 

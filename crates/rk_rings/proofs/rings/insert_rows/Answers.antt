@@ -2,6 +2,7 @@ use Rattle.std.proofs.Common.{◌≡◌, ap, sym, subst, ◌∙◌, arith, lengt
 use Rattle.std.specs.FinMap.{insert, get}
 use Rattle.rk_rings.specs.Numbered.{AreSerials}
 use Rattle.rk_rings.specs.Making.{with_entries, HasEachNew}
+use Rattle.rk_rings.specs.UserRings.{AreUserRings}
 use Rattle.rk_rings.proofs.Links.{serials-insert, is_serial}
 use Rattle.rk_rings.proofs.Made.{left_facts, left_new, next_new, none_left}
 use Rattle.rk_rings.proofs.rings.insert_rows.Goals as goal
@@ -14,7 +15,12 @@ loop-serial-init c =
       new = subst (λ es. HasEachNew es c.args.table.now.facts) (sym same) c.requires.new;
       room = omega (arith, ap length same, c.requires.room, c.args.rows.ok.0);
       serials = λ all. all;
+      user_room = omega (arith, ap length same, c.requires.user_room, c.args.rows.ok.0);
+      users = λ all. all;
     }
+
+pub note_user-requires : goal.note_user-requires
+note_user-requires c = omega (arith, ap length c.in-Some.ensures.steps.0, c.loop-serial.invariant.user_room)
 
 pub insert-requires-clause-new : goal.insert-requires-clause-new
 insert-requires-clause-new c = ap (get c.loop-serial.table.facts) c.get.ensures.number ∙
@@ -33,6 +39,10 @@ loop-serial-preserved c =
       room = omega (arith, ap length c.in-Some.ensures.steps.0, c.loop-serial.invariant.room, c.insert.ensures.room);
       serials = λ all. subst AreSerials (sym is) (serials-insert _ _ _ (c.loop-serial.invariant.serials all)
           (is_serial _ c.get.ensures.range.0 c.get.ensures.range.1));
+      user_room = omega (arith, ap length c.in-Some.ensures.steps.0, c.loop-serial.invariant.user_room, c.note_user.ensures.room);
+      users = λ all. subst (λ m. AreUserRings m c.note_user.new.users.facts) (sym is)
+          (c.note_user.ensures.users c.loop-serial.table.facts (next_new _ _ _ _ _ c.in-Some.ensures.steps.0 c.loop-serial.invariant.new)
+          (c.loop-serial.invariant.users all));
     }
 
 pub returns-clause-facts : goal.returns-clause-facts

@@ -2,6 +2,7 @@ use Rattle.std.proofs.Common.{◌≡◌, ◌≤◌, length}
 use Rattle.std.specs.Vec.Iter.{into_iter_items}
 use Rattle.rk_rings.specs.Numbered.{AreSerials}
 use Rattle.rk_rings.specs.Making.{with_entries, HasEachNew}
+use Rattle.rk_rings.specs.UserRings.{AreUserRings}
 use Rattle.rk_rings.proofs.rings.insert_rows.Given as goal
 
 -- what is left to put in makes of the table what all of it makes at first
@@ -11,4 +12,6 @@ invariant-loop-serial l = record {
   new : HasEachNew (into_iter_items l.serial-iterator) l.table.facts;
   room : length (into_iter_items l.serial-iterator) ≤ l.table.room;
   serials : AreSerials l.fn.table.facts → AreSerials l.table.facts;
+  user_room : length (into_iter_items l.serial-iterator) ≤ l.users.room;
+  users : AreUserRings l.fn.table.facts l.fn.users.facts → AreUserRings l.table.facts l.users.facts;
 }

@@ -1,9 +1,27 @@
 use Rattle.std.proofs.Common.{◌≡◌, ap, sym, subst, ◌∙◌}
+use Rattle.std.specs.Prelude.{MatchOption, true, false, ℕ}
 use Rattle.std.specs.FinMap.{remove}
+use Rattle.rk_rings.specs.Numbered.{Rings, AreSerials}
 use Rattle.rk_rings.specs.Counted.{AreCounted}
+use Rattle.rk_rings.specs.UserRings.{is_his}
+use Rattle.rk_rings.proofs.Links.{serials-remove}
 use Rattle.rk_rings.proofs.Changed.{rows-remove}
 use Rattle.rk_rings.proofs.Counted.{counted_dropped, dropped}
+use Rattle.rk_rings.proofs.UserRings.{dropped_others}
 use Rattle.rk_rings.proofs.rings.Rings.drop_ring.Goals as goal
+
+pub renew_user-requires-clause-serials : goal.renew_user-requires-clause-serials
+renew_user-requires-clause-serials c =
+    subst AreSerials (sym c.remove.ensures.facts) (serials-remove c.self.inside.rows.facts c.get.result c.self.invariant.rows.1)
+
+pub renew_user-requires-clause-others : goal.renew_user-requires-clause-others
+renew_user-requires-clause-others c =
+    let m = c.self.inside.rows.facts in
+    dropped_others m c.remove.new.self.facts c.self.inside.users.facts c.args.ring c.user_of-user.result
+    (c.remove.ensures.facts ∙ ap (remove m) c.get.ensures.number)
+    (subst (λ (n : Rings). MatchOption c.user_of-user.result ((uid : ℕ) → is_his n uid c.args.ring ≡ false) (λ uid. is_his n uid c.args.ring ≡ true))
+    (sym c.self.view_is) c.user_of-user.ensures)
+    c.self.invariant.users
 
 pub invariant_of-self : goal.invariant_of-self
 invariant_of-self c =
@@ -11,6 +29,7 @@ invariant_of-self c =
     let gone : c.remove.new.self.facts ≡ remove m c.args.ring = c.remove.ensures.facts ∙ ap (remove m) c.get.ensures.number in
     record {
       rows = rows-remove _ _ _ c.remove.ensures.facts c.self.invariant.rows;
+      users = c.renew_user.ensures;
       counted = subst (λ n. AreCounted n c.self.inside.counts) (sym gone) (counted_dropped c.args.self.now m c.self.inside.counts c.args.ring (c.self.view_is ∙
           c.empty.ensures) c.self.invariant.counted);
     }

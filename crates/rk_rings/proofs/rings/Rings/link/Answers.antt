@@ -7,6 +7,7 @@ use Rattle.rk_rings.specs.Numbered.{linked_in_room, holds, is_full_at, IsMatch}
 use Rattle.rk_rings.specs.Counted.{AreCounted}
 use Rattle.rk_rings.proofs.Named.{once_linked}
 use Rattle.rk_rings.proofs.Changed.{rows-changed_at}
+use Rattle.rk_rings.proofs.UserRings.{users_changed, user_linked}
 use Rattle.rk_rings.proofs.Counted.{Takes, takes, linked_there, room_linked, few_enough, counted_linked}
 use Rattle.rk_rings.proofs.rings.Rings.link.Goals as goal
 
@@ -46,6 +47,7 @@ invariant_of-self c =
     c.change.ensures.facts ∙ ap (λ r. changed_at r (linked_in_room c.args.key c.args.name) m) c.get.ensures.number in
     record {
       rows = rows-changed_at _ _ _ _ c.change.ensures.facts (once_linked c.args.key c.args.name) c.self.invariant.rows;
+      users = users_changed _ _ _ _ _ c.change.ensures.facts (user_linked c.args.key c.args.name) c.self.invariant.users;
       counted = subst (λ n. AreCounted n c.one_more.new.self) (sym put)
           (counted_linked m c.self.inside.counts mid c.one_more.new.self c.args.ring c.args.key c.args.name c.find_in-rival.result c.self.invariant.counted t
           (subst (λ n. IsMatch n c.args.name (Some c.args.ring) c.find_in-rival.result) (sym c.self.view_is) c.find_in-rival.ensures)

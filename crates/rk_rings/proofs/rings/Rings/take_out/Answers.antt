@@ -6,6 +6,7 @@ use Rattle.rk_rings.specs.Numbered.{unlinked, holds}
 use Rattle.rk_rings.specs.Counted.{AreCounted}
 use Rattle.rk_rings.proofs.Named.{once_unlinked}
 use Rattle.rk_rings.proofs.Changed.{rows-changed_at}
+use Rattle.rk_rings.proofs.UserRings.{users_changed, user_unlinked}
 use Rattle.rk_rings.proofs.Counted.{counted_unlinked}
 use Rattle.rk_rings.proofs.rings.Rings.take_out.Goals as goal
 
@@ -17,6 +18,7 @@ invariant_of-self c =
     ap (λ r. changed_at r (unlinked c.args.key) m) c.get.ensures.number in
     record {
       rows = rows-changed_at _ _ _ _ c.change.ensures.facts (once_unlinked c.args.key) c.self.invariant.rows;
+      users = users_changed _ _ _ _ _ c.change.ensures.facts (user_unlinked c.args.key) c.self.invariant.users;
       counted = subst (λ n. AreCounted n c.one_less.new.self) (sym put)
           (counted_unlinked m old c.one_less.new.self c.args.ring c.args.key c.self.invariant.counted (ap (λ n. holds n c.args.ring c.args.key) c.self.view_is ∙
           c.requires)
