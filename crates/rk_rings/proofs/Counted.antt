@@ -581,10 +581,10 @@ counted_dropped m n c ring is counted = record {
 
 pub counted_made : (wanted : List NewRing) (m n : Rings) (old new : Stored ℕ) → n ≡ with_rings wanted m → AreNew wanted m → AreCounted m old →
     new.facts ≡ old.facts
-    → 256 * (len m + length wanted) - len old.facts ≤ new.room → AreCounted n new
+    → 256 * (len m + length wanted) ≤ places new → AreCounted n new
 counted_made wanted m n old new is fresh counted same room = subst (λ x. AreCounted x new) (sym is) (record {
   few = few_made wanted m counted.few;
   each = λ k. ap (λ c. count_at c k) same ∙ counted.each k ∙ sym (links_made wanted m fresh k);
   positive = subst ArePositive (sym same) counted.positive;
-  room = let more = len-with_rings wanted m fresh in omega (arith, room, more, ap len same);
+  room = let more = len-with_rings wanted m fresh in omega (arith, room, more);
 })

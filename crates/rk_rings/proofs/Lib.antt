@@ -6,6 +6,7 @@ pub mod Turned
 pub mod UserRings
 pub mod Changed
 pub mod Made
+pub mod Counting
 pub mod Counted
 pub mod Seen
 pub mod SeenPlaces

@@ -45,7 +45,8 @@ user_linked k n r uid = elim (contains_key r.links k || not (is_full (Some n) r)
 pub user_unlinked : (k : ℕ) → KeepsUser (unlinked k)
 user_unlinked k r uid = refl
 
-pub users_changed : (m n : Rings) (u : FinMap nat_cmp ℕ) (ring : ℕ) (f : Numbered → Numbered) → n ≡ changed_at ring f m → KeepsUser f → AreUserRings m u → AreUserRings n u
+pub users_changed : (m n : Rings) (u : FinMap nat_cmp ℕ) (ring : ℕ) (f : Numbered → Numbered) → n ≡ changed_at ring f m
+    → KeepsUser f → AreUserRings m u → AreUserRings n u
 users_changed m n u ring f is keeps all uid = same_his m n uid (get u uid) (λ q.
     ap (λ x. is_his x uid q) is ∙ ap (λ o. option_map_or (is_user_ring uid) o false) (get_changed_at ring f m q) ∙ by_ring (nat_eq ring q) (get m q)) (all uid)
   where
@@ -78,8 +79,8 @@ made_beside m s r uid (Some ring) new there h = his_made m s r uid ring ∙ elim
   | inr ne ↦ ap (λ b. cond b (is_user_ring uid r) (is_his m uid ring)) (ne_eqb s ring ne) ∙ h
 ]
 
-pub users_beside : (m : Rings) (u : FinMap nat_cmp ℕ) (s : ℕ) (r : Numbered) → get m s ≡ None → ((uid : ℕ) → is_user_ring uid r ≡ true → contains_key u uid ≡ true)
-    → AreUserRings m u → AreUserRings (insert m s r) u
+pub users_beside : (m : Rings) (u : FinMap nat_cmp ℕ) (s : ℕ) (r : Numbered) → get m s ≡ None
+    → ((uid : ℕ) → is_user_ring uid r ≡ true → contains_key u uid ≡ true) → AreUserRings m u → AreUserRings (insert m s r) u
 users_beside m u s r new there all uid = made_beside m s r uid (get u uid) new (there uid) (all uid)
 
 pub users_made : (m : Rings) (u : FinMap nat_cmp ℕ) (s : ℕ) (r : Numbered) (whose : ℕ) → get m s ≡ None → is_user_ring whose r ≡ true
@@ -163,7 +164,8 @@ renewed m u whose (Some k) his others uid = elim (cases_eq uid whose) [
 
 -- what is left to renew after a ring was dropped
 pub dropped_others : (m n : Rings) (u : FinMap nat_cmp ℕ) (s : ℕ) (o : Option ℕ) → n ≡ remove m s
-    → MatchOption o ((uid : ℕ) → is_his m uid s ≡ false) (λ uid. is_his m uid s ≡ true) → AreUserRings m u → (uid : ℕ) → (o ≡ Some uid → ⊥) → IsHis n uid (get u uid)
+    → MatchOption o ((uid : ℕ) → is_his m uid s ≡ false) (λ uid. is_his m uid s ≡ true) → AreUserRings m u
+    → (uid : ℕ) → (o ≡ Some uid → ⊥) → IsHis n uid (get u uid)
 dropped_others m n u s None is of all uid ne = subst (λ x. IsHis x uid (get u uid)) (sym is) (dropped_beside m u s uid (of uid) all)
 dropped_others m n u s (Some whose) is of all uid ne =
     subst (λ x. IsHis x uid (get u uid)) (sym is) (dropped_beside m u s uid (not_of m s whose uid of (λ e. ne (ap (λ x. Some x) (sym e)))) all)

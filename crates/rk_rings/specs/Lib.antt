@@ -5,6 +5,7 @@ pub mod Numbered
 pub mod Making
 pub mod ByName
 pub mod UserRings
+pub mod Counting
 pub mod Counted
 pub use Rattle.rk_table.specs.Maps
 pub use Rattle.rk_table.specs.Says

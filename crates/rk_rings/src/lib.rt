@@ -25,8 +25,8 @@
 //!
 //! `kind` says what a ring is for, `place` how an ask names one, `fault` why a call is refused. `row` is one
 //! ring, a table of its links by their keys and one by the numbers of their names; `changes` has the changes of a ring as the table of rings takes
-//! them; `rings` is all of them, with a user ring of each user and a count of the links of each key; `reach` goes over the rings of a context. A
-//! look-up of a ring halves the rings, and of a key or a name the links of its ring, as `rk_table` finds. No clause says how they lie.
+//! them; `link_counts` counts the links of each key; `rings` is all of them, with a user ring of each user; `reach` goes over the rings of a
+//! context. A look-up of a ring halves the rings, and of a key or a name the links of its ring, as `rk_table` finds. No clause says how they lie.
 //!
 //! For libraries above, which see a ring as the set of its keys, `proofs/Seen.antt` and `proofs/SeenPlaces.antt`
 //! say what each change and each look-up is without the numbers.
@@ -35,6 +35,7 @@
 mod changes;
 mod fault;
 mod kind;
+mod link_counts;
 mod place;
 mod reach;
 mod rings;

@@ -12,9 +12,10 @@ ghost use Rattle.rk_rings.specs.Making.{with_entries, HasEachNew};
 use crate::changes::{IsUserRing, Link, Unlink};
 use crate::fault::RingFault;
 use crate::kind::{NewRing, RingKind};
+use crate::link_counts::LinkCounts;
 use crate::row::{MAX_LINKS, Row};
 use rk_names::{NameNo, Serial};
-use rk_table::{Counts, Table};
+use rk_table::Table;
 use std::alloc::{AllocError, Global};
 use std::marker::Model;
 
@@ -31,7 +32,7 @@ pub struct Rings {
     /// A user ring of each user who has one, by his uid.
     users: Table<Serial>,
     /// In how many rings each key is linked.
-    counts: Counts,
+    counts: LinkCounts,
 }
 
 impl Model for Rings {
@@ -67,7 +68,7 @@ impl Rings {
         Rings {
             rows: Table::new(alloc),
             users: Table::new(alloc),
-            counts: Counts::new(alloc),
+            counts: LinkCounts::new(alloc),
         }
     }
 
@@ -163,7 +164,7 @@ impl Rings {
             return Err(RingFault::NoMemory);
         }
         let links = MAX_LINKS * (self.rows.len() + rows.len());
-        let Ok(()) = self.counts.reserve(links.saturating_sub(self.counts.len())) else {
+        let Ok(()) = self.counts.reserve(links) else {
             return Err(RingFault::NoMemory);
         };
         insert_rows(&mut self.rows, &mut self.users, rows);
@@ -288,7 +289,7 @@ impl Rings {
 }
 
 /// Counts a link of a key that has given way, where one has.
-fn count_gone(counts: &mut Counts, rival: &Option<Serial>)
+fn count_gone(counts: &mut LinkCounts, rival: &Option<Serial>)
     ensures each { (k : ℕ) → count_at counts.new.facts k ≡ count_at counts.old.facts k - (if option_map_or (λ r. r == k) rival.now false then 1 else 0) }
     ensures positive { ArePositive counts.old.facts → ArePositive counts.new.facts }
     ensures places { places counts.new ≡ places counts.old }

@@ -7,7 +7,8 @@ use Rattle.rk_rings.proofs.rings.note_user.Goals as goal
 
 pub returns-in_default-clause-users : goal.returns-in_default-clause-users
 returns-in_default-clause-users c m new all =
-    users_same m c.args.users.now.facts c.args.serial c.args.row.now c.user.result c.user.ensures (λ uid is. absurd (none-some uid (sym c.in_default.is ∙ is))) new all
+    users_same m c.args.users.now.facts c.args.serial c.args.row.now c.user.result c.user.ensures
+    (λ uid is. absurd (none-some uid (sym c.in_default.is ∙ is))) new all
 
 pub returns-then-not-contains-clause-users : goal.returns-then-not-contains-clause-users
 returns-then-not-contains-clause-users c m new all =
@@ -17,4 +18,5 @@ returns-then-not-contains-clause-users c m new all =
 pub returns-else-not-contains-clause-users : goal.returns-else-not-contains-clause-users
 returns-else-not-contains-clause-users c m new all =
     users_same m c.args.users.now.facts c.args.serial c.args.row.now c.user.result c.user.ensures
-    (λ uid is. ap (contains_key c.args.users.now.facts) (sym (same_Some c.in-Some.uid uid (sym c.in-Some.is ∙ is))) ∙ sym c.contains.ensures ∙ c.if-not-contains.false) new all
+    (λ uid is. ap (contains_key c.args.users.now.facts) (sym (same_Some c.in-Some.uid uid (sym c.in-Some.is ∙ is))) ∙
+    sym c.contains.ensures ∙ c.if-not-contains.false) new all

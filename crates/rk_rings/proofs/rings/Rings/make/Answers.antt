@@ -1,6 +1,7 @@
 use Rattle.std.proofs.Common.{ℕ, ◌≤◌, ◌*◌, ◌+◌, ◌-◌, length, ap, sym, subst, ◌∙◌, rules, arith}
 use Rattle.std.proofs.lemmas.List.{length-map}
 use Rattle.std.specs.FinMap.{len}
+use Rattle.rk_table.specs.Stored.{places}
 use Rattle.rk_rings.specs.Numbered.{Numbered, new_ring, AreSerials, HaveEachNameOnce}
 use Rattle.rk_rings.specs.Counted.{AreCounted}
 use Rattle.rk_rings.specs.UserRings.{AreUserRings}
@@ -18,18 +19,16 @@ returns-clause-ok c = put_made c.args.wanted.now c.in-Ok.rows.items c.args.self.
 
 pub invariant_of-self-2 : goal.invariant_of-self-2
 invariant_of-self-2 c =
-    let places : 256 * (len c.args.self.now + length c.args.wanted.now) - len c.self.inside.counts.facts ≤ c.reserve-2.new.self.room =
+    let enough : 256 * (len c.args.self.now + length c.args.wanted.now) ≤ places c.reserve-2.new.self =
     omega (
       arith,
       c.in-Ok-reserve.ensures.ok,
-      c.saturating_sub.ensures,
       c.len-2.ensures,
       ap len (c.reserve.ensures.facts ∙ c.self.view_is),
       c.len-3.ensures,
       c.in-Ok.rows.ok.0,
       ap length c.in-Ok.ensures,
       length-map {B = ℕ × Numbered} c.args.wanted.now (λ w. (w.serial, new_ring w)),
-      c.len-4.ensures,
     ) in
     record {
       rows = rows_made c.args.wanted.now c.args.self.now c.insert_rows.new.table.facts (returns-clause-ok c) c.requires (search rules)
@@ -39,5 +38,5 @@ invariant_of-self-2 c =
           (subst (AreUserRings c.self.inside.rows.facts) (sym c.reserve-else-is_err.ensures.facts) c.self.invariant.users));
       counted = counted_made c.args.wanted.now c.args.self.now c.insert_rows.new.table.facts c.self.inside.counts c.reserve-2.new.self (returns-clause-ok c)
           c.requires
-          (subst (λ n. AreCounted n c.self.inside.counts) c.self.view_is c.self.invariant.counted) c.reserve-2.ensures.facts places;
+          (subst (λ n. AreCounted n c.self.inside.counts) c.self.view_is c.self.invariant.counted) c.reserve-2.ensures.facts enough;
     }
