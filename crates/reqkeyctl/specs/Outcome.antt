@@ -29,7 +29,8 @@ pub data HasDone (words : List (List ℕ)) (unread unread' written written' told
 
 -- who acts with these options: no ring of its own, and 0 for what is not given
 abbrev pub greeting_of : Options → Ask
-greeting_of o = Hello (unwrap_or o.uid 0) (unwrap_or o.gid 0) false false (option_and_then serial_of o.join)
+greeting_of o =
+    Hello (record { uid = unwrap_or o.uid 0; gid = unwrap_or o.gid 0; thread = false; process = false; join = option_and_then serial_of o.join })
 
 -- a HELLO was asked and answered; any other ask behind the HELLO of the options
 abbrev pub HasConversed : Option (List ℕ) → Option (List ℕ) → Option (List ℕ) → Option (List ℕ) → Options → Ask → Reply → Type 0

@@ -7,7 +7,7 @@ ghost use Rattle.reqkeyctl.specs.Outcome.{greeting_of};
 use crate::call::{Call, Options};
 use crate::source::{SourceFault, read_source};
 use rk_client::{ArgumentFault, ask_of};
-use rk_message::{Ask, FieldKind, Op};
+use rk_message::{Ask, FieldKind, Greeting, Op};
 use rk_names::Serial;
 use std::alloc::{AllocError, Global};
 use std::fs::Files;
@@ -138,11 +138,11 @@ fn bytes_of<'a>(alloc: Global, arguments: &'a [String]) -> Result<Vec<&'a [u8]>,
 pub fn greeting(options: &Options<'_>) -> Ask
     ensures { result ≡ greeting_of options.now }
 {
-    Ask::Hello {
+    Ask::Hello(Greeting {
         uid: options.uid.unwrap_or(0),
         gid: options.gid.unwrap_or(0),
         thread: false,
         process: false,
         join: options.join.and_then(|number| Serial::new(number)),
-    }
+    })
 }

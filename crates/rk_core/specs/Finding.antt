@@ -47,12 +47,12 @@ session_refusal w s = first_of (refused_if (is_none (session_of w.sessions s)) e
 
 -- the ask is HELLO
 abbrev pub is_hello : Ask → Bool
-is_hello (ask.Hello uid gid thread process join) = true
+is_hello (ask.Hello hello) = true
 is_hello _ = false
 
 -- what may be asked where nobody acts yet: HELLO by a client, and ASSUME by a handler
 abbrev pub is_first : SessionId → Ask → Bool
-is_first (Client n) (ask.Hello uid gid thread process join) = true
+is_first (Client n) (ask.Hello hello) = true
 is_first (Handler k) (ask.Assume key) = true
 is_first _ _ = false
 

@@ -11,7 +11,7 @@ ghost use Rattle.rk_core.specs.Sound.{IsSound};
 
 use crate::tables::Tables;
 use rk_keys::Condition;
-use rk_machine::{Answer, Asker, Event, Greeting};
+use rk_machine::{Answer, Asker, Event};
 use rk_message::Ask;
 use rk_names::{Errno, KeyError, Moment, Serial, SessionId};
 
@@ -59,25 +59,7 @@ impl Tables {
     {
         let _ = now;
         match (id, ask) {
-            (
-                SessionId::Client(_),
-                Ask::Hello {
-                    uid,
-                    gid,
-                    thread,
-                    process,
-                    join,
-                },
-            ) => {
-                let greeting = Greeting {
-                    uid: *uid,
-                    gid: *gid,
-                    thread: *thread,
-                    process: *process,
-                    join: *join,
-                };
-                self.hello(id, &greeting)
-            }
+            (SessionId::Client(_), Ask::Hello(greeting)) => self.hello(id, greeting),
             (SessionId::Handler(_), Ask::Assume { key }) => self.assume(id, *key),
             _ => Err(Errno::Eacces),
         }
@@ -92,7 +74,7 @@ impl Tables {
             (Asking self.old now id.now ask (answer_of result) self.new) }
     {
         match ask {
-            Ask::Hello { .. } => Err(Errno::Einval),
+            Ask::Hello(_) => Err(Errno::Einval),
             Ask::Request {
                 typ,
                 description,

@@ -9,8 +9,8 @@ ghost use Rattle.rk_machine.specs.Hello.{join_refusal, rings_made, hello_refusal
 
 use crate::new_rings::NewRings;
 use crate::tables::Tables;
-use rk_machine::{Answer, Greeting};
-use rk_message::Reply;
+use rk_machine::Answer;
+use rk_message::{Greeting, Reply};
 use rk_names::{Context, Errno, Serial, SessionId};
 use rk_rings::RingKind;
 use std::alloc::AllocError;

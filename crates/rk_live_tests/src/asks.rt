@@ -1,5 +1,5 @@
 //! What the client of the tests asks.
-use rk_message::Ask;
+use rk_message::{Ask, Greeting};
 use rk_names::{Callout, Description, Payload, SessionId, TypeName};
 use std::alloc::{AllocError, Global};
 
@@ -8,13 +8,13 @@ pub const CLIENT: SessionId = SessionId::Client(1);
 
 /// The client says that it is user 1000.
 pub fn hello() -> Ask {
-    Ask::Hello {
+    Ask::Hello(Greeting {
         uid: 1000,
         gid: 1000,
         thread: false,
         process: false,
         join: None,
-    }
+    })
 }
 
 /// It adds the key of this name, with the payload `v`, to its session ring.

@@ -56,8 +56,8 @@ Completes old now asker key r condition end answer new =
 
 -- who may ask: one with a context, but for HELLO of a client and ASSUME of a handler
 abbrev pub gate : World → SessionId → Ask → Option Errno
-gate w (Client n) (ask.Hello uid gid thread process join) = refused_if (is_some (asker_of w (Client n))) errno.Einval
-gate w (Handler k) (ask.Hello uid gid thread process join) = Some (if is_none (asker_of w (Handler k)) then errno.Eacces else errno.Einval)
+gate w (Client n) (ask.Hello hello) = refused_if (is_some (asker_of w (Client n))) errno.Einval
+gate w (Handler k) (ask.Hello hello) = Some (if is_none (asker_of w (Handler k)) then errno.Eacces else errno.Einval)
 gate w (Handler k) (ask.Assume key) = None
 gate w s a = refused_if (is_none (asker_of w s)) errno.Eacces
 
@@ -70,7 +70,7 @@ ask_refusal w s a =
 
 -- any ask but HELLO, ASSUME and CALLOUT is one of someone who acts
 abbrev pub is_acting : Ask → Bool
-is_acting (ask.Hello uid gid thread process join) = false
+is_acting (ask.Hello hello) = false
 is_acting (ask.Assume key) = false
 is_acting ask.Callout = false
 is_acting _ = true
@@ -81,8 +81,7 @@ Acting old s answer new P = MatchOption (asker_of old s) (Tells (Refused errno.E
 
 -- what each ask may be answered, and which world it leaves, once it has passed the gate
 abbrev pub Asking : World → ℕ → SessionId → Ask → Answer → World → Type 0
-Asking old now s (ask.Hello uid gid thread process join) answer new =
-    Hellos old s (record { uid = uid; gid = gid; thread = thread; process = process; join = join }) answer new
+Asking old now s (ask.Hello hello) answer new = Hellos old s hello answer new
 Asking old now s (ask.Request typ description callout destination) answer new =
     Acting old s answer new (λ asker. Requests old now s asker typ description callout destination answer new)
 Asking old now s (ask.Assume key) answer new = Assumes old s key answer new

@@ -14,7 +14,7 @@ use Rattle.rk_rings.specs.declared.kind.RingKind.TheVariants as kind
 use Rattle.rk_rings.specs.Ring.{Ring, empty_ring, is_users, is_sessions}
 use Rattle.rk_auth.specs.Changes.{session_changed, with_context}
 use Rattle.rk_machine.specs.declared.event.Answer.{Answer}
-pub use Rattle.rk_machine.specs.declared.greeting.Greeting.{Greeting}
+pub use Rattle.rk_message.specs.declared.greeting.Greeting.{Greeting}
 use Rattle.rk_machine.specs.declared.event.Answer.TheVariants.{Done}
 use Rattle.rk_machine.specs.World.{World, drawn}
 use Rattle.rk_machine.specs.Allowed.{first_of, refused_if, Leaves, Unless, OrNoMemory}

@@ -275,8 +275,8 @@ pub record Root : Type 0 where
 
 -- what client n is given in this step: it says HELLO, and is answered with rings. None in any other step
 abbrev pub hello_in : ℕ → Event → Answer → Option Root
-hello_in n (Asked (Client m) (ask.Hello uid gid t p join)) (Done (Rings thread process session user)) =
-    if m == n then Some (record { uid = uid; gid = gid; thread = thread; process = process; session = session }) else None
+hello_in n (Asked (Client m) (ask.Hello hello)) (Done (Rings thread process session user)) =
+    if m == n then Some (record { uid = hello.uid; gid = hello.gid; thread = thread; process = process; session = session }) else None
 hello_in n _ _ = None
 
 -- the root of a session after this step, by the step or by the roots before it

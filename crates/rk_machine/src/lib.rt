@@ -29,23 +29,23 @@
 //!
 //! # How it is built
 //!
-//! `event` has what happens and what is answered, `greeting` and `asker` have what the definitions of the asks speak of, `owing` counts what is owed,
+//! `event` has what happens and what is answered, `asker` has what the definitions of the asks speak of, `owing` counts what is owed,
 //! and `laws` has the one call that promises the laws.
 //!
-//! `proofs/Effects/KindsOfStep.antt` turns a step inside out once: whatever step the machine may take is one of some twenty, each with what it found and what it
+//! `proofs/Effects/KindsOfStep.antt` turns a step inside out once: whatever step the machine may take is one of some twenty, each with what it found and
+//! what it
 //! leaves. Every law is proved over these (`proofs/EveryRun/KeepsLaws.antt`), and so is what others hold of every step: which constructions and clients there
-//! are after it (`proofs/Effects/StagesByStep.antt`, `proofs/Effects/ClientsByStep.antt`), that what was never drawn is none (`proofs/Effects/UndrawnIsIdle.antt`), and what is owed
+//! are after it (`proofs/Effects/StagesByStep.antt`, `proofs/Effects/ClientsByStep.antt`), that what was never drawn is none
+//! (`proofs/Effects/UndrawnIsIdle.antt`), and what is owed
 //! (`proofs/OwedSteps/EachRecorded.antt`).
 #![tactic(auto)]
 
 mod asker;
 mod event;
-mod greeting;
 mod laws;
 mod owing;
 
 pub use asker::Asker;
 pub use event::{Answer, Event, How, Ran, done};
-pub use greeting::Greeting;
 pub use laws::{every_run, every_step_owed};
 pub use owing::{session_owes, stage_ends, stage_owes};

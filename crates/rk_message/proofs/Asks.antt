@@ -1,11 +1,12 @@
 -- An ask can be told from its message.
-use Rattle.std.proofs.Common.{◌≡◌, ℕ, ℤ, zero, suc, true, false, List, [], ◌∷◌, Option, Some, None, Result, Ok, Err, refl, sym, ap, ◌∙◌, arith}
+use Rattle.std.proofs.Common.{◌≡◌, ℕ, ℤ, zero, suc, true, false, Bool, List, [], ◌∷◌, Option, Some, None, Result, Ok, Err, refl, sym, ap, ◌∙◌, arith}
 use Rattle.std.specs.Prelude.{◌||◌, ◌==◌, pos, unwrap_or, IfOk, MatchResult, if◌then◌else◌}
 use Rattle.rk_names.specs.declared.errors.KeyError.{KeyError}
 use Rattle.rk_names.specs.declared.errors.KeyError.TheVariants as error
 use Rattle.rk_names.specs.Numbers.{key_error_named}
 use Rattle.rk_message.specs.declared.ask.Ask.{Ask}
 use Rattle.rk_message.specs.declared.ask.Ask.TheVariants as ask
+use Rattle.rk_message.specs.declared.greeting.Greeting.{Greeting}
 use Rattle.rk_message.specs.declared.fault.ReadError.{ReadError}
 use Rattle.rk_message.specs.declared.fault.ReadError.TheVariants.{NoMemory}
 use Rattle.rk_message.specs.Wire.{Value, U8, U32, I32, Blob, Maybe, Message, spelling}
@@ -46,6 +47,9 @@ serial (suc n) = Some (suc n)
 abbrev named : ℕ → KeyError
 named n = unwrap_or (key_error_named n) error.NoKey
 
+abbrev greeting : ℕ → ℕ → Bool → Bool → Option ℕ → Greeting
+greeting uid gid thread process join = record { uid = uid; gid = gid; thread = thread; process = process; join = join }
+
 -- the ask of a message
 abbrev ask_of : Message → Ask
 ask_of m =
@@ -53,7 +57,7 @@ ask_of m =
     let b = at m.values 1 in
     let c = at m.values 2 in
     let d = at m.values 3 in
-    if m.op == 1 then ask.Hello (number a) (number b) (number c == 1 || number c == 3) (number c == 2 || number c == 3) (serial (number d))
+    if m.op == 1 then ask.Hello (greeting (number a) (number b) (number c == 1 || number c == 3) (number c == 2 || number c == 3) (serial (number d)))
     else (if m.op == 2 then ask.Request (bytes a) (bytes b) (optional c) (signed d)
     else (if m.op == 3 then ask.Assume (signed a)
     else (if m.op == 4 then ask.Instantiate (signed a) (bytes b) (signed c)
@@ -70,16 +74,20 @@ ask_of m =
     else (if m.op == 15 then ask.Add (bytes a) (bytes b) (bytes c) (signed d)
     else ask.Callout))))))))))))))
 
+hello_of-message : (uid gid : ℕ) (thread process : Bool) (join : Option ℕ) → JoinsASerial (ask.Hello (greeting uid gid thread process join))
+    → ask_of (ask_message (ask.Hello (greeting uid gid thread process join))) ≡ ask.Hello (greeting uid gid thread process join)
+hello_of-message uid gid true true None joins = refl
+hello_of-message uid gid true false None joins = refl
+hello_of-message uid gid false true None joins = refl
+hello_of-message uid gid false false None joins = refl
+hello_of-message uid gid thread process (Some zero) joins = absurd (omega arith)
+hello_of-message uid gid true true (Some (suc n)) joins = refl
+hello_of-message uid gid true false (Some (suc n)) joins = refl
+hello_of-message uid gid false true (Some (suc n)) joins = refl
+hello_of-message uid gid false false (Some (suc n)) joins = refl
+
 ask_of-message : (a : Ask) → JoinsASerial a → ask_of (ask_message a) ≡ a
-ask_of-message (ask.Hello uid gid true true None) joins = refl
-ask_of-message (ask.Hello uid gid true false None) joins = refl
-ask_of-message (ask.Hello uid gid false true None) joins = refl
-ask_of-message (ask.Hello uid gid false false None) joins = refl
-ask_of-message (ask.Hello uid gid thread process (Some zero)) joins = absurd (omega arith)
-ask_of-message (ask.Hello uid gid true true (Some (suc n))) joins = refl
-ask_of-message (ask.Hello uid gid true false (Some (suc n))) joins = refl
-ask_of-message (ask.Hello uid gid false true (Some (suc n))) joins = refl
-ask_of-message (ask.Hello uid gid false false (Some (suc n))) joins = refl
+ask_of-message (ask.Hello hello) joins = hello_of-message hello.uid hello.gid hello.thread hello.process hello.join joins
 ask_of-message (ask.Request typ description callout destination) joins = refl
 ask_of-message (ask.Assume key) joins = refl
 ask_of-message (ask.Instantiate key payload ring) joins = refl

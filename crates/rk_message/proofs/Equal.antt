@@ -7,7 +7,7 @@ use Rattle.rk_message.specs.declared.ask.Ask.TheVariants as ask
 use Rattle.rk_message.specs.contracts.ask.AskPartialEq.TheImpl as derived
 
 pub tells : (a b : Ask) → IsTrue (derived.ghosts.eq a b) ↔ (a ≡ b)
-tells (ask.Hello uid gid thread process join) b = search rules
+tells (ask.Hello hello) b = search rules
 tells (ask.Request typ description callout destination) b = search rules
 tells (ask.Assume key) b = search rules
 tells (ask.Instantiate key payload ring) b = search rules

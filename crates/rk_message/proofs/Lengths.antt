@@ -91,7 +91,7 @@ reply_len : (bytes : List ℕ) → reply_rule bytes ≡ None → length bytes �
 reply_len bytes is = let first = passed (ltb 65533 (length bytes)) _ _ is in ltb-false 65533 (length bytes) first.0
 
 ask_width : (a : Ask) → IsAsk a → widths (ask_values a) ≤ 65535
-ask_width (ask.Hello uid gid thread process join) is = omega arith
+ask_width (ask.Hello hello) is = omega arith
 ask_width (ask.Request typ description None destination) is =
     omega (arith, type_len typ is.0.0.1, description_len description is.0.1.0.1)
 ask_width (ask.Request typ description (Some callout) destination) is =

@@ -87,9 +87,9 @@ errors n some =
 hello : (uid gid few number : ℕ) (thread process : Bool) → uid < 2 ^ 32 → gid < 2 ^ 32 → flag_bits thread process ≡ few → few < 2 ^ 8 → ltb few 4 ≡ true
     → (number < 2 ^ 32) × (ltb number 2147483648 ≡ true) → ToldAsk (record { op = 1; values = U32 uid ∷ U32 gid ∷ U8 few ∷ U32 number ∷ [] })
 hello uid gid few zero thread process u g same byte below j =
-    (ask.Hello uid gid thread process None, (((u, refl), ((g, refl), ((rw same byte, rw same below), (j, tt)))), tt), rw same refl)
+    (ask.Hello (record { uid = uid; gid = gid; thread = thread; process = process; join = None }), (((u, refl), ((g, refl), ((rw same byte, rw same below), (j, tt)))), tt), rw same refl)
 hello uid gid few (suc number) thread process u g same byte below j =
-    (ask.Hello uid gid thread process (Some (suc number)), (((u, refl), ((g, refl), ((rw same byte, rw same below), (j, tt)))), omega arith), rw same refl)
+    (ask.Hello (record { uid = uid; gid = gid; thread = thread; process = process; join = Some (suc number) }), (((u, refl), ((g, refl), ((rw same byte, rw same below), (j, tt)))), omega arith), rw same refl)
 
 -- each message of the table is an ask's
 pub asks_are_all : (m : Message) → IsMessage asks m → ToldAsk m

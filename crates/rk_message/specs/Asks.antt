@@ -1,5 +1,5 @@
 -- What an ask is on the wire.
-use Rattle.std.specs.Prelude.{ℕ, List, [], ◌∷◌, ◌+◌, ◌≤◌, Bool, Option, Some, None, Result, IfOk, if◌then◌else◌}
+use Rattle.std.specs.Prelude.{ℕ, List, [], ◌∷◌, ◌+◌, ◌≤◌, Bool, Option, Some, None, Result, IfOk, IfSome, if◌then◌else◌}
 use Rattle.rk_names.specs.declared.errors.KeyError.{KeyError}
 use Rattle.rk_names.specs.Numbers.{errno_number, key_errno}
 use Rattle.rk_message.specs.declared.ask.Ask.{Ask}
@@ -27,7 +27,7 @@ error_number e = errno_number (key_errno e)
 
 -- the fields of an ask
 abbrev pub ask_values : Ask → List Value
-ask_values (ask.Hello uid gid thread process join) = U32 uid ∷ U32 gid ∷ U8 (flag_bits thread process) ∷ U32 (join_number join) ∷ []
+ask_values (ask.Hello hello) = U32 hello.uid ∷ U32 hello.gid ∷ U8 (flag_bits hello.thread hello.process) ∷ U32 (join_number hello.join) ∷ []
 ask_values (ask.Request typ description callout destination) = Blob typ ∷ Blob description ∷ Maybe callout ∷ I32 destination ∷ []
 ask_values (ask.Assume key) = I32 key ∷ []
 ask_values (ask.Instantiate key payload ring) = I32 key ∷ Blob payload ∷ I32 ring ∷ []
@@ -46,7 +46,7 @@ ask_values ask.Callout = []
 
 -- what an ask asks
 abbrev pub ask_op : Ask → Op
-ask_op (ask.Hello _ _ _ _ _) = op.Hello
+ask_op (ask.Hello _) = op.Hello
 ask_op (ask.Request _ _ _ _) = op.Request
 ask_op (ask.Assume _) = op.Assume
 ask_op (ask.Instantiate _ _ _) = op.Instantiate
@@ -73,7 +73,7 @@ ask_message a = record { op = op_byte (ask_op a); values = ask_values a }
 
 -- a ring to join has a serial, and no serial is 0
 abbrev pub JoinsASerial : Ask → Type 0
-JoinsASerial (ask.Hello _ _ _ _ (Some n)) = 1 ≤ n
+JoinsASerial (ask.Hello hello) = IfSome hello.join (λ n. 1 ≤ n)
 JoinsASerial _ = Unit {0}
 
 -- the fields keep what their types promise

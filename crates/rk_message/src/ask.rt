@@ -2,8 +2,9 @@
 
 ghost use Rattle.std.specs.Prelude.{◌≡◌};
 
+use crate::greeting::Greeting;
 use crate::shape::Op;
-use rk_names::{Callout, Description, KeyError, Payload, Serial, TypeName};
+use rk_names::{Callout, Description, KeyError, Payload, TypeName};
 
 /// What a session asks. Rings and keys are numbers as on the wire: positive ones are serials, others
 /// name a ring or a key by its role, as -3 the session ring (keyctl(2), "Special key IDs"). What a
@@ -11,14 +12,8 @@ use rk_names::{Callout, Description, KeyError, Payload, Serial, TypeName};
 #[derive(Clone, Debug, Drop, PartialEq, Eq)]
 pub enum Ask {
     /// Makes the session's context: who asks, which of its own rings it has, and the session ring
-    /// that it joins; `None` makes a new one (keyctl_join_session_keyring(3)).
-    Hello {
-        uid: u32,
-        gid: u32,
-        thread: bool,
-        process: bool,
-        join: Option<Serial>,
-    },
+    /// that it joins (keyctl_join_session_keyring(3)).
+    Hello(Greeting),
     /// Finds a key, or has it made by a handler that is told the callout, and links it into the
     /// destination. For 0 a key that is found is linked nowhere, and one that is made into the
     /// session's default ring (request_key(2)).
@@ -106,7 +101,7 @@ impl Ask {
         ensures { result ≡ ask_op self.now }
     {
         match self {
-            Ask::Hello { .. } => Op::Hello,
+            Ask::Hello(_) => Op::Hello,
             Ask::Request { .. } => Op::Request,
             Ask::Assume { .. } => Op::Assume,
             Ask::Instantiate { .. } => Op::Instantiate,

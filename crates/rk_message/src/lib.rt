@@ -41,6 +41,7 @@ mod ask_writing;
 mod equality;
 mod fault;
 mod field;
+mod greeting;
 mod laws;
 mod reply;
 mod reply_reading;
@@ -51,6 +52,7 @@ mod spelling;
 
 pub use ask::Ask;
 pub use fault::{Fault, ReadError};
+pub use greeting::Greeting;
 pub use laws::{asks_have_one_reading, replies_have_one_reading};
 pub use reply::{Reply, ReplyBytes};
 pub use rk_names::KeyError;

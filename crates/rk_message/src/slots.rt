@@ -9,6 +9,7 @@ ghost use Rattle.rk_message.specs.Asks.{join_number};
 
 use crate::ask::Ask;
 use crate::fault::ReadError;
+use crate::greeting::Greeting;
 use crate::shape::Op;
 use rk_names::{Callout, Description, KeyError, Payload, Serial, TypeName};
 use std::alloc::{AllocError, Global};
@@ -81,16 +82,10 @@ impl<'a> Slots<'a> {
     {
         let mut slots = Slots::empty();
         match ask {
-            Ask::Hello {
-                uid,
-                gid,
-                thread,
-                process,
-                join,
-            } => {
-                (slots.uid, slots.gid) = (*uid, *gid);
-                (slots.thread, slots.process) = (*thread, *process);
-                slots.join = joined(*join);
+            Ask::Hello(greeting) => {
+                (slots.uid, slots.gid) = (greeting.uid, greeting.gid);
+                (slots.thread, slots.process) = (greeting.thread, greeting.process);
+                slots.join = joined(greeting.join);
             }
             Ask::Request {
                 typ,
@@ -146,13 +141,13 @@ impl<'a> Slots<'a> {
     {
         let (key, ring) = (self.key, self.ring);
         Ok(match op {
-            Op::Hello => Ask::Hello {
+            Op::Hello => Ask::Hello(Greeting {
                 uid: self.uid,
                 gid: self.gid,
                 thread: self.thread,
                 process: self.process,
                 join: Serial::new(self.join),
-            },
+            }),
             Op::Request => self.request(alloc)?,
             Op::Assume => Ask::Assume { key },
             Op::Instantiate => self.instantiate(alloc)?,

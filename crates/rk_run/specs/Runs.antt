@@ -21,7 +21,7 @@ use Rattle.rk_run.specs.Story.{Event, Looked, Sought, Greeted, Started, Waited, 
 
 -- HELLO with a new session ring and no other, for who is named, or else for who runs it
 abbrev pub hello_of : Wanted → Here → Ask
-hello_of w here = Hello (unwrap_or w.uid here.uid) (unwrap_or w.gid here.gid) false false None
+hello_of w here = Hello (record { uid = unwrap_or w.uid here.uid; gid = unwrap_or w.gid here.gid; thread = false; process = false; join = None })
 
 -- the first of two, or else the second
 abbrev pub or_else : {X : Type 0} → Option X → Option X → Option X

@@ -8,7 +8,7 @@ use crate::starting::made;
 use crate::status::status_of;
 use crate::wanted::Wanted;
 use rk_client::PeerFault;
-use rk_message::{Ask, Reply};
+use rk_message::{Ask, Greeting, Reply};
 use std::alloc::Global;
 
 /// Runs the program that is wanted in a session ring of its own, and gives its status as a shell tells it.
@@ -70,13 +70,13 @@ fn in_session<H: Host>(
 fn hello_of(wanted: &Wanted<'_>, here: &Here) -> Ask
     ensures { result ≡ hello_of wanted.now here.now }
 {
-    Ask::Hello {
+    Ask::Hello(Greeting {
         uid: wanted.uid.unwrap_or(here.uid),
         gid: wanted.gid.unwrap_or(here.gid),
         thread: false,
         process: false,
         join: None,
-    }
+    })
 }
 
 /// The socket that is named, or else the one that is told already.

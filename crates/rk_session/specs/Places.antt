@@ -23,12 +23,12 @@ at_first = record { hall = Zero; greeted = false }
 
 -- the ask that gives a session its context
 abbrev pub IsHello : Ask → Type 0
-IsHello (ask.Hello uid gid thread process join) = Unit {0}
+IsHello (ask.Hello hello) = Unit {0}
 IsHello _ = ⊥
 
 -- a HELLO whose uid is of this hall
 abbrev pub IsHelloOf : HallNo → Ask → Type 0
-IsHelloOf hall (ask.Hello uid gid thread process join) = hall_number hall ≡ uid % 4
+IsHelloOf hall (ask.Hello hello) = hall_number hall ≡ hello.uid % 4
 IsHelloOf hall _ = ⊥
 
 -- an answer that something was done

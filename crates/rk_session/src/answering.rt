@@ -69,7 +69,7 @@ fn hall_of_hello(place: &Place, ask: &Ask) -> Option<HallNo>
     ensures { MatchOption result (IsHello ask.now → place.now.greeted ≡ true) (λ hall. (place.now.greeted ≡ false) × IsHelloOf hall ask.now) }
 {
     match ask {
-        Ask::Hello { uid, .. } if !place.greeted => Some(HallNo::of_uid(*uid)),
+        Ask::Hello(greeting) if !place.greeted => Some(HallNo::of_uid(greeting.uid)),
         _ => None,
     }
 }

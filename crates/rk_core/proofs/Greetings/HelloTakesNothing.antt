@@ -7,7 +7,7 @@ use Rattle.rk_rings.specs.declared.kind.RingKind.{RingKind}
 use Rattle.rk_rings.specs.declared.kind.RingKind.TheVariants as kind
 use Rattle.rk_rings.specs.Ring.{empty_ring, is_linked}
 use Rattle.rk_machine.specs.World.{World}
-use Rattle.rk_machine.specs.declared.greeting.Greeting.{Greeting}
+use Rattle.rk_message.specs.declared.greeting.Greeting.{Greeting}
 use Rattle.rk_machine.specs.Hello.{Makes, MakesIf, HasSessionRing, HasUserRing, MakesRings}
 use Rattle.rk_machine.proofs.Found.InMaps.{get_inserted}
 use Rattle.rk_machine.proofs.Effects.DrawnSerials.{is_drawn}

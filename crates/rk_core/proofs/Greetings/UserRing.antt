@@ -13,7 +13,7 @@ use Rattle.rk_rings.specs.Numbered.{Numbered, Rings, ring_seen, rings_seen, is_u
 use Rattle.rk_rings.proofs.Finds.{any_value, some_entry, entry_found}
 use Rattle.rk_rings.proofs.Seen.{get-rings_seen}
 use Rattle.rk_machine.specs.World.{World}
-use Rattle.rk_machine.specs.declared.greeting.Greeting.{Greeting}
+use Rattle.rk_message.specs.declared.greeting.Greeting.{Greeting}
 use Rattle.rk_machine.specs.Hello.{has_user_ring, rings_made, Makes, MakesIf, HasSessionRing, HasUserRing}
 use Rattle.rk_core.specs.NewRings.{MakesOr, IsUserRing}
 use Rattle.rk_machine.proofs.Found.InMaps.{get_inserted}

@@ -36,7 +36,7 @@ no_client o = Some (if is_none o then errno.Eacces else errno.Einval)
 
 -- one who acts may ask anything but HELLO
 gate_of_acting : (w : World) (s : SessionId) (x : Ask) (asker : Asker) → asker_of w s ≡ Some asker → gate w s x ≡ refused_if (is_hello x) errno.Einval
-gate_of_acting w (Client n) (ask.Hello uid gid thread process join) asker is = ap greeted_already is
+gate_of_acting w (Client n) (ask.Hello hello) asker is = ap greeted_already is
 gate_of_acting w (Client n) (ask.Request typ description callout destination) asker is = ap for_who_acts is
 gate_of_acting w (Client n) (ask.Assume key) asker is = ap for_who_acts is
 gate_of_acting w (Client n) (ask.Instantiate key payload ring) asker is = ap for_who_acts is
@@ -52,7 +52,7 @@ gate_of_acting w (Client n) (ask.Clear ring) asker is = ap for_who_acts is
 gate_of_acting w (Client n) (ask.Default setting) asker is = ap for_who_acts is
 gate_of_acting w (Client n) (ask.Add typ description payload ring) asker is = ap for_who_acts is
 gate_of_acting w (Client n) ask.Callout asker is = ap for_who_acts is
-gate_of_acting w (Handler k) (ask.Hello uid gid thread process join) asker is = ap no_client is
+gate_of_acting w (Handler k) (ask.Hello hello) asker is = ap no_client is
 gate_of_acting w (Handler k) (ask.Request typ description callout destination) asker is = ap for_who_acts is
 gate_of_acting w (Handler k) (ask.Assume key) asker is = refl
 gate_of_acting w (Handler k) (ask.Instantiate key payload ring) asker is = ap for_who_acts is
@@ -71,7 +71,7 @@ gate_of_acting w (Handler k) ask.Callout asker is = ap for_who_acts is
 
 -- where nobody acts, a client may ask HELLO and a handler ASSUME
 gate_of_nobody : (w : World) (s : SessionId) (x : Ask) → asker_of w s ≡ None → gate w s x ≡ refused_if (not (is_first s x)) errno.Eacces
-gate_of_nobody w (Client n) (ask.Hello uid gid thread process join) is = ap greeted_already is
+gate_of_nobody w (Client n) (ask.Hello hello) is = ap greeted_already is
 gate_of_nobody w (Client n) (ask.Request typ description callout destination) is = ap for_who_acts is
 gate_of_nobody w (Client n) (ask.Assume key) is = ap for_who_acts is
 gate_of_nobody w (Client n) (ask.Instantiate key payload ring) is = ap for_who_acts is
@@ -87,7 +87,7 @@ gate_of_nobody w (Client n) (ask.Clear ring) is = ap for_who_acts is
 gate_of_nobody w (Client n) (ask.Default setting) is = ap for_who_acts is
 gate_of_nobody w (Client n) (ask.Add typ description payload ring) is = ap for_who_acts is
 gate_of_nobody w (Client n) ask.Callout is = ap for_who_acts is
-gate_of_nobody w (Handler k) (ask.Hello uid gid thread process join) is = ap no_client is
+gate_of_nobody w (Handler k) (ask.Hello hello) is = ap no_client is
 gate_of_nobody w (Handler k) (ask.Request typ description callout destination) is = ap for_who_acts is
 gate_of_nobody w (Handler k) (ask.Assume key) is = refl
 gate_of_nobody w (Handler k) (ask.Instantiate key payload ring) is = ap for_who_acts is

@@ -62,14 +62,14 @@ clear_after old now e a new (took s wait outcome ev is ready ra w) h q n c =
 clear_after old now e a new (came m ev fresh ra w) h q n c = as_clear new _ q w (record { keys = c.keys; rings = c.rings; constructions = c.constructions })
 clear_after old now e a new (went m ev there ra w) h q n c =
     as_clear new _ q w (record { keys = none_kept _ old.keys q c.keys; rings = none_kept _ old.rings q c.rings; constructions = c.constructions })
-clear_after old now e a new (greets m uid gid thread process join ev can none joined g) h q n c =
+clear_after old now e a new (greets m hello ev can none joined g) h q n c =
     let grown : Grows old g.4 = rings_grow _ old g.4 g.0 g.1 g.2 g.3 g.5 h.rings in
     let unused : is_drawn g.4 q ≡ false = sym (ap (λ (w : World). is_drawn w q) g.6.1) ∙ n in
     as_clear new _ q g.6.1 (record {
       keys = ap (λ (m : map.FinMap nat_cmp Key). map.get m q) (greeted_keys _ old g.4 g.0 g.1 g.2 g.3 g.5) ∙ c.keys;
       rings = grown.free q unused;
       constructions =
-          free_changed (Client m) (with_context (record { uid = uid; gid = gid; thread = g.0; process = g.1; session = g.2; user = g.3 })) g.4.sessions q
+          free_changed (Client m) (with_context (record { uid = hello.uid; gid = hello.gid; thread = g.0; process = g.1; session = g.2; user = g.3 })) g.4.sessions q
           (ap (λ (s : Sessions). map.get s.constructions q) (greeted_sessions _ old g.4 g.0 g.1 g.2 g.3 g.5) ∙ c.constructions);
     })
 clear_after old now e a new (begins s asker typ description callout r ring k ev can is depth fresh ra w) h q n c =
@@ -159,7 +159,7 @@ tidy_after old now e a new (still s wait ev is ready ra w) h = same_stay new old
 tidy_after old now e a new (took s wait outcome ev is ready ra w) h = same_stay new _ w h.tidy
 tidy_after old now e a new (came m ev fresh ra w) h = same_stay new _ w h.tidy
 tidy_after old now e a new (went m ev there ra w) h = same_stay new _ w (tidied_stay (gone m old))
-tidy_after old now e a new (greets m uid gid thread process join ev can none joined g) h =
+tidy_after old now e a new (greets m hello ev can none joined g) h =
     same_stay new _ g.6.1 (grown_stay old g.4 (greeted_keys _ old g.4 g.0 g.1 g.2 g.3 g.5) (rings_grow _ old g.4 g.0 g.1 g.2 g.3 g.5 h.rings) h.tidy)
 tidy_after old now e a new (begins s asker typ description callout r ring k ev can is depth fresh ra w) h =
     same_stay new _ w (tidied_stay (waiting s k true (started k (query asker typ description now) (authority_for asker typ description now callout ring) old)))

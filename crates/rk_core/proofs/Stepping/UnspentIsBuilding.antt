@@ -75,9 +75,9 @@ building_after old now e a new (took s wait outcome ev is ready ra w) h q =
 building_after old now e a new (came m ev fresh ra w) h q = in_world old new _ q w (h.building q)
 building_after old now e a new (went m ev there ra w) h q =
     in_world old new _ q w (by_frames q _ _ _ _ refl (built_tidied (rings_without m old) old.keys q) (h.building q))
-building_after old now e a new (greets m uid gid thread process join ev can none joined g) h q =
+building_after old now e a new (greets m hello ev can none joined g) h q =
     in_world old new _ q g.6.1 (by_frames q _ _ _ _
-    (unspent_changed (Client m) (with_context (record { uid = uid; gid = gid; thread = g.0; process = g.1; session = g.2; user = g.3 })) g.4.sessions q
+    (unspent_changed (Client m) (with_context (record { uid = hello.uid; gid = hello.gid; thread = g.0; process = g.1; session = g.2; user = g.3 })) g.4.sessions q
     ∙ ap (λ (s : Sessions). unspent s q) (greeted_sessions _ old g.4 g.0 g.1 g.2 g.3 g.5))
     (ap (λ (m : map.FinMap nat_cmp Key). built_at m q) (greeted_keys _ old g.4 g.0 g.1 g.2 g.3 g.5)) (h.building q))
 building_after old now e a new (begins s asker typ description callout r ring k ev can is depth fresh ra w) h q =

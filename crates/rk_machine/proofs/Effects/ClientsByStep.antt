@@ -140,10 +140,10 @@ clients old now e a new (came m ev fresh ra w) n =
 clients old now e a new (went m ev there ra w) n =
     by_step new n e _ a _ _ ev ra (at_world new _ n _ w (ap is_some (get_removed old.sessions.clients m n)
     ∙ went_in (nat_eq m n) (map.get old.sessions.clients n)))
-clients old now e a new (greets m uid gid thread process join ev can none joined h) n =
+clients old now e a new (greets m hello ev can none joined h) n =
     by_step new n e _ a _ _ ev h.6.0
     (at_world new _ n _ h.6.1 (client_changed (Client m) (with_context
-    (record { uid = uid; gid = gid; thread = h.0; process = h.1; session = h.2; user = h.3 })) h.4.sessions n
+    (record { uid = hello.uid; gid = hello.gid; thread = h.0; process = h.1; session = h.2; user = h.3 })) h.4.sessions n
     ∙ ap (λ (s : Sessions). is_client s n) (greeted_sessions _ old h.4 h.0 h.1 h.2 h.3 h.5)))
 clients old now e a new (begins s asker typ description callout r ring k ev can is depth fresh ra w) n =
     by_step new n e _ a _ _ ev ra (at_world new _ n _ w (client_changed s _ _ n))

@@ -45,7 +45,7 @@ use Rattle.rk_machine.specs.Asker.{Asker, asker_of, serial_named, ring_for, ring
 use Rattle.rk_machine.specs.Links.{linked_in, unlinked_in, cleared_in, full_refusal}
 use Rattle.rk_machine.specs.Search.{Query, block_of}
 use Rattle.rk_machine.specs.Completion.{completed, ended, condition_after}
-use Rattle.rk_machine.specs.Hello.{Greets, Hellos, hello_refusal, join_refusal}
+use Rattle.rk_machine.specs.Hello.{Greeting, Greets, Hellos, hello_refusal, join_refusal}
 use Rattle.rk_machine.specs.Request.{
   query,
   waiting,
@@ -119,10 +119,10 @@ pub data Effect (old : World) (now : ℕ) (e : Event) (a : Answer) (new : World)
   -- a client goes
   went : (n : ℕ) → e ≡ Gone (Client n) → map.contains_key old.sessions.clients n ≡ true → a ≡ done → new ≡ tidied (gone n old) → Effect old now e a new
   -- a client gets its context
-  greets : (n uid gid : ℕ) (thread process : Bool) (join : Option ℕ) → e ≡ Asked (Client n) (ask.Hello uid gid thread process join) → CanAsk old (Client n)
+  greets : (n : ℕ) (hello : Greeting) → e ≡ Asked (Client n) (ask.Hello hello) → CanAsk old (Client n)
       → asker_of old (Client n) ≡ None
-      → join_refusal old (record { uid = uid; gid = gid; thread = thread; process = process; join = join }) ≡ None
-      → Greets old (Client n) (record { uid = uid; gid = gid; thread = thread; process = process; join = join }) a new → Effect old now e a new
+      → join_refusal old hello ≡ None
+      → Greets old (Client n) hello a new → Effect old now e a new
   -- a construction starts
   begins : (s : SessionId) (asker : Asker) (typ description callout : List ℕ) (r : ℤ) (ring k : ℕ)
       → e ≡ Asked s (ask.Request typ description (Some callout) r) → CanAsk old s → asker_of old s ≡ Some asker → nat_le 9 asker.depth ≡ false
@@ -299,22 +299,22 @@ module _ (old : World) (now : ℕ) (s : SessionId) (a : Answer) (new : World) wh
       → Effect old now (Asked s x) a new
   acting x P h on = by_option (asker_of old s) P _ _ (λ _ g. no_ask x _ g.0 g.1) (λ asker is g. on asker is g) h
 
-greeting : (old : World) (now : ℕ) (s : SessionId) (uid gid : ℕ) (thread process : Bool) (join : Option ℕ) (a : Answer) (new : World) → CanAsk old s
-    → gate old s (ask.Hello uid gid thread process join) ≡ None
-    → Hellos old s (record { uid = uid; gid = gid; thread = thread; process = process; join = join }) a new
-    → Effect old now (Asked s (ask.Hello uid gid thread process join)) a new
+greeting : (old : World) (now : ℕ) (s : SessionId) (hello : Greeting) (a : Answer) (new : World) → CanAsk old s
+    → gate old s (ask.Hello hello) ≡ None
+    → Hellos old s hello a new
+    → Effect old now (Asked s (ask.Hello hello)) a new
 unfolding Hellos
-greeting old now (Client n) uid gid thread process join a new can gated h =
-    unless (hello_refusal old (record { uid = uid; gid = gid; thread = thread; process = process; join = join }) h.0) old a new _ _
-    (no_ask old now (Client n) a new (ask.Hello uid gid thread process join)) (λ none.
-    or_memory old a new _ _ (no_ask old now (Client n) a new (ask.Hello uid gid thread process join)) (λ g.
-    greets n uid gid thread process join refl can (none_is _ (if_none _ errno.Einval gated))
-    (first_none (join_refusal old (record { uid = uid; gid = gid; thread = thread; process = process; join = join })) _ none).0 g)) h.2
-greeting old now (Handler k) uid gid thread process join a new can gated h = absurd (cc)
+greeting old now (Client n) hello a new can gated h =
+    unless (hello_refusal old hello h.0) old a new _ _
+    (no_ask old now (Client n) a new (ask.Hello hello)) (λ none.
+    or_memory old a new _ _ (no_ask old now (Client n) a new (ask.Hello hello)) (λ g.
+    greets n hello refl can (none_is _ (if_none _ errno.Einval gated))
+    (first_none (join_refusal old hello) _ none).0 g)) h.2
+greeting old now (Handler k) hello a new can gated h = absurd (cc)
 
 asking : (old : World) (now : ℕ) (s : SessionId) (x : Ask) (a : Answer) (new : World) → CanAsk old s → gate old s x ≡ None → Asking old now s x a new
     → Effect old now (Asked s x) a new
-asking old now s (ask.Hello uid gid thread process join) a new can gated h = greeting old now s uid gid thread process join a new can gated h
+asking old now s (ask.Hello hello) a new can gated h = greeting old now s hello a new can gated h
 asking old now s (ask.Request typ description callout r) a new can gated h =
     acting old now s a new (ask.Request typ description callout r) _ h (λ asker is g. requests old now s a new can asker is typ description r callout g)
 asking old now s (ask.Assume key) a new can gated h =

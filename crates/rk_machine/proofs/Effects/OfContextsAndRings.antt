@@ -24,7 +24,6 @@ use Rattle.rk_machine.specs.declared.event.Answer.{Answer}
 use Rattle.rk_machine.specs.declared.event.Answer.TheVariants.{Done, Start, Refused}
 use Rattle.rk_machine.specs.World.{World, tidied}
 use Rattle.rk_machine.specs.Asker.{Asker, asker_of}
-use Rattle.rk_machine.specs.Hello.{Greeting}
 use Rattle.rk_machine.specs.Links.{unlinked_in, cleared_in}
 use Rattle.rk_machine.specs.Search.{Query}
 use Rattle.rk_machine.specs.Request.{query, subject_of}
@@ -118,7 +117,7 @@ true_false : true ≡ false → ⊥
 true_false e = cc
 
 no_hello : (n : ℕ) (e : Event) (a : Answer) → is_rings a ≡ false → hello_in n e a ≡ None
-no_hello n (Asked (Client m) (ask.Hello uid gid t p join)) (Done (Rings thread process session user)) h = absurd (true_false h)
+no_hello n (Asked (Client m) (ask.Hello hello)) (Done (Rings thread process session user)) h = absurd (true_false h)
 no_hello n _ _ h = refl
 
 no_starter : (k : ℕ) (e : Event) (error : Errno) → starter_in k e (Refused error) ≡ None
@@ -209,15 +208,14 @@ move old now e a new (went n ev there ra w) =
     one_goes n (λ m. ap (λ y. hello_in m y a) ev) (λ m. (λ i. is_done (ra i) && goes (ev i) (Client m))) (not_started e _ a a ev refl (λ k. refl))
     (λ m. ap (λ (v : World). context_at v.sessions m) w ∙ context_gone n old.sessions m)
     (λ r. ap (λ (v : World). kind_at v r) w ∙ kind_dropped (goes_in old n) old.rings r) (authorities_at old new _ w (λ k. refl))
-move old now e a new (greets n uid gid thread process join ev can none joined h) =
-    let g : Greeting = record { uid = uid; gid = gid; thread = thread; process = process; join = join } in
-    let c : Context = greeted_as g h.0 h.1 h.2 h.3 in
-    let same : h.4.sessions ≡ old.sessions = greeted_sessions g old h.4 h.0 h.1 h.2 h.3 h.5 in
+move old now e a new (greets n hello ev can none joined h) =
+    let c : Context = greeted_as hello h.0 h.1 h.2 h.3 in
+    let same : h.4.sessions ≡ old.sessions = greeted_sessions hello old h.4 h.0 h.1 h.2 h.3 h.5 in
     one_comes n c (λ m. (λ i. hello_in m (ev i) (h.6.0 i))) (λ m. (λ i. is_done (h.6.0 i) && goes (ev i) (Client m)))
     (not_started e _ a _ ev h.6.0 (λ k. refl)) (no_context old n none)
     (λ m. ap (λ (v : World). context_at v.sessions m) h.6.1 ∙ ap (λ (s : Sessions). context_at (session_changed (Client n) (with_context c) s) m) same
     ∙ context_given n c old.sessions m can.there)
-    (λ sound. made_as old new h.4 c h.6.1 (made_all g old h.4 h.0 h.1 h.2 h.3 h.5 sound joined))
+    (λ sound. made_as old new h.4 c h.6.1 (made_all hello old h.4 h.0 h.1 h.2 h.3 h.5 sound joined))
     (authorities_at old new _ h.6.1 (λ k. unspent_changed (Client n) (with_context c) h.4.sessions k ∙ ap (λ (s : Sessions). unspent s k) same))
 move old now e a new (begins t asker typ description callout r ring k ev can is depth fresh ra w) =
     let authority : Authority = authority_for asker typ description now callout ring in

@@ -403,9 +403,9 @@ turns old now e a new (came n ev fresh ra w) g q =
     quiet (ap (λ y. tests q y a) ev ∙ no_tests q (Opened (Client n)) a (calm q a _ ra refl refl) refl refl refl refl) (same_at new _ q _ w refl)
 turns old now e a new (went n ev there ra w) g q =
     quiet (ap (λ y. tests q y a) ev ∙ no_tests q (Gone (Client n)) a (calm q a _ ra refl refl) refl refl refl refl) (same_at new _ q _ w refl)
-turns old now e a new (greets n uid gid thread process join ev can none joined h) g q =
-    quiet (no_completion q (Client n) (ask.Hello uid gid thread process join) e a ev refl (calm q a _ h.6.0 refl refl) refl)
-    (same_at new _ q _ h.6.1 (shape_session (Client n) (with_context (record { uid = uid; gid = gid; thread = h.0; process = h.1; session = h.2; user = h.3 }))
+turns old now e a new (greets n hello ev can none joined h) g q =
+    quiet (no_completion q (Client n) (ask.Hello hello) e a ev refl (calm q a _ h.6.0 refl refl) refl)
+    (same_at new _ q _ h.6.1 (shape_session (Client n) (with_context (record { uid = hello.uid; gid = hello.gid; thread = h.0; process = h.1; session = h.2; user = h.3 }))
     (λ x. refl) h.4.sessions q ∙ ap (λ (s : Sessions). shape_of s q) (greeted_sessions _ old h.4 h.0 h.1 h.2 h.3 h.5)))
 turns old now e a new (begins s asker typ description callout r ring k ev can is depth fresh ra w) g q =
     let x : Ask = ask.Request typ description (Some callout) r in

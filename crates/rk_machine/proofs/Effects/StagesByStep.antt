@@ -249,9 +249,9 @@ kinds old now e a new (took s wait outcome ev is ready ra w) q =
     by_step new q e (Collect s) a a _ ev refl (at_world new _ q _ w (kind_changed s _ old.sessions q))
 kinds old now e a new (came n ev fresh ra w) q = by_step new q e _ a _ _ ev ra (at_world new _ q _ w refl)
 kinds old now e a new (went n ev there ra w) q = by_step new q e _ a _ _ ev ra (at_world new _ q _ w refl)
-kinds old now e a new (greets n uid gid thread process join ev can none joined h) q =
+kinds old now e a new (greets n hello ev can none joined h) q =
     by_step new q e _ a _ _ ev h.6.0 (at_world new _ q _ h.6.1
-    (kind_changed (Client n) (with_context (record { uid = uid; gid = gid; thread = h.0; process = h.1; session = h.2; user = h.3 })) h.4.sessions q
+    (kind_changed (Client n) (with_context (record { uid = hello.uid; gid = hello.gid; thread = h.0; process = h.1; session = h.2; user = h.3 })) h.4.sessions q
     ∙ ap (λ (s : Sessions). kind_of s q) (greeted_sessions _ old h.4 h.0 h.1 h.2 h.3 h.5)))
 kinds old now e a new (begins s asker typ description callout r ring k ev can is depth fresh ra w) q =
     by_step new q e _ a _ _ ev ra (at_world new _ q _ w (kind_changed s _ _ q ∙ kind_issued k _ old.sessions q))

@@ -96,7 +96,7 @@ start_draws old now e a new (still s wait ev is ready ra w) k subject h = absurd
 start_draws old now e a new (took s wait outcome ev is ready ra w) k subject h = absurd (told_no_start outcome k subject (sym ra ∙ h))
 start_draws old now e a new (came n ev fresh ra w) k subject h = absurd (cc)
 start_draws old now e a new (went n ev there ra w) k subject h = absurd (cc)
-start_draws old now e a new (greets n uid gid thread process join ev can none joined g) k subject h = absurd (let ra = g.6.0 in cc)
+start_draws old now e a new (greets n hello ev can none joined g) k subject h = absurd (let ra = g.6.0 in cc)
 start_draws old now e a new (begins s asker typ description callout r ring j ev can is depth fresh ra w) k subject h =
     let same : j ≡ k = start_key (sym ra ∙ h) in
     (ap (is_drawn old) (sym same) ∙ fresh.unused, ap (λ (v : World). is_drawn v k) w ∙ ap (is_drawn (drawn j old)) (sym same) ∙ drawn_now j old)

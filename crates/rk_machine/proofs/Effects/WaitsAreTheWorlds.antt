@@ -306,10 +306,10 @@ tied old now e a new (went n ev there ra w) idle s =
     flag_at new _ s _ w (flag_went n old.sessions s)
     ∙ sym (ap (λ y. after now s y a (flag_of old.sessions s)) ev ∙ ap (λ y. after now s (Gone (Client n)) y (flag_of old.sessions s)) ra
     ∙ cleared_after now s (Gone (Client n)) done _ _ refl (over_gone now s n))
-tied old now e a new (greets n uid gid thread process join ev can none joined h) idle s =
-    flag_at new _ s _ h.6.1 (flag_kept (Client n) (with_context (record { uid = uid; gid = gid; thread = h.0; process = h.1; session = h.2; user = h.3 }))
+tied old now e a new (greets n hello ev can none joined h) idle s =
+    flag_at new _ s _ h.6.1 (flag_kept (Client n) (with_context (record { uid = hello.uid; gid = hello.gid; thread = h.0; process = h.1; session = h.2; user = h.3 }))
     (λ x. refl) h.4.sessions s ∙ ap (λ (x : Sessions). flag_of x s) (greeted_sessions _ old h.4 h.0 h.1 h.2 h.3 h.5))
-    ∙ sym (asked_done now s _ e a (Client n) (ask.Hello uid gid thread process join) _ ev h.6.0)
+    ∙ sym (asked_done now s _ e a (Client n) (ask.Hello hello) _ ev h.6.0)
 tied old now e a new (begins t asker typ description callout r ring k ev can is depth fresh ra w) idle s =
     flag_at new _ s _ w (flag_begun t k true _ s (there_issued k _ old.sessions t (idle k fresh.unused) can.there)
     ∙ ap (cond (same_session t s) (Some (k, true))) (flag_issued k _ old.sessions s (idle k fresh.unused)))

@@ -142,8 +142,8 @@ by_effect old now e a new (came n ev fresh ra w) idle good s apart =
     wait_at old e new s _ w (wait_came n old.sessions s (none_is (map.get old.sessions.clients n) fresh))
 by_effect old now e a new (went n ev there ra w) idle good s apart =
     but_one old e new s _ (Client n) None (Gone (Client n)) apart ev refl w (wait_went n old.sessions s)
-by_effect old now e a new (greets n uid gid thread process join ev can none joined h) idle good s apart =
-    wait_at old e new s _ h.6.1 (wait_kept (Client n) (with_context (record { uid = uid; gid = gid; thread = h.0; process = h.1; session = h.2; user = h.3 }))
+by_effect old now e a new (greets n hello ev can none joined h) idle good s apart =
+    wait_at old e new s _ h.6.1 (wait_kept (Client n) (with_context (record { uid = hello.uid; gid = hello.gid; thread = h.0; process = h.1; session = h.2; user = h.3 }))
     (λ x. refl) h.4.sessions s ∙ ap (λ (x : Sessions). wait_of x s) (greeted_sessions _ old h.4 h.0 h.1 h.2 h.3 h.5))
 by_effect old now e a new (begins t asker typ description callout r ring k ev can is depth fresh ra w) idle good s apart =
     but_one old e new s _ t (Some (new_wait k true)) (Asked t _) apart ev refl w

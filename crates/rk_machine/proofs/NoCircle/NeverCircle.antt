@@ -191,7 +191,7 @@ begun_by old now e a new (still t wait ev is ready ra w) idle = not_begun old e 
 begun_by old now e a new (took t wait outcome ev is ready ra w) idle = not_begun old e _ a _ ev ra (λ s. refl)
 begun_by old now e a new (came n ev fresh ra w) idle = not_begun old e _ a _ ev ra (λ s. refl)
 begun_by old now e a new (went n ev there ra w) idle = not_begun old e _ a _ ev ra (λ s. refl)
-begun_by old now e a new (greets n uid gid thread process join ev can none joined h) idle = not_begun old e _ a _ ev h.6.0 (λ s. refl)
+begun_by old now e a new (greets n hello ev can none joined h) idle = not_begun old e _ a _ ev h.6.0 (λ s. refl)
 begun_by old now e a new (begins t asker typ description callout r ring k ev can is depth fresh ra w) idle =
     one_begun t k true (λ s. ap (λ v. wait_begun s v a) ev ∙ ap (λ v. wait_begun s (Asked t (ask.Request typ description (Some callout) r)) v) ra)
     (new_not_reached old k t (idle k fresh.unused) can.there)

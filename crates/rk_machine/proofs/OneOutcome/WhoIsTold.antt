@@ -269,15 +269,15 @@ telling old now e a new (came n ev fresh ra w) good idle builds =
     (λ s. wait_at old new _ w s _ (wait_came n old.sessions s (none_is (map.get old.sessions.clients n) fresh))))
 telling old now e a new (went n ev there ra w) good idle builds =
     quiet old new _ w (built_tidied _ _) (λ k. refl) (fewer_waits old new (same_session (Client n)) (λ s. wait_at old new _ w s _ (wait_went n old.sessions s)))
-telling old now e a new (greets n uid gid thread process join ev can none joined h) good idle builds =
+telling old now e a new (greets n hello ev can none joined h) good idle builds =
     let same : h.4.sessions ≡ old.sessions = greeted_sessions _ old h.4 h.0 h.1 h.2 h.3 h.5 in
     let keys : h.4.keys ≡ old.keys = greeted_keys _ old h.4 h.0 h.1 h.2 h.3 h.5 in
     quiet old new _ h.6.1 (λ k. ap (λ m. built_at m k) keys)
     (λ k. ap is_some (unspent_changed (Client n) (with_context
-    (record { uid = uid; gid = gid; thread = h.0; process = h.1; session = h.2; user = h.3 })) h.4.sessions k)
+    (record { uid = hello.uid; gid = hello.gid; thread = h.0; process = h.1; session = h.2; user = h.3 })) h.4.sessions k)
     ∙ ap (λ (x : Sessions). is_some (unspent x k)) same)
     (same_waits old new (λ s. wait_at old new _ h.6.1 s _ (wait_kept (Client n)
-    (with_context (record { uid = uid; gid = gid; thread = h.0; process = h.1; session = h.2; user = h.3 })) (λ x. refl) h.4.sessions s
+    (with_context (record { uid = hello.uid; gid = hello.gid; thread = h.0; process = h.1; session = h.2; user = h.3 })) (λ x. refl) h.4.sessions s
     ∙ ap (λ (x : Sessions). wait_of x s) same)))
 telling old now e a new (begins t asker typ description callout r ring k ev can is depth fresh ra w) good idle builds =
     let authority : Authority = authority_for asker typ description now callout ring in

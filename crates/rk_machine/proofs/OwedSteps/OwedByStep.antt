@@ -304,11 +304,11 @@ moves old now e a new (went n ev there ra w) idle not_owed =
     let one = client_there old.sessions n there in
     let was : places old.sessions (Client n) ≡ 1 + wait_owes one.0 = places_there old.sessions (Client n) one.0 one.1 in
     by_step old new _ e _ a _ ev ra w (replaced old (tidied (gone n old)) (Gone (Client n)) done 0 refl (places_went n old.sessions) (omega arith))
-moves old now e a new (greets n uid gid thread process join ev can none ok h) idle not_owed =
+moves old now e a new (greets n hello ev can none ok h) idle not_owed =
     let same : h.4.sessions ≡ old.sessions = greeted_sessions _ old h.4 h.0 h.1 h.2 h.3 h.5 in
-    let f : Session → Session = with_context (record { uid = uid; gid = gid; thread = h.0; process = h.1; session = h.2; user = h.3 }) in
+    let f : Session → Session = with_context (record { uid = hello.uid; gid = hello.gid; thread = h.0; process = h.1; session = h.2; user = h.3 }) in
     by_step old new _ e _ a _ ev h.6.0 h.6.1
-    (rests old (in_sessions (session_changed (Client n) f h.4.sessions) h.4) (Asked (Client n) (ask.Hello uid gid thread process join))
+    (rests old (in_sessions (session_changed (Client n) f h.4.sessions) h.4) (Asked (Client n) (ask.Hello hello))
     (Done (Rings (unwrap_or h.0 0) (unwrap_or h.1 0) h.2 h.3)) refl refl
     (λ t. places_kept (Client n) f (λ x. refl) h.4.sessions t ∙ ap (λ (s : Sessions). places s t) same))
 moves old now e a new (begins s asker typ description callout r ring k ev can is depth fresh ra w) idle not_owed =

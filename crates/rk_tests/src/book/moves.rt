@@ -2,7 +2,7 @@
 use crate::book::words::{Fault, number, payload, serial, session, words};
 use rk_client::{ask_of, op_named};
 use rk_core::{Event, How, Ran};
-use rk_message::Ask;
+use rk_message::{Ask, Greeting};
 use rk_names::{Description, Moment, Payload, Serial, SessionId, TypeName};
 use std::alloc::{AllocError, Global};
 
@@ -129,11 +129,11 @@ fn bytes_of<'a>(alloc: Global, words: &[&'a str]) -> Result<Vec<&'a [u8]>, Alloc
 fn hello(uid: &str, gid: &str, rings: &str, join: &str) -> Result<Ask, Fault> {
     let (uid, gid) = (number(uid)?, number(gid)?);
     let (rings, join) = (number(rings)?, number(join)?);
-    Ok(Ask::Hello {
+    Ok(Ask::Hello(Greeting {
         uid,
         gid,
         thread: rings % 2 == 1,
         process: rings / 2 == 1,
         join: Serial::new(join),
-    })
+    }))
 }

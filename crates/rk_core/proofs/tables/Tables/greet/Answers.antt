@@ -4,7 +4,7 @@ use Rattle.rk_rings.specs.declared.kind.RingKind.TheVariants as kind
 use Rattle.rk_auth.specs.Changes.{session_changed, with_context}
 use Rattle.rk_machine.specs.declared.event.Answer.TheVariants.{Done}
 use Rattle.rk_machine.specs.World.{World}
-use Rattle.rk_machine.specs.declared.greeting.Greeting.{Greeting}
+use Rattle.rk_message.specs.declared.greeting.Greeting.{Greeting}
 use Rattle.rk_machine.specs.Hello.{MakesIf, HasSessionRing, HasUserRing}
 use Rattle.rk_core.specs.NewRings.{with_new_rings}
 use Rattle.rk_core.proofs.Stepping.SessionsAlone.{in_sessions}
