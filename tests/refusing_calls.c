@@ -51,6 +51,7 @@ REFUSING(ssize_t, send, (int file, const void *bytes, size_t count, int flags), 
 REFUSING(int, accept4, (int file, __SOCKADDR_ARG name, socklen_t *length, int flags), (file, name, length, flags))
 REFUSING(int, socket, (int domain, int type, int protocol), (domain, type, protocol))
 REFUSING(int, bind, (int file, __CONST_SOCKADDR_ARG name, socklen_t length), (file, name, length))
+REFUSING(int, getentropy, (void *bytes, size_t count), (bytes, count))
 REFUSING(int, listen, (int file, int waiting), (file, waiting))
 REFUSING(int, chmod, (const char *path, mode_t mode), (path, mode))
 REFUSING(int, pipe2, (int ends[2], int flags), (ends, flags))

@@ -8,9 +8,9 @@ from daemon import Client, until
 from scenes import CONF, Gated, greeted, library, negated, nested, played_twice, said
 
 # what is told where the daemon does not start
-LINES = ["reqkeyd: conf", "reqkeyd: socket", "reqkeyd: memory"]
+LINES = ["reqkeyd: conf", "reqkeyd: random", "reqkeyd: socket", "reqkeyd: memory"]
 
-AT_START = ["open", "read", "socket", "bind", "listen", "chmod"]
+AT_START = ["open", "read", "getentropy", "socket", "bind", "listen", "chmod"]
 
 # of each call what may come in place of a reply: no key, since a start or a handler has failed, or the end of a connection
 LATER = {

@@ -16,6 +16,7 @@ use std::fs::Files;
 use std::io::{Eprint, Read, Write};
 use std::net::Net;
 use std::process::{Processes, SystemProcess};
+use std::random::RandomSource;
 use std::sync::Wait;
 use std::thread::Threads;
 use std::time::Clock;
@@ -114,6 +115,7 @@ pub fn run_words<
         + Clock
         + Eprint
         + Log
+        + RandomSource
         + AllocGlobal
         + Clone
         + Send
@@ -188,6 +190,7 @@ fn daemon<
         + Clock
         + Eprint
         + Log
+        + RandomSource
         + AllocGlobal
         + Clone
         + Send

@@ -1,5 +1,6 @@
 //! An argument of a line that borrows it, read and not copied yet.
-ghost use Rattle.std.specs.Prelude.{◌≡◌, ◌≢◌, ◌<◌, ◌≤◌, ℕ, ◌&&◌, is_none, length, slice_index, true, Some, None, IfOk, IfSome, MatchOption, option_map, option_copied};
+ghost use Rattle.std.specs.Prelude.{◌≡◌, ◌≢◌, ◌<◌, ◌≤◌, ℕ, ◌&&◌, is_none, length, slice_index, true, Some, None, IfOk, IfSome, MatchOption, option_map};
+ghost use Rattle.std.specs.Prelude.{option_copied};
 ghost use Rattle.rk_text.specs.Text.{is_text};
 ghost use Rattle.rk_names.specs.Rules.{type_fault, description_fault};
 ghost use Rattle.rk_conf.specs.Macros.{argument_of, macro_of, letter_macro, payload_macro, wanted_of, in_braces};

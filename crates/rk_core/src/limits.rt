@@ -10,4 +10,6 @@ pub struct Limits {
     pub first: Serial,
     /// How far the next one is from it, at least 1.
     pub stride: u32,
+    /// With what the names of keys are hashed: who does not know it can't choose names that make a search slow. No answer depends on it.
+    pub seed: u64,
 }

@@ -50,7 +50,7 @@ impl Tables {
         requires { 1 ≤ limits.stride }
         ensures { IfOk result (λ t. t ≡ empty_world limits.negative limits.first limits.stride) }
     {
-        let keys = Keys::new(alloc, limits.first, limits.stride)?;
+        let keys = Keys::new(alloc, limits.first, limits.stride, limits.seed)?;
         let auths = Auths::new(alloc)?;
         Ok(Tables {
             alloc,

@@ -12,6 +12,9 @@ pub enum Fault {
     /// The configuration has a fault.
     #[error("conf {0}")]
     Conf(ConfFault),
+    /// The system has no random bytes.
+    #[error("random")]
+    Random,
     /// The socket can't be opened.
     #[error("socket")]
     Socket,

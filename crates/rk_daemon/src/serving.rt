@@ -19,6 +19,7 @@ use std::marker::Brand;
 use std::net::Net;
 use std::os::unix::net::UnixListener;
 use std::process::{Processes, SystemProcess};
+use std::random::RandomSource;
 use std::sync::{Arc, Wait};
 use std::thread::Threads;
 use std::time::{Clock, Instant};
@@ -51,6 +52,7 @@ fn serve_at<
     rt: &R,
     alloc: Global,
     fresh: Fresh,
+    seed: u64,
     conf: Conf,
     listener: UnixListener,
     settings: &Settings<'_>,
@@ -61,7 +63,7 @@ fn serve_at<
     requires two { (fresh.two.calls.name ≡ N.name 4) × (fresh.two.out.name ≡ N.name 5) }
     requires three { (fresh.three.calls.name ≡ N.name 6) × (fresh.three.out.name ≡ N.name 7) }
 {
-    let halls: Halls<N> = Halls::with_volume(alloc, fresh, settings.negative, VOLUME)?;
+    let halls: Halls<N> = Halls::with_volume(alloc, fresh, settings.negative, seed, VOLUME)?;
     let Ok(begun) = Instant::now(rt) else {
         return Err(AllocError);
     };
@@ -108,13 +110,14 @@ fn serve_named<
 >(
     rt: &R,
     alloc: Global,
+    seed: u64,
     conf: Conf,
     listener: UnixListener,
     settings: &Settings<'_>,
     errors: &mut E,
 ) -> Result<(), AllocError> {
     let fresh = Fresh::new();
-    serve_at::<Brand, R, E>(rt, alloc, fresh, conf, listener, settings, errors)
+    serve_at::<Brand, R, E>(rt, alloc, fresh, seed, conf, listener, settings, errors)
 }
 
 /// The configuration of the file at the path.
@@ -130,8 +133,19 @@ fn conf_at<R: Files + AllocGlobal>(rt: &R, path: &str) -> Result<Conf, Fault>
     }
 }
 
-/// Reads the configuration, takes the path of the socket, and serves connections: for good, or until so many have come as the settings say, and those
-/// are served out. `errors` is told once connections are accepted.
+/// With what names are hashed in this run: nobody else knows it.
+fn random_seed<R: RandomSource>(rt: &R) -> Result<u64, Fault>
+    ensures { IfErr result (λ fault. fault ≡ Fault.Random) }
+{
+    let mut bytes = [0; 8];
+    match rt.fill_bytes(&mut bytes) {
+        Ok(()) => Ok(u64::from_le_bytes(bytes)),
+        Err(_) => Err(Fault::Random),
+    }
+}
+
+/// Reads the configuration, draws the seed of this run, takes the path of the socket, and serves connections: for good, or until so many have come as
+/// the settings say, and those are served out. `errors` is told once connections are accepted.
 pub fn serve<
     R: Files
         + Net
@@ -141,6 +155,7 @@ pub fn serve<
         + Clock
         + Eprint
         + Log
+        + RandomSource
         + AllocGlobal
         + Clone
         + Send
@@ -151,10 +166,11 @@ pub fn serve<
     ensures { IfErr result IsFound }
 {
     let conf = conf_at(rt, settings.conf)?;
+    let seed = random_seed(rt)?;
     let Ok((listener, taken)) = take(rt, settings.socket, settings.mode) else {
         return Err(Fault::Socket);
     };
-    let served = serve_named(rt, rt.alloc(), conf, listener, settings, errors);
+    let served = serve_named(rt, rt.alloc(), seed, conf, listener, settings, errors);
     give_free(rt, settings.socket, taken);
     match served {
         Ok(()) => Ok(()),

@@ -1,8 +1,10 @@
 //! Four halls that threads share.
-ghost use Rattle.std.specs.Prelude.{◌≡◌, ◌≢◌, ◌↔◌, ◌+◌, ◌<◌, ◌≤◌, ℕ, true, is_some, IfOk, IfErr, OnErr, Ok, Err, Some, None, IfSome, MatchOption, if◌then◌else◌};
+ghost use Rattle.std.specs.Prelude.{◌≡◌, ◌≢◌, ◌↔◌, ◌+◌, ◌<◌, ◌≤◌, ℕ, true, is_some, IfOk, IfErr, OnErr, Ok, Err, Some, None, IfSome, MatchOption};
+ghost use Rattle.std.specs.Prelude.{if◌then◌else◌};
 ghost use Rattle.rk_machine.specs.Owing.{is_followed};
 ghost use Rattle.rk_record.specs.Copies.{told_of, started};
-ghost use Rattle.rk_hall.specs.Seats.{new_seat, part, with_part, after_call, IsCall, CallRefused, negated, runs_on, without_client, IsOutcomeOrNone, OwedPart, OwedSeen};
+ghost use Rattle.rk_hall.specs.Seats.{new_seat, part, with_part, after_call, IsCall, CallRefused, negated, runs_on, without_client, IsOutcomeOrNone};
+ghost use Rattle.rk_hall.specs.Seats.{OwedPart, OwedSeen};
 
 use crate::fresh::Fresh;
 use crate::lapse::{CallFault, Lapse, Owed};
@@ -83,14 +85,20 @@ macro_rules! goes_on {
 
 impl<N: Names> Halls<N> {
     /// Four halls without a step, with these ledgers. Each draws every fourth serial: hall 0 from 4 on, any other from its number on. For so many
-    /// seconds a key is negative whose handler did not complete it. An `Err` is want of memory.
-    pub fn new(alloc: Global, fresh: Fresh, negative: u32) -> Result<Halls<N>, AllocError>
+    /// seconds a key is negative whose handler did not complete it. With the seed names are hashed: who does not know it can't choose names that make
+    /// a search slow. An `Err` is want of memory.
+    pub fn new(
+        alloc: Global,
+        fresh: Fresh,
+        negative: u32,
+        seed: u64,
+    ) -> Result<Halls<N>, AllocError>
         requires zero { (fresh.zero.calls.name ≡ N.name 0) × (fresh.zero.out.name ≡ N.name 1) }
         requires one { (fresh.one.calls.name ≡ N.name 2) × (fresh.one.out.name ≡ N.name 3) }
         requires two { (fresh.two.calls.name ≡ N.name 4) × (fresh.two.out.name ≡ N.name 5) }
         requires three { (fresh.three.calls.name ≡ N.name 6) × (fresh.three.out.name ≡ N.name 7) }
     {
-        Halls::with_volume(alloc, fresh, negative, MAX_STEPS)
+        Halls::with_volume(alloc, fresh, negative, seed, MAX_STEPS)
     }
 
     /// The same, with volumes of at most so many steps, at least 1 and at most 1,048,576.
@@ -98,6 +106,7 @@ impl<N: Names> Halls<N> {
         alloc: Global,
         fresh: Fresh,
         negative: u32,
+        seed: u64,
         steps: usize,
     ) -> Result<Halls<N>, AllocError>
         requires zero { (fresh.zero.calls.name ≡ N.name 0) × (fresh.zero.out.name ≡ N.name 1) }
@@ -113,10 +122,10 @@ impl<N: Names> Halls<N> {
             three,
         } = fresh;
         Ok(Halls {
-            zero: Lock::open(alloc, HallNo::Zero, negative, steps, zero)?,
-            one: Lock::open(alloc, HallNo::One, negative, steps, one)?,
-            two: Lock::open(alloc, HallNo::Two, negative, steps, two)?,
-            three: Lock::open(alloc, HallNo::Three, negative, steps, three)?,
+            zero: Lock::open(alloc, HallNo::Zero, negative, seed, steps, zero)?,
+            one: Lock::open(alloc, HallNo::One, negative, seed, steps, one)?,
+            two: Lock::open(alloc, HallNo::Two, negative, seed, steps, two)?,
+            three: Lock::open(alloc, HallNo::Three, negative, seed, steps, three)?,
         })
     }
 

@@ -33,6 +33,7 @@ impl<N: Names, const H: u64> Lock<N, H> {
         alloc: Global,
         no: HallNo,
         negative: u32,
+        seed: u64,
         steps: usize,
         ledgers: Ledgers,
     ) -> Result<Lock<N, H>, AllocError>
@@ -40,7 +41,7 @@ impl<N: Names, const H: u64> Lock<N, H> {
         requires number { hall_number no ≡ H }
         requires names { (ledgers.calls.name ≡ N.name (2 * H)) × (ledgers.out.name ≡ N.name (2 * H + 1)) }
     {
-        let hall = empty_hall(alloc, no, negative, steps)?;
+        let hall = empty_hall(alloc, no, negative, seed, steps)?;
         let locked = Locked::new(hall, ledgers.calls, ledgers.out);
         Ok(Lock {
             locked: Mutex::new(locked),

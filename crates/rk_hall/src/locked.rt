@@ -1,5 +1,6 @@
 //! What is under the lock of a hall.
-ghost use Rattle.std.specs.Prelude.{◌≢◌, ◌&&◌, not, ◌≡◌, ℕ, ◌+◌, ◌-◌, ◌*◌, ◌<◌, ◌≤◌, ◌↔◌, ◌^◌, true, is_some, length, IfOk, IfErr, OnErr, OnOk, Ok, Err, Some, None, IfSome, IfNone, option_map, MatchOption};
+ghost use Rattle.std.specs.Prelude.{◌≢◌, ◌&&◌, not, ◌≡◌, ℕ, ◌+◌, ◌-◌, ◌*◌, ◌<◌, ◌≤◌, ◌↔◌, ◌^◌, true, is_some, length, IfOk, IfErr, OnErr, OnOk, Ok, Err};
+ghost use Rattle.std.specs.Prelude.{Some, None, IfSome, IfNone, option_map, MatchOption};
 ghost use Rattle.std.specs.Option.{option_map_or};
 ghost use Rattle.rk_machine.specs.Views.{is_owed, is_ready, has_wait, depth_of, Peeks};
 ghost use Rattle.rk_machine.specs.Owing.{constructions, begun, is_followed};

@@ -14,6 +14,7 @@ pub(crate) fn empty_hall(
     alloc: Global,
     no: HallNo,
     negative: u32,
+    seed: u64,
     steps: usize,
 ) -> Result<Hall, AllocError>
     requires { (1 ≤ steps) × (steps ≤ 1048576) }
@@ -26,6 +27,7 @@ pub(crate) fn empty_hall(
         negative,
         first: first_serial(no),
         stride: 4,
+        seed,
     };
     let hall = Hall::new(alloc, limits, no, steps)?;
     Ok(hall)

@@ -99,7 +99,8 @@ pub fn put_in(
     hash: u32,
     serial: u32,
 ) -> Result<(), AllocError>
-    ensures ok { OnOk result ((h : ℕ) → serials_at by_name.new.facts h ≡ (if hash == h then serials_at by_name.old.facts h ++ serial ∷ [] else serials_at by_name.old.facts h)) }
+    ensures ok { OnOk result ((h : ℕ) → serials_at by_name.new.facts h ≡
+        (if hash == h then serials_at by_name.old.facts h ++ serial ∷ [] else serials_at by_name.old.facts h)) }
     ensures err { OnErr result ((h : ℕ) → serials_at by_name.new.facts h ≡ serials_at by_name.old.facts h) }
 {
     by_name.reserve(1)?;
@@ -130,7 +131,8 @@ fn bucket_at(by_name: &mut HashTable<Bucket>, alloc: Global, hash: u32) -> Bucke
 
 /// Takes the serial of a key out of those under the hash of its name.
 pub fn take_out(by_name: &mut HashTable<Bucket>, hash: u32, serial: u32)
-    ensures { (h : ℕ) → serials_at by_name.new.facts h ≡ (if hash == h then filter (λ k. not (k == serial)) (serials_at by_name.old.facts h) else serials_at by_name.old.facts h) }
+    ensures { (h : ℕ) → serials_at by_name.new.facts h ≡
+        (if hash == h then filter (λ k. not (k == serial)) (serials_at by_name.old.facts h) else serials_at by_name.old.facts h) }
 {
     by_name.change(hash, Lose(serial));
     if is_left_empty(by_name, hash) {

@@ -102,7 +102,8 @@ impl Key {
     /// The payload of a key that stands Positive. `Busy` where it stands Building; `Own` with its
     /// error where it stands Revoked, Expired or Negative (request_key(2), "ERRORS").
     pub fn payload(&self, now: Moment) -> Result<&Payload, KeyFault>
-        ensures { MatchResult result (λ payload. (self.now.condition ≡ condition.Positive payload.now) × (use_fault self.now now ≡ None)) (λ fault. use_fault self.now now ≡ Some fault) }
+        ensures { MatchResult result (λ payload. (self.now.condition ≡ condition.Positive payload.now) × (use_fault self.now now ≡ None))
+            (λ fault. use_fault self.now now ≡ Some fault) }
     {
         if let Some(error) = self.standing(now).over() {
             return Err(KeyFault::Own(error));

@@ -1,5 +1,6 @@
 //! The keys by their serials.
-ghost use Rattle.std.specs.Prelude.{◌≡◌, ◌≤◌, ◌+◌, ◌↔◌, ◌⊎◌, ℕ, true, false, Some, None, Ok, Err, IsOk, OnErr, IfOk, IfErr, IfSome, MatchOption, MatchResult, option_map};
+ghost use Rattle.std.specs.Prelude.{◌≡◌, ◌≤◌, ◌+◌, ◌↔◌, ◌⊎◌, ℕ, true, false, Some, None, Ok, Err, IsOk, OnErr, IfOk, IfErr, IfSome, MatchOption};
+ghost use Rattle.std.specs.Prelude.{MatchResult, option_map};
 ghost use Rattle.std.specs.Bool.{MatchBool};
 ghost use Rattle.std.specs.Option.{option_copied};
 ghost use Rattle.std.specs.FinMap as map;
@@ -23,7 +24,7 @@ use rk_table::{Counts, HashTable};
 use std::alloc::{AllocError, Global};
 use std::marker::Model;
 
-/// All keys, and the serials of keys and rings. None but `new`, `seeded` and `make` takes memory. Each call takes the same time, however many
+/// All keys, and the serials of keys and rings. None but `new` and `make` takes memory. Each call takes the same time, however many
 /// keys there are, but for `make`, where a table grows, and `forget`, which walks over the serials of the keys of one name.
 #[derive(Drop)]
 pub struct Keys {
@@ -54,7 +55,11 @@ impl Model for Keys {
 
     ghost view = { λ a. record { keys = a.facts.facts; numbers = a.numbers.facts; serials = a.serials } };
 
-    ghost invariant = { λ a. record { held : IsHeld (record { keys = a.facts.facts; numbers = a.numbers.facts; serials = a.serials }); index : IsIndex a.seed a.facts.facts a.by_name.facts; counts : AreCounts a.facts.facts a.counts.facts } };
+    ghost invariant = { λ a. record {
+      held : IsHeld (record { keys = a.facts.facts; numbers = a.numbers.facts; serials = a.serials });
+      index : IsIndex a.seed a.facts.facts a.by_name.facts;
+      counts : AreCounts a.facts.facts a.counts.facts;
+    } };
 }
 
 impl Keys {
@@ -62,18 +67,14 @@ impl Keys {
     pub const MAX_PER_USER: usize = 200;
 
     /// No key, and the serials `first`, `first + stride`, `first + 2 * stride` .., none of them drawn. Room is made for the keys of one user.
-    /// It is `seeded` with 0.
-    pub fn new(alloc: Global, first: Serial, stride: u32) -> Result<Keys, AllocError>
+    /// Names are hashed with the seed: who does not know it can't choose names that make the look-up of a name slow.
+    pub fn new(alloc: Global, first: Serial, stride: u32, seed: u64) -> Result<Keys, AllocError>
         requires { 1 ≤ stride }
-        ensures { IfOk result (λ keys. keys ≡ record { keys = map.empty; numbers = map.empty; serials = record { first = first; stride = stride; used = set.empty } }) }
-    {
-        Keys::seeded(alloc, first, stride, 0)
-    }
-
-    /// The same, with a seed for the hashes of names. Who does not know it can't choose names that make the look-up of a name slow.
-    pub fn seeded(alloc: Global, first: Serial, stride: u32, seed: u64) -> Result<Keys, AllocError>
-        requires { 1 ≤ stride }
-        ensures { IfOk result (λ keys. keys ≡ record { keys = map.empty; numbers = map.empty; serials = record { first = first; stride = stride; used = set.empty } }) }
+        ensures { IfOk result (λ keys. keys ≡ record {
+          keys = map.empty;
+          numbers = map.empty;
+          serials = record { first = first; stride = stride; used = set.empty };
+        }) }
     {
         Ok(Keys {
             facts: HashTable::with_room(alloc, Keys::MAX_PER_USER)?,
@@ -104,7 +105,9 @@ impl Keys {
     /// error where it stands Revoked, Expired or Negative (request_key(2), "ERRORS").
     pub fn payload(&self, key: Serial, now: Moment) -> Result<&Payload, KeyFault>
         requires { map.contains_key self.now.keys key ≡ true }
-        ensures { IfSome (map.get self.now.keys key) (λ k. MatchResult result (λ payload. (k.condition ≡ Condition.Positive payload.now) × (use_fault k now ≡ None)) (λ fault. use_fault k now ≡ Some fault)) }
+        ensures { IfSome (map.get self.now.keys key)
+            (λ k. MatchResult result (λ payload. (k.condition ≡ Condition.Positive payload.now) × (use_fault k now ≡ None))
+            (λ fault. use_fault k now ≡ Some fault)) }
     {
         match self.fact(key) {
             Some(fact) => fact.payload(now),
@@ -222,7 +225,8 @@ impl Keys {
 
     /// Marks the key as revoked (keyctl_revoke(3)). `Own(Revoked)` exactly where it is marked already, and then nothing changes.
     pub fn revoke(&mut self, key: Serial) -> Result<(), KeyFault>
-        ensures { MatchBool (key_passes self.old.keys key is_revoked) ((result ≡ Err (KeyFault.Own KeyError.Revoked)) × (self.new ≡ self.old)) (IsOk result × (self.new ≡ with_key_changed key marked self.old)) }
+        ensures { MatchBool (key_passes self.old.keys key is_revoked) ((result ≡ Err (KeyFault.Own KeyError.Revoked)) × (self.new ≡ self.old))
+            (IsOk result × (self.new ≡ with_key_changed key marked self.old)) }
     {
         if self.fact(key).is_some_and(|fact| fact.revoked) {
             return Err(KeyFault::Own(KeyError::Revoked));
@@ -234,7 +238,8 @@ impl Keys {
     /// Lets the key expire so many seconds from now, or never for 0 (keyctl_set_timeout(3)). `Own` with
     /// its error exactly where it stands Revoked or Expired, and then nothing changes.
     pub fn set_expiry(&mut self, key: Serial, now: Moment, seconds: u32) -> Result<(), KeyFault>
-        ensures { MatchOption (change_fault self.old.keys key now) (IsOk result × (self.new ≡ with_key_changed key (timed now seconds) self.old)) (λ fault. (result ≡ Err fault) × (self.new ≡ self.old)) }
+        ensures { MatchOption (change_fault self.old.keys key now) (IsOk result × (self.new ≡ with_key_changed key (timed now seconds) self.old))
+            (λ fault. (result ≡ Err fault) × (self.new ≡ self.old)) }
     {
         if let Some(error) = self.state_at(key, now).and_then(Standing::over) {
             return Err(KeyFault::Own(error));

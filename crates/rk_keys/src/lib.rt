@@ -11,11 +11,11 @@
 //! Its clauses speak of one value: a finite map from serials to keys, a finite map from serials to numbers of names, and the set of serials that
 //! were drawn. Each call is one change of that value. A serial is never given again, also when its key is forgotten. Live keys share the number of
 //! a name exactly where their type and description are equal, so a ring can tell names apart without reading them. A refused call changes nothing.
-//! Only `new`, `seeded` and `make` take memory, and room for the keys of one user is made by the first two.
+//! Only `new` and `make` take memory, and room for the keys of one user is made by the first.
 //!
 //! # An example
 //!
-//! `Keys::new(alloc, first, 1)` with the serial 1 for `first` holds no key. `make` for the type `user` and the description `mail` answers 1, and
+//! `Keys::new(alloc, first, 1, seed)` with the serial 1 for `first` holds no key. `make` for the type `user` and the description `mail` answers 1, and
 //! the key stands Building; `complete` with a payload makes it Positive; `set_expiry` of 10 seconds at the moment 100 lets it stand Positive at 109
 //! and Expired at 110; `revoke` makes it Revoked for good. After `forget` nothing is known of it, and the next key is 2.
 //!

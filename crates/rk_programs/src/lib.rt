@@ -9,7 +9,8 @@
 //!
 //! A command is started with its own path and words, by [`made`]. The environment, the folder and standard error are the daemon's; a handler has no
 //! other descriptor of it. A handler that asks is told besides, where the launcher has a library, that it is preloaded (`LD_PRELOAD`) and that the daemon is
-//! at standard input and output (`REQKEYD_STREAMS`); so keyutils' own programs are handlers as they are. Each failure is counted, as the traits of `rk_devices` say, so that whoever drives a handler can bind each fault to a failure here.
+//! at standard input and output (`REQKEYD_STREAMS`); so keyutils' own programs are handlers as they are. Each failure is counted, as the traits of
+//! `rk_devices` say, so that whoever drives a handler can bind each fault to a failure here.
 //! That a program is really started, and what a pipe gives or takes, no contract can say.
 //!
 //! A program that came back before it was waited for, since it could not be read, would stay in the list of processes when it ends. It is kept, its pipes
@@ -17,7 +18,8 @@
 //!
 //! # How it is built
 //!
-//! `making` makes what is started of a command, `program` is a child, `programs` the launcher, `unwaited` has those that came back too early. `counting` counts.
+//! `making` makes what is started of a command, `program` is a child, `programs` the launcher, `unwaited` has those that came back too early. `counting`
+//! counts.
 #![tactic(auto)]
 
 mod counting;

@@ -79,7 +79,7 @@ impl Settings {
         if text.is_empty() { DEFAULT_CONF } else { text }
     }
 
-    /// What the machine begins with: serials are drawn from 1 on.
+    /// What the machine begins with: serials are drawn from 1 on. A script is its user's own, so that names need no secret seed.
     pub fn limits(&self) -> Limits
         ensures negative { result.negative ≡ self.now.negative }
         ensures first { result.first ≡ 1 }
@@ -89,6 +89,7 @@ impl Settings {
             negative: self.negative,
             first: Serial::new(1).unwrap(),
             stride: 1,
+            seed: 0,
         }
     }
 }

@@ -84,7 +84,9 @@ impl Rings {
         requestor: Option<Serial>,
         place: Place,
     ) -> Result<Serial, RingFault>
-        ensures { MatchResult result (λ ring. ring_at self.now context.now requestor place ≡ Some ring) (λ f. (ring_at self.now context.now requestor place ≡ None) × (f ≡ (if is_numbered_live self.now place then RingFault.Elsewhere else RingFault.NoRing))) }
+        ensures { MatchResult result (λ ring. ring_at self.now context.now requestor place ≡ Some ring)
+            (λ f. (ring_at self.now context.now requestor place ≡ None)
+            × (f ≡ (if is_numbered_live self.now place then RingFault.Elsewhere else RingFault.NoRing))) }
     {
         match place {
             Place::Nowhere => Err(RingFault::NoRing),
@@ -122,7 +124,9 @@ impl Rings {
     }
 
     fn numbered(&self, context: &Context, ring: Serial) -> Result<Serial, RingFault>
-        ensures { MatchResult result (λ r. ring_at self.now context.now None (Place.Numbered ring) ≡ Some r) (λ f. (ring_at self.now context.now None (Place.Numbered ring) ≡ None) × (f ≡ (if map.contains_key self.now ring then RingFault.Elsewhere else RingFault.NoRing))) }
+        ensures { MatchResult result (λ r. ring_at self.now context.now None (Place.Numbered ring) ≡ Some r)
+            (λ f. (ring_at self.now context.now None (Place.Numbered ring) ≡ None)
+            × (f ≡ (if map.contains_key self.now ring then RingFault.Elsewhere else RingFault.NoRing))) }
     {
         if !self.contains(ring) {
             Err(RingFault::NoRing)

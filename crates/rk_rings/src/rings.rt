@@ -50,16 +50,22 @@ impl Model for Rings {
 
     ghost view = { λ r. r.rows.facts };
 
-    ghost invariant = { λ r. record { rows : (map.len r.rows.facts ≤ 1024) × AreSerials r.rows.facts × HaveEachNameOnce r.rows.facts; users : AreUserRings r.rows.facts r.users.facts; counted : AreCounted r.rows.facts r.counts } };
+    ghost invariant = { λ r. record {
+      rows : (map.len r.rows.facts ≤ 1024) × AreSerials r.rows.facts × HaveEachNameOnce r.rows.facts;
+      users : AreUserRings r.rows.facts r.users.facts;
+      counted : AreCounted r.rows.facts r.counts;
+    } };
 }
 
 impl Rings {
-    ghost use Rattle.std.specs.Prelude.{◌≡◌, ◌≤◌, ◌<◌, ◌+◌, ◌↔◌, ◌⊎◌, ℕ, true, false, length, IsTrue, Some, None, Ok, Err, OnOk, OnErr, IfSome, IfErr, MatchOption};
+    ghost use Rattle.std.specs.Prelude.{◌≡◌, ◌≤◌, ◌<◌, ◌+◌, ◌↔◌, ◌⊎◌, ℕ, true, false, length, IsTrue, Some, None, Ok, Err, OnOk, OnErr, IfSome, IfErr};
+    ghost use Rattle.std.specs.Prelude.{MatchOption};
     ghost use Rattle.std.specs.FinMap as map;
     ghost use Rattle.std.specs.Option.{option_map, option_map_or, option_copied};
     ghost use Rattle.rk_table.specs.Maps.{changed_at};
     ghost use Rattle.rk_rings.specs.UserRings.{is_his};
-    ghost use Rattle.rk_rings.specs.Numbered.{Numbered, HasEachNameOnce, AreNew, with_rings, is_user_ring, is_full, is_full_at, holds, is_held, linked, unlinked, cleared, IsMatch};
+    ghost use Rattle.rk_rings.specs.Numbered.{Numbered, HasEachNameOnce, AreNew, with_rings, is_user_ring, is_full, is_full_at, holds, is_held, linked};
+    ghost use Rattle.rk_rings.specs.Numbered.{unlinked, cleared, IsMatch};
 
     /// No ring. It takes no memory until `make`.
     pub fn new(alloc: Global) -> Rings
@@ -103,7 +109,8 @@ impl Rings {
 
     /// The user ring of a user; `None` where none is live (user-keyring(7)).
     pub fn user_ring(&self, uid: u32) -> Option<Serial>
-        ensures { MatchOption result ((k : ℕ) (r : Numbered) → map.get self.now k ≡ Some r → is_user_ring uid r ≡ false) (λ k. option_map_or (is_user_ring uid) (map.get self.now k) false ≡ true) }
+        ensures { MatchOption result ((k : ℕ) (r : Numbered) → map.get self.now k ≡ Some r → is_user_ring uid r ≡ false)
+            (λ k. option_map_or (is_user_ring uid) (map.get self.now k) false ≡ true) }
     {
         self.users.get(uid).copied()
     }

@@ -39,7 +39,10 @@ impl Model for Row {
 
     ghost view = { λ r. record { kind = r.kind; uid = r.uid; links = r.links.facts } };
 
-    ghost invariant = { λ r. record { links : (places r.links ≡ 256) × AreSerials r.links.facts; by_name : (places r.by_name ≡ 256) × AreByName r.links.facts r.by_name.facts } };
+    ghost invariant = { λ r. record {
+      links : (places r.links ≡ 256) × AreSerials r.links.facts;
+      by_name : (places r.by_name ≡ 256) × AreByName r.links.facts r.by_name.facts;
+    } };
 }
 
 impl Row {

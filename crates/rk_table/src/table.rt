@@ -1,5 +1,6 @@
 //! The table itself, and the changes and tests that its methods take.
-ghost use Rattle.std.specs.Prelude.{◌≡◌, ◌≤◌, ◌<◌, ◌-◌, filter, map as list_map, None, OnOk, OnErr, IfOk, IsOk, option_map, find as list_find, MatchOption, false, true, vec_len, vec_capacity};
+ghost use Rattle.std.specs.Prelude.{◌≡◌, ◌≤◌, ◌<◌, ◌-◌, filter, map as list_map, None, OnOk, OnErr, IfOk, IsOk, option_map, find as list_find, MatchOption};
+ghost use Rattle.std.specs.Prelude.{false, true, vec_len, vec_capacity};
 ghost use Rattle.std.specs.Ordering.{nat_cmp};
 ghost use Rattle.std.specs.Option.{option_copied, option_map_or};
 ghost use Rattle.std.specs.List.{list_any};
@@ -124,7 +125,9 @@ impl<V> Table<V> {
 
     /// The key of an entry that passes the test; `None` where none does.
     pub fn find<T: Test<V>>(&self, test: &T) -> Option<u32>
-        ensures { MatchOption result (list_any (λ e. T.passes test.now e.0 e.1) (map.entries self.now.facts) ≡ false) (λ k. (option_map_or (T.passes test.now k) (map.get self.now.facts k) false ≡ true) × (list_any (λ e. T.passes test.now e.0 e.1) (map.entries self.now.facts) ≡ true)) }
+        ensures { MatchOption result (list_any (λ e. T.passes test.now e.0 e.1) (map.entries self.now.facts) ≡ false)
+            (λ k. (option_map_or (T.passes test.now k) (map.get self.now.facts k) false ≡ true)
+            × (list_any (λ e. T.passes test.now e.0 e.1) (map.entries self.now.facts) ≡ true)) }
     {
         find_entry(&self.entries, test)
     }

@@ -88,6 +88,7 @@ fn new_book(rt: &impl Abort, alloc: Global, first: u32) -> Result<Book, AllocErr
             negative: 60,
             first,
             stride: 1,
+            seed: 0,
         },
     )
 }

@@ -46,7 +46,7 @@ fn play_under<N: Names, R: Wait + Abort>(
     requires three { (fresh.three.calls.name ≡ N.name 6) × (fresh.three.out.name ≡ N.name 7) }
     requires steps { (1 ≤ steps) × (steps ≤ 1048576) }
 {
-    let halls: Halls<N> = Halls::with_volume(alloc, fresh, 60, steps).expect(rt, "memory");
+    let halls: Halls<N> = Halls::with_volume(alloc, fresh, 60, 0, steps).expect(rt, "memory");
     scene.play(rt, alloc, halls);
 }
 

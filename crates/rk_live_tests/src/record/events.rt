@@ -20,6 +20,7 @@ pub fn limits() -> Result<Limits, AllocError>
         negative: 60,
         first,
         stride: 4,
+        seed: 0,
     })
 }
 

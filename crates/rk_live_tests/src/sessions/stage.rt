@@ -291,7 +291,7 @@ fn in_halls<N: Names + Send + Sync, R: Wait + Abort + Threads + Clock + Sync>(
     requires two { (fresh.two.calls.name ≡ N.name 4) × (fresh.two.out.name ≡ N.name 5) }
     requires three { (fresh.three.calls.name ≡ N.name 6) × (fresh.three.out.name ≡ N.name 7) }
 {
-    let halls: Halls<N> = Halls::with_volume(alloc, fresh, 60, 1000).expect(rt, "memory");
+    let halls: Halls<N> = Halls::with_volume(alloc, fresh, 60, 0, 1000).expect(rt, "memory");
     plays(rt, alloc, halls, scene);
 }
 

@@ -89,6 +89,7 @@ fn books_begin_with_other_limits(rt: HostRuntime) -> Result<(), Fail> {
         negative: 0,
         first: Serial::new(4).expect(&rt, "a serial"),
         stride: 4,
+        seed: 0,
     };
     let mut book = Book::new(rt.alloc(), limits)?;
     let played = play_tables(

@@ -87,6 +87,7 @@ fn play_lines(
         negative: 60,
         first: Serial::new(1).ok_or(AllocError)?,
         stride: 1,
+        seed: 0,
     };
     let mut replay = Replay::new(alloc, conf, limits)?;
     let played = put_lines(alloc, &mut replay, transcript, lines);

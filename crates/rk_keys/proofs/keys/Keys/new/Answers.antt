@@ -1,7 +1,7 @@
 use Rattle.rk_keys.proofs.Held.{held_empty}
 use Rattle.rk_keys.proofs.Indexed.{index_empty}
 use Rattle.rk_keys.proofs.UserCounts.{counts_empty}
-use Rattle.rk_keys.proofs.keys.Keys.seeded.Goals as goal
+use Rattle.rk_keys.proofs.keys.Keys.new.Goals as goal
 
 pub invariant_of-result : goal.invariant_of-result
 invariant_of-result c =
