@@ -3,8 +3,8 @@
 #
 # The gate proves every crate and its tests from nothing, tries the edits of crates/NAME/must-fail one by one, and runs the tests and
 # the programs. A test of this folder is an executable test_*.sh or test_*.py; its last line is `N passed, M failed`, and what it prints
-# before that tells what failed. The log ends with what each program took of processors, with the last ten lines from each one that failed, and
-# with the names of those.
+# before that tells what failed. The log ends with what each program took of processors, the dearest last, with the last ten lines from each one that
+# failed, and with the names of those.
 set -uo pipefail
 cd "$(dirname "$0")/.."
 
@@ -67,8 +67,9 @@ export PROVED=1
 for test in tests/test_*; do
     [[ -x $test ]] && count "$test"
 done
-echo "processor seconds, $seconds in all:"
-sort -rn "$taken"
+echo "processor seconds:"
+sort -n "$taken"
+echo "$seconds in all"
 cat "$again"
 rm -f "$taken" "$used" "$again"
 [[ ${#names[@]} -eq 0 ]] || printf '%s\n' "${names[@]}"

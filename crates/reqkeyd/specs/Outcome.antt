@@ -1,8 +1,9 @@
 -- What the program does on its streams, by the words that it is called with.
-use Rattle.std.specs.Prelude.{ℕ, Bool, false, List, [], ◌∷◌, codes, Option, None, IfSome}
+use Rattle.std.specs.Prelude.{ℕ, Bool, false, List, [], ◌∷◌, codes, Option, None, IfSome, if◌then◌else◌}
 use Rattle.std.specs.Str.{bytes_eq}
 use Rattle.std.specs.Io.KnownBytes.{Appends}
 use Rattle.rk_replay.specs.Written.{IsWritten}
+use Rattle.rk_daemon.specs.Settings.{Set, settings_said}
 use Rattle.rk_preview.specs.Asked.{Asked, asked_said}
 use Rattle.rk_preview.specs.Told.{IsTold}
 
@@ -13,11 +14,11 @@ asks_replay (name ∷ []) = false
 asks_replay (name ∷ word ∷ []) = bytes_eq word (codes "replay")
 asks_replay (name ∷ word ∷ more ∷ words) = false
 
--- the word behind the name of the program is `serve`
-abbrev pub names_serve : List (List ℕ) → Bool
-names_serve [] = false
-names_serve (name ∷ []) = false
-names_serve (name ∷ word ∷ words) = bytes_eq word (codes "serve")
+-- what the words set for the daemon: behind the name of the program stands `serve`, and behind that are options
+abbrev pub asks_serve : List (List ℕ) → Option Set
+asks_serve [] = None
+asks_serve (name ∷ []) = None
+asks_serve (name ∷ word ∷ words) = if bytes_eq word (codes "serve") then settings_said words else None
 
 -- it read a script to its end and wrote what is written for it: what was left to read, and what was written, before and after
 abbrev pub HasPlayed : Option (List ℕ) → Option (List ℕ) → Option (List ℕ) → Type 0

@@ -1,8 +1,9 @@
 //! What the words ask for, done over the streams that are passed in.
-ghost use Rattle.std.specs.Prelude.{◌≡◌, ◌≤◌, true, false, map, string_bytes, IfOk, IfSome, OnErr, IsSome, option_map};
+ghost use Rattle.std.specs.Prelude.{◌≡◌, ◌≤◌, true, false, None, map, string_bytes, IfOk, IfSome, OnErr, IsSome, option_map};
 ghost use Rattle.std.specs.Io.KnownBytes.{Appends};
 ghost use Rattle.rk_preview.specs.Views.{asked_by};
-ghost use Rattle.reqkeyd.specs.Outcome.{asks_preview, asks_replay, names_serve, HasPlayed, HasShown, HasTold};
+ghost use Rattle.rk_daemon.specs.Settings.{set_by};
+ghost use Rattle.reqkeyd.specs.Outcome.{asks_preview, asks_replay, asks_serve, HasPlayed, HasShown, HasTold};
 
 use crate::args::{command, is_memory};
 use crate::showing::show;
@@ -140,8 +141,9 @@ pub fn run_words<
     ensures told { asks_replay (map string_bytes words.now) ≡ false → result ≡ 0 → HasTold (W.contents writer.old) (W.contents writer.new) }
     ensures usage { result ≡ 2 → writer.new ≡ writer.old }
 
-    // but for `serve`, whose daemon says when it is ready, nothing is said of a run that ends well.
-    ensures quiet { names_serve (map string_bytes words.now) ≡ false → result ≡ 0 → errors.new ≡ errors.old }
+    // `serve` with options that set what is to be set: the daemon says when it is ready. Of any other run that ends well nothing is said.
+    ensures serves { IsSome (asks_serve (map string_bytes words.now)) → result ≤ 1 }
+    ensures quiet { asks_serve (map string_bytes words.now) ≡ None → result ≡ 0 → errors.new ≡ errors.old }
     ensures status { result ≤ 2 }
 {
     let alloc = rt.alloc();
@@ -172,7 +174,7 @@ fn preview_of<'a>(alloc: Global, words: &'a [String]) -> Result<Option<Preview<'
 
 /// The settings of words that ask for the daemon.
 fn settings_of<'a>(words: &'a [String]) -> Option<Settings<'a>>
-    ensures { IfSome result (λ s. names_serve (map string_bytes words.now) ≡ true) }
+    ensures { option_map set_by result ≡ asks_serve (map string_bytes words.now) }
 {
     match words {
         [_, word, options @ ..] if word.as_str() == "serve" => Settings::read(options),

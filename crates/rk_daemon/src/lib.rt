@@ -6,10 +6,10 @@
 //!
 //! # How it is built
 //!
-//! `options` has the daemon's options among words, `settings` what an operator sets by them, `fault` why nothing is served. `socket`, `clock`, `gate` and
-//! `shelf` are the devices of a session: the wire over an accepted socket, seconds of the system's monotonic clock, a gate that holds nobody and hands out
-//! volumes of which `held` counts much, and a shelf that names a volume and drops it. `path` takes the socket's path and gives it free. `workers` serves
-//! the connections that `accepting` hands out, and `serving` puts it all together.
+//! `settings` has what an operator sets by options, `fault` why nothing is served. `socket`, `clock`, `gate` and `shelf` are the devices of a session:
+//! the wire over an accepted socket, seconds of the system's monotonic clock, a gate that holds nobody and hands out volumes of which `held` counts much,
+//! and a shelf that names a volume and drops it. `path` takes the socket's path and gives it free. `workers` serves the connections that `accepting`
+//! hands out, and `serving` puts it all together.
 #![tactic(auto)]
 
 mod accepting;
@@ -17,7 +17,6 @@ mod clock;
 mod fault;
 mod gate;
 mod held;
-mod options;
 mod path;
 mod serving;
 mod settings;

@@ -1,11 +1,23 @@
 //! What an operator sets.
 ghost use Rattle.std.specs.Prelude.{◌≡◌, codes, map, option_map, string_bytes};
 ghost use Rattle.std.specs.List.{list_all};
-ghost use Rattle.rk_options.specs.Values.{number_in, number_up_to, path_in};
-ghost use Rattle.rk_daemon.specs.Settings.{is_octal_digit, library_in, options_of, permissions_said, set_by, settings_said, unless_zero};
+ghost use Rattle.rk_options.specs.Said.{said_by};
+ghost use Rattle.rk_options.specs.Values.{number_in, number_up_to};
+ghost use Rattle.rk_daemon.specs.Settings.{is_octal_digit, library_in, permissions_said, set_by, set_in, settings_said, unless_zero};
 
-use crate::options::{are_known, number_or, value_of};
+use rk_options::Options;
 use rk_variables::is_library;
+
+/// The names of the options that there are; each has a value.
+const NAMES: [&str; 7] = [
+    "--socket",
+    "--conf",
+    "--negative",
+    "--sessions",
+    "--clients",
+    "--mode",
+    "--keyutils",
+];
 
 /// What an operator sets.
 #[derive(Clone, Copy, Debug)]
@@ -34,53 +46,53 @@ impl<'a> Settings<'a> {
     pub fn read(words: &'a [String]) -> Option<Settings<'a>>
         ensures { option_map set_by result ≡ settings_said (map string_bytes words.now) }
     {
-        if !are_known(words) {
+        Settings::of(&Options { words, flags: &[] })
+    }
+
+    /// The settings that the options make.
+    fn of(options: &Options<'a>) -> Option<Settings<'a>>
+        ensures { option_map set_by result ≡ set_in (said_by options.now) }
+    {
+        if !options.are_known(&NAMES) {
             return None;
         }
         Some(Settings {
-            socket: path(words, "--socket")?,
-            conf: path(words, "--conf")?,
-            negative: number_or(words, "--negative", u32::MAX, 60)?,
-            sessions: workers(words)?,
-            clients: number_or(words, "--clients", u32::MAX, 0)?,
-            mode: mode(words)?,
-            keyutils: library(words)?,
+            socket: options.value_of("--socket")??,
+            conf: options.value_of("--conf")??,
+            negative: options.number_or("--negative", u32::MAX, 60)?,
+            sessions: workers(options)?,
+            clients: options.number_or("--clients", u32::MAX, 0)?,
+            mode: mode(options)?,
+            keyutils: library(options)?,
         })
     }
 }
 
-/// The path that the option of this name gives.
-fn path<'a>(words: &'a [String], name: &str) -> Option<&'a str>
-    ensures { option_map (λ s. s.now) result ≡ path_in name.now (options_of (map string_bytes words.now)) }
-{
-    value_of(words, name)?
-}
-
 /// The number of workers.
-fn workers(words: &[String]) -> Option<u32>
-    ensures { result ≡ unless_zero (number_in (codes "--sessions") 64 (number_up_to 64) (options_of (map string_bytes words.now))) }
+fn workers(options: &Options<'_>) -> Option<u32>
+    ensures { result ≡ unless_zero (number_in (codes "--sessions") 64 (number_up_to 64) (said_by options.now)) }
 {
-    match number_or(words, "--sessions", 64, 64)? {
+    match options.number_or("--sessions", 64, 64)? {
         0 => None,
         number => Some(number),
     }
 }
 
 /// The permission bits.
-fn mode(words: &[String]) -> Option<u32>
-    ensures { result ≡ number_in (codes "--mode") 0o600 permissions_said (options_of (map string_bytes words.now)) }
+fn mode(options: &Options<'_>) -> Option<u32>
+    ensures { result ≡ number_in (codes "--mode") 0o600 permissions_said (said_by options.now) }
 {
-    match value_of(words, "--mode")? {
+    match options.value_of("--mode")? {
         Some(text) => permissions(text),
         None => Some(0o600),
     }
 }
 
 /// The library.
-fn library<'a>(words: &'a [String]) -> Option<Option<&'a str>>
-    ensures { option_map (option_map (λ s. s.now)) result ≡ library_in (codes "--keyutils") (options_of (map string_bytes words.now)) }
+fn library<'a>(options: &Options<'a>) -> Option<Option<&'a str>>
+    ensures { option_map (option_map (λ s. s.now)) result ≡ library_in (codes "--keyutils") (said_by options.now) }
 {
-    match value_of(words, "--keyutils")? {
+    match options.value_of("--keyutils")? {
         Some(path) => if is_library(path) {
             Some(Some(path))
         } else {
