@@ -1,2 +1,3 @@
 pub mod Frames
 pub mod Arguments
+pub mod Ops

@@ -1,2 +1,1 @@
-pub mod Expansions
 pub mod OneReading

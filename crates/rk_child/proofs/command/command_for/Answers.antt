@@ -3,8 +3,8 @@ use Rattle.std.specs.Prelude.{Some}
 use Rattle.rk_conf.specs.Choice.{IsChosen}
 use Rattle.rk_macro.specs.declared.subject.Subject.{Subject}
 use Rattle.rk_macro.specs.Ops.{op_name}
-use Rattle.rk_child.specs.Commands.{IsCommandFor}
-use Rattle.rk_child.proofs.Words.{words_of_calls}
+use Rattle.rk_child.specs.Commands.{IsCommandFor, any_answer}
+use Rattle.rk_macro.proofs.Lookups.{words_of_calls}
 use Rattle.rk_child.proofs.command.command_for.Goals as goal
 
 pub returns-in-Ok : goal.returns-in-Ok
@@ -18,7 +18,7 @@ returns-in-Ok g c =
       chosen = of_op;
       path = c.in-Ok.ensures.path;
       piped = c.in-Ok.ensures.piped;
-      words = words_of_calls _ s line.args c.in-Ok.command.words c.in-Ok.ensures.words;
+      words = words_of_calls _ any_answer s line.args c.in-Ok.command.words c.in-Ok.ensures.words (λ wanted r h. tt);
       short = c.in-Ok.ensures.short;
     } in
     subst (λ (x : Subject). IsCommandFor c.args.conf.now x c.in-Ok.command) c.subject-subject.ensures told

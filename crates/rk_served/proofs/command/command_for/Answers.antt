@@ -2,7 +2,8 @@ use Rattle.std.proofs.Common.{List, ℕ, rules, inr, subst}
 use Rattle.std.specs.Prelude.{Some}
 use Rattle.rk_conf.specs.Choice.{IsChosen}
 use Rattle.rk_served.specs.Commands.{looked_up}
-use Rattle.rk_served.proofs.Expansions.{words_of_calls, fails_of_calls, seen_by}
+use Rattle.rk_macro.proofs.Lookups.{words_of_calls, fails_of_calls}
+use Rattle.rk_served.proofs.Expansions.{seen_by}
 use Rattle.rk_served.proofs.command.command_for.Goals as goal
 
 pub returns-in-Ok : goal.returns-in-Ok
