@@ -2,3 +2,4 @@ pub mod WhatIsSeen
 pub mod Receipts
 pub mod Starts
 pub mod Crossing
+pub mod LedgerNames
