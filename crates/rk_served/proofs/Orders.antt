@@ -1,49 +1,16 @@
 -- Moves in the order of work, and the served lists that they make.
-use Rattle.std.proofs.Common.{◌≡◌, ℕ, ◌<◌, true, List, [], ◌∷◌, ◌++◌, Option, refl, sym, ap, ◌∙◌, subst, append_assoc}
+use Rattle.std.proofs.Common.{◌≡◌, ℕ, List, [], ◌∷◌, ◌++◌, Option, refl, sym, ap, ◌∙◌, subst, append_assoc}
 use Rattle.std.proofs.lemmas.List.{append-nil}
-use Rattle.std.specs.Prelude.{Some, None, slice_get}
+use Rattle.std.specs.Prelude.{Some, None}
 use Rattle.rk_conf.specs.declared.line.Line.{Line}
 use Rattle.rk_machine.specs.Steps.{Past}
 use Rattle.rk_served.specs.declared.happening.Happening.{Happening}
 use Rattle.rk_served.specs.declared.output.Output.{Output}
-use Rattle.rk_served.specs.declared.peer.Peer.{Peer}
-use Rattle.rk_served.specs.declared.peer.Channel.TheVariants.{Talks}
-use Rattle.rk_names.specs.declared.numbers.SessionId.TheVariants.{Client, Handler}
-use Rattle.rk_served.specs.Left.{Left, peer, Part}
-use Rattle.rk_served.specs.Moves.{Move, collects, refuses, asks, shuts_client, shuts_handler, Moves, CannotMove}
+use Rattle.rk_served.specs.Left.{Left, Part}
+use Rattle.rk_served.specs.Moves.{Moves}
 use Rattle.rk_served.specs.Served.{Turn, outputs_of, ServesBy, ServedFrom}
-use Rattle.rk_served.specs.Standing.{are_in_order}
 use Rattle.rk_served.specs.Order.{MovesFirst, MovesInOrder, ServesInOrder, ServedInOrderFrom}
-use Rattle.rk_served.specs.Calls.{MovesOne, MovesNext, MovesSome, RestsAt}
-use Rattle.rk_served.proofs.Standings.{first_at}
-
--- ---- one move
-
--- who moves has a peer there
-mover_of : (conf : List Line) (now : ℕ) (old : Left) (index : ℕ) (part : Part) (new : Left) → Move conf now old index part new → (x : Peer)
-    × (slice_get old.peers index ≡ Some x)
-mover_of conf now old index part new (collects m) = (peer m.who (Talks m.stream) m.made_for, m.at)
-mover_of conf now old index part new (refuses m) = (peer m.who (Talks m.stream) m.made_for, m.free.at)
-mover_of conf now old index part new (asks m) = (peer m.who (Talks m.stream) m.made_for, m.free.at)
-mover_of conf now old index part new (shuts_client m) = (peer (Client m.client) (Talks m.stream) m.made_for, m.free.at)
-mover_of conf now old index part new (shuts_handler m) = (peer (Handler m.key) (Talks m.stream) m.made_for, m.free.at)
-
--- the peers in front of it can't move
-pub moves_next : (conf : List Line) (now i : ℕ) (old : Left) (put : List Output) (new : Left) (put' : List Output) → are_in_order old.peers ≡ true
-    → ((k : ℕ) → k < i → RestsAt old k) → MovesOne conf now i old put new put' → MovesNext conf now old put new put'
-moves_next conf now i old put new put' order below one =
-    let mover = mover_of conf now old i one.part new one.move in
-    record {
-      part = one.part;
-      first = record {
-        index = i;
-        mover = mover.0;
-        at = mover.1;
-        first = first_at (λ x. CannotMove old.world x.who x.channel) old.peers i mover.0 mover.1 order below;
-        move = one.move;
-      };
-      outputs = one.outputs;
-    }
+use Rattle.rk_served.specs.Calls.{MovesNext, MovesSome}
 
 -- ---- one move more
 
@@ -55,9 +22,6 @@ moves_push : (conf : List Line) (now : ℕ) (parts : List Part) (old mid new : L
     → MovesFirst conf now mid part new → MovesInOrder conf now old (parts ++ part ∷ []) new
 moves_push conf now [] old mid new part same move = (new, subst (λ (l : Left). MovesFirst conf now l part new) same move, refl)
 moves_push conf now (p ∷ ps) old mid new part h move = (h.0, h.1, moves_push conf now ps h.0 mid new part h.2 move)
-
-pub moves_none : (conf : List Line) (now : ℕ) (old : Left) (put : List Output) → MovesSome conf now old put old put
-moves_none conf now old put = record { parts = []; moves = refl; outputs = sym (append-nil put) }
 
 pub moves_more : (conf : List Line) (now : ℕ) (old mid new : Left) (put put' put'' : List Output) → MovesSome conf now old put mid put'
     → MovesNext conf now mid put' new put'' → MovesSome conf now old put new put''

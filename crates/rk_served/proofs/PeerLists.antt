@@ -1,5 +1,5 @@
 -- What a list of peers has for each session, after each change of it.
-use Rattle.std.proofs.Common.{◌≡◌, ◌⊎◌, ℕ, zero, suc, Bool, true, false, cond, not, ◌&&◌, List, [], ◌∷◌, ◌++◌, take, refl, sym, ap, ◌∙◌, inl, inr}
+use Rattle.std.proofs.Common.{◌≡◌, ◌⊎◌, ℕ, zero, suc, Bool, true, false, cond, not, ◌&&◌, List, [], ◌∷◌, ◌++◌, refl, sym, ap, ◌∙◌, inl, inr}
 use Rattle.std.specs.Prelude.{Option, Some, None, is_some, option_map, slice_get, slice_set}
 use Rattle.std.specs.List.{remove}
 use Rattle.rk_names.specs.declared.numbers.SessionId.{SessionId}
@@ -283,29 +283,3 @@ removed_at (x ∷ xs) (suc i) s y apart at is =
         let has : is_some (sort_at xs y.who) ≡ true = at_has xs i y at in
         let lacks : is_some (sort_at xs y.who) ≡ false = ap (λ v. is_some (sort_at xs v)) (sym g) ∙ ap is_some (no_peer xs x.who parts.0) in
         cc)
-
--- ---- a search from the front
-
-pub peer_more : (xs : List Peer) (i : ℕ) (x : Peer) (s : SessionId) → peer_of (take i xs) s ≡ None → slice_get xs i ≡ Some x → same_session x.who s ≡ false
-    → peer_of (take (suc i) xs) s ≡ None
-peer_more [] i x s none at other = refl
-peer_more (z ∷ zs) zero x s none at other = ap (λ (v : Peer). cond (same_session v.who s) (Some v) None) (some_peer at)
-    ∙ ap (λ (b : Bool). cond b (Some x) None) other
-peer_more (z ∷ zs) (suc i) x s none at other = by_test (peer_more zs i x s) (same_session z.who s) none
-  where
-    by_test : (peer_of (take i zs) s ≡ None → slice_get zs i ≡ Some x → same_session x.who s ≡ false → peer_of (take (suc i) zs) s ≡ None) → (b : Bool)
-        → cond b (Some z) (peer_of (take i zs) s) ≡ None → cond b (Some z) (peer_of (take (suc i) zs) s) ≡ None
-    by_test rest true h = absurd (cc)
-    by_test rest false h = rest h at other
-
-pub peer_found : (xs : List Peer) (i : ℕ) (x : Peer) (s : SessionId) → peer_of (take i xs) s ≡ None → slice_get xs i ≡ Some x → same_session x.who s ≡ true
-    → peer_of xs s ≡ Some x
-peer_found [] i x s none at same = absurd (cc)
-peer_found (z ∷ zs) zero x s none at same = ap (λ (v : Peer). cond (same_session v.who s) (Some v) (peer_of zs s)) (some_peer at)
-    ∙ ap (λ (b : Bool). cond b (Some x) (peer_of zs s)) same
-peer_found (z ∷ zs) (suc i) x s none at same = by_test (peer_found zs i x s) (same_session z.who s) none
-  where
-    by_test : (peer_of (take i zs) s ≡ None → slice_get zs i ≡ Some x → same_session x.who s ≡ true → peer_of zs s ≡ Some x) → (b : Bool)
-        → cond b (Some z) (peer_of (take i zs) s) ≡ None → cond b (Some z) (peer_of zs s) ≡ Some x
-    by_test rest true h = absurd (cc)
-    by_test rest false h = rest h at same

@@ -1,7 +1,7 @@
 -- The peers stand in order, after each change of them.
-use Rattle.std.proofs.Common.{◌≡◌, ℕ, zero, suc, ◌+◌, ◌<◌, ◌≤◌, Bool, true, false, cond, not, ◌&&◌, List, [], ◌∷◌, ◌++◌, refl, sym, ap, ◌∙◌, subst}
-use Rattle.std.proofs.Common.{arith, length, take, drop, get_or, ltb, take-append-drop}
-use Rattle.std.specs.Prelude.{Option, Some, None, IfSome, slice_get, slice_set, insert, position, unwrap_or}
+use Rattle.std.proofs.Common.{◌≡◌, ℕ, zero, suc, ◌+◌, ◌≤◌, Bool, true, false, cond, not, ◌&&◌, List, [], ◌∷◌, ◌++◌, refl, sym, ap, ◌∙◌, subst}
+use Rattle.std.proofs.Common.{arith, length, take, drop, get_or, take-append-drop}
+use Rattle.std.specs.Prelude.{Option, Some, None, slice_get, slice_set, insert, unwrap_or}
 use Rattle.std.specs.List.{All, list_all, position_or_len, remove}
 use Rattle.std.proofs.lemmas.Bool.Decides.{nat_tests}
 use Rattle.std.proofs.lemmas.List.Sums.{prefix_len-le-length}
@@ -103,14 +103,6 @@ order_inserted (z ∷ zs) y order = by_test (order_inserted zs y) (comes_before 
         (both_of (list_all (λ x. not (comes_before x.who z.who)) (insert zs i y)) (are_in_order (insert zs i y))
         (all_inserted (λ x. not (comes_before x.who z.who)) zs i y parts.0 (ap not e)) (rest parts.1))
 
--- the place of the first that passes, or the end
-pub position_or_end : (p : Peer → Bool) (xs : List Peer) → unwrap_or (position p xs) (length xs) ≡ position_or_len p xs
-position_or_end p xs = by_test (ltb (position_or_len p xs) (length xs)) refl
-  where
-    by_test : (b : Bool) → ltb (position_or_len p xs) (length xs) ≡ b → unwrap_or (cond b (Some (position_or_len p xs)) None) (length xs) ≡ position_or_len p xs
-    by_test true e = refl
-    by_test false e = (let most = prefix_len-le-length (λ x. not (p x)) xs in grind (arith, nat_tests))
-
 pub position_within : (p : Peer → Bool) (xs : List Peer) → position_or_len p xs ≤ length xs
 position_within p xs = prefix_len-le-length (λ x. not (p x)) xs
 
@@ -184,17 +176,3 @@ none_before P s (x ∷ xs) e =
     let parts = both (not (comes_before x.who s)) (list_all (λ x. not (comes_before x.who s)) xs) e in
     All-cons (λ x. comes_before x.who s ≡ true → P x) x xs (λ before. absurd (let h : not (comes_before x.who s) ≡ false = ap not before in let k = parts.0 in
     cc)) (none_before P s xs parts.1)
-
--- where the peers in front of a place have this, all who come before the one at the place have it
-pub first_at : (P : Peer → Type 0) (xs : List Peer) (i : ℕ) (x : Peer) → slice_get xs i ≡ Some x → are_in_order xs ≡ true
-    → ((k : ℕ) → k < i → IfSome (slice_get xs k) P) → All (λ y. comes_before y.who x.who ≡ true → P y) xs
-first_at P [] i x at order below = absurd (cc)
-first_at P (z ∷ zs) zero x at order below =
-    let parts = both (list_all (λ y. not (comes_before y.who z.who)) zs) (are_in_order zs) order in
-    let same : z.who ≡ x.who = ap (λ (v : Peer). v.who) (some_peer at) in
-    subst (λ (s : SessionId). All (λ y. comes_before y.who s ≡ true → P y) (z ∷ zs)) same
-    (none_before P z.who (z ∷ zs)
-    (both_of (not (comes_before z.who z.who)) (list_all (λ y. not (comes_before y.who z.who)) zs) (ap not (before_self z.who)) parts.0))
-first_at P (z ∷ zs) (suc i) x at order below =
-    let parts = both (list_all (λ y. not (comes_before y.who z.who)) zs) (are_in_order zs) order in
-    All-cons (λ y. comes_before y.who x.who ≡ true → P y) z zs (λ _. below 0 (omega arith)) (first_at P zs i x at parts.1 (λ k h. below (suc k) (omega arith)))
