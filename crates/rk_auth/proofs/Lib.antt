@@ -1,1 +1,4 @@
 pub mod Walks
+pub mod Rows
+pub mod Runs
+pub mod Index

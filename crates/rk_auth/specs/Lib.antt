@@ -4,5 +4,6 @@ pub mod Circles
 pub mod Walk
 pub mod Faults
 pub mod Held
+pub mod Waiting
 pub use Rattle.rk_table.specs.Maps
 pub use Rattle.rk_table.specs.Says

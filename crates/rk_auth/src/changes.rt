@@ -5,7 +5,7 @@ ghost use Rattle.rk_auth.specs.Changes.{in_stage, in_handler, in_new_stage, with
 use crate::construction::{Construction, Stage};
 use crate::session::{Outcome, Session, Wait};
 use rk_names::{Context, Serial, Setting};
-use rk_table::{Change, ChangeOnce};
+use rk_table::ChangeOnce;
 
 /// Gives a session its context.
 #[derive(Clone, Copy)]
@@ -141,28 +141,14 @@ pub struct Tell {
     pub outcome: Outcome,
 }
 
-impl Change<Session> for Tell {
+impl ChangeOnce<Session> for Tell {
     ghost changed = { λ c s. told c.key c.outcome s };
 
-    fn change(&self, session: &mut Session) {
+    fn change(self, session: &mut Session) {
         if let Some(wait) = &mut session.wait {
             if wait.key == self.key {
                 wait.outcome = Some(self.outcome);
             }
-        }
-    }
-}
-
-/// The same, for the handler's session.
-#[derive(Clone, Copy)]
-pub struct TellHandler(pub Tell);
-
-impl Change<Construction> for TellHandler {
-    ghost changed = { λ c one. in_handler (told c.0.key c.0.outcome) one };
-
-    fn change(&self, construction: &mut Construction) {
-        if let Stage::Plain(session) = &mut construction.stage {
-            self.0.change(session);
         }
     }
 }

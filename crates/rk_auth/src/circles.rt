@@ -4,12 +4,12 @@ ghost use Rattle.std.specs.FinMap as map;
 ghost use Rattle.rk_auth.specs.Walk.{leads_within, next_of};
 
 use crate::construction::Construction;
+use crate::waiting::Waiting;
 use rk_names::Serial;
-use rk_table::Table;
 
 /// From the key, by its handler and the key on which that one waits, one comes to the handler of
 /// `own`. A chain that does not come back has no more links than there are constructions.
-pub fn leads(constructions: &Table<Construction>, key: Serial, own: Serial) -> bool
+pub fn leads(constructions: &Waiting<Construction>, key: Serial, own: Serial) -> bool
     ensures { result ≡ leads_within constructions.now.facts (map.len constructions.now.facts) key own }
 {
     let bound = constructions.len();
@@ -26,7 +26,7 @@ pub fn leads(constructions: &Table<Construction>, key: Serial, own: Serial) -> b
     at == own
 }
 
-fn next_key(constructions: &Table<Construction>, key: Serial) -> Option<Serial>
+fn next_key(constructions: &Waiting<Construction>, key: Serial) -> Option<Serial>
     ensures { result ≡ next_of constructions.now.facts key }
 {
     let session = constructions.get(key.get())?.stage.handler()?;

@@ -22,9 +22,11 @@
 //! # How it is built
 //!
 //! Two tables: the constructions by their keys, with the plain handler's session inside its stage, so that a launch needs no room and an
-//! ending is one removal; and the clients by their numbers, with room for 64. `changes` has what is done to one entry, `circles` the walk
-//! from a key to the handler that makes it and the key on which that one waits. A look-up halves the entries of its table, and `spend`
-//! walks over all sessions; no contract says so.
+//! ending is one removal; and the clients by their numbers, with room for 64. Each is a `Waiting` (`waiting`), a table with an index of its
+//! waiters (`waiters`), in the order of the keys for which they wait: `spend` finds those of one key by halves, and goes through no others. The
+//! index has a place for each entry, reserved with the entry's own, so that a wait takes no memory. `changes` has what is done to one entry,
+//! `circles` the walk from a key to the handler that makes it and the key on which that one waits. A look-up halves the entries of its
+//! table; no contract says so.
 #![tactic(auto)]
 
 mod auths;
@@ -33,6 +35,8 @@ mod circles;
 mod construction;
 mod fault;
 mod session;
+mod waiters;
+mod waiting;
 
 pub use auths::{Auths, MAX_CLIENTS, MAX_DEPTH};
 pub use construction::{Authority, Construction, Stage};

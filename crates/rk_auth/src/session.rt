@@ -1,4 +1,5 @@
 //! Sessions, and what they wait for.
+use crate::waiting::Waits;
 use rk_names::{Context, KeyError, Serial, Setting};
 
 /// What those who waited for a key are told.
@@ -48,5 +49,15 @@ impl Session {
             assumed: None,
             wait: None,
         }
+    }
+}
+
+impl Waits for Session {
+    ghost use Rattle.rk_auth.specs.Sessions.{waited_key};
+
+    ghost waited = { waited_key };
+
+    fn waited(&self) -> Option<Serial> {
+        Some(self.wait.as_ref()?.key)
     }
 }
