@@ -16,11 +16,16 @@ use Rattle.rk_keys.specs.contracts.serials.Serials as serials
 use Rattle.rk_rings.specs.contracts.row.Row as row
 use Rattle.rk_rings.specs.contracts.rings.Rings as rings
 use Rattle.rk_auth.specs.contracts.construction.Construction as construction
+use Rattle.rk_auth.specs.contracts.construction.ConstructionWaits.TheImpl as construction_waits
 use Rattle.rk_auth.specs.contracts.construction.Stage as stage
 use Rattle.rk_auth.specs.contracts.construction.Authority as authority
 use Rattle.rk_auth.specs.contracts.session.Wait as wait
 use Rattle.rk_names.specs.contracts.context.Context as context
 use Rattle.rk_auth.specs.contracts.session.Session as session
+use Rattle.rk_auth.specs.contracts.session.SessionWaits.TheImpl as session_waits
+use Rattle.rk_auth.specs.declared.waiting.Waits as waits
+use Rattle.rk_auth.specs.contracts.waiters.Waiters as waiters
+use Rattle.rk_auth.specs.contracts.waiting.Waiting as waiting
 use Rattle.rk_auth.specs.contracts.auths.Auths as auths
 use Rattle.rk_core.specs.contracts.book.Book as book
 use Rattle.rk_message.specs.contracts.ask.Ask as ask
@@ -102,10 +107,16 @@ authority_send = let c = context_send in search (sendable, crosses) depth 40 fit
 pub construction_send : IsSend construction.the_row
 construction_send = let s = stage_send in let a = authority_send in search (sendable, crosses) depth 40 fits 20000
 
+pub waiters_send : IsSend waiters.the_row
+waiters_send = search (sendable, crosses) depth 40 fits 20000
+
+pub waiting_send : (V : RattleType) (g : waits.Ghosts V.Denot) → IsSend V → IsSend (waiting.the_row V g)
+waiting_send V g v = let t = table_send V v in let w = waiters_send in search (sendable, crosses) depth 40
+
 pub auths_send : IsSend auths.the_row
 auths_send =
-    let c = table_send construction.the_row construction_send in
-    let s = table_send session.the_row session_send in
+    let c = waiting_send construction.the_row construction_waits.ghosts construction_send in
+    let s = waiting_send session.the_row session_waits.ghosts session_send in
     search (sendable, crosses) depth 40
 
 -- ---- the book and the record of its steps
