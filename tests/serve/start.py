@@ -72,6 +72,13 @@ def takes(program, *options):
         return differs((rings, daemon.end(), daemon.path.exists()), ((0, 0, 4, 8), (0, []), False))
 
 
+def goes_on(program, *options):
+    """It serves one client after the other, and does not end."""
+    with Daemon(program, "", *options) as daemon:
+        rings = [Client(daemon.path, 1000).rings for _ in range(3)]
+        return differs(rings, [(0, 0, at, 8) for at in [4, 12, 16]]) or daemon.lives()
+
+
 def faults(program, conf, want):
     """A fault of the start: its line alone, and status 1."""
     with Stopped(program) as daemon:
@@ -186,9 +193,33 @@ def busy(program):
 
 
 def modes(program, mask, options, want):
-    """The mode of the socket's file, whatever the mask."""
-    with Daemon(program, "", *options, mask=mask) as daemon:
-        return differs(oct(os.stat(daemon.path).st_mode & 0o7777), oct(want))
+    """The mode of the socket's file, whatever the mask, and that of its folder, which stays."""
+    with Stopped(program) as daemon:
+        daemon.options, daemon.mask = options, mask
+        found = []
+        for mode in [0o700, 0o711, 0o1777]:
+            daemon.room.chmod(mode)
+            Daemon.start(daemon)
+            found.append([oct(os.stat(path).st_mode & 0o7777) for path in [daemon.path, daemon.room]])
+            daemon.process.kill()
+            daemon.process.wait()
+        return differs(found, [[oct(want), oct(mode)] for mode in [0o700, 0o711, 0o1777]])
+
+
+def taken(program, what):
+    """Something else has come to stand at the path while it serves: that is left there when it ends."""
+    with Daemon(program, "", "--clients", "1") as daemon:
+        with daemon.client():
+            daemon.path.unlink()
+            if what == "file":
+                daemon.path.write_text("plain")
+            elif what == "socket":
+                other = socket.socket(socket.AF_UNIX)
+                other.bind(str(daemon.path))
+                other.close()
+        got = daemon.end()
+        stands = what != "nothing" and (daemon.path.is_socket() if what == "socket" else daemon.path.read_text() == "plain")
+        return differs((got, stands, daemon.path.exists()), ((0, []), what != "nothing", what != "nothing"))
 
 
 def helps(program, words):
@@ -220,6 +251,8 @@ def cases():
             yield f"{option} {value!r}", misuses, [*base, option, value]
         yield f"{option}=", misuses, [*base, f"{option}="]
         yield f"{option} twice", misuses, [*base, option, good[0], option, good[0]]
+    for options in [[], ["--clients", "0"], ["--clients=4294967295"], ["--clients", "0000"]]:
+        yield f"no end with {options}", goes_on, *options
     for conf, want in CONF_FAULTS:
         yield f"a configuration {conf[:40]!r}", faults, conf, f"conf line {want}"
     yield "no configuration", faults, None, "conf"
@@ -232,6 +265,8 @@ def cases():
     yield "a path of 107 bytes", longest, 107
     yield "a path of 108 bytes", longest, 108
     yield "a socket that was left", stale
+    for what in ["nothing", "file", "socket"]:
+        yield f"{what} at the path when it ends", taken, what
     yield "two daemons", two
     yield "a second one while the first is busy", busy
     for mask in [0o000, 0o022, 0o777]:
