@@ -1,5 +1,6 @@
 """How clients, handlers and the daemon end, and what is then left."""
 import os
+import select
 import signal
 import subprocess
 
@@ -266,6 +267,104 @@ def waits_and_dies(program):
         return differs((done, other.reply(), client.reply()), ((0, 0), inner.key, "E126")) or daemon.lives()
 
 
+def inner_fails(program, how):
+    """A handler asks for another key, of which nothing comes: it is told so, goes on, and makes its own key."""
+    conf = HELD + "create user w:2 * /no/such\ncreate user w:* * %puppet %k\n"
+    with Daemon(program, conf, "--negative", "4000000") as daemon, daemon.client() as client:
+        client.send(want())
+        outer = daemon.handler()
+        outer.ask(ask.on_key(3, outer.key))
+        outer.send(want(b"w:2" if how == "is not started" else b"w:1", ring=-8))
+        if how != "is not started":
+            inner = daemon.handler()
+            first = inner.ask(ask.on_key(3, outer.key), ask.on_key(3, inner.key))
+            if how == "rejects":
+                inner.ask(ask.reject(inner.key, 1000, 129, 0))
+            elif how == "writes no frame":
+                inner.put(b"\0\0\0\0")
+            elif how == "closes its output":
+                inner.close_output()
+            inner.is_killed() if how == "is killed" else inner.ends()
+        else:
+            first = ["E126", 0]
+        told = outer.reply(), quiet(client), outer.ask(want(b"w:2" if how == "is not started" else b"w:1", None, 0))
+        done = completes(outer)
+        outer.ends()
+        error = "E129" if how == "rejects" else "E126"
+        return differs((first, told, done, client.reply()), (["E126", 0], (error, True, error), (0, 0), outer.key)) or daemon.lives()
+
+
+def outer_fails(program, how):
+    """A handler fails when another key has been made for it: that one stays, and is found by who asks for it."""
+    conf = HELD + "create user w:* * |/bin/cat\n"
+    with Daemon(program, conf, "--negative", "4000000") as daemon, daemon.client() as client:
+        client.send(want())
+        outer = daemon.handler()
+        made = outer.ask(ask.on_key(3, outer.key), want(b"w:1", ring=-8))
+        if how == "closes its input":
+            outer.close_input()
+            outer.send(ask.on_key(7, made[1]), ask.instantiate(outer.key, b"unheard", 0))
+        elif how == "writes no frame":
+            outer.put(b"\0\1\0\1")
+        outer.is_killed() if how == "is killed" else outer.ends()
+        return differs((made, client.reply(), client.ask(want(b"w:1", None, 0))), ([0, 16], "E126", 16)) or daemon.lives()
+
+
+def followed(program, how):
+    """A piped program has failed, and a handler of the line for `negate` follows; what becomes of the key is what that one does."""
+    conf = "create user h:* * |/bin/false\nnegate user h:* * %puppet %k\n"
+    with Daemon(program, conf, "--negative", "4000000") as daemon, daemon.client() as client, daemon.client() as other:
+        client.send(want())
+        handler = daemon.handler()
+        other.send(want())
+        waits = quiet(client), quiet(other)
+        if how in ["completes", "is killed behind it"]:
+            done = completes(handler)
+        elif how == "negates":
+            done = handler.ask(ask.on_key(3, handler.key)), handler.ask(ask.negate(handler.key, 1000, 0))
+        else:
+            done = (0, 0)
+        handler.is_killed() if how.startswith("is killed") else handler.ends()
+        outcomes = client.reply(), other.reply()
+        outcome = handler.key if how in ["completes", "is killed behind it"] else "E126"
+        want_all = (True, True), (0, 0), (outcome, outcome), {}
+        return differs((waits, done, outcomes, daemon.children()), want_all) or daemon.lives()
+
+
+def not_followed(program):
+    """The line for `negate` is not for a piped program that makes its key, nor for a plain handler or a program that can't be started."""
+    lines = ["p:* * |/bin/cat", "t:* * /bin/true", "m:* * |/no/such"]
+    conf = "".join(f"create user {line}\n" for line in lines) + "negate * * * %room/tells %k\ncreate user f:* * |/bin/false\n"
+    with Daemon(program, conf) as daemon, daemon.client() as client:
+        daemon.script("tells", '#!/bin/sh\necho "$1" >> %room/told\n')
+        replies = client.ask(*[want(name) for name in [b"p:1", b"t:1", b"m:1", b"f:1"]])
+        return differs((replies, (daemon.room / "told").read_text()), ([12, "E126", "E126", "E126"], "24\n"))
+
+
+def warned(program):
+    """A session that ends otherwise than by the end of its input is told in a line of its own, and no other is."""
+    with Daemon(program, HELD, "--sessions", "4", "--clients", "5") as daemon:
+        with daemon.client(None) as malformed:
+            malformed.put(b"\0\1\0\1")
+            malformed.rest()
+        with daemon.client(None) as reset:
+            reset.put(ask.frame(ask.hello(1000, 1000)))
+            select.select([reset.socket], [], [])
+        with daemon.client() as left:
+            left.send(want())
+            handler = daemon.handler()
+        done = completes(handler)
+        handler.ends()
+        with daemon.client(None) as cut:
+            cut.put(ask.frame(ask.hello(1000, 1000))[:9])
+        with daemon.client() as whole:
+            whole.ask(want(callout=None))
+        status, lines = daemon.end()
+        want_lines = ["session 1: Malformed", "session 2: ReadFault", "session 3: WriteFault"]
+        fit = len(lines) == 3 and all("WARN" in line and line.endswith(told) for line, told in zip(sorted(lines, key=lambda it: it[-25:]), want_lines))
+        return differs((status, done, fit), (0, (0, 0), True)) and f"{status} {done} {lines}"
+
+
 def piped(program, name, script, want_payload, callout=b"x"):
     """What a piped program puts out."""
     with Daemon(program, f"create user p:* * |%room/program {name}\n", "--negative", "0") as daemon, daemon.client() as client:
@@ -343,8 +442,14 @@ def nothing_left(program):
 
 def cases():
     for try_it in [client_killed, all_clients_killed, again_after, completed_and_killed, daemon_killed, terminated, no_asks, child_goes_on, replies_unread,
-                   handler_leaves, stopped, waits_and_dies, chain, many_wait, nothing_left]:
+                   handler_leaves, stopped, waits_and_dies, not_followed, warned, chain, many_wait, nothing_left]:
         yield try_it.__name__.replace("_", " "), try_it
+    for how in ["is killed", "ends", "rejects", "writes no frame", "closes its output", "is not started"]:
+        yield f"a handler that is asked for by another one and {how}", inner_fails, how
+    for how in ["is killed", "ends", "closes its input", "writes no frame"]:
+        yield f"a handler that has asked for a key and {how}", outer_fails, how
+    for how in ["completes", "negates", "ends", "is killed", "is killed behind it"]:
+        yield f"a handler for negate that {how}", followed, how
     for negative in ["0", "4294967295"]:
         yield f"a handler that is killed, negative for {negative}", handler_killed, negative
     for data in [b"\0\0\0\0", b"\0\1\0\1", b"\xff" * 9, b"garbage\n"]:

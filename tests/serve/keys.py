@@ -1,5 +1,7 @@
 """Keys that are made and used by runs of reqkeyctl, as a shell calls them."""
+import os
 import re
+import signal
 
 import protocol_peer as ask
 from daemon import Daemon
@@ -128,7 +130,7 @@ def joined(program):
 def as_handler(program):
     """Each subcommand in a handler, with a reply and with a refusal."""
     runs = [
-        ("read 12", "errno 13"), ("assume 16", "errno 126"), ("assume 12", "0"), ("callout", "a callout"), ("read auth", "a callout"), ("hello", "errno 22"),
+        ("read 12", "errno 13"), ("default thread", "errno 13"), ("assume 16", "errno 126"), ("assume 12", "0"), ("callout", "a callout"), ("read auth", "a callout"), ("hello", "errno 22"),
         ("describe 12", "user;1000;building;h:1"), ("read 12", "errno 16"), ("link 12 session", "0"), ("unlink 12 session", "0"),
         ("add user other v requestor", "16"), ("read 16", "v"), ("timeout 16 4000000000", "0"), ("revoke 16", "0"), ("read 16", "errno 128"),
         ("request user h:1 none x", "errno 35"), ("request user none none", "errno 126"), ("default thread", "0"), ("default keep", "1"),
@@ -141,6 +143,30 @@ def as_handler(program):
         lines = (daemon.room / "told").read_text().split("\n")[:-1]
         wrong = [f"{words}: {got}, not {want}" for (words, want), got in zip(runs, lines) if got != want]
         return differs((made, wrong, len(lines)), (printed(12), [], len(runs)))
+
+
+def decided(program):
+    """Handlers that negate and reject their keys by a run each, and can't decide twice."""
+    with Daemon(program, "create user n:* * %room/handler %k negate 4000000000\ncreate user r:* * %room/handler %k reject 4000000000 128\n") as daemon:
+        run = '%ctl assume "$1"\n%ctl $2 "$1" $3 $4 user\n%ctl $2 "$1" $3 $4 user\n'
+        daemon.script("handler", f"#!/bin/sh\nexec 2>> %room/told\n{run}")
+        got = []
+        # each run makes a session ring
+        for name, key in [("n:1", "12"), ("r:1", "28")]:
+            got += [daemon.control(*USER, *words) for words in [("request", "user", name, "user", "x"), ("request", "user", name, "none"), ("describe", key)]]
+        lines = (daemon.room / "told").read_text().split("\n")[:-1]
+        want = [refused(126), refused(126), printed("user;1000;negative;n:1"), refused(128), refused(128), printed("user;1000;negative;r:1")]
+        return differs((got, lines), (want, ["0", "0", "errno 13"] * 2))
+
+
+def of_the_daemon(program):
+    """A handler has the daemon's environment and folder, and SIGPIPE ends it, as a program that a shell starts."""
+    with Daemon(program, "create user p:* * |%room/handler\n", environment={"OF_THE_DAEMON": "a word"}) as daemon, daemon.client() as client:
+        daemon.script("handler", '#!/bin/sh\necho "$OF_THE_DAEMON"\npwd -P\nyes 2>&1 | head -n 1\ngrep SigIgn /proc/self/status\n')
+        key = client.ask(ask.request(b"user", b"p:1", b"x", -4))
+        *lines, ignored = client.ask(ask.on_key(7, key)).decode().split("\n")[:-1]
+        is_ignored = int(ignored.split("\t")[1], 16) >> signal.SIGPIPE - 1 & 1
+        return differs((key, lines, is_ignored), (12, ["a word", os.path.realpath("."), "y"], 0))
 
 
 def document(program):
@@ -166,6 +192,6 @@ def document(program):
 
 def cases():
     for name, try_it in [("two runs and the end", first), ("a script as a handler", scripted), ("a nested request", nested), ("a line for negate", negated),
-                         ("macros", macros), ("each subcommand", as_client), ("a session ring that is joined", joined),
+                         ("keys that are decided otherwise", decided), ("what a handler has of the daemon", of_the_daemon), ("macros", macros), ("each subcommand", as_client), ("a session ring that is joined", joined),
                          ("each subcommand in a handler", as_handler), ("the example of the protocol", document)]:
         yield name, try_it
