@@ -248,7 +248,8 @@ def no_descriptors(program):
         with daemon.client() as client:
             made = client.ask(ask.request(b"user", b"p:2", b"x", -4))
         good = [isinstance(it, tuple) for it in served]
-        return differs((good, starved, bool(lives), isinstance(made, int), lines < 1000), ([True, True], "E126", True, True, True))
+        told = any("accept: " in line for line in daemon.lines[1:])
+        return differs((good, starved, bool(lives), isinstance(made, int), lines < 1000, told), ([True, True], "E126", True, True, True, True))
 
 
 def few_descriptors(program):

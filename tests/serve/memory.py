@@ -91,10 +91,11 @@ def behind_start(program):
 
 
 def short(program, play, count):
-    """One run in which this growth is refused: whether it was noticed, and what is wrong. Behind it all is as it should be."""
+    """One run in which this growth is refused: whether it was noticed, and what is wrong. Behind it all is as it should be, and nothing is left."""
     with gated(program, count) as daemon:
+        before = daemon.descriptors()
         noticed, wrong = played_twice(daemon, play, INSTEAD)
-        until(lambda: not daemon.children(), "the end of all children")
+        until(lambda: not daemon.children() and daemon.descriptors() == before, f"growth {count}: no child, and the descriptors {before}")
         return noticed, wrong and f"growth {count}, {wrong}"
 
 

@@ -57,6 +57,10 @@ class Gated(Daemon):
         ready = select.select([self.began, client.socket], [], [], LIMIT)[0]
         return self.began in ready and bool(os.read(self.began, 1))
 
+    def has_begun(self):
+        """Whether another held handler has begun."""
+        return bool(select.select([self.began], [], [], 0)[0])
+
     def goes_on(self):
         os.write(self.gate, b"\n")
 
@@ -96,7 +100,7 @@ def two_requesters(daemon, name):
         daemon.goes_on()
     outcomes = [client.reply() for client in ([one, other] if begun else [one])]
     same = len({it for it in outcomes if isinstance(it, int)}) < 2
-    return replies + more + [(it, int) for it in outcomes] + [(same, True)]
+    return replies + more + [(it, int) for it in outcomes] + [(same, True), (daemon.has_begun(), False)]
 
 
 def nested(daemon, name):
