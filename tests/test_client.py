@@ -44,6 +44,7 @@ GOOD = [
     *[(["default", word], peer.default(value)) for word, value in
       [("keep", -1), ("default", 0), ("thread", 1), ("process", 2), ("session", 3), ("user", 4), ("requestor", 7)]],
     (["add", "user", "k", "v", "session"], peer.add(b"user", b"k", b"v", -3)),
+    (["add", "user", "k", "-", "session"], peer.add(b"user", b"k", b"-", -3)),
     (["add", "user", "k", "p" * 32767, "1"], peer.add(b"user", b"k", b"p" * 32767, 1)),
     (["callout"], peer.CALLOUT),
 ]
@@ -81,7 +82,10 @@ REPLIES = [
     (peer.data(bytes(65533)), bytes(65533) + b"\n", bytes(65533)),
 ]
 
-ERRNOS = [1, 2, 12, 13, 16, 22, 35, 122, 126, 127, 128, 129]
+ERRNOS = {
+    1: "EPERM", 2: "ENOENT", 12: "ENOMEM", 13: "EACCES", 16: "EBUSY", 22: "EINVAL", 35: "EDEADLK", 122: "EDQUOT", 126: "ENOKEY", 127: "EKEYEXPIRED",
+    128: "EKEYREVOKED", 129: "EKEYREJECTED",
+}
 
 # bytes that begin with no reply
 MALFORMED = {
@@ -338,7 +342,7 @@ def cases(room):
     else:
         print("growths that are refused: not tried, there is no gcc")
     for word in ["--help", "-h"]:
-        yield word, helps, [word], "Usage: reqkeyctl", *[f"  {name} " for name in FEWEST], "126 ENOKEY", "--payload-from", "Status:"
+        yield word, helps, [word], "Usage: reqkeyctl", *[f"  {name} " for name in FEWEST], *[f"{errno} {name}" for errno, name in ERRNOS.items()], "--payload-from", "Status:"
         yield f"run {word}", helps, ["run", word], "Usage: reqkeyctl run", "--library", "126"
     for word in ["--version", "-V"]:
         yield word, helps, [word], f"reqkeyctl {version()}"

@@ -158,6 +158,12 @@ def beside(rows, words):
     return False
 
 
+def by_make(program):
+    """`make demo` shows the script, and then the daemon."""
+    ran = subprocess.run(["make", "-s", "-C", top, "demo", f"REQKEYD={program}"], capture_output=True, text=True, timeout=120)
+    count.same(f"make demo, {program.name}", (ran.returncode, FIRST_PATH in ran.stdout, ran.stdout.endswith(SERVED)), (0, True, True))
+
+
 def by_hand(program):
     """The commands of README, with what they print there."""
     block = next(it for it in (top / "README.md").read_text().split("```\n") if it.startswith("$ echo"))
@@ -191,6 +197,7 @@ serve = top / "examples" / "serve.py"
 for program in PROGRAMS:
     ran = subprocess.run([serve, program], capture_output=True, text=True, timeout=60)
     count.same(f"{serve.name} {program.name}", (ran.stdout, ran.returncode, ran.stderr), (SERVED, 0, ""))
+    by_make(program)
     by_hand(program)
 for command, told in [(["/nothing/there"], "No such file"), (["false"], "did not start"), (["echo"], "did not start"), ([], "usage: serve.py COMMAND ..")]:
     ran = subprocess.run([serve, *command], capture_output=True, text=True, timeout=60)
