@@ -94,7 +94,7 @@ def cases():
             yield f"a call of {call} at the start that fails", at_start, call, errno.EIO
         for call, may in LATER.items():
             yield f"a call of {call} that fails", later, call, errno.EIO, may
-        for call in ["send", "accept4", "waitpid"]:
+        for call in ["send", "write", "accept4", "waitpid"]:
             yield f"a call of {call} that is interrupted is made again", later, call, errno.EINTR, []
     else:
         print("calls that fail: not tried, there is no gcc")
