@@ -14,7 +14,7 @@ import time
 import crates
 
 kept = crates.top / "build" / "quick"
-OF_PROGRAMS = ["replay", "words", "pick", "client", "clients", "keyutils", "serve", "manuals", "completion", "install"]
+OF_PROGRAMS = ["replay", "replay_growths", "words", "pick", "client", "clients", "keyutils", "serve", "manuals", "completion", "install"]
 
 
 def call(*words, cwd=crates.top, **more):
