@@ -119,6 +119,10 @@ def stands(program, what):
             daemon.path.symlink_to(daemon.room / "nothing")
         elif what == "link to a file":
             daemon.path.symlink_to(daemon.conf)
+        elif what == "link to a socket that was left":
+            with socket.socket(socket.AF_UNIX) as left:
+                left.bind(str(daemon.room / "left"))
+            daemon.path.symlink_to(daemon.room / "left")
         elif what == "pipe":
             os.mkfifo(daemon.path)
         elif what == "datagrams":
@@ -158,7 +162,7 @@ def longest(program, length):
         return differs((rings, daemon.end(), list(folder.iterdir())), ((0, 0, 4, 8), (0, []), []))
 
 
-def stale(program, linked=False):
+def stale(program):
     """A socket at which nobody answers is replaced."""
     with Stopped(program) as daemon:
         left = socket.socket(socket.AF_UNIX)
@@ -258,7 +262,7 @@ def cases():
     yield "no configuration", faults, None, "conf"
     yield "a folder as a configuration", faults, "folder", "conf"
     yield "faults in their order", in_order
-    for what in ["folder", "full folder", "dangling link", "link to a file", "pipe", "datagrams", "empty file"]:
+    for what in ["folder", "full folder", "dangling link", "link to a file", "link to a socket that was left", "pipe", "datagrams", "empty file"]:
         yield f"a {what} at the path", stands, what
     for path in ["%room/none/s", "%room/conf/s", "/" + "l" * 200, "%room"]:
         yield f"the path {path[:30]}", nowhere, path
