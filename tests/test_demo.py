@@ -160,7 +160,7 @@ def beside(rows, words):
 
 def by_make(program):
     """`make demo` shows the script, and then the daemon."""
-    ran = subprocess.run(["make", "-s", "-C", top, "demo", f"REQKEYD={program}"], capture_output=True, text=True, timeout=120)
+    ran = subprocess.run(["make", "--no-print-directory", "-C", top, "demo", f"REQKEYD={program}"], capture_output=True, text=True, timeout=120)
     count.same(f"make demo, {program.name}", (ran.returncode, FIRST_PATH in ran.stdout, ran.stdout.endswith(SERVED)), (0, True, True))
 
 

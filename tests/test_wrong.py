@@ -2,14 +2,19 @@
 """Wrong bodies that no contract can refuse, and a run does.
 
 A start may fail for want of memory, and no contract sees how much memory there is; so a body that never starts a command keeps its contract. No contract
-names what a lock holds either, so a call of the halls that only gives up keeps its own. Each edit of tests/wrong is made in a copy. With one of rk_hall the
-tests of the halls have to fail, with any other the example has to come out otherwise. `rt try` runs both before any proof.
+names what a lock holds either, so a call of the halls that only gives up keeps its own, nor how many workers there are. Each edit of tests/wrong is made in
+a copy. With one of rk_hall the tests of the halls have to fail, with one of rk_daemon a client has to wait for the end of another one, and with any other
+the example has to come out otherwise. `rt try` runs all of them before any proof.
 """
 import pathlib
 import shutil
+import socket
 import subprocess
 import sys
 import tempfile
+import time
+
+import protocol_peer as ask
 
 top = pathlib.Path(__file__).resolve().parent.parent
 stored = top / "tests" / "replay" / "first_path"
@@ -58,13 +63,52 @@ def fails_in_halls(copy):
     return OF_HALLS + b"FAILED" in written, written[-2000:]
 
 
+def greeted(daemon, path):
+    """A connection that has said HELLO, as soon as there is a daemon that listens, or None where it has ended."""
+    client = socket.socket(socket.AF_UNIX)
+    while daemon.poll() is None:
+        try:
+            client.connect(str(path))
+            client.sendall(ask.frame(ask.hello(1000, 1000)))
+            return client
+        except OSError:
+            time.sleep(0.02)
+    return None
+
+
+def reply_to(client):
+    """What comes first for this client; nothing where the daemon ends before it has answered."""
+    try:
+        return client and client.recv(100)
+    except ConnectionResetError:
+        return b""
+
+
+def serves_one_by_one(copy):
+    """Whether the daemon answers one client, and not the other one beside it until it is ended after some seconds; and what both got."""
+    path, conf = copy / "socket", copy / "conf"
+    conf.write_text("")
+    words = ["rt", "try", "--steps", "1", "--seconds", "10", "--", "serve", "--socket", path, "--conf", conf]
+    daemon = subprocess.Popen(words, cwd=copy / "crates" / "reqkeyd", stdin=subprocess.DEVNULL, stdout=subprocess.PIPE, stderr=subprocess.STDOUT)
+    first = greeted(daemon, path)
+    got = [reply_to(first), reply_to(first and greeted(daemon, path))]
+    written = daemon.communicate()[0]
+    return bool(got[0]) and got[1] == b"", (got, written[-2000:])
+
+
+def trial_of(name):
+    """What is tried with an edit of this file."""
+    trials = {"rk_hall": fails_in_halls, "rk_daemon": serves_one_by_one}
+    return trials.get(name.split("/")[1], replays_otherwise)
+
+
 passed = failed = 0
 for edit in sorted((top / "tests" / "wrong").glob("*.edit")):
     with tempfile.TemporaryDirectory() as room:
         copy = pathlib.Path(room) / "copy"
         shutil.copytree(top, copy, ignore=shutil.ignore_patterns("out", "build", ".git", "must-fail"))
         name = made(edit, copy)
-        is_seen, written = (fails_in_halls if name.startswith("crates/rk_hall/") else replays_otherwise)(copy)
+        is_seen, written = trial_of(name)(copy)
     if is_seen:
         passed += 1
     else:
