@@ -128,6 +128,11 @@ def table(*heads):
     row(["---"] * len(heads))
 
 
+def pair(values, form):
+    """Rattle's and C's, in cells of this form."""
+    return [form.format(values[who]) if who in values else "-" for who in (RATTLE, C)]
+
+
 def ratio(values):
     return f"{values[RATTLE] / values[C]:.2f}" if len(values) == 2 else "-"
 
@@ -165,11 +170,9 @@ def replay(options):
 
 def show(name, lines, took, steps, size):
     times = {who: time for who, (time, _, _) in took.items()}
-    speeds = {who: f"{lines / time:,.0f}" for who, time in times.items()}
-    counts = {who: f"{count:,.0f}" for who, count in steps.items()}
-    peaks = {who: f"{peak:,}" for who, (_, peak, _) in took.items()}
-    pairs = [[column.get(who, "-") for who in (RATTLE, C)] for column in (speeds, counts, peaks)]
-    row([name, f"{lines:,}", *pairs[0], ratio(times), *pairs[1], ratio(steps), *pairs[2], f"{size:,}"])
+    speeds = pair({who: lines / time for who, time in times.items()}, "{:,.0f}")
+    peaks = pair({who: peak for who, (_, peak, _) in took.items()}, "{:,}")
+    row([name, f"{lines:,}", *speeds, ratio(times), *pair(steps, "{:,.0f}"), ratio(steps), *peaks, f"{size:,}"])
 
 
 # ---- book
@@ -293,7 +296,7 @@ def tell_rates(found, unit):
     table("of", f"{unit}/s Rattle", "C", "ratio")
     for of, best in found.items():
         counts = {who: rate for who, (rate, _) in best.items()}
-        row([of, *[f"{counts[who]:,}" if who in counts else "-" for who in (RATTLE, C)], ratio(counts)])
+        row([of, *pair(counts, "{:,}"), ratio(counts)])
 
 
 def both(name, ours, more):
@@ -307,7 +310,13 @@ def both(name, ours, more):
 
 
 def hall(options):
-    tell_rates(rates(both("hall", "hall_bench", []), options.runs), "calls")
+    """What a call takes is told as its thread sees it, with the time in which it waits for the lock."""
+    table("of", "ns a call Rattle", "C", "calls/s Rattle", "C", "ratio")
+    for of, best in rates(both("hall", "hall_bench", []), options.runs).items():
+        counts = {who: rate for who, (rate, _) in best.items()}
+        threads = re.search(r"([0-9]+) threads?$", of)
+        nanos = {who: int(threads[1] if threads else 1) * 1e9 / rate for who, rate in counts.items()}
+        row([of, *pair(nanos, "{:,.0f}"), *pair(counts, "{:,}"), ratio(counts)])
 
 
 def spawn(options):

@@ -8,8 +8,13 @@ pub const CLIENT: SessionId = SessionId::Client(1);
 
 /// The client says that it is user 1000.
 pub fn hello() -> Ask {
+    hello_of(1000)
+}
+
+/// A client says that it is this user.
+pub fn hello_of(uid: u32) -> Ask {
     Ask::Hello(Greeting {
-        uid: 1000,
+        uid,
         gid: 1000,
         thread: false,
         process: false,
@@ -34,6 +39,16 @@ pub fn request(alloc: Global, name: &[u8]) -> Result<Ask, AllocError> {
         typ: user(alloc)?,
         description: description(alloc, name)?,
         callout: Some(callout),
+        destination: 0,
+    })
+}
+
+/// It requests the key of this name, without a callout.
+pub fn find(alloc: Global, name: &[u8]) -> Result<Ask, AllocError> {
+    Ok(Ask::Request {
+        typ: user(alloc)?,
+        description: description(alloc, name)?,
+        callout: None,
         destination: 0,
     })
 }

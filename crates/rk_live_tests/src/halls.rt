@@ -1,6 +1,7 @@
 //! Four halls and their seats: `opening` makes halls of new ledgers for a scene, `calls` has what a client and its handler do there, `paths` what comes of it
-//! from a client's coming to its end, `settling` whether seats and receipts agree with the records.
+//! from a client's coming to its end, `growths` where memory is refused, `settling` whether seats and receipts agree with the records.
 pub mod calls;
+pub mod growths;
 pub mod opening;
 pub mod paths;
 pub mod settling;

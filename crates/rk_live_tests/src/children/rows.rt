@@ -7,8 +7,10 @@ use rk_child::Driven;
 use rk_machine::How;
 use rk_names::Errno;
 use std::alloc::Global;
+use std::marker::Sync;
 use std::process::Abort;
 use std::sync::Wait;
+use std::thread::Threads;
 
 const ASSUME_12: &[u8] = b"\0\0\0\x05\x03\0\0\0\x0c";
 
@@ -218,7 +220,12 @@ const PIPED_ROWS: &[Row] = &[
 ];
 
 /// Plays each row over this handling.
-fn play_rows<R: Wait + Abort>(rt: &R, alloc: Global, handling: Handling, rows: &[Row]) {
+fn play_rows<R: Wait + Abort + Threads + Sync>(
+    rt: &R,
+    alloc: Global,
+    handling: Handling,
+    rows: &[Row],
+) {
     for (programs, fuse, driven, outcome) in rows {
         let handling = Handling {
             programs,

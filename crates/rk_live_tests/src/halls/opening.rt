@@ -2,13 +2,16 @@
 ghost use Rattle.std.specs.Prelude.{◌≡◌, ◌≤◌};
 
 use crate::children::handling::Handling;
+use crate::halls::growths::Growths;
 use crate::halls::paths::Path;
 use crate::halls::settling::{SixSteps, Volumes, hears};
+use crate::threads::together::SideBySide;
 use rk_hall::{Fresh, Halls, Names};
 use std::alloc::Global;
-use std::marker::Brand;
+use std::marker::{Brand, Send, Sync};
 use std::process::Abort;
 use std::sync::Wait;
+use std::thread::Threads;
 
 /// What is done in halls of its own, from their opening to their end.
 #[derive(Clone, Copy)]
@@ -17,23 +20,32 @@ pub enum Scene {
     SixSteps(SixSteps),
     Hears,
     Volumes(Volumes),
+    SideBySide(SideBySide),
+    Growths(Growths),
     Handling(Handling),
 }
 
 impl Scene {
-    fn play<N: Names, R: Wait + Abort>(self, rt: &R, alloc: Global, halls: Halls<N>) {
+    fn play<N: Names + Send + Sync, R: Wait + Abort + Threads + Sync>(
+        self,
+        rt: &R,
+        alloc: Global,
+        halls: Halls<N>,
+    ) {
         match self {
             Scene::Path(path) => path.play(rt, alloc, halls),
             Scene::SixSteps(steps) => steps.play(rt, alloc, halls),
             Scene::Hears => hears(rt, alloc, halls),
             Scene::Volumes(volumes) => volumes.play(rt, alloc, halls),
+            Scene::SideBySide(threads) => threads.play(rt, alloc, halls),
+            Scene::Growths(growths) => growths.play(rt, alloc, halls),
             Scene::Handling(handling) => handling.play(rt, alloc, halls),
         }
     }
 }
 
 /// Makes halls of these ledgers, and plays the scene in them.
-fn play_under<N: Names, R: Wait + Abort>(
+fn play_under<N: Names + Send + Sync, R: Wait + Abort + Threads + Sync>(
     rt: &R,
     alloc: Global,
     fresh: Fresh,
@@ -51,7 +63,12 @@ fn play_under<N: Names, R: Wait + Abort>(
 }
 
 /// Plays a scene in halls whose volumes may have so many steps, under ledgers that are named here.
-pub fn in_new_halls<R: Wait + Abort>(rt: &R, alloc: Global, steps: usize, scene: Scene) {
+pub fn in_new_halls<R: Wait + Abort + Threads + Sync>(
+    rt: &R,
+    alloc: Global,
+    steps: usize,
+    scene: Scene,
+) {
     assert!(rt; 1 <= steps && steps <= 1_048_576);
     let fresh = Fresh::new();
     play_under::<Brand, R>(rt, alloc, fresh, steps, scene);

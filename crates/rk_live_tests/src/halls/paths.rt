@@ -10,7 +10,7 @@ use rk_hall::{
 };
 use rk_machine::{How, Ran};
 use rk_macro::Op;
-use rk_names::{Errno, SessionId};
+use rk_names::{Errno, Payload, SessionId};
 use rk_wait::await_outcome;
 use std::alloc::Global;
 use std::process::Abort;
@@ -80,7 +80,7 @@ fn say<R: Abort>(rt: &R, receipts: &[Receipt], answers: &[Said]) {
 }
 
 /// So many steps, all of the seats that are handed in.
-fn all(steps: u64) -> Total {
+pub fn all(steps: u64) -> Total {
     Total {
         steps,
         live: steps,
@@ -109,11 +109,21 @@ fn follow<N: Names, R: Wait + Abort>(
         Path::IsFollowed => is_followed(rt, alloc, halls, seat, receipts),
         Path::IsStray => {}
     }
+    goes(rt, halls, seat, receipts);
+}
+
+/// The client goes.
+pub fn goes<N: Names, R: Wait + Abort>(
+    rt: &R,
+    halls: &Halls<N>,
+    seat: &mut Seat<N>,
+    receipts: &mut Vec<Receipt>,
+) {
     let Owed { value: (), receipt } = halls.gone(rt, seat, HallNo::Zero, NOW, CLIENT);
     keep(rt, receipts, receipt.expect(rt, "a receipt"));
 }
 
-fn keep<R: Abort>(rt: &R, receipts: &mut Vec<Receipt>, receipt: Receipt) {
+pub fn keep<R: Abort>(rt: &R, receipts: &mut Vec<Receipt>, receipt: Receipt) {
     receipts.push(receipt).expect(rt, "memory");
 }
 
@@ -136,6 +146,17 @@ fn begins<N: Names, R: Wait + Abort>(
 ) -> Running<N> {
     let (receipt, launch) = requests(rt, alloc, halls, seat);
     keep(rt, receipts, receipt);
+    runs(rt, halls, seat, receipts, launch)
+}
+
+/// The piped handler of the first start, which runs.
+pub fn runs<N: Names, R: Wait + Abort>(
+    rt: &R,
+    halls: &Halls<N>,
+    seat: &mut Seat<N>,
+    receipts: &mut Vec<Receipt>,
+    launch: Launch<N>,
+) -> Running<N> {
     same(rt, (launch.key().get(), launch.depth()), (12, 1));
     same(rt, launch.subject().op, Op::Create);
     let Owed { value, receipt } = halls.launched(rt, seat, NOW, launch, Ran::Piped);
@@ -143,24 +164,23 @@ fn begins<N: Names, R: Wait + Abort>(
     value.expect(rt, "a handler that runs")
 }
 
-/// The handler has ended, and put `v` out. Where it failed, another one is to follow.
-fn ends<N: Names, R: Wait + Abort>(
+/// The handler has ended, and put this out. Where it failed, another one is to follow.
+pub fn ends<N: Names, R: Wait + Abort>(
     rt: &R,
-    alloc: Global,
     halls: &Halls<N>,
     seat: &mut Seat<N>,
     receipts: &mut Vec<Receipt>,
     running: Running<N>,
     how: How,
+    put_out: Payload,
 ) -> Option<Launch<N>> {
-    let payload = payload(alloc, b"v").ok();
-    let Owed { value, receipt } = halls.ended(rt, seat, NOW, running, how, payload);
+    let Owed { value, receipt } = halls.ended(rt, seat, NOW, running, how, Some(put_out));
     keep(rt, receipts, receipt.expect(rt, "a receipt"));
     value
 }
 
 /// The client's outcome.
-fn collects<N: Names, R: Wait + Abort>(
+pub fn collects<N: Names, R: Wait + Abort>(
     rt: &R,
     halls: &Halls<N>,
     seat: &mut Seat<N>,
@@ -180,7 +200,8 @@ fn is_made<N: Names, R: Wait + Abort>(
     receipts: &mut Vec<Receipt>,
 ) {
     let running = begins(rt, alloc, halls, seat, receipts);
-    let next = ends(rt, alloc, halls, seat, receipts, running, How::Exit(0));
+    let put_out = payload(alloc, b"v").expect(rt, "memory");
+    let next = ends(rt, halls, seat, receipts, running, How::Exit(0), put_out);
     refuse_launch(rt, halls, seat, next);
     collects(rt, halls, seat, receipts);
 }
@@ -193,12 +214,24 @@ fn is_followed<N: Names, R: Wait + Abort>(
     receipts: &mut Vec<Receipt>,
 ) {
     let running = begins(rt, alloc, halls, seat, receipts);
-    let next = ends(rt, alloc, halls, seat, receipts, running, How::Exit(1));
+    let put_out = payload(alloc, b"v").expect(rt, "memory");
+    let next = ends(rt, halls, seat, receipts, running, How::Exit(1), put_out);
+    negates(rt, halls, seat, receipts, next);
+    collects(rt, halls, seat, receipts);
+}
+
+/// There is to be another handler, which is told to negate the key; it can't be started.
+pub fn negates<N: Names, R: Wait + Abort>(
+    rt: &R,
+    halls: &Halls<N>,
+    seat: &mut Seat<N>,
+    receipts: &mut Vec<Receipt>,
+    next: Option<Launch<N>>,
+) {
     let launch = next.expect(rt, "another handler");
     same(rt, launch.key().get(), 12);
     same(rt, launch.subject().op, Op::Negate);
     keep(rt, receipts, fails(rt, halls, seat, launch));
-    collects(rt, halls, seat, receipts);
 }
 
 #[test]

@@ -42,7 +42,7 @@ fn six_calls<N: Names, R: Wait + Abort>(
 
 /// A receipt of this number for this client, from a hall of its own: one that no hall of the test gave.
 fn invented<R: Abort>(rt: &R, alloc: Global, number: u32, client: u32) -> Receipt {
-    let mut hall = hall(alloc, 100).expect(rt, "memory");
+    let mut hall = hall(rt, alloc, 100);
     let receipt = turned(rt, &mut hall, number, client);
     drop(hall);
     receipt

@@ -1,5 +1,5 @@
 //! What happens to the halls of the tests, and tables of it.
-ghost use Rattle.std.specs.Prelude.{◌≤◌, IfOk};
+ghost use Rattle.std.specs.Prelude.{◌≤◌};
 
 use crate::answers::{Said, in_words};
 use crate::asks::{CLIENT, add, hello, payload, request};
@@ -8,33 +8,43 @@ use rk_core::Limits;
 use rk_machine::{Event, How, Ran};
 use rk_names::{Moment, Serial};
 use rk_record::{Hall, HallFault, HallNo, Receipt};
-use std::alloc::{AllocError, Global};
+use std::alloc::Global;
 use std::process::Abort;
 
-/// Of what a hall draws its serials: 4, 8, 12 and so on.
-pub fn limits() -> Result<Limits, AllocError>
-    ensures { IfOk result (λ limits. 1 ≤ limits.stride) }
+/// Of what hall 0 draws its serials: 4, 8, 12 and so on.
+pub fn limits(rt: &impl Abort) -> Limits
+    ensures { 1 ≤ result.stride }
 {
-    let first = Serial::new(4).ok_or(AllocError)?;
-    Ok(Limits {
+    limits_of(rt, HallNo::Zero)
+}
+
+/// Of what a hall draws its serials: every fourth, from 4 on or from its number on.
+pub fn limits_of(rt: &impl Abort, no: HallNo) -> Limits
+    ensures { 1 ≤ result.stride }
+{
+    let number = match no {
+        HallNo::Zero => 4,
+        HallNo::One => 1,
+        HallNo::Two => 2,
+        HallNo::Three => 3,
+    };
+    Limits {
         negative: 60,
-        first,
+        first: key(rt, number),
         stride: 4,
         seed: 0,
-    })
+    }
 }
 
 /// Hall 0, empty, whose volumes may have so many steps.
-pub fn hall(alloc: Global, steps: usize) -> Result<Hall, AllocError> {
-    if steps == 0 || steps > 1_048_576 {
-        return Err(AllocError);
-    }
-    Hall::new(alloc, limits()?, HallNo::Zero, steps)
+pub fn hall(rt: &impl Abort, alloc: Global, steps: usize) -> Hall {
+    assert!(rt; 1 <= steps && steps <= 1_048_576);
+    Hall::new(alloc, limits(rt), HallNo::Zero, steps).expect(rt, "memory")
 }
 
 /// The serial of this number.
-pub fn key(number: u32) -> Result<Serial, AllocError> {
-    Serial::new(number).ok_or(AllocError)
+pub fn key(rt: &impl Abort, number: u32) -> Serial {
+    Serial::new(number).expect(rt, "a serial")
 }
 
 /// What happens, in a table.
@@ -52,35 +62,28 @@ pub enum Happens {
 }
 
 /// The event of a table's line.
-fn event(alloc: Global, happens: Happens) -> Result<Event, AllocError> {
+fn event(rt: &impl Abort, alloc: Global, happens: Happens) -> Event {
     match happens {
-        Happens::Opened => Ok(Event::Opened(CLIENT)),
-        Happens::Hello => Ok(Event::Asked(CLIENT, hello())),
-        Happens::Add(name) => Ok(Event::Asked(CLIENT, add(alloc, name)?)),
-        Happens::Request(name) => Ok(Event::Asked(CLIENT, request(alloc, name)?)),
-        Happens::Launched(number, ran) => Ok(Event::Launched(key(number)?, ran)),
-        Happens::Ended(number, how, bytes) => Ok(Event::Ended(
-            key(number)?,
-            how,
-            Some(payload(alloc, bytes)?),
-        )),
-        Happens::Collect => Ok(Event::Collect(CLIENT)),
-        Happens::Gone => Ok(Event::Gone(CLIENT)),
+        Happens::Opened => Event::Opened(CLIENT),
+        Happens::Hello => Event::Asked(CLIENT, hello()),
+        Happens::Add(name) => Event::Asked(CLIENT, add(alloc, name).expect(rt, "an ask")),
+        Happens::Request(name) => Event::Asked(CLIENT, request(alloc, name).expect(rt, "an ask")),
+        Happens::Launched(number, ran) => Event::Launched(key(rt, number), ran),
+        Happens::Ended(number, how, bytes) => {
+            let put_out = payload(alloc, bytes).expect(rt, "memory");
+            Event::Ended(key(rt, number), how, Some(put_out))
+        }
+        Happens::Collect => Event::Collect(CLIENT),
+        Happens::Gone => Event::Gone(CLIENT),
     }
 }
 
 /// Plays a table: each line has its second, what happens, and what is said to it.
-pub fn play(
-    rt: &impl Abort,
-    alloc: Global,
-    hall: &mut Hall,
-    table: &[(u64, Happens, Said)],
-) -> Result<(), AllocError> {
+pub fn play(rt: &impl Abort, alloc: Global, hall: &mut Hall, table: &[(u64, Happens, Said)]) {
     for (second, happens, said) in table {
-        let event = event(alloc, *happens)?;
+        let event = event(rt, alloc, *happens);
         same(rt, told(hall.turn(Moment(*second), event)), *said);
     }
-    Ok(())
 }
 
 /// What the receipt says, or why there is none.

@@ -6,13 +6,12 @@ use crate::same::same;
 use rk_machine::{Event, How, Ran};
 use rk_names::{Errno, Moment, Serial};
 use rk_record::{Hall, HallNo, Receipt};
-use std::alloc::{AllocError, Global};
+use std::alloc::Global;
 use std::process::Abort;
-use std::test::Fail;
 
 /// Clients stand in the hall of their uid, keys in that of their serial.
 #[test]
-fn halls_are_told_by_remainders(rt: HostRuntime) -> Result<(), Fail> {
+fn halls_are_told_by_remainders(rt: HostRuntime) {
     same(&rt, HallNo::of_uid(0), HallNo::Zero);
     same(&rt, HallNo::of_uid(1001), HallNo::One);
     same(&rt, HallNo::of_uid(1002), HallNo::Two);
@@ -22,13 +21,11 @@ fn halls_are_told_by_remainders(rt: HostRuntime) -> Result<(), Fail> {
         (5, HallNo::One),
         (2_147_483_647, HallNo::Three),
     ] {
-        let serial = Serial::new(serial).ok_or(AllocError)?;
-        same(&rt, HallNo::of_serial(serial), hall);
+        same(&rt, HallNo::of_serial(key(&rt, serial)), hall);
     }
     for (number, hall) in HallNo::ALL.iter().enumerate() {
         same(&rt, usize::from(hall.number()), number);
     }
-    Ok(())
 }
 
 /// Up to the start of a piped handler.
@@ -69,30 +66,29 @@ fn tells_of_the_wait(rt: &impl Abort, hall: &Hall, key_12: Serial, key_16: Seria
 }
 
 /// What a handler of this key finds under the name `b`.
-fn found(alloc: Global, hall: &Hall, key: Serial) -> Result<Option<usize>, AllocError> {
-    let (typ, description) = (user(alloc)?, description(alloc, b"b")?);
+fn found(rt: &impl Abort, alloc: Global, hall: &Hall, key: Serial) -> Option<usize> {
+    let typ = user(alloc).expect(rt, "a type");
+    let description = description(alloc, b"b").expect(rt, "memory");
     let bytes = hall.peek(key, &typ, &description, Moment(100));
-    Ok(bytes.map(|bytes| bytes.len()))
+    bytes.map(|bytes| bytes.len())
 }
 
 /// A piped handler makes a key: each turn, and what the hall tells between them.
-fn makes_a_key(rt: &impl Abort, alloc: Global, hall: &mut Hall) -> Result<(), AllocError> {
-    play(rt, alloc, hall, BEGUN)?;
-    let (key_12, key_16) = (key(12)?, key(16)?);
+fn makes_a_key(rt: &impl Abort, alloc: Global, hall: &mut Hall) {
+    play(rt, alloc, hall, BEGUN);
+    let (key_12, key_16) = (key(rt, 12), key(rt, 16));
     tells_of_the_wait(rt, hall, key_12, key_16);
-    same(rt, found(alloc, hall, key_16)?, Some(1));
-    play(rt, alloc, hall, ENDED)?;
+    same(rt, found(rt, alloc, hall, key_16), Some(1));
+    play(rt, alloc, hall, ENDED);
     same(rt, (hall.index(), hall.before(), hall.count()), (1, 0, 9));
     same(rt, (hall.steps().len(), hall.no()), (9, HallNo::Zero));
-    Ok(())
 }
 
 #[test]
-fn a_piped_handler_makes_a_key(rt: HostRuntime) -> Result<(), Fail> {
-    let mut hall = hall(rt.alloc(), 64)?;
-    let made = makes_a_key(&rt, rt.alloc(), &mut hall);
+fn a_piped_handler_makes_a_key(rt: HostRuntime) {
+    let mut hall = hall(&rt, rt.alloc(), 64);
+    makes_a_key(&rt, rt.alloc(), &mut hall);
     drop(hall);
-    Ok(made?)
 }
 
 /// Whether the step at this place is the one that the receipt says.
@@ -118,37 +114,26 @@ fn says_hello(rt: &impl Abort, receipt: &Receipt) {
 }
 
 /// The client comes; the receipt says that step.
-fn opens(rt: &impl Abort, hall: &mut Hall) -> bool {
+fn opens(rt: &impl Abort, hall: &mut Hall) {
     let receipt = hall.turn(Moment(100), Event::Opened(CLIENT));
-    match &receipt {
-        Ok(receipt) => {
-            same(rt, is_of(hall, receipt, 0), true);
-            true
-        }
-        Err(_) => false,
-    }
+    let receipt = receipt.expect(rt, "a receipt");
+    same(rt, is_of(hall, &receipt, 0), true);
 }
 
 /// It says who it is; the receipt says that step, and no other.
-fn greets(rt: &impl Abort, hall: &mut Hall) -> bool {
+fn greets(rt: &impl Abort, hall: &mut Hall) {
     let receipt = hall.turn(Moment(101), Event::Asked(CLIENT, hello()));
-    match &receipt {
-        Ok(receipt) => {
-            says_hello(rt, receipt);
-            same(rt, is_of(hall, receipt, 0), false);
-            same(rt, is_of(hall, receipt, 1), true);
-            true
-        }
-        Err(_) => false,
-    }
+    let receipt = receipt.expect(rt, "a receipt");
+    says_hello(rt, &receipt);
+    same(rt, is_of(hall, &receipt, 0), false);
+    same(rt, is_of(hall, &receipt, 1), true);
 }
 
 /// A receipt says the step, and is told from any other.
 #[test]
-fn a_receipt_says_its_step(rt: HostRuntime) -> Result<(), Fail> {
-    let mut hall = hall(rt.alloc(), 64)?;
-    let both = (opens(&rt, &mut hall), greets(&rt, &mut hall));
+fn a_receipt_says_its_step(rt: HostRuntime) {
+    let mut hall = hall(&rt, rt.alloc(), 64);
+    opens(&rt, &mut hall);
+    greets(&rt, &mut hall);
     drop(hall);
-    same(&rt, both, (true, true));
-    Ok(())
 }

@@ -5,9 +5,8 @@ use crate::same::same;
 use rk_machine::Answer;
 use rk_message::Reply;
 use rk_record::{Hall, HallNo, Recorded, Rejoin, Volume, rejoin};
-use std::alloc::{AllocError, Global};
+use std::alloc::Global;
 use std::process::Abort;
-use std::test::Fail;
 
 /// Five steps fill a volume of six, since the client's end is owed.
 const FILLED: &[(u64, Happens, Said)] = &[
@@ -26,33 +25,34 @@ const NEXT: &[(u64, Happens, Said)] = &[
 ];
 
 /// Fills the first volume of a hall of six steps, and hands it out.
-fn rolled(rt: &impl Abort, alloc: Global, hall: &mut Hall) -> Result<Volume, AllocError> {
-    play(rt, alloc, hall, FILLED)?;
+fn rolled(rt: &impl Abort, alloc: Global, hall: &mut Hall) -> Volume {
+    play(rt, alloc, hall, FILLED);
     same(rt, hall.count(), 5);
-    hall.roll().map_err(|_| AllocError)
+    hall.roll().expect(rt, "a volume")
 }
 
 /// A step once more, with this answer.
-fn with_answer(step: &Recorded, answer: Answer) -> Result<Recorded, AllocError> {
-    Ok(Recorded {
+fn with_answer(rt: &impl Abort, step: &Recorded, answer: Answer) -> Recorded {
+    Recorded {
         now: step.now,
-        event: step.event.clone()?,
+        event: step.event.clone().expect(rt, "memory"),
         answer,
-    })
+    }
 }
 
 /// Steps once more, of which the one at `wrong` is answered by the serial 21.
-fn copied(alloc: Global, steps: &[Recorded], wrong: usize) -> Result<Vec<Recorded>, AllocError> {
+fn copied(rt: &impl Abort, alloc: Global, steps: &[Recorded], wrong: usize) -> Vec<Recorded> {
     let mut copies = Vec::new(alloc);
     for (at, step) in steps.iter().enumerate() {
         let answer = if at == wrong {
             Answer::Done(Reply::Number(21))
         } else {
-            step.answer.clone()?
+            step.answer.clone().expect(rt, "memory")
         };
-        copies.push(with_answer(step, answer)?)?;
+        let copy = with_answer(rt, step, answer);
+        copies.push(copy).expect(rt, "memory");
     }
-    Ok(copies)
+    copies
 }
 
 /// What the first volume says, and what the hall says once it is handed out.
@@ -71,34 +71,22 @@ fn tells_of_the_volume(rt: &impl Abort, hall: &Hall, volume: &Volume) {
 }
 
 /// The numbers of steps go on in the next volume, and both join to a run.
-fn joins(
-    rt: &impl Abort,
-    alloc: Global,
-    hall: &mut Hall,
-    volume: &Volume,
-) -> Result<(), AllocError> {
-    play(rt, alloc, hall, NEXT)?;
+fn joins(rt: &impl Abort, alloc: Global, hall: &mut Hall, volume: &Volume) {
+    play(rt, alloc, hall, NEXT);
     same(rt, (hall.index(), hall.count()), (2, 7));
-    let joined = rejoin(alloc, limits()?, &[volume.steps(), hall.steps()]);
+    let joined = rejoin(alloc, limits(rt), &[volume.steps(), hall.steps()]);
     same(rt, joined, Ok(7));
-    Ok(())
 }
 
 /// What was answered otherwise, or is left out, is found, and where.
-fn breaks(
-    rt: &impl Abort,
-    alloc: Global,
-    hall: &mut Hall,
-    volume: &Volume,
-) -> Result<(), AllocError> {
-    play(rt, alloc, hall, NEXT)?;
-    let changed = copied(alloc, volume.steps(), 4)?;
-    let joined = rejoin(alloc, limits()?, &[&changed, hall.steps()]);
+fn breaks(rt: &impl Abort, alloc: Global, hall: &mut Hall, volume: &Volume) {
+    play(rt, alloc, hall, NEXT);
+    let changed = copied(rt, alloc, volume.steps(), 4);
+    let joined = rejoin(alloc, limits(rt), &[&changed, hall.steps()]);
     same(rt, joined, Err(Rejoin::Broken { number: 5 }));
-    let alone = rejoin(alloc, limits()?, &[hall.steps()]);
+    let alone = rejoin(alloc, limits(rt), &[hall.steps()]);
     same(rt, alone, Err(Rejoin::Broken { number: 1 }));
-    same(rt, rejoin(alloc, limits()?, &[]), Ok(0));
-    Ok(())
+    same(rt, rejoin(alloc, limits(rt), &[]), Ok(0));
 }
 
 /// What is tried of a hall and its first volume.
@@ -108,40 +96,38 @@ enum Trial {
     Breaks,
 }
 
-/// Rolls a new hall, and tries it.
-fn tried(rt: &impl Abort, alloc: Global, trial: Trial) -> Result<(), AllocError> {
-    let mut hall = hall(alloc, 6)?;
-    let volume = rolled(rt, alloc, &mut hall);
-    let ended = match &volume {
-        Ok(volume) => {
-            tells_of_the_volume(rt, &hall, volume);
-            match trial {
-                Trial::Joins => joins(rt, alloc, &mut hall, volume),
-                Trial::Breaks => breaks(rt, alloc, &mut hall, volume),
-            }
-        }
-        Err(_) => Err(AllocError),
-    };
-    drop(volume);
+/// Tries a new hall and the volume that it hands out.
+fn tries(rt: &impl Abort, alloc: Global, hall: &mut Hall, trial: Trial) {
+    let volume = rolled(rt, alloc, hall);
+    tells_of_the_volume(rt, hall, &volume);
+    match trial {
+        Trial::Joins => joins(rt, alloc, hall, &volume),
+        Trial::Breaks => breaks(rt, alloc, hall, &volume),
+    }
+}
+
+/// The same, of a hall of its own.
+fn tried(rt: &impl Abort, alloc: Global, trial: Trial) {
+    let mut hall = hall(rt, alloc, 6);
+    tries(rt, alloc, &mut hall, trial);
     drop(hall);
-    ended
 }
 
 #[test]
-fn volumes_join_to_a_run(rt: HostRuntime) -> Result<(), Fail> {
-    Ok(tried(&rt, rt.alloc(), Trial::Joins)?)
+fn volumes_join_to_a_run(rt: HostRuntime) {
+    tried(&rt, rt.alloc(), Trial::Joins);
 }
 
 #[test]
-fn what_is_no_run_is_broken(rt: HostRuntime) -> Result<(), Fail> {
-    Ok(tried(&rt, rt.alloc(), Trial::Breaks)?)
+fn what_is_no_run_is_broken(rt: HostRuntime) {
+    tried(&rt, rt.alloc(), Trial::Breaks);
 }
 
 /// A hall may roll at any time, also with nothing recorded.
-fn rolls_on(rt: &impl Abort, alloc: Global, hall: &mut Hall) -> Result<(), AllocError> {
-    drop(rolled(rt, alloc, hall)?);
+fn rolls_on(rt: &impl Abort, alloc: Global, hall: &mut Hall) {
+    drop(rolled(rt, alloc, hall));
     for index in 2u64..50 {
-        let volume = hall.roll().map_err(|_| AllocError)?;
+        let volume = hall.roll().expect(rt, "a volume");
         same(
             rt,
             (volume.index(), volume.before(), volume.steps().len()),
@@ -149,15 +135,13 @@ fn rolls_on(rt: &impl Abort, alloc: Global, hall: &mut Hall) -> Result<(), Alloc
         );
     }
     same(rt, (hall.index(), hall.count()), (50, 5));
-    play(rt, alloc, hall, NEXT)?;
+    play(rt, alloc, hall, NEXT);
     same(rt, hall.count(), 7);
-    Ok(())
 }
 
 #[test]
-fn a_hall_rolls_many_times_in_a_row(rt: HostRuntime) -> Result<(), Fail> {
-    let mut hall = hall(rt.alloc(), 6)?;
-    let ended = rolls_on(&rt, rt.alloc(), &mut hall);
+fn a_hall_rolls_many_times_in_a_row(rt: HostRuntime) {
+    let mut hall = hall(&rt, rt.alloc(), 6);
+    rolls_on(&rt, rt.alloc(), &mut hall);
     drop(hall);
-    Ok(ended?)
 }

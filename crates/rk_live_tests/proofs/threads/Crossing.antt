@@ -1,0 +1,46 @@
+-- What a thread has kept may go to the one that gathers it. Each part is a lemma, since a search that goes down through all of them runs out of steps.
+use denote.RattleType.{RattleType}
+use denote.Param.Send.{IsSend, IsSync, sendable}
+use Rattle.std.proofs.Crossing.{crosses}
+use Rattle.std.proofs.sync.ledger.Share.TheSendSync as shares
+use Rattle.std.specs.contracts.alloc.Global as global
+use Rattle.rk_record.specs.contracts.receipt.Receipt as receipt
+use Rattle.rk_record.specs.contracts.told.Told as told
+use Rattle.rk_record.specs.contracts.volume.Volume as recorded
+use Rattle.rk_hall.specs.declared.names.Names as names
+use Rattle.rk_hall.specs.contracts.seat.Seat as seat
+use Rattle.rk_hall.specs.contracts.volume.Volume as volume
+use Rattle.rk_hall.proofs.Crossing.{answer_send, ask_send, book_send, recorded_send, reply_send, subject_send}
+use Rattle.rk_live_tests.specs.contracts.threads.caller.Caller as caller
+
+pub global_sync : IsSync global.the_row
+global_sync = search (sendable, crosses) depth 40 fits 20000
+
+told_send : IsSend told.the_row
+told_send = let k = ask_send in search (sendable, crosses) depth 40 fits 20000
+
+receipt_send : IsSend receipt.the_row
+receipt_send =
+    let k = ask_send in
+    let t = told_send in
+    let r = reply_send in
+    let s = subject_send in
+    let a = answer_send in
+    search (sendable, crosses) depth 60 fits 60000
+
+steps_send : IsSend recorded.the_row
+steps_send = let b = book_send in let r = recorded_send in search (sendable, crosses) depth 40 fits 20000
+
+module _ (N : RattleType) (g : names.Ghosts N.Denot) where
+  seat_send : IsSend N → IsSend (seat.the_row N g)
+  seat_send n = search (sendable, crosses, shares.the_send) depth 40 fits 20000
+
+  volume_send : IsSend N → IsSend (volume.the_row N g)
+  volume_send n = let s = steps_send in search (sendable, crosses) depth 40 fits 20000
+
+  pub caller_send : IsSend N → IsSend (caller.the_row N g)
+  caller_send n =
+      let r = receipt_send in
+      let s = seat_send n in
+      let v = volume_send n in
+      search (sendable, crosses) depth 40 fits 20000

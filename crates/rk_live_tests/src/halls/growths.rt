@@ -1,0 +1,171 @@
+//! Growths that are refused: a call makes no step then, and nothing that is owed wants memory.
+//!
+//! With ample memory a client only goes its path. tests/test_growths.py plays it with growths refused: at the first call that is refused the client goes.
+//! Whatever it came to, the records agree with the receipts; last the steps are compared with those of the whole path, so that both are told.
+ghost use Rattle.rk_hall.specs.Seats.{IsCall};
+
+use crate::asks::{CLIENT, hello, payload, request};
+use crate::fakes::still::NOW;
+use crate::halls::calls::refuse_launch;
+use crate::halls::opening::{Scene, in_new_halls};
+use crate::halls::paths::{all, collects, ends, goes, keep, negates, runs};
+use crate::same::same;
+use rk_hall::{CallFault, Called, HallNo, Halls, Launch, Names, Receipt, Seat, Volume, settle};
+use rk_machine::{Event, How};
+use rk_message::Ask;
+use rk_names::Payload;
+use std::alloc::{AllocError, Global};
+use std::process::Abort;
+use std::sync::Wait;
+
+/// The path of a client whose piped handler exits with this status, in so many steps: with 0 its key is made, else another handler follows, which can't be
+/// started.
+#[derive(Clone, Copy)]
+pub struct Growths {
+    status: u8,
+    steps: u64,
+}
+
+/// What wants memory on the path, beside the calls and the receipts.
+#[derive(Drop)]
+struct Needs {
+    request: Ask,
+    put_out: Payload,
+}
+
+impl Growths {
+    /// Goes the path as far as memory reaches, and settles.
+    pub fn play<N: Names, R: Wait + Abort>(self, rt: &R, alloc: Global, halls: Halls<N>) {
+        let mut seats = Vec::with_capacity(alloc, 1).expect(rt, "memory");
+        let mut receipts = Vec::with_capacity(alloc, 8).expect(rt, "memory");
+        let mut seat = halls.seat(rt).expect(rt, "a seat");
+        self.follow(rt, alloc, &halls, &mut seat, &mut receipts);
+        seats.push(seat).expect(rt, "memory");
+        let none: Vec<Volume<N>> = Vec::new(alloc);
+        let steps = receipts.len() as u64;
+        let settled = settle(halls, &none, seats, &receipts);
+        same(rt, settled, Ok(all(steps)));
+        same(rt, steps, self.steps);
+    }
+
+    /// The path.
+    fn follow<N: Names, R: Wait + Abort>(
+        self,
+        rt: &R,
+        alloc: Global,
+        halls: &Halls<N>,
+        seat: &mut Seat<N>,
+        receipts: &mut Vec<Receipt>,
+    ) {
+        let needs = Needs {
+            request: request(alloc, b"a").expect(rt, "memory"),
+            put_out: payload(alloc, b"v").expect(rt, "memory"),
+        };
+        if !is_made(rt, halls, seat, receipts, Event::Opened(CLIENT)) {
+            return;
+        }
+        if is_made(rt, halls, seat, receipts, Event::Asked(CLIENT, hello())) {
+            self.construct(rt, halls, seat, receipts, needs);
+        }
+        goes(rt, halls, seat, receipts);
+    }
+
+    /// The key is requested, and, where there is memory for that call, its construction comes to its end.
+    fn construct<N: Names, R: Wait + Abort>(
+        self,
+        rt: &R,
+        halls: &Halls<N>,
+        seat: &mut Seat<N>,
+        receipts: &mut Vec<Receipt>,
+        needs: Needs,
+    ) {
+        let Needs { request, put_out } = needs;
+        let request = Event::Asked(CLIENT, request);
+        if let Ok(launch) = tries(rt, halls, seat, receipts, request) {
+            let launch = launch.expect(rt, "a launch");
+            self.finish(rt, halls, seat, receipts, launch, put_out);
+        }
+    }
+
+    /// All that is owed to a start, and the outcome; a seat is given back, too.
+    fn finish<N: Names, R: Wait + Abort>(
+        self,
+        rt: &R,
+        halls: &Halls<N>,
+        seat: &mut Seat<N>,
+        receipts: &mut Vec<Receipt>,
+        launch: Launch<N>,
+        put_out: Payload,
+    ) {
+        let other = halls.seat(rt).expect(rt, "a seat");
+        let running = runs(rt, halls, seat, receipts, launch);
+        let how = How::Exit(self.status);
+        let next = ends(rt, halls, seat, receipts, running, how, put_out);
+        if self.status == 0 {
+            refuse_launch(rt, halls, seat, next);
+        } else {
+            negates(rt, halls, seat, receipts, next);
+        }
+        collects(rt, halls, seat, receipts);
+        halls.retire(rt, other);
+    }
+}
+
+/// A call that begins no construction. Whether there was memory for it.
+fn is_made<N: Names, R: Wait + Abort>(
+    rt: &R,
+    halls: &Halls<N>,
+    seat: &mut Seat<N>,
+    receipts: &mut Vec<Receipt>,
+    event: Event,
+) -> bool
+    requires { IsCall event }
+{
+    match tries(rt, halls, seat, receipts, event) {
+        Ok(launch) => {
+            refuse_launch(rt, halls, seat, launch);
+            true
+        }
+        Err(AllocError) => false,
+    }
+}
+
+/// A call; an `Err` is want of memory.
+fn tries<N: Names, R: Wait + Abort>(
+    rt: &R,
+    halls: &Halls<N>,
+    seat: &mut Seat<N>,
+    receipts: &mut Vec<Receipt>,
+    event: Event,
+) -> Result<Option<Launch<N>>, AllocError>
+    requires { IsCall event }
+{
+    match halls.call(rt, seat, HallNo::Zero, NOW, event) {
+        Ok(Called { receipt, launch }) => {
+            keep(rt, receipts, receipt);
+            Ok(launch)
+        }
+        Err(fault) => {
+            same(rt, fault, CallFault::NoMemory);
+            Err(AllocError)
+        }
+    }
+}
+
+#[test]
+fn growths_of_a_key_that_is_made(rt: HostRuntime) {
+    let made = Growths {
+        status: 0,
+        steps: 7,
+    };
+    in_new_halls(&rt, rt.alloc(), 100, Scene::Growths(made));
+}
+
+#[test]
+fn growths_of_a_second_handler(rt: HostRuntime) {
+    let followed = Growths {
+        status: 1,
+        steps: 8,
+    };
+    in_new_halls(&rt, rt.alloc(), 100, Scene::Growths(followed));
+}

@@ -1,0 +1,61 @@
+//! What clients ask at random: the same in every run.
+ghost use Rattle.std.specs.Prelude.{◌<◌};
+
+use crate::asks::{add, find, request};
+use rk_message::Ask;
+use std::alloc::{AllocError, Global};
+
+/// From this letter on so many names are asked for, fewer than a user may have keys.
+const FIRST_NAME: u8 = b'0';
+
+const NAMES: u8 = 64;
+
+/// A key is picked among about so many that were made last.
+const LAST: u8 = 32;
+
+/// How far the serials of a hall are from one another.
+const STRIDE: u32 = 4;
+
+const SESSION_RING: i32 = -3;
+
+const USER_RING: i32 = -4;
+
+/// Numbers that seem random: Knuth's linear congruence, of which the upper byte is taken.
+#[derive(Drop)]
+pub struct Numbers(pub u64);
+
+impl Numbers {
+    /// The next one, below the bound.
+    fn below(&mut self, bound: u8) -> u8
+        requires { 0 < bound }
+    {
+        let next = self.0.wrapping_mul(6_364_136_223_846_793_005);
+        self.0 = next.wrapping_add(1_442_695_040_888_963_407);
+        let [upper, ..] = self.0.to_be_bytes();
+        upper % bound
+    }
+
+    /// What is asked next, where this is the greatest serial that the client was told: some asks come more often than others.
+    pub fn ask(&mut self, alloc: Global, newest: u32) -> Result<Ask, AllocError> {
+        let name = [FIRST_NAME.wrapping_add(self.below(NAMES))];
+        let back = u32::from(self.below(LAST)) * STRIDE;
+        let key = i32::try_from(newest.saturating_sub(back)).unwrap_or(0);
+        match self.below(16) {
+            0..=4 => add(alloc, &name),
+            5 => request(alloc, &name),
+            6 => find(alloc, &name),
+            7 | 8 => Ok(Ask::Read { key }),
+            9 | 10 => Ok(Ask::Describe { key }),
+            11 | 12 => Ok(Ask::Link {
+                key,
+                ring: USER_RING,
+            }),
+            13 => Ok(Ask::Unlink {
+                key,
+                ring: SESSION_RING,
+            }),
+            14 => Ok(Ask::Revoke { key }),
+            _ => Ok(Ask::Clear { ring: USER_RING }),
+        }
+    }
+}
