@@ -4,7 +4,8 @@
 usage: run.py [--lines N] [--runs N] [--instructions N] [--asks N] [--only WORDS] [--folder FOLDER] WHAT ..
 
 replay   `reqkeyd replay` and bench/c/replay.c on the scripts of loads.py, whose outputs have to be equal byte by byte
-steps    the same two: what a step costs, by the number of keys, less what a line takes by itself; and steps of bench/c/book.c, which reads no script
+steps    the same two: what a step costs in instructions and in time, by the number of keys, less what a line takes by itself; and steps of
+         bench/c/book.c, which reads no script
 memory   what both take for each key
 profile  where `reqkeyd replay` spends its instructions on those scripts
 hall     what a call costs behind a lock: `hall_bench` and bench/c/hall.c
@@ -217,14 +218,30 @@ def played(options):
     return found
 
 
+def stepped(options):
+    """By step and by what is there, the instructions of a line less those of one that is refused at once: what is set up is the same."""
+    programs, found = players(), {}
+    for others, size in zip(OTHERS, SIZES):
+        by_load = {}
+        for name, load in [("", loads.refusals), *loads.STEPS]:
+            script = loads.text(*load(options.instructions, others))
+            by_load[name] = {who: instructions(words, script) / options.instructions for who, words in programs.items()}
+        for who in programs:
+            for name, _ in loads.STEPS:
+                found.setdefault(who, {}).setdefault(name, {})[size] = by_load[name][who] - by_load[""][who]
+    return found
+
+
 def steps(options):
+    if options.instructions:
+        tell_steps(stepped(options), "Instructions in scripts, 199 keys of each user", "instructions")
     tell_steps(played(options), "In scripts, 199 keys of each user")
     for title, more in [("200 keys of each user", []), ("the keys spread over 1,000 users", ["--users", "1000"])]:
         tell_steps({C: steps_of([peer("book"), *more, *SIZES], options.runs)}, f"Without scripts, {title}")
 
 
-def tell_steps(found, title):
-    print(f"\n{title}: ns a step, and how many times that with 200 keys, which is to be {figures.GROWTH}\n")
+def tell_steps(found, title, unit="ns"):
+    print(f"\n{title}: {unit} a step, and how many times that with 200 keys, which is to be {figures.GROWTH}\n")
     table("step", "program", *[f"{int(size):,} keys" for size in SIZES])
     for step in found[C]:
         for who, steps in found.items():

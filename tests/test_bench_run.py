@@ -39,6 +39,7 @@ def fake(programs):
         "outputs_are_equal": lambda *_: (True, 1000),
         "measure": lambda *_: {who: (0.007 if who == OURS else 0.001, 3000 if who == OURS else 2000, 0.01) for who in programs},
         "counted": lambda *_: {who: 5000 if who == OURS else 1000 for who in programs},
+        "stepped": lambda _: {who: steps for who in programs},
         "played": lambda _: {who: steps for who in programs},
         "steps_of": lambda *_: steps,
         "run": lambda _, script: (0.01, 4 * len(script) // 1024, 0),
