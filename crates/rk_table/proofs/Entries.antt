@@ -13,27 +13,6 @@ use Rattle.std.specs.FinMap.Entries.{find-where_key}
 pub tie : (q k : ℕ) → eq_by_cmp nat_cmp q k ≡ nat_eq k q
 tie q k = unsigned_tied q k ∙ nat_eq_equiv.symm q k
 
-module _ {A : Type 0} where
-  -- the list with its first i elements changed
-  abbrev pub changed_front : (A → A) → List A → ℕ → List A
-  changed_front f [] i = []
-  changed_front f (x ∷ xs) zero = x ∷ xs
-  changed_front f (x ∷ xs) (suc i) = f x ∷ changed_front f xs i
-
-  pub none_changed : (f : A → A) (xs : List A) → changed_front f xs 0 ≡ xs
-  none_changed f [] = refl
-  none_changed f (x ∷ xs) = refl
-
-  pub one_more_changed : (f : A → A) (xs : List A) (i : ℕ) (d : A) → i < length xs → set (changed_front f xs i) i (f (get_or (changed_front f xs i) i d)) ≡ changed_front f xs (i + 1)
-  one_more_changed f [] i d h = absurd (omega arith)
-  one_more_changed f (x ∷ xs) zero d h = ap (λ ys. f x ∷ ys) (sym (none_changed f xs))
-  one_more_changed f (x ∷ xs) (suc i) d h = rw add-one (ap (λ ys. f x ∷ ys) (one_more_changed f xs i d (omega arith) ∙ ap (changed_front f xs) (add-one i)))
-
-  pub all_changed : (f : A → A) (xs : List A) (i : ℕ) → length xs ≤ i → changed_front f xs i ≡ list_map f xs
-  all_changed f [] i h = refl
-  all_changed f (x ∷ xs) zero h = absurd (omega arith)
-  all_changed f (x ∷ xs) (suc i) h = ap (λ ys. f x ∷ ys) (all_changed f xs i (omega arith))
-
 module _ {X : Type 0} where
   find_drop : (q : ℕ) (es : List (ℕ × X)) (i : ℕ) (d : ℕ × X) → i < length es
       → find nat_cmp q (drop i es) ≡ cond (eq_by_cmp nat_cmp q (get_or es i d).0) (Some (get_or es i d).1) (find nat_cmp q (drop (i + 1) es))
@@ -92,15 +71,3 @@ module _ {X : Type 0} where
   pub get_changed_all : (f : X → X) (m : FinMap nat_cmp X) (q : ℕ) → get (changed_all f m) q ≡ option_map f (get m q)
   get_changed_all f m q =
       get_in (list_map (λ e. (e.0, f e.1)) (entries m)) q ∙ find_changed f q (entries m) ∙ ap (option_map f) (sym (get-entries m q))
-
-  pub changed_in_all : (f : X → X) (es : List (ℕ × X)) (m : FinMap nat_cmp X) → from_entries es ≡ m → from_entries {R = nat_cmp} (list_map (λ e. (e.0, f e.1)) es) ≡ changed_all f m
-  changed_in_all f es m view = same_map nat_cmp_total nat_cmp-IsAntisymmetric _ _ (λ q.
-      get_in (list_map (λ e. (e.0, f e.1)) es) q ∙ find_changed f q es ∙ ap (option_map f) (sym (get_in es q) ∙ ap (λ n. get n q) view)
-      ∙ sym (get_changed_all f m q))
-
-  pub one_more_entry : (f : X → X) (xs es : List (ℕ × X)) (i : ℕ) (d : ℕ × X) (v : X) → i < length xs → es ≡ changed_front (λ e. (e.0, f e.1)) xs i → v ≡ f (get_or es i d).1
-      → set es i ((get_or es i d).0, v) ≡ changed_front (λ e. (e.0, f e.1)) xs (i + 1)
-  one_more_entry f xs es i d v h is new =
-      ap (λ w. set es i ((get_or es i d).0, w)) new
-      ∙ ap (λ ys. set ys i ((get_or ys i d).0, f (get_or ys i d).1)) is
-      ∙ one_more_changed (λ e. (e.0, f e.1)) xs i d h

@@ -85,10 +85,6 @@ module _ {X : Type 0} where
   keys_written (x ∷ es) zero e v at = ap (λ (y : ℕ × X). y.0 ∷ list_map (λ (z : ℕ × X). z.0) es) (sym at)
   keys_written (x ∷ es) (suc i) e v at = ap (λ ks. x.0 ∷ ks) (keys_written es i e v at)
 
-  pub keys_changed : (f : X → X) (es : List (ℕ × X)) → list_map (λ (e : ℕ × X). e.0) es ≡ list_map (λ (e : ℕ × X). e.0) (list_map (λ (e : ℕ × X). (e.0, f e.1)) es)
-  keys_changed f [] = refl
-  keys_changed f (e ∷ es) = ap (λ ks. e.0 ∷ ks) (keys_changed f es)
-
   find_kept : (p : ℕ → X → Bool) (q : ℕ) (es : List (ℕ × X)) → HasEachOnce es
       → find nat_cmp q (filter (λ e. p e.0 e.1) es) ≡ cond (option_map_or (p q) (find nat_cmp q es) false) (find nat_cmp q es) None
   find_kept p q [] h = refl

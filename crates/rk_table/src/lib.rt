@@ -16,8 +16,7 @@
 //! # Use
 //!
 //! Reserve, and then insert: `table.reserve(1)?; table.insert(3, fact);`. A value is changed in its place by a small struct that implements
-//! [`ChangeOnce`] and says in its ghost member what it makes of the value; all values by one that implements [`Change`]; a [`Test`]
-//! picks entries in the same way.
+//! [`ChangeOnce`] and says in its ghost member what it makes of the value; a [`Test`] picks entries in the same way.
 //!
 //! A `Table` is for what has a bound, as the links of a ring, and a `HashTable` for what has none, as the keys. [`Counts`] is a `Table` of counts.
 //!
@@ -25,7 +24,7 @@
 //!
 //! `table` has the table, `places` the search. A plain vector of entries in the order of their keys, each key once, so that a search halves
 //! it: `get`, `contains` and `change` look at 8 entries where 256 are held. `insert` and `remove` search alike, and then the entries
-//! of greater keys move by one place, in one piece; keys that come rising, as serials do, are put at the end. `any`, `find`, `change_all`
+//! of greater keys move by one place, in one piece; keys that come rising, as serials do, are put at the end. `any`, `find`
 //! and `retain` walk over all entries. `hashed` has the other, over an `indexmap`, whose entries are found by the hashes of their keys. `counts`
 //! counts numbers in a `Table`. No contract says how entries lie, so that another index can take its place.
 #![tactic(auto)]
@@ -37,4 +36,4 @@ mod table;
 
 pub use counts::Counts;
 pub use hashed::HashTable;
-pub use table::{Change, ChangeOnce, Table, Test};
+pub use table::{ChangeOnce, Table, Test};

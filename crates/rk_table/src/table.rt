@@ -1,12 +1,12 @@
 //! The table itself, and the changes and tests that its methods take.
-ghost use Rattle.std.specs.Prelude.{◌≡◌, ◌≤◌, ◌<◌, ◌-◌, filter, map as list_map, None, OnOk, OnErr, IfOk, IsOk, option_map, find as list_find, MatchOption};
+ghost use Rattle.std.specs.Prelude.{◌≡◌, ◌≤◌, ◌<◌, ◌-◌, filter, None, OnOk, OnErr, IfOk, IsOk, option_map, find as list_find, MatchOption};
 ghost use Rattle.std.specs.Prelude.{false, true, vec_len, vec_capacity};
 ghost use Rattle.std.specs.Ordering.{nat_cmp};
 ghost use Rattle.std.specs.Option.{option_copied, option_map_or};
 ghost use Rattle.std.specs.List.{list_any};
 ghost use Rattle.std.specs.FinMap as map;
 ghost use Rattle.rk_table.specs.Entries.{KeysRise};
-ghost use Rattle.rk_table.specs.Maps.{changed_at, changed_all, kept_where};
+ghost use Rattle.rk_table.specs.Maps.{changed_at, kept_where};
 ghost use Rattle.rk_table.specs.Stored.{Stored, stored_code, places};
 
 use crate::places::{place_of, put_at};
@@ -20,15 +20,6 @@ pub trait ChangeOnce<V> {
     /// Changes the value.
     fn change(self, value: &mut V)
         ensures { value.new ≡ changed self value.old };
-}
-
-/// A change of each value in its place.
-pub trait Change<V> {
-    ghost changed: { Self → V → V };
-
-    /// Changes the value.
-    fn change(&self, value: &mut V)
-        ensures { value.new ≡ changed self.now value.old };
 }
 
 /// A test of entries.
@@ -157,15 +148,6 @@ impl<V> Table<V> {
             change.change(&mut self.entries[place].1);
         }
     }
-
-    /// Changes each value. It takes no memory.
-    pub fn change_all<C: Change<V>>(&mut self, change: &C)
-        ensures facts { self.new.facts ≡ changed_all (C.changed change.now) self.old.facts }
-        ensures places { places self.new ≡ places self.old }
-        ensures room { self.new.room ≡ self.old.room }
-    {
-        change_each(&mut self.entries, change);
-    }
 }
 
 impl<V: Drop> Table<V> {
@@ -188,14 +170,6 @@ impl<V: Drop> Table<V> {
         if let Ok(place) = place_of(&self.entries, key) {
             self.entries.remove(place);
         }
-    }
-}
-
-fn change_each<V, C: Change<V>>(entries: &mut [(u32, V)], change: &C)
-    ensures { entries.new ≡ list_map (λ e. (e.0, C.changed change.now e.1)) entries.old }
-{
-    for entry in entries.iter_mut() {
-        change.change(&mut entry.1);
     }
 }
 
