@@ -1,6 +1,7 @@
 //! The lines of a script, played one after the other.
-ghost use Rattle.std.specs.Prelude.{◌≡◌, ◌⊎◌, ◌++◌, ◌+◌, ◌<◌, ◌^◌, [], false, IfOk, IfErr, OnOk, Err};
+ghost use Rattle.std.specs.Prelude.{◌≡◌, ◌⊎◌, ◌++◌, ◌+◌, ◌<◌, ◌^◌, [], false, IfOk, IfErr, OnOk, Err, Some};
 ghost use Rattle.std.specs.List.{flat_map};
+ghost use Rattle.rk_served.specs.Left.{nothing};
 ghost use Rattle.rk_replay.specs.Reading.{reading_of};
 ghost use Rattle.rk_replay.specs.declared.script_line.ScriptLine.TheVariants as reading;
 ghost use Rattle.rk_replay.specs.Writing.{output_line, conf_line};
@@ -126,10 +127,27 @@ fn play_body(
         return Ok(());
     };
     let mut replay = Replay::new(alloc, conf, head.settings.limits())?;
+    play_from(alloc, &mut replay, head, first, transcript)
+}
+
+/// Plays the first happening and the lines behind it.
+fn play_from(
+    alloc: Global,
+    replay: &mut Replay,
+    head: &Head<'_>,
+    first: &First<'_>,
+    transcript: &mut Transcript,
+) -> Result<(), AllocError>
+    requires first { head.now.first ≡ Some first.now }
+    requires few { head.now.number + bytes_from head.now.first < 2 ^ 64 }
+    requires fine { replay.old.broken ≡ false }
+    requires left { replay.old.left ≡ nothing (record { negative = head.now.settings.negative; first = 1; stride = 1 }) }
+    ensures { OnOk result (PlaysBody replay.old.conf head.now transcript.old transcript.new) }
+{
     let mut number = head.number;
     play_happening(
         alloc,
-        &mut replay,
+        replay,
         number,
         first.now,
         &first.happening,
@@ -139,7 +157,7 @@ fn play_body(
     number += 1;
     while let Some(left) = rest {
         let (line, after) = cut_line(left);
-        play_line(alloc, &mut replay, number, line, transcript)?;
+        play_line(alloc, replay, number, line, transcript)?;
         number += 1;
         rest = after;
     }

@@ -1,14 +1,14 @@
 use Rattle.std.proofs.Common.{◌≡◌, ◌+◌, ◌<◌, ◌^◌, false}
 use Rattle.rk_replay.specs.Playing.{readings_left, readings_from, bytes_left}
 use Rattle.rk_replay.proofs.Bodies.{Played}
-use Rattle.rk_replay.proofs.playing.play_body.Given as goal
+use Rattle.rk_replay.proofs.playing.play_from.Given as goal
 
 abbrev pub invariant-loop-rest : goal.invariant-loop-rest
 invariant-loop-rest l = record {
   fine : l.replay.broken ≡ false;
-  conf : l.replay.conf ≡ l.fn.conf;
+  conf : l.replay.conf ≡ l.fn.replay.conf;
   few : l.number + bytes_left l.rest < 2 ^ 64;
-  played : Played l.fn.conf (record { negative = l.fn.head.settings.negative; first = 1; stride = 1 }) l.fn.head.number l.number
+  played : Played l.fn.replay.conf (record { negative = l.fn.head.settings.negative; first = 1; stride = 1 }) l.fn.head.number l.number
       (readings_from l.fn.head.first) (readings_left l.rest) l.fn.transcript l.transcript l.replay.left;
 }
 
