@@ -1,0 +1,7 @@
+use Rattle.std.proofs.Common.{◌<◌, length, take}
+use Rattle.std.specs.List.{flat_map}
+use Rattle.rk_rejoin.specs.Judged.{steps_of, of_hall}
+use Rattle.rk_rejoin.proofs.judging.broken_at.Given as goal
+
+abbrev pub invariant-loop-volume : goal.invariant-loop-volume
+invariant-loop-volume l = length (flat_map steps_of (of_hall l.hall (take l.volume-index l.volumes))) < l.number

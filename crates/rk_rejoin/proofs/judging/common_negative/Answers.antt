@@ -1,0 +1,17 @@
+use Rattle.std.proofs.Common.{rules, ◌≡◌, length, refl, sym, ◌∙◌}
+use Rattle.std.proofs.lemmas.Option.{slice_get_read}
+use Rattle.rk_rejoin.specs.Judged.{negative_of}
+use Rattle.rk_rejoin.proofs.judging.common_negative.Goals as goal
+
+pub returns-then-volume-negative-clause-refused : goal.returns-then-volume-negative-clause-refused
+returns-then-volume-negative-clause-refused c =
+    let vs = c.args.volumes.now in
+    let i = c.loop-volume.volume-index in
+    let same : c.in-Some.first.now.head.negative ≡ negative_of vs = search rules in (
+      i,
+      c.volume-item.result,
+      slice_get_read vs (length vs) i c.volume-item.result refl c.loop-volume-test.true c.volume-item.is,
+      c.number.ensures,
+      refl,
+      λ e. c.if-volume-negative.true (e ∙ sym same),
+    )

@@ -1,0 +1,31 @@
+use Rattle.std.proofs.Common.{◌≡◌, ℕ, subst}
+use Rattle.std.specs.List.{AllByRecursion}
+use Rattle.std.proofs.lemmas.Result.{err_from_is_err_and}
+use Rattle.rk_record.specs.declared.hall_no.HallNo.TheVariants as hall
+use Rattle.rk_volumes.specs.declared.stored.Stored.{Stored}
+use Rattle.rk_rejoin.proofs.Told.{hall_refused}
+use Rattle.rk_rejoin.proofs.judging.judge.Goals as goal
+
+pub returns-in_err-judge_hall-clause-refused : goal.returns-in_err-judge_hall-clause-refused
+returns-in_err-judge_hall-clause-refused c =
+    let p = err_from_is_err_and c.from_residual-in_err-judge_hall.result c.from_residual-in_err-judge_hall.ensures.1 in
+    rw (p.1, p.2) (hall_refused c.args.volumes.now hall.Zero _ _ c.in_ok-negative.ensures.first c.in_err-judge_hall.ensures.refused)
+
+pub returns-in_err-judge_hall-2-clause-refused : goal.returns-in_err-judge_hall-2-clause-refused
+returns-in_err-judge_hall-2-clause-refused c =
+    let p = err_from_is_err_and c.from_residual-in_err-judge_hall-2.result c.from_residual-in_err-judge_hall-2.ensures.1 in
+    rw (p.1, p.2) (hall_refused c.args.volumes.now hall.One _ _ c.in_ok-negative.ensures.first c.in_err-judge_hall-2.ensures.refused)
+
+pub returns-in_err-judge_hall-3-clause-refused : goal.returns-in_err-judge_hall-3-clause-refused
+returns-in_err-judge_hall-3-clause-refused c =
+    let p = err_from_is_err_and c.from_residual-in_err-judge_hall-3.result c.from_residual-in_err-judge_hall-3.ensures.1 in
+    rw (p.1, p.2) (hall_refused c.args.volumes.now hall.Two _ _ c.in_ok-negative.ensures.first c.in_err-judge_hall-3.ensures.refused)
+
+pub returns-in_err-judge_hall-4-clause-refused : goal.returns-in_err-judge_hall-4-clause-refused
+returns-in_err-judge_hall-4-clause-refused c =
+    let p = err_from_is_err_and c.from_residual-in_err-judge_hall-4.result c.from_residual-in_err-judge_hall-4.ensures.1 in
+    rw (p.1, p.2) (hall_refused c.args.volumes.now hall.Three _ _ c.in_ok-negative.ensures.first c.in_err-judge_hall-4.ensures.refused)
+
+pub returns-clause-negative : goal.returns-clause-negative
+returns-clause-negative c =
+    subst (λ (n : ℕ). AllByRecursion (λ (v : Stored). v.head.negative ≡ n) c.args.volumes.now) c.in_ok-negative.ensures.first c.in_ok-negative.ensures.all

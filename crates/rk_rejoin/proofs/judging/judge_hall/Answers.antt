@@ -1,0 +1,41 @@
+use Rattle.std.proofs.Common.{ℕ, List, length, ap, ◌∙◌, inr, arith}
+use Rattle.rk_record.specs.declared.recorded.Recorded.{Recorded}
+use Rattle.rk_record.specs.Volumes.{counted}
+use Rattle.rk_rejoin.specs.Judged.{of_hall, joined}
+use Rattle.rk_rejoin.proofs.Joined.{as_many, flat_steps}
+use Rattle.rk_rejoin.proofs.Told.{run_of, broken_of, breaks_at, numbered, hall_broken}
+use Rattle.rk_rejoin.proofs.judging.judge_hall.Goals as goal
+
+pub returns-in-Ok-clause-is : goal.returns-in-Ok-clause-is
+returns-in-Ok-clause-is c =
+    let vs = of_hall c.args.hall c.args.volumes.now in
+    let had = c.in_ok-steps.ensures in
+    let ls = c.in_ok-steps.steps.items in
+    let flat = flat_steps c.deref.result.now ls vs c.deref.ensures.value had.steps in
+    let run = c.in-Ok.ensures.run in
+    record {
+      next = had.next;
+      volumes = omega (arith, c.len.ensures, as_many ls vs had.steps);
+      steps = c.in-Ok.ensures.count ∙ ap (λ (l : List Recorded). counted (length l)) flat;
+      world = run.0;
+      run = run_of c.limits_of.result c.args.negative c.args.hall _ _ run.0 c.limits_of.ensures flat run.1;
+    }
+
+pub broken_at-requires-clause-within : goal.broken_at-requires-clause-within
+broken_at-requires-clause-within c =
+    let vs = of_hall c.args.hall c.args.volumes.now in
+    let had = c.in_ok-steps.ensures in
+    let flat = flat_steps c.deref.result.now c.in_ok-steps.steps.items vs c.deref.ensures.value had.steps in
+    let at = breaks_at _ _ c.in-Err-Broken.field-0 c.in-Err-Broken.number c.in-Err-Broken.field-0-is c.in-Err-Broken.ensures.broken in
+    let number = numbered _ _ c.in-Err-Broken.number at.0 at.1 (omega (arith, ap length flat, had.count)) at.2 in
+    (omega (arith, number.0), omega (arith, number.1, ap length flat))
+
+pub returns-in-Err-Broken-clause-refused : goal.returns-in-Err-Broken-clause-refused
+returns-in-Err-Broken-clause-refused c =
+    let vs = of_hall c.args.hall c.args.volumes.now in
+    let had = c.in_ok-steps.ensures in
+    let flat = flat_steps c.deref.result.now c.in_ok-steps.steps.items vs c.deref.ensures.value had.steps in
+    let at = breaks_at _ _ c.in-Err-Broken.field-0 c.in-Err-Broken.number c.in-Err-Broken.field-0-is c.in-Err-Broken.ensures.broken in
+    let number = numbered _ _ c.in-Err-Broken.number at.0 at.1 (omega (arith, ap length flat, had.count)) at.2 in
+    inr (hall_broken c.args.negative c.args.hall c.args.volumes.now c.in-Err-Broken.number at.0 c.broken_at.result had.next number.0
+    (broken_of c.limits_of.result c.args.negative c.args.hall _ _ at.0 c.limits_of.ensures flat at.2) c.broken_at.ensures)

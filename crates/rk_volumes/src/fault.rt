@@ -1,0 +1,43 @@
+//! Why a file is no volume.
+ghost use Rattle.std.specs.Prelude.{◌≡◌};
+ghost use Rattle.rk_volumes.specs.declared.fault.Unread.TheVariants.{NoMemory as no_memory};
+
+use std::alloc::AllocError;
+use thiserror::Error;
+
+/// Why a file is no volume, in the order in which it is found.
+#[derive(Clone, Copy, Debug, PartialEq, Eq, Error)]
+pub enum Fault {
+    /// It does not begin with the line that names the format and its version.
+    #[error("it does not begin as a volume of this version")]
+    Title,
+    /// No head stands behind the line: it is cut, or there is no such hall.
+    #[error("its head is cut or bad")]
+    Head,
+    /// The step of this number, from 1 within the volume, is cut or bad.
+    #[error("its step {0} is cut or bad")]
+    Step(u64),
+    /// Bytes are left behind the last step.
+    #[error("bytes are left behind its last step")]
+    Trailing,
+    /// There was no memory for it.
+    #[error("no memory")]
+    NoMemory,
+}
+
+/// Why a part of a file was not read.
+#[derive(Clone, Copy, Debug, PartialEq, Eq)]
+pub(crate) enum Unread {
+    /// The bytes are no such part.
+    Bad,
+    /// There was no memory for it.
+    NoMemory,
+}
+
+impl From<AllocError> for Unread {
+    ghost from_gives = { λ _ e. e ≡ no_memory };
+
+    fn from(_error: AllocError) -> Unread {
+        Unread::NoMemory
+    }
+}

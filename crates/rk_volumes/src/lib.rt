@@ -1,0 +1,44 @@
+//! The volumes of a hall's record as files, written and read.
+//!
+//! # Purpose
+//!
+//! A daemon that keeps its record writes each volume into a file (`reqkeyd serve --record`). [`Head::store`] writes one, and [`Stored::read`] reads it: the
+//! hall and the place of the volume in its record, the seconds for which a key is negative, and every step with its moment, its event and its answer.
+//!
+//! # What it promises
+//!
+//! A file is one volume or none (`volumes_have_one_reading`): what was written is read back as the same head and the same steps, and no file is another one
+//! with more bytes behind it. So a file that is cut anywhere is refused, and so is one with a byte too many. A [`Fault`] says what is wrong and at which step,
+//! and comes exactly where that is so; want of memory alone comes besides.
+//!
+//! # The format
+//!
+//! A line of text names the format and its version. Behind it stand the head and the steps, in numbers with their highest byte first. A step is its moment,
+//! its event and its answer; event and answer are rows of one shape, each behind its length: a kind, a byte that says how, a number, and the rest. Asks and
+//! replies stand in a row as they do on the wire (rk_message). docs/RECORD.md has the tables.
+//!
+//! # How it is built
+//!
+//! `specs/Format.antt` is the format. `numbers` reads numbers and what stands behind a length, `row` reads and writes rows, `kinds` has the numbers of
+//! sessions, starts, ends and uses. `event_reading`, `event_writing`, `answer_reading` and `answer_writing` make rows of steps and back, `subject` has what
+//! is started. `step`, `head` and `stored` put them together.
+#![tactic(auto)]
+
+mod answer_reading;
+mod answer_writing;
+mod event_reading;
+mod event_writing;
+mod fault;
+mod head;
+mod kinds;
+mod law;
+mod numbers;
+mod row;
+mod step;
+mod stored;
+mod subject;
+
+pub use fault::Fault;
+pub use head::Head;
+pub use law::volumes_have_one_reading;
+pub use stored::Stored;
