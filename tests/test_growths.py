@@ -1,9 +1,11 @@
 #!/usr/bin/env python3
-"""Refuses growths to a client on its path through a hall, in the test program that `rt ci` or `rt test` has built.
+"""Refuses growths to a client on its path through a hall, to a handler over fakes and to a session over fakes, in the test program that `rt ci` or
+`rt test` has built.
 
-A run has one growth refused, or all from that one on. A call that is refused makes no step, and none of what is owed wants memory: so the path ends at the
-call whose growth is refused, and behind the last such call it goes to its end. The test itself compares the records with the receipts, and last it fails
-where the path was not the whole one, and tells both numbers of steps.
+A run has one growth refused, or all from that one on. A call that is refused makes no step, and none of what is owed wants memory. Each test itself
+compares the records with the seats and receipts; last it fails where it was not the whole one, and tells what came of it: how many steps there were, and
+of handlers and sessions also how they ended, what was told and which commands were started. Growths are refused one later each time, until a run meets
+none.
 """
 import itertools
 import pathlib
@@ -15,40 +17,161 @@ sys.path.insert(0, str(pathlib.Path(__file__).resolve().parent / "serve"))
 from programs import check_all, differs, top
 from scenes import library
 
-# Each test, and the steps of its path. Before it comes the client makes no step; it goes after having come, after its HELLO, or at the end.
-TESTS = [("growths_of_a_key_that_is_made", 7), ("growths_of_a_second_handler", 8)]
+# Each path through a hall, and its steps. Before it comes the client makes no step; it goes after having come, after its HELLO, or at the end.
+PATHS = [("growths_of_a_key_that_is_made", 7), ("growths_of_a_second_handler", 8)]
 BEFORE = [0, 2, 3]
+
+PLAIN, ANOTHER, PIPED, NEGATE = "/bin/h 12 ", "/bin/h 16 ", "/bin/p ", "/bin/n negate 12 "
+
+# Each handler: the commands that it is in the end, with what is told of each as the last one that was started, and whether the key is made. Then the steps
+# of a session, where memory ends one growth later each time: from 6 on the key is requested, and each further step is one that there was memory for. With
+# 8, say, a plain handler was told ENOMEM in place of the reply to its first ask, though that was done, and was refused its second one. Without a session
+# the client doesn't go, which is one step less.
+HANDLERS = [
+    ("plain_handler", [(PLAIN, "Exit(0)")], True, [6, 8, 9]),
+    ("piped_handler", [(PIPED, "Exit(0)")], True, [6, 7]),
+    ("handler_that_asks_for_another_key", [(PLAIN, "Exit(6)"), (ANOTHER, "Exit(6)")], True, [6, 8, 11, 13, 14, 15]),
+    ("handler_that_is_followed", [(PIPED, "Exit(7)"), (NEGATE, "Exit(3)")], False, [6, 8, 9, 11]),
+]
+
+RINGS = bytes.fromhex("00000011 02 00000000 00000000 00000004 00000008")
+TWELVE = bytes.fromhex("00000005 00 0000000c")
+NO_MEMORY, NO_KEY, NO_ACCESS = (bytes([0, 0, 0, 2, 3, errno]) for errno in (12, 126, 13))
+
+# What is refused before the first call that is looked at.
+EARLY = (b"memory", b"lines", b"an ask", b"a receipt")
 
 
 class Odd(Exception):
-    """A run that ended neither as it should nor for want of memory before the first call."""
+    """A run that is none of those that there may be."""
 
 
-def steps(program, test, most, growth, more):
-    """How many steps there were, or None where memory was lacking before the first call."""
+def told(program, test, growth, more):
+    """What the test told of a run that was not the whole one: the words of a list, of which bytes are one. None of the whole one, and an empty list where
+    memory was lacking before the first call."""
     environment = {"LD_PRELOAD": library("refusing_malloc"), "REFUSED": str(growth), **more}
-    words = [program, f"halls::growths::{test}"]
-    ran = subprocess.run(words, env=environment, stdin=subprocess.DEVNULL, stdout=subprocess.PIPE, stderr=subprocess.PIPE, timeout=60)
+    ran = subprocess.run([program, test], env=environment, stdin=subprocess.DEVNULL, stdout=subprocess.PIPE, stderr=subprocess.PIPE, timeout=60)
     if ran.returncode == 0:
-        return most
-    told = re.search(rf"left: (\d+)\n right: {most}\n".encode(), ran.stderr)
-    if ran.returncode < 0 and told:
-        return int(told[1])
-    if ran.returncode < 0 and ran.stderr.startswith(b"memory"):
         return None
-    raise Odd(f"growth {growth} {more}: status {ran.returncode} {ran.stderr[-200:]}")
+    left = re.search(rb"left: \(?(.*?)\)?\n right: ", ran.stderr)
+    if ran.returncode < 0 and left:
+        return re.findall(r"\[[^]]*\]|[^, ]+", left[1].decode())
+    if ran.returncode < 0 and ran.stderr.startswith(EARLY):
+        return []
+    raise Odd(f"status {ran.returncode} {ran.stderr[-200:]}")
 
 
-def wrong(program, test, most, more):
+def in_turn(program, test, more, whole, judged):
+    """The steps of each run, where growths are refused one later each time, up to the first run that is the whole one; None where there was no call."""
+    for growth in itertools.count(1):
+        words = told(program, test, growth, more)
+        if words is None:
+            yield whole
+            return
+        try:
+            yield judged(words) if words else None
+        except Odd as odd:
+            raise Odd(f"growth {growth} {more}: {odd}: {words}") from None
+
+
+def bytes_of(word):
+    return bytes(int(it) for it in word.strip("[]").split(",") if it.strip())
+
+
+def holds(fact, what):
+    if not fact:
+        raise Odd(what)
+
+
+def started(word, commands):
+    """How many commands were started: those that are to be, from the first one on, each once."""
+    lists = ["".join(it for it, _ in commands[:count]) for count in range(len(commands) + 1)]
+    text = bytes_of(word).decode()
+    holds(text in lists, "commands that are not to be started")
+    return lists.index(text)
+
+
+def judged_handler(words, commands, is_made):
+    """The steps of a run of a handler: how it ended is told of the last one that was started, and its client is told the key or ENOKEY."""
+    steps, driven, outcome, text = words
+    count = started(text, commands)
+    ends = {f"Ended({commands[count - 1][1]})"} if count else {"NotStarted", "StartFailed"}
+    holds(driven in ends, "another end")
+    holds(outcome in {"Refused(Enokey)", "Number(12)"} if is_made and count else outcome == "Refused(Enokey)", "another outcome")
+    return int(steps)
+
+
+def replies(word):
+    """The frames that a session was told."""
+    said = bytes_of(word)
+    while said:
+        end = 4 + int.from_bytes(said[:4], "big")
+        yield said[:end]
+        said = said[end:]
+
+
+def judged_session(words, commands, is_made, goes_on):
+    """The steps of a run of a session: it ends as its input does, and each reply is the whole one's up to the growth that is refused."""
+    steps, served, said, text = words
+    said, steps, count = list(replies(said)), int(steps), started(text, commands)
+    last = TWELVE if is_made else NO_KEY
+    holds(served == "Ended", "another end")
+    if not said:
+        holds(steps == 0 and count == 0, "a session that is told nothing")
+        return steps
+    holds(len(said) == 2, "not a reply to each ask")
+    if goes_on:
+        holds(said in ([NO_MEMORY, NO_MEMORY], [RINGS, NO_MEMORY]), "a reply where there is no memory")
+    elif said[0] == NO_MEMORY:
+        holds(said[1] in (last, NO_ACCESS), "another reply behind a HELLO that was refused")
+    else:
+        holds(said[0] == RINGS and said[1] in (last, NO_MEMORY, NO_KEY), "another reply")
+    holds(said[1] != TWELVE or count, "a key without a handler")
+    return steps
+
+
+def wrong_path(program, test, most, more):
     """What went wrong, or None."""
-    seen = []
     try:
-        while most not in seen:
-            seen.append(steps(program, test, most, len(seen) + 1, more))
+        seen = list(in_turn(program, f"halls::growths::{test}", more, most, lambda words: int(words[0])))
     except Odd as odd:
         return str(odd)
     return differs([it for it, _ in itertools.groupby(seen)], [None, *BEFORE, most])
 
 
+def wrong(program, test, judge, last):
+    """What went wrong where all growths from one on are refused, and where one alone is, as many times; or None."""
+    try:
+        seen = list(in_turn(program, test, {"AND_ON": "1"}, last[-1], lambda words: judge(words, True)))
+        for growth in range(1, len(seen)):
+            words = told(program, test, growth, {})
+            if words:
+                holds(judge(words, False) <= last[-1], f"growth {growth}: {words}")
+    except Odd as odd:
+        return f"{test}: {odd}"
+    return differs([it for it, _ in itertools.groupby(seen)], [None, *last])
+
+
+def wrong_handler(program, name, commands, is_made, last):
+    return wrong(
+        program,
+        f"children::growths::growths_of_a_{name}",
+        lambda words, _: judged_handler(words, commands, is_made),
+        [it - 1 for it in last],
+    )
+
+
+def wrong_session(program, name, commands, is_made, last):
+    return wrong(
+        program,
+        f"sessions::growths::growths_of_a_{name}",
+        lambda words, goes_on: judged_session(words, commands, is_made, goes_on),
+        [*BEFORE, *last],
+    )
+
+
 program = top / "crates" / "rk_live_tests" / "out" / "rk_live_tests_tests"
-check_all([(f"{test} {more}", test, most, more) for test, most in TESTS for more in ({}, {"AND_ON": "1"})], wrong, [program])
+cases = [(f"{test} {more}", wrong_path, test, most, more) for test, most in PATHS for more in ({}, {"AND_ON": "1"})]
+cases += [(f"handler: {it[0]}", wrong_handler, *it) for it in HANDLERS]
+cases += [(f"session: {it[0]}", wrong_session, *it) for it in HANDLERS]
+check_all(cases, lambda program, fault, *case: fault(program, *case), [program])

@@ -64,12 +64,7 @@ fn scripts<R: Processes + Abort>(rt: &R, alloc: Global) -> Result<(), Fail> {
     for (text, callout, wanted, how) in [
         ("cat", "callout", "callout", How::Exit(0)),
         ("printf %s \"$1\"; exit 3", "", "a b", How::Exit(3)),
-        (
-            "printf x; exec >&-; sleep 0.1; exit 5",
-            "",
-            "x",
-            How::Exit(5),
-        ),
+        ("printf x; exec >&-; exit 5", "", "x", How::Exit(5)),
         ("printf x; kill -9 $$", "", "x", How::Signal),
         ("exit 255", "", "", How::Exit(255)),
     ] {
@@ -168,12 +163,18 @@ fn leave<L: Launcher>(launcher: &mut L, alloc: Global) -> Option<()> {
     Some(())
 }
 
+/// It ends when each other program that this process has started has ended, waited for or not.
+const UNTIL_ENDED: &str = "
+    for child in $(cat /proc/$PPID/task/*/children); do
+        while [ $child != $$ ] && grep -qs '^State:[[:space:]]*[^ZX[:space:]]' /proc/$child/status; do :; done
+    done";
+
 /// A program that came back before it was waited for is let go at a later start, once it has ended.
 fn unwaited<R: Processes + Abort>(rt: &R, alloc: Global) {
     let mut programs = Programs::new(rt, alloc, None);
     let before = counted(&mut programs, alloc);
     same(rt, leave(&mut programs, alloc), Some(()));
-    let _ = run(&mut programs, alloc, script(alloc, "sleep 0.3"), b"");
+    let _ = run(&mut programs, alloc, script(alloc, UNTIL_ENDED), b"");
     same(rt, counted(&mut programs, alloc), before);
 }
 

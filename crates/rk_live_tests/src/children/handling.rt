@@ -1,24 +1,77 @@
 //! A handler from its start to its end, in halls of its own, and what its requester is told.
 use crate::answers::{Said, in_words};
-use crate::asks::CLIENT;
+use crate::asks::{CLIENT, add, hello_of};
 use crate::fakes::launcher::{Fake, Fuse, Program};
 use crate::fakes::still::{Bin, NOW, Stopped};
-use crate::halls::calls::{greets, requests};
+use crate::halls::calls::{calls, greets, requests};
+use crate::halls::paths::all;
 use crate::same::same;
 use rk_child::{Driven, drive};
 use rk_conf::Conf;
 use rk_devices::Gate;
-use rk_hall::{HallNo, Halls, Names, Seat};
+use rk_hall::{HallNo, Halls, Names, Seat, Volume, settle};
+use rk_machine::Event;
 use rk_names::{Serial, SessionId};
 use rk_wait::await_outcome;
 use std::alloc::Global;
 use std::process::Abort;
 use std::sync::Wait;
 
+/// Who adds the key `k`, with the payload `v`, before the request.
+#[derive(Clone, Copy)]
+pub enum Adder {
+    Nobody,
+    /// The client itself: the key that it requests is then 16.
+    Requester,
+    /// A client of another user, to a session ring of its own.
+    Other,
+}
+
+impl Adder {
+    /// Adds it. So many clients have come then, the requester among them.
+    fn add<N: Names, R: Wait + Abort>(
+        self,
+        rt: &R,
+        alloc: Global,
+        halls: &Halls<N>,
+        seat: &mut Seat<N>,
+    ) -> u64 {
+        match self {
+            Adder::Nobody => 1,
+            Adder::Requester => {
+                adds(rt, alloc, halls, seat, CLIENT);
+                1
+            }
+            Adder::Other => {
+                drop(calls(rt, halls, seat, Event::Opened(OTHER)));
+                drop(calls(rt, halls, seat, Event::Asked(OTHER, hello_of(1004))));
+                adds(rt, alloc, halls, seat, OTHER);
+                2
+            }
+        }
+    }
+}
+
+/// Of the same hall as that of the requester.
+const OTHER: SessionId = SessionId::Client(2);
+
+/// This client adds the key.
+fn adds<N: Names, R: Wait + Abort>(
+    rt: &R,
+    alloc: Global,
+    halls: &Halls<N>,
+    seat: &mut Seat<N>,
+    client: SessionId,
+) {
+    let ask = add(alloc, b"k").expect(rt, "an ask");
+    drop(calls(rt, halls, seat, Event::Asked(client, ask)));
+}
+
 /// What is played, and what comes of it.
 #[derive(Clone, Copy)]
 pub struct Handling {
     pub conf: &'static [u8],
+    pub adder: Adder,
     /// What the programs do that are started one after the other.
     pub programs: &'static [Program],
     /// How many bytes each puts out at most.
@@ -37,49 +90,80 @@ pub struct Handling {
 }
 
 impl Handling {
-    /// Plays it.
+    /// Plays it, and settles.
     pub fn play<N: Names, R: Wait + Abort>(self, rt: &R, alloc: Global, halls: Halls<N>) {
         let mut seat = halls.seat(rt).expect(rt, "a seat");
-        let driven = driven(rt, alloc, &halls, &mut seat, &self);
+        drop(greets(rt, &halls, &mut seat));
+        let clients = self.adder.add(rt, alloc, &halls, &mut seat);
+        let Came {
+            driven,
+            outcome,
+            fake,
+        } = self.comes(rt, alloc, &halls, &mut seat);
         same(rt, driven, self.driven);
-        let outcome = await_outcome(rt, &halls, &mut seat, HallNo::Zero, CLIENT, NOW);
-        same(rt, in_words(&outcome.value), self.outcome);
-        same(rt, seat.clients(), 1);
-        halls.retire(rt, seat);
-        drop(halls);
+        same(rt, outcome, self.outcome);
+        same(rt, seat.clients(), clients);
+        is_as_wanted(rt, &fake, &self);
+        let seats = vec![in alloc; seat].expect(rt, "memory");
+        settles(rt, alloc, halls, seats);
+    }
+
+    /// The client, which has come, asks for its key, the launch is brought to its end, and the client is told what came of it.
+    pub fn comes<N: Names, R: Wait + Abort>(
+        &self,
+        rt: &R,
+        alloc: Global,
+        halls: &Halls<N>,
+        seat: &mut Seat<N>,
+    ) -> Came {
+        let conf = Conf::read(alloc, self.conf).expect(rt, "lines");
+        let fake = Fake::new(alloc, self.programs, self.most, self.fuse);
+        let mut fake = fake.expect(rt, "memory");
+        let (receipt, launch) = requests(rt, alloc, halls, seat);
+        drop(receipt);
+        let driven = drive(
+            rt,
+            alloc,
+            halls,
+            seat,
+            launch,
+            &conf,
+            &mut fake,
+            &mut Stopped,
+            &Open,
+            &Bin,
+        );
+        let outcome = await_outcome(rt, halls, seat, HallNo::Zero, CLIENT, NOW);
+        Came {
+            driven,
+            outcome: in_words(&outcome.value),
+            fake,
+        }
     }
 }
 
-/// The client asks for key 12, and the launch is brought to its end.
-fn driven<N: Names, R: Wait + Abort>(
-    rt: &R,
-    alloc: Global,
-    halls: &Halls<N>,
-    seat: &mut Seat<N>,
-    handling: &Handling,
-) -> Driven {
-    drop(greets(rt, halls, seat));
-    let (receipt, launch) = requests(rt, alloc, halls, seat);
-    drop(receipt);
-    let conf = Conf::read(alloc, handling.conf).expect(rt, "lines");
-    let mut fake = Fake::new(alloc, handling.programs, handling.most, handling.fuse);
-    let driven = drive(
-        rt,
-        alloc,
-        halls,
-        seat,
-        launch,
-        &conf,
-        &mut fake,
-        &mut Stopped,
-        &Open,
-        &Bin,
-    );
-    is_as_wanted(rt, &fake, handling);
-    driven
+/// What came of it.
+#[derive(Drop)]
+pub struct Came {
+    pub driven: Driven,
+    pub outcome: Said,
+    pub fake: Fake,
 }
 
-/// What is left of the fake when its children are back.
+/// The records agree with all seats, and nothing was done where no client stood. How many steps there were.
+pub fn settles<N: Names>(
+    rt: &impl Abort,
+    alloc: Global,
+    halls: Halls<N>,
+    seats: Vec<Seat<N>>,
+) -> u64 {
+    let none: Vec<Volume<N>> = Vec::new(alloc);
+    let total = settle(halls, &none, seats, &[]).expect(rt, "a total");
+    same(rt, total, all(total.live));
+    total.steps
+}
+
+/// What the fake has when its children are back.
 fn is_as_wanted<R: Abort>(rt: &R, fake: &Fake, handling: &Handling) {
     same(rt, (fake.out, fake.deepest), (0, handling.deepest));
     same(rt, fake.failed, u64::from(handling.fuse.is_some()));

@@ -1,6 +1,6 @@
 //! What a requester gets for each thing that a program does, and for each call of a device that fails.
 use crate::answers::Said;
-use crate::children::handling::Handling;
+use crate::children::handling::{Adder, Handling};
 use crate::fakes::launcher::{Call, Fuse, Program};
 use crate::halls::opening::{Scene, in_new_halls};
 use rk_child::Driven;
@@ -33,6 +33,8 @@ const MADE: Said = Said::Number(12);
 const NO_KEY: Said = Said::Refused(Errno::Enokey);
 
 const ENDED: Driven = Driven::Ended(How::Exit(0));
+
+const NEGATED: Driven = Driven::Ended(How::Exit(3));
 
 /// So many steps has a volume, where it is not looked at.
 const STEPS: usize = 1_048_576;
@@ -88,6 +90,13 @@ const MALFORMED: Program = Program {
     ends: How::Signal,
 };
 
+/// The length 0, which no frame has.
+const EMPTY: Program = Program {
+    says: &[(1, ASSUME_12), (1, b"\0\0\0\0"), (5_000, b"a")],
+    endless: false,
+    ends: How::Exit(7),
+};
+
 const ENDLESS: Program = Program {
     says: &[(1, ASSUME_12), (1, INSTANTIATE_12)],
     endless: true,
@@ -121,8 +130,9 @@ const IS_NESTED: Program = Program {
 };
 
 /// A plain handler.
-const PLAIN: Handling = Handling {
+pub const PLAIN: Handling = Handling {
     conf: b"create * * * /bin/h %k\n",
+    adder: Adder::Nobody,
     programs: &[COMPLETES],
     most: usize::MAX,
     fuse: None,
@@ -134,29 +144,34 @@ const PLAIN: Handling = Handling {
 };
 
 /// A piped one.
-const PIPED: Handling = Handling {
+pub const PIPED: Handling = Handling {
     conf: b"create * * * |/bin/p\n",
     programs: &[TEN],
     words: b"/bin/p ",
     ..PLAIN
 };
 
+const FAILS_AND_NEGATES: &[Program] = &[FAILS, NEGATES];
+
 /// A piped one that fails, and one that says that the key can't be made.
-const FOLLOWED: Handling = Handling {
+pub const FOLLOWED: Handling = Handling {
     conf: b"create * * * |/bin/p\nnegate * * * |/bin/n %o %k\n",
-    programs: &[FAILS, NEGATES],
-    driven: Driven::Ended(How::Exit(3)),
+    programs: FAILS_AND_NEGATES,
+    driven: NEGATED,
     outcome: NO_KEY,
     words: b"/bin/p /bin/n negate 12 ",
     ..PLAIN
 };
 
-/// A handler that asks for key 16.
-const NESTED: Handling = Handling {
+/// A handler that asks for key 16, whose handler is told 0 and 0; the first one is told 0, 16 and 0.
+pub const NESTED: Handling = Handling {
     programs: &[NESTS, IS_NESTED],
     driven: Driven::Ended(How::Exit(6)),
     deepest: 2,
     words: b"/bin/h 12 /bin/h 16 ",
+    told: Some(
+        b"\0\0\0\x05\0\0\0\0\0\0\0\0\x05\0\0\0\0\0\0\0\0\x05\0\0\0\0\0\0\0\0\x05\0\0\0\0\x10\0\0\0\x05\0\0\0\0\0",
+    ),
     ..PLAIN
 };
 
@@ -168,6 +183,7 @@ const PLAIN_ROWS: &[Row] = &[
     (&[SILENT], None, ENDED, NO_KEY),
     (&[FAILS], None, Driven::Ended(How::Exit(7)), NO_KEY),
     (&[MALFORMED], None, Driven::Ended(How::Signal), MADE),
+    (&[EMPTY], None, Driven::Ended(How::Exit(7)), NO_KEY),
     (&[ENDLESS], None, Driven::ReadFailed, MADE),
     (
         &[COMPLETES],
@@ -206,6 +222,12 @@ const PIPED_ROWS: &[Row] = &[
     (&[ENDLESS], None, Driven::ReadFailed, NO_KEY),
     (
         &[TEN],
+        Some(Fuse(1, Call::Read, 1)),
+        Driven::ReadFailed,
+        NO_KEY,
+    ),
+    (
+        &[TEN],
         Some(Fuse(1, Call::Read, 2)),
         Driven::ReadFailed,
         NO_KEY,
@@ -214,6 +236,69 @@ const PIPED_ROWS: &[Row] = &[
     (
         &[TEN],
         Some(Fuse(1, Call::Wait, 1)),
+        Driven::WaitFailed,
+        NO_KEY,
+    ),
+];
+
+/// Whatever becomes of the first command, the second one is started, and decides; where that one says nothing, the key is not made.
+const FOLLOWED_ROWS: &[Row] = &[
+    (FAILS_AND_NEGATES, None, NEGATED, NO_KEY),
+    (&[SILENT, NEGATES], None, NEGATED, NO_KEY),
+    (&[TOO_LONG, NEGATES], None, NEGATED, NO_KEY),
+    (&[FAILS, COMPLETES], None, ENDED, MADE),
+    (&[FAILS, SILENT], None, ENDED, NO_KEY),
+    (
+        FAILS_AND_NEGATES,
+        Some(Fuse(1, Call::Read, 1)),
+        NEGATED,
+        NO_KEY,
+    ),
+    (
+        FAILS_AND_NEGATES,
+        Some(Fuse(1, Call::Read, 2)),
+        NEGATED,
+        NO_KEY,
+    ),
+    (
+        FAILS_AND_NEGATES,
+        Some(Fuse(1, Call::Write, 1)),
+        NEGATED,
+        NO_KEY,
+    ),
+    (
+        FAILS_AND_NEGATES,
+        Some(Fuse(1, Call::Wait, 1)),
+        NEGATED,
+        NO_KEY,
+    ),
+    (
+        FAILS_AND_NEGATES,
+        Some(Fuse(2, Call::Read, 1)),
+        Driven::ReadFailed,
+        NO_KEY,
+    ),
+    (
+        FAILS_AND_NEGATES,
+        Some(Fuse(2, Call::Read, 2)),
+        Driven::ReadFailed,
+        NO_KEY,
+    ),
+    (
+        FAILS_AND_NEGATES,
+        Some(Fuse(2, Call::Write, 1)),
+        NEGATED,
+        NO_KEY,
+    ),
+    (
+        FAILS_AND_NEGATES,
+        Some(Fuse(2, Call::Write, 2)),
+        NEGATED,
+        NO_KEY,
+    ),
+    (
+        FAILS_AND_NEGATES,
+        Some(Fuse(2, Call::Wait, 1)),
         Driven::WaitFailed,
         NO_KEY,
     ),
@@ -242,9 +327,10 @@ fn play_rows<R: Wait + Abort + Threads + Sync>(
 fn what_one_handler_comes_to(rt: HostRuntime) {
     play_rows(&rt, rt.alloc(), PLAIN, PLAIN_ROWS);
     play_rows(&rt, rt.alloc(), PIPED, PIPED_ROWS);
+    play_rows(&rt, rt.alloc(), FOLLOWED, FOLLOWED_ROWS);
 }
 
-/// Without a command nothing is started, nor where the start fails.
+/// Without a command nothing is started, nor where the start fails; a payload is found in the rings of the requester alone.
 const NOT_STARTED: &[Handling] = &[
     Handling {
         conf: b"# none\n",
@@ -259,12 +345,34 @@ const NOT_STARTED: &[Handling] = &[
         ..NO_LINE
     },
     Handling {
+        conf: b"create * * * /bin/h %{user:k}\n",
+        adder: Adder::Other,
+        ..NO_LINE
+    },
+    Handling {
         conf: b"create * * * /bin/h\n",
         fuse: Some(Fuse(1, Call::Start, 1)),
         driven: Driven::StartFailed,
         ..NO_LINE
     },
+    Handling {
+        conf: b"create * * * |/bin/p\n",
+        fuse: Some(Fuse(1, Call::Start, 1)),
+        driven: Driven::StartFailed,
+        ..NO_LINE
+    },
 ];
+
+/// A word is a payload of the requester.
+const WITH_A_PAYLOAD: &[Handling] = &[Handling {
+    conf: b"create * * * /bin/h %{user:k}\n",
+    adder: Adder::Requester,
+    programs: &[IS_NESTED],
+    driven: Driven::Ended(How::Exit(5)),
+    outcome: Said::Number(16),
+    words: b"/bin/h v ",
+    ..PLAIN
+}];
 
 const NO_LINE: Handling = Handling {
     driven: Driven::NotStarted,
@@ -292,15 +400,20 @@ const TOLD: &[Handling] = &[
     },
 ];
 
-/// A piped handler that puts out nothing, fails or puts out too much is followed by the one that negates; where that one can't be started, it is the last.
-const SECOND: &[Handling] = &[
-    FOLLOWED,
+/// Of two commands one is not started: the first can't be, or the first makes the key, or the second can't be.
+const FIRST_ALONE: &[Handling] = &[
     Handling {
-        programs: &[SILENT, NEGATES],
+        fuse: Some(Fuse(1, Call::Start, 1)),
+        driven: Driven::StartFailed,
+        deepest: 0,
+        words: b"",
         ..FOLLOWED
     },
     Handling {
-        programs: &[TOO_LONG, NEGATES],
+        programs: &[TEN, NEGATES],
+        driven: ENDED,
+        outcome: MADE,
+        words: b"/bin/p ",
         ..FOLLOWED
     },
     Handling {
@@ -309,24 +422,21 @@ const SECOND: &[Handling] = &[
         words: b"/bin/p ",
         ..FOLLOWED
     },
-    Handling {
-        fuse: Some(Fuse(2, Call::Read, 1)),
-        driven: Driven::ReadFailed,
-        ..FOLLOWED
-    },
 ];
 
-/// Whatever becomes of the handler of key 16, the first one goes on and makes key 12.
+/// Whatever becomes of the handler of key 16, the first one is told whether that key was made, goes on and makes key 12.
 const OF_ANOTHER_KEY: &[Handling] = &[
     NESTED,
     Handling {
         fuse: Some(Fuse(2, Call::Start, 1)),
         deepest: 1,
         words: b"/bin/h 12 ",
+        told: Some(OUTER_WITHOUT),
         ..NESTED
     },
     Handling {
         fuse: Some(Fuse(2, Call::Read, 1)),
+        told: Some(OUTER_WITHOUT),
         ..NESTED
     },
     Handling {
@@ -335,10 +445,14 @@ const OF_ANOTHER_KEY: &[Handling] = &[
     },
     Handling {
         fuse: Some(Fuse(2, Call::Write, 1)),
+        told: Some(OUTER_WITHOUT),
         ..NESTED
     },
     Handling {
         fuse: Some(Fuse(2, Call::Write, 2)),
+        told: Some(
+            b"\0\0\0\x05\0\0\0\0\0\0\0\0\x05\0\0\0\0\0\0\0\0\x05\0\0\0\0\x10\0\0\0\x05\0\0\0\0\0",
+        ),
         ..NESTED
     },
     Handling {
@@ -347,9 +461,73 @@ const OF_ANOTHER_KEY: &[Handling] = &[
     },
 ];
 
+/// What the first one is told where key 16 is not made, and nothing before: 0, ENOKEY, 0.
+const OUTER_WITHOUT: &[u8] = b"\0\0\0\x05\0\0\0\0\0\0\0\0\x02\x03\x7e\0\0\0\x05\0\0\0\0\0";
+
+/// A call of the first one fails.
+const OF_THE_FIRST: &[Handling] = &[
+    Handling {
+        fuse: Some(Fuse(1, Call::Start, 1)),
+        driven: Driven::StartFailed,
+        outcome: NO_KEY,
+        deepest: 0,
+        words: b"",
+        told: Some(b""),
+        ..NESTED
+    },
+    Handling {
+        fuse: Some(Fuse(1, Call::Read, 1)),
+        driven: Driven::ReadFailed,
+        ..NOT_NESTED
+    },
+    Handling {
+        fuse: Some(Fuse(1, Call::Write, 1)),
+        ..NOT_NESTED
+    },
+    Handling {
+        fuse: Some(Fuse(1, Call::Write, 2)),
+        outcome: NO_KEY,
+        told: Some(b"\0\0\0\x05\0\0\0\0\0\0\0\0\x05\0\0\0\0\0\0\0\0\x05\0\0\0\0\0"),
+        ..NESTED
+    },
+    Handling {
+        fuse: Some(Fuse(1, Call::Write, 3)),
+        told: Some(
+            b"\0\0\0\x05\0\0\0\0\0\0\0\0\x05\0\0\0\0\0\0\0\0\x05\0\0\0\0\0\0\0\0\x05\0\0\0\0\x10",
+        ),
+        ..NESTED
+    },
+    Handling {
+        fuse: Some(Fuse(1, Call::Read, 2)),
+        driven: Driven::ReadFailed,
+        ..NESTED
+    },
+    Handling {
+        fuse: Some(Fuse(1, Call::Wait, 1)),
+        driven: Driven::WaitFailed,
+        ..NESTED
+    },
+];
+
+/// The first one asks for nothing.
+const NOT_NESTED: Handling = Handling {
+    outcome: NO_KEY,
+    deepest: 1,
+    words: b"/bin/h 12 ",
+    told: Some(b""),
+    ..NESTED
+};
+
 #[test]
 fn what_others_come_to(rt: HostRuntime) {
-    for handlings in [NOT_STARTED, TOLD, SECOND, OF_ANOTHER_KEY] {
+    for handlings in [
+        NOT_STARTED,
+        WITH_A_PAYLOAD,
+        TOLD,
+        FIRST_ALONE,
+        OF_ANOTHER_KEY,
+        OF_THE_FIRST,
+    ] {
         for handling in handlings {
             in_new_halls(&rt, rt.alloc(), STEPS, Scene::Handling(*handling));
         }

@@ -1,5 +1,5 @@
 //! A launcher of programs that are lists of bytes, with a fuse for one call.
-ghost use Rattle.std.specs.Prelude.{◌≡◌, ◌≤◌, length};
+ghost use Rattle.std.specs.Prelude.{◌≡◌, ◌≤◌, length, IfOk};
 
 use rk_devices::{Child, DeviceFault, Launcher};
 use rk_machine::How;
@@ -52,34 +52,43 @@ pub struct Fake {
 }
 
 impl Fake {
-    pub fn new(alloc: Global, programs: &'static [Program], most: usize, fuse: Option<Fuse>) -> Fake
-        ensures { result.failed ≡ 0 }
+    /// An `Err` is want of memory. What is kept of a few programs wants no more of it.
+    pub fn new(
+        alloc: Global,
+        programs: &'static [Program],
+        most: usize,
+        fuse: Option<Fuse>,
+    ) -> Result<Fake, AllocError>
+        ensures { IfOk result (λ f. f.failed ≡ 0) }
     {
-        Fake {
+        let told = Vec::with_capacity(alloc, 256)?;
+        let words = Vec::with_capacity(alloc, 64)?;
+        Ok(Fake {
             alloc,
             programs,
             most,
             fuse,
             asked: 0,
-            told: Vec::new(alloc),
-            words: Vec::new(alloc),
+            told,
+            words,
             failed: 0,
             longest: 0,
             out: 0,
             deepest: 0,
             last: None,
-        }
+        })
     }
 
-    /// The program that is next, and what it puts out; none where the start is to fail.
-    fn next(&self) -> Option<(Program, Vec<u8>)> {
+    /// The program that is next, what it puts out, and room for what it is told; none where the start is to fail, or there is no memory.
+    fn next(&self) -> Option<(Program, Vec<u8>, Vec<u8>)> {
         if burns(self.fuse, self.asked, Call::Start, 1) {
             return None;
         }
         let program = *self.programs.get(self.asked.checked_sub(1)?)?;
         let mut bytes = spelled(self.alloc, program.says).ok()?;
         bytes.truncate(self.most);
-        Some((program, bytes))
+        let told = Vec::with_capacity(self.alloc, 64).ok()?;
+        Some((program, bytes, told))
     }
 }
 
@@ -180,7 +189,8 @@ impl Launcher for Fake {
 
     fn start(&mut self, command: &Command) -> Result<Running, DeviceFault> {
         self.asked = self.asked.saturating_add(1);
-        let (Some((program, bytes)), Some(out)) = (self.next(), self.out.checked_add(1)) else {
+        let (Some((program, bytes, told)), Some(out)) = (self.next(), self.out.checked_add(1))
+        else {
             self.failed = self.failed.saturating_add(1);
             return Err(DeviceFault);
         };
@@ -193,7 +203,7 @@ impl Launcher for Fake {
             given: 0,
             fuse: self.fuse,
             number: self.asked,
-            told: Vec::new(self.alloc),
+            told,
             written: 0,
             failed: 0,
             reads: 0,

@@ -1,6 +1,7 @@
 //! Halls of new ledgers, for a scene of their own.
 ghost use Rattle.std.specs.Prelude.{◌≡◌, ◌≤◌};
 
+use crate::children::growths::Lacking;
 use crate::children::handling::Handling;
 use crate::halls::growths::Growths;
 use crate::halls::paths::Path;
@@ -23,6 +24,7 @@ pub enum Scene {
     SideBySide(SideBySide),
     Growths(Growths),
     Handling(Handling),
+    Lacking(Lacking),
 }
 
 impl Scene {
@@ -40,6 +42,7 @@ impl Scene {
             Scene::SideBySide(threads) => threads.play(rt, alloc, halls),
             Scene::Growths(growths) => growths.play(rt, alloc, halls),
             Scene::Handling(handling) => handling.play(rt, alloc, halls),
+            Scene::Lacking(lacking) => lacking.play(rt, alloc, halls),
         }
     }
 }

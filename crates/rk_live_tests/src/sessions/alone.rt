@@ -2,28 +2,70 @@
 
 use crate::fakes::launcher::{Call, Fuse};
 use crate::sessions::bytes::{
-    ACCESS, COMPLETES, HELLO, INVALID, NO_KEY, OTHER_HELLO, QUOTA, READ, REQUEST, RINGS, TWELVE,
+    ACCESS, COMPLETES, FAILS, HELLO, INVALID, IS_NESTED, NEGATES, NESTS, NO_KEY, OTHER_HELLO,
+    QUOTA, READ, REQUEST, RINGS, TEN, TWELVE,
 };
 use crate::sessions::line::Cut;
-use crate::sessions::stage::{Part, QUIET, Scene, play};
+use crate::sessions::stage::{PLAIN, Part, QUIET, Scene, play};
 use rk_session::Served;
+use std::process::Abort;
 
 /// It asks for key 12, whose handler completes it.
-const SCENE: Scene<'static> = Scene {
+pub const SCENE: Scene<'static> = Scene {
+    conf: PLAIN,
     programs: &[COMPLETES],
     fuse: None,
     until: 0,
-    first: Part {
-        pieces: &[(0, HELLO), (0, REQUEST)],
-        replies: &[RINGS, TWELVE],
-        story: Some(b"rnwrnwr"),
-        words: b"/bin/h 12 ",
-        ..QUIET
-    },
+    first: FIRST,
     second: None,
     third: None,
     crowd: 0,
     steps: 9,
+    may_lack: false,
+};
+
+const FIRST: Part<'static> = Part {
+    pieces: &[(0, HELLO), (0, REQUEST)],
+    replies: &[RINGS, TWELVE],
+    story: Some(b"rnwrnwr"),
+    words: b"/bin/h 12 ",
+    ..QUIET
+};
+
+/// The same with a handler that asks for another key.
+pub const NESTED: Scene<'static> = Scene {
+    programs: &[NESTS, IS_NESTED],
+    first: Part {
+        words: b"/bin/h 12 /bin/h 16 ",
+        ..FIRST
+    },
+    steps: 15,
+    ..SCENE
+};
+
+/// The same with a piped handler.
+pub const PIPED: Scene<'static> = Scene {
+    conf: b"create * * * |/bin/p\n",
+    programs: &[TEN],
+    first: Part {
+        words: b"/bin/p ",
+        ..FIRST
+    },
+    steps: 7,
+    ..SCENE
+};
+
+/// With one that fails, and one that then says that the key can't be made.
+pub const FOLLOWED: Scene<'static> = Scene {
+    conf: b"create * * * |/bin/p\nnegate * * * /bin/n %o %k\n",
+    programs: &[FAILS, NEGATES],
+    first: Part {
+        replies: &[RINGS, NO_KEY],
+        words: b"/bin/p /bin/n negate 12 ",
+        ..FIRST
+    },
+    steps: 11,
+    ..SCENE
 };
 
 #[test]
@@ -47,29 +89,46 @@ fn a_device_fails(rt: HostRuntime) {
     }
 }
 
+/// The call of the wire that fails, how the session ends, how many replies were written, and in what order; and so many steps were made where the key was
+/// not requested. Where it was, its construction has ended.
+type Fails = (Cut, Served, usize, &'static [u8], Option<u64>);
+
+const FAILS_IN_TURN: &[Fails] = &[
+    (Cut::Read(1), Served::ReadFault, 0, b"", Some(2)),
+    (Cut::Write(1), Served::WriteFault, 0, b"rn", Some(3)),
+    (Cut::Read(2), Served::ReadFault, 1, b"rnw", Some(3)),
+    (Cut::Write(2), Served::WriteFault, 1, b"rnwrn", None),
+    (Cut::Read(3), Served::ReadFault, 2, b"rnwrnw", None),
+    (Cut::Write(3), Served::Ended, 2, b"rnwrnwr", None),
+];
+
+const SCENES: &[Scene<'static>] = &[SCENE, NESTED, PIPED, FOLLOWED];
+
+/// The scene, where this call of its wire fails.
+fn failing(rt: &impl Abort, whole: &Scene<'static>, fails: &Fails) -> Scene<'static> {
+    let (cut, served, count, story, unasked) = *fails;
+    let first = whole.first;
+    assert!(rt; count <= first.replies.len());
+    Scene {
+        first: Part {
+            cut: Some(cut),
+            served,
+            replies: &first.replies[..count],
+            story: Some(story),
+            words: if unasked.is_none() { first.words } else { b"" },
+            ..first
+        },
+        steps: unasked.unwrap_or(whole.steps),
+        ..*whole
+    }
+}
+
 #[test]
 fn a_call_of_the_wire_fails(rt: HostRuntime) {
-    for (cut, served, count, story, steps) in [
-        (Cut::Read(1), Served::ReadFault, 0, b"".as_slice(), 2),
-        (Cut::Write(1), Served::WriteFault, 0, b"rn", 3),
-        (Cut::Read(2), Served::ReadFault, 1, b"rnw", 3),
-        (Cut::Write(2), Served::WriteFault, 1, b"rnwrn", 9),
-        (Cut::Read(3), Served::ReadFault, 2, b"rnwrnw", 9),
-        (Cut::Write(3), Served::Ended, 2, b"rnwrnwr", 9),
-    ] {
-        let scene = Scene {
-            first: Part {
-                cut: Some(cut),
-                served,
-                replies: &SCENE.first.replies[..count],
-                story: Some(story),
-                words: if steps == 9 { SCENE.first.words } else { b"" },
-                ..SCENE.first
-            },
-            steps,
-            ..SCENE
-        };
-        play(&rt, rt.alloc(), &scene);
+    for whole in SCENES {
+        for fails in FAILS_IN_TURN {
+            play(&rt, rt.alloc(), &failing(&rt, whole, fails));
+        }
     }
 }
 

@@ -27,11 +27,53 @@ const ASSUME: &[u8] = b"\0\0\0\x05\x03\0\0\0\x0c";
 /// INSTANTIATE 12 "hi".
 const INSTANTIATE: &[u8] = b"\0\0\0\x0d\x04\0\0\0\x0c\0\x02hi\0\0\0\0";
 
+/// ASSUME 16.
+const ASSUME_16: &[u8] = b"\0\0\0\x05\x03\0\0\0\x10";
+
+/// INSTANTIATE 16 "hi".
+const INSTANTIATE_16: &[u8] = b"\0\0\0\x0d\x04\0\0\0\x10\0\x02hi\0\0\0\0";
+
+/// NEGATE 12 for 30 seconds.
+const NEGATE: &[u8] = b"\0\0\0\x0d\x05\0\0\0\x0c\0\0\0\x1e\0\0\0\0";
+
+/// REQUEST user b, with the callout x.
+const REQUEST_B: &[u8] = b"\0\0\0\x12\x02\0\x04user\0\x01b\x01\0\x01x\0\0\0\0";
+
 /// It completes key 12.
 pub const COMPLETES: Program = Program {
     says: &[(1, ASSUME), (1, INSTANTIATE)],
     endless: false,
     ends: How::Exit(0),
+};
+
+/// It asks for key 16 before it completes key 12.
+pub const NESTS: Program = Program {
+    says: &[(1, ASSUME), (1, REQUEST_B), (1, INSTANTIATE)],
+    ..COMPLETES
+};
+
+/// It completes key 16.
+pub const IS_NESTED: Program = Program {
+    says: &[(1, ASSUME_16), (1, INSTANTIATE_16)],
+    ..COMPLETES
+};
+
+/// It puts out ten bytes.
+pub const TEN: Program = Program {
+    says: &[(10, b"a")],
+    ..COMPLETES
+};
+
+/// It puts out ten bytes, and fails.
+pub const FAILS: Program = Program {
+    ends: How::Exit(7),
+    ..TEN
+};
+
+/// It says that key 12 can't be made.
+pub const NEGATES: Program = Program {
+    says: &[(1, ASSUME), (1, NEGATE)],
+    ..COMPLETES
 };
 
 /// No thread and process ring, the session ring 4, the user's ring 8.

@@ -3,10 +3,12 @@
 ghost use Rattle.std.specs.Prelude.{◌≡◌, None};
 
 use crate::fakes::launcher::give;
+use crate::sessions::stage::Part;
 use crate::sessions::turns::Turns;
 use rk_devices::DeviceFault;
 use rk_hall::Receipt;
 use rk_session::Wire;
+use std::alloc::{AllocError, Global};
 use std::time::Clock;
 
 /// The call of a wire that fails, counted from 1.
@@ -39,6 +41,33 @@ pub struct Line<'a, R> {
     pub noted: Vec<Receipt>,
     /// What happened, one letter for each: r for a read, n for a receipt, w for a write that succeeded.
     pub story: Vec<u8>,
+}
+
+impl<'a, R> Line<'a, R> {
+    /// The wire of this session, on which nothing has happened. An `Err` is want of memory. What is kept of a few messages wants no more of it.
+    pub fn new(
+        rt: &'a R,
+        alloc: Global,
+        turns: &'a Turns,
+        part: &Part<'a>,
+    ) -> Result<Line<'a, R>, AllocError> {
+        Ok(Line {
+            rt,
+            turns,
+            pieces: part.pieces,
+            endless: part.endless,
+            most: part.most,
+            end: part.end,
+            cut: part.cut,
+            given: 0,
+            reads: 0,
+            writes: 0,
+            failed: 0,
+            said: Vec::with_capacity(alloc, 64)?,
+            noted: Vec::with_capacity(alloc, 4)?,
+            story: Vec::with_capacity(alloc, 16)?,
+        })
+    }
 }
 
 impl<'a, R: Clock> Line<'a, R> {

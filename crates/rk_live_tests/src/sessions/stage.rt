@@ -3,12 +3,14 @@ ghost use Rattle.std.specs.Prelude.{◌≡◌};
 
 use crate::fakes::launcher::{Fake, Fuse, Program};
 use crate::fakes::still::{Bin, NOW, Stopped};
+use crate::halls::paths::all;
+use crate::same::same;
 use crate::sessions::line::{Cut, Line};
 use crate::sessions::turns::{Held, Turns, Watched};
 use rk_child::fail;
 use rk_conf::Conf;
 use rk_frame::Frames;
-use rk_hall::{Called, Fresh, HallNo, Halls, Names, Receipt, Seat, Total, Volume, settle};
+use rk_hall::{Called, Fresh, HallNo, Halls, Names, Receipt, Seat, Volume, settle};
 use rk_machine::Event;
 use rk_names::SessionId;
 use rk_session::{Served, serve};
@@ -61,9 +63,14 @@ pub const QUIET: Part<'static> = Part {
     words: b"",
 };
 
+/// The line of a plain handler.
+pub const PLAIN: &[u8] = b"create * * * /bin/h %k\n";
+
 /// What is played.
 #[derive(Clone, Copy)]
 pub struct Scene<'a> {
+    /// The lines that say which command is started.
+    pub conf: &'a [u8],
     /// The programs that each session may start.
     pub programs: &'static [Program],
     /// The call of its device that fails.
@@ -77,6 +84,8 @@ pub struct Scene<'a> {
     pub crowd: u32,
     /// How many steps there are to be.
     pub steps: u64,
+    /// Whether the first session is alone, on this thread, and may lack memory.
+    pub may_lack: bool,
 }
 
 /// What is left of a session: its seat, and the receipts that were noted.
@@ -84,6 +93,24 @@ pub struct Scene<'a> {
 struct Left<N: Names> {
     seat: Seat<N>,
     noted: Vec<Receipt>,
+}
+
+/// What came of a session.
+#[derive(Drop)]
+struct Came<'a, R> {
+    served: Served,
+    line: Line<'a, R>,
+    launcher: Fake,
+}
+
+/// What came of a session that was alone, without what it was lent.
+#[derive(Drop)]
+struct Alone {
+    served: Served,
+    said: Vec<u8>,
+    noted: Vec<Receipt>,
+    words: Vec<u8>,
+    out: u64,
 }
 
 /// Whether these bytes are the replies, so often.
@@ -100,36 +127,22 @@ fn is_said(said: &[u8], replies: &[&[u8]], repeats: usize) -> bool {
     rest.is_empty()
 }
 
-/// Serves a session to its end, and compares what came of it.
-fn serves<N: Names, R: Wait + Abort + Clock>(
-    rt: &R,
+/// Serves a session to its end.
+fn serves<'a, N: Names, R: Wait + Abort + Clock>(
+    rt: &'a R,
     alloc: Global,
     halls: &Halls<N>,
-    mut seat: Seat<N>,
+    seat: &mut Seat<N>,
     client: u32,
-    part: &Part,
+    part: &Part<'a>,
     scene: &Scene,
-    turns: &Turns,
-) -> Left<N> {
-    let conf = Conf::read(alloc, b"create * * * /bin/h %k\n").expect(rt, "lines");
+    turns: &'a Turns,
+) -> Came<'a, R> {
+    let conf = Conf::read(alloc, scene.conf).expect(rt, "lines");
     let frames = Frames::new(alloc).expect(rt, "memory");
-    let mut launcher = Fake::new(alloc, scene.programs, 1_000, scene.fuse);
-    let mut line = Line {
-        rt,
-        turns,
-        pieces: part.pieces,
-        endless: part.endless,
-        most: part.most,
-        end: part.end,
-        cut: part.cut,
-        given: 0,
-        reads: 0,
-        writes: 0,
-        failed: 0,
-        said: Vec::new(alloc),
-        noted: Vec::new(alloc),
-        story: Vec::new(alloc),
-    };
+    let launcher = Fake::new(alloc, scene.programs, 1_000, scene.fuse);
+    let mut launcher = launcher.expect(rt, "memory");
+    let mut line = Line::new(rt, alloc, turns, part).expect(rt, "memory");
     let mut clock = Watched {
         turns,
         left: part.moment,
@@ -143,7 +156,7 @@ fn serves<N: Names, R: Wait + Abort + Clock>(
         rt,
         alloc,
         halls,
-        &mut seat,
+        seat,
         client,
         frames,
         &conf,
@@ -153,18 +166,26 @@ fn serves<N: Names, R: Wait + Abort + Clock>(
         &gate,
         &Bin,
     );
-    assert_eq!(rt; served, part.served);
-    assert!(rt; is_said(&line.said, part.replies, part.repeats));
-    if let Some(story) = part.story {
-        assert!(rt; line.story.as_slice() == story);
+    Came {
+        served,
+        line,
+        launcher,
     }
-    assert!(rt; launcher.words.as_slice() == part.words);
-    assert_eq!(rt; launcher.out, 0);
-    let Line { noted, .. } = line;
-    Left { seat, noted }
 }
 
-/// The same, of a session that may not be there.
+/// What came of a session is what its part says.
+fn is_as_wanted<R>(rt: &impl Abort, part: &Part, came: &Came<R>) {
+    same(rt, came.served, part.served);
+    let said = is_said(&came.line.said, part.replies, part.repeats);
+    same(rt, said, true);
+    if let Some(story) = part.story {
+        same(rt, came.line.story.as_slice(), story);
+    }
+    same(rt, came.launcher.words.as_slice(), part.words);
+    same(rt, came.launcher.out, 0);
+}
+
+/// Serves a session that may not be there, and compares what came of it.
 fn may_serve<N: Names, R: Wait + Abort + Clock>(
     rt: &R,
     alloc: Global,
@@ -175,19 +196,26 @@ fn may_serve<N: Names, R: Wait + Abort + Clock>(
     turns: &Turns,
 ) -> Option<Left<N>> {
     let part = part?;
-    let seat = halls.seat(rt)?;
-    Some(serves(rt, alloc, halls, seat, client, &part, scene, turns))
+    let mut seat = halls.seat(rt)?;
+    let came = serves(rt, alloc, halls, &mut seat, client, &part, scene, turns);
+    is_as_wanted(rt, &part, &came);
+    let Line { noted, .. } = came.line;
+    Some(Left { seat, noted })
 }
 
-/// Adds receipts to others, by rising number.
-fn merge<R: Abort>(rt: &R, all: &mut Vec<Receipt>, noted: Vec<Receipt>) {
-    for receipt in noted {
-        assert_eq!(rt; receipt.now(), NOW);
-        let place = all
-            .iter()
-            .position(|other| receipt.number() < other.number());
-        let at = place.unwrap_or(all.len());
-        all.insert(at, receipt).expect(rt, "memory");
+/// Adds what is left of a session, where it was there, to what others have left.
+fn gather<N: Names>(
+    rt: &impl Abort,
+    left: Option<Left<N>>,
+    seats: &mut Vec<Seat<N>>,
+    receipts: &mut Vec<Receipt>,
+) {
+    if let Some(Left { seat, noted }) = left {
+        seats.push(seat).expect(rt, "memory");
+        for receipt in noted {
+            same(rt, receipt.now(), NOW);
+            receipts.push(receipt).expect(rt, "memory");
+        }
     }
 }
 
@@ -235,49 +263,95 @@ fn all_serve<N: Names + Send + Sync, R: Wait + Abort + Threads + Clock + Sync>(
     )
 }
 
-/// The records agree with all seats, and with all receipts.
-fn settles<N: Names, R: Abort>(
+/// The sessions on their threads: all seats, and the receipts that were noted, by rising number.
+fn all_left<N: Names + Send + Sync, R: Wait + Abort + Threads + Clock + Sync>(
     rt: &R,
     alloc: Global,
-    halls: Halls<N>,
-    seats: Vec<Seat<N>>,
-    receipts: Vec<Receipt>,
-    steps: u64,
-) {
-    let total = Total {
-        steps,
-        live: steps,
-        retired: 0,
-        strays: 0,
-    };
-    let none: Vec<Volume<N>> = Vec::new(alloc);
-    let settled = settle(halls, &none, seats, &receipts);
-    assert_eq!(rt; settled, Ok(total));
+    halls: &Halls<N>,
+    scene: &Scene,
+) -> (Vec<Seat<N>>, Vec<Receipt>) {
+    let made = Turns::new();
+    let (mut seats, mut receipts) = (Vec::new(alloc), Vec::new(alloc));
+    let others = crowd(rt, halls, scene.crowd);
+    seats.push(others).expect(rt, "memory");
+    let (first, (second, third)) = all_serve(rt, alloc, halls, scene, &made);
+    same(rt, made.late(), 0);
+    gather(rt, first, &mut seats, &mut receipts);
+    gather(rt, second, &mut seats, &mut receipts);
+    gather(rt, third, &mut seats, &mut receipts);
+    receipts.sort_unstable_by_key(|receipt| receipt.number());
+    (seats, receipts)
 }
 
-/// The sessions on their threads; then the records are settled with all receipts that were noted.
+/// Plays a scene; then the records are settled with all seats and all receipts.
 fn plays<N: Names + Send + Sync, R: Wait + Abort + Threads + Clock + Sync>(
     rt: &R,
     alloc: Global,
     halls: Halls<N>,
     scene: &Scene,
 ) {
-    let made = Turns::new();
-    let others = crowd(rt, &halls, scene.crowd);
-    let (first, (second, third)) = all_serve(rt, alloc, &halls, scene, &made);
-    assert_eq!(rt; made.late(), 0);
-    let mut seats = Vec::new(alloc);
-    seats.push(others).expect(rt, "memory");
-    let mut receipts = Vec::new(alloc);
-    let all = first
-        .into_iter()
-        .chain(second.into_iter())
-        .chain(third.into_iter());
-    for Left { seat, noted } in all {
-        merge(rt, &mut receipts, noted);
-        seats.push(seat).expect(rt, "memory");
+    let (seats, receipts) = all_left(rt, alloc, &halls, scene);
+    let none: Vec<Volume<N>> = Vec::new(alloc);
+    let settled = settle(halls, &none, seats, &receipts);
+    same(rt, settled, Ok(all(scene.steps)));
+}
+
+/// Serves a session to its end, and keeps what came of it without what it was lent.
+fn serves_alone<'a, N: Names, R: Wait + Abort + Clock>(
+    rt: &'a R,
+    alloc: Global,
+    halls: &Halls<N>,
+    seat: &mut Seat<N>,
+    part: &Part<'a>,
+    scene: &Scene,
+    turns: &'a Turns,
+) -> Alone {
+    let came = serves(rt, alloc, halls, seat, 1, part, scene, turns);
+    let Came {
+        served,
+        line,
+        launcher,
+    } = came;
+    let Line { said, noted, .. } = line;
+    let Fake { words, out, .. } = launcher;
+    Alone {
+        served,
+        said,
+        noted,
+        words,
+        out,
     }
-    settles(rt, alloc, halls, seats, receipts, scene.steps);
+}
+
+/// The first session alone, as far as memory reaches. Whatever it came to, the records agree with its seat and the receipts; last what came of it is compared.
+fn lacks<N: Names, R: Wait + Abort + Clock>(
+    rt: &R,
+    alloc: Global,
+    halls: Halls<N>,
+    scene: &Scene,
+    turns: &Turns,
+) {
+    let part = scene.first;
+    let mut seats = Vec::with_capacity(alloc, 1).expect(rt, "memory");
+    let mut seat = halls.seat(rt).expect(rt, "a seat");
+    let Alone {
+        served,
+        said,
+        noted,
+        words,
+        out,
+    } = serves_alone(rt, alloc, &halls, &mut seat, &part, scene, turns);
+    same(rt, (out, seat.clients(), turns.late()), (0, 0, 0));
+    seats.push(seat).expect(rt, "memory");
+    let none: Vec<Volume<N>> = Vec::new(alloc);
+    let total = settle(halls, &none, seats, &noted).expect(rt, "a total");
+    same(rt, total, all(total.live));
+    let wanted = *part.replies.first().expect(rt, "replies");
+    same(
+        rt,
+        (total.steps, served, said.as_slice(), words.as_slice()),
+        (scene.steps, part.served, wanted, part.words),
+    );
 }
 
 fn in_halls<N: Names + Send + Sync, R: Wait + Abort + Threads + Clock + Sync>(
@@ -292,7 +366,12 @@ fn in_halls<N: Names + Send + Sync, R: Wait + Abort + Threads + Clock + Sync>(
     requires three { (fresh.three.calls.name ≡ N.name 6) × (fresh.three.out.name ≡ N.name 7) }
 {
     let halls: Halls<N> = Halls::with_volume(alloc, fresh, 60, 0, 1000).expect(rt, "memory");
-    plays(rt, alloc, halls, scene);
+    if scene.may_lack {
+        let turns = Turns::new();
+        lacks(rt, alloc, halls, scene, &turns);
+    } else {
+        plays(rt, alloc, halls, scene);
+    }
 }
 
 /// Plays a scene in halls of its own.

@@ -5,7 +5,7 @@ use crate::sessions::bytes::{
     SIXTEEN, TWELVE, V,
 };
 use crate::sessions::line::Cut;
-use crate::sessions::stage::{Part, QUIET, Scene, play};
+use crate::sessions::stage::{PLAIN, Part, QUIET, Scene, play};
 use rk_session::Served;
 
 /// It asks for key 12 and starts its handler, which is held until turn 4.
@@ -19,6 +19,7 @@ const STARTER: Part<'static> = Part {
 };
 
 const SCENE: Scene<'static> = Scene {
+    conf: PLAIN,
     programs: &[COMPLETES],
     fuse: None,
     until: 4,
@@ -27,6 +28,7 @@ const SCENE: Scene<'static> = Scene {
     third: None,
     crowd: 0,
     steps: 9,
+    may_lack: false,
 };
 
 #[test]
