@@ -192,10 +192,10 @@ class Daemon:
     these options besides, and is killed at the end if it still runs. Its standard error is read as it comes.
     """
 
-    def __init__(self, program, conf="", *options, files=None, mask=None, ready=True, environment=None):
+    def __init__(self, program, conf="", *options, files=None, mask=None, longest=None, ready=True, environment=None):
         self.program, self.options, self.ready = program, options, ready
         self.client_program = client_of(program)
-        self.files, self.mask, self.environment = files, mask, environment
+        self.files, self.mask, self.longest, self.environment = files, mask, longest, environment
         self.conf_text = conf
         self.folder = tempfile.TemporaryDirectory(prefix="serve-")
         self.room = pathlib.Path(self.folder.name)
@@ -227,11 +227,14 @@ class Daemon:
         return path
 
     def narrow(self):
-        """What is set for the daemon alone: how many descriptors it may have, and its mask of permissions."""
+        """What is set for the daemon alone: how many descriptors it may have, its mask of permissions, and how long a file of it may be."""
         if self.files:
             resource.setrlimit(resource.RLIMIT_NOFILE, (self.files, self.files))
         if self.mask is not None:
             os.umask(self.mask)
+        if self.longest:
+            signal.signal(signal.SIGXFSZ, signal.SIG_IGN)
+            resource.setrlimit(resource.RLIMIT_FSIZE, (self.longest, self.longest))
 
     def start(self):
         """Starts it, also once more after its end."""

@@ -6,6 +6,7 @@ usage: soak.py [MINUTES [SEED]]
 Sixty-four clients at a time ask at random, come and go, and some vanish while they wait. Handlers make their keys, fail, hang until they are let go, and are
 killed. Every reply has to be of a kind that docs/PROTOCOL.md allows there, and all who read a key, which is made by one construction, read the same
 payload. At the end nobody waits, no descriptor, no child and no zombie is left, and the memory is what it was after the first tenth of the time and a bound.
+What the daemon has written of its record is a run of the machine, as `reqkeyd rejoin` tells.
 """
 import collections
 import os
@@ -13,7 +14,9 @@ import pathlib
 import random
 import re
 import signal
+import subprocess
 import sys
+import tempfile
 import threading
 import time
 
@@ -51,8 +54,8 @@ ALLOWED = {
     13: ((), {0}), 14: (int, {"E22"}), 15: (int, {"E122"}), 255: ((), {"E22"}),
 }
 
-# what the daemon says: when it is ready, what its handlers have said last, volumes of the record, and sessions that were cut
-TOLD = ("reqkeyd: ready", "volume ", "[WARN ")
+# what the daemon says: when it is ready, and sessions that were cut
+TOLD = ("reqkeyd: ready", "[WARN ")
 
 
 class Soak:
@@ -155,10 +158,20 @@ def left(daemon, before):
     until(lambda: daemon.descriptors() == before, f"the descriptors {before}, and not {daemon.descriptors()}")
 
 
-def soak(program, minutes, seed):
+def judged(program, record):
+    """What is wrong with the volumes that were written, and how many steps they have."""
+    volumes = sorted(record.glob("hall-*"))
+    run = subprocess.run([program, "rejoin", *volumes], capture_output=True, text=True)
+    last = re.fullmatch(r"ok, [0-9]+ halls, ([0-9]+) steps: a run of the machine", (run.stdout.splitlines() or [""])[-1])
+    if run.returncode or run.stderr or not last:
+        return [f"rejoin of {len(volumes)} volumes: {run.stdout[-200:]} {run.stderr}"], 0
+    return [], int(last[1])
+
+
+def soak(program, minutes, seed, record):
     """Runs it, and gives what was wrong, the replies, and the memory after a tenth of the time and at the end."""
     # with one pool of memory for all threads, what one has freed another uses, and what grows is no longer used by any
-    with Daemon(program, CONF, "--negative", "1", environment={"MALLOC_ARENA_MAX": "1"}) as daemon:
+    with Daemon(program, CONF, "--negative", "1", "--record", str(record), environment={"MALLOC_ARENA_MAX": "1"}) as daemon:
         for name, text in SCRIPTS.items():
             daemon.script(name, f"#!/bin/sh\nexec 2> /dev/null\n{text}")
         os.mkfifo(daemon.room / "gate")
@@ -188,7 +201,7 @@ def soak(program, minutes, seed):
         if lives := daemon.lives():
             wrong.append(lives)
         wrong += [line for line in daemon.lines if not line.startswith(TOLD)]
-        return wrong, all_of_it.replies, first, last, sum(line.startswith("volume") for line in daemon.lines)
+        return wrong, all_of_it.replies, first, last
 
 
 def main(words):
@@ -196,11 +209,15 @@ def main(words):
         print(__doc__.split("\n\n")[1], file=sys.stderr)
         return 2
     minutes, seed = [*words, *["10", "1"][len(words) :]]
-    wrong, replies, first, last, volumes = soak(PROGRAMS[0], float(minutes), seed)
+    with tempfile.TemporaryDirectory(prefix="soak-") as folder:
+        record = pathlib.Path(folder)
+        wrong, replies, first, last = soak(PROGRAMS[0], float(minutes), seed, record)
+        broken, steps = judged(PROGRAMS[0], record)
+    wrong += broken
     for line in wrong[:20]:
         print(line[:300])
     told = ", ".join(f"{count} {kind}" for kind, count in sorted(replies.items(), key=lambda it: -it[1]))
-    print(f"{replies.total()} replies: {told}; {volumes} volumes; memory {first // 1024} KiB, then {last // 1024} KiB")
+    print(f"{replies.total()} replies: {told}; {steps} steps judged; memory {first // 1024} KiB, then {last // 1024} KiB")
     print("soak: clean" if not wrong else f"soak: {len(wrong)} wrong")
     return 1 if wrong else 0
 

@@ -66,6 +66,9 @@ TYPED = [
     ("reqkeyd pick --negate --ke", ["--key"]),
     ("reqkeyd pick --uid ", []),
     ("reqkeyd replay ", []),
+    ("reqkeyd rejoin ", ["some.file"]),
+    ("reqkeyd rejoin some.file so", ["some.file"]),
+    ("reqkeyd serve --record ", ["some.file"]),
 ]
 
 # Asks for completions as readline does: bash divides a word also at its `=`.

@@ -66,7 +66,7 @@ def of_daemon(program):
     synopsis = " ".join(spoken(line) for line in page["SYNOPSIS"])
     count.same("synopsis of reqkeyd", [it for it in listed if it.split()[-1] != "--help" and it.split()[1 if it[1] != "-" else 0] not in synopsis], [])
     commands = subcommands(top_help)
-    count.same("subcommands of reqkeyd", sorted(commands), ["check", "pick", "replay", "serve"])
+    count.same("subcommands of reqkeyd", sorted(commands), ["check", "pick", "rejoin", "replay", "serve"])
     count.same("their synopsis", [it for it in commands if f"reqkeyd {it}" not in synopsis], [])
     count.same("names of pick", [it for it in [calls(program, "pick").partition("PATH ")[2]] if it not in synopsis], [])
 

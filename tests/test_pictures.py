@@ -124,8 +124,9 @@ def served():
     return [f"{connections} {'connection' if connections == '1' else 'connections'}: {ratio}" for connections, ratio in asks + keys]
 
 
-def spawned():
-    for of, ours, peer, ratio in below("| of | starts/s"):
+def rated(heads):
+    """Of a table of rates: the ratio of each row, and what Rattle and C reach."""
+    for of, *_, ours, peer, ratio in below(heads):
         yield from [f"{of}: {ratio}", f"{of}, Rattle: {ours}", f"{of}, C: {peer}"]
 
 
@@ -133,7 +134,8 @@ TOLD = {
     "replay.svg": list(replayed()),
     "steps.svg": list(stepped()),
     "memory.svg": [f"{program}: {size}" for program, size in below("| program | bytes a key |")],
-    "spawn.svg": list(spawned()),
+    "hall.svg": list(rated("| of | ns a call")),
+    "spawn.svg": list(rated("| of | starts/s")),
     "serve.svg": served(),
 }
 

@@ -13,7 +13,8 @@ from typing import NamedTuple
 from program_help import option, part, said, subcommands
 
 PROGRAMS = ["reqkeyd", "reqkeyctl"]
-FILES = {"PATH", "FILE"}  # the values that are files
+FILES = {"PATH", "FILE", "FOLDER"}  # the values that are files or folders
+REST = "files"  # the argument that stands for any number of files
 
 
 class Option(NamedTuple):
@@ -71,7 +72,7 @@ def read_program(path):
     for name in subcommands(text):
         its = said(path, name, "--help")
         rules = [re.split(r"\s{2,}", line, maxsplit=1) for line in part(its, "Arguments")]
-        arguments = [argument.strip("<>[]") for argument, _ in rules]
+        arguments = [argument.strip("<>[].") for argument, _ in rules]
         words.update((argument, words_of(rule, errors)) for argument, (_, rule) in zip(arguments, rules))
         commands[name] = Call(brief(its.partition("\n")[0]), read_options(its), arguments)
     words = {"command": {name: call.about for name, call in commands.items()}, **{name: its for name, its in words.items() if its}}
@@ -126,13 +127,13 @@ _@NAME@()
             done
         else
             seen=1
-            left=("${left[@]:1}")
+            [[ ${left[0]} == files ]] || left=("${left[@]:1}")
         fi
     done
 
     COMPREPLY=()
     [[ $current != = ]] || current=
-    if [[ $value == PATH || $value == FILE ]]; then
+    if [[ $value == PATH || $value == FILE || $value == FOLDER || (! $value && ${left[0]} == files && $current != -*) ]]; then
         compopt -o filenames 2> /dev/null
         mapfile -t COMPREPLY < <(compgen -f -- "$current")
     elif [[ ! $value ]]; then
@@ -219,7 +220,8 @@ def zsh(program):
     def case(name, call):
         own = [spec(it) for it in call.options if "--help" not in it.spellings]
         more = "".join(f"\n                {it}" for it in own)
-        acts = ([f"options+=({more}\n            )"] if own else []) + ([f"left=({' '.join(call.arguments)})"] if call.arguments else [])
+        names = f"arguments=('*:{REST}:_files')" if call.arguments == [REST] else f"left=({' '.join(call.arguments)})"
+        acts = ([f"options+=({more}\n            )"] if own else []) + ([names] if call.arguments else [])
         return "\n".join([f"        {name})", *[f"            {act}" for act in acts], "            ;;"]) if acts else None
 
     def action(its):
@@ -251,7 +253,7 @@ function __@NAME@_at
         set -l word $words[1]
         set -e words[1]
         if test $command != @NAME@
-            set -e left[1]
+            contains files $left; or set -e left[1]
             continue
         end
         switch $word
@@ -299,7 +301,8 @@ def fish(program):
     values += [case(others, "set -e words[1]", "continue")] if others else []
     rows = [row("command", it) for it in program.itself.options]
     rows += [row(f"in {name}", it) for name, call in program.commands.items() for it in call.options]
-    words = []
+    takes_files = [REST] in [call.arguments for call in program.commands.values()]
+    words = [f"complete -c {program.name} -n {quoted(f'__{program.name}_at {REST}')} -F"] if takes_files else []
     for name, its in program.words.items():
         head = f"complete -c {program.name} -n {quoted(f'__{program.name}_at {name}')}"
         words += [f"{head} -a {word}" + (f" -d {quoted(about)}" if about else "") for word, about in its.items()]

@@ -38,7 +38,7 @@ _reqkeyctl()
         [clear]=ring
         [default]=setting
         [add]='type description payload ring'
-        [run]='program>...'
+        [run]=program
     )
     local -A words=(
         [command]='hello request assume instantiate negate reject read describe revoke timeout link unlink clear default add callout run'
@@ -68,13 +68,13 @@ _reqkeyctl()
             done
         else
             seen=1
-            left=("${left[@]:1}")
+            [[ ${left[0]} == files ]] || left=("${left[@]:1}")
         fi
     done
 
     COMPREPLY=()
     [[ $current != = ]] || current=
-    if [[ $value == PATH || $value == FILE ]]; then
+    if [[ $value == PATH || $value == FILE || $value == FOLDER || (! $value && ${left[0]} == files && $current != -*) ]]; then
         compopt -o filenames 2> /dev/null
         mapfile -t COMPREPLY < <(compgen -f -- "$current")
     elif [[ ! $value ]]; then

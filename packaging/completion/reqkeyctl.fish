@@ -11,7 +11,7 @@ function __reqkeyctl_at
         set -l word $words[1]
         set -e words[1]
         if test $command != reqkeyctl
-            set -e left[1]
+            contains files $left; or set -e left[1]
             continue
         end
         switch $word
@@ -68,7 +68,7 @@ function __reqkeyctl_at
             case add
                 set left type description payload ring
             case run
-                set left program>...
+                set left program
         end
         for name in $dropped
             set left (string match -v -- $name $left)

@@ -6,17 +6,19 @@ _reqkeyd()
     local -A options=(
         [reqkeyd]='-h --help -V --version'
         [replay]='-h --help'
-        [serve]='--socket --conf --negative --sessions --clients --mode --keyutils -h --help'
+        [serve]='--socket --conf --negative --sessions --clients --mode --keyutils --record -h --help'
         [check]='--conf -h --help'
         [pick]='--conf --negate --uid --gid --key --thread --process --session -h --help'
+        [rejoin]='-h --help'
     )
     local -A arguments=(
         [pick]='type description callout'
+        [rejoin]=files
     )
     local -A words=(
-        [command]='replay serve check pick'
+        [command]='replay serve check pick rejoin'
     )
-    local -A values=([--socket]=PATH [--conf]=PATH [--negative]=N [--sessions]=N [--clients]=N [--mode]=OCTAL [--keyutils]=FILE [--uid]=N [--gid]=N [--key]=N [--thread]=N [--process]=N [--session]=N)
+    local -A values=([--socket]=PATH [--conf]=PATH [--negative]=N [--sessions]=N [--clients]=N [--mode]=OCTAL [--keyutils]=FILE [--record]=FOLDER [--uid]=N [--gid]=N [--key]=N [--thread]=N [--process]=N [--session]=N)
     local -A instead=()
     local current=${COMP_WORDS[COMP_CWORD]} command=reqkeyd value= dropped= seen=0 candidates word at
     local -a left=(command)
@@ -37,13 +39,13 @@ _reqkeyd()
             done
         else
             seen=1
-            left=("${left[@]:1}")
+            [[ ${left[0]} == files ]] || left=("${left[@]:1}")
         fi
     done
 
     COMPREPLY=()
     [[ $current != = ]] || current=
-    if [[ $value == PATH || $value == FILE ]]; then
+    if [[ $value == PATH || $value == FILE || $value == FOLDER || (! $value && ${left[0]} == files && $current != -*) ]]; then
         compopt -o filenames 2> /dev/null
         mapfile -t COMPREPLY < <(compgen -f -- "$current")
     elif [[ ! $value ]]; then

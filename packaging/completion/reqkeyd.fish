@@ -11,7 +11,7 @@ function __reqkeyd_at
         set -l word $words[1]
         set -e words[1]
         if test $command != reqkeyd
-            set -e left[1]
+            contains files $left; or set -e left[1]
             continue
         end
         switch $word
@@ -24,6 +24,8 @@ function __reqkeyd_at
         switch $command
             case pick
                 set left type description callout
+            case rejoin
+                set left files
         end
         for name in $dropped
             set left (string match -v -- $name $left)
@@ -43,6 +45,7 @@ complete -c reqkeyd -n '__reqkeyd_at in serve' -l sessions -x -d 'How many conne
 complete -c reqkeyd -n '__reqkeyd_at in serve' -l clients -x -d 'End after so many connections, 0 to 4294967295, 0 for never'
 complete -c reqkeyd -n '__reqkeyd_at in serve' -l mode -x -d 'The permissions of the socket\'s file, 0 to 777 in octal'
 complete -c reqkeyd -n '__reqkeyd_at in serve' -l keyutils -r -F -d 'Have handlers that ask preload this library, so that keyutils\' own programs are handlers'
+complete -c reqkeyd -n '__reqkeyd_at in serve' -l record -r -F -d 'Write the volumes of the record into this folder, which is there and has none'
 complete -c reqkeyd -n '__reqkeyd_at in serve' -s h -l help -d 'Print help'
 complete -c reqkeyd -n '__reqkeyd_at in check' -l conf -r -F -d 'The configuration'
 complete -c reqkeyd -n '__reqkeyd_at in check' -s h -l help -d 'Print help'
@@ -55,7 +58,10 @@ complete -c reqkeyd -n '__reqkeyd_at in pick' -l thread -x -d 'The user\'s threa
 complete -c reqkeyd -n '__reqkeyd_at in pick' -l process -x -d 'Its process ring, 0 to 2147483647, 0 for none'
 complete -c reqkeyd -n '__reqkeyd_at in pick' -l session -x -d 'Its session ring, 0 to 2147483647, 0 for none'
 complete -c reqkeyd -n '__reqkeyd_at in pick' -s h -l help -d 'Print help'
+complete -c reqkeyd -n '__reqkeyd_at in rejoin' -s h -l help -d 'Print help'
+complete -c reqkeyd -n '__reqkeyd_at files' -F
 complete -c reqkeyd -n '__reqkeyd_at command' -a replay -d 'Runs a script from standard input, and writes what the daemon does'
 complete -c reqkeyd -n '__reqkeyd_at command' -a serve -d 'Answers a Unix socket: keys are found, or made by the handler programs of a configuration'
 complete -c reqkeyd -n '__reqkeyd_at command' -a check -d 'Tells how many lines of a configuration name a program, or its first fault'
 complete -c reqkeyd -n '__reqkeyd_at command' -a pick -d 'Tells which line of a configuration a request chooses, and what would be started'
+complete -c reqkeyd -n '__reqkeyd_at command' -a rejoin -d 'Tells whether the volumes of a record are a run of the machine'

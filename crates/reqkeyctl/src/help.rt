@@ -13,7 +13,7 @@ use std::alloc::{AllocError, Global};
 use std::io::Write;
 
 /// The version, and what `rt version` says of the toolchain that proved and built it.
-const VERSION: &str = "0.1.0 (rattle-kit-13b logic dac8208d650f15bf)";
+const VERSION: &str = "0.1.0 (rattle-kit-13f logic dac8208d650f15bf)";
 
 /// What `--help` says before its lists.
 const ABOUT: &str = "Asks a request_key daemon for one thing, and prints its reply.

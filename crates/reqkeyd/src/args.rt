@@ -5,7 +5,7 @@ use clap::{Arg, Command, Error};
 use std::alloc::{AllocError, Global};
 
 /// The version, and what `rt version` says of the toolchain that proved and built it.
-const VERSION: &str = "0.1.0 (rattle-kit-13b logic dac8208d650f15bf)";
+const VERSION: &str = "0.1.0 (rattle-kit-13f logic dac8208d650f15bf)";
 
 /// What `serve --help` says before its options.
 const SERVE: &str =
@@ -17,7 +17,7 @@ replaced, any other file is not.";
 /// What `serve --help` says behind its options.
 const AFTER: &str =
     "Numbers have no sign. Once connections are accepted, standard error says reqkeyd: ready. Sessions that end badly, connections that can't be \
-accepted, and volumes of the record that are dropped (volume HALL INDEX STEPS) are told there, too.
+accepted, and volumes of the record that are dropped (volume HALL INDEX STEPS) or can't be written are told there, too.
 
 Example:
   echo 'create user p:* * |/bin/cat' > /etc/reqkeyd.conf
@@ -25,10 +25,11 @@ Example:
   reqkeyctl --socket /run/reqkeyd/socket --uid 1000 request user p:1 user hello
 
 Status: 0 after the connections of --clients; 2 for words that are no call; 1 for a configuration that can't be read (reqkeyd: conf) or has a fault \
-(reqkeyd: conf line 3: C1), a socket that can't be opened or is in use (reqkeyd: socket), or want of memory (reqkeyd: memory).";
+(reqkeyd: conf line 3: C1), a folder of the record that can't be read or has volumes (reqkeyd: record), a socket that can't be opened or is in use \
+(reqkeyd: socket), or want of memory (reqkeyd: memory).";
 
 /// The options of `serve`, by name, value and what they are for; the first two must be there.
-const OPTIONS: [(&str, &str, &str); 7] = [
+const OPTIONS: [(&str, &str, &str); 8] = [
     (
         "socket",
         "PATH",
@@ -64,6 +65,11 @@ const OPTIONS: [(&str, &str, &str); 7] = [
         "FILE",
         "Have handlers that ask preload this library, so that keyutils' own programs are handlers",
     ),
+    (
+        "record",
+        "FOLDER",
+        "Write the volumes of the record into this folder, which is there and has none (docs/RECORD.md)",
+    ),
 ];
 
 /// How many of the options must be there.
@@ -79,6 +85,29 @@ fn serve<'a>(alloc: Global) -> Result<Command<'a>, AllocError> {
     Ok(serve)
 }
 
+/// What `rejoin --help` says behind its words.
+const REJOINED: &str =
+    "The files are those of serve --record, in any order, and all of them: hall-0-volume-000001 and so on. A line for each hall is told, and a last line.
+
+Example:
+  reqkeyd rejoin /var/log/reqkeyd/hall-*
+
+Status: 0 (ok, 4 halls, 68000 steps: a run of the machine); 2 for words that are no call; 1 for a file that can't be read or is no volume \
+(reqkeyd: FILE: its step 3 is cut or bad), for volumes that are no such run (reqkeyd: hall 2, volume 1: it is missing), for want of memory \
+(reqkeyd: memory), or an output that can't be written (reqkeyd: output).";
+
+/// `rejoin` with its files.
+fn rejoin<'a>(alloc: Global) -> Result<Command<'a>, AllocError> {
+    let files = Arg::new(alloc, "files")
+        .required(true)
+        .num_args(1..)
+        .help("The files, whose names begin with no -");
+    Command::new(alloc, "rejoin")
+        .about("Tells whether the volumes of a record are a run of the machine")
+        .after_help(REJOINED)
+        .arg(files)
+}
+
 /// What may stand on the command line.
 pub fn command<'a>(alloc: Global) -> Result<Command<'a>, AllocError> {
     let replay = Command::new(alloc, "replay").about(
@@ -92,7 +121,8 @@ pub fn command<'a>(alloc: Global) -> Result<Command<'a>, AllocError> {
         .subcommand(replay)?
         .subcommand(serve(alloc)?)?
         .subcommand(check(alloc)?)?
-        .subcommand(pick(alloc)?)
+        .subcommand(pick(alloc)?)?
+        .subcommand(rejoin(alloc)?)
 }
 
 /// Whether only memory was lacking.

@@ -2,13 +2,15 @@
 //!
 //! `reqkeyd replay` runs a script from its standard input to its standard output: what happens, line by line, and what the daemon does
 //! (docs/SCRIPTS.md). `reqkeyd serve` answers a Unix socket (docs/PROTOCOL.md, man/reqkeyd.8). `reqkeyd check` and `reqkeyd pick` tell of a configuration
-//! what is wrong with it, and what it would start (docs/CONFIGURATION.md).
+//! what is wrong with it, and what it would start (docs/CONFIGURATION.md). `reqkeyd rejoin` tells of the files of a record whether they are a run of the
+//! machine (docs/RECORD.md).
 //!
 //! All that it does is one call, [`run::run_words`], over the words, the streams and the process that are passed in.
 #![tactic(auto)]
 
 mod args;
 mod preview_args;
+mod rejoining;
 mod run;
 mod showing;
 

@@ -1,15 +1,18 @@
 //! What the words ask for, done over the streams that are passed in.
-ghost use Rattle.std.specs.Prelude.{◌≡◌, ◌≤◌, true, false, None, map, string_bytes, IfOk, IfSome, OnErr, IsSome, option_map};
+ghost use Rattle.std.specs.Prelude.{◌≡◌, ◌≤◌, ◌+◌, ◌-◌, length, true, false, None, map, string_bytes, IfOk, IfSome, OnErr, IsSome, MatchOption, option_map};
+ghost use Rattle.std.specs.List.{list_all};
 ghost use Rattle.std.specs.Io.KnownBytes.{Appends};
 ghost use Rattle.rk_preview.specs.Views.{asked_by};
 ghost use Rattle.rk_daemon.specs.Settings.{set_by};
+ghost use Rattle.reqkeyd.specs.Rejoined.{are_files, asks_rejoin, is_file, HasRejoined};
 ghost use Rattle.reqkeyd.specs.Outcome.{asks_preview, asks_replay, asks_serve, HasPlayed, HasShown, HasTold};
 
 use crate::args::{command, is_memory};
+use crate::rejoining::rejoin;
 use crate::showing::show;
 use clap::Error;
 use log::Log;
-use rk_daemon::{Settings, serve};
+use rk_daemon::{Keeper, Settings, serve};
 use rk_preview::Preview;
 use rk_replay::run_script;
 use std::alloc::{AllocError, Global};
@@ -50,7 +53,7 @@ pub fn usage<E: Write>(errors: &mut E) -> u8
 {
     let _ = errors.write_all(
         b"usage: reqkeyd replay | reqkeyd serve --socket PATH --conf PATH [OPTIONS] | reqkeyd check --conf PATH | \
-reqkeyd pick --conf PATH [OPTIONS] TYPE DESCRIPTION CALLOUT\n",
+reqkeyd pick --conf PATH [OPTIONS] TYPE DESCRIPTION CALLOUT | reqkeyd rejoin FILES\n",
     );
     USAGE
 }
@@ -106,7 +109,8 @@ fn is_replay(words: &[String]) -> bool
 /// The first word is the name of the program. Where `replay` is the only other one, a script is read from `reader` and played to
 /// `writer`. For all other words nothing is read. `serve` with its options runs the daemon, to its end: 1 where it could not begin, with the fault on
 /// `errors`. `check` and `pick` with theirs write what a configuration has to say: 1 where it can't be read, has a fault or chooses no line, with that on
-/// `errors`. Help and the version are asked for, so they are written to `writer` with status 0.
+/// `errors`. `rejoin` with files tells whether they are a run of the machine: 0 where they are, else 1, with why not on `errors`. Help and the version are
+/// asked for, so they are written to `writer` with status 0.
 pub fn run_words<
     R: Files
         + Net
@@ -116,6 +120,7 @@ pub fn run_words<
         + Clock
         + Eprint
         + Log
+        + Keeper
         + RandomSource
         + AllocGlobal
         + Clone
@@ -136,6 +141,11 @@ pub fn run_words<
         → HasShown asked (W.contents writer.old) (W.contents writer.new)) }
     ensures looks { IsSome (asks_preview (map string_bytes words.now)) → result ≤ 1 }
 
+    // `rejoin` and files: with status 0 the volumes of as many files are, for each hall, a run of the machine that obeys its laws.
+    ensures rejoined { asks_rejoin (map string_bytes words.now) ≡ true → result ≡ 0
+        → HasRejoined (length words.now - 2) (W.contents writer.old) (W.contents writer.new) }
+    ensures joins { asks_rejoin (map string_bytes words.now) ≡ true → result ≤ 1 }
+
     // other words than `replay`: nothing is read; help and version are told with status 0, and nothing is with status 2.
     ensures unread { asks_replay (map string_bytes words.now) ≡ false → reader.new ≡ reader.old }
     ensures told { asks_replay (map string_bytes words.now) ≡ false → result ≡ 0 → HasTold (W.contents writer.old) (W.contents writer.new) }
@@ -146,6 +156,9 @@ pub fn run_words<
     ensures quiet { asks_serve (map string_bytes words.now) ≡ None → result ≡ 0 → errors.new ≡ errors.old }
     ensures status { result ≤ 2 }
 {
+    if let Some(files) = files_of(words) {
+        return rejoin(rt, files, writer, errors);
+    }
     let alloc = rt.alloc();
     if is_replay(words) {
         return replay(alloc, reader, writer, errors);
@@ -172,6 +185,38 @@ fn preview_of<'a>(alloc: Global, words: &'a [String]) -> Result<Option<Preview<'
     }
 }
 
+/// The files of words that ask whether they are a run of the machine.
+fn files_of(words: &[String]) -> Option<&[String]>
+    ensures { MatchOption result (asks_rejoin (map string_bytes words.now) ≡ false)
+        (λ files. (asks_rejoin (map string_bytes words.now) ≡ true) × (length files.now + 2 ≡ length words.now)) }
+{
+    match words {
+        [_, word, files @ ..] if word.as_str() == "rejoin" && are_files(files) => Some(files),
+        _ => None,
+    }
+}
+
+/// Whether words are at least one file, and nothing else.
+fn are_files(words: &[String]) -> bool
+    ensures { result ≡ are_files (map string_bytes words.now) }
+{
+    !words.is_empty() && all_files(words)
+}
+
+/// Whether no word is an option.
+fn all_files(words: &[String]) -> bool
+    ensures { result ≡ list_all (λ word. is_file (string_bytes word)) words.now }
+{
+    words.iter().all(|word| is_file(word.as_str()))
+}
+
+/// Whether a word is no option.
+fn is_file(word: &str) -> bool
+    ensures { result ≡ is_file word.now }
+{
+    !matches!(word.as_bytes(), [b'-', ..])
+}
+
 /// The settings of words that ask for the daemon.
 fn settings_of<'a>(words: &'a [String]) -> Option<Settings<'a>>
     ensures { option_map set_by result ≡ asks_serve (map string_bytes words.now) }
@@ -192,6 +237,7 @@ fn daemon<
         + Clock
         + Eprint
         + Log
+        + Keeper
         + RandomSource
         + AllocGlobal
         + Clone

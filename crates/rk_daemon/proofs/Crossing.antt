@@ -70,10 +70,34 @@ module _ (N : RattleType) (g : names.Ghosts N.Denot) (n : IsSend N) where
   shared_send =
       let h : IsSend (Struct (shape (halls.the_type N g))) = struct_send (shape (halls.the_type N g))
       (lock_send N g 0 n, (lock_send N g 1 n, (lock_send N g 2 n, (lock_send N g 3 n, tt)))) in
-      recorded_send _ _ _ (shared.the_type N g).to_one (struct_send (shape (shared.the_type N g)) (h, (conf_send, (search sendable depth 20, (held_send, (search (sendable, crosses) depth 40 fits 20000, tt))))))
+      recorded_send _ _ _ (shared.the_type N g).to_one (struct_send (shape (shared.the_type N g)) (
+        h,
+        (
+          conf_send,
+          (
+            search sendable depth 20,
+            (
+              held_send,
+              (search (sendable, crosses) depth 40 fits 20000, (search (sendable, crosses) depth 40 fits 20000, (search sendable depth 20, tt))),
+            ),
+          ),
+        ),
+      ))
 
   pub shared_sync : IsSync (shared.the_row N g)
   shared_sync =
       let h : IsSync (Struct (shape (halls.the_type N g))) = struct_sync (shape (halls.the_type N g))
       (lock_sync N g 0 n, (lock_sync N g 1 n, (lock_sync N g 2 n, (lock_sync N g 3 n, tt)))) in
-      recorded_sync _ _ _ (shared.the_type N g).to_one (struct_sync (shape (shared.the_type N g)) (h, (conf_sync, (search sendable depth 20, (held_sync, (search (sendable, crosses) depth 40 fits 20000, tt))))))
+      recorded_sync _ _ _ (shared.the_type N g).to_one (struct_sync (shape (shared.the_type N g)) (
+        h,
+        (
+          conf_sync,
+          (
+            search sendable depth 20,
+            (
+              held_sync,
+              (search (sendable, crosses) depth 40 fits 20000, (search (sendable, crosses) depth 40 fits 20000, (search sendable depth 20, tt))),
+            ),
+          ),
+        ),
+      ))

@@ -3,13 +3,14 @@ use Rattle.std.specs.Prelude.{ℕ, List}
 use Rattle.rk_conf.specs.Faults.{IsFaultFor}
 use Rattle.rk_conf.specs.Reading.{faults_in}
 use Rattle.rk_daemon.specs.declared.fault.Fault.{Fault}
-use Rattle.rk_daemon.specs.declared.fault.Fault.TheVariants.{Unreadable, Conf, Random, Socket, NoMemory}
+use Rattle.rk_daemon.specs.declared.fault.Fault.TheVariants.{Unreadable, Conf, Random, Record, Socket, NoMemory}
 
 -- a fault of a configuration is the one that some text has; of the others nothing is said
 abbrev pub IsFound : Fault → Type 0
 IsFound Unreadable = Unit {0}
 IsFound (Conf fault) = (text : List ℕ) × IsFaultFor fault (faults_in text)
 IsFound Random = Unit {0}
+IsFound Record = Unit {0}
 IsFound Socket = Unit {0}
 IsFound NoMemory = Unit {0}
 
@@ -18,5 +19,6 @@ abbrev pub IsOfConf : Fault → Type 0
 IsOfConf Unreadable = Unit {0}
 IsOfConf (Conf fault) = (text : List ℕ) × IsFaultFor fault (faults_in text)
 IsOfConf Random = ⊥
+IsOfConf Record = ⊥
 IsOfConf Socket = ⊥
 IsOfConf NoMemory = ⊥

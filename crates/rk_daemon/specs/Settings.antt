@@ -12,7 +12,7 @@ use Rattle.rk_variables.specs.Library.{is_library}
 use Rattle.rk_daemon.specs.declared.settings.Settings.{Settings}
 
 -- what is set: the path of the socket and that of the configuration; seconds; how many connections are served at a time, and in all; permission bits;
--- the library that is preloaded
+-- the library that is preloaded; the folder of the record
 pub record Set : Type 0 where
   pub socket : List ℕ
   pub conf : List ℕ
@@ -21,6 +21,7 @@ pub record Set : Type 0 where
   pub clients : ℕ
   pub mode : ℕ
   pub keyutils : Option (List ℕ)
+  pub folder : Option (List ℕ)
 
 -- the same, of settings
 abbrev pub set_by : Settings → Set
@@ -32,6 +33,7 @@ set_by s = record {
   clients = s.clients;
   mode = s.mode;
   keyutils = option_map (λ p. p.now) s.keyutils;
+  folder = option_map (λ p. p.now) s.folder;
 }
 
 -- the options that words say, of which none is a flag
@@ -41,7 +43,8 @@ options_of words = shared.options_of [] words
 -- the options that there are
 abbrev pub is_known : List ℕ → Bool
 is_known name = list_any (bytes_eq name)
-    (codes "--socket" ∷ codes "--conf" ∷ codes "--negative" ∷ codes "--sessions" ∷ codes "--clients" ∷ codes "--mode" ∷ codes "--keyutils" ∷ [])
+    (codes "--socket" ∷ codes "--conf" ∷ codes "--negative" ∷ codes "--sessions" ∷ codes "--clients" ∷ codes "--mode" ∷ codes "--keyutils"
+    ∷ codes "--record" ∷ [])
 
 abbrev pub is_octal_digit : ℕ → Bool
 is_octal_digit b = nat_le 48 b && nat_le b 55
@@ -68,9 +71,10 @@ library_or_none (Some path) = if is_library path then Some (Some path) else None
 abbrev pub library_in : List ℕ → Option (List Given) → Option (Option (List ℕ))
 library_in name options = option_and_then library_or_none (value_in name options)
 
--- all seven
-abbrev pub together : Option (List ℕ) → Option (List ℕ) → Option ℕ → Option ℕ → Option ℕ → Option ℕ → Option (Option (List ℕ)) → Option Set
-together (Some socket) (Some conf) (Some negative) (Some sessions) (Some clients) (Some mode) (Some keyutils) = Some (record {
+-- all eight
+abbrev pub together : Option (List ℕ) → Option (List ℕ) → Option ℕ → Option ℕ → Option ℕ → Option ℕ → Option (Option (List ℕ))
+    → Option (Option (List ℕ)) → Option Set
+together (Some socket) (Some conf) (Some negative) (Some sessions) (Some clients) (Some mode) (Some keyutils) (Some folder) = Some (record {
   socket = socket;
   conf = conf;
   negative = negative;
@@ -78,8 +82,9 @@ together (Some socket) (Some conf) (Some negative) (Some sessions) (Some clients
   clients = clients;
   mode = mode;
   keyutils = keyutils;
+  folder = folder;
 })
-together _ _ _ _ _ _ _ = None
+together _ _ _ _ _ _ _ _ = None
 
 -- what options set: each is known and there once at most, the paths are there, the numbers are numbers within their bounds, and the library, where there is
 -- one, can be preloaded
@@ -92,6 +97,7 @@ set_in options = if all_named is_known options then together
     (number_in (codes "--clients") 0 (number_up_to 4294967295) options)
     (number_in (codes "--mode") 0o600 permissions_said options)
     (library_in (codes "--keyutils") options)
+    (value_in (codes "--record") options)
     else None
 
 -- what words set

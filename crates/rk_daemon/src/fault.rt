@@ -15,6 +15,9 @@ pub enum Fault {
     /// The system has no random bytes.
     #[error("random")]
     Random,
+    /// The folder of the record can't be read, or has a file of an earlier record.
+    #[error("record")]
+    Record,
     /// The socket can't be opened.
     #[error("socket")]
     Socket,

@@ -8,8 +8,8 @@
 //!
 //! `settings` has what an operator sets by options, `fault` why nothing is served. `socket`, `clock`, `gate` and `shelf` are the devices of a session:
 //! the wire over an accepted socket, seconds of the system's monotonic clock, a gate that holds nobody and hands out volumes of which `held` counts much,
-//! and a shelf that names a volume and drops it. `path` takes the socket's path and gives it free. `workers` serves the connections that `accepting`
-//! hands out, and `serving` puts it all together.
+//! and a shelf that writes a volume into the folder of the `record`, or names it and drops it. `path` takes the socket's path and gives it free. `workers`
+//! serves the connections that `accepting` hands out, and `serving` puts it all together.
 #![tactic(auto)]
 
 mod accepting;
@@ -18,6 +18,7 @@ mod fault;
 mod gate;
 mod held;
 mod path;
+mod record;
 mod serving;
 mod settings;
 mod shelf;
@@ -25,5 +26,6 @@ mod socket;
 mod workers;
 
 pub use fault::Fault;
+pub use record::Keeper;
 pub use serving::serve;
 pub use settings::Settings;

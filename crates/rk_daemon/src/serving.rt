@@ -6,11 +6,13 @@ use crate::accepting::accept;
 use crate::fault::Fault;
 use crate::held::Held;
 use crate::path::{give_free, take};
+use crate::record::{Keeper, is_free};
 use crate::settings::Settings;
 use crate::workers::{Shared, start};
-use log::Log;
+use log::{Log, warn};
 use rk_conf::Conf;
-use rk_hall::{Fresh, Halls, Names};
+use rk_hall::{Fresh, HallNo, Halls, Names};
+use rk_talk::Shelf;
 use std::alloc::{AllocError, Global};
 use std::fs;
 use std::fs::Files;
@@ -43,6 +45,7 @@ fn serve_at<
         + Clock
         + Eprint
         + Log
+        + Keeper
         + Clone
         + Send
         + Drop
@@ -67,10 +70,8 @@ fn serve_at<
     let Ok(begun) = Instant::now(rt) else {
         return Err(AllocError);
     };
-    let keyutils = match settings.keyutils {
-        Some(path) => Some(String::from_str(alloc, path)?),
-        None => None,
-    };
+    let keyutils = copied(alloc, settings.keyutils)?;
+    let folder = copied(alloc, settings.folder)?;
     let shared = Arc::new(
         alloc,
         Shared {
@@ -79,6 +80,8 @@ fn serve_at<
             start: begun,
             held: Held::new(),
             keyutils,
+            folder,
+            negative: settings.negative,
         },
     )?;
     let (to, from) = crossbeam_channel::bounded(alloc, WAITING)?;
@@ -91,7 +94,36 @@ fn serve_at<
     for worker in workers {
         worker.join(rt);
     }
+    if shared.folder.is_some() {
+        hand_out_all(rt, alloc, &shared);
+    }
     Ok(())
+}
+
+/// A copy of a path, where there is one.
+fn copied(alloc: Global, path: Option<&str>) -> Result<Option<String>, AllocError> {
+    match path {
+        Some(path) => Ok(Some(String::from_str(alloc, path)?)),
+        None => Ok(None),
+    }
+}
+
+/// Hands out what each hall still records, once nobody serves any more; a volume without a step, too.
+fn hand_out_all<N: Names, R: Wait + Eprint + Log + Keeper>(
+    rt: &R,
+    alloc: Global,
+    shared: &Shared<N>,
+) {
+    let shelf = shared.shelf(rt, alloc);
+    for hall in HallNo::ALL {
+        match shared.halls.roll(rt, hall) {
+            Ok(volume) => shelf.put(rt, volume),
+            Err(fault) => {
+                let hall = hall.number();
+                warn!(rt; "the last volume of hall {hall}: {fault:?}");
+            }
+        }
+    }
 }
 
 /// Serves what comes at the listener, with halls that are named here.
@@ -102,6 +134,7 @@ fn serve_named<
         + Clock
         + Eprint
         + Log
+        + Keeper
         + Clone
         + Send
         + Drop
@@ -144,8 +177,8 @@ fn random_seed<R: RandomSource>(rt: &R) -> Result<u64, Fault>
     }
 }
 
-/// Reads the configuration, draws the seed of this run, takes the path of the socket, and serves connections: for good, or until so many have come as
-/// the settings say, and those are served out. `errors` is told once connections are accepted.
+/// Reads the configuration, draws the seed of this run, looks at the folder of the record, takes the path of the socket, and serves connections: for good,
+/// or until so many have come as the settings say, and those are served out. `errors` is told once connections are accepted.
 pub fn serve<
     R: Files
         + Net
@@ -155,6 +188,7 @@ pub fn serve<
         + Clock
         + Eprint
         + Log
+        + Keeper
         + RandomSource
         + AllocGlobal
         + Clone
@@ -167,6 +201,11 @@ pub fn serve<
 {
     let conf = conf_at(rt, settings.conf)?;
     let seed = random_seed(rt)?;
+    if let Some(folder) = settings.folder
+        && !matches!(is_free(rt, folder), Ok(true))
+    {
+        return Err(Fault::Record);
+    }
     let Ok((listener, taken)) = take(rt, settings.socket, settings.mode) else {
         return Err(Fault::Socket);
     };

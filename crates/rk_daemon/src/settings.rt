@@ -9,7 +9,7 @@ use rk_options::Options;
 use rk_variables::is_library;
 
 /// The names of the options that there are; each has a value.
-const NAMES: [&str; 7] = [
+const NAMES: [&str; 8] = [
     "--socket",
     "--conf",
     "--negative",
@@ -17,6 +17,7 @@ const NAMES: [&str; 7] = [
     "--clients",
     "--mode",
     "--keyutils",
+    "--record",
 ];
 
 /// What an operator sets.
@@ -36,13 +37,15 @@ pub struct Settings<'a> {
     pub mode: u32,
     /// The library that plain handlers preload, by which keyutils' calls are the daemon's.
     pub keyutils: Option<&'a str>,
+    /// The folder into which the volumes of the record are written.
+    pub folder: Option<&'a str>,
 }
 
 impl<'a> Settings<'a> {
     /// The settings that the words say: options with their values, as `--clients 2` or `--clients=2`, in any order. `None` where a name has no value,
     /// is unknown or there twice, where a path is lacking, and where a value is no number within its bounds. `--negative` (60) and `--clients` (0) are
     /// decimal digits up to 4294967295, `--sessions` (64) from 1 to 64, and `--mode` (600) octal digits up to 777; none has a sign. `--keyutils` is an
-    /// absolute path without a space or a colon, and there is none unless it is given.
+    /// absolute path without a space or a colon, and there is none unless it is given; neither is there a `--record`.
     pub fn read(words: &'a [String]) -> Option<Settings<'a>>
         ensures { option_map set_by result ≡ settings_said (map string_bytes words.now) }
     {
@@ -64,6 +67,7 @@ impl<'a> Settings<'a> {
             clients: options.number_or("--clients", u32::MAX, 0)?,
             mode: mode(options)?,
             keyutils: library(options)?,
+            folder: options.value_of("--record")?,
         })
     }
 }

@@ -5,7 +5,8 @@ ghost use Rattle.rk_devices.specs.Counts.{most};
 use crate::clock::Seconds;
 use crate::gate::Relief;
 use crate::held::Held;
-use crate::shelf::Named;
+use crate::record::Keeper;
+use crate::shelf::Outlet;
 use crate::socket::Socket;
 use crossbeam_channel::Receiver;
 use log::{Log, warn};
@@ -46,10 +47,26 @@ pub struct Shared<N: Names> {
     pub held: Held,
     /// The library that plain handlers preload.
     pub keyutils: Option<String>,
+    /// The folder of the record.
+    pub folder: Option<String>,
+    /// For how many seconds a key is negative whose handler did not complete it.
+    pub negative: u32,
+}
+
+impl<N: Names> Shared<N> {
+    /// Where volumes go.
+    pub fn shelf<'a, R: Eprint + Log + Keeper>(
+        &'a self,
+        rt: &'a R,
+        alloc: Global,
+    ) -> Outlet<'a, R> {
+        let folder = self.folder.as_ref().map(|path| path.as_str());
+        Outlet::new(rt, alloc, folder, self.negative)
+    }
 }
 
 /// Serves one connection to its end.
-fn serve_client<N: Names, R: Wait + Clock + Eprint + Log, L: Launcher>(
+fn serve_client<N: Names, R: Wait + Clock + Eprint + Log + Keeper, L: Launcher>(
     rt: &R,
     alloc: Global,
     shared: &Shared<N>,
@@ -67,7 +84,7 @@ fn serve_client<N: Names, R: Wait + Clock + Eprint + Log, L: Launcher>(
     };
     let mut socket = Socket::new(stream, &shared.held);
     let mut clock = Seconds::since(rt, shared.start);
-    let shelf = Named::new(rt);
+    let shelf = shared.shelf(rt, alloc);
     let gate = Relief::new(&shared.halls, &shared.held, &shelf);
     let served = serve(
         rt,
@@ -89,7 +106,7 @@ fn serve_client<N: Names, R: Wait + Clock + Eprint + Log, L: Launcher>(
 }
 
 /// Serves the connections that come, until no more can.
-fn work<N: Names, R: Wait + Processes + Clock + Eprint + Log>(
+fn work<N: Names, R: Wait + Processes + Clock + Eprint + Log + Keeper>(
     rt: &R,
     alloc: Global,
     shared: &Shared<N>,
@@ -115,6 +132,7 @@ pub fn start<
         + Clock
         + Eprint
         + Log
+        + Keeper
         + Clone
         + Send
         + Drop

@@ -1,0 +1,112 @@
+//! `rejoin`: what the volumes of a record are, written.
+ghost use Rattle.std.specs.Prelude.{◌≡◌, ◌≤◌, IfOk, length};
+ghost use Rattle.reqkeyd.specs.Rejoined.{HasRejoined, AreOfFiles, AreRead, IsOfSomeFile};
+
+use crate::run::{FAILED, tell};
+use rk_rejoin::judge;
+use rk_volumes::{Fault, Stored};
+use std::fs;
+use std::fs::Files;
+use std::io::Write;
+
+/// Why files were not judged.
+#[derive(Clone, Copy, Debug)]
+enum Unread<'a> {
+    /// The file can't be read.
+    File(&'a str),
+    /// The file is no volume.
+    Volume(&'a str, Fault),
+    /// There was no memory for what they have.
+    NoMemory,
+}
+
+/// Reads the files, and writes what the volumes in them are. The status is 1, with a line on `errors`, where a file can't be read or is no volume, where
+/// the volumes are no run of the machine, for want of memory, or where `writer` fails.
+pub fn rejoin<R: Files + AllocGlobal, W: Write, E: Write>(
+    rt: &R,
+    files: &[String],
+    writer: &mut W,
+    errors: &mut E,
+) -> u8
+    ensures rejoined { result ≡ 0 → HasRejoined (length files.now) (W.contents writer.old) (W.contents writer.new) }
+    ensures quiet { result ≡ 0 → errors.new ≡ errors.old }
+    ensures status { result ≤ 1 }
+{
+    let alloc = rt.alloc();
+    let volumes = match volumes_of(rt, files) {
+        Ok(volumes) => volumes,
+        Err(why) => return refused(why, errors),
+    };
+    match judge(alloc, &volumes) {
+        Ok(total) => {
+            let Ok(text) = format!(in alloc; "{total}") else {
+                return refused(Unread::NoMemory, errors);
+            };
+            if tell(text.as_bytes(), writer) == 0 {
+                return 0;
+            }
+            let _ = errors.write_all(b"reqkeyd: output\n");
+            FAILED
+        }
+        Err(verdict) => {
+            let _ = writeln!(errors, "reqkeyd: {verdict}");
+            FAILED
+        }
+    }
+}
+
+/// The volumes of the files, by hall and index.
+fn volumes_of<'a, R: Files + AllocGlobal>(
+    rt: &R,
+    files: &'a [String],
+) -> Result<Vec<Stored>, Unread<'a>>
+    ensures read { IfOk result (λ vs. AreOfFiles (length files.now) vs.items) }
+{
+    let mut volumes = read_all(rt, files)?;
+    let Ok(()) = volumes.sort_by_key(|volume| (volume.head.hall.number(), volume.head.index)) else {
+        return Err(Unread::NoMemory);
+    };
+    Ok(volumes)
+}
+
+/// The volumes of the files, in their order.
+fn read_all<'a, R: Files + AllocGlobal>(
+    rt: &R,
+    files: &'a [String],
+) -> Result<Vec<Stored>, Unread<'a>>
+    ensures { IfOk result (λ vs. AreRead (length files.now) vs.items) }
+{
+    let mut volumes = Vec::new(rt.alloc());
+    for file in files {
+        let Ok(()) = volumes.push(read(rt, file.as_str())?) else {
+            return Err(Unread::NoMemory);
+        };
+    }
+    Ok(volumes)
+}
+
+/// The volume of a file.
+fn read<'a, R: Files + AllocGlobal>(rt: &R, file: &'a str) -> Result<Stored, Unread<'a>>
+    ensures { IfOk result (λ v. IsOfSomeFile v) }
+{
+    let Ok(bytes) = fs::read(rt, file) else {
+        return Err(Unread::File(file));
+    };
+    match Stored::read(rt.alloc(), &bytes) {
+        Ok(volume) => Ok(volume),
+        Err(Fault::NoMemory) => Err(Unread::NoMemory),
+        Err(fault) => Err(Unread::Volume(file, fault)),
+    }
+}
+
+/// Says why files were not judged.
+fn refused<E: Write>(why: Unread<'_>, errors: &mut E) -> u8
+    ensures { result ≡ 1 }
+{
+    let _ = match why {
+        Unread::File(file) => writeln!(errors, "reqkeyd: {file}: it can't be read"),
+        Unread::Volume(file, fault) => writeln!(errors, "reqkeyd: {file}: {fault}"),
+        Unread::NoMemory => errors.write_all(b"reqkeyd: memory\n"),
+    };
+    FAILED
+}

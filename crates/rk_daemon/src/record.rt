@@ -1,0 +1,61 @@
+//! The folder into which volumes are written.
+
+use rk_hall::Recorded;
+use rk_volumes::Head;
+use std::alloc::Global;
+use std::fs::{Files, OpenOptions};
+use std::io::{BufWriter, Write};
+use std::os::unix::fs::OpenOptionsExt;
+use std::{fs, io};
+
+/// How the name of each volume begins.
+const PREFIX: &str = "hall-";
+
+/// Whether a record may be written into a folder: it is there, and no file in it has a name that begins as those of volumes do.
+pub fn is_free<R: Files + AllocGlobal + Clone + Drop>(rt: &R, folder: &str) -> io::Result<bool> {
+    for entry in fs::read_dir(rt, folder)? {
+        if entry?.file_name().starts_with(PREFIX) {
+            return Ok(false);
+        }
+    }
+    Ok(true)
+}
+
+/// What writes volumes into a folder: whatever has [`Files`]. It has no types of its own, as those have, so that threads can be handed it.
+pub trait Keeper {
+    /// Writes a volume into the folder, as `hall-2-volume-000001`, for nobody but the owner to read. It is written under another name at first, so that a
+    /// volume under its name is a whole one; where that fails, nothing of it stays. It is not waited for that the disk has it.
+    fn keep(&self, alloc: Global, folder: &str, head: &Head, steps: &[Recorded]) -> io::Result<()>;
+}
+
+impl<R: Files> Keeper for R {
+    fn keep(&self, alloc: Global, folder: &str, head: &Head, steps: &[Recorded]) -> io::Result<()> {
+        let (hall, index) = (head.hall.number(), head.index);
+        let path = format!(in alloc; "{folder}/{PREFIX}{hall}-volume-{index:06}")?;
+        let part = format!(in alloc; "{folder}/{PREFIX}{hall}-volume-{index:06}.part")?;
+        let written = write(self, alloc, part.as_str(), head, steps);
+        if written.is_err() {
+            let _ = fs::remove_file(self, part.as_str());
+            return written;
+        }
+        fs::rename(self, part.as_str(), path.as_str())
+    }
+}
+
+/// Writes a volume into a new file.
+fn write<R: Files>(
+    rt: &R,
+    alloc: Global,
+    path: &str,
+    head: &Head,
+    steps: &[Recorded],
+) -> io::Result<()> {
+    let file = OpenOptions::new()
+        .write(true)
+        .create_new(true)
+        .mode(0o600)
+        .open(rt, path)?;
+    let mut file = BufWriter::new(alloc, file)?;
+    head.store(alloc, steps, &mut file)?;
+    file.flush()
+}
