@@ -346,6 +346,8 @@ def spawn(options):
 
 CONF = "create user made:* * |/bin/cat\n"
 CONNECTIONS = ["1", "8", "64"]
+# for so many nanoseconds the peer works for each ask, to see what an ask may take
+WORK = ["500", "1000", "2000", "3000"]
 
 
 class Server:
@@ -402,6 +404,28 @@ def serve(options):
         finally:
             for server in found.values():
                 server.end()
+        working(pathlib.Path(name), options)
+
+
+def peers_at_work(folder):
+    """The peer, without more to do for an ask, and with so many nanoseconds of work."""
+    return {nanos: Server([peer("echo"), folder / f"echo-{nanos}", 64, nanos], folder / f"echo-{nanos}") for nanos in ["0", *WORK]}
+
+
+def working(folder, options):
+    """What the peer would reach if it did more: so it is seen what an ask may take."""
+    print("\nAsks a second of the peer with so many nanoseconds of work for each, to those without\n")
+    table("connections", "asks/s without", *[f"{int(nanos):,} ns" for nanos in WORK])
+    found = peers_at_work(folder)
+    try:
+        for count in CONNECTIONS:
+            loads_of = {nanos: [peer("load"), server.path, count, str(options.asks)] for nanos, server in found.items()}
+            for best in rates(loads_of, options.runs).values():
+                counts = {nanos: rate for nanos, (rate, _) in best.items()}
+                row([count, f"{counts['0']:,}", *[f"{counts[nanos] / counts['0']:.2f}" for nanos in WORK]])
+    finally:
+        for server in found.values():
+            server.end()
 
 
 def resident_after(server, asks):

@@ -18,8 +18,8 @@ OURS, PEER = run.RATTLE, run.C
 
 
 def rates(programs, _):
-    """Rattle's is half of C's; those of the daemon are called by the number of its connections."""
-    return {f"/bin/cat, {at} at a time": {who: (500 if who == OURS else 1000, ", 5 us") for who in programs} for at in (1, 8)}
+    """Rattle's is half of C's, and so is the peer's with the most work; those of the daemon are called by the number of its connections."""
+    return {f"/bin/cat, {at} at a time": {who: (500 if who == OURS or who == "3000" else 1000, ", 5 us") for who in programs} for at in (1, 8)}
 
 
 class Server:
@@ -46,6 +46,7 @@ def fake(programs):
         "shares": lambda _: [("<A as B>::play & more", "40.50"), ("x" * 200, "2.25")],
         "rates": rates,
         "servers": lambda _: {who: Server() for who in programs},
+        "peers_at_work": lambda _: {nanos: Server() for nanos in ["0", *run.WORK]},
         "resident_after": lambda *_: 1000,
         "OTHERS": [0, 1, 2],
     }

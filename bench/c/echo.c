@@ -1,14 +1,19 @@
 /* A server that answers each frame with one and the same reply: the peer of `reqkeyd serve`, which has to do the same and find a key.
  *
- * usage: echo SOCKET WORKERS
+ * usage: echo SOCKET WORKERS [NANOSECONDS]
  *
  * Connections go to the workers over a queue of 64. A worker serves one until it is shut, reads at most 4,096 bytes at a time, and writes each reply
- * in one call. One more connection than there are workers waits. */
+ * in one call. One more connection than there are workers waits. With NANOSECONDS a worker is busy for so long before each reply: so it can be told what
+ * a server would reach that does so much for each ask. */
 #include "socket.h"
+
+#include <time.h>
 
 enum { QUEUE = 64, PIECE = 4096 };
 
-static const char usage[] = "usage: echo SOCKET WORKERS\n";
+static const char usage[] = "usage: echo SOCKET WORKERS [NANOSECONDS]\n";
+
+static uint64_t work_for;
 
 static struct {
     pthread_mutex_t lock;
@@ -40,6 +45,19 @@ static int queue_take(void)
     return connection;
 }
 
+static uint64_t now(void)
+{
+    struct timespec at;
+    clock_gettime(CLOCK_MONOTONIC, &at);
+    return (uint64_t)at.tv_sec * 1000000000 + (uint64_t)at.tv_nsec;
+}
+
+static void be_busy(uint64_t nanoseconds)
+{
+    for (uint64_t begun = now(); now() - begun < nanoseconds;)
+        ;
+}
+
 /* Answers the whole frames at the front of the bytes: how many bytes they are, or -1 where the connection is to be shut. */
 static ssize_t answer_frames(int connection, const uint8_t *bytes, size_t len)
 {
@@ -51,6 +69,8 @@ static ssize_t answer_frames(int connection, const uint8_t *bytes, size_t len)
             return -1;
         if (len - at - 4 < body)
             break;
+        if (work_for)
+            be_busy(work_for);
         if (!write_out(connection, reply, sizeof reply))
             return -1;
         at += 4 + (size_t)body;
@@ -77,7 +97,7 @@ static void serve(int connection)
     close(connection);
 }
 
-static void *work(void *argument)
+static void *take_connections(void *argument)
 {
     (void)argument;
     for (;;)
@@ -87,13 +107,15 @@ static void *work(void *argument)
 
 int main(int count, char **words)
 {
-    unsigned workers = number_in(count == 3 ? words[2] : NULL, 1, usage);
+    unsigned workers = number_in(count == 3 || count == 4 ? words[2] : NULL, 1, usage);
+    if (count == 4)
+        work_for = number_in(words[3], 0, usage);
     struct sockaddr_un address = address_of(words[1]);
     int listener = socket(AF_UNIX, SOCK_STREAM | SOCK_CLOEXEC, 0);
     need(listener >= 0 && bind(listener, (struct sockaddr *)&address, sizeof address) == 0 && listen(listener, 128) == 0, words[1]);
     for (unsigned i = 0; i < workers; i++) {
         pthread_t thread;
-        need(pthread_create(&thread, NULL, work, NULL) == 0, "pthread_create");
+        need(pthread_create(&thread, NULL, take_connections, NULL) == 0, "pthread_create");
     }
     fputs("echo: ready\n", stderr);
     for (;;) {
