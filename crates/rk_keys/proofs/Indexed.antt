@@ -1,253 +1,318 @@
--- The serials by the hashes of names: what is found there, and what keeps it.
-use Rattle.std.proofs.Common.{◌≡◌, ◌∙◌, ℕ, Bool, true, false, cond, not, ◌&&◌, ◌||◌, List, [], ◌∷◌, ◌++◌, refl, ap, sym, inl, inr}
-use Rattle.std.specs.Prelude.{Option, Some, None, filter, nat_eq, bytes_eq, is_some, option_map, unwrap_or, IfSome}
+-- How many keys have each name, and their number: what it tells, and what keeps it through each change.
+use Rattle.std.proofs.Common.{◌≡◌, ◌∙◌, ℕ, zero, suc, ◌+◌, ◌-◌, ◌<◌, ◌≤◌, Bool, true, false, cond, ◌&&◌, not, List, [], ◌∷◌, length, refl, ap, sym, inl, inr, arith}
+use Rattle.std.specs.Prelude.{Option, Some, None, is_some, nat_eq, nat_le, option_map, unwrap_or, IfSome}
 use Rattle.std.specs.Prelude.{find as list_find}
-use Rattle.std.specs.List.{list_any}
+use Rattle.std.specs.Option.{option_map_or}
 use Rattle.std.specs.Ordering.{nat_cmp}
 use Rattle.std.specs.FinMap as map
-use Rattle.std.proofs.lemmas.Bool.{eq-eqb, ne_eqb, eqb-true, both_ways, cases_eq, and_parts, false_from_ne_true}
-use Rattle.std.proofs.lemmas.Slice.Eq.{bytes_eq-Decides}
+use Rattle.std.specs.FinSet as set
+use Rattle.std.specs.Cmp.{nat_cmp_total}
+use Rattle.std.proofs.lemmas.Bool.Decides.{nat_tests}
+use Rattle.std.proofs.lemmas.Bool.{eq-eqb, ne_eqb, both_ways, cases_eq, false_from_ne_true, true_from_ne_false}
+use Rattle.std.proofs.lemmas.Option.{none-some, same_Some}
 use Rattle.rk_lemmas.proofs.Options.{passing}
-use Rattle.rk_table.proofs.Gets.{get_changed_at, get_inserted, get_removed, at_new, at_other, left_in, taken_out}
-use Rattle.rk_table.specs.Maps.{changed_at}
+use Rattle.rk_table.specs.Maps.{changed_at, kept_where}
+use Rattle.rk_table.proofs.Entries.{tie}
+use Rattle.rk_table.proofs.Gets.{get_kept_where, none_kept, get_changed_at, at_new, at_other, left_in, taken_out}
+use Rattle.rk_table.proofs.KeptCounts.{kept_len-empty, kept_len-insert, kept_len-remove, kept_len-remove_none, kept_len-changed}
 use Rattle.rk_keys.specs.declared.key.Key.{Key}
-use Rattle.rk_keys.specs.Key.{has_name, is_named, key_passes}
-use Rattle.rk_keys.specs.Known.{IsNaming}
-use Rattle.rk_keys.specs.Buckets.{name_hash, serials_at, IsIndex}
+use Rattle.rk_keys.specs.declared.named.Named.{Named}
+use Rattle.rk_keys.specs.Key.{has_name, is_named}
+use Rattle.rk_keys.specs.Buckets.{name_hash, is_same, is_of, kept_of, count_of, number_in, counted_in, counted_out, keys_named, IsIndex}
+use Rattle.rk_keys.specs.Known.{Known, IsHeld}
 use Rattle.rk_keys.proofs.Held.{KeepsName}
+use Rattle.rk_keys.proofs.Kept.{same_names}
 
 abbrev Keys : Type 0
 Keys = map.FinMap nat_cmp Key
 
-abbrev Serials : Type 0
-Serials = map.FinMap nat_cmp (List ℕ)
+abbrev Numbers : Type 0
+Numbers = map.FinMap nat_cmp ℕ
 
--- ---- lists of serials
+abbrev Buckets : Type 0
+Buckets = map.FinMap nat_cmp (List Named)
 
--- what is found passes, and where nothing is found none passes
-pub found_passes : (p : ℕ → Bool) (ks : List ℕ) (k : ℕ) → list_find p ks ≡ Some k → p k ≡ true
-found_passes p [] k e = absurd (cc)
-found_passes p (x ∷ xs) k e = elim (p x) as (λ b. p x ≡ b → cond b (Some x) (list_find p xs) ≡ Some k → p k ≡ true) [
-  | true ↦ λ t e. ap p (sym (ap (λ o. unwrap_or o x) e)) ∙ t
-  | false ↦ λ f e. found_passes p xs k e
-] refl e
+abbrev of_name : List ℕ → List ℕ → ℕ → Key → Bool
+of_name typ description k key = is_named typ description key
 
-pub none_passes : (p : ℕ → Bool) (ks : List ℕ) → list_find p ks ≡ None → (k : ℕ) → list_any (λ x. nat_eq x k) ks ≡ true → p k ≡ false
-none_passes p [] e k h = absurd (cc)
-none_passes p (x ∷ xs) e k h = elim (p x) as (λ b. p x ≡ b → cond b (Some x) (list_find p xs) ≡ None → p k ≡ false) [
-  | true ↦ λ t e. absurd (cc)
-  | false ↦ λ f e. elim (nat_eq x k) as (λ b. nat_eq x k ≡ b → (b || list_any (λ y. nat_eq y k) xs) ≡ true → p k ≡ false) [
-    | true ↦ λ same _. ap p (sym (eqb-true x k same)) ∙ f
-    | false ↦ λ _ h. none_passes p xs e k h
-  ] refl h
-] refl e
+-- ---- entries of a map
 
-any_pushed : (k q : ℕ) (ks : List ℕ) → list_any (λ x. nat_eq x q) (ks ++ k ∷ []) ≡ (list_any (λ x. nat_eq x q) ks || nat_eq k q)
-any_pushed k q [] = elim (nat_eq k q) as (λ b. (b || false) ≡ b) [ true ↦ refl | false ↦ refl ]
-any_pushed k q (x ∷ xs) = elim (nat_eq x q) as (λ b. (b || list_any (λ y. nat_eq y q) (xs ++ k ∷ [])) ≡ ((b || list_any (λ y. nat_eq y q) xs) || nat_eq k q)) [
-  | true ↦ refl
-  | false ↦ any_pushed k q xs
+at_first : (m : Keys) (e : ℕ × Key) (es : List (ℕ × Key)) → map.entries m ≡ e ∷ es → map.get m e.0 ≡ Some e.1
+at_first m e es is =
+    map.get-entries m e.0 ∙ ap (map.find nat_cmp e.0) is
+    ∙ ap (λ b. cond b (Some e.1) (map.find nat_cmp e.0 es)) (tie e.0 e.0 ∙ eq-eqb e.0 e.0 refl)
+
+-- ---- there are no more keys than were drawn
+
+-- each key was drawn
+AreDrawn : Keys → set.FinSet nat_cmp → Type 0
+AreDrawn m s = (k : ℕ) → set.contains s k ≡ false → map.get m k ≡ None
+
+still_drawn : (m : Keys) (s : set.FinSet nat_cmp) (q : ℕ) → AreDrawn m s → AreDrawn (map.remove m q) (set.remove s q)
+unfolding AreDrawn
+still_drawn m s q drawn k out = elim (cases_eq k q) [
+  | inl same ↦ taken_out m q k same
+  | inr ne ↦ left_in m q k ne ∙ drawn k (
+      ap (λ b. not b && set.contains s k) (sym (tie k q ∙ ne_eqb q k (λ same. ne (sym same)))) ∙ sym (set.contains-remove nat_cmp_total s q k) ∙ out
+      )
 ]
 
--- a serial that is taken out is not there, and each other stays
-any_out : (k q : ℕ) (ks : List ℕ) → list_any (λ x. nat_eq x q) (filter (λ x. not (nat_eq x k)) ks) ≡ (not (nat_eq q k) && list_any (λ x. nat_eq x q) ks)
-any_out k q [] = elim (nat_eq q k) as (λ b. false ≡ (not b && false)) [ true ↦ refl | false ↦ refl ]
-any_out k q (x ∷ xs) = elim (nat_eq x k) as (λ b. nat_eq x k ≡ b →
-    list_any (λ y. nat_eq y q) (cond (not b) (x ∷ filter (λ y. not (nat_eq y k)) xs) (filter (λ y. not (nat_eq y k)) xs))
-    ≡ (not (nat_eq q k) && (nat_eq x q || list_any (λ y. nat_eq y q) xs))) [
-      | true ↦ λ same. any_out k q xs ∙ elim (nat_eq x q) as (λ b. nat_eq x q ≡ b →
-          (not (nat_eq q k) && list_any (λ y. nat_eq y q) xs) ≡ (not (nat_eq q k) && (b || list_any (λ y. nat_eq y q) xs))) [
-            | true ↦ λ is.
-                let here : nat_eq q k ≡ true = eq-eqb q k (sym (eqb-true x q is) ∙ eqb-true x k same) in
-                ap (λ b. not b && list_any (λ y. nat_eq y q) xs) here ∙ sym (ap (λ b. not b && true) here)
-            | false ↦ λ _. refl
-          ] refl
-      | false ↦ λ other. elim (nat_eq x q) as (λ b. nat_eq x q ≡ b →
-          (b || list_any (λ y. nat_eq y q) (filter (λ y. not (nat_eq y k)) xs)) ≡ (not (nat_eq q k) && (b || list_any (λ y. nat_eq y q) xs))) [
-            | true ↦ λ is. sym (ap (λ b. not b && true) (ap (λ n. nat_eq n k) (sym (eqb-true x q is)) ∙ other))
-            | false ↦ λ _. any_out k q xs
-          ] refl
-    ] refl
+not_empty : (s : set.FinSet nat_cmp) (k x : ℕ) → set.len s ≡ x → set.contains s k ≡ true → 0 < x
+not_empty s k zero is drawn = absurd (both_ways _ (ap (λ t. set.contains t k) (set.empty_of_len s is) ∙ set.contains-empty nat_cmp k) drawn)
+not_empty s k (suc x) is drawn = omega arith
 
--- ---- buckets
+one_more : (n : ℕ) (m : Keys) (s : set.FinSet nat_cmp) → map.len m ≡ suc n → AreDrawn m s
+    → ((q : ℕ) → map.len (map.remove m q) ≡ n → n ≤ set.len (set.remove s q)) → (es : List (ℕ × Key)) → map.entries m ≡ es → suc n ≤ set.len s
+unfolding AreDrawn
+one_more n m s long drawn rest [] is = let none = map.len-entries m ∙ ap length is in absurd (omega (arith, long, none))
+one_more n m s long drawn rest (e ∷ es) is =
+    let there : map.get m e.0 ≡ Some e.1 = at_first m e es is in
+    let its : set.contains s e.0 ≡ true = true_from_ne_false _ (λ out. none-some e.1 (sym (drawn e.0 out) ∙ there)) in
+    let fewer : map.len (map.remove m e.0) ≡ map.len m - 1 = map.len-remove nat_cmp_total m e.0 ∙
+    ap (λ o. cond (is_some o) (map.len m - 1) (map.len m)) there in
+    let left : set.len (set.remove s e.0) ≡ set.len s - 1 = set.len-remove nat_cmp_total s e.0 ∙ ap (λ b. cond b (set.len s - 1) (set.len s)) its in
+    let some : 0 < set.len s = not_empty s e.0 (set.len s) refl its in
+    let others : n ≤ set.len (set.remove s e.0) = rest e.0 (omega (arith, fewer, long)) in
+    omega (arith, others, left, some)
 
-pub serials_put : (m : Serials) (k : ℕ) (b : List ℕ) (h : ℕ) → serials_at (map.insert (map.remove m k) k b) h ≡ cond (nat_eq k h) b (serials_at m h)
-serials_put m k b h =
-    ap (λ o. unwrap_or o []) (get_inserted (map.remove m k) k b h ∙ ap (cond (nat_eq k h) (Some b)) (get_removed m k h))
-    ∙ elim (nat_eq k h) as (λ t. unwrap_or (cond t (Some b) (cond t None (map.get m h))) [] ≡ cond t b (serials_at m h)) [ true ↦ refl | false ↦ refl ]
+no_more : (n : ℕ) (m : Keys) (s : set.FinSet nat_cmp) → map.len m ≡ n → AreDrawn m s → n ≤ set.len s
+no_more zero m s long drawn = omega arith
+no_more (suc n) m s long drawn =
+    one_more n m s long drawn (λ q fewer. no_more n (map.remove m q) (set.remove s q) fewer (still_drawn m s q drawn)) (map.entries m) refl
 
--- a bucket is put back as it was
-pub serials_back : (m : Serials) (k : ℕ) (b : List ℕ) → b ≡ serials_at m k → (h : ℕ) → serials_at (map.insert (map.remove m k) k b) h ≡ serials_at m h
-serials_back m k b is h =
-    serials_put m k b h
-    ∙ elim (nat_eq k h) as (λ t. nat_eq k h ≡ t → cond t b (serials_at m h) ≡ serials_at m h) [
-      | true ↦ λ same. is ∙
-          ap (serials_at m) (eqb-true k h same)
-      | false ↦ λ _. refl
-    ] refl
+-- ---- how many keys have a name
 
--- and with one serial more
-pub serials_pushed : (m : Serials) (k s : ℕ) (b new : List ℕ) → b ≡ serials_at m k → new ≡ b ++ s ∷ [] → (h : ℕ)
-    → serials_at (map.insert (map.remove m k) k new) h ≡ cond (nat_eq k h) (serials_at m h ++ s ∷ []) (serials_at m h)
-serials_pushed m k s b new is pushed h =
-    serials_put m k new h
-    ∙ elim (nat_eq k h) as (λ t. nat_eq k h ≡ t → cond t new (serials_at m h) ≡ cond t (serials_at m h ++ s ∷ []) (serials_at m h)) [
-      | true ↦ λ same. pushed ∙ ap (λ ks. ks ++ s ∷ []) (is ∙ ap (serials_at m) (eqb-true k h same))
-      | false ↦ λ _. refl
-    ] refl
+-- no more than serials were drawn
+pub few_named : (known : Known) (typ description : List ℕ) → IsHeld known → keys_named known.keys typ description ≤ set.len known.serials.used
+unfolding AreDrawn
+few_named known typ description held =
+    no_more _ (kept_where (of_name typ description) known.keys) known.serials.used refl
+    (λ k out. none_kept (of_name typ description) known.keys k (held.drawn k out))
 
-lost : (p : ℕ → Bool) (o : Option (List ℕ)) → unwrap_or (option_map (filter p) o) [] ≡ filter p (unwrap_or o [])
-lost p None = refl
-lost p (Some b) = refl
-
-pub serials_lost : (m : Serials) (k s h : ℕ) →
-    serials_at (changed_at k (filter (λ x. not (nat_eq x s))) m) h ≡ cond (nat_eq k h) (filter (λ x. not (nat_eq x s)) (serials_at m h)) (serials_at m h)
-serials_lost m k s h =
-    let p : ℕ → Bool = λ x. not (nat_eq x s) in
-    ap (λ o. unwrap_or o []) (get_changed_at k (filter p) m h)
-    ∙ elim (nat_eq k h) as (λ t. unwrap_or (cond t (option_map (filter p) (map.get m h)) (map.get m h)) [] ≡ cond t (filter p (serials_at m h))
-    (serials_at m h)) [
-      | true ↦ lost p (map.get m h)
-      | false ↦ refl
-    ]
-
--- an empty bucket may be taken out
-pub serials_gone : (m : Serials) (k : ℕ) → serials_at m k ≡ [] → (h : ℕ) → serials_at (map.remove m k) h ≡ serials_at m h
-serials_gone m k empty h =
-    ap (λ o. unwrap_or o []) (get_removed m k h)
-    ∙ elim (nat_eq k h) as (λ t. nat_eq k h ≡ t → unwrap_or (cond t None (map.get m h)) [] ≡ serials_at m h) [
-      | true ↦ λ same. sym empty ∙ ap (serials_at m) (eqb-true k h same)
-      | false ↦ λ _. refl
-    ] refl
-
--- ---- what is found
-
-same_hash : (seed : ℕ) (key : Key) (typ description : List ℕ) → is_named typ description key ≡ true →
-    nat_eq (name_hash seed key.typ key.description) (name_hash seed typ description) ≡ true
-same_hash seed key typ description named =
-    let same = and_parts (bytes_eq key.typ typ) (bytes_eq key.description description) named in
-    eq-eqb _ _ (ap (λ t. name_hash seed t key.description) ((bytes_eq-Decides key.typ typ).0 same.0) ∙
-    ap (name_hash seed typ) ((bytes_eq-Decides key.description description).0 same.1))
-
--- a key of the name is under the hash of the name
-pub is_there : (seed : ℕ) (keys : Keys) (buckets : Serials) → IsIndex seed keys buckets → (typ description : List ℕ) (k : ℕ) →
-    has_name keys k typ description ≡ true
-    → list_any (λ x. nat_eq x k) (serials_at buckets (name_hash seed typ description)) ≡ true
-is_there seed keys buckets index typ description k named =
+-- where none has it, no key has it
+none_named : (keys : Keys) (typ description : List ℕ) → keys_named keys typ description ≡ 0 → (k : ℕ) → has_name keys k typ description ≡ false
+none_named keys typ description none k = false_from_ne_true _ (λ named.
     let key = passing (is_named typ description) (map.get keys k) named in
-    index.same (name_hash seed typ description) k
-    ∙ ap (λ o. unwrap_or (option_map (λ (a : Key). nat_eq (name_hash seed a.typ a.description) (name_hash seed typ description)) o) false) key.1
-    ∙ same_hash seed key.0 typ description key.2
+    let p : ℕ → Key → Bool = of_name typ description in
+    none-some key.0 (
+    sym (map.get-empty nat_cmp k)
+    ∙ ap (λ m. map.get m k) (sym (map.empty_of_len (kept_where p keys) none))
+    ∙ get_kept_where p keys k
+    ∙ ap (λ (o : Option Key). cond (option_map_or (p k) o false) o None) key.1
+    ∙ ap (λ b. cond b (Some key.0) None) key.2
+    ))
 
--- where none under the hash has the name, no key has it
-pub none_named : (seed : ℕ) (keys : Keys) (buckets : Serials) → IsIndex seed keys buckets → (typ description : List ℕ)
-    → list_find (λ k. has_name keys k typ description) (serials_at buckets (name_hash seed typ description)) ≡ None → (k : ℕ) →
-    has_name keys k typ description ≡ false
-none_named seed keys buckets index typ description none k =
-    false_from_ne_true _ (λ named. both_ways _ (none_passes (λ q. has_name keys q typ description) _ none k
-    (is_there seed keys buckets index typ description k named)) named)
+-- where some has it, there is one
+some_named : (keys : Keys) (typ description : List ℕ) → 0 < keys_named keys typ description → (k : ℕ) × (has_name keys k typ description ≡ true)
+some_named keys typ description some = first (map.entries kept) refl where
+  p : ℕ → Key → Bool
+  p = of_name typ description
 
--- a key of the name has a number
-pub has_number : (keys : Keys) (numbers : map.FinMap nat_cmp ℕ) → IsNaming keys numbers → (typ description : List ℕ) (k : ℕ) →
-    has_name keys k typ description ≡ true
-    → map.get numbers k ≡ None → ⊥
-has_number keys numbers naming typ description k named none =
-    both_ways _ (ap is_some none) (naming.each k ∙ ap is_some (passing (is_named typ description) (map.get keys k) named).1)
+  kept : Keys
+  kept = kept_where p keys
 
-pub number_found : (keys : Keys) (numbers : map.FinMap nat_cmp ℕ) (typ description : List ℕ) (k : ℕ) (o : Option ℕ) → has_name keys k typ description ≡ true →
-    o ≡ map.get numbers k
-    → IfSome o (λ n. (q : ℕ) × (has_name keys q typ description ≡ true) × (map.get numbers q ≡ Some n))
-number_found keys numbers typ description k None named is = tt
-number_found keys numbers typ description k (Some n) named is = (k, named, sym is)
+  is_there : (k : ℕ) (key : Key) (o : Option Key) → cond (option_map_or (p k) o false) o None ≡ Some key →
+      unwrap_or (option_map (is_named typ description) o) false ≡ true
+  is_there k key None e = absurd (none-some key e)
+  is_there k key (Some a) e = elim (is_named typ description a) as (λ b. cond b (Some a) None ≡ Some key → b ≡ true) [
+    | true ↦ λ _. refl
+    | false ↦ λ e. absurd (none-some key e)
+  ] e
+
+  first : (es : List (ℕ × Key)) → map.entries kept ≡ es → (k : ℕ) × (has_name keys k typ description ≡ true)
+  first [] is = let none = map.len-entries kept ∙ ap length is in absurd (omega (arith, some, none))
+  first (e ∷ es) is = (e.0, is_there e.0 e.1 (map.get keys e.0) (sym (get_kept_where p keys e.0) ∙ at_first kept e es is))
+
+-- ---- what is told of a name
+
+module _ (seed : ℕ) (keys : Keys) (numbers : Numbers) (buckets : Buckets) (index : IsIndex seed keys numbers buckets) (typ description : List ℕ) where
+  pub none_of : number_in (kept_of seed buckets typ description) ≡ None → (k : ℕ) → has_name keys k typ description ≡ false
+  none_of none = none_named keys typ description (sym (index.counted typ description) ∙ not_kept (kept_of seed buckets typ description) none) where
+    not_kept : (o : Option Named) → number_in o ≡ None → count_of o ≡ 0
+    not_kept None e = refl
+    not_kept (Some n) e = absurd (none-some n.number (sym e))
+
+  pub some_of : IfSome (number_in (kept_of seed buckets typ description)) (λ n. (k : ℕ) × (has_name keys k typ description ≡ true) ×
+      (map.get numbers k ≡ Some n))
+  some_of = by_name (kept_of seed buckets typ description) refl where
+    by_name : (o : Option Named) → kept_of seed buckets typ description ≡ o → IfSome (number_in o) (λ n. (k : ℕ) × (has_name keys k typ description ≡ true) ×
+        (map.get numbers k ≡ Some n))
+    by_name None is = tt
+    by_name (Some n) is =
+        let living : 0 < n.keys = index.living typ description n is in
+        let many : n.keys ≡ keys_named keys typ description = ap count_of (sym is) ∙ index.counted typ description in
+        let key = some_named keys typ description (omega (arith, living, many)) in
+        (key.0, key.1, index.numbered typ description n key.0 is key.1)
 
 -- ---- what keeps it
 
-abbrev of_hash : ℕ → ℕ → Key → Bool
-of_hash seed h key = nat_eq (name_hash seed key.typ key.description) h
-
-pub index_empty : (seed : ℕ) → IsIndex seed map.empty map.empty
+pub index_empty : (seed : ℕ) → IsIndex seed map.empty map.empty map.empty
 index_empty seed = record {
-  same = λ h k.
-      ap (λ o. list_any (λ x. nat_eq x k) (unwrap_or o [])) (map.get-empty nat_cmp h)
-      ∙ sym (ap (λ o. unwrap_or (option_map (of_hash seed h) o) false) (map.get-empty nat_cmp k));
-}
+  counted = λ t d. ap count_of (nothing t d) ∙ sym (kept_len-empty (of_name t d));
+  living = λ t d n is. absurd (none-some n (sym (nothing t d) ∙ is));
+  numbered = λ t d n k is. absurd (none-some n (sym (nothing t d) ∙ is));
+} where
+  nothing : (t d : List ℕ) → kept_of seed map.empty t d ≡ None
+  nothing t d = ap (λ o. list_find (is_of t d) (unwrap_or o [])) (map.get-empty nat_cmp (name_hash seed t d))
 
-module _ (seed : ℕ) (keys : Keys) (buckets : Serials) (index : IsIndex seed keys buckets) where
-  pub index_same : (new : Serials) → ((h : ℕ) → serials_at new h ≡ serials_at buckets h) → IsIndex seed keys new
-  index_same new is = record { same = λ h k. ap (list_any (λ x. nat_eq x k)) (is h) ∙ index.same h k }
-
-  pub index_with : (k : ℕ) (key : Key) (new : Serials) → map.get keys k ≡ None
-      → ((h : ℕ) → serials_at new h ≡ cond (nat_eq (name_hash seed key.typ key.description) h) (serials_at buckets h ++ k ∷ []) (serials_at buckets h)) →
-      IsIndex seed (map.insert keys k key) new
-  index_with k key new none is = record {
-    same = λ h q.
-        let p : ℕ → Bool = λ x. nat_eq x q in
-        let mine : Bool = of_hash seed h key in
-        ap (list_any p) (is h)
-        ∙ elim mine as (λ b. list_any p (cond b (serials_at buckets h ++
-        k ∷ []) (serials_at buckets h)) ≡ (list_any p (serials_at buckets h) || (b && nat_eq k q))) [
-          | true ↦ any_pushed k q (serials_at buckets h)
-          | false ↦ elim (list_any p (serials_at buckets h)) as (λ b. b ≡ (b || false)) [ true ↦ refl | false ↦ refl ]
-        ]
-        ∙ ap (λ b. b || (mine && nat_eq k q)) (index.same h q)
-        ∙ elim (cases_eq q k) [
-          | inl e ↦
-              ap (λ o. unwrap_or (option_map (of_hash seed h) o) false || (mine && nat_eq k q)) (ap (map.get keys) e ∙ none)
-              ∙ ap (λ b. mine && b) (eq-eqb k q (sym e)) ∙ elim mine as (λ b. (b && true) ≡ b) [ true ↦ refl | false ↦ refl ]
-              ∙ sym (ap (λ o. unwrap_or (option_map (of_hash seed h) o) false) (at_new keys k key q e))
-          | inr ne ↦
-              ap (λ b. key_passes keys q (of_hash seed h) || (mine && b)) (ne_eqb k q (λ e. ne (sym e)))
-              ∙ elim mine as (λ b. (key_passes keys q (of_hash seed h) || (b && false)) ≡ key_passes keys q (of_hash seed h)) [
-                | true ↦ elim (key_passes keys q (of_hash seed h)) as (λ b. (b || false) ≡ b) [ true ↦ refl | false ↦ refl ]
-                | false ↦ elim (key_passes keys q (of_hash seed h)) as (λ b. (b || false) ≡ b) [ true ↦ refl | false ↦ refl ]
-              ]
-              ∙ sym (ap (λ o. unwrap_or (option_map (of_hash seed h) o) false) (at_other keys k key q ne))
-        ];
+module _ (seed : ℕ) (keys : Keys) (numbers : Numbers) (buckets : Buckets) (index : IsIndex seed keys numbers buckets) where
+  pub index_same : (new : Buckets) → ((t d : List ℕ) → kept_of seed new t d ≡ kept_of seed buckets t d) → IsIndex seed keys numbers new
+  index_same new is = record {
+    counted = λ t d. ap count_of (is t d) ∙ index.counted t d;
+    living = λ t d n there. index.living t d n (sym (is t d) ∙ there);
+    numbered = λ t d n k there. index.numbered t d n k (sym (is t d) ∙ there);
   }
 
-  pub index_without : (k : ℕ) (key : Key) (new : Serials) → map.get keys k ≡ Some key
-      → ((h : ℕ) → serials_at new h ≡ cond (nat_eq (name_hash seed key.typ key.description) h) (filter (λ x. not (nat_eq x k)) (serials_at buckets h))
-      (serials_at buckets h))
-      → IsIndex seed (map.remove keys k) new
+  -- a key is made
+  module _ (k : ℕ) (key : Key) (n : ℕ) (new : Buckets) (none : map.get keys k ≡ None)
+      (number : n ≡ unwrap_or (number_in (kept_of seed buckets key.typ key.description)) k)
+      (is : (t d : List ℕ) → kept_of seed new t d ≡
+      cond (is_same key.typ key.description t d) (Some (counted_in key.typ key.description k (kept_of seed buckets t d))) (kept_of seed buckets t d)) where
+    counted_more : (t d : List ℕ) (b : Bool) (o : Option Named) →
+        count_of (cond b (Some (counted_in key.typ key.description k o)) o) ≡ cond b (count_of o + 1) (count_of o)
+    counted_more t d true None = refl
+    counted_more t d true (Some m) = refl
+    counted_more t d false o = refl
+
+    living_more : (b : Bool) (o : Option Named) → ((m : Named) → o ≡ Some m → 0 < m.keys) → (m : Named) →
+        cond b (Some (counted_in key.typ key.description k o)) o ≡ Some m → 0 < m.keys
+    living_more true None living m e = let is : 1 ≡ m.keys = ap count_of e in omega (arith, is)
+    living_more true (Some x) living m e = let is : x.keys + 1 ≡ m.keys = ap count_of e in omega (arith, is)
+    living_more false o living m e = living m e
+
+    -- the number of the new key is that which is kept
+    its_number : (t d : List ℕ) → is_same key.typ key.description t d ≡ true → (m : Named) →
+        counted_in key.typ key.description k (kept_of seed buckets t d) ≡ m →
+        n ≡ m.number
+    its_number t d same m e =
+        let one = same_names key.typ key.description t d same in
+        number
+        ∙ ap (λ x. unwrap_or (number_in (kept_of seed buckets x key.description)) k) one.0
+        ∙ ap (λ x. unwrap_or (number_in (kept_of seed buckets t x)) k) one.1
+        ∙ told (kept_of seed buckets t d) ∙ ap (λ (x : Named). x.number) e
+      where
+        told : (o : Option Named) → unwrap_or (number_in o) k ≡ (counted_in key.typ key.description k o).number
+        told None = refl
+        told (Some x) = refl
+
+    -- a key that had a name keeps its number
+    numbered_more : (t d : List ℕ) (q : ℕ) → has_name keys q t d ≡ true → (b : Bool) (o : Option Named) → kept_of seed buckets t d ≡ o → (m : Named) →
+        cond b (Some (counted_in key.typ key.description k o)) o ≡ Some m → map.get numbers q ≡ Some m.number
+    numbered_more t d q named b None at m e =
+        absurd (both_ways _ (none_named keys t d (sym (index.counted t d) ∙ ap count_of at) q) named)
+    numbered_more t d q named true (Some x) at m e =
+        index.numbered t d x q at named ∙ ap (λ (y : Named). Some y.number) (same_Some (record x { keys = x.keys + 1 }) m e)
+    numbered_more t d q named false (Some x) at m e = index.numbered t d x q at named ∙ ap (λ (y : Named). Some y.number) (same_Some x m e)
+
+    pub index_with : IsIndex seed (map.insert keys k key) (map.insert numbers k n) new
+    index_with = record {
+      counted = λ t d.
+          ap count_of (is t d) ∙ counted_more t d (is_same key.typ key.description t d) (kept_of seed buckets t d)
+          ∙ ap (λ x. cond (is_same key.typ key.description t d) (x + 1) x) (index.counted t d)
+          ∙ sym (kept_len-insert (of_name t d) keys k key none);
+      living = λ t d m there.
+          living_more (is_same key.typ key.description t d) (kept_of seed buckets t d) (index.living t d) m (sym (is t d) ∙ there);
+      numbered = λ t d m q there named. elim (cases_eq q k) [
+        | inl e ↦
+            let same : is_same key.typ key.description t d ≡ true =
+            ap (λ o. unwrap_or (option_map (is_named t d) o) false) (sym (at_new keys k key q e)) ∙ named in
+            at_new numbers k n q e
+            ∙ ap Some (its_number t d same m (same_Some _ m (
+            ap (λ b. cond b (Some (counted_in key.typ key.description k (kept_of seed buckets t d))) (kept_of seed buckets t d)) (sym same)
+            ∙ sym (is t d) ∙ there
+            )))
+        | inr ne ↦
+            at_other numbers k n q ne
+            ∙ numbered_more t d q (ap (λ o. unwrap_or (option_map (is_named t d) o) false) (sym (at_other keys k key q ne)) ∙ named)
+            (is_same key.typ key.description t d) (kept_of seed buckets t d) refl m (sym (is t d) ∙ there)
+      ];
+    }
+
+  -- who has a name when a key is gone had it before, and is another
+  still_named : (t d : List ℕ) (k q : ℕ) → has_name (map.remove keys k) q t d ≡ true → (q ≡ k → ⊥) × (has_name keys q t d ≡ true)
+  still_named t d k q named = elim (cases_eq q k) [
+    | inl e ↦ absurd (both_ways _ (ap (λ o. unwrap_or (option_map (is_named t d) o) false) (taken_out keys k q e)) named)
+    | inr ne ↦ (ne, ap (λ o. unwrap_or (option_map (is_named t d) o) false) (sym (left_in keys k q ne)) ∙ named)
+  ]
+
+  -- a key is forgotten
+  pub index_without : (k : ℕ) (key : Key) (new : Buckets) → map.get keys k ≡ Some key
+      → ((t d : List ℕ) → kept_of seed new t d ≡
+      cond (is_same key.typ key.description t d) (counted_out (kept_of seed buckets t d)) (kept_of seed buckets t d))
+      → IsIndex seed (map.remove keys k) (map.remove numbers k) new
   index_without k key new there is = record {
-    same = λ h q.
-        let p : ℕ → Bool = λ x. nat_eq x q in
-        ap (list_any p) (is h)
-        ∙ elim (cases_eq q k) [
-          | inl e ↦
-              elim (of_hash seed h key) as (λ b. of_hash seed h key ≡ b →
-              list_any p (cond b (filter (λ x. not (nat_eq x k)) (serials_at buckets h)) (serials_at buckets h)) ≡ false) [
-                | true ↦ λ _. any_out k q (serials_at buckets h) ∙ ap (λ b. not b && list_any p (serials_at buckets h)) (eq-eqb q k e)
-                | false ↦ λ other. index.same h q ∙ ap (λ o. unwrap_or (option_map (of_hash seed h) o) false) (ap (map.get keys) e ∙ there) ∙ other
-              ] refl
-              ∙ sym (ap (λ o. unwrap_or (option_map (of_hash seed h) o) false) (taken_out keys k q e))
-          | inr ne ↦
-              elim (of_hash seed h key) as (λ b. list_any p (cond b (filter (λ x. not (nat_eq x k)) (serials_at buckets h)) (serials_at buckets h)) ≡ list_any
-              p (serials_at buckets h)) [
-                | true ↦ any_out k q (serials_at buckets h) ∙ ap (λ b. not b && list_any p (serials_at buckets h)) (ne_eqb q k ne)
-                | false ↦ refl
-              ]
-              ∙ index.same h q ∙ sym (ap (λ o. unwrap_or (option_map (of_hash seed h) o) false) (left_in keys k q ne))
-        ];
-  }
+    counted = λ t d.
+        ap count_of (is t d) ∙ counted_less (is_same key.typ key.description t d) (kept_of seed buckets t d)
+        ∙ ap (λ x. cond (is_same key.typ key.description t d) (x - 1) x) (index.counted t d)
+        ∙ sym (kept_len-remove (of_name t d) keys k key there);
+    living = λ t d m at. living_less (is_same key.typ key.description t d) (kept_of seed buckets t d) (index.living t d) m (sym (is t d) ∙ at);
+    numbered = λ t d m q at named.
+        let before = still_named t d k q named in
+        let was = number_kept (is_same key.typ key.description t d) (kept_of seed buckets t d) m (sym (is t d) ∙ at) in
+        left_in numbers k q before.0 ∙ index.numbered t d was.0 q was.1 before.1 ∙ ap Some was.2;
+  } where
+    counted_less : (b : Bool) (o : Option Named) → count_of (cond b (counted_out o) o) ≡ cond b (count_of o - 1) (count_of o)
+    counted_less true None = refl
+    counted_less true (Some m) = elim (nat_le m.keys 1) as (λ b. nat_le m.keys 1 ≡ b →
+        count_of (cond b None (Some (record m { keys = m.keys - 1 }))) ≡ m.keys - 1) [
+          | true ↦ λ few. grind (arith, nat_tests, few)
+          | false ↦ λ _. refl
+        ] refl
+    counted_less false o = refl
 
-  pub index_without_none : (k : ℕ) → map.get keys k ≡ None → IsIndex seed (map.remove keys k) buckets
+    living_less : (b : Bool) (o : Option Named) → ((m : Named) → o ≡ Some m → 0 < m.keys) → (m : Named) → cond b (counted_out o) o ≡ Some m → 0 < m.keys
+    living_less true None living m e = absurd (none-some m e)
+    living_less true (Some x) living m e = elim (nat_le x.keys 1) as (λ b. nat_le x.keys 1 ≡ b →
+        cond b None (Some (record x { keys = x.keys - 1 })) ≡ Some m → 0 < m.keys) [
+          | true ↦ λ _ e. absurd (none-some m e)
+          | false ↦ λ more e. let is : x.keys - 1 ≡ m.keys = ap count_of e in grind (arith, nat_tests, is, more)
+        ] refl e
+    living_less false o living m e = living m e
+
+    number_kept : (b : Bool) (o : Option Named) (m : Named) → cond b (counted_out o) o ≡ Some m → (x : Named) × (o ≡ Some x) × (x.number ≡ m.number)
+    number_kept true None m e = absurd (none-some m e)
+    number_kept true (Some x) m e = elim (nat_le x.keys 1) as (λ b. cond b None (Some (record x { keys = x.keys - 1 })) ≡ Some m →
+        (y : Named) × (Some x ≡ Some y) × (y.number ≡ m.number)) [
+          | true ↦ λ e. absurd (none-some m e)
+          | false ↦ λ e. (x, refl, ap (λ (y : Named). y.number) (same_Some (record x { keys = x.keys - 1 }) m e))
+        ] e
+    number_kept false o m e = (m, e, refl)
+
+  -- no key is forgotten
+  pub index_without_none : (k : ℕ) → map.get keys k ≡ None → IsIndex seed (map.remove keys k) (map.remove numbers k) buckets
   index_without_none k none = record {
-    same = λ h q. index.same h q ∙ ap (λ o. unwrap_or (option_map (of_hash seed h) o) false) (elim (cases_eq q k) [
-      | inl e ↦ ap (map.get keys) e ∙ none ∙ sym (taken_out keys k q e)
-      | inr ne ↦ sym (left_in keys k q ne)
-    ]);
+    counted = λ t d. index.counted t d ∙ sym (kept_len-remove_none (of_name t d) keys k none);
+    living = index.living;
+    numbered = λ t d m q at named. let before = still_named t d k q named in left_in numbers k q before.0 ∙ index.numbered t d m q at before.1;
   }
 
-  still : (f : Key → Key) → KeepsName f → (h : ℕ) (b : Bool) (o : Option Key) →
-      unwrap_or (option_map (of_hash seed h) (cond b (option_map f o) o)) false ≡ unwrap_or (option_map (of_hash seed h) o) false
-  still f keeps h true None = refl
-  still f keeps h true (Some a) = ap (λ t. nat_eq (name_hash seed t (f a).description) h) (keeps a).0 ∙ ap (λ d. nat_eq (name_hash seed a.typ d) h) (keeps a).1
-  still f keeps h false o = refl
-
-  pub index_changed : (k : ℕ) (f : Key → Key) → KeepsName f → IsIndex seed (changed_at k f keys) buckets
+  -- a key is changed, and keeps its name
+  pub index_changed : (k : ℕ) (f : Key → Key) → KeepsName f → IsIndex seed (changed_at k f keys) numbers buckets
   index_changed k f keeps = record {
-    same = λ h q.
-        index.same h q ∙ sym (ap (λ o. unwrap_or (option_map (of_hash seed h) o) false) (get_changed_at k f keys q) ∙
-        still f keeps h (nat_eq k q) (map.get keys q));
-  }
+    counted = λ t d. index.counted t d ∙ sym (as_many t d);
+    living = index.living;
+    numbered = λ t d m q at named. index.numbered t d m q at (sym (as_named t d q) ∙ named);
+  } where
+    its_name : (t d : List ℕ) (a : Key) → is_named t d (f a) ≡ is_named t d a
+    its_name t d a = ap (λ x. is_same x (f a).description t d) (keeps a).0 ∙ ap (λ x. is_same a.typ x t d) (keeps a).1
+
+    name_at : (t d : List ℕ) (b : Bool) (o : Option Key) → unwrap_or (option_map (is_named t d) (cond b (option_map f o) o)) false ≡
+        unwrap_or (option_map (is_named t d) o) false
+    name_at t d true None = refl
+    name_at t d true (Some a) = its_name t d a
+    name_at t d false o = refl
+
+    as_named : (t d : List ℕ) (q : ℕ) → has_name (changed_at k f keys) q t d ≡ has_name keys q t d
+    as_named t d q =
+        ap (λ o. unwrap_or (option_map (is_named t d) o) false) (get_changed_at k f keys q) ∙ name_at t d (nat_eq k q) (map.get keys q)
+
+    same_count : (b : Bool) (x y : ℕ) → x + cond b 1 0 ≡ y + cond b 1 0 → x ≡ y
+    same_count b x y e = omega (arith, e)
+
+    as_many : (t d : List ℕ) → keys_named (changed_at k f keys) t d ≡ keys_named keys t d
+    as_many t d = by_key (map.get keys k) refl where
+      by_key : (o : Option Key) → map.get keys k ≡ o → keys_named (changed_at k f keys) t d ≡ keys_named keys t d
+      by_key None none = ap (λ o. keys_named (option_map_or (λ v. map.insert keys k (f v)) o keys) t d) none
+      by_key (Some key) there =
+          same_count (is_named t d key) (keys_named (changed_at k f keys) t d) (keys_named keys t d)
+          (kept_len-changed (of_name t d) keys k f key there ∙ ap (λ b. keys_named keys t d + cond b 1 0) (its_name t d key))

@@ -1,22 +1,72 @@
--- The serials of the keys by the hashes of their names.
-use Rattle.std.specs.Prelude.{◌≡◌, ℕ, ◌==◌, List, [], unwrap_or, bit_and}
-use Rattle.std.specs.List.{list_any, fold}
+-- What is kept of names, by their hashes.
+use Rattle.std.specs.Prelude.{◌≡◌, ◌<◌, ℕ, ◌+◌, ◌-◌, Bool, true, ◌&&◌, List, [], bytes_eq, nat_le, if◌then◌else◌, Option, Some, None, option_map, unwrap_or, bit_and}
+use Rattle.std.specs.Prelude.{find as list_find}
+use Rattle.std.specs.List.{fold}
 use Rattle.std.specs.Ordering.{nat_cmp}
 use Rattle.std.specs.FinMap as map
 use Rattle.std.specs.Hash as fed
 use Rattle.std.specs.Hash.DefaultHasher as sip
+use Rattle.rk_table.specs.Maps.{kept_where}
 use Rattle.rk_keys.specs.declared.key.Key.{Key}
-use Rattle.rk_keys.specs.Key.{key_passes}
+use Rattle.rk_keys.specs.declared.named.Named.{Named}
+use Rattle.rk_keys.specs.Key.{has_name, is_named}
+
+-- ---- names under their hashes
 
 -- the low 32 bits of the hash of the seed, the type, a byte that neither has, and the description
 unfoldable pub name_hash : ℕ → List ℕ → List ℕ → ℕ
 name_hash seed typ description =
     bit_and (sip.finish (sip.write (fold sip.write (sip.write (fold sip.write sip.initial (fed.u64 seed)) typ) (fed.u8 0)) description)) 4294967295
 
--- the serials under a hash
-abbrev pub serials_at : map.FinMap nat_cmp (List ℕ) → ℕ → List ℕ
-serials_at buckets h = unwrap_or (map.get buckets h) []
+-- both names are one
+abbrev pub is_same : List ℕ → List ℕ → List ℕ → List ℕ → Bool
+is_same typ description t d = bytes_eq typ t && bytes_eq description d
 
--- under each hash are the keys whose name has it, and no others
-pub record IsIndex (seed : ℕ) (keys : map.FinMap nat_cmp Key) (buckets : map.FinMap nat_cmp (List ℕ)) : Type 0 where
-  pub same : (h k : ℕ) → list_any (λ x. x == k) (serials_at buckets h) ≡ key_passes keys k (λ key. name_hash seed key.typ key.description == h)
+-- what is kept is of this name
+abbrev pub is_of : List ℕ → List ℕ → Named → Bool
+is_of typ description n = is_same n.typ n.description typ description
+
+-- the names under a hash
+abbrev pub names_at : map.FinMap nat_cmp (List Named) → ℕ → List Named
+names_at buckets h = unwrap_or (map.get buckets h) []
+
+-- what is kept of a name under its hash
+abbrev pub kept_of : ℕ → map.FinMap nat_cmp (List Named) → List ℕ → List ℕ → Option Named
+kept_of seed buckets typ description = list_find (is_of typ description) (names_at buckets (name_hash seed typ description))
+
+-- how many keys have a name
+abbrev pub count_of : Option Named → ℕ
+count_of kept = unwrap_or (option_map (λ n. n.keys) kept) 0
+
+-- the number that they share
+abbrev pub number_in : Option Named → Option ℕ
+number_in kept = option_map (λ n. n.number) kept
+
+-- ---- changes
+
+-- so many keys have the name, and nothing else is changed
+abbrev pub recounted : List ℕ → List ℕ → ℕ → Named → Named
+recounted typ description keys n = if is_of typ description n then record n { keys = keys } else n
+
+-- with one more key of the name; the number of a first one is its serial
+abbrev pub counted_in : List ℕ → List ℕ → ℕ → Option Named → Named
+counted_in typ description serial None = record { typ = typ; description = description; number = serial; keys = 1 }
+counted_in typ description serial (Some n) = record n { keys = n.keys + 1 }
+
+-- with one fewer, and nothing where none is left
+abbrev pub counted_out : Option Named → Option Named
+counted_out None = None
+counted_out (Some n) = if nat_le n.keys 1 then None else Some (record n { keys = n.keys - 1 })
+
+-- ---- what always holds
+
+-- how many live keys have the name
+abbrev pub keys_named : map.FinMap nat_cmp Key → List ℕ → List ℕ → ℕ
+keys_named keys typ description = map.len (kept_where (λ k key. is_named typ description key) keys)
+
+-- of the names of the live keys it is kept how many keys have them and the number that these share, and of no other name anything
+pub record IsIndex (seed : ℕ) (keys : map.FinMap nat_cmp Key) (numbers : map.FinMap nat_cmp ℕ) (buckets : map.FinMap nat_cmp (List Named)) : Type 0 where
+  pub counted : (typ description : List ℕ) → count_of (kept_of seed buckets typ description) ≡ keys_named keys typ description
+  pub living : (typ description : List ℕ) (n : Named) → kept_of seed buckets typ description ≡ Some n → 0 < n.keys
+  pub numbered : (typ description : List ℕ) (n : Named) (k : ℕ) → kept_of seed buckets typ description ≡ Some n →
+      has_name keys k typ description ≡ true → map.get numbers k ≡ Some n.number

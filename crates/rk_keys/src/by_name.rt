@@ -1,150 +1,123 @@
-//! The serials of the keys by the hashes of their names.
-ghost use Rattle.std.specs.Prelude.{◌≡◌, ◌==◌, ◌++◌, ◌∷◌, [], ℕ, ◌≤◌, filter, not, IsTrue, ◌↔◌, OnOk, OnErr, if◌then◌else◌};
-ghost use Rattle.std.specs.FinMap as map;
-ghost use Rattle.rk_keys.specs.Buckets.{name_hash, serials_at};
+//! The names with one hash.
+ghost use Rattle.std.specs.Prelude.{◌≡◌, ◌++◌, ◌∷◌, [], IsTrue, ◌↔◌, OnOk, OnErr, filter, not, find as list_find, map as list_map};
+ghost use Rattle.std.specs.Option.{option_copied};
+ghost use Rattle.rk_keys.specs.Buckets.{is_of, recounted};
 
+use crate::named::Named;
 use rk_names::{Description, TypeName};
-use rk_table::{ChangeOnce, HashTable};
+use rk_table::ChangeOnce;
 use std::alloc::{AllocError, Global};
-use std::hash::{DefaultHasher, Hasher};
 use std::marker::Model;
 
-/// The hash of a name. Who does not know the seed can't choose names whose hashes are equal.
-#[tactic(auto, unfolding(crate::specs::Buckets::name_hash))]
-pub fn hash_of(seed: u64, typ: &TypeName, description: &Description) -> u32
-    ensures { result ≡ name_hash seed typ.now description.now }
-{
-    let mut hasher = DefaultHasher::new();
-    hasher.write_u64(seed);
-    hasher.write(typ.as_bytes());
-    hasher.write_u8(0);
-    hasher.write(description.as_bytes());
-    (hasher.finish() & 0xFFFF_FFFF) as u32
-}
-
-/// The serials of the keys whose names have one hash: those of one name, but for names whose hashes are equal by chance.
+/// The names with one hash: one, but for names whose hashes are equal by chance.
 #[derive(Drop)]
 pub struct Bucket {
-    /// In the order in which their keys were made.
-    serials: Vec<u32>,
+    /// In no order.
+    names: Vec<Named>,
 }
 
 impl Model for Bucket {
-    ghost use Rattle.std.specs.Prelude.{List, ℕ};
-    ghost use Rattle.std.specs.Coded.{coded_list, coded_ℕ};
+    ghost use Rattle.std.specs.Prelude.{List};
+    ghost use Rattle.std.specs.Coded.{coded_list};
+    ghost use Rattle.rk_keys.specs.declared.named.Named.{Named};
+    ghost use Rattle.rk_keys.specs.contracts.named.Named as named;
 
-    ghost Value = { List ℕ };
+    ghost Value = { List Named };
 
-    ghost coded = { coded_list coded_ℕ };
+    ghost coded = { coded_list named.the_row.coded };
 
-    ghost view = { λ b. b.serials.items };
+    ghost view = { λ b. b.names.items };
 }
 
 impl Bucket {
-    fn new(alloc: Global) -> Bucket
+    /// No names. It takes no memory.
+    pub fn new(alloc: Global) -> Bucket
         ensures { result ≡ [] }
     {
         Bucket {
-            serials: Vec::new(alloc),
+            names: Vec::new(alloc),
         }
     }
 
-    fn push(&mut self, serial: u32) -> Result<(), AllocError>
-        ensures ok { OnOk result (self.new ≡ self.old ++ serial ∷ []) }
+    /// Puts in a name. An `Err` changes nothing.
+    pub fn push(&mut self, named: Named) -> Result<(), AllocError>
+        ensures ok { OnOk result (self.new ≡ self.old ++ named ∷ []) }
         ensures err { OnErr result (self.new ≡ self.old) }
     {
-        self.serials.reserve(1)?;
-        self.serials.push_reserved(serial);
+        self.names.reserve_exact(1)?;
+        self.names.push_reserved(named);
         Ok(())
     }
 
-    fn is_empty(&self) -> bool
+    /// Whether it has no names.
+    pub fn is_empty(&self) -> bool
         ensures { IsTrue result ↔ (self.now ≡ []) }
     {
-        self.serials.is_empty()
+        self.names.is_empty()
     }
 
-    /// The serials.
-    pub fn as_slice(&self) -> &[u32]
-        ensures { result.now ≡ self.now }
+    /// What is kept of a name; `None` where it is not among these.
+    pub fn find(&self, typ: &TypeName, description: &Description) -> Option<&Named>
+        ensures { option_copied result ≡ list_find (is_of typ.now description.now) self.now }
     {
-        &self.serials
+        self.names.iter().find(|named| named.is(typ, description))
     }
 }
 
-/// The bucket loses a serial.
+/// So many keys have the name.
 #[derive(Drop)]
-struct Lose(u32);
+pub struct Recount<'a> {
+    /// The type.
+    pub typ: &'a TypeName,
+    /// The description.
+    pub description: &'a Description,
+    /// How many keys have it now.
+    pub keys: u32,
+}
 
-impl ChangeOnce<Bucket> for Lose {
-    ghost use Rattle.std.specs.Prelude.{filter, not, ◌==◌};
+impl<'a> ChangeOnce<Bucket> for Recount<'a> {
+    ghost use Rattle.std.specs.Prelude.{map as list_map};
+    ghost use Rattle.rk_keys.specs.Buckets.{recounted};
 
-    ghost changed = { λ c b. filter (λ k. not (k == c.0)) b };
+    ghost changed = { λ c b. list_map (recounted c.typ.now c.description.now c.keys) b };
 
     fn change(self, bucket: &mut Bucket) {
-        take_serial_out(&mut bucket.serials, self.0);
+        count_anew(&mut bucket.names, self.typ, self.description, self.keys);
     }
 }
 
-fn take_serial_out(serials: &mut Vec<u32>, lost: u32)
-    ensures { serials.new.items ≡ filter (λ k. not (k == lost)) serials.old.items }
+fn count_anew(names: &mut Vec<Named>, typ: &TypeName, description: &Description, keys: u32)
+    ensures { names.new.items ≡ list_map (recounted typ.now description.now keys) names.old.items }
 {
-    serials.retain(|serial| *serial != lost);
-}
-
-/// Puts the serial of a new key under the hash of its name. An `Err` changes nothing.
-pub fn put_in(
-    by_name: &mut HashTable<Bucket>,
-    alloc: Global,
-    hash: u32,
-    serial: u32,
-) -> Result<(), AllocError>
-    ensures ok { OnOk result ((h : ℕ) → serials_at by_name.new.facts h ≡
-        (if hash == h then serials_at by_name.old.facts h ++ serial ∷ [] else serials_at by_name.old.facts h)) }
-    ensures err { OnErr result ((h : ℕ) → serials_at by_name.new.facts h ≡ serials_at by_name.old.facts h) }
-{
-    by_name.reserve(1)?;
-    let mut bucket = bucket_at(by_name, alloc, hash);
-    match bucket.push(serial) {
-        Ok(()) => {
-            by_name.insert(hash, bucket);
-            Ok(())
-        }
-        Err(refused) => {
-            by_name.insert(hash, bucket);
-            Err(refused)
+    for named in names.iter_mut() {
+        if named.is(typ, description) {
+            named.keys = keys;
         }
     }
 }
 
-/// Takes out the serials under a hash; there may be none.
-fn bucket_at(by_name: &mut HashTable<Bucket>, alloc: Global, hash: u32) -> Bucket
-    ensures bucket { result ≡ serials_at by_name.old.facts hash }
-    ensures facts { by_name.new.facts ≡ map.remove by_name.old.facts hash }
-    ensures room { by_name.old.room ≤ by_name.new.room }
-{
-    match by_name.take(hash) {
-        Some(bucket) => bucket,
-        None => Bucket::new(alloc),
+/// No key has the name any more.
+#[derive(Drop)]
+pub struct Lose<'a> {
+    /// The type.
+    pub typ: &'a TypeName,
+    /// The description.
+    pub description: &'a Description,
+}
+
+impl<'a> ChangeOnce<Bucket> for Lose<'a> {
+    ghost use Rattle.std.specs.Prelude.{filter, not};
+    ghost use Rattle.rk_keys.specs.Buckets.{is_of};
+
+    ghost changed = { λ c b. filter (λ n. not (is_of c.typ.now c.description.now n)) b };
+
+    fn change(self, bucket: &mut Bucket) {
+        take_name_out(&mut bucket.names, self.typ, self.description);
     }
 }
 
-/// Takes the serial of a key out of those under the hash of its name.
-pub fn take_out(by_name: &mut HashTable<Bucket>, hash: u32, serial: u32)
-    ensures { (h : ℕ) → serials_at by_name.new.facts h ≡
-        (if hash == h then filter (λ k. not (k == serial)) (serials_at by_name.old.facts h) else serials_at by_name.old.facts h) }
+fn take_name_out(names: &mut Vec<Named>, typ: &TypeName, description: &Description)
+    ensures { names.new.items ≡ filter (λ n. not (is_of typ.now description.now n)) names.old.items }
 {
-    by_name.change(hash, Lose(serial));
-    if is_left_empty(by_name, hash) {
-        by_name.remove(hash);
-    }
-}
-
-fn is_left_empty(by_name: &HashTable<Bucket>, hash: u32) -> bool
-    ensures { IsTrue result → serials_at by_name.now.facts hash ≡ [] }
-{
-    match by_name.get(hash) {
-        Some(bucket) => bucket.is_empty(),
-        None => false,
-    }
+    names.retain(|named| !named.is(typ, description));
 }

@@ -12,11 +12,11 @@ ghost use Rattle.rk_keys.specs.Known.{Known, IsNaming, IsRefused, Makes, has_all
 ghost use Rattle.rk_keys.specs.Names.{IsNumberFor};
 ghost use Rattle.rk_keys.specs.Faults.{use_fault, change_fault};
 
-use crate::by_name::{Bucket, hash_of, put_in};
+use crate::by_name::Bucket;
 use crate::changes::{Conclude, Mark, Time};
 use crate::fault::KeyFault;
 use crate::key::{Condition, Key, Standing};
-use crate::naming::{leave_name, number_of};
+use crate::naming::{count_in, leave_name, number_of};
 use crate::owners::leave;
 use crate::serials::Serials;
 use rk_names::{Description, KeyError, Moment, NameNo, Payload, Serial, TypeName};
@@ -25,14 +25,14 @@ use std::alloc::{AllocError, Global};
 use std::marker::Model;
 
 /// All keys, and the serials of keys and rings. None but `new` and `make` takes memory. Each call takes the same time, however many
-/// keys there are, but for `make`, where a table grows, and `forget`, which walks over the serials of the keys of one name.
+/// keys there are and however many have one name, but for `make`, where a table grows.
 #[derive(Drop)]
 pub struct Keys {
     /// What is known of each key, by its serial.
     facts: HashTable<Key>,
     /// The number of each key's name.
     numbers: HashTable<NameNo>,
-    /// The serials of the keys, by the hashes of their names.
+    /// The names of the keys, by their hashes.
     by_name: HashTable<Bucket>,
     /// How many keys each user has.
     counts: Counts,
@@ -57,7 +57,7 @@ impl Model for Keys {
 
     ghost invariant = { λ a. record {
       held : IsHeld (record { keys = a.facts.facts; numbers = a.numbers.facts; serials = a.serials });
-      index : IsIndex a.seed a.facts.facts a.by_name.facts;
+      index : IsIndex a.seed a.facts.facts a.numbers.facts a.by_name.facts;
       counts : AreCounts a.facts.facts a.counts.facts;
     } };
 }
@@ -121,14 +121,7 @@ impl Keys {
         ensures none { result ≡ None → (k : ℕ) → has_name self.now.keys k typ.now description.now ≡ false }
         ensures some { IfSome result (λ n. (k : ℕ) × (has_name self.now.keys k typ.now description.now ≡ true) × (map.get self.now.numbers k ≡ Some n)) }
     {
-        number_of(
-            &self.facts,
-            &self.numbers,
-            &self.by_name,
-            self.seed,
-            typ,
-            description,
-        )
+        number_of(&self.by_name, self.seed, typ, description)
     }
 
     /// The number of the key's name; `None` where there is no key of that serial.
@@ -196,17 +189,14 @@ impl Keys {
         self.facts.reserve(1)?;
         self.numbers.reserve(1)?;
         self.counts.reserve(1)?;
-        let hash = hash_of(self.seed, &typ, &description);
-        let shared = number_of(
-            &self.facts,
-            &self.numbers,
-            &self.by_name,
+        let number = count_in(
+            &mut self.by_name,
+            self.alloc,
             self.seed,
             &typ,
             &description,
-        );
-        put_in(&mut self.by_name, self.alloc, hash, serial.get())?;
-        let number = shared.unwrap_or(NameNo(serial.get()));
+            serial.get(),
+        )?;
         self.numbers.insert(serial.get(), number);
         self.facts
             .insert(serial.get(), Key::new(typ, description, owner, payload));

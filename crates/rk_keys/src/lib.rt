@@ -21,10 +21,10 @@
 //!
 //! # How it is built
 //!
-//! `key` has one key and what it is at a moment, `serials` the serials, `fault` the refusals. `keys` puts three
-//! tables, the serials by the hashes of names and the serials to draw together; `by_name` hashes names and keeps the serials under their hashes,
-//! `naming` looks up a name's number there, `owners` counts the keys of each user, `changes` has what happens to one key. Where the
-//! specifications speak of a key in few words, as `standing_of`, they stand in `specs/Key.antt`; of all keys in `specs/Known.antt`.
+//! `key` has one key and what it is at a moment, `serials` the serials, `fault` the refusals. `keys` puts three tables, the names by their hashes and
+//! the serials to draw together. `named` has what is kept of a name, its number and how many live keys have it, and `by_name` the names with one hash;
+//! `naming` hashes names, looks up their numbers, and counts keys in and out. `owners` counts the keys of each user, `changes` has what happens to one
+//! key. Where the specifications speak of a key in few words, as `standing_of`, they stand in `specs/Key.antt`; of all keys in `specs/Known.antt`.
 #![tactic(auto)]
 
 mod by_name;
@@ -32,6 +32,7 @@ mod changes;
 mod fault;
 mod key;
 mod keys;
+mod named;
 mod naming;
 mod owners;
 mod serials;

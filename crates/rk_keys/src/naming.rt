@@ -1,65 +1,208 @@
-//! The numbers of names.
-ghost use Rattle.std.specs.Prelude.{◌≡◌, ℕ, true, false, None, Some, IfSome, find as list_find};
+//! Names by their hashes, and the keys that have them, counted.
+ghost use Rattle.std.specs.Prelude.{◌≡◌, ◌==◌, ◌++◌, ◌∷◌, [], ℕ, List, ◌≤◌, ◌<◌, Some, filter, not, IsTrue, OnOk, OnErr, IfOk, if◌then◌else◌, unwrap_or, option_map};
+ghost use Rattle.std.specs.Prelude.{find as list_find, map as list_map};
+ghost use Rattle.std.specs.Option.{option_copied};
+ghost use Rattle.std.specs.Ordering.{nat_cmp};
 ghost use Rattle.std.specs.FinMap as map;
-ghost use Rattle.rk_keys.specs.Key.{has_name};
-ghost use Rattle.rk_keys.specs.Known.{IsNaming};
-ghost use Rattle.rk_keys.specs.Buckets.{IsIndex};
+ghost use Rattle.rk_keys.specs.Buckets.{IsIndex, name_hash, is_of, is_same, names_at, kept_of, recounted, count_of, number_in, counted_in, counted_out};
 
-use crate::by_name::{Bucket, hash_of, take_out};
+use crate::by_name::{Bucket, Lose, Recount};
 use crate::key::Key;
+use crate::named::Named;
 use rk_names::{Description, NameNo, TypeName};
 use rk_table::HashTable;
+use std::alloc::{AllocError, Global};
+use std::hash::{DefaultHasher, Hasher};
 
-/// The number that the live keys of this name share. `None` where no key has the name. It looks at the keys whose names have the hash of this
-/// one, up to the first of the name.
+/// The hash of a name. Who does not know the seed can't choose names whose hashes are equal.
+#[tactic(auto, unfolding(crate::specs::Buckets::name_hash))]
+fn hash_of(seed: u64, typ: &TypeName, description: &Description) -> u32
+    ensures { result ≡ name_hash seed typ.now description.now }
+{
+    let mut hasher = DefaultHasher::new();
+    hasher.write_u64(seed);
+    hasher.write(typ.as_bytes());
+    hasher.write_u8(0);
+    hasher.write(description.as_bytes());
+    (hasher.finish() & 0xFFFF_FFFF) as u32
+}
+
+/// The number that the live keys of this name share; `None` where none is kept.
 pub fn number_of(
-    facts: &HashTable<Key>,
-    numbers: &HashTable<NameNo>,
     by_name: &HashTable<Bucket>,
     seed: u64,
     typ: &TypeName,
     description: &Description,
 ) -> Option<NameNo>
-    requires naming { IsNaming facts.now.facts numbers.now.facts }
-    requires index { IsIndex seed facts.now.facts by_name.now.facts }
-    ensures none { result ≡ None → (k : ℕ) → has_name facts.now.facts k typ.now description.now ≡ false }
-    ensures some { IfSome result (λ n. (k : ℕ) × (has_name facts.now.facts k typ.now description.now ≡ true) × (map.get numbers.now.facts k ≡ Some n)) }
+    ensures { result ≡ number_in (kept_of seed by_name.now.facts typ.now description.now) }
 {
-    let bucket = by_name.get(hash_of(seed, typ, description))?;
-    let key = named_among(facts, bucket.as_slice(), typ, description)?;
-    numbers.get(key).copied()
+    let hash = hash_of(seed, typ, description);
+    kept(by_name, hash, typ, description).map(|named| named.number)
 }
 
-/// Takes the serial of a key out of those under the hash of its name, if there is such a key.
-pub fn leave_name(facts: &HashTable<Key>, by_name: &mut HashTable<Bucket>, seed: u64, key: u32)
-    requires { IsIndex seed facts.now.facts by_name.old.facts }
-    ensures { IsIndex seed (map.remove facts.now.facts key) by_name.new.facts }
+/// Counts a new key to those of its name, and answers the number of the name: that which is kept, else the key's own serial. An `Err` changes nothing.
+pub fn count_in(
+    by_name: &mut HashTable<Bucket>,
+    alloc: Global,
+    seed: u64,
+    typ: &TypeName,
+    description: &Description,
+    serial: u32,
+) -> Result<NameNo, AllocError>
+    requires few { count_of (kept_of seed by_name.old.facts typ.now description.now) < 4294967295 }
+    ensures ok { OnOk result ((t d : List ℕ) → kept_of seed by_name.new.facts t d ≡ (if is_same typ.now description.now t d
+        then Some (counted_in typ.now description.now serial (kept_of seed by_name.old.facts t d)) else kept_of seed by_name.old.facts t d)) }
+    ensures number { IfOk result (λ n. n ≡ unwrap_or (number_in (kept_of seed by_name.old.facts typ.now description.now)) serial) }
+    ensures err { OnErr result ((t d : List ℕ) → kept_of seed by_name.new.facts t d ≡ kept_of seed by_name.old.facts t d) }
 {
-    if let Some(fact) = facts.get(key) {
-        take_out(by_name, hash_of(seed, &fact.typ, &fact.description), key);
+    let hash = hash_of(seed, typ, description);
+    let Some(named) = kept(by_name, hash, typ, description) else {
+        let number = NameNo(serial);
+        let named = Named {
+            typ: typ.clone()?,
+            description: description.clone()?,
+            number,
+            keys: 1,
+        };
+        put_in(by_name, alloc, hash, named)?;
+        return Ok(number);
+    };
+    let number = named.number;
+    let keys = named.keys + 1;
+    recount(by_name, hash, typ, description, keys);
+    Ok(number)
+}
+
+/// Counts a key out of those of its name. Of a name that no key has any more nothing is kept.
+pub fn count_out(
+    by_name: &mut HashTable<Bucket>,
+    seed: u64,
+    typ: &TypeName,
+    description: &Description,
+)
+    ensures { (t d : List ℕ) → kept_of seed by_name.new.facts t d ≡
+        (if is_same typ.now description.now t d then counted_out (kept_of seed by_name.old.facts t d) else kept_of seed by_name.old.facts t d) }
+{
+    let hash = hash_of(seed, typ, description);
+    let keys = count_at(by_name, hash, typ, description);
+    if keys > 1 {
+        recount(by_name, hash, typ, description, keys - 1);
+    } else {
+        take_out(by_name, hash, typ, description);
     }
 }
 
-/// The first of these keys that has the name.
-fn named_among(
-    facts: &HashTable<Key>,
-    serials: &[u32],
-    typ: &TypeName,
-    description: &Description,
-) -> Option<u32>
-    ensures { result ≡ list_find (λ k. has_name facts.now.facts k typ.now description.now) serials.now }
+/// Counts a key out of those of its name, if there is such a key.
+pub fn leave_name(facts: &HashTable<Key>, by_name: &mut HashTable<Bucket>, seed: u64, key: u32)
+    ensures { (numbers : map.FinMap nat_cmp ℕ) → IsIndex seed facts.now.facts numbers by_name.old.facts →
+        IsIndex seed (map.remove facts.now.facts key) (map.remove numbers key) by_name.new.facts }
 {
-    serials
-        .iter()
-        .copied()
-        .find(|serial| has_name(facts, *serial, typ, description))
+    if let Some(fact) = facts.get(key) {
+        count_out(by_name, seed, &fact.typ, &fact.description);
+    }
 }
 
-/// Whether there is such a key, of this name.
-fn has_name(facts: &HashTable<Key>, key: u32, typ: &TypeName, description: &Description) -> bool
-    ensures { result ≡ has_name facts.now.facts key typ.now description.now }
+/// What is kept of a name under a hash.
+fn kept<'a>(
+    by_name: &'a HashTable<Bucket>,
+    hash: u32,
+    typ: &TypeName,
+    description: &Description,
+) -> Option<&'a Named>
+    ensures { option_copied result ≡ list_find (is_of typ.now description.now) (names_at by_name.now.facts hash) }
 {
-    facts
-        .get(key)
-        .is_some_and(|fact| fact.is_named(typ, description))
+    by_name.get(hash)?.find(typ, description)
+}
+
+/// How many keys have a name.
+fn count_at(
+    by_name: &HashTable<Bucket>,
+    hash: u32,
+    typ: &TypeName,
+    description: &Description,
+) -> u32
+    ensures { result ≡ count_of (list_find (is_of typ.now description.now) (names_at by_name.now.facts hash)) }
+{
+    match kept(by_name, hash, typ, description) {
+        Some(named) => named.keys,
+        None => 0,
+    }
+}
+
+/// Changes how many keys have a name that is kept under a hash.
+fn recount(
+    by_name: &mut HashTable<Bucket>,
+    hash: u32,
+    typ: &TypeName,
+    description: &Description,
+    keys: u32,
+)
+    ensures { (h : ℕ) → names_at by_name.new.facts h ≡
+        (if hash == h then list_map (recounted typ.now description.now keys) (names_at by_name.old.facts h) else names_at by_name.old.facts h) }
+{
+    by_name.change(
+        hash,
+        Recount {
+            typ,
+            description,
+            keys,
+        },
+    );
+}
+
+/// Puts a name under its hash. An `Err` changes nothing.
+fn put_in(
+    by_name: &mut HashTable<Bucket>,
+    alloc: Global,
+    hash: u32,
+    named: Named,
+) -> Result<(), AllocError>
+    ensures ok { OnOk result ((h : ℕ) → names_at by_name.new.facts h ≡
+        (if hash == h then names_at by_name.old.facts h ++ named ∷ [] else names_at by_name.old.facts h)) }
+    ensures err { OnErr result ((h : ℕ) → names_at by_name.new.facts h ≡ names_at by_name.old.facts h) }
+{
+    by_name.reserve(1)?;
+    let mut bucket = bucket_at(by_name, alloc, hash);
+    match bucket.push(named) {
+        Ok(()) => {
+            by_name.insert(hash, bucket);
+            Ok(())
+        }
+        Err(refused) => {
+            by_name.insert(hash, bucket);
+            Err(refused)
+        }
+    }
+}
+
+/// Takes out the names under a hash; there may be none.
+fn bucket_at(by_name: &mut HashTable<Bucket>, alloc: Global, hash: u32) -> Bucket
+    ensures bucket { result ≡ names_at by_name.old.facts hash }
+    ensures facts { by_name.new.facts ≡ map.remove by_name.old.facts hash }
+    ensures room { by_name.old.room ≤ by_name.new.room }
+{
+    match by_name.take(hash) {
+        Some(bucket) => bucket,
+        None => Bucket::new(alloc),
+    }
+}
+
+/// Takes a name out of those under its hash.
+fn take_out(by_name: &mut HashTable<Bucket>, hash: u32, typ: &TypeName, description: &Description)
+    ensures { (h : ℕ) → names_at by_name.new.facts h ≡
+        (if hash == h then filter (λ n. not (is_of typ.now description.now n)) (names_at by_name.old.facts h) else names_at by_name.old.facts h) }
+{
+    by_name.change(hash, Lose { typ, description });
+    if is_left_empty(by_name, hash) {
+        by_name.remove(hash);
+    }
+}
+
+fn is_left_empty(by_name: &HashTable<Bucket>, hash: u32) -> bool
+    ensures { IsTrue result → names_at by_name.now.facts hash ≡ [] }
+{
+    match by_name.get(hash) {
+        Some(bucket) => bucket.is_empty(),
+        None => false,
+    }
 }

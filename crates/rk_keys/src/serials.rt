@@ -1,5 +1,5 @@
 //! The serials of keys and rings.
-ghost use Rattle.std.specs.Prelude.{◌≡◌, ◌≤◌, ◌+◌, ◌*◌, ℕ, MatchOption, IfSome};
+ghost use Rattle.std.specs.Prelude.{◌≡◌, ◌≤◌, ◌<◌, ◌+◌, ◌*◌, ◌^◌, ℕ, MatchOption, IfSome};
 ghost use Rattle.std.specs.FinSet as set;
 ghost use Rattle.rk_names.specs.Numbers.{serial_of};
 ghost use Rattle.rk_table.specs.Says.{Says};
@@ -74,6 +74,7 @@ impl Serials {
         ensures fresh { IfSome result (IsFresh self.old) }
         ensures left { (n : ℕ) → HasSerials self.old (n + 1) → HasSerials self.new n }
         ensures extends { Extends self.old self.new }
+        ensures few { IfSome result (λ _. set.len self.old.used < 2 ^ 31) }
     {
         let next = of_form(self.first, self.stride, self.count)?;
         self.count += 1;

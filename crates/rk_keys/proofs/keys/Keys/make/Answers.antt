@@ -1,7 +1,8 @@
-use Rattle.std.proofs.Common.{◌≡◌, subst, ◌∙◌, ap, ℕ, cond, List, [], ◌∷◌, ◌++◌, refl}
-use Rattle.std.specs.Prelude.{Some, None, nat_eq, unwrap_or}
+use Rattle.std.proofs.Common.{◌≡◌, ◌<◌, subst, ◌∙◌, ap, ℕ, cond, List, refl, arith}
+use Rattle.std.specs.Prelude.{Option, Some, None, unwrap_or}
 use Rattle.std.specs.Ordering.{nat_cmp}
 use Rattle.std.specs.FinMap as map
+use Rattle.std.specs.FinSet as set
 use Rattle.std.proofs.lemmas.Result.{err_from_is_err_and}
 use Rattle.rk_keys.specs.declared.key.Key.{Key}
 use Rattle.rk_keys.specs.Serials.{IsNext, with_drawn}
@@ -10,8 +11,9 @@ use Rattle.rk_keys.specs.Names.{IsNumberFor}
 use Rattle.rk_keys.proofs.Names.{number_of_new, number_for_new}
 use Rattle.rk_keys.proofs.Held.{held_made_so}
 use Rattle.rk_table.proofs.Gets.{at_new}
-use Rattle.rk_keys.specs.Buckets.{IsIndex, name_hash, serials_at}
-use Rattle.rk_keys.proofs.Indexed.{index_with}
+use Rattle.rk_keys.specs.declared.named.Named.{Named}
+use Rattle.rk_keys.specs.Buckets.{IsIndex, is_same, kept_of, number_in, counted_in}
+use Rattle.rk_keys.proofs.Indexed.{index_with, index_same, none_of, some_of, few_named}
 use Rattle.rk_keys.specs.Owners.{AreCounts}
 use Rattle.rk_keys.proofs.UserCounts.{counts_with}
 use Rattle.rk_keys.proofs.Refused.{not_refused}
@@ -47,11 +49,11 @@ returns-in_err-reserve-3-clause-quota c =
       λ refused. absurd (not_refused c.args.self.now c.args.owner c.in-Some.serial c.is_full.result c.is_full.ensures c.if-is_full.false next refused),
     )
 
-pub returns-in_err-put_in-clause-quota : goal.returns-in_err-put_in-clause-quota
-returns-in_err-put_in-clause-quota c =
+pub returns-in_err-number-clause-quota : goal.returns-in_err-number-clause-quota
+returns-in_err-number-clause-quota c =
     let next : IsNext c.args.self.now.serials c.in-Some.serial = subst (λ (n : Known). IsNext n.serials c.in-Some.serial) c.self.view_is
     c.in-Some.ensures.cases.0 in
-    let p = err_from_is_err_and c.from_residual-in_err-put_in.result c.from_residual-in_err-put_in.ensures.1 in
+    let p = err_from_is_err_and c.from_residual-in_err-number.result c.from_residual-in_err-number.ensures.1 in
     rw (p.1, p.2) (
       λ e. absurd (cc),
       λ refused. absurd (not_refused c.args.self.now c.args.owner c.in-Some.serial c.is_full.result c.is_full.ensures c.if-is_full.false next refused),
@@ -71,42 +73,48 @@ invariant_of-self-2 c =
     let known : Known = record { keys = c.reserve.new.self.facts; numbers = c.reserve-2.new.self.facts; serials = c.self.inside.serials } in
     let held : IsHeld known = rw (c.reserve.ensures.facts, c.reserve-2.ensures.facts) c.self.invariant.held in
     let key : Key = new_key c.args.typ c.args.description c.args.owner c.args.payload in
-    let number = number_of_new known key c.in-Some.serial c.number_of-shared.result held c.in-Some.ensures.cases.0.drawable.unused
-    c.number_of-shared.ensures.none c.number_of-shared.ensures.some in
-    let which : c.unwrap_or-number.result ≡ unwrap_or c.number_of-shared.result c.in-Some.serial = cc (c.unwrap_or-number.ensures, c.get.ensures.number) in
+    let k : ℕ = c.in-Some.serial in
     let keys : map.FinMap nat_cmp Key = c.reserve.new.self.facts in
-    let by_name : map.FinMap nat_cmp (List ℕ) = c.self.inside.by_name.facts in
-    let index : IsIndex c.self.inside.seed keys by_name = rw c.reserve.ensures.facts c.self.invariant.index in
+    let by_name : map.FinMap nat_cmp (List Named) = c.self.inside.by_name.facts in
+    let index : IsIndex c.self.inside.seed keys known.numbers by_name = rw (c.reserve.ensures.facts, c.reserve-2.ensures.facts) c.self.invariant.index in
+    let shared : Option ℕ = number_in (kept_of c.self.inside.seed by_name c.args.typ c.args.description) in
+    let which : c.in_ok-number.number ≡ unwrap_or shared k = subst (λ s. c.in_ok-number.number ≡ unwrap_or shared s) c.get.ensures.number
+    c.in_ok-number.ensures.number in
+    let number = number_of_new known key k shared held c.in-Some.ensures.cases.0.drawable.unused
+    (none_of c.self.inside.seed keys known.numbers by_name index c.args.typ c.args.description)
+    (some_of c.self.inside.seed keys known.numbers by_name index c.args.typ c.args.description) in
     let counts : AreCounts keys c.reserve-3.new.self.facts = rw (c.reserve.ensures.facts, c.reserve-3.ensures.facts) c.self.invariant.counts in
-    let new : map.get keys c.in-Some.serial ≡ None = held.drawn c.in-Some.serial c.in-Some.ensures.cases.0.drawable.unused in
-    let put : c.insert-2.new.self.facts ≡ map.insert keys c.in-Some.serial key = cc (c.insert-2.ensures.facts, c.get-4.ensures.number) in
-    let under : (h : ℕ) → serials_at c.put_in.new.by_name.facts h ≡ cond (nat_eq (name_hash c.self.inside.seed c.args.typ c.args.description) h)
-    (serials_at by_name h ++ c.in-Some.serial ∷ []) (serials_at by_name h) =
-    λ h. c.in_ok-put_in.ensures.ok h
-    ∙ ap (λ n. cond (nat_eq n h) (serials_at by_name h ++ c.get.result ∷ []) (serials_at by_name h)) c.hash_of-hash.ensures
-    ∙ ap (λ k. cond (nat_eq (name_hash c.self.inside.seed c.args.typ c.args.description) h) (serials_at by_name h ++
-    k ∷ []) (serials_at by_name h)) c.get.ensures.number in
+    let new : map.get keys k ≡ None = held.drawn k c.in-Some.ensures.cases.0.drawable.unused in
+    let put : c.insert-2.new.self.facts ≡ map.insert keys k key = cc (c.insert-2.ensures.facts, c.get-3.ensures.number) in
+    let put_number : c.insert.new.self.facts ≡ map.insert known.numbers k c.in_ok-number.number = cc (c.insert.ensures.facts, c.get-2.ensures.number) in
+    let kept : List ℕ → List ℕ → Option Named = kept_of c.self.inside.seed by_name in
+    let with_it : ℕ → List ℕ → List ℕ → Option Named =
+    λ s t d. cond (is_same c.args.typ c.args.description t d) (Some (counted_in c.args.typ c.args.description s (kept t d))) (kept t d) in
+    let under : (t d : List ℕ) → kept_of c.self.inside.seed c.count_in.new.by_name.facts t d ≡ with_it k t d =
+    λ t d. c.in_ok-number.ensures.ok t d ∙ ap (λ s. with_it s t d) c.get.ensures.number in
+    let counted : IsIndex c.self.inside.seed (map.insert keys k key) (map.insert known.numbers k c.in_ok-number.number) c.count_in.new.by_name.facts =
+    index_with c.self.inside.seed keys known.numbers by_name index k key c.in_ok-number.number c.count_in.new.by_name.facts new which under in
     record {
-      held = held_made_so known c.in-Some.serial key c.unwrap_or-number.result c.insert-2.new.self.facts c.insert.new.self.facts c.draw.new.self put
-          (cc (c.insert.ensures.facts, c.get-3.ensures.number)) c.in-Some.ensures.cases.1 (rw which number) held;
-      index = rw put (index_with c.self.inside.seed keys by_name index c.in-Some.serial key c.put_in.new.by_name.facts new under);
-      counts = rw put (counts_with keys c.reserve-3.new.self.facts c.one_more.new.self.facts c.in-Some.serial key counts new c.one_more.ensures.each);
+      held = held_made_so known k key c.in_ok-number.number c.insert-2.new.self.facts c.insert.new.self.facts c.draw.new.self put put_number
+          c.in-Some.ensures.cases.1 (rw which number) held;
+      index = rw (put, put_number) counted;
+      counts = rw put (counts_with keys c.reserve-3.new.self.facts c.one_more.new.self.facts k key counts new c.one_more.ensures.each);
     }
 
 pub returns-clause-ok : goal.returns-clause-ok
 returns-clause-ok c =
     let k : ℕ = c.in-Some.serial in
     let key : Key = new_key c.args.typ c.args.description c.args.owner c.args.payload in
-    let keys : c.insert-2.new.self.facts ≡ map.insert c.reserve.new.self.facts k key = cc (c.insert-2.ensures.facts, c.get-4.ensures.number) in
-    let numbers : c.insert.new.self.facts ≡ map.insert c.reserve-2.new.self.facts k c.unwrap_or-number.result = cc (
+    let keys : c.insert-2.new.self.facts ≡ map.insert c.reserve.new.self.facts k key = cc (c.insert-2.ensures.facts, c.get-3.ensures.number) in
+    let numbers : c.insert.new.self.facts ≡ map.insert c.reserve-2.new.self.facts k c.in_ok-number.number = cc (
       c.insert.ensures.facts,
-      c.get-3.ensures.number,
+      c.get-2.ensures.number,
     ) in (
       subst (λ (n : Known). IsNext n.serials k) c.self.view_is c.in-Some.ensures.cases.0,
       record {
         keys = keys ∙ ap (λ m. map.insert m k key) (c.reserve.ensures.facts ∙ ap (λ (n : Known). n.keys) c.self.view_is);
-        number = c.unwrap_or-number.result;
-        numbers = numbers ∙ ap (λ m. map.insert m k c.unwrap_or-number.result) (c.reserve-2.ensures.facts ∙ ap (λ (n : Known). n.numbers) c.self.view_is);
+        number = c.in_ok-number.number;
+        numbers = numbers ∙ ap (λ m. map.insert m k c.in_ok-number.number) (c.reserve-2.ensures.facts ∙ ap (λ (n : Known). n.numbers) c.self.view_is);
         serials = c.in-Some.ensures.cases.1 ∙ ap (λ (n : Known). with_drawn k n.serials) c.self.view_is;
       },
     )
@@ -115,15 +123,38 @@ pub returns-clause-number : goal.returns-clause-number
 returns-clause-number c =
     let known : Known = record { keys = c.reserve.new.self.facts; numbers = c.reserve-2.new.self.facts; serials = c.self.inside.serials } in
     let same : known ≡ c.args.self.now = rw (c.reserve.ensures.facts, c.reserve-2.ensures.facts) c.self.view_is in
-    let number : ℕ = unwrap_or c.number_of-shared.result c.in-Some.serial in
-    let put : c.insert.new.self.facts ≡ map.insert c.reserve-2.new.self.facts c.in-Some.serial number = cc (
-      c.insert.ensures.facts,
-      c.get-3.ensures.number,
-      c.unwrap_or-number.ensures,
-      c.get.ensures.number,
-    ) in
-    let is : map.get c.insert.new.self.facts c.in-Some.serial ≡ Some number = ap (λ m. map.get m c.in-Some.serial) put ∙
-    at_new c.reserve-2.new.self.facts c.in-Some.serial number c.in-Some.serial refl in
-    subst (λ (n : Known). IsNumberFor n c.args.typ c.args.description c.in-Some.serial (map.get c.insert.new.self.facts c.in-Some.serial)) same
-    (rw is (number_for_new known c.args.typ c.args.description c.in-Some.serial c.number_of-shared.result c.number_of-shared.ensures.none
-    c.number_of-shared.ensures.some))
+    let by_name : map.FinMap nat_cmp (List Named) = c.self.inside.by_name.facts in
+    let index : IsIndex c.self.inside.seed known.keys known.numbers by_name = rw (c.reserve.ensures.facts, c.reserve-2.ensures.facts) c.self.invariant.index in
+    let k : ℕ = c.in-Some.serial in
+    let shared : Option ℕ = number_in (kept_of c.self.inside.seed by_name c.args.typ c.args.description) in
+    let which : c.in_ok-number.number ≡ unwrap_or shared k = subst (λ s. c.in_ok-number.number ≡ unwrap_or shared s) c.get.ensures.number
+    c.in_ok-number.ensures.number in
+    let put : c.insert.new.self.facts ≡ map.insert known.numbers k c.in_ok-number.number = cc (c.insert.ensures.facts, c.get-2.ensures.number) in
+    let is : map.get c.insert.new.self.facts k ≡ Some (unwrap_or shared k) = ap (λ m. map.get m k) put ∙
+    at_new known.numbers k c.in_ok-number.number k refl ∙ ap Some which in
+    subst (λ (n : Known). IsNumberFor n c.args.typ c.args.description k (map.get c.insert.new.self.facts k)) same
+    (rw is (number_for_new known c.args.typ c.args.description k shared
+    (none_of c.self.inside.seed known.keys known.numbers by_name index c.args.typ c.args.description)
+    (some_of c.self.inside.seed known.keys known.numbers by_name index c.args.typ c.args.description)))
+
+-- there are fewer keys of the name than serials
+pub count_in-requires : goal.count_in-requires
+count_in-requires c =
+    let known : Known = record { keys = c.self.inside.facts.facts; numbers = c.self.inside.numbers.facts; serials = c.self.inside.serials } in
+    let counted = c.self.invariant.index.counted c.args.typ c.args.description in
+    let most = few_named known c.args.typ c.args.description c.self.invariant.held in
+    let drawn : set.len c.self.inside.serials.used < 2147483648 = c.in-Some.ensures.few in
+    omega (arith, counted, most, drawn)
+
+-- nothing is counted, where memory is wanting
+pub invariant_of-self-in_err-number : goal.invariant_of-self-in_err-number
+invariant_of-self-in_err-number c =
+    let by_name : map.FinMap nat_cmp (List Named) = c.self.inside.by_name.facts in
+    let index : IsIndex c.self.inside.seed c.reserve.new.self.facts c.reserve-2.new.self.facts by_name =
+    rw (c.reserve.ensures.facts, c.reserve-2.ensures.facts) c.self.invariant.index in
+    record {
+      held = rw (c.reserve.ensures.facts, c.reserve-2.ensures.facts) c.self.invariant.held;
+      index = index_same c.self.inside.seed c.reserve.new.self.facts c.reserve-2.new.self.facts by_name index c.count_in.new.by_name.facts
+          c.in_err-number.ensures.err;
+      counts = rw (c.reserve.ensures.facts, c.reserve-3.ensures.facts) c.self.invariant.counts;
+    }

@@ -10,6 +10,6 @@ invariant_of-self c =
     let known : Known = record { keys = c.self.inside.facts.facts; numbers = c.self.inside.numbers.facts; serials = c.self.inside.serials } in
     rw c.change.ensures.facts record {
       held = held_changed known c.get.result marked marked_keeps c.self.invariant.held;
-      index = index_changed c.self.inside.seed known.keys c.self.inside.by_name.facts c.self.invariant.index c.get.result marked marked_keeps;
+      index = index_changed c.self.inside.seed known.keys known.numbers c.self.inside.by_name.facts c.self.invariant.index c.get.result marked marked_keeps;
       counts = counts_changed known.keys c.self.inside.counts.facts c.get.result marked (λ _. refl) c.self.invariant.counts;
     }

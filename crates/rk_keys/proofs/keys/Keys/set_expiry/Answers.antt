@@ -10,7 +10,7 @@ invariant_of-self c =
     let known : Known = record { keys = c.self.inside.facts.facts; numbers = c.self.inside.numbers.facts; serials = c.self.inside.serials } in
     rw c.change.ensures.facts record {
       held = held_changed known c.get.result (timed c.args.now c.args.seconds) (timed_keeps c.args.now c.args.seconds) c.self.invariant.held;
-      index = index_changed c.self.inside.seed known.keys c.self.inside.by_name.facts c.self.invariant.index c.get.result (timed c.args.now c.args.seconds)
-          (timed_keeps c.args.now c.args.seconds);
+      index = index_changed c.self.inside.seed known.keys known.numbers c.self.inside.by_name.facts c.self.invariant.index c.get.result
+          (timed c.args.now c.args.seconds) (timed_keeps c.args.now c.args.seconds);
       counts = counts_changed known.keys c.self.inside.counts.facts c.get.result (timed c.args.now c.args.seconds) (λ _. refl) c.self.invariant.counts;
     }

@@ -1,5 +1,7 @@
-use Rattle.std.proofs.Common.{◌≤◌, ap, sym, subst, ◌∙◌, refl}
+use Rattle.std.proofs.Common.{◌≤◌, ◌<◌, ◌^◌, ap, sym, subst, ◌∙◌, refl}
 use Rattle.std.specs.Prelude.{Some, None}
+use Rattle.std.specs.FinSet as set
+use Rattle.rk_keys.specs.Drawing.{len-first_of_form}
 use Rattle.rk_keys.specs.Serials.{Drawn, HasSerials, IsNext, Extends, with_drawn}
 use Rattle.rk_keys.proofs.Drawing.{next_in_order, drawn_next}
 use Rattle.rk_keys.proofs.Drawn.{IsNext-IsFresh, HasSerials-with_drawn, HasSerials-fewer, Extends-with_drawn}
@@ -38,3 +40,8 @@ pub returns-clause-extends : goal.returns-clause-extends
 returns-clause-extends c =
     let drawn = returns-clause-cases c in
     subst (Extends c.args.self.now) (sym drawn.1) (Extends-with_drawn c.args.self.now c.in_ok-next.next)
+
+pub returns-clause-few : goal.returns-clause-few
+returns-clause-few c =
+    subst (λ (d : Drawn). set.len d.used < 2 ^ 31) c.self.view_is
+    (subst (λ n. n < 2 ^ 31) (sym (len-first_of_form c.self.inside.first c.self.inside.stride c.self.inside.count c.self.invariant.1)) c.self.invariant.2)

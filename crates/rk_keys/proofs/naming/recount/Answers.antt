@@ -1,0 +1,10 @@
+use Rattle.std.proofs.Common.{◌∙◌, ap, refl}
+use Rattle.std.specs.Prelude.{map as list_map}
+use Rattle.rk_keys.specs.Buckets.{names_at, recounted}
+use Rattle.rk_keys.proofs.Kept.{names_changed}
+use Rattle.rk_keys.proofs.naming.recount.Goals as goal
+
+pub returns : goal.returns
+returns c h =
+    ap (λ m. names_at m h) c.change.ensures.facts
+    ∙ names_changed c.args.by_name.now.facts c.args.hash (list_map (recounted c.args.typ.now c.args.description.now c.args.keys)) refl h

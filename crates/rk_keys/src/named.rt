@@ -1,0 +1,28 @@
+//! What is kept of a name.
+use rk_names::{Description, NameNo, TypeName};
+
+/// A name that live keys have. Its description shares the bytes of the first of them.
+#[derive(Drop)]
+pub struct Named {
+    /// The type of the keys.
+    pub typ: TypeName,
+    /// Their description.
+    pub description: Description,
+    /// The number that they share.
+    pub number: NameNo,
+    /// How many they are.
+    pub keys: u32,
+}
+
+impl Named {
+    ghost use Rattle.std.specs.Prelude.{◌≡◌};
+    ghost use Rattle.rk_keys.specs.Buckets.{is_of};
+
+    /// Whether it is this name.
+    pub fn is(&self, typ: &TypeName, description: &Description) -> bool
+        ensures { result ≡ is_of typ.now description.now self.now }
+    {
+        self.typ.as_bytes() == typ.as_bytes()
+            && self.description.as_bytes() == description.as_bytes()
+    }
+}
