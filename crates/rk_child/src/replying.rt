@@ -16,7 +16,7 @@ fn is_said<C: Child>(alloc: Global, child: &mut C, saying: Saying) -> bool
 {
     match saying {
         Saying::Noted(receipt) => match answer_frame(alloc, receipt.answer()) {
-            Ok(bytes) => child.write(&bytes).is_ok(),
+            Ok(bytes) => child.write(bytes.as_bytes()).is_ok(),
             Err(_) => child.write(&refusal_frame(Errno::Enomem)).is_ok(),
         },
         Saying::Short(errno) => child.write(&refusal_frame(errno)).is_ok(),

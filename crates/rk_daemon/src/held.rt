@@ -2,6 +2,7 @@
 
 use rk_hall::{HallNo, Receipt, Told};
 use rk_machine::Answer;
+use rk_message::{Ask, Reply};
 use std::sync::atomic::{AtomicU64, Ordering};
 
 /// How many bytes of asks and replies each hall's record has taken since its volume was last handed out, about. Threads count here without a lock.
@@ -46,15 +47,35 @@ impl Held {
     }
 }
 
-/// How many bytes the step of this receipt has put into its hall's record: those of the ask and of its reply.
+/// How many bytes the step of this receipt has put into its hall's record beside the step itself: those of the names and payloads of the ask, and of its
+/// reply.
 pub fn taken_by(receipt: &Receipt) -> u64 {
     let asked = match receipt.told() {
-        Told::Asked(_, ask) => ask.body_len(),
+        Told::Asked(_, ask) => bytes_of(ask),
         _ => 0,
     };
     let answered = match receipt.answer() {
-        Answer::Done(reply) => reply.body_len(),
+        Answer::Done(Reply::Bytes(bytes)) => bytes.as_bytes().len(),
         _ => 0,
     };
-    (asked + answered) as u64
+    asked.saturating_add(answered) as u64
+}
+
+/// How many bytes an ask has that lie elsewhere.
+fn bytes_of(ask: &Ask) -> usize {
+    match ask {
+        Ask::Request {
+            description,
+            callout: Some(callout),
+            ..
+        } => description.as_bytes().len() + callout.as_bytes().len(),
+        Ask::Request { description, .. } => description.as_bytes().len(),
+        Ask::Instantiate { payload, .. } => payload.as_bytes().len(),
+        Ask::Add {
+            description,
+            payload,
+            ..
+        } => description.as_bytes().len() + payload.as_bytes().len(),
+        _ => 0,
+    }
 }

@@ -27,7 +27,7 @@ fn tell<W: Wire>(alloc: Global, wire: &mut W, receipt: Receipt) -> Result<(), De
     match answer_frame(alloc, receipt.answer()) {
         Ok(bytes) => {
             wire.note(receipt);
-            wire.write(&bytes)
+            wire.write(bytes.as_bytes())
         }
         Err(_) => wire.write(&refusal_frame(Errno::Enomem)),
     }

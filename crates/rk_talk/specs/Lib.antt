@@ -1,3 +1,4 @@
+pub mod Kept
 pub mod Replies
 pub mod Said
 pub mod Stays

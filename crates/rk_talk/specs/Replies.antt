@@ -23,3 +23,9 @@ reply_of (Waiting k) = None
 -- the bytes are those of the answer's reply
 abbrev pub ReplyFramed : Answer → List ℕ → Type 0
 ReplyFramed answer bytes = (r : Reply) × (reply_of answer ≡ Some r) × (bytes ≡ reply_bytes r)
+
+-- whether memory is asked for to reply with an answer: for bytes and for the serials of rings; an answer that ends no ask has no reply
+abbrev pub TakesMemory : Option Reply → Type 0
+TakesMemory (Some (reply.Number n)) = ⊥
+TakesMemory (Some (reply.Refused e)) = ⊥
+TakesMemory _ = Unit {0}

@@ -1,6 +1,7 @@
 //! Calls of the halls. Where the record is full, its volume is handed out and the call made once more.
 ghost use Rattle.std.specs.Prelude.{◌≡◌, ◌⊎◌, IfOk, IfErr, OnErr};
 ghost use Rattle.rk_message.specs.Bodies.{Spells};
+ghost use Rattle.rk_message.specs.declared.ask.Ask.{Ask as Asks};
 ghost use Rattle.rk_record.specs.declared.told.Told.TheVariants as told;
 ghost use Rattle.rk_hall.specs.Seats.{part, with_part, after_call, CallRefused};
 ghost use Rattle.rk_talk.specs.Said.{IsCalled, HasLaunch};
@@ -14,6 +15,8 @@ use std::alloc::Global;
 use std::sync::Wait;
 
 // The hall's volume is handed out, so that there are places again.
+#[cold]
+#[inline(never)]
 fn make_places<N: Names, R: Wait, S: Shelf>(
     rt: &R,
     halls: &Halls<N>,
@@ -30,6 +33,34 @@ fn make_places<N: Names, R: Wait, S: Shelf>(
         Err(HallFault::Full) => Err(CallFault::Full),
         Err(HallFault::NoMemory) => Err(CallFault::NoMemory),
     }
+}
+
+// The second try of an ask whose call found the record full: its volume goes to the shelf, and the ask is read again from its body.
+#[cold]
+#[inline(never)]
+fn ask_again<N: Names, R: Wait, S: Shelf>(
+    rt: &R,
+    alloc: Global,
+    halls: &Halls<N>,
+    seat: &mut Seat<N>,
+    hall: HallNo,
+    now: Moment,
+    session: SessionId,
+    body: &[u8],
+    shelf: &S,
+) -> Result<Called<N>, CallFault>
+    ensures receipt { (ask : Asks) → Spells ask body.now → IfOk result (λ d. IsCalled hall now (told.Asked session ask) (part hall seat.old) d.receipt) }
+    ensures seat { (ask : Asks) → Spells ask body.now → IfOk result (λ d.
+        seat.new ≡ with_part hall seat.old (after_call (part hall seat.old) (Event.Asked session ask) d.receipt)) }
+    ensures launch { IfOk result (λ d. HasLaunch hall d.receipt.answer d.launch) }
+    ensures err { IfErr result (λ f. CallRefused (part hall seat.old) f) }
+    ensures same { OnErr result (seat.new ≡ seat.old) }
+{
+    let Ok(ask) = Ask::read(alloc, body) else {
+        return Err(CallFault::NoMemory);
+    };
+    make_places(rt, halls, hall, shelf)?;
+    halls.call(rt, seat, hall, now, Event::Asked(session, ask))
 }
 
 /// Asks what the body spells, as `Halls::call` does. Where the record is full, its volume goes to the shelf, the ask is read again from its body, since
@@ -56,13 +87,7 @@ pub fn ask_in<N: Names, R: Wait, S: Shelf>(
 {
     let (first, second) = (session, session);
     match halls.call(rt, seat, hall, now, Event::Asked(first, ask)) {
-        Err(CallFault::Full) => {
-            let Ok(again) = Ask::read(alloc, body) else {
-                return Err(CallFault::NoMemory);
-            };
-            make_places(rt, halls, hall, shelf)?;
-            halls.call(rt, seat, hall, now, Event::Asked(second, again))
-        }
+        Err(CallFault::Full) => ask_again(rt, alloc, halls, seat, hall, now, second, body, shelf),
         result => result,
     }
 }

@@ -20,11 +20,13 @@
 #![tactic(auto)]
 
 mod calls;
+mod frame;
 mod replies;
 mod saying;
 mod shelf;
 
 pub use calls::{ask_in, open_in};
+pub use frame::Frame;
 pub use replies::{answer_frame, refusal_frame};
 pub use saying::{Saying, refused, settled};
 pub use shelf::Shelf;

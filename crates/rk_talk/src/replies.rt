@@ -1,8 +1,9 @@
 //! Replies in frames.
-ghost use Rattle.std.specs.Prelude.{◌≡◌, IfOk};
+ghost use Rattle.std.specs.Prelude.{◌≡◌, Some, IfOk, IfErr};
 ghost use Rattle.rk_message.specs.declared.reply.Reply.TheVariants as reply;
-ghost use Rattle.rk_talk.specs.Replies.{reply_bytes, ReplyFramed};
+ghost use Rattle.rk_talk.specs.Replies.{reply_bytes, reply_of, ReplyFramed, TakesMemory};
 
+use crate::frame::Frame;
 use rk_machine::Answer;
 use rk_message::Reply;
 use rk_names::Errno;
@@ -20,6 +21,15 @@ fn reply_frame(alloc: Global, reply: &Reply) -> Result<Vec<u8>, AllocError>
     Ok(bytes)
 }
 
+/// A number behind its length, as most replies are. It takes no memory.
+#[tactic(auto, unfolding(crate::specs::Replies::reply_bytes, rk_message::specs::Wire::spelled))]
+fn number_frame(number: u32) -> [u8; 9]
+    ensures { result ≡ reply_bytes (reply.Number number) }
+{
+    let [first, second, third, fourth] = number.to_be_bytes();
+    [0, 0, 0, 5, 0, first, second, third, fourth]
+}
+
 /// A refusal behind its length. It takes no memory, so that want of memory can be replied too.
 #[tactic(auto, unfolding(crate::specs::Replies::reply_bytes))]
 pub fn refusal_frame(errno: Errno) -> [u8; 6]
@@ -29,25 +39,27 @@ pub fn refusal_frame(errno: Errno) -> [u8; 6]
     [0, 0, 0, 2, kind, number]
 }
 
-fn refusal_bytes(alloc: Global, errno: Errno) -> Result<Vec<u8>, AllocError>
-    ensures { IfOk result (λ b. b.items ≡ reply_bytes (reply.Refused errno)) }
+/// A reply behind its length. Only bytes and the serials of rings take memory.
+fn framed(alloc: Global, reply: &Reply) -> Result<Frame, AllocError>
+    ensures framed { IfOk result (λ b. b ≡ reply_bytes reply.now) }
+    ensures memory { IfErr result (λ e. TakesMemory (Some reply.now)) }
 {
-    let mut bytes = Vec::with_capacity(alloc, 6)?;
-    bytes.extend_from_slice(&refusal_frame(errno))?;
-    Ok(bytes)
+    match reply {
+        Reply::Number(number) => Ok(Frame::number(number_frame(*number))),
+        Reply::Refused(errno) => Ok(Frame::refusal(refusal_frame(*errno))),
+        Reply::Bytes(_) | Reply::Rings { .. } => Ok(Frame::other(reply_frame(alloc, reply)?)),
+    }
 }
 
-/// What an answer says to the session that asked, behind its length. An `Err` is want of memory; an answer that says nothing, of a session that waits, is
-/// told as that too.
-pub fn answer_frame(alloc: Global, answer: &Answer) -> Result<Vec<u8>, AllocError>
-    ensures { IfOk result (λ b. ReplyFramed answer.now b.items) }
+/// What an answer says to the session that asked, behind its length. A number and a refusal take no memory. An `Err` is want of memory; an answer that
+/// says nothing, of a session that waits, is told as that too.
+pub fn answer_frame(alloc: Global, answer: &Answer) -> Result<Frame, AllocError>
+    ensures framed { IfOk result (λ b. ReplyFramed answer.now b) }
+    ensures memory { IfErr result (λ e. TakesMemory (reply_of answer.now)) }
 {
     match answer {
-        Answer::Done(reply) => reply_frame(alloc, reply),
-        Answer::Refused(errno) => {
-            let bytes = refusal_bytes(alloc, *errno)?;
-            Ok(bytes)
-        }
+        Answer::Done(reply) => framed(alloc, reply),
+        Answer::Refused(errno) => Ok(Frame::refusal(refusal_frame(*errno))),
         Answer::Start(_, _) | Answer::Waiting(_) | Answer::Negate(_) => Err(AllocError),
     }
 }

@@ -5,6 +5,6 @@ use Rattle.rk_session.proofs.turns.tell.Goals as goal
 
 pub returns-in-Ok-clause-speaks : goal.returns-in-Ok-clause-speaks
 returns-in-Ok-clause-speaks g c =
-    let framed = subst (λ a. ReplyFramed a c.in-Ok.bytes.items) c.answer.ensures c.in-Ok.ensures in
-    noted_speaks c.args.receipt c.write.result c.deref.result.now _ _ _ (subst (ReplyFramed c.args.receipt.answer) (sym c.deref.ensures.value) framed)
+    let framed = subst (λ a. ReplyFramed a c.in-Ok.bytes) c.answer.ensures c.in-Ok.ensures.framed in
+    noted_speaks c.args.receipt c.write.result c.as_bytes.result.now _ _ _ (subst (ReplyFramed c.args.receipt.answer) (sym c.as_bytes.ensures) framed)
     c.note.ensures c.write.ensures
