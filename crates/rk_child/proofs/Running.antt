@@ -1,6 +1,6 @@
 -- What was done with a launcher.
 use Rattle.std.proofs.Common.{◌≡◌, ◌≤◌, ◌<◌, ◌+◌, ◌-◌, ℕ, Bool, true, false, inl, inr, arith, refl, ap, sym, subst, ◌∙◌}
-use Rattle.std.specs.Prelude.{Result, Ok, Err, IfErr, max, nat_lt}
+use Rattle.std.specs.Prelude.{Result, Ok, Err, OnOk, IfErr, max, nat_lt}
 use Rattle.std.proofs.Math.Nat.{le-min, min-le_right, max-le, le-max_left, le-max_right}
 use Rattle.std.proofs.lemmas.Bool.Decides.{nat_tests}
 use Rattle.rk_devices.specs.declared.reading.ReadFault.{ReadFault}
@@ -89,21 +89,25 @@ child_rose a b c le bound one = rose_from a b (both b c) le (by_test (nat_lt b m
 
 -- how the child that came back has ended
 told_back : (a b : LauncherShown) (c e : ChildShown) (read : Result Unit ReadFault) (driven : Driven) → a.count ≤ b.count → b.count ≤ most
-    → GoesOn new_child c → IfErr read (λ f. FailsReading f new_child c) → EndsAs read driven c e
+    → GoesOn new_child c → OnOk read (c.at_end ≡ true) → IfErr read (λ f. FailsReading f new_child c) → EndsAs read driven c e
     → FaultRose driven a (taken_back b e) × TellsEnd driven a (taken_back b e) × HasRun driven
-told_back a b c e (Ok u) (Ended how) le bound goes fails ends = (tt, ap (λ (x : ChildShown). x.waited) ends, tt)
-told_back a b c e (Ok u) WaitFailed le bound goes fails ends =
-    (child_rose a.count b.count e.count le bound (some c.count e.count ends.0), ap (λ (x : ChildShown). x.waited) ends.1, tt)
-told_back a b c e (Ok u) NotStarted le bound goes fails ends = absurd ends
-told_back a b c e (Ok u) StartFailed le bound goes fails ends = absurd ends
-told_back a b c e (Ok u) ReadFailed le bound goes fails ends = absurd ends
-told_back a b c e (Err Failed) driven le bound goes fails ends =
+told_back a b c e (Ok u) (Ended how) le bound goes end fails ends =
+    (tt, (ap (λ (x : ChildShown). x.waited) ends, ap (λ (x : ChildShown). x.at_end) ends ∙ end), tt)
+told_back a b c e (Ok u) WaitFailed le bound goes end fails ends = (
+  child_rose a.count b.count e.count le bound (some c.count e.count ends.0),
+  (ap (λ (x : ChildShown). x.waited) ends.1, ap (λ (x : ChildShown). x.at_end) ends.1 ∙ end),
+  tt,
+)
+told_back a b c e (Ok u) NotStarted le bound goes end fails ends = absurd ends
+told_back a b c e (Ok u) StartFailed le bound goes end fails ends = absurd ends
+told_back a b c e (Ok u) ReadFailed le bound goes end fails ends = absurd ends
+told_back a b c e (Err Failed) driven le bound goes end fails ends =
     subst (λ (x : Driven). FaultRose x a (taken_back b e) × TellsEnd x a (taken_back b e) × HasRun x) (sym ends.0) (
       inl (child_rose a.count b.count e.count le bound (subst (λ (x : ChildShown). 1 ≤ x.count) (sym ends.1) (some 0 c.count fails))),
       ap (λ (x : ChildShown). x.waited) ends.1 ∙ goes.waited,
       tt,
     )
-told_back a b c e (Err UsedUp) driven le bound goes fails ends =
+told_back a b c e (Err UsedUp) driven le bound goes end fails ends =
     subst (λ (x : Driven). FaultRose x a (taken_back b e) × TellsEnd x a (taken_back b e) × HasRun x) (sym ends.0) (
       inr (at_most (subst (λ (x : ChildShown). 1048576 ≤ x.reads) (sym ends.1) fails) (le-max_right b.longest e.reads)),
       ap (λ (x : ChildShown). x.waited) ends.1 ∙ goes.waited,
@@ -112,10 +116,10 @@ told_back a b c e (Err UsedUp) driven le bound goes fails ends =
 
 -- a command from its start to its end
 pub came_back : (d : ℕ) (a b : LauncherShown) (c e : ChildShown) (read : Result Unit ReadFault) (driven : Driven) → d ≤ 8 → Runs (d + 1) (one_more a) b
-    → GoesOn new_child c → IfErr read (λ f. FailsReading f new_child c) → EndsAs read driven c e
+    → GoesOn new_child c → OnOk read (c.at_end ≡ true) → IfErr read (λ f. FailsReading f new_child c) → EndsAs read driven c e
     → Runs d a (taken_back b e) × FaultRose driven a (taken_back b e) × TellsEnd driven a (taken_back b e) × HasRun driven
-came_back d a b c e read driven deep f goes fails ends =
-    let t = told_back a b c e read driven f.rises f.bound goes fails ends in (runs_child d a b e deep f, t.0, t.1, t.2)
+came_back d a b c e read driven deep f goes end fails ends =
+    let t = told_back a b c e read driven f.rises f.bound goes end fails ends in (runs_child d a b e deep f, t.0, t.1, t.2)
 
 -- a fault that came later
 fault_from : (driven : Driven) (a b c : LauncherShown) → a.count ≤ b.count → FaultRose driven b c → FaultRose driven a c
@@ -137,29 +141,32 @@ fault_to (Ended how) a b c le bound longer rose = tt
 fault_to NotStarted a b c le bound longer rose = tt
 
 -- the same end, where none came back since
-same_end : (driven : Driven) (a b c : LauncherShown) → HasRun driven → c.last ≡ b.last → TellsEnd driven a b → TellsEnd driven a c
-same_end (Ended how) a b c run same is = same ∙ is
-same_end ReadFailed a b c run same is = same ∙ is
-same_end WaitFailed a b c run same is = same ∙ is
-same_end NotStarted a b c run same is = absurd run
-same_end StartFailed a b c run same is = absurd run
+same_end : (driven : Driven) (a b c : LauncherShown) → HasRun driven → c.last ≡ b.last → c.at_end ≡ b.at_end → TellsEnd driven a b → TellsEnd driven a c
+same_end (Ended how) a b c run same end is = (same ∙ is.0, end ∙ is.1)
+same_end ReadFailed a b c run same end is = same ∙ is
+same_end WaitFailed a b c run same end is = (same ∙ is.0, end ∙ is.1)
+same_end NotStarted a b c run same end is = absurd run
+same_end StartFailed a b c run same end is = absurd run
 
 -- one command that another one followed
 pub followed : (first second : Driven) (a b c : LauncherShown) (d : ℕ) → HasRun first → Runs d a b → FaultRose first a b → TellsEnd first a b
     → Runs d b c → FaultRose second b c → TellsEnd second b c → FaultRose (later_of first second) a c × TellsEnd (later_of first second) a c
 followed first NotStarted a b c d run f rose ends g rose' ends' =
-    (fault_to first a b c g.rises g.bound g.longest rose, same_end first a b c run (ap (λ (l : LauncherShown). l.last) ends') ends)
+    let end = ap (λ (l : LauncherShown). l.at_end) ends' in
+    (fault_to first a b c g.rises g.bound g.longest rose, same_end first a b c run (ap (λ (l : LauncherShown). l.last) ends') end ends)
 followed first StartFailed a b c d run f rose ends g rose' ends' =
-    (fault_to first a b c g.rises g.bound g.longest rose, same_end first a b c run (ap (λ (l : LauncherShown). l.last) ends') ends)
+    let end = ap (λ (l : LauncherShown). l.at_end) ends' in
+    (fault_to first a b c g.rises g.bound g.longest rose, same_end first a b c run (ap (λ (l : LauncherShown). l.last) ends') end ends)
 followed first (Ended how) a b c d run f rose ends g rose' ends' = (fault_from (Ended how) a b c f.rises rose', ends')
 followed first ReadFailed a b c d run f rose ends g rose' ends' = (fault_from ReadFailed a b c f.rises rose', ends')
 followed first WaitFailed a b c d run f rose ends g rose' ends' = (fault_from WaitFailed a b c f.rises rose', ends')
 
 -- the same, by what each call said
 pub ran_through : (d : ℕ) (a s b new : LauncherShown) (n c e : ChildShown) (read : Result Unit ReadFault) (driven : Driven) → d ≤ 8
-    → s ≡ one_more a → n ≡ new_child → Runs (d + 1) s b → GoesOn n c → IfErr read (λ f. FailsReading f n c) → EndsAs read driven c e → new ≡ taken_back b e
+    → s ≡ one_more a → n ≡ new_child → Runs (d + 1) s b → GoesOn n c → OnOk read (c.at_end ≡ true) → IfErr read (λ f. FailsReading f n c)
+    → EndsAs read driven c e → new ≡ taken_back b e
     → Runs d a new × FaultRose driven a new × TellsEnd driven a new × HasRun driven
-ran_through d a s b new n c e read driven deep started fresh f goes fails ends back =
+ran_through d a s b new n c e read driven deep started fresh f goes end fails ends back =
     subst (λ (x : LauncherShown). Runs d a x × FaultRose driven a x × TellsEnd driven a x × HasRun driven) (sym back)
-    (came_back d a b c e read driven deep (subst (λ (x : LauncherShown). Runs (d + 1) x b) started f) (subst (λ (x : ChildShown). GoesOn x c) fresh goes)
+    (came_back d a b c e read driven deep (subst (λ (x : LauncherShown). Runs (d + 1) x b) started f) (subst (λ (x : ChildShown). GoesOn x c) fresh goes) end
     (subst (λ (x : ChildShown). IfErr read (λ f. FailsReading f x c)) fresh fails) ends)

@@ -1,5 +1,5 @@
 -- How a launch is brought to its end.
-use Rattle.std.specs.Prelude.{ℕ, ◌≡◌, ◌≤◌, ◌⊎◌, ◌+◌, ◌-◌, max, Some, None, Result, Ok, Err}
+use Rattle.std.specs.Prelude.{ℕ, ◌≡◌, ◌≤◌, ◌⊎◌, ◌+◌, ◌-◌, max, true, Some, None, Result, Ok, Err}
 use Rattle.rk_machine.specs.declared.event.How.{How}
 use Rattle.rk_machine.specs.declared.event.How.TheVariants.{Fault}
 use Rattle.rk_devices.specs.declared.reading.ReadFault.{ReadFault}
@@ -29,10 +29,11 @@ FaultRose ReadFailed old new = Rose old.count new.count ⊎ (1048576 ≤ new.lon
 FaultRose WaitFailed old new = Rose old.count new.count
 FaultRose _ old new = Unit {0}
 
--- how the child that came back last has ended is what is told; where none was started, nothing but the count is new
+-- how the child that came back last has ended is what is told, and it was waited for only at the end of its output; where none was started, nothing but the
+-- count is new
 abbrev pub TellsEnd : Driven → LauncherShown → LauncherShown → Type 0
-TellsEnd (Ended how) old new = new.last ≡ Some (Some how)
-TellsEnd WaitFailed old new = new.last ≡ Some None
+TellsEnd (Ended how) old new = (new.last ≡ Some (Some how)) × (new.at_end ≡ true)
+TellsEnd WaitFailed old new = (new.last ≡ Some None) × (new.at_end ≡ true)
 TellsEnd ReadFailed old new = new.last ≡ None
 TellsEnd StartFailed old new = new ≡ record old { count = new.count }
 TellsEnd NotStarted old new = new ≡ old

@@ -1,5 +1,5 @@
 //! The asks of a plain handler.
-ghost use Rattle.std.specs.Prelude.{◌≡◌, ◌≤◌, ◌<◌, ◌+◌, length, MatchBool, IfErr};
+ghost use Rattle.std.specs.Prelude.{◌≡◌, ◌≤◌, ◌<◌, ◌+◌, length, MatchBool, OnOk, IfErr, true};
 ghost use Rattle.rk_names.specs.declared.numbers.SessionId.TheVariants.{Handler};
 ghost use Rattle.rk_devices.specs.Counts.{most};
 ghost use Rattle.rk_frame.specs.Streams.{IsPartial};
@@ -56,6 +56,7 @@ pub fn serve_asks<N: Names, R: Wait, L: Launcher, C: Clock, G: Gate, S: Shelf>(
     requires empty { IsEmpty frames }
     ensures runs { Runs (depth + 1) (L.shown launcher.old) (L.shown launcher.new) }
     ensures child { GoesOn (L.Started.shown child.old) (L.Started.shown child.new) }
+    ensures end { OnOk result ((L.Started.shown child.new).at_end ≡ true) }
     ensures fault { IfErr result (λ f. FailsReading f (L.Started.shown child.old) (L.Started.shown child.new)) }
     ensures stays { Stays seat.old seat.new }
 {

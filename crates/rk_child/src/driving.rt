@@ -1,5 +1,5 @@
 //! A launch is brought to its end.
-ghost use Rattle.std.specs.Prelude.{◌≡◌, ◌≤◌, ◌+◌, IfSome, IfErr};
+ghost use Rattle.std.specs.Prelude.{◌≡◌, ◌≤◌, ◌+◌, IfSome, OnOk, IfErr, true};
 ghost use Rattle.rk_devices.specs.Counts.{most};
 ghost use Rattle.rk_devices.specs.Shown.{FailsReading, GoesOn};
 ghost use Rattle.rk_talk.specs.Stays.{Stays, SeesOn, clients_at};
@@ -137,6 +137,7 @@ fn attend<N: Names, R: Wait, L: Launcher, C: Clock, G: Gate, S: Shelf>(
     requires empty { IsEmptyRoom room }
     ensures runs { Runs (running.now.depth + 1) (L.shown launcher.old) (L.shown launcher.new) }
     ensures child { GoesOn (L.Started.shown child.old) (L.Started.shown child.new) }
+    ensures end { OnOk result.0 ((L.Started.shown child.new).at_end ≡ true) }
     ensures fault { IfErr result.0 (λ f. FailsReading f (L.Started.shown child.old) (L.Started.shown child.new)) }
     ensures stays { Stays seat.old seat.new }
 {

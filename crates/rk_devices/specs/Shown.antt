@@ -1,42 +1,50 @@
 -- What is seen of children and their launcher, and what a call does to it.
-use Rattle.std.specs.Prelude.{ℕ, ◌≡◌, ◌≤◌, ◌+◌, ◌-◌, max, Option, Some, None, Result, Ok, Err}
+use Rattle.std.specs.Prelude.{ℕ, ◌≡◌, ◌≤◌, ◌+◌, ◌-◌, ◌==◌, max, Bool, false, Option, Some, None, Result, Ok, Err}
 use Rattle.rk_machine.specs.declared.event.How.{How}
 use Rattle.rk_devices.specs.declared.device.DeviceFault.{DeviceFault}
 use Rattle.rk_devices.specs.declared.reading.ReadFault.{ReadFault}
 use Rattle.rk_devices.specs.declared.reading.ReadFault.TheVariants.{Failed, UsedUp}
 use Rattle.rk_devices.specs.Counts.{Rose, both, raised, IsRaised}
 
--- a child: how often a call failed; how often it was read; and `None` before it was waited for, then how it has ended, or `None` where the wait failed
+-- a child: how often a call failed; how often it was read; whether the read that came last told the end of its output; and `None` before it was waited for,
+-- then how it has ended, or `None` where the wait failed
 pub record ChildShown : Type 0 where
   pub count : ℕ
   pub reads : ℕ
+  pub at_end : Bool
   pub waited : Option (Option How)
 
 -- a launcher: how often a call failed, its own and those of children that came back; the most reads of a child that came back; how many children are out; the
--- most that were out at one time; and `waited` of the child that came back last
+-- most that were out at one time; and `at_end` and `waited` of the child that came back last
 pub record LauncherShown : Type 0 where
   pub count : ℕ
   pub longest : ℕ
   pub out : ℕ
   pub deepest : ℕ
+  pub at_end : Bool
   pub last : Option (Option How)
 
 -- a child that was just started
 abbrev pub new_child : ChildShown
-new_child = record { count = 0; reads = 0; waited = None }
+new_child = record { count = 0; reads = 0; at_end = false; waited = None }
 
 -- how a child has ended that was waited for, `None` where the wait failed
 abbrev pub end_of : Result How DeviceFault → Option How
 end_of (Ok how) = Some how
 end_of (Err e) = None
 
+-- whether a read told the end of the output
+abbrev pub is_end : Result ℕ DeviceFault → Bool
+is_end (Ok n) = n == 0
+is_end (Err e) = false
+
 -- a write: one that failed raised the count, and all else is as before
 abbrev pub Writes : Result Unit DeviceFault → ChildShown → ChildShown → Type 0
 Writes r old new = IsRaised r old.count new.count × (new ≡ record old { count = new.count })
 
--- a read: one that failed raised the count, and it is one read more
+-- a read: one that failed raised the count, it is one read more, and whether it told the end is known
 abbrev pub Reads : Result ℕ DeviceFault → ChildShown → ChildShown → Type 0
-Reads r old new = IsRaised r old.count new.count × (new ≡ record old { count = new.count; reads = raised old.reads })
+Reads r old new = IsRaised r old.count new.count × (new ≡ record old { count = new.count; reads = raised old.reads; at_end = is_end r })
 
 -- a wait: one that failed raised the count, and what it came to is known
 abbrev pub Waits : Result How DeviceFault → ChildShown → ChildShown → Type 0
@@ -64,4 +72,4 @@ Starts (Err e) old new = Rose old.count new.count × (new ≡ record old { count
 
 -- a child came back: its failures are the launcher's
 abbrev pub taken_back : LauncherShown → ChildShown → LauncherShown
-taken_back l c = record l { count = both l.count c.count; longest = max l.longest c.reads; out = l.out - 1; last = c.waited }
+taken_back l c = record l { count = both l.count c.count; longest = max l.longest c.reads; out = l.out - 1; at_end = c.at_end; last = c.waited }

@@ -14,7 +14,7 @@ pub struct DeviceFault;
 
 /// A command that was started. It can't be dropped: its launcher takes it back.
 pub trait Child {
-    /// Its failures, its reads, and what waiting for it came to.
+    /// Its failures, its reads, whether its output is at its end, and what waiting for it came to.
     ghost shown: { Self → ChildShown };
 
     /// Writes all bytes to its input.

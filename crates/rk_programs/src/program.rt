@@ -1,5 +1,5 @@
 //! A program that was started.
-ghost use Rattle.std.specs.Prelude.{◌≡◌, None};
+ghost use Rattle.std.specs.Prelude.{◌≡◌, None, false};
 ghost use Rattle.rk_devices.specs.Counts.{Rose, raised};
 ghost use Rattle.rk_devices.specs.Shown.{ChildShown};
 ghost use Rattle.rk_programs.specs.Ended.{ended_as};
@@ -15,18 +15,20 @@ pub struct Program<P: OpenProcess> {
     pub(crate) child: process::Child<P>,
     pub(crate) failed: u64,
     pub(crate) reads: u64,
+    pub(crate) at_end: bool,
     pub(crate) waited: Option<Option<How>>,
 }
 
 impl<P: OpenProcess> Program<P> {
     /// What was just started.
     pub(crate) fn new(child: process::Child<P>) -> Program<P>
-        ensures { (result.failed ≡ 0) × (result.reads ≡ 0) × (result.waited ≡ None) }
+        ensures { (result.failed ≡ 0) × (result.reads ≡ 0) × (result.at_end ≡ false) × (result.waited ≡ None) }
     {
         Program {
             child,
             failed: 0,
             reads: 0,
+            at_end: false,
             waited: None,
         }
     }
@@ -36,6 +38,7 @@ impl<P: OpenProcess> Program<P> {
         ensures count { self.new.failed ≡ raised self.old.failed }
         ensures rose { Rose self.old.failed self.new.failed }
         ensures reads { self.new.reads ≡ self.old.reads }
+        ensures at_end { self.new.at_end ≡ self.old.at_end }
         ensures waited { self.new.waited ≡ self.old.waited }
     {
         self.failed = one_more(self.failed);
@@ -54,7 +57,7 @@ fn ending(status: ExitStatus) -> How
 }
 
 impl<P: OpenProcess> Child for Program<P> {
-    ghost shown = { λ p. record { count = p.failed; reads = p.reads; waited = p.waited } };
+    ghost shown = { λ p. record { count = p.failed; reads = p.reads; at_end = p.at_end; waited = p.waited } };
 
     fn write(&mut self, bytes: &[u8]) -> Result<(), DeviceFault> {
         let Some(input) = &mut self.child.stdin else {
@@ -72,11 +75,16 @@ impl<P: OpenProcess> Child for Program<P> {
 
     fn read(&mut self, buf: &mut [u8]) -> Result<usize, DeviceFault> {
         self.reads = one_more(self.reads);
+        self.at_end = false;
         let Some(output) = &mut self.child.stdout else {
+            self.at_end = true;
             return Ok(0);
         };
         match output.read(buf) {
-            Ok(count) => Ok(count),
+            Ok(count) => {
+                self.at_end = count == 0;
+                Ok(count)
+            }
             Err(_) => Err(self.fault()),
         }
     }

@@ -23,6 +23,7 @@ pub struct Programs<'a, R: Processes> {
     longest: u64,
     out: u64,
     deepest: u64,
+    at_end: bool,
     last: Option<Option<How>>,
     unwaited: Unwaited<R::Started>,
 }
@@ -39,6 +40,7 @@ impl<'a, R: Processes> Programs<'a, R> {
             longest: 0,
             out: 0,
             deepest: 0,
+            at_end: false,
             last: None,
             unwaited: Unwaited::new(alloc),
         }
@@ -56,7 +58,7 @@ fn spawn<R: Processes>(
 }
 
 impl<'a, R: Processes> Launcher for Programs<'a, R> {
-    ghost shown = { λ l. record { count = l.failed; longest = l.longest; out = l.out; deepest = l.deepest; last = l.last } };
+    ghost shown = { λ l. record { count = l.failed; longest = l.longest; out = l.out; deepest = l.deepest; at_end = l.at_end; last = l.last } };
 
     type Started = Program<R::Started>;
 
@@ -85,11 +87,13 @@ impl<'a, R: Processes> Launcher for Programs<'a, R> {
             child,
             failed,
             reads,
+            at_end,
             waited,
         } = child;
         self.failed = self.failed.saturating_add(failed);
         self.longest = self.longest.max(reads);
         self.out = self.out.saturating_sub(1);
+        self.at_end = at_end;
         self.last = waited;
         if !matches!(waited, Some(Some(_))) {
             self.unwaited.keep(child);

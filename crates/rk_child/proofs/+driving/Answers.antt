@@ -21,5 +21,5 @@ driving::run-returns-clause-fault g t c =
     let h = ran_through c.args.launch.depth a s b (shown c.back-2.new.self) (g.L.Started.Child.shown c.in-Ok.child)
     (g.L.Started.Child.shown c.attend-read.new.child) (g.L.Started.Child.shown c.wait_for-driven-2.new.child) c.attend-read.result.0 c.wait_for-driven-2.result
     c.requires.depth c.in-Ok.ensures.starts c.in-Ok.ensures.fresh (subst (λ n. Runs (n + 1) s b) depth c.attend-read.ensures.runs)
-    c.attend-read.ensures.child c.attend-read.ensures.fault c.wait_for-driven-2.ensures c.back-2.ensures in
+    c.attend-read.ensures.child c.attend-read.ensures.end c.attend-read.ensures.fault c.wait_for-driven-2.ensures c.back-2.ensures in
     h.1

@@ -48,6 +48,7 @@ pub struct Fake {
     longest: u64,
     pub out: u64,
     pub deepest: u64,
+    at_end: bool,
     last: Option<Option<How>>,
 }
 
@@ -75,6 +76,7 @@ impl Fake {
             longest: 0,
             out: 0,
             deepest: 0,
+            at_end: false,
             last: None,
         })
     }
@@ -103,6 +105,7 @@ pub struct Running {
     written: u64,
     failed: u64,
     reads: u64,
+    at_end: bool,
     waited: Option<Option<How>>,
 }
 
@@ -135,7 +138,7 @@ pub fn give(bytes: &[u8], buf: &mut [u8]) -> usize
 }
 
 impl Child for Running {
-    ghost shown = { λ c. record { count = c.failed; reads = c.reads; waited = c.waited } };
+    ghost shown = { λ c. record { count = c.failed; reads = c.reads; at_end = c.at_end; waited = c.waited } };
 
     fn write(&mut self, bytes: &[u8]) -> Result<(), DeviceFault> {
         self.written = self.written.saturating_add(1);
@@ -151,19 +154,20 @@ impl Child for Running {
 
     fn read(&mut self, buf: &mut [u8]) -> Result<usize, DeviceFault> {
         self.reads = self.reads.saturating_add(1);
+        self.at_end = false;
         if burns(self.fuse, self.number, Call::Read, self.reads) {
             self.failed = self.failed.saturating_add(1);
             return Err(DeviceFault);
         }
-        if self.given >= self.bytes.len() {
-            return Ok(if self.program.endless {
-                give(b"a", buf)
-            } else {
-                0
-            });
-        }
-        let count = give(&self.bytes[self.given..], buf);
+        let count = if self.given < self.bytes.len() {
+            give(&self.bytes[self.given..], buf)
+        } else if self.program.endless {
+            give(b"a", buf)
+        } else {
+            0
+        };
         self.given = self.given.saturating_add(count);
+        self.at_end = count == 0;
         Ok(count)
     }
 
@@ -183,7 +187,7 @@ impl Child for Running {
 }
 
 impl Launcher for Fake {
-    ghost shown = { λ l. record { count = l.failed; longest = l.longest; out = l.out; deepest = l.deepest; last = l.last } };
+    ghost shown = { λ l. record { count = l.failed; longest = l.longest; out = l.out; deepest = l.deepest; at_end = l.at_end; last = l.last } };
 
     type Started = Running;
 
@@ -207,6 +211,7 @@ impl Launcher for Fake {
             written: 0,
             failed: 0,
             reads: 0,
+            at_end: false,
             waited: None,
         })
     }
@@ -222,12 +227,14 @@ impl Launcher for Fake {
             written: _,
             failed,
             reads,
+            at_end,
             waited,
         } = child;
         let _ = self.told.extend_from_slice(&told);
         self.failed = self.failed.saturating_add(failed);
         self.longest = self.longest.max(reads);
         self.out = self.out.saturating_sub(1);
+        self.at_end = at_end;
         self.last = waited;
     }
 
