@@ -24,7 +24,7 @@ all: $(addprefix build/,$(PROGRAMS))  ## Prove and build the programs, into buil
 
 bench: all  ## Prove and build the programs, and build their peers in C, into build/ (bench/README.md)
 	@$(MAKE) -C bench --no-print-directory
-	@bench/rattle/build.py hall_bench
+	@bench/rattle/build.py hall_bench spawn_bench
 
 # What a program is made of: any change of a crate makes it anew.
 SOURCES := $(shell find crates -path '*/out' -prune -o -type f \( -name '*.rt' -o -name '*.antt' \) -print) crates.txt

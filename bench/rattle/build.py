@@ -1,7 +1,7 @@
 #!/usr/bin/env python3
-"""Proves and builds a program of this folder over the crates, into build/NAME, in a copy of the repository below build/rattle.
+"""Proves and builds programs of this folder over the crates, into build/NAME, in a copy of the repository below build/rattle.
 
-    build.py NAME
+    build.py NAME ..
 
 A program that only measures would cost each gate some minutes, since what it links is proved as a whole; so its files stand here with `.in` behind
 their names, where the gate reads none of them. `uses` lists the libraries that it names itself.
@@ -33,20 +33,24 @@ def copy(name):
     return crate
 
 
-def main():
-    if len(sys.argv) != 2 or not (here / sys.argv[1] / "uses").exists():
-        print(__doc__, file=sys.stderr)
-        return 2
-    name = sys.argv[1]
+def is_built(name):
+    """Builds a program, and says whether it could."""
     crate = copy(name)
     ran = subprocess.run(["rt", "run", "--", "0"], cwd=crate, stdin=subprocess.DEVNULL, stdout=subprocess.PIPE, stderr=subprocess.STDOUT)
     made = crate / "out" / name
     if not made.exists():
         sys.stdout.write(ran.stdout.decode(errors="replace")[-4000:])
-        return 1
+        return False
     shutil.copy(made, top / "build" / name)
-    return 0
+    return True
+
+
+def main(names):
+    if not names or not all((here / name / "uses").exists() for name in names):
+        print(__doc__, file=sys.stderr)
+        return 2
+    return 0 if all(is_built(name) for name in names) else 1
 
 
 if __name__ == "__main__":
-    sys.exit(main())
+    sys.exit(main(sys.argv[1:]))
