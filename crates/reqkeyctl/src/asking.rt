@@ -14,7 +14,7 @@ use std::fs::Files;
 use std::io::Read;
 
 /// Why a call is no ask.
-#[derive(Clone, Copy, Debug, PartialEq, Eq)]
+#[derive(Clone, Copy)]
 pub enum AskFault {
     /// Its words are none.
     Words(ArgumentFault),

@@ -7,7 +7,7 @@ use rk_message::Op;
 use rk_text::number;
 
 /// What stands before the op.
-#[derive(Clone, Copy, Debug)]
+#[derive(Clone, Copy)]
 pub struct Options<'a> {
     /// The socket of the daemon; without one the streams are those of a handler.
     pub socket: Option<&'a str>,
@@ -26,7 +26,7 @@ pub struct Options<'a> {
 }
 
 /// What the words ask for.
-#[derive(Clone, Copy, Debug)]
+#[derive(Clone, Copy)]
 pub struct Call<'a> {
     /// What stands before the op.
     pub options: Options<'a>,

@@ -9,7 +9,7 @@ use std::io::{ErrorKind, Read};
 const MOST: u64 = 32_768;
 
 /// Why there are no bytes.
-#[derive(Clone, Copy, Debug, PartialEq, Eq)]
+#[derive(Clone, Copy)]
 pub enum SourceFault {
     /// The file can't be opened or read.
     Lost,

@@ -9,7 +9,7 @@ use std::alloc::AllocError;
 use std::process::{Command, ExitStatus};
 
 /// Who runs a program, and what is there for it.
-#[derive(Debug, Drop)]
+#[derive(Drop)]
 pub struct Here {
     /// The effective user.
     pub uid: u32,
@@ -24,7 +24,7 @@ pub struct Here {
 }
 
 /// Why a program was not started.
-#[derive(Clone, Copy, Debug, PartialEq, Eq)]
+#[derive(Clone, Copy)]
 pub enum StartFault {
     /// There is no such program.
     NotFound,

@@ -9,7 +9,7 @@ use rk_text::number;
 use rk_variables::is_library;
 
 /// What the words of `run` say.
-#[derive(Clone, Copy, Debug)]
+#[derive(Clone, Copy)]
 pub struct Wanted<'a> {
     /// The socket of the daemon.
     pub socket: Option<&'a str>,
