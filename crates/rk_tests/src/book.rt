@@ -40,6 +40,7 @@
 //! two books of which one is a step behind; `misuse`, `views` and `limits` their own.
 use crate::book::answers::play;
 use crate::book::moves::read;
+use crate::same::same_text;
 use rk_core::{Book, Limits};
 use rk_names::{Moment, Serial};
 use std::alloc::{AllocError, Global};
@@ -105,7 +106,7 @@ fn play_line(
     let read = read(alloc, line)?;
     let now = read.moment.unwrap_or(now);
     let said = play(alloc, book, now, read.told)?;
-    assert_eq!(rt; said.as_str(), answer, "{line}");
+    same_text(rt, line, said.as_str(), answer);
     Ok(now)
 }
 

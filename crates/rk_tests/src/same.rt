@@ -6,3 +6,8 @@ use std::process::Abort;
 pub fn same<T: PartialEq + Debug + Drop>(rt: &impl Abort, found: T, wanted: T) {
     assert_eq!(rt; found, wanted);
 }
+
+/// Ends the test where the texts differ, and prints both and what they are of.
+pub fn same_text(rt: &impl Abort, of: &str, found: &str, wanted: &str) {
+    assert_eq!(rt; found, wanted, "{of}");
+}

@@ -1,4 +1,5 @@
 //! What errors and faults print: the names of errno(3), and texts that were written down by hand.
+use crate::same::same;
 use rk_auth::AuthFault;
 use rk_conf::{ConfFault, ConfKind};
 use rk_frame::FrameFault;
@@ -17,7 +18,7 @@ use std::test::Fail;
 fn print<T: Display>(rt: &impl Abort, alloc: Global, rows: &[(T, &str)]) -> Result<(), Fail> {
     for (value, text) in rows {
         let shown = format!(in alloc; "{value}")?;
-        assert_eq!(rt; shown.as_str(), *text);
+        same(rt, shown.as_str(), *text);
     }
     Ok(())
 }
@@ -94,7 +95,7 @@ const COMMANDS: &[(ExpandFault, &str)] = &[
 #[test]
 fn faults_of_values_print(rt: HostRuntime) -> Result<(), Fail> {
     let alloc = rt.alloc();
-    assert_eq!(rt; ExpandFault::NoKey.code(), "X1");
+    same(&rt, ExpandFault::NoKey.code(), "X1");
     print(&rt, alloc, ERRNOS)?;
     print(&rt, alloc, NAMES)?;
     print(&rt, alloc, FRAMES)?;

@@ -12,6 +12,7 @@ use super::*;
 use crate::book::answers::shown;
 use crate::book::moves::{Line, Move};
 use crate::book::words::Fault;
+use crate::same::{same, same_text};
 
 /// Reads a line, once more where memory was refused.
 fn read_surely(alloc: Global, line: &str) -> Result<Line, Fault> {
@@ -62,7 +63,7 @@ fn say_the_same(
 ) -> Result<(), Fail> {
     let ones = said(alloc, one, now, line)?;
     let others = said(alloc, other, now, line)?;
-    assert_eq!(rt; ones.as_str(), others.as_str(), "{line}");
+    same_text(rt, line, ones.as_str(), others.as_str());
     Ok(())
 }
 
@@ -98,6 +99,37 @@ fn are_alike(
     Ok(())
 }
 
+/// Plays a line on a book, which says this to it. Whether there was memory for that.
+fn says(
+    rt: &impl Abort,
+    alloc: Global,
+    book: &mut Book,
+    now: Moment,
+    line: &str,
+    answer: &str,
+) -> Result<bool, Fail> {
+    let words = said(alloc, book, now, line)?;
+    if words.as_str() == "E12" {
+        return Ok(false);
+    }
+    same_text(rt, line, words.as_str(), answer);
+    Ok(true)
+}
+
+/// The same, where there is memory.
+fn says_surely(
+    rt: &impl Abort,
+    alloc: Global,
+    book: &mut Book,
+    now: Moment,
+    line: &str,
+    answer: &str,
+) -> Result<(), Fail> {
+    let words = said(alloc, book, now, line)?;
+    same_text(rt, line, words.as_str(), answer);
+    Ok(())
+}
+
 /// Plays a line on one book. Where it answers ENOMEM it has to be like the other one, and the line is played again.
 fn play_surely(
     rt: &impl Abort,
@@ -108,16 +140,12 @@ fn play_surely(
     line: &str,
     answer: &str,
 ) -> Result<(), Fail> {
-    let first = said(alloc, one, now, line)?;
-    if first.as_str() != "E12" {
-        assert_eq!(rt; first.as_str(), answer, "{line}");
+    if says(rt, alloc, one, now, line, answer)? {
         return Ok(());
     }
-    assert!(rt; may_want_memory(line, answer), "{line}");
+    same(rt, (line, may_want_memory(line, answer)), (line, true));
     are_alike(rt, alloc, one, other, now)?;
-    let second = said(alloc, one, now, line)?;
-    assert_eq!(rt; second.as_str(), answer, "{line}");
-    Ok(())
+    says_surely(rt, alloc, one, now, line, answer)
 }
 
 /// Plays a line on the other book, again where it answers ENOMEM.
@@ -129,12 +157,10 @@ fn follow(
     line: &str,
     answer: &str,
 ) -> Result<(), Fail> {
-    let mut words = said(alloc, other, now, line)?;
-    if words.as_str() == "E12" {
-        words = said(alloc, other, now, line)?;
+    if says(rt, alloc, other, now, line, answer)? {
+        return Ok(());
     }
-    assert_eq!(rt; words.as_str(), answer, "{line}");
-    Ok(())
+    says_surely(rt, alloc, other, now, line, answer)
 }
 
 /// A new book, in the second attempt where memory was refused.

@@ -124,8 +124,11 @@ fn the_writer_is_flushed(rt: HostRuntime) {
         let mut writer = Keeps::new(rt.alloc(), fails);
         let ended = run_script(rt.alloc(), &mut script.as_bytes(), &mut writer);
         same(&rt, (script, ended), (script, end));
-        same(&rt, writer.kept.as_slice(), kept.as_bytes());
-        same(&rt, writer.passed_on.as_slice(), passed_on.as_bytes());
+        same(
+            &rt,
+            (writer.kept.as_slice(), writer.passed_on.as_slice()),
+            (kept.as_bytes(), passed_on.as_bytes()),
+        );
     }
 }
 

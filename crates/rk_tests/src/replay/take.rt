@@ -5,6 +5,7 @@ use rk_core::Limits;
 use rk_names::Serial;
 use rk_replay::{LineFault, Outputs, Replay, ScriptLine, TakeFault, Transcript, served_is_run};
 use std::alloc::{AllocError, Global};
+use std::process::Abort;
 
 const HELLO: &[u8] = b"100 bytes 1 0000000e01000003e8000003e80000000000";
 
@@ -113,6 +114,11 @@ fn growths_of_a_negate_command(rt: HostRuntime) {
     let mut transcript = Transcript::new(alloc);
     let played = play_lines(alloc, NEGATED, FAILED_AND_NEGATED, &mut transcript);
     let text = str::from_utf8(transcript.as_bytes()).unwrap_or("no text");
+    is_said(&rt, text, played);
+}
+
+/// What was said is what was wanted, as far as there was memory.
+fn is_said(rt: &impl Abort, text: &str, played: Result<(), AllocError>) {
     match (first_other(text, FAILED_AND_NEGATED_SAYS), played) {
         (None, Ok(())) => assert_eq!(rt; text, FAILED_AND_NEGATED_SAYS),
         (None, Err(AllocError)) => {}
