@@ -25,8 +25,7 @@ PLAIN, ANOTHER, PIPED, NEGATE = "/bin/h 12 ", "/bin/h 16 ", "/bin/p ", "/bin/n n
 
 # Each handler: the commands that it is in the end, with what is told of each as the last one that was started, and whether the key is made. Then the steps
 # of a session, where memory ends one growth later each time: from 6 on the key is requested, and each further step is one that there was memory for. With
-# 8, say, a plain handler was told ENOMEM in place of the reply to its first ask, though that was done, and was refused its second one. Without a session
-# the client doesn't go, which is one step less.
+# 8, say, a plain handler's first ask was done, and its second one could not be read. Without a session the client doesn't go, which is one step less.
 HANDLERS = [
     ("plain_handler", [(PLAIN, "Exit(0)")], True, [6, 8, 9]),
     ("piped_handler", [(PIPED, "Exit(0)")], True, [6, 7]),
@@ -111,7 +110,8 @@ def replies(word):
 
 
 def judged_session(words, commands, is_made, goes_on):
-    """The steps of a run of a session: it ends as its input does, and each reply is the whole one's up to the growth that is refused."""
+    """The steps of a run of a session: it ends as its input does, and each reply is the whole one's up to the growth that is refused. Numbers and refusals take
+    no memory, so that what became of a handler which lacked it is still told."""
     steps, served, said, text = words
     said, steps, count = list(replies(said)), int(steps), started(text, commands)
     last = TWELVE if is_made else NO_KEY
@@ -120,10 +120,8 @@ def judged_session(words, commands, is_made, goes_on):
         holds(steps == 0 and count == 0, "a session that is told nothing")
         return steps
     holds(len(said) == 2, "not a reply to each ask")
-    if goes_on:
-        holds(said in ([NO_MEMORY, NO_MEMORY], [RINGS, NO_MEMORY]), "a reply where there is no memory")
-    elif said[0] == NO_MEMORY:
-        holds(said[1] in (last, NO_ACCESS), "another reply behind a HELLO that was refused")
+    if said[0] == NO_MEMORY:
+        holds(said[1] == NO_MEMORY if goes_on else said[1] in (last, NO_ACCESS), "another reply behind a HELLO that was refused")
     else:
         holds(said[0] == RINGS and said[1] in (last, NO_MEMORY, NO_KEY), "another reply")
     holds(said[1] != TWELVE or count, "a key without a handler")
