@@ -11,12 +11,13 @@
 //! A call is refused as the hall's is. Where the hall's record is full, its volume goes to the [`Shelf`], the ask is read again from its body and the
 //! call made once more, and only a refusal then is answered. What is said of an ask is the answer of one receipt, of the ask itself or of the collect
 //! of its outcome; EDQUOT or ENOMEM where its call was refused; or nothing, where the seat has seen more than the hall has. The bytes of a reply are
-//! the one spelling of what the answer says, behind their length. A refusal's take no memory, so that want of memory can be told too.
+//! the one spelling of what the answer says, behind their length. Those of a number and of a refusal take no memory ([`Frame`]), so that want of memory
+//! can be told too, and so can what became of an ask that was done.
 //!
 //! # How it is built
 //!
-//! `calls` has the calls with their second try, `saying` what is to be said, `replies` the bytes, `shelf` where volumes go. In `specs/`, `Said` says
-//! why a reply is given, `Replies` how it is spelt, and `Stays` what a seat keeps.
+//! `calls` has the calls with their second try, `saying` what is to be said, `replies` the bytes, `frame` where they lie, `shelf` where volumes go. In
+//! `specs/`, `Said` says why a reply is given, `Replies` how it is spelt and which want memory, and `Stays` what a seat keeps.
 #![tactic(auto)]
 
 mod calls;

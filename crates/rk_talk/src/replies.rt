@@ -9,7 +9,7 @@ use rk_message::Reply;
 use rk_names::Errno;
 use std::alloc::{AllocError, Global};
 
-/// A reply behind its length.
+/// A reply behind its length, in memory of its own.
 #[tactic(auto, unfolding(crate::specs::Replies::reply_bytes))]
 fn reply_frame(alloc: Global, reply: &Reply) -> Result<Vec<u8>, AllocError>
     ensures { IfOk result (λ b. b.items ≡ reply_bytes reply.now) }
