@@ -11,4 +11,5 @@ pub mod Lengths
 pub mod Kept
 pub mod Lines
 pub mod Slotted
+pub mod Tells
 pub mod Equal

@@ -82,7 +82,6 @@ impl<'a> Slots<'a> {
     }
 
     /// Takes one field of the kind.
-    #[tactic(auto, unfolding(crate::specs::Reading::value_at))]
     fn take(&mut self, kind: FieldKind, bytes: &'a [u8]) -> Result<&'a [u8], Fault>
         ensures value { Reads (λ rest. (slot self.new kind, rest.now)) result (value_at (form kind) bytes.now) }
         ensures kept { IfOk result (λ _. KeepsOthers self.old self.new (kind ∷ [])) }
