@@ -9,7 +9,7 @@ use rk_names::{Callout, Description, KeyError, Payload, TypeName};
 /// What a session asks. Rings and keys are numbers as on the wire: positive ones are serials, others
 /// name a ring or a key by its role, as -3 the session ring (keyctl(2), "Special key IDs"). What a
 /// number means, and whether it is refused, is for whoever carries the ask out.
-#[derive(Clone, Debug, Drop, PartialEq, Eq)]
+#[derive(Debug, Drop, PartialEq, Eq)]
 pub enum Ask {
     /// Makes the session's context: who asks, which of its own rings it has, and the session ring
     /// that it joins (keyctl_join_session_keyring(3)).

@@ -32,12 +32,13 @@
 //! takes each field that the line names into the slot of its kind, `ask_writing` puts each from its slot, and `slots` turns
 //! slots into an ask and back. `field` reads one field from the front of the bytes, `spelling` writes a message.
 //! `reply_reading` and `reply_writing` have the four replies. What the table says of every body stands as laws in `laws`.
-//! `equality` compares messages.
+//! `equality` compares messages, `copying` copies asks.
 #![tactic(auto)]
 
 mod ask;
 mod ask_reading;
 mod ask_writing;
+mod copying;
 mod equality;
 mod fault;
 mod field;
