@@ -14,7 +14,7 @@
 //!
 //! *Faults.* What is told ([`Driven`]) is how the child has ended that came back last. `StartFailed` and `WaitFailed` come only where the launcher's
 //! count of failures rose, its children's counted, and `ReadFailed` only there or where a child was read 1,048,576 times. After a read that failed a
-//! child is not waited for.
+//! child is not waited for, and it was waited for only where a read had told the end of its output.
 //!
 //! *A plain handler* has each ask answered in order, by the hall of its key. A reply that can't be written, a frame that none has, or an ask of which
 //! nothing can be said ends its asks: its input is closed, and what it still puts out is read and dropped. *A piped handler* is written the callout,

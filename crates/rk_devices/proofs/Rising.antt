@@ -67,8 +67,8 @@ write_goes r a b w = record {
 }
 
 -- a read
-pub read_goes : (r : Result ℕ DeviceFault) (a b : ChildShown) → Reads r a b → GoesOn a b
-read_goes r a b w = record {
+pub read_goes : (room : ℕ) (r : Result ℕ DeviceFault) (a b : ChildShown) → Reads room r a b → GoesOn a b
+read_goes room r a b w = record {
   count = raised_up r a.count b.count w.0;
   reads = let is : b.reads ≡ raised a.reads = ap (λ (c : ChildShown). c.reads) w.1 in let more = more_reads a.reads in omega (arith, is, more);
   waited = ap (λ (c : ChildShown). c.waited) w.1;

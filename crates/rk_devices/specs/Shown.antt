@@ -1,5 +1,5 @@
 -- What is seen of children and their launcher, and what a call does to it.
-use Rattle.std.specs.Prelude.{ℕ, ◌≡◌, ◌≤◌, ◌+◌, ◌-◌, ◌==◌, max, Bool, false, Option, Some, None, Result, Ok, Err}
+use Rattle.std.specs.Prelude.{ℕ, ◌≡◌, ◌≤◌, ◌+◌, ◌-◌, ◌==◌, ◌&&◌, not, max, Bool, false, Option, Some, None, Result, Ok, Err}
 use Rattle.rk_machine.specs.declared.event.How.{How}
 use Rattle.rk_devices.specs.declared.device.DeviceFault.{DeviceFault}
 use Rattle.rk_devices.specs.declared.reading.ReadFault.{ReadFault}
@@ -33,18 +33,18 @@ abbrev pub end_of : Result How DeviceFault → Option How
 end_of (Ok how) = Some how
 end_of (Err e) = None
 
--- whether a read told the end of the output
-abbrev pub is_end : Result ℕ DeviceFault → Bool
-is_end (Ok n) = n == 0
-is_end (Err e) = false
+-- whether a read told the end of the output: it had room for a byte, and read none
+abbrev pub is_end : ℕ → Result ℕ DeviceFault → Bool
+is_end room (Ok n) = n == 0 && not (room == 0)
+is_end room (Err e) = false
 
 -- a write: one that failed raised the count, and all else is as before
 abbrev pub Writes : Result Unit DeviceFault → ChildShown → ChildShown → Type 0
 Writes r old new = IsRaised r old.count new.count × (new ≡ record old { count = new.count })
 
--- a read: one that failed raised the count, it is one read more, and whether it told the end is known
-abbrev pub Reads : Result ℕ DeviceFault → ChildShown → ChildShown → Type 0
-Reads r old new = IsRaised r old.count new.count × (new ≡ record old { count = new.count; reads = raised old.reads; at_end = is_end r })
+-- a read with room for so many bytes: one that failed raised the count, it is one read more, and whether it told the end is known
+abbrev pub Reads : ℕ → Result ℕ DeviceFault → ChildShown → ChildShown → Type 0
+Reads room r old new = IsRaised r old.count new.count × (new ≡ record old { count = new.count; reads = raised old.reads; at_end = is_end room r })
 
 -- a wait: one that failed raised the count, and what it came to is known
 abbrev pub Waits : Result How DeviceFault → ChildShown → ChildShown → Type 0

@@ -25,10 +25,10 @@ pub trait Child {
     fn close_input(&mut self)
         ensures { shown self.new ≡ shown self.old };
 
-    /// Reads bytes of its output to the front of `buf`, and tells how many; 0 is the end of its output.
+    /// Reads bytes of its output to the front of `buf`, and tells how many; 0 is the end of its output, where `buf` has room.
     fn read(&mut self, buf: &mut [u8]) -> Result<usize, DeviceFault>
         ensures bound { IfOk result (λ n. n ≤ length buf.old) }
-        ensures reads { Reads result (shown self.old) (shown self.new) };
+        ensures reads { Reads (length buf.old) result (shown self.old) (shown self.new) };
 
     /// Waits until it has ended.
     fn wait(&mut self) -> Result<How, DeviceFault>

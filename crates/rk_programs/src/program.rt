@@ -76,13 +76,14 @@ impl<P: OpenProcess> Child for Program<P> {
     fn read(&mut self, buf: &mut [u8]) -> Result<usize, DeviceFault> {
         self.reads = one_more(self.reads);
         self.at_end = false;
+        let has_room = !buf.is_empty();
         let Some(output) = &mut self.child.stdout else {
-            self.at_end = true;
+            self.at_end = has_room;
             return Ok(0);
         };
         match output.read(buf) {
             Ok(count) => {
-                self.at_end = count == 0;
+                self.at_end = count == 0 && has_room;
                 Ok(count)
             }
             Err(_) => Err(self.fault()),

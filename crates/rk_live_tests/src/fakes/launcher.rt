@@ -155,6 +155,7 @@ impl Child for Running {
     fn read(&mut self, buf: &mut [u8]) -> Result<usize, DeviceFault> {
         self.reads = self.reads.saturating_add(1);
         self.at_end = false;
+        let has_room = !buf.is_empty();
         if burns(self.fuse, self.number, Call::Read, self.reads) {
             self.failed = self.failed.saturating_add(1);
             return Err(DeviceFault);
@@ -167,7 +168,7 @@ impl Child for Running {
             0
         };
         self.given = self.given.saturating_add(count);
-        self.at_end = count == 0;
+        self.at_end = count == 0 && has_room;
         Ok(count)
     }
 
