@@ -61,7 +61,7 @@ pub fn taken_by(receipt: &Receipt) -> u64 {
     asked.saturating_add(answered) as u64
 }
 
-/// How many bytes an ask has that lie elsewhere.
+/// How many bytes an ask has outside of its value: those of its description, its callout and its payload.
 fn bytes_of(ask: &Ask) -> usize {
     match ask {
         Ask::Request {
