@@ -39,13 +39,13 @@ fn said(alloc: Global, book: &mut Book, now: Moment, line: &str) -> Result<Strin
     }
 }
 
+/// The words of the lines that may want memory.
+const WANTING: &[&str] = &["open", "hello", "read", "describe", "add", "callout"];
+
 /// Which lines may want memory. A request may where it starts a construction.
 fn may_want_memory(line: &str, answer: &str) -> bool {
     for word in line.split_whitespace() {
-        if matches!(
-            word,
-            "open" | "hello" | "read" | "describe" | "add" | "callout"
-        ) {
+        if WANTING.contains(&word) {
             return true;
         }
     }
@@ -116,20 +116,6 @@ fn says(
     Ok(true)
 }
 
-/// The same, where there is memory.
-fn says_surely(
-    rt: &impl Abort,
-    alloc: Global,
-    book: &mut Book,
-    now: Moment,
-    line: &str,
-    answer: &str,
-) -> Result<(), Fail> {
-    let words = said(alloc, book, now, line)?;
-    same_text(rt, line, words.as_str(), answer);
-    Ok(())
-}
-
 /// Plays a line on one book. Where it answers ENOMEM it has to be like the other one, and the line is played again.
 fn play_surely(
     rt: &impl Abort,
@@ -145,7 +131,9 @@ fn play_surely(
     }
     same(rt, (line, may_want_memory(line, answer)), (line, true));
     are_alike(rt, alloc, one, other, now)?;
-    says_surely(rt, alloc, one, now, line, answer)
+    let is_said = says(rt, alloc, one, now, line, answer)?;
+    same(rt, (line, is_said), (line, true));
+    Ok(())
 }
 
 /// Plays a line on the other book, again where it answers ENOMEM.
@@ -157,10 +145,10 @@ fn follow(
     line: &str,
     answer: &str,
 ) -> Result<(), Fail> {
-    if says(rt, alloc, other, now, line, answer)? {
-        return Ok(());
-    }
-    says_surely(rt, alloc, other, now, line, answer)
+    let is_said = says(rt, alloc, other, now, line, answer)?
+        || says(rt, alloc, other, now, line, answer)?;
+    same(rt, (line, is_said), (line, true));
+    Ok(())
 }
 
 /// A new book, in the second attempt where memory was refused.

@@ -43,43 +43,47 @@ fn memory_may_be_refused(rt: HostRuntime) {
 }
 
 /// The asks and their fields as docs/PROTOCOL.md tells them, by rising op byte.
-const LINES: &[(&str, &str)] = &[
-    ("HELLO", "uid gid flags join "),
-    ("REQUEST", "type description callout ring "),
-    ("ASSUME", "key "),
-    ("INSTANTIATE", "key payload ring "),
-    ("NEGATE", "key seconds ring "),
-    ("REJECT", "key seconds error ring "),
-    ("READ", "key "),
-    ("DESCRIBE", "key "),
-    ("REVOKE", "key "),
-    ("TIMEOUT", "key seconds "),
-    ("LINK", "key ring "),
-    ("UNLINK", "key ring "),
-    ("CLEAR", "ring "),
-    ("DEFAULT", "setting "),
-    ("ADD", "type description payload ring "),
-    ("CALLOUT", ""),
-];
+const ASKS: &str = "HELLO uid gid flags join
+REQUEST type description callout ring
+ASSUME key
+INSTANTIATE key payload ring
+NEGATE key seconds ring
+REJECT key seconds error ring
+READ key
+DESCRIBE key
+REVOKE key
+TIMEOUT key seconds
+LINK key ring
+UNLINK key ring
+CLEAR ring
+DEFAULT setting
+ADD type description payload ring
+CALLOUT
+";
 
-/// The names of the fields of a line, a space behind each.
-fn fields_of(alloc: Global, shape: &AskShape) -> Result<String, AllocError> {
-    let mut names = String::new(alloc);
+/// Adds the name of an ask and those of its fields, as a line.
+fn put_line(lines: &mut String, shape: &AskShape) -> Result<(), AllocError> {
+    lines.push_str(shape.name)?;
     for field in shape.fields {
-        names.push_str(field.name())?;
-        names.push(' ')?;
+        lines.push(' ')?;
+        lines.push_str(field.name())?;
     }
-    Ok(names)
+    lines.push('\n')
+}
+
+/// The lines of all asks.
+fn all_lines(alloc: Global) -> Result<String, AllocError> {
+    let mut lines = String::new(alloc);
+    for shape in AskShape::all() {
+        put_line(&mut lines, shape)?;
+    }
+    Ok(lines)
 }
 
 #[test]
 fn the_table_of_asks_is_the_formats(rt: HostRuntime) -> Result<(), Fail> {
-    same(&rt, AskShape::all().len(), LINES.len());
-    for (shape, (name, fields)) in AskShape::all().iter().zip(LINES) {
-        same(&rt, shape.name, *name);
-        let names = fields_of(rt.alloc(), shape)?;
-        same(&rt, names.as_str(), *fields);
-    }
+    let lines = all_lines(rt.alloc())?;
+    same(&rt, lines.as_str(), ASKS);
     Ok(())
 }
 
@@ -87,21 +91,24 @@ fn the_table_of_asks_is_the_formats(rt: HostRuntime) -> Result<(), Fail> {
 fn an_op_is_known_by_its_byte(rt: HostRuntime) -> Result<(), Fail> {
     asks_have_one_reading();
     replies_have_one_reading();
-    same(&rt, Op::from_byte(16), Some(Op::Callout));
-    same(&rt, Op::from_byte(17), None);
-    same(&rt, Op::Negate.byte(), 5);
-    same(&rt, Op::Negate.shape().name, "NEGATE");
     same(
         &rt,
-        (Ask::Callout.op(), Ask::Callout.name()),
-        (Op::Callout, "CALLOUT"),
+        (Op::from_byte(16), Op::from_byte(17)),
+        (Some(Op::Callout), None),
     );
-    same(&rt, Ask::Callout.body_len(), 1);
     same(
         &rt,
-        Ask::Callout.write(rt.alloc())?.as_slice(),
-        [16].as_slice(),
+        (Op::Negate.byte(), Op::Negate.shape().name),
+        (5, "NEGATE"),
     );
     same(&rt, Reply::Number(3).body_len(), 5);
+    let callout = Ask::Callout;
+    same(
+        &rt,
+        (callout.op(), callout.name(), callout.body_len()),
+        (Op::Callout, "CALLOUT", 1),
+    );
+    let body = callout.write(rt.alloc())?;
+    same(&rt, body.as_slice(), [16].as_slice());
     Ok(())
 }
