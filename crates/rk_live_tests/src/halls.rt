@@ -1,5 +1,6 @@
-//! Four halls and their seats: `opening` makes halls of new ledgers for a scene, `calls` has what a client and its handler do there, `paths` what comes of it
-//! from a client's coming to its end, `growths` where memory is refused, `settling` whether seats and receipts agree with the records.
+//! Four halls and their seats: `opening` makes halls of new ledgers for a scene, `calls` has what a client and its handler do there, `paths` these steps
+//! with their receipts, `growths` a client from its coming to its end, also where memory is refused, `settling` whether seats and receipts agree with the
+//! records.
 pub mod calls;
 pub mod growths;
 pub mod opening;

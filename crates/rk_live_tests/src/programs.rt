@@ -8,7 +8,6 @@ use rk_names::Payload;
 use rk_programs::Programs;
 use std::alloc::Global;
 use std::process::{Abort, Processes};
-use std::test::Fail;
 
 /// The word of this text.
 fn word(alloc: Global, text: &str) -> Option<Word> {
@@ -58,51 +57,70 @@ fn run<L: Launcher>(
     Some((bytes(alloc, output.into_payload()), how))
 }
 
-/// Each script, what it puts out and how it ends.
-fn scripts<R: Processes + Abort>(rt: &R, alloc: Global) -> Result<(), Fail> {
-    let mut programs = Programs::new(rt, alloc, None);
-    for (text, callout, wanted, how) in [
-        ("cat", "callout", "callout", How::Exit(0)),
-        ("printf %s \"$1\"; exit 3", "", "a b", How::Exit(3)),
-        ("printf x; exec >&-; exit 5", "", "x", How::Exit(5)),
-        ("printf x; kill -9 $$", "", "x", How::Signal),
-        ("exit 255", "", "", How::Exit(255)),
-    ] {
-        let ran = run(
-            &mut programs,
-            alloc,
-            script(alloc, text),
-            callout.as_bytes(),
-        );
-        let put_out = if wanted.is_empty() {
-            None
-        } else {
-            Some(wanted.as_bytes().to_vec(alloc)?)
-        };
-        same(rt, ran, Some((put_out, Some(how))));
+/// What is tried of programs. Each is tried over any launcher, so that those of this machine are made and let go in one place.
+#[derive(Clone, Copy)]
+enum Trial {
+    Scripts,
+    Refusals,
+    Lengths,
+    Leftovers,
+    Unwaited,
+}
+
+impl Trial {
+    fn play<L: Launcher>(self, rt: &impl Abort, alloc: Global, launcher: &mut L) {
+        match self {
+            Trial::Scripts => scripts(rt, alloc, launcher),
+            Trial::Refusals => refusals(rt, alloc, launcher),
+            Trial::Lengths => lengths(rt, alloc, launcher),
+            Trial::Leftovers => leftovers(rt, alloc, launcher),
+            Trial::Unwaited => unwaited(rt, alloc, launcher),
+        }
     }
-    same(rt, programs.failures(), 0);
-    Ok(())
+}
+
+/// Tries programs of this machine.
+fn tried<R: Processes + Abort>(rt: &R, alloc: Global, trial: Trial) {
+    let mut programs = Programs::new(rt, alloc, None);
+    trial.play(rt, alloc, &mut programs);
+}
+
+/// Each script and its callout, what it puts out and how it ends.
+const SCRIPTS: &[(&str, &[u8], Option<&[u8]>, How)] = &[
+    ("cat", b"callout", Some(b"callout"), How::Exit(0)),
+    ("printf %s \"$1\"; exit 3", b"", Some(b"a b"), How::Exit(3)),
+    ("printf x; exec >&-; exit 5", b"", Some(b"x"), How::Exit(5)),
+    ("printf x; kill -9 $$", b"", Some(b"x"), How::Signal),
+    ("exit 255", b"", None, How::Exit(255)),
+];
+
+fn scripts<L: Launcher>(rt: &impl Abort, alloc: Global, launcher: &mut L) {
+    for (text, callout, wanted, how) in SCRIPTS {
+        let ran = run(launcher, alloc, script(alloc, text), callout);
+        let (put_out, ended) = ran.expect(rt, "a program that was started");
+        let put_out = put_out.as_ref().map(|bytes| bytes.as_slice());
+        same(rt, (put_out, ended), (*wanted, Some(*how)));
+    }
+    same(rt, launcher.failures(), 0);
 }
 
 #[test]
-fn programs_end_and_put_out(rt: HostRuntime) -> Result<(), Fail> {
-    scripts(&rt, rt.alloc())
+fn programs_end_and_put_out(rt: HostRuntime) {
+    tried(&rt, rt.alloc(), Trial::Scripts);
 }
 
 /// What can't be started is a failure, and nothing of it is left.
-fn refusals<R: Processes + Abort>(rt: &R, alloc: Global) {
-    let mut programs = Programs::new(rt, alloc, None);
+fn refusals<L: Launcher>(rt: &impl Abort, alloc: Global, launcher: &mut L) {
     for path in ["/no/such/program", "/etc/passwd", "/"] {
-        let ran = run(&mut programs, alloc, command(alloc, path, &[]), b"");
-        same(rt, ran, None);
+        let ran = run(launcher, alloc, command(alloc, path, &[]), b"");
+        same(rt, ran.is_none(), true);
     }
-    same(rt, programs.failures(), 3);
+    same(rt, launcher.failures(), 3);
 }
 
 #[test]
 fn what_is_no_program_is_a_failure(rt: HostRuntime) {
-    refusals(&rt, rt.alloc());
+    tried(&rt, rt.alloc(), Trial::Refusals);
 }
 
 /// The length of what a script puts out, with a callout of the greatest length that it may ignore.
@@ -113,21 +131,20 @@ fn length<L: Launcher>(launcher: &mut L, alloc: Global, text: &str) -> Option<us
 }
 
 /// What is put out is a payload up to 32,767 bytes.
-fn lengths<R: Processes + Abort>(rt: &R, alloc: Global) {
-    let mut programs = Programs::new(rt, alloc, None);
+fn lengths<L: Launcher>(rt: &impl Abort, alloc: Global, launcher: &mut L) {
     for (text, wanted) in [
         ("cat", Some(4_095)),
         ("true", None),
         ("head -c 32767 /dev/zero", Some(32_767)),
         ("head -c 32768 /dev/zero", None),
     ] {
-        same(rt, length(&mut programs, alloc, text), wanted);
+        same(rt, length(launcher, alloc, text), wanted);
     }
 }
 
 #[test]
 fn what_is_put_out_has_a_limit(rt: HostRuntime) {
-    lengths(&rt, rt.alloc());
+    tried(&rt, rt.alloc(), Trial::Lengths);
 }
 
 /// How many descriptors this process has, and how many programs that it started and did not wait for; the one that counts is among them. It counts
@@ -139,18 +156,17 @@ fn counted<L: Launcher>(launcher: &mut L, alloc: Global) -> Option<Vec<u8>> {
 }
 
 /// Of 200 in a row nothing is left, nor of one that came back before it was waited for.
-fn leftovers<R: Processes + Abort>(rt: &R, alloc: Global) {
-    let mut programs = Programs::new(rt, alloc, None);
-    let before = counted(&mut programs, alloc);
+fn leftovers<L: Launcher>(rt: &impl Abort, alloc: Global, launcher: &mut L) {
+    let before = counted(launcher, alloc);
     for _ in 0..200 {
-        let _ = run(&mut programs, alloc, command(alloc, "/bin/true", &[]), b"");
+        let _ = run(launcher, alloc, command(alloc, "/bin/true", &[]), b"");
     }
-    same(rt, counted(&mut programs, alloc), before);
+    same(rt, counted(launcher, alloc), before);
 }
 
 #[test]
 fn nothing_is_left_of_programs(rt: HostRuntime) {
-    leftovers(&rt, rt.alloc());
+    tried(&rt, rt.alloc(), Trial::Leftovers);
 }
 
 /// Starts a program and hands it back at once.
@@ -170,15 +186,14 @@ const UNTIL_ENDED: &str = "
     done";
 
 /// A program that came back before it was waited for is let go at a later start, once it has ended.
-fn unwaited<R: Processes + Abort>(rt: &R, alloc: Global) {
-    let mut programs = Programs::new(rt, alloc, None);
-    let before = counted(&mut programs, alloc);
-    same(rt, leave(&mut programs, alloc), Some(()));
-    let _ = run(&mut programs, alloc, script(alloc, UNTIL_ENDED), b"");
-    same(rt, counted(&mut programs, alloc), before);
+fn unwaited<L: Launcher>(rt: &impl Abort, alloc: Global, launcher: &mut L) {
+    let before = counted(launcher, alloc);
+    same(rt, leave(launcher, alloc), Some(()));
+    let _ = run(launcher, alloc, script(alloc, UNTIL_ENDED), b"");
+    same(rt, counted(launcher, alloc), before);
 }
 
 #[test]
 fn what_was_not_waited_for_is_let_go(rt: HostRuntime) {
-    unwaited(&rt, rt.alloc());
+    tried(&rt, rt.alloc(), Trial::Unwaited);
 }

@@ -87,25 +87,22 @@ pub struct Handling {
     pub words: &'static [u8],
     /// What the handlers were told, the innermost first, where it is looked at.
     pub told: Option<&'static [u8]>,
+    /// How many steps there are in the end, where it is looked at.
+    pub steps: Option<u64>,
 }
 
 impl Handling {
-    /// Plays it, and settles.
+    /// Plays it as far as memory reaches, and settles; then what came of it is compared.
     pub fn play<N: Names, R: Wait + Abort>(self, rt: &R, alloc: Global, halls: Halls<N>) {
+        let mut seats = Vec::with_capacity(alloc, 1).expect(rt, "memory");
         let mut seat = halls.seat(rt).expect(rt, "a seat");
         drop(greets(rt, &halls, &mut seat));
         let clients = self.adder.add(rt, alloc, &halls, &mut seat);
-        let Came {
-            driven,
-            outcome,
-            fake,
-        } = self.comes(rt, alloc, &halls, &mut seat);
-        same(rt, driven, self.driven);
-        same(rt, outcome, self.outcome);
-        same(rt, seat.clients(), clients);
-        is_as_wanted(rt, &fake, &self);
-        let seats = vec![in alloc; seat].expect(rt, "memory");
-        settles(rt, alloc, halls, seats);
+        let came = self.comes(rt, alloc, &halls, &mut seat);
+        same(rt, (came.fake.out, seat.clients()), (0, clients));
+        seats.push(seat).expect(rt, "memory");
+        let steps = settles(rt, alloc, halls, seats);
+        is_as_wanted(rt, &came, &self, steps);
     }
 
     /// The client, which has come, asks for its key, the launch is brought to its end, and the client is told what came of it.
@@ -163,11 +160,17 @@ pub fn settles<N: Names>(
     total.steps
 }
 
-/// What the fake has when its children are back.
-fn is_as_wanted<R: Abort>(rt: &R, fake: &Fake, handling: &Handling) {
-    same(rt, (fake.out, fake.deepest), (0, handling.deepest));
+/// What came of it is what the handling says. What differs where memory was lacking is compared first, and told together.
+fn is_as_wanted<R: Abort>(rt: &R, came: &Came, handling: &Handling, steps: u64) {
+    let fake = &came.fake;
+    let wanted = handling.steps.unwrap_or(steps);
+    same(
+        rt,
+        (steps, came.driven, came.outcome, fake.words.as_slice()),
+        (wanted, handling.driven, handling.outcome, handling.words),
+    );
+    same(rt, fake.deepest, handling.deepest);
     same(rt, fake.failed, u64::from(handling.fuse.is_some()));
-    same(rt, fake.words.as_slice(), handling.words);
     if let Some(told) = handling.told {
         same(rt, fake.told.as_slice(), told);
     }

@@ -141,6 +141,7 @@ pub const PLAIN: Handling = Handling {
     deepest: 1,
     words: b"/bin/h 12 ",
     told: None,
+    steps: None,
 };
 
 /// A piped one.

@@ -1,29 +1,31 @@
-//! Growths that are refused: a call makes no step then, and nothing that is owed wants memory.
+//! A client from its coming to its end: what each step is answered, and what comes of growths that are refused: a call makes no step then, and nothing that
+//! is owed wants memory.
 //!
-//! With ample memory a client only goes its path. tests/test_growths.py plays it with growths refused: at the first call that is refused the client goes.
+//! With ample memory it goes its whole path. tests/test_growths.py plays it with growths refused: at the first call that is refused the client goes.
 //! Whatever it came to, the records agree with the receipts; last the steps are compared with those of the whole path, so that both are told.
 ghost use Rattle.rk_hall.specs.Seats.{IsCall};
 
+use crate::answers::Said;
 use crate::asks::{CLIENT, hello, payload, request};
 use crate::fakes::still::NOW;
 use crate::halls::calls::refuse_launch;
 use crate::halls::opening::{Scene, in_new_halls};
-use crate::halls::paths::{all, collects, ends, goes, keep, negates, runs};
+use crate::halls::paths::{all, collects, ends, goes, keep, negates, runs, say, strays};
 use crate::same::same;
 use rk_hall::{CallFault, Called, HallNo, Halls, Launch, Names, Receipt, Seat, Volume, settle};
 use rk_machine::{Event, How};
 use rk_message::Ask;
-use rk_names::Payload;
+use rk_names::{Errno, Payload};
 use std::alloc::{AllocError, Global};
 use std::process::Abort;
 use std::sync::Wait;
 
-/// The path of a client whose piped handler exits with this status, in so many steps: with 0 its key is made, else another handler follows, which can't be
-/// started.
+/// The path of a client whose piped handler exits with this status: with 0 its key is made, else another handler follows, which can't be started.
 #[derive(Clone, Copy)]
 pub struct Growths {
     status: u8,
-    steps: u64,
+    /// What each step of the whole path is answered.
+    answers: &'static [Said],
 }
 
 /// What wants memory on the path, beside the calls and the receipts.
@@ -39,13 +41,14 @@ impl Growths {
         let mut seats = Vec::with_capacity(alloc, 1).expect(rt, "memory");
         let mut receipts = Vec::with_capacity(alloc, 8).expect(rt, "memory");
         let mut seat = halls.seat(rt).expect(rt, "a seat");
+        strays(rt, &halls, &mut seat);
         self.follow(rt, alloc, &halls, &mut seat, &mut receipts);
+        same(rt, seat.clients(), 0);
         seats.push(seat).expect(rt, "memory");
         let none: Vec<Volume<N>> = Vec::new(alloc);
-        let steps = receipts.len() as u64;
         let settled = settle(halls, &none, seats, &receipts);
-        same(rt, settled, Ok(all(steps)));
-        same(rt, steps, self.steps);
+        same(rt, settled, Ok(all(receipts.len() as u64)));
+        say(rt, &receipts, self.answers);
     }
 
     /// The path.
@@ -156,7 +159,15 @@ fn tries<N: Names, R: Wait + Abort>(
 fn growths_of_a_key_that_is_made(rt: HostRuntime) {
     let made = Growths {
         status: 0,
-        steps: 7,
+        answers: &[
+            Said::Number(0),
+            Said::Rings(4, 8),
+            Said::Start(12),
+            Said::Number(0),
+            Said::Number(0),
+            Said::Number(12),
+            Said::Number(0),
+        ],
     };
     in_new_halls(&rt, rt.alloc(), 100, Scene::Growths(made));
 }
@@ -165,7 +176,16 @@ fn growths_of_a_key_that_is_made(rt: HostRuntime) {
 fn growths_of_a_second_handler(rt: HostRuntime) {
     let followed = Growths {
         status: 1,
-        steps: 8,
+        answers: &[
+            Said::Number(0),
+            Said::Rings(4, 8),
+            Said::Start(12),
+            Said::Number(0),
+            Said::Negate(12),
+            Said::Number(0),
+            Said::Refused(Errno::Enokey),
+            Said::Number(0),
+        ],
     };
     in_new_halls(&rt, rt.alloc(), 100, Scene::Growths(followed));
 }

@@ -1,10 +1,8 @@
 //! Halls of new ledgers, for a scene of their own.
 ghost use Rattle.std.specs.Prelude.{◌≡◌, ◌≤◌};
 
-use crate::children::growths::Lacking;
 use crate::children::handling::Handling;
 use crate::halls::growths::Growths;
-use crate::halls::paths::Path;
 use crate::halls::settling::{SixSteps, Volumes, hears};
 use crate::threads::together::SideBySide;
 use rk_hall::{Fresh, Halls, Names};
@@ -17,14 +15,12 @@ use std::thread::Threads;
 /// What is done in halls of its own, from their opening to their end.
 #[derive(Clone, Copy)]
 pub enum Scene {
-    Path(Path),
     SixSteps(SixSteps),
     Hears,
     Volumes(Volumes),
     SideBySide(SideBySide),
     Growths(Growths),
     Handling(Handling),
-    Lacking(Lacking),
 }
 
 impl Scene {
@@ -35,14 +31,12 @@ impl Scene {
         halls: Halls<N>,
     ) {
         match self {
-            Scene::Path(path) => path.play(rt, alloc, halls),
             Scene::SixSteps(steps) => steps.play(rt, alloc, halls),
             Scene::Hears => hears(rt, alloc, halls),
             Scene::Volumes(volumes) => volumes.play(rt, alloc, halls),
             Scene::SideBySide(threads) => threads.play(rt, alloc, halls),
             Scene::Growths(growths) => growths.play(rt, alloc, halls),
             Scene::Handling(handling) => handling.play(rt, alloc, halls),
-            Scene::Lacking(lacking) => lacking.play(rt, alloc, halls),
         }
     }
 }

@@ -12,7 +12,7 @@ use std::alloc::{AllocError, Global};
 use std::time::Clock;
 
 /// The call of a wire that fails, counted from 1.
-#[derive(Clone, Copy, PartialEq, Eq, Debug)]
+#[derive(Clone, Copy, PartialEq, Eq)]
 pub enum Cut {
     Read(u64),
     Write(u64),

@@ -95,20 +95,13 @@ struct Left<N: Names> {
     noted: Vec<Receipt>,
 }
 
-/// What came of a session.
+/// What came of a session, without what it was lent.
 #[derive(Drop)]
-struct Came<'a, R> {
-    served: Served,
-    line: Line<'a, R>,
-    launcher: Fake,
-}
-
-/// What came of a session that was alone, without what it was lent.
-#[derive(Drop)]
-struct Alone {
+struct Came {
     served: Served,
     said: Vec<u8>,
     noted: Vec<Receipt>,
+    story: Vec<u8>,
     words: Vec<u8>,
     out: u64,
 }
@@ -137,7 +130,7 @@ fn serves<'a, N: Names, R: Wait + Abort + Clock>(
     part: &Part<'a>,
     scene: &Scene,
     turns: &'a Turns,
-) -> Came<'a, R> {
+) -> Came {
     let conf = Conf::read(alloc, scene.conf).expect(rt, "lines");
     let frames = Frames::new(alloc).expect(rt, "memory");
     let launcher = Fake::new(alloc, scene.programs, 1_000, scene.fuse);
@@ -166,23 +159,33 @@ fn serves<'a, N: Names, R: Wait + Abort + Clock>(
         &gate,
         &Bin,
     );
+    let Line {
+        said,
+        noted,
+        story,
+        ..
+    } = line;
+    let Fake { words, out, .. } = launcher;
     Came {
         served,
-        line,
-        launcher,
+        said,
+        noted,
+        story,
+        words,
+        out,
     }
 }
 
 /// What came of a session is what its part says.
-fn is_as_wanted<R>(rt: &impl Abort, part: &Part, came: &Came<R>) {
+fn is_as_wanted(rt: &impl Abort, part: &Part, came: &Came) {
     same(rt, came.served, part.served);
-    let said = is_said(&came.line.said, part.replies, part.repeats);
+    let said = is_said(&came.said, part.replies, part.repeats);
     same(rt, said, true);
     if let Some(story) = part.story {
-        same(rt, came.line.story.as_slice(), story);
+        same(rt, came.story.as_slice(), story);
     }
-    same(rt, came.launcher.words.as_slice(), part.words);
-    same(rt, came.launcher.out, 0);
+    same(rt, came.words.as_slice(), part.words);
+    same(rt, came.out, 0);
 }
 
 /// Serves a session that may not be there, and compares what came of it.
@@ -199,7 +202,7 @@ fn may_serve<N: Names, R: Wait + Abort + Clock>(
     let mut seat = halls.seat(rt)?;
     let came = serves(rt, alloc, halls, &mut seat, client, &part, scene, turns);
     is_as_wanted(rt, &part, &came);
-    let Line { noted, .. } = came.line;
+    let Came { noted, .. } = came;
     Some(Left { seat, noted })
 }
 
@@ -296,33 +299,6 @@ fn plays<N: Names + Send + Sync, R: Wait + Abort + Threads + Clock + Sync>(
     same(rt, settled, Ok(all(scene.steps)));
 }
 
-/// Serves a session to its end, and keeps what came of it without what it was lent.
-fn serves_alone<'a, N: Names, R: Wait + Abort + Clock>(
-    rt: &'a R,
-    alloc: Global,
-    halls: &Halls<N>,
-    seat: &mut Seat<N>,
-    part: &Part<'a>,
-    scene: &Scene,
-    turns: &'a Turns,
-) -> Alone {
-    let came = serves(rt, alloc, halls, seat, 1, part, scene, turns);
-    let Came {
-        served,
-        line,
-        launcher,
-    } = came;
-    let Line { said, noted, .. } = line;
-    let Fake { words, out, .. } = launcher;
-    Alone {
-        served,
-        said,
-        noted,
-        words,
-        out,
-    }
-}
-
 /// The first session alone, as far as memory reaches. Whatever it came to, the records agree with its seat and the receipts; last what came of it is compared.
 fn lacks<N: Names, R: Wait + Abort + Clock>(
     rt: &R,
@@ -334,23 +310,27 @@ fn lacks<N: Names, R: Wait + Abort + Clock>(
     let part = scene.first;
     let mut seats = Vec::with_capacity(alloc, 1).expect(rt, "memory");
     let mut seat = halls.seat(rt).expect(rt, "a seat");
-    let Alone {
-        served,
-        said,
-        noted,
-        words,
-        out,
-    } = serves_alone(rt, alloc, &halls, &mut seat, &part, scene, turns);
-    same(rt, (out, seat.clients(), turns.late()), (0, 0, 0));
+    let came = serves(rt, alloc, &halls, &mut seat, 1, &part, scene, turns);
+    same(rt, (came.out, seat.clients(), turns.late()), (0, 0, 0));
     seats.push(seat).expect(rt, "memory");
     let none: Vec<Volume<N>> = Vec::new(alloc);
-    let total = settle(halls, &none, seats, &noted).expect(rt, "a total");
+    let total = settle(halls, &none, seats, &came.noted).expect(rt, "a total");
     same(rt, total, all(total.live));
-    let wanted = *part.replies.first().expect(rt, "replies");
+    is_as_far(rt, &part, scene.steps, &came, total.steps);
+}
+
+/// What came of a session that may have lacked memory, told together.
+fn is_as_far(rt: &impl Abort, part: &Part, wanted: u64, came: &Came, steps: u64) {
+    let replies = *part.replies.first().expect(rt, "replies");
     same(
         rt,
-        (total.steps, served, said.as_slice(), words.as_slice()),
-        (scene.steps, part.served, wanted, part.words),
+        (
+            steps,
+            came.served,
+            came.said.as_slice(),
+            came.words.as_slice(),
+        ),
+        (wanted, part.served, replies, part.words),
     );
 }
 
