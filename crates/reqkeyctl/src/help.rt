@@ -205,30 +205,33 @@ fn command<'a>(
     names: &'a [String],
     after: &'a str,
 ) -> Result<Command<'a>, AllocError> {
-    let top = Command::new(alloc, "reqkeyctl")
-        .version(VERSION)
-        .about(ABOUT)
-        .after_help(after)
-        .subcommand_required(true)
-        .disable_help_subcommand(true);
-    let mut command = with_options(alloc, top)?;
+    let mut command = top(alloc, after)?;
     for (shape, name) in AskShape::all().iter().zip(names) {
         command = command.subcommand(subcommand(alloc, shape, name.as_str())?)?;
     }
     command.subcommand(run(alloc)?)
 }
 
+/// The program with its options.
+fn top<'a>(alloc: Global, after: &'a str) -> Result<Command<'a>, AllocError> {
+    let top = Command::new(alloc, "reqkeyctl")
+        .version(VERSION)
+        .about(ABOUT)
+        .after_help(after)
+        .subcommand_required(true)
+        .disable_help_subcommand(true);
+    let raw = Arg::new(alloc, "raw")
+        .long("raw")
+        .action(ArgAction::SetTrue);
+    with_options(alloc, top, &OPTIONS)?.arg(raw.help(
+        "Write the bytes of a reply as they are, with no newline",
+    ))
+}
+
 /// `run` with its options, and the program behind `--`.
 fn run<'a>(alloc: Global) -> Result<Command<'a>, AllocError> {
-    let mut command = Command::new(alloc, "run").about(RUN).after_help(AFTER_RUN);
-    for (name, value, help) in &RUN_OPTIONS {
-        command = command.arg(
-            Arg::new(alloc, name)
-                .long(name)
-                .value_name(value)
-                .help(help),
-        )?;
-    }
+    let run = Command::new(alloc, "run").about(RUN).after_help(AFTER_RUN);
+    let command = with_options(alloc, run, &RUN_OPTIONS)?;
     let program = Arg::new(alloc, "program").required(true).last(true);
     command.arg(program.num_args(1..).help("The program and its words"))
 }
@@ -259,10 +262,14 @@ const OPTIONS: [(&str, &str, &str); 6] = [
     ),
 ];
 
-/// The command line with the options.
-fn with_options<'a>(alloc: Global, top: Command<'a>) -> Result<Command<'a>, AllocError> {
-    let mut command = top;
-    for (name, value, help) in &OPTIONS {
+/// The command with these options.
+fn with_options<'a>(
+    alloc: Global,
+    bare: Command<'a>,
+    options: &'static [(&'static str, &'static str, &'static str)],
+) -> Result<Command<'a>, AllocError> {
+    let mut command = bare;
+    for (name, value, help) in options {
         command = command.arg(
             Arg::new(alloc, name)
                 .long(name)
@@ -270,10 +277,7 @@ fn with_options<'a>(alloc: Global, top: Command<'a>) -> Result<Command<'a>, Allo
                 .help(help),
         )?;
     }
-    let raw = Arg::new(alloc, "raw")
-        .long("raw")
-        .action(ArgAction::SetTrue);
-    command.arg(raw.help("Write the bytes of a reply as they are, with no newline"))
+    Ok(command)
 }
 
 /// The subcommand of an ask: its fields are its arguments, a callout the last one.
