@@ -2,6 +2,7 @@
 import os
 import re
 import signal
+import time
 
 import protocol_peer as ask
 from daemon import Daemon
@@ -72,6 +73,18 @@ def macros(program):
         words = (daemon.room / "words.txt").read_text().split("\n")[:-1]
         want = ["create", "16", "user", "m:1", "a callout", "1000", "1000", "0", "0", "4", "a payload", "%k", "x%k"]
         return differs((outcome, words), ("E126", want))
+
+
+def expired(program):
+    """The payload of a key that has expired is no word of a command: no handler starts."""
+    with Daemon(program, "create user m:* * %room/starts %{user:other}\n") as daemon, daemon.client() as client:
+        daemon.script("starts", "#!/bin/sh\ntouch %room/started\n")
+        key = client.ask(ask.add(b"user", b"other", b"a payload", -4))
+        client.ask(ask.timeout(key, 1))
+        while (read := client.ask(ask.on_key(7, key))) == b"a payload":
+            time.sleep(0.05)
+        outcome = client.ask(ask.request(b"user", b"m:1", b"x", -4))
+        return differs((read, outcome, (daemon.room / "started").exists()), ("E127", "E126", False))
 
 
 def as_client(program):
@@ -192,6 +205,7 @@ def document(program):
 
 def cases():
     for name, try_it in [("two runs and the end", first), ("a script as a handler", scripted), ("a nested request", nested), ("a line for negate", negated),
-                         ("keys that are decided otherwise", decided), ("what a handler has of the daemon", of_the_daemon), ("macros", macros), ("each subcommand", as_client), ("a session ring that is joined", joined),
+                         ("keys that are decided otherwise", decided), ("what a handler has of the daemon", of_the_daemon), ("macros", macros),
+                         ("a macro of a key that has expired", expired), ("each subcommand", as_client), ("a session ring that is joined", joined),
                          ("each subcommand in a handler", as_handler), ("the example of the protocol", document)]:
         yield name, try_it
