@@ -72,6 +72,10 @@ class Trial:
         why = "no function in which it stands has an open goal of its own"
         try:
             refused |= self.refused(batch)
+            # (the goals of a function that calls one without a proof are not looked at)
+            left = [edit for edit in [*batch, *alone] if edit.name not in refused]
+            if len(left) > 1 and stand_apart(left):
+                refused |= self.refused(left)
             for edit in edits:
                 if edit.name not in refused:
                     refused |= self.refused([edit])
@@ -80,6 +84,12 @@ class Trial:
         shutil.rmtree(self.crate)
         shutil.rmtree(self.kept, ignore_errors=True)
         return len(refused), [*faults, *(f"{self.name}/{edit.name}: {why}" for edit in edits if edit.name not in refused)]
+
+
+def stand_apart(edits):
+    """Whether no two of the edits stand in one function, and each stands in some."""
+    places = [place for edit in edits for place in edit.functions()]
+    return all(edit.functions() for edit in edits) and len(places) == len({*places})
 
 
 def crate_words(name, built):
