@@ -402,14 +402,25 @@ def serve(options):
             for who, server in found.items():
                 row([who, *[f"{resident_after(server, asks):,}" for asks in ("10000", "1000000")]])
         finally:
-            for server in found.values():
-                server.end()
+            end_all(found)
         working(pathlib.Path(name), options)
 
 
 def peers_at_work(folder):
-    """The peer, without more to do for an ask, and with so many nanoseconds of work."""
-    return {nanos: Server([peer("echo"), folder / f"echo-{nanos}", 64, nanos], folder / f"echo-{nanos}") for nanos in ["0", *WORK]}
+    """The peer, without more to do for an ask, and with so many nanoseconds of work. Where one doesn't start, those that did are ended."""
+    found = {}
+    try:
+        for nanos in ["0", *WORK]:
+            found[nanos] = Server([peer("echo"), folder / f"echo-{nanos}", 64, nanos], folder / f"echo-{nanos}")
+    except BaseException:
+        end_all(found)
+        raise
+    return found
+
+
+def end_all(servers):
+    for server in servers.values():
+        server.end()
 
 
 def working(folder, options):
@@ -424,8 +435,7 @@ def working(folder, options):
                 counts = {nanos: rate for nanos, (rate, _) in best.items()}
                 row([count, f"{counts['0']:,}", *[f"{counts[nanos] / counts['0']:.2f}" for nanos in WORK]])
     finally:
-        for server in found.values():
-            server.end()
+        end_all(found)
 
 
 def resident_after(server, asks):

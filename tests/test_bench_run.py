@@ -52,6 +52,30 @@ def fake(programs):
     }
 
 
+def ended_peers():
+    """Which peers that had started are ended, where the third one does not start."""
+    ended = []
+
+    class Started(Server):
+        def __init__(self, words, _):
+            if words[-1] == run.WORK[1]:
+                raise run.Wrong("it does not serve")
+            self.nanos = words[-1]
+
+        def end(self):
+            ended.append(self.nanos)
+
+    kept, run.Server = (run.Server, run.peer), Started
+    run.peer = lambda name: name
+    try:
+        run.peers_at_work(pathlib.Path("folder"))
+    except run.Wrong:
+        return ended
+    finally:
+        run.Server, run.peer = kept
+    return "all have started"
+
+
 def told(programs, bench):
     """The status of a run, what it printed, and the file that it drew."""
     vars(run).update(fake(programs))
@@ -77,6 +101,7 @@ BARS = {
     "serve": (["64 connections: 0.50", "8 connections: 1.00"], None),
 }
 
+count.same("peers that are ended where one doesn't start", ended_peers(), ["0", run.WORK[0]])
 count.same("benches", sorted(BARS), sorted(run.figures.BENCHES))
 for bench, (both, alone) in BARS.items():
     status, printed, files = told([OURS, PEER], bench)
