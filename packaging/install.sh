@@ -24,7 +24,7 @@ put() {
     fi
 }
 
-# The same for a text that names what is installed.
+# The same for a text, which names what is installed as it lies below /usr/local.
 put_text() {
     sed "s|/usr/local/|$PREFIX/|g" "$1" > "$room/text"
     put 644 "$room/text" "$2"
@@ -43,7 +43,7 @@ everything() {
         put 644 "packaging/completion/_$name" "$ZSH_DIR/_$name"
     done
     for name in man/*; do
-        put 644 "$name" "$share/man/man${name##*.}/${name##*/}"
+        put_text "$name" "$share/man/man${name##*.}/${name##*/}"
     done
     for name in system user; do
         put_text "packaging/systemd/$name/reqkeyd.service" "$PREFIX/lib/systemd/$name/reqkeyd.service"

@@ -105,6 +105,14 @@ def used(name, prefix, python=PYTHON):
     count.same(f"{name}: keyutils' library", run(sys.executable, "-c", f"import ctypes; ctypes.CDLL('{library}').add_key"), (0, "", ""))
 
 
+def texts(root):
+    """The manual pages, units and examples below a folder: the name of each, and what it says."""
+    kinds = ["share/man/*/*.gz", "lib/systemd/*/*.service", "share/doc/reqkeyd/examples/*", "share/bash-completion/completions/*"]
+    for path in [path for kind in kinds for path in root.glob(f"usr/{kind}")]:
+        data = path.read_bytes()
+        yield path.name, (gzip.decompress(data) if path.suffix == ".gz" else data).decode()
+
+
 def verified(prefix):
     """What systemd itself finds in the units, which name the programs below this prefix."""
     if not shutil.which("systemd-analyze"):
@@ -126,6 +134,8 @@ def by_make(ours, room):
     options = [f"BUILT={ours}", f"DESTDIR={root}", f"PYTHON_DIR=/usr/local/{PYTHON}"]
     count.same("make install", make("install", *options), (0, ""))
     count.same("what is installed", files(root), {f"usr/local/{name}": mode for name, mode in FILES.items()})
+    page = root / "usr" / "local" / "share" / "man" / "man8" / "reqkeyd.8"
+    count.same("manual page below /usr/local", page.read_bytes(), (top / "man" / "reqkeyd.8").read_bytes())
     named = [line for path in root.rglob("reqkeyd.service") for line in path.read_text().split("\n") if line.startswith("ExecStart=/usr/local/bin/reqkeyd ")]
     count.same("programs of the units", len(named), 2)
     other = root / "usr" / "local" / "share" / "doc" / "reqkeyd" / "NOTES"
@@ -173,7 +183,9 @@ def by_package(ours, room):
     wanted = {f"usr/{name}".replace(ZSH, "share/zsh/vendor-completions") + (".gz" if "/man/" in name else ""): mode for name, mode in FILES.items()}
     count.same("files of the package", files(root), wanted | {"usr/share/doc/reqkeyd/copyright": 0o644})
     page = root / "usr" / "share" / "man" / "man8" / "reqkeyd.8.gz"
-    count.same("manual page", gzip.decompress(page.read_bytes()), (top / "man" / "reqkeyd.8").read_bytes())
+    written = (top / "man" / "reqkeyd.8").read_text()
+    count.same("manual page", gzip.decompress(page.read_bytes()).decode(), written.replace("/usr/local/", "/usr/"))
+    count.same("what names another prefix", [name for name, text in texts(root) if "/usr/local" in text], [])
     commands = [line for path in root.rglob("reqkeyd.service") for line in path.read_text().split("\n") if line.startswith("ExecStart=/usr/bin/reqkeyd ")]
     count.same("programs of its units", len(commands), 2)
     count.same("control of the package", run("dpkg-deb", "--control", package, room / "control"), (0, "", ""))
