@@ -56,7 +56,6 @@ REFUSING(int, listen, (int file, int waiting), (file, waiting))
 REFUSING(int, chmod, (const char *path, mode_t mode), (path, mode))
 REFUSING(int, pipe2, (int ends[2], int flags), (ends, flags))
 REFUSING(pid_t, waitpid, (pid_t child, int *status, int options), (child, status, options))
-REFUSING(int, waitid, (idtype_t kind, id_t child, siginfo_t *status, int options), (kind, child, status, options))
 
 int open(const char *path, int flags, ...) {
     va_list more;

@@ -14,7 +14,7 @@ AT_START = ["open", "read", "getentropy", "socket", "bind", "listen", "chmod"]
 
 # of each call what may come in place of a reply: no key, since a start or a handler has failed, or the end of a connection
 LATER = {
-    "pipe2": ["E126"], "posix_spawn": ["E126"], "waitpid": ["E126"], "waitid": ["E126"], "read": ["E126"], "write": ["E126"],
+    "pipe2": ["E126"], "posix_spawn": ["E126"], "waitpid": ["E126"], "read": ["E126"], "write": ["E126"],
     "recv": [None], "send": [None], "accept4": [],
 }
 
@@ -54,6 +54,11 @@ def play(daemon, name):
     return replies + nested(daemon, name) + negated(daemon, name)
 
 
+def never(call):
+    """What is wrong where not even the first call of its name was refused: then nothing was tried."""
+    return f"{call} is never called"
+
+
 def at_start(program, call, code):
     """A call fails that the daemon makes before it serves: it says what is amiss, with status 1, and can be started again; or it serves all the same."""
     for count in range(1, 1000):
@@ -66,7 +71,7 @@ def at_start(program, call, code):
                 daemon.start()
                 until(lambda: daemon.lines, "the ready line")
             elif not met(daemon):
-                return None
+                return never(call) if count == 1 else None
             if wrong := daemon.lives():
                 return f"{call} {count}: {wrong}"
     return "it never ends"
@@ -84,6 +89,8 @@ def later(program, call, code, may):
                 if wrong:
                     return f"{call} {count}, {wrong}"
                 more = met(daemon)
+        if not more and count == 1:
+            return never(call)
         count += 1 if "EVERY" in os.environ else 1 + count // 3
     return None
 

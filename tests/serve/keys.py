@@ -2,10 +2,9 @@
 import os
 import re
 import signal
-import time
 
 import protocol_peer as ask
-from daemon import Daemon
+from daemon import Daemon, until
 from programs import differs, top
 
 SCRIPT = '#!/bin/sh\n%ctl assume "$1" && %ctl instantiate "$1" made none\n'
@@ -81,8 +80,7 @@ def expired(program):
         daemon.script("starts", "#!/bin/sh\ntouch %room/started\n")
         key = client.ask(ask.add(b"user", b"other", b"a payload", -4))
         client.ask(ask.timeout(key, 1))
-        while (read := client.ask(ask.on_key(7, key))) == b"a payload":
-            time.sleep(0.05)
+        read = until(lambda: (now := client.ask(ask.on_key(7, key))) != b"a payload" and now, "the expiry of the key")
         outcome = client.ask(ask.request(b"user", b"m:1", b"x", -4))
         return differs((read, outcome, (daemon.room / "started").exists()), ("E127", "E126", False))
 
