@@ -3,7 +3,7 @@
 
 Each crate whose files, or those of a crate below it, are not those that passed last time is laid out, proved over what earlier checks kept, and its tests
 are run before any proof of theirs. Then the edits of those crates that changed themselves are tried, and, where a program changed, the test programs of
-this folder. It is for daily use and no verdict: `make check` proves everything from nothing.
+this folder; those that play what documents show also where these changed. It is for daily use and no verdict: `make check` proves everything from nothing.
 """
 import hashlib
 import os
@@ -14,7 +14,13 @@ import time
 import crates
 
 kept = crates.top / "build" / "quick"
-OF_PROGRAMS = ["replay", "replay_growths", "words", "pick", "client", "clients", "keyutils", "serve", "manuals", "completion", "install"]
+OF_PROGRAMS = ["replay", "replay_growths", "words", "pick", "client", "clients", "keyutils", "serve", "manuals", "completion", "install",
+               "record", "demo"]
+# what those that play what documents show are made of, beside the programs
+OF_DOCUMENTS = {
+    "record": ["tests/test_record.py", "docs/RECORD.md"],
+    "demo": ["tests/test_demo.py", "README.md", "docs/RECORD.md", "Makefile", "examples", "tools/script.py"],
+}
 
 
 def call(*words, cwd=crates.top, **more):
@@ -33,6 +39,29 @@ def is_kept(name, state):
 def keep(name, state):
     kept.mkdir(parents=True, exist_ok=True)
     (kept / name).write_text(state)
+
+
+def digest_of(names):
+    """What these files, and those in these folders, are, in one number."""
+    files = sorted(it for name in names for it in [crates.top / name, *(crates.top / name).rglob("*")] if it.is_file() and it.suffix != ".pyc")
+    return hashlib.sha256(b"".join(hashlib.sha256(f"{it} ".encode() + it.read_bytes()).digest() for it in files)).hexdigest()
+
+
+def tries_programs(built):
+    """What is wrong with the built programs and what documents show of them, or None: all is tried where a program was built anew, else what changed."""
+    shown = {name: digest_of(sources) for name, sources in OF_DOCUMENTS.items()}
+    tests = OF_PROGRAMS if built else [name for name, state in shown.items() if not is_kept(f"{name}.sources", state)]
+    if not tests:
+        return None
+    print(f"building the programs and running {' '.join(f'test_{name}' for name in tests)}", flush=True)
+    if not call("make"):
+        return "a program is not built"
+    programs = {**os.environ, "PROGRAMS": "build"}
+    if not all(call(f"tests/test_{name}.py", env=programs) for name in tests):
+        return "a test of a program failed"
+    for name, state in shown.items():
+        keep(f"{name}.sources", state)
+    return None
 
 
 def proves(name, folder):
@@ -63,13 +92,8 @@ def main():
             return "an edit is let through"
         for name, own in edited:
             keep(f"{name}.edits", own)
-    if built:
-        print("building the programs and running their tests", flush=True)
-        if not call("make"):
-            return "a program is not built"
-        programs = {**os.environ, "PROGRAMS": "build"}
-        if not all(call(f"tests/test_{it}.py", env=programs) for it in OF_PROGRAMS):
-            return "a test of a program failed"
+    if wrong := tries_programs(built):
+        return wrong
     print("nothing that changed fails")
     return 0
 

@@ -1,9 +1,13 @@
 #!/usr/bin/env python3
-"""Tries examples/demo.py on scripts of every kind, with tests/fake_replay.py in place of the program, and examples/serve.py on the built daemon."""
+"""Tries examples/demo.py on scripts of every kind, with tests/fake_replay.py in place of the program, and on the built daemon examples/serve.py and the
+commands that README.md and docs/RECORD.md show."""
+import os
 import pathlib
+import signal
 import subprocess
 import sys
 import tempfile
+import threading
 
 top = pathlib.Path(__file__).resolve().parent.parent
 sys.path.insert(0, str(top / "tools"))
@@ -14,6 +18,7 @@ from programs import PROGRAMS, client_of
 count = Counted()
 demo = top / "examples" / "demo.py"
 fake = top / "tests" / "fake_replay.py"
+LIMIT = 60
 
 FIRST_PATH = """
 A client connects.
@@ -164,23 +169,55 @@ def by_make(program):
     count.same(f"make demo, {program.name}", (ran.returncode, FIRST_PATH in ran.stdout, ran.stdout.endswith(SERVED)), (0, True, True))
 
 
-def by_hand(program):
-    """The commands of README, with what they print there."""
-    block = next(it for it in (top / "README.md").read_text().split("```\n") if it.startswith("$ echo"))
-    got, started = [], None
-    with tempfile.TemporaryDirectory() as room:
-        for line in [line for line in block.splitlines() if line.startswith("$ ")]:
-            words = line[2:].replace("/tmp/", f"{room}/").replace("build/reqkeyd", str(program)).replace("build/reqkeyctl", str(client_of(program)))
-            got.append(line)
-            if words.endswith("&"):
-                started = subprocess.Popen(f"exec {words[:-1]}", shell=True, stderr=subprocess.PIPE, text=True)
-                got.append(started.stderr.readline().rstrip("\n"))
-            else:
-                ran = subprocess.run(words, shell=True, stdout=subprocess.PIPE, stderr=subprocess.STDOUT, text=True, timeout=60)
-                got += ran.stdout.splitlines()
-        status = started.wait(60)
-        started.stderr.close()
-    count.same(f"README by hand, {program.name}", (got, status), (block.splitlines(), 0))
+def shown_runs(document):
+    """The commands of the blocks of a document that show runs, each with the lines that it prints there."""
+    blocks = [it for it in document.read_text().split("```\n")[1::2] if it.startswith("$ ")]
+    runs = [it.splitlines() for block in blocks for it in block.removeprefix("$ ").split("\n$ ")]
+    return [(command, lines) for command, *lines in runs]
+
+
+class Shell:
+    """A shell in a folder of its own, which has build/ and in the place of /tmp. It is ended where a command takes LIMIT seconds."""
+
+    def __init__(self, room, program):
+        self.room = room
+        (room / "build").mkdir()
+        (room / "build" / "reqkeyd").symlink_to(program)
+        (room / "build" / "reqkeyctl").symlink_to(client_of(program))
+        streams = {"stdin": subprocess.PIPE, "stdout": subprocess.PIPE, "stderr": subprocess.STDOUT}
+        self.process = subprocess.Popen(["bash", "--norc"], cwd=room, text=True, start_new_session=True, **streams)
+        self.guard = threading.Timer(LIMIT, os.killpg, (self.process.pid, signal.SIGKILL))
+        self.guard.start()
+
+    def __enter__(self):
+        return self
+
+    def __exit__(self, *_):
+        self.process.stdin.close()
+        self.process.wait()
+        self.guard.cancel()
+        self.process.stdout.close()
+
+    def run(self, command, count=0):
+        """What is printed until the command has ended, and until there are so many lines: one that goes on in the background prints when it can."""
+        self.process.stdin.write(command.replace("/tmp/", f"{self.room}/") + "\necho END\n")
+        self.process.stdin.flush()
+        lines, ended = [], False
+        while not ended or len(lines) < count:
+            if not (line := self.process.stdout.readline()):
+                return [*lines, "(the shell has ended)"]
+            ended |= line == "END\n"
+            lines += [line.rstrip("\n")] if line != "END\n" else []
+        return lines
+
+
+def by_hand(program, name):
+    """The commands that a document shows, with what they print there; the daemon that was started among them ends by itself."""
+    runs = shown_runs(top / name)
+    with tempfile.TemporaryDirectory() as room, Shell(pathlib.Path(room), program) as shell:
+        for command, lines in runs:
+            count.same(f"{name} by hand, {program.name}, {command}", shell.run(command, len(lines)), lines)
+        count.same(f"the end of {name} by hand, {program.name}", shell.run("wait $!; echo $?"), ["0"])
 
 
 for words, want, status in SHOWN:
@@ -198,7 +235,8 @@ for program in PROGRAMS:
     ran = subprocess.run([serve, program], capture_output=True, text=True, timeout=60)
     count.same(f"{serve.name} {program.name}", (ran.stdout, ran.returncode, ran.stderr), (SERVED, 0, ""))
     by_make(program)
-    by_hand(program)
+    for name in ["README.md", "docs/RECORD.md"]:
+        by_hand(program, name)
 for command, told in [(["/nothing/there"], "No such file"), (["false"], "did not start"), (["echo"], "did not start"), ([], "usage: serve.py COMMAND ..")]:
     ran = subprocess.run([serve, *command], capture_output=True, text=True, timeout=60)
     count.same(f"serve.py {command}", ("HELLO" in ran.stdout, ran.returncode, told in ran.stderr), (False, 1 if command else 2, True))
