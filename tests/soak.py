@@ -6,7 +6,7 @@ usage: soak.py [MINUTES [SEED]]
 Sixty-four clients at a time ask at random, come and go, and some vanish while they wait. Handlers make their keys, fail, hang until they are let go, and are
 killed. Every reply has to be of a kind that docs/PROTOCOL.md allows there, and all who read a key, which is made by one construction, read the same
 payload. At the end nobody waits, no descriptor, no child and no zombie is left, and the memory is what it was after the first tenth of the time and a bound.
-What the daemon has written of its record is a run of the machine, as `reqkeyd rejoin` tells.
+What the daemon has written of its record is a run of the machine, as `reqkeyd rejoin` tells, and each line that it says is one that docs and man/ tell.
 """
 import collections
 import os
@@ -54,8 +54,10 @@ ALLOWED = {
     13: ((), {0}), 14: (int, {"E22"}), 15: (int, {"E122"}), 255: ((), {"E22"}),
 }
 
-# what the daemon says: when it is ready, and sessions that were cut
-TOLD = ("reqkeyd: ready", "[WARN ")
+# what the daemon may say, whole lines: that it is ready, a volume that is not kept, clients that have vanished, and handlers that failed otherwise than by
+# their end
+WARNED = r"\[WARN  \S+\] (session [1-9][0-9]*: (ReadFault|WriteFault)|handler of key [1-9][0-9]*: (StartFailed|ReadFailed|WaitFailed))"
+TOLD = re.compile(rf"reqkeyd: ready|volume [0-3] [1-9][0-9]* [1-9][0-9]*|{WARNED}")
 
 
 class Soak:
@@ -200,7 +202,7 @@ def soak(program, minutes, seed, record):
             wrong.append(f"the memory has grown from {first} bytes to {last}")
         if lives := daemon.lives():
             wrong.append(lives)
-        wrong += [line for line in daemon.lines if not line.startswith(TOLD)]
+        wrong += [line for line in daemon.lines if not TOLD.fullmatch(line)]
         return wrong, all_of_it.replies, first, last
 
 
