@@ -4,7 +4,7 @@
  *
  * A client connects to the daemon's socket and says for whom it acts:
  *
- *     struct reqkey *session = reqkey_connect("/run/reqkeyd.socket");
+ *     struct reqkey *session = reqkey_connect("/run/reqkeyd/socket");
  *     const void *payload;
  *     int key, length;
  *

@@ -5,8 +5,8 @@
  *   write. Standard streams are moved away when the library is loaded, so that what a program reads and prints stays apart from the session, and the
  *   variable then names where they are, for the programs that it starts. While no authority is assumed, an ask that names a key tries to assume its
  *   authority first.
- * - Else the process is a client of the socket REQKEYD_SOCKET, for its effective uid and gid, in the session ring REQKEYD_JOIN, or in a new one. A child has
- *   a session of its own, in the same session ring. A connection that broke is made again by the next call.
+ * - Else the process is a client of the socket REQKEYD_SOCKET, as /run/reqkeyd/socket, for its effective uid and gid, in the session ring REQKEYD_JOIN, or in
+ *   a new one. A child has a session of its own, in the same session ring. A connection that broke is made again by the next call.
  *
  * A program that runs with more rights than its caller looks at none of these variables.
  */

@@ -2,7 +2,7 @@
 
 A client connects to the daemon's socket and says for whom it acts:
 
-    with reqkey.connect("/run/reqkeyd.socket", uid=1000) as session:
+    with reqkey.connect("/run/reqkeyd/socket", uid=1000) as session:
         key = session.request("user", "mail:joe", callout="letter", ring=reqkey.Ring.USER)
         print(session.read(key))
 
