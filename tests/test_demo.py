@@ -164,9 +164,11 @@ def beside(rows, words):
 
 
 def by_make(program):
-    """`make demo` shows the script, and then the daemon."""
+    """`make demo` shows the script, and then the daemon; and what README shows of it."""
     ran = subprocess.run(["make", "--no-print-directory", "-C", top, "demo", f"REQKEYD={program}"], capture_output=True, text=True, timeout=120)
     count.same(f"make demo, {program.name}", (ran.returncode, FIRST_PATH in ran.stdout, ran.stdout.endswith(SERVED)), (0, True, True))
+    excerpt = next(it for it in (top / "README.md").read_text().split("```\n")[1::2] if "\n..\n" in it)
+    count.same(f"README of make demo, {program.name}", [it for it in excerpt.split("..\n") if it not in ran.stdout], [])
 
 
 def shown_runs(document):
