@@ -192,10 +192,10 @@ class Daemon:
     these options besides, and is killed at the end if it still runs. Its standard error is read as it comes.
     """
 
-    def __init__(self, program, conf="", *options, files=None, mask=None, longest=None, ready=True, environment=None):
+    def __init__(self, program, conf="", *options, files=None, mask=None, longest=None, ignored=None, ready=True, environment=None):
         self.program, self.options, self.ready = program, options, ready
         self.client_program = client_of(program)
-        self.files, self.mask, self.longest, self.environment = files, mask, longest, environment
+        self.files, self.mask, self.longest, self.ignored, self.environment = files, mask, longest, ignored, environment
         self.conf_text = conf
         self.folder = tempfile.TemporaryDirectory(prefix="serve-")
         self.room = pathlib.Path(self.folder.name)
@@ -227,7 +227,7 @@ class Daemon:
         return path
 
     def narrow(self):
-        """What is set for the daemon alone: how many descriptors it may have, its mask of permissions, and how long a file of it may be."""
+        """What is set for the daemon alone: how many descriptors it may have, its mask of permissions, how long a file of it may be, an ignored signal."""
         if self.files:
             resource.setrlimit(resource.RLIMIT_NOFILE, (self.files, self.files))
         if self.mask is not None:
@@ -235,6 +235,8 @@ class Daemon:
         if self.longest:
             signal.signal(signal.SIGXFSZ, signal.SIG_IGN)
             resource.setrlimit(resource.RLIMIT_FSIZE, (self.longest, self.longest))
+        if self.ignored:
+            signal.signal(self.ignored, signal.SIG_IGN)
 
     def start(self):
         """Starts it, also once more after its end."""

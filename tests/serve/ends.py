@@ -384,6 +384,14 @@ def missing(program, line):
         return differs([client.ask(want(b"p:1")) for _ in range(3)], ["E126"] * 3) or daemon.lives()
 
 
+def ends_unknown(program):
+    """Where SIGCHLD is ignored nobody learns how a program has ended: a piped one makes no key, a plain one has made its own, and the daemon goes on."""
+    conf = "create user c:* * |/bin/cat\ncreate user h:* * %room/handler %k\n"
+    with Daemon(program, conf, ignored=signal.SIGCHLD) as daemon, daemon.client() as client:
+        daemon.script("handler", '#!/bin/sh\nexec 2> /dev/null\n%ctl assume "$1" && %ctl instantiate "$1" made none\n')
+        return differs(client.ask(want(b"c:1"), want(b"h:1")), ["E126", 16]) or daemon.lives()
+
+
 def chain(program):
     """Handlers that ask for one another's keys, eight deep; a ninth is refused. Then a circle is."""
     with Daemon(program, HELD, "--sessions", "1") as daemon, daemon.client() as client:
@@ -442,7 +450,7 @@ def nothing_left(program):
 
 def cases():
     for try_it in [client_killed, all_clients_killed, again_after, completed_and_killed, daemon_killed, terminated, no_asks, child_goes_on, replies_unread,
-                   handler_leaves, stopped, waits_and_dies, not_followed, warned, chain, many_wait, nothing_left]:
+                   handler_leaves, stopped, waits_and_dies, not_followed, warned, ends_unknown, chain, many_wait, nothing_left]:
         yield try_it.__name__.replace("_", " "), try_it
     for how in ["is killed", "ends", "rejects", "writes no frame", "closes its output", "is not started"]:
         yield f"a handler that is asked for by another one and {how}", inner_fails, how
