@@ -71,6 +71,21 @@ def of_daemon(program):
     count.same("names of pick", [it for it in [calls(program, "pick").partition("PATH ")[2]] if it not in synopsis], [])
 
 
+def variants(path, enum):
+    """The variants of an enum in a source file that have no values."""
+    body = (top / "crates" / path).read_text().partition(f"pub enum {enum} {{\n")[2].partition("\n}")[0]
+    return re.findall(r"^    (\w+),$", body, re.MULTILINE)
+
+
+def of_warnings():
+    """reqkeyd.8: each end of a session but the plain one, and each way in which a handler may fail."""
+    tags = tagged(sections("reqkeyd.8")["DIAGNOSTICS"])
+    ends = [f"session N: {it}" for it in variants("rk_session/src/serving.rt", "Served") if it != "Ended"]
+    fails = [f"handler of key N: {it}" for it in variants("rk_child/src/driven.rt", "Driven") if it.endswith("Failed")]
+    count.same("warnings of sessions", [tag for tag in tags if tag.startswith("session N: ") and tag != "session N: no memory"], ends)
+    count.same("warnings of handlers", [tag for tag in tags if tag.startswith("handler of key N: ")], fails)
+
+
 def of_client(program):
     """reqkeyctl.1: its options, its subcommands with their arguments, what the arguments are called, and the errors."""
     page, text = sections("reqkeyctl.1"), said(program, "--help")
@@ -117,6 +132,7 @@ if not shutil.which("groff"):
 for page in PAGES:
     alike(page)
 of_configuration()
+of_warnings()
 for name, compare in [("reqkeyd", of_daemon), ("reqkeyctl", of_client)]:
     program = built(name)[0]
     if program.exists():
