@@ -17,17 +17,23 @@ impl<P: OpenProcess + Drop> Unwaited<P> {
         }
     }
 
-    /// Keeps one, its pipes closed. Where there is no memory for it, it is let go.
+    /// Keeps one that still runs, its pipes closed. Where there is no memory for it, it is let go.
     pub fn keep(&mut self, child: Child<P>) {
         let mut child = child;
         drop(child.stdin.take());
         drop(child.stdout.take());
-        let _ = self.children.push(child);
+        if still_runs(&mut child) {
+            let _ = self.children.push(child);
+        }
     }
 
     /// Lets go of those that have ended meanwhile.
     pub fn let_ended_go(&mut self) {
-        self.children
-            .retain_mut(|child| !matches!(child.try_wait(), Ok(Some(_))));
+        self.children.retain_mut(|child| still_runs(child));
     }
+}
+
+/// Whether it has not ended yet. One that can't be asked was waited for already, so it has.
+fn still_runs<P: OpenProcess>(child: &mut Child<P>) -> bool {
+    matches!(child.try_wait(), Ok(None))
 }
