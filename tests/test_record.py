@@ -190,9 +190,28 @@ def full(program):
         return None if status == 1 and fault == "reqkeyd: hall 0, volume 1: it is missing" else f"{status} {lines} {fault}"
 
 
+def replaces_none(program):
+    """Files under the names of a volume have come to stand there: they stay as they are, the volume is told of, and the others are written."""
+    with tempfile.TemporaryDirectory() as folder:
+        room = pathlib.Path(folder)
+        others = [room / "hall-0-volume-000001", room / "hall-2-volume-000001.part"]
+        with Daemon(program, CONF, "--record", folder, "--clients", "1") as daemon:
+            for other in others:
+                other.write_text("another daemon's")
+            with Client(daemon.path, 1000):
+                pass
+            status, lines = daemon.end()
+        told = sorted(line[line.index("volume"):].partition(":")[0] for line in lines)
+        names = [f.name for f in volumes(folder)]
+        wanted = [others[0].name, "hall-1-volume-000001", others[1].name, "hall-3-volume-000001"]
+        if status != 0 or told != ["volume 0 1", "volume 2 1"] or names != wanted:
+            return f"{status} {lines} {names}"
+        return None if all(other.read_text() == "another daemon's" for other in others) else "replaced"
+
+
 CASES = [("a whole record is a run", whole), ("changed, cut, longer and doubled files are refused", changed), ("the example of the format", one_step),
          ("a second volume", many), ("folders that are none or have volumes", starts), ("a signal leaves whole volumes", killed),
-         ("a full disk costs its volume alone", full)]
+         ("a full disk costs its volume alone", full), ("no file is replaced", replaces_none)]
 
 if __name__ == "__main__":
     check_all([(name, try_it) for name, try_it in CASES], lambda program, try_it: try_it(program))

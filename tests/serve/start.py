@@ -5,7 +5,7 @@ import socket
 import stat
 import subprocess
 
-from daemon import LIMIT, Client, Daemon
+from daemon import LIMIT, Client, Daemon, until
 from programs import differs
 
 CONF_FAULTS = [
@@ -226,6 +226,30 @@ def taken(program, what):
         return differs((got, stands, daemon.path.exists()), ((0, []), what != "nothing", what != "nothing"))
 
 
+def succeeded(program):
+    """A second daemon takes the path once the first one accepts no more, and the first one, which ends after that, leaves it there."""
+    with Daemon(program, "", "--clients", "1") as first, Stopped(program) as second:
+        last = first.client()
+        until(lambda: refuses(first.path), "the end of the first one's listener")
+        second.path, second.options = first.path, ("--clients", "1")
+        Daemon.start(second)
+        last.socket.close()
+        got = first.end()
+        with second.client() as client:
+            rings = client.rings
+        return differs((got, rings, second.end(), second.path.exists()), ((0, []), (0, 0, 4, 8), (0, []), False))
+
+
+def refuses(path):
+    """Whether nobody listens at the path."""
+    with socket.socket(socket.AF_UNIX) as client:
+        try:
+            client.connect(str(path))
+        except ConnectionRefusedError:
+            return True
+    return False
+
+
 def helps(program, words):
     status, output, errors = ended([program, *words])
     wanted = ["Usage: ", "--socket", "--conf", "--negative", "--sessions", "--clients", "--mode", "60", "64"] if "serve" in words else ["serve", "replay"]
@@ -271,6 +295,7 @@ def cases():
     yield "a socket that was left", stale
     for what in ["nothing", "file", "socket"]:
         yield f"{what} at the path when it ends", taken, what
+    yield "a second one once the first accepts no more", succeeded
     yield "two daemons", two
     yield "a second one while the first is busy", busy
     for mask in [0o000, 0o022, 0o777]:

@@ -8,11 +8,14 @@ use std::os::unix::fs::{FileTypeExt, MetadataExt, PermissionsExt};
 use std::os::unix::net::{SocketAddr, UnixListener, UnixStream};
 use std::{fs, io};
 
-/// Which file it is: its device and its number there (`stat(2)`).
+/// Which file it is: its device, its number there, and when it was written last, which is when a socket was made (`stat(2)`). The number of a file that
+/// is gone is given to a new one, so without the time the socket of a later daemon might be taken for that of an earlier one.
 #[derive(Clone, Copy, Debug, PartialEq, Eq)]
 pub struct FileId {
     device: u64,
     number: u64,
+    seconds: i64,
+    nanoseconds: i64,
 }
 
 /// As many connections may wait as the system allows (`listen(2)`).
@@ -24,17 +27,33 @@ fn file_at<R: Files>(rt: &R, path: &str) -> io::Result<FileId> {
     Ok(FileId {
         device: found.dev(),
         number: found.ino(),
+        seconds: found.mtime(),
+        nanoseconds: found.mtime_nsec(),
     })
 }
 
-/// Whether a socket stands at the path on which nobody listens.
+/// Whether a socket stands at the path on which nobody listens, or nothing any more, since whoever had it has removed it meanwhile.
 fn is_left_over<R: Files + Net>(rt: &R, path: &str) -> io::Result<bool> {
-    if !fs::symlink_metadata(rt, path)?.file_type().is_socket() {
-        return Ok(false);
+    match fs::symlink_metadata(rt, path) {
+        Ok(found) if !found.file_type().is_socket() => return Ok(false),
+        Ok(_) => {}
+        Err(error) if error.kind() == ErrorKind::NotFound => return Ok(true),
+        Err(error) => return Err(error),
     }
     match UnixStream::connect(rt, path) {
         Ok(_) => Ok(false),
-        Err(error) => Ok(error.kind() == ErrorKind::ConnectionRefused),
+        Err(error) => Ok(matches!(
+            error.kind(),
+            ErrorKind::ConnectionRefused | ErrorKind::NotFound
+        )),
+    }
+}
+
+/// Removes the file at the path, if it is still there.
+fn remove<R: Files>(rt: &R, path: &str) -> io::Result<()> {
+    match fs::remove_file(rt, path) {
+        Err(error) if error.kind() == ErrorKind::NotFound => Ok(()),
+        removed => removed,
     }
 }
 
@@ -63,7 +82,7 @@ fn open<R: Files + Net>(rt: &R, path: &str, mode: u32) -> io::Result<UnixListene
 pub fn take<R: Files + Net>(rt: &R, path: &str, mode: u32) -> io::Result<(UnixListener, FileId)> {
     let listener = match open(rt, path, mode) {
         Err(error) if error.kind() == ErrorKind::AddrInUse && is_left_over(rt, path)? => {
-            fs::remove_file(rt, path)?;
+            remove(rt, path)?;
             open(rt, path, mode)?
         }
         opened => opened?,

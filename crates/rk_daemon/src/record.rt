@@ -24,7 +24,8 @@ pub fn is_free<R: Files + AllocGlobal + Clone + Drop>(rt: &R, folder: &str) -> i
 /// What writes volumes into a folder: whatever has [`Files`]. It has no types of its own, as those have, so that threads can be handed it.
 pub trait Keeper {
     /// Writes a volume into the folder, as `hall-2-volume-000001`, for nobody but the owner to read. It is written under another name at first, so that a
-    /// volume under its name is a whole one; where that fails, nothing of it stays. It is not waited for that the disk has it.
+    /// volume under its name is a whole one; where that fails, nothing of it stays. No file that is there is replaced, under either name. It is not waited
+    /// for that the disk has it.
     fn keep(&self, alloc: Global, folder: &str, head: &Head, steps: &[Recorded]) -> io::Result<()>;
 }
 
@@ -33,28 +34,30 @@ impl<R: Files> Keeper for R {
         let (hall, index) = (head.hall.number(), head.index);
         let path = format!(in alloc; "{folder}/{PREFIX}{hall}-volume-{index:06}")?;
         let part = format!(in alloc; "{folder}/{PREFIX}{hall}-volume-{index:06}.part")?;
-        let written = write(self, alloc, part.as_str(), head, steps);
-        if written.is_err() {
-            let _ = fs::remove_file(self, part.as_str());
-            return written;
-        }
-        fs::rename(self, part.as_str(), path.as_str())
+        let file = create(self, part.as_str())?;
+        let written = write(alloc, file, head, steps);
+        let kept = written.and_then(|()| fs::hard_link(self, part.as_str(), path.as_str()));
+        let _ = fs::remove_file(self, part.as_str());
+        kept
     }
 }
 
-/// Writes a volume into a new file.
-fn write<R: Files>(
-    rt: &R,
-    alloc: Global,
-    path: &str,
-    head: &Head,
-    steps: &[Recorded],
-) -> io::Result<()> {
-    let file = OpenOptions::new()
+/// Makes a new file. Where one is there it is that of another daemon, which writes into this folder too, and is left to it.
+fn create<R: Files>(rt: &R, path: &str) -> io::Result<R::File> {
+    OpenOptions::new()
         .write(true)
         .create_new(true)
         .mode(0o600)
-        .open(rt, path)?;
+        .open(rt, path)
+}
+
+/// Writes a volume into a new file.
+fn write<W: Write + Drop>(
+    alloc: Global,
+    file: W,
+    head: &Head,
+    steps: &[Recorded],
+) -> io::Result<()> {
     let mut file = BufWriter::new(alloc, file)?;
     head.store(alloc, steps, &mut file)?;
     file.flush()
