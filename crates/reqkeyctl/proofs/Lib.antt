@@ -1,2 +1,3 @@
 pub mod Conversing
-pub mod Ends
+pub mod Inserting
+pub mod OpOfWords

@@ -1,17 +1,17 @@
 -- What the words of a call ask for.
-use Rattle.std.specs.Prelude.{◌≡◌, ℕ, List, ◌∷◌, ◌++◌, take, Bool, ◌||◌, codes, Some, ◌⊎◌}
+use Rattle.std.specs.Prelude.{◌≡◌, ℕ, List, [], length, Bool, true, false, ◌||◌, codes, Option, Some, None, option_map, if◌then◌else◌, ◌⊎◌}
 use Rattle.std.specs.Str.{bytes_eq}
-use Rattle.std.specs.List.{list_any}
+use Rattle.std.specs.List.{insert, list_any, position}
+use Rattle.rk_names.specs.Numbers.{serial_of}
 use Rattle.rk_message.specs.declared.ask.Ask.{Ask}
+use Rattle.rk_message.specs.declared.ask.Ask.TheVariants as ask
+use Rattle.rk_message.specs.declared.shape.FieldKind.{FieldKind}
+use Rattle.rk_message.specs.declared.shape.FieldKind.TheVariants as field
 use Rattle.rk_message.specs.declared.shape.Op.{Op}
-use Rattle.rk_message.specs.declared.shape.Op.TheVariants.{Hello}
 use Rattle.rk_message.specs.Asks.{ask_op, ask_values}
-use Rattle.rk_client.specs.Words.{op_word}
+use Rattle.rk_message.specs.Table.{ask_fields}
 use Rattle.rk_client.specs.Arguments.{ask_said}
-
--- the last words are the op and its arguments
-abbrev pub EndsIn : List (List ℕ) → Op → List (List ℕ) → Type 0
-EndsIn words o arguments = (front : List (List ℕ)) × (words ≡ front ++ (op_word o ∷ arguments))
+use Rattle.reqkeyctl.specs.Said.{CallSaid, OptionsSaid}
 
 -- a word that asks for help or for the version
 abbrev pub is_help : List ℕ → Bool
@@ -21,23 +21,46 @@ is_help word = bytes_eq word (codes "--help") || bytes_eq word (codes "-h") || b
 abbrev pub asks_help : List (List ℕ) → Bool
 asks_help words = list_any is_help words
 
--- a word that begins as the option of the socket does
-abbrev pub is_socket : List ℕ → Bool
-is_socket word = bytes_eq (take 8 word) (codes "--socket")
+-- who acts with these options: no ring of its own
+abbrev pub greeting_said : OptionsSaid → Ask
+greeting_said o = ask.Hello (record { uid = o.uid; gid = o.gid; thread = false; process = false; join = serial_of o.join })
 
--- such a word is among the words
-abbrev pub names_socket : List (List ℕ) → Bool
-names_socket words = list_any is_socket words
+-- a payload
+abbrev pub is_payload : FieldKind → Bool
+is_payload field.Payload = true
+is_payload _ = false
 
--- the arguments, or the arguments and among them the bytes of a file
-abbrev pub HoldsAll : List (List ℕ) → List (List ℕ) → Type 0
-HoldsAll arguments all = (all ≡ arguments)
-    ⊎ ((front : List (List ℕ)) × (bytes : List ℕ) × (back : List (List ℕ)) × (arguments ≡ front ++ back) × (all ≡ front ++ (bytes ∷ back)))
+-- what a handler is told
+abbrev pub is_callout : FieldKind → Bool
+is_callout field.Callout = true
+is_callout _ = false
 
--- an ask of the op, HELLO or what the arguments say
-abbrev pub Asks : Op → List (List ℕ) → Ask → Type 0
-Asks o arguments a = (ask_op a ≡ o) × ((o ≡ Hello) ⊎ ((all : List (List ℕ)) × HoldsAll arguments all × (ask_said o all ≡ Some (ask_values a))))
+-- a file, and where its bytes stand among the arguments
+pub record FileAt : Type 0 where
+  pub path : List ℕ
+  pub at : ℕ
 
--- the words end in an op and arguments that say the ask
-abbrev pub CallsFor : List (List ℕ) → Ask → Type 0
-CallsFor words a = (o : Op) × (arguments : List (List ℕ)) × EndsIn words o arguments × Asks o arguments a
+-- the file that is named, if one is: a payload stands in its place, a callout behind all arguments; none where an ask has no such field, or both are named
+abbrev pub place_of : Option (List ℕ) → Option (List ℕ) → Op → ℕ → Option (Option FileAt)
+place_of None None o count = Some None
+place_of (Some path) None o count = option_map (λ at. Some (record { path = path; at = at })) (position is_payload (ask_fields o))
+place_of None (Some path) o count = if list_any is_callout (ask_fields o) then Some (Some (record { path = path; at = count })) else None
+place_of (Some path) (Some other) o count = None
+
+-- the same, of a call
+abbrev pub place_said : CallSaid → Option (Option FileAt)
+place_said call = place_of call.options.payload_from call.options.callout_from call.op (length call.arguments)
+
+-- the arguments, with more bytes in their place
+abbrev pub with_bytes : List (List ℕ) → Option (ℕ × List ℕ) → List (List ℕ)
+with_bytes arguments None = arguments
+with_bytes arguments (Some (at, bytes)) = insert arguments at bytes
+
+-- an ask of the call, with these bytes as one more argument: HELLO of its options, or what its arguments say
+abbrev pub AsksWith : CallSaid → Option (ℕ × List ℕ) → Ask → Type 0
+AsksWith call more a = (ask_op a ≡ call.op)
+    × (((call.arguments ≡ []) × (a ≡ greeting_said call.options)) ⊎ (ask_said call.op (with_bytes call.arguments more) ≡ Some (ask_values a)))
+
+-- the ask of the call, with the bytes of the file that is named, whatever it has
+abbrev pub Asks : CallSaid → Ask → Type 0
+Asks call a = (more : Option (ℕ × List ℕ)) × (option_map (option_map (λ (f : FileAt). f.at)) (place_said call) ≡ Some (option_map (λ (x : ℕ × List ℕ). x.0) more)) × AsksWith call more a

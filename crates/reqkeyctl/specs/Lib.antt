@@ -1,3 +1,4 @@
 pub mod Calls
 pub mod Outcome
 pub mod Programs
+pub mod Said

@@ -1,8 +1,11 @@
 //! The ask of a call.
-ghost use Rattle.std.specs.Prelude.{◌≡◌, None, IfOk, Err, map, string_bytes};
+ghost use Rattle.std.specs.Prelude.{◌≡◌, Some, None, IfOk, Err, map, option_map, string_bytes, MatchResult};
+ghost use Rattle.std.specs.List.{list_any, position};
+ghost use Rattle.rk_message.specs.Table.{ask_fields};
 ghost use Rattle.rk_client.specs.declared.fault.ArgumentFault.{ArgumentFault as Faults};
-ghost use Rattle.reqkeyctl.specs.Calls.{Asks, HoldsAll};
+ghost use Rattle.reqkeyctl.specs.Calls.{Asks, AsksWith, is_callout, is_payload, place_said, with_bytes};
 ghost use Rattle.reqkeyctl.specs.Outcome.{greeting_of};
+ghost use Rattle.reqkeyctl.specs.Said.{call_by};
 
 use crate::call::{Call, Options};
 use crate::source::{SourceFault, read_source};
@@ -38,7 +41,7 @@ pub fn ask_for<R: Files, I: Read>(
     call: &Call<'_>,
     reader: &mut I,
 ) -> Result<Ask, AskFault>
-    ensures asks { IfOk result (Asks call.now.op (map string_bytes call.now.arguments.now)) }
+    ensures asks { IfOk result (Asks (call_by call.now)) }
     ensures words { (fault : Faults) → result ≡ Err (AskFault.Words fault) → reader.new ≡ reader.old }
     ensures handler { call.now.options.socket ≡ None → reader.new ≡ reader.old }
 {
@@ -61,30 +64,48 @@ pub fn ask_for<R: Files, I: Read>(
     }
 }
 
-/// Where the bytes of a file stand, if one is named. A callout comes last.
-fn place_of<'a>(call: &Call<'a>) -> Result<Option<Place<'a>>, AskFault> {
-    let (kind, path) = match (call.options.payload_from, call.options.callout_from) {
-        (None, None) => return Ok(None),
-        (Some(path), None) => (FieldKind::Payload, path),
-        (None, Some(path)) => (FieldKind::Callout, path),
-        (Some(_), Some(_)) => return Err(AskFault::Words(ArgumentFault::Count)),
-    };
-    let fields = call.op.shape().fields;
-    let Some(at) = fields.iter().position(|field| *field == kind) else {
-        return Err(AskFault::Words(ArgumentFault::Count));
-    };
-    if kind == FieldKind::Callout {
-        return Ok(Some(Place {
+/// The file that is named, if one is. A callout comes last.
+fn place_of<'a>(call: &Call<'a>) -> Result<Option<Place<'a>>, AskFault>
+    ensures { MatchResult result (λ p. place_said (call_by call.now) ≡ Some (option_map (λ place. record { path = place.path.now; at = place.at }) p))
+        (λ e. place_said (call_by call.now) ≡ None) }
+{
+    match (call.options.payload_from, call.options.callout_from) {
+        (None, None) => Ok(None),
+        (Some(path), None) => match payload_place(call.op) {
+            Some(at) => Ok(Some(Place { path, at })),
+            None => Err(AskFault::Words(ArgumentFault::Count)),
+        },
+        (None, Some(path)) if has_callout(call.op) => Ok(Some(Place {
             path,
             at: call.arguments.len(),
-        }));
+        })),
+        _ => Err(AskFault::Words(ArgumentFault::Count)),
     }
-    Ok(Some(Place { path, at }))
+}
+
+/// Where the payload stands among the fields of the op.
+fn payload_place(op: Op) -> Option<usize>
+    ensures { result ≡ position is_payload (ask_fields op) }
+{
+    op.shape()
+        .fields
+        .iter()
+        .position(|field| matches!(field, FieldKind::Payload))
+}
+
+/// Whether a callout is among the fields of the op.
+fn has_callout(op: Op) -> bool
+    ensures { result ≡ list_any is_callout (ask_fields op) }
+{
+    op.shape()
+        .fields
+        .iter()
+        .any(|field| matches!(field, FieldKind::Callout))
 }
 
 /// The ask of the call, with these bytes as one more argument.
 fn ask_with(alloc: Global, call: &Call<'_>, more: Option<(usize, &[u8])>) -> Result<Ask, AskFault>
-    ensures { IfOk result (Asks call.now.op (map string_bytes call.now.arguments.now)) }
+    ensures { IfOk result (AsksWith (call_by call.now) (option_map (λ x. (x.0, x.1.now)) more.entry)) }
 {
     if call.op == Op::Hello {
         if call.arguments.is_empty() {
@@ -106,7 +127,7 @@ fn with_more<'a>(
     arguments: &'a [String],
     more: Option<(usize, &'a [u8])>,
 ) -> Result<Vec<&'a [u8]>, AskFault>
-    ensures { IfOk result (λ v. HoldsAll (map string_bytes arguments.now) (map (λ s. s.now) v.items)) }
+    ensures { IfOk result (λ v. map (λ s. s.now) v.items ≡ with_bytes (map string_bytes arguments.now) (option_map (λ x. (x.0, x.1.now)) more.entry)) }
 {
     let Ok(mut all) = bytes_of(alloc, arguments) else {
         return Err(AskFault::NoMemory);
@@ -134,15 +155,15 @@ fn bytes_of<'a>(alloc: Global, arguments: &'a [String]) -> Result<Vec<&'a [u8]>,
     Ok(bytes)
 }
 
-/// The HELLO of these options: no ring of its own, and 0 for what is not given.
+/// The HELLO of these options: no ring of its own.
 pub fn greeting(options: &Options<'_>) -> Ask
     ensures { result ≡ greeting_of options.now }
 {
     Ask::Hello(Greeting {
-        uid: options.uid.unwrap_or(0),
-        gid: options.gid.unwrap_or(0),
+        uid: options.uid,
+        gid: options.gid,
         thread: false,
         process: false,
-        join: options.join.and_then(|number| Serial::new(number)),
+        join: Serial::new(options.join),
     })
 }

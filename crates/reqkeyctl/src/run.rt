@@ -2,7 +2,6 @@
 ghost use Rattle.std.specs.Prelude.{◌≡◌, ◌≤◌, IfOk, IfSome, None, map, string_bytes};
 ghost use Rattle.rk_client.specs.Peer.{HasAsked, HasGreeted};
 ghost use Rattle.rk_run.specs.Words.{wanted_said};
-ghost use Rattle.reqkeyctl.specs.Calls.{CallsFor};
 ghost use Rattle.reqkeyctl.specs.Outcome.{HasDone, HasConversed};
 ghost use Rattle.reqkeyctl.specs.Programs.{RunsAs};
 
