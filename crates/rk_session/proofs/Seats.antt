@@ -17,7 +17,7 @@ use Rattle.rk_hall.specs.declared.lapse.Lapse.{Lapse}
 use Rattle.rk_hall.specs.Seats.{PartShown, SeatShown, part, with_part, after_call, without_client, opens, OwedSeen}
 use Rattle.rk_talk.specs.Stays.{Clients, Stays, SeesOn, clients_at, with_one, without_one}
 use Rattle.rk_talk.proofs.Seats.{call_stays, owed_stays, stays_on}
-use Rattle.rk_session.specs.Moving.{HasOpened, Leaves, Moves, Refuses}
+use Rattle.rk_session.specs.Moving.{HasOpened, IsNotOpened, IsShutOut, Leaves, Moves, Refuses}
 use Rattle.rk_session.specs.Places.{IsRefused}
 
 -- a part that has seen no less
@@ -147,6 +147,12 @@ none_refused session (answer.Negate k) is = absurd is
 none_refused session (answer.Waiting k) is = absurd is
 none_refused session (answer.Refused e) is = refl
 
+-- an opening whose call gave this receipt, and which opened no client
+shut_out : (session : SessionId) (h : HallNo) (now : ℕ) (old mid new : SeatShown) (r : Noted) → IsCalled h now (told.Opened session) (part h old) r
+    → opens (Opened session) r.answer ≡ 0 → mid ≡ with_part h old (after_call (part h old) (Opened session) r) → Stays mid new →
+    IsShutOut session h old new
+shut_out session h now old mid new r called none is stays = IsNotOpened now r called none (subst (λ s. Stays s new) is stays)
+
 -- an opening whose call gave this receipt
 pub opened_by : (session : SessionId) (h : HallNo) (now : ℕ) (old mid new : SeatShown) (r : Noted) (result : Option Saying)
     → IsCalled h now (told.Opened session) (part h old) r → mid ≡ with_part h old (after_call (part h old) (Opened session) r) → Stays mid new →
@@ -158,7 +164,11 @@ opened_by session h now old mid new r None called is stays (reply, done) =
 opened_by session h now old mid new r (Some (saying.Noted m)) called is stays (same, refused) = (
   stays_on old mid new (call_stays h old mid (Opened session) r (none_refused session r.answer refused) called.3 is) stays,
   (ap (λ (n : Noted). n.hall) same ∙ called.0, ap (λ (n : Noted). n.told) same ∙ called.2, subst (λ (n : Noted). IsRefused n.answer) (sym same) refused),
+  shut_out session h now old mid new r called (none_refused session r.answer refused) is stays,
 )
-opened_by session h now old mid new r (Some (saying.Short e)) called is stays (memory, waits) =
-    (stays_on old mid new (call_stays h old mid (Opened session) r (none_waits session r.answer waits) called.3 is) stays, inl memory)
+opened_by session h now old mid new r (Some (saying.Short e)) called is stays (memory, waits) = (
+  stays_on old mid new (call_stays h old mid (Opened session) r (none_waits session r.answer waits) called.3 is) stays,
+  inl memory,
+  shut_out session h now old mid new r called (none_waits session r.answer waits) is stays,
+)
 opened_by session h now old mid new r (Some saying.Behind) called is stays refuses = absurd refuses

@@ -1,5 +1,5 @@
 -- A talk, message by message.
-use Rattle.std.proofs.Common.{◌≡◌, ℕ, suc, ◌<◌, ◌≤◌, ◌+◌, List, [], ◌∷◌, ◌++◌, length, refl, sym, ap, ◌∙◌, subst, append-nil, arith}
+use Rattle.std.proofs.Common.{◌≡◌, ℕ, suc, ◌<◌, ◌≤◌, ◌+◌, List, [], ◌∷◌, ◌++◌, length, refl, sym, ap, ◌∙◌, subst, arith}
 use Rattle.std.specs.Prelude.{Option, Some, Ok, Err, Bool, true, false, take, nat_lt, if◌then◌else◌}
 use Rattle.std.proofs.lemmas.Bool.{ltb-false}
 use Rattle.std.proofs.lemmas.List.{length-append}
@@ -172,8 +172,11 @@ all_taken session old mid new f g h p q r goes (none, kept, room, same, stayed) 
 pub read_ends : (session : SessionId) (begun old new : WireShown) (held buf : List ℕ) (place : Place) → Stands session begun old held place →
     IsPartial held → Reads (Ok 0) buf old new → Talked session Ended begun new
 read_ends session begun old new held buf place s none read first is =
-    let stands = stands_heard session begun old new held held [] place s none (ap (λ (w : WireShown). w.story) read) (sym (append-nil held)) first is in
-    (stands.0, stands.1, (held, place, stands.2, none))
+    let one = s first is in (
+      one.0 ++ Heard [] ∷ [],
+      ap (λ (w : WireShown). w.story) read ∙ story_then old.story one.0 (Heard [] ∷ []) one.1,
+      (one.0, held, place, one.2, none, refl),
+    )
 
 -- a read failed
 pub fault_ends : (session : SessionId) (e : DeviceFault) (begun old new : WireShown) (held buf : List ℕ) (place : Place)
@@ -186,10 +189,6 @@ fault_ends session e begun old new held buf place s none read first is =
 pub used_ends : (session : SessionId) (begun now : WireShown) (held : List ℕ) (place : Place) → Stands session begun now held place → IsPartial held
     → Talked session TurnsUsed begun now
 used_ends session begun now held place s none first is = let stands = s first is in (stands.0, stands.1, (held, place, stands.2, none))
-
--- a client that was not opened
-pub untold_ends : (session : SessionId) (w : WireShown) → Talked session Ended w w
-untold_ends session w first is = (first, is, ([], at_first, begins session first, nothing_held))
 
 -- one read more
 pub least_more : (k old mid new : ℕ) → k ≤ old → k < 1048576 → mid ≡ raised old → new ≡ mid → k + 1 ≤ new

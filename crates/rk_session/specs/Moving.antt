@@ -1,13 +1,16 @@
 -- What a seat keeps of its clients where one comes, moves or leaves.
-use Rattle.std.specs.Prelude.{◌≡◌, ◌≢◌, Option, Some, None}
+use Rattle.std.specs.Prelude.{◌≡◌, ◌≢◌, ℕ, Option, Some, None}
 use Rattle.rk_names.specs.declared.errors.Errno.TheVariants.{Enomem}
 use Rattle.rk_names.specs.declared.numbers.SessionId.{SessionId}
 use Rattle.rk_message.specs.declared.reply.Reply.{Reply}
+use Rattle.rk_machine.specs.declared.event.Event.TheVariants.{Opened}
 use Rattle.rk_machine.specs.declared.event.Answer.TheVariants.{Done}
 use Rattle.rk_record.specs.declared.hall_no.HallNo.{HallNo}
+use Rattle.rk_record.specs.declared.told.Told.TheVariants as told
 use Rattle.rk_record.specs.Turns.{Noted}
-use Rattle.rk_hall.specs.Seats.{SeatShown}
-use Rattle.rk_talk.specs.Said.{IsToWait}
+use Rattle.rk_hall.specs.Seats.{CallRefused, SeatShown, after_call, opens, part, with_part}
+use Rattle.rk_hall.specs.declared.lapse.CallFault.{CallFault}
+use Rattle.rk_talk.specs.Said.{IsCalled, IsToWait}
 use Rattle.rk_talk.specs.Stays.{Clients, SeesOn, Stays, clients_at, with_one, without_one}
 use Rattle.rk_talk.specs.declared.saying.Saying.{Saying}
 use Rattle.rk_talk.specs.declared.saying.Saying.TheVariants as saying
@@ -28,10 +31,18 @@ Refuses n (Some (saying.Noted m)) = (m ≡ n) × IsRefused n.answer
 Refuses n (Some (saying.Short e)) = (e ≡ Enomem) × IsToWait n.answer
 Refuses n (Some saying.Behind) = ⊥
 
--- a client that was to be opened in this hall stands there, or there is something to be said, and all is as before
+-- a client was shut out of this hall, as this seat knows
+pub data IsShutOut (session : SessionId) (hall : HallNo) (old new : SeatShown) : Type 0 where
+  -- the call of its opening was refused, and the seat is as before
+  IsNotCalled : (f : CallFault) → CallRefused (part hall old) f → new ≡ old → IsShutOut session hall old new
+  -- its opening was a turn of the seat, whose answer opened no client
+  IsNotOpened : (now : ℕ) (n : Noted) → IsCalled hall now (told.Opened session) (part hall old) n → opens (Opened session) n.answer ≡ 0
+      → Stays (with_part hall old (after_call (part hall old) (Opened session) n)) new → IsShutOut session hall old new
+
+-- a client that was to be opened in this hall stands there, or it was shut out, there is something to be said, and all is as before
 abbrev pub HasOpened : SessionId → HallNo → SeatShown → SeatShown → Option Saying → Type 0
 HasOpened session hall old new None = (clients_at new ≡ with_one hall (clients_at old)) × SeesOn old new
-HasOpened session hall old new (Some s) = Stays old new × IsShut session hall s
+HasOpened session hall old new (Some s) = Stays old new × IsShut session hall s × IsShutOut session hall old new
 
 -- a client that was to move stands there and nothing is to be said yet; or it stays, where there is another hall
 abbrev pub HasMoved : SessionId → HallNo → HallNo → SeatShown → SeatShown → Option Saying → Type 0

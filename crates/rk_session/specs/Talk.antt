@@ -1,5 +1,5 @@
 -- What a session does, message by message.
-use Rattle.std.specs.Prelude.{◌≡◌, ℕ, List, [], ◌∷◌, ◌++◌, Option, Some, None}
+use Rattle.std.specs.Prelude.{◌≡◌, ◌⊎◌, ℕ, List, [], ◌∷◌, ◌++◌, Option, Some, None}
 use Rattle.rk_names.specs.declared.errors.Errno.TheVariants.{Enomem}
 use Rattle.rk_names.specs.declared.numbers.SessionId.{SessionId}
 use Rattle.rk_frame.specs.Framing.{IsBody, frame}
@@ -7,13 +7,16 @@ use Rattle.rk_frame.specs.Streams.{IsPartial, HasFault}
 use Rattle.rk_message.specs.declared.reply.Reply.{Reply}
 use Rattle.rk_message.specs.declared.reply.Reply.TheVariants as reply
 use Rattle.rk_devices.specs.Counts.{Rose}
+use Rattle.rk_record.specs.declared.hall_no.HallNo.TheVariants.{Zero}
 use Rattle.rk_record.specs.Turns.{Noted}
-use Rattle.rk_talk.specs.Replies.{reply_bytes, reply_of}
+use Rattle.rk_hall.specs.Seats.{SeatShown}
+use Rattle.rk_talk.specs.Replies.{TakesMemory, reply_bytes, reply_of}
 use Rattle.rk_talk.specs.declared.saying.Saying.{Saying}
 use Rattle.rk_talk.specs.declared.saying.Saying.TheVariants as saying
 use Rattle.rk_session.specs.declared.standing.Place.{Place}
 use Rattle.rk_session.specs.declared.serving.Served.{Served}
 use Rattle.rk_session.specs.declared.serving.Served.TheVariants.{Ended, ReadFault, WriteFault, Malformed, TurnsUsed, Behind}
+use Rattle.rk_session.specs.Moving.{IsShutOut}
 use Rattle.rk_session.specs.Places.{Says, at_first}
 use Rattle.rk_session.specs.Wires.{Happened, Heard, HasNoted, Said, WireShown}
 
@@ -25,10 +28,10 @@ pub record Turn : Type 0 where
   pub note : Option Noted
   pub reply : Reply
 
--- the note and the reply of what is to be said; ENOMEM and no note, where there was no memory for the reply
+-- the note and the reply of what is to be said; ENOMEM and no note, where there was no memory for a reply that takes it
 abbrev pub Tells : Saying → Option Noted → Reply → Type 0
 Tells (saying.Noted n) (Some m) r = (m ≡ n) × (reply_of n.answer ≡ Some r)
-Tells (saying.Noted n) None r = r ≡ reply.Refused Enomem
+Tells (saying.Noted n) None r = (r ≡ reply.Refused Enomem) × TakesMemory (reply_of n.answer)
 Tells (saying.Short e) None r = r ≡ reply.Refused e
 Tells (saying.Short e) (Some m) r = ⊥
 Tells saying.Behind _ r = ⊥
@@ -53,10 +56,11 @@ pub data Talking : (session : SessionId) (begun story : List Happened) (held : L
   turns : (session : SessionId) (begun story : List Happened) (held : List ℕ) (t : Turn) (from to : Place) → Talking session begun story (frame t.body ++ held) from
       → IsTurn session from t to → Talking session begun (story ++ told_in t.note (reply_bytes t.reply)) held to
 
--- how a session ends: where it holds no whole message, at the end of the input, a failed read, or its last read; at a length that no frame has; at a reply that
--- could be written only in part; or at an ask of which nothing can be said, which gets no receipt and no reply
+-- how a session ends: where it holds no whole message, at a read that told the end of the input, a failed read, or its last read; at a length that no frame has;
+-- at a reply that could be written only in part; or at an ask of which nothing can be said, which gets no receipt and no reply
 abbrev pub Ends : SessionId → Served → List Happened → List Happened → Type 0
-Ends session Ended begun story = (held : List ℕ) × (place : Place) × Talking session begun story held place × IsPartial held
+Ends session Ended begun story = (before : List Happened) × (held : List ℕ) × (place : Place) × Talking session begun before held place × IsPartial held
+    × (story ≡ before ++ Heard [] ∷ [])
 Ends session ReadFault begun story = (held : List ℕ) × (place : Place) × Talking session begun story held place × IsPartial held
 Ends session TurnsUsed begun story = (held : List ℕ) × (place : Place) × Talking session begun story held place × IsPartial held
 Ends session Malformed begun story = (held : List ℕ) × (place : Place) × Talking session begun story held place × HasFault held
@@ -76,3 +80,8 @@ abbrev pub EndCounts : Served → ℕ → ℕ → Type 0
 EndCounts WriteFault before after = Rose before after
 EndCounts ReadFault before after = Rose before after
 EndCounts _ before after = after ≡ before
+
+-- a session that was served: there was a talk; or the client was shut out of hall 0, nothing happened on the wire, and that is told as the end of its input
+abbrev pub Serves : SessionId → Served → SeatShown → SeatShown → WireShown → WireShown → Type 0
+Serves session served seat seat' old new =
+    Talked session served old new ⊎ ((served ≡ Ended) × IsShutOut session Zero seat seat' × (new ≡ old))

@@ -6,7 +6,7 @@ ghost use Rattle.rk_talk.specs.Stays.{Stays};
 ghost use Rattle.rk_session.specs.Moving.{Moves};
 ghost use Rattle.rk_session.specs.Parts.{Counts, TakesAll};
 ghost use Rattle.rk_session.specs.Places.{at_first};
-ghost use Rattle.rk_session.specs.Talk.{EndCounts, Talked};
+ghost use Rattle.rk_session.specs.Talk.{EndCounts, Serves, Talked};
 
 use crate::standing::{Place, leave, open};
 use crate::turns::next_turn;
@@ -25,7 +25,7 @@ pub const MAX_READS: u32 = 1_048_576;
 /// How a session ended.
 #[derive(Clone, Copy, Debug, PartialEq, Eq)]
 pub enum Served {
-    /// The client has ended its input, perhaps in the middle of a frame; or it could not be opened.
+    /// A read told the end of the client's input, perhaps in the middle of a frame; or the client could not be opened.
     Ended,
     /// A read failed.
     ReadFault,
@@ -155,7 +155,7 @@ pub fn serve<N: Names, R: Wait, W: Wire, L: Launcher, C: Clock, G: Gate, S: Shel
     requires bound { (L.shown launcher.old).count ≤ most }
     ensures bound { (L.shown launcher.new).count ≤ most }
     ensures stays { Stays seat.old seat.new }
-    ensures talked { Talked (Client client) result (W.shown wire.old) (W.shown wire.new) }
+    ensures talked { Serves (Client client) result seat.old seat.new (W.shown wire.old) (W.shown wire.new) }
     ensures fault { EndCounts result (W.shown wire.old).count (W.shown wire.new).count }
     ensures turns { result ≡ Served.TurnsUsed → 1048576 ≤ (W.shown wire.new).reads }
     ensures reads { (W.shown wire.new).reads ≤ (W.shown wire.old).reads + 1048576 }

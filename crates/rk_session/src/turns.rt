@@ -29,7 +29,7 @@ fn tell<W: Wire>(alloc: Global, wire: &mut W, receipt: Receipt) -> Result<(), De
             wire.note(receipt);
             wire.write(bytes.as_bytes())
         }
-        Err(_) => wire.write(&refusal_frame(Errno::Enomem)),
+        Err(_) => refuse(wire, Errno::Enomem),
     }
 }
 

@@ -1,10 +1,11 @@
 -- What is said of a message of a session, and why.
-use Rattle.std.specs.Prelude.{ℕ, ◌≡◌, ◌<◌, ◌⊎◌, List, Option, Some, None}
+use Rattle.std.specs.Prelude.{ℕ, ◌≡◌, ◌<◌, ◌⊎◌, List, Option, Some, None, Ok, Err}
 use Rattle.rk_names.specs.declared.errors.Errno.{Errno}
 use Rattle.rk_names.specs.declared.errors.Errno.TheVariants.{Enomem, Edquot}
 use Rattle.rk_names.specs.declared.numbers.SessionId.{SessionId}
 use Rattle.rk_message.specs.declared.ask.Ask.{Ask}
 use Rattle.rk_message.specs.Bodies.{Spells, IsRefusedAs}
+use Rattle.rk_machine.specs.declared.event.Event.TheVariants as event
 use Rattle.rk_machine.specs.declared.event.Answer.{Answer}
 use Rattle.rk_machine.specs.declared.event.Answer.TheVariants as answer
 use Rattle.rk_record.specs.declared.hall_no.HallNo.{HallNo}
@@ -12,7 +13,8 @@ use Rattle.rk_record.specs.declared.told.Told.{Told}
 use Rattle.rk_record.specs.declared.told.Told.TheVariants as told
 use Rattle.rk_record.specs.Copies.{started}
 use Rattle.rk_record.specs.Turns.{Noted}
-use Rattle.rk_hall.specs.Seats.{PartShown, TokenShown}
+use Rattle.rk_hall.specs.Seats.{PartShown, SeatShown, TokenShown, OwedSeen}
+use Rattle.rk_hall.specs.declared.lapse.Lapse.{Lapse}
 use Rattle.rk_hall.specs.declared.lapse.CallFault.{CallFault}
 use Rattle.rk_hall.specs.declared.lapse.CallFault.TheVariants as fault
 use Rattle.rk_talk.specs.declared.saying.Saying.{Saying}
@@ -48,11 +50,11 @@ Says session body (saying.Noted n) = IsNoteOf session body n
 Says session body (saying.Short e) = IsShort body e
 Says session body saying.Behind = (a : Ask) × Spells a body
 
--- what the wait of a session came to
-abbrev pub IsCollected : HallNo → ℕ → SessionId → Saying → Type 0
-IsCollected hall now session (saying.Noted n) = (n.hall ≡ hall) × (n.moment ≡ now) × (n.told ≡ told.Collect session)
-IsCollected hall now session (saying.Short e) = ⊥
-IsCollected hall now session saying.Behind = Unit {0}
+-- what the wait of a session came to, of a seat: the receipt of the one turn by which the seat collected; or nothing, where its collect gave it no receipt
+abbrev pub IsCollected : HallNo → ℕ → SessionId → SeatShown → SeatShown → Saying → Type 0
+IsCollected hall now session old new (saying.Noted n) = OwedSeen hall now (event.Collect session) old new (Ok n)
+IsCollected hall now session old new (saying.Short e) = ⊥
+IsCollected hall now session old new saying.Behind = (lapse : Lapse) × OwedSeen hall now (event.Collect session) old new (Err lapse)
 
 -- an answer after which the session waits
 abbrev pub IsToWait : Answer → Type 0
@@ -60,10 +62,11 @@ IsToWait (answer.Done r) = ⊥
 IsToWait (answer.Refused e) = ⊥
 IsToWait _ = Unit {0}
 
--- what is to be said where a call gave this receipt: itself, or what the wait came to
-abbrev pub Settles : HallNo → SessionId → Noted → Saying → Type 0
-Settles hall session receipt s =
-    ((s ≡ saying.Noted receipt) × (IsToWait receipt.answer → ⊥)) ⊎ (IsToWait receipt.answer × (now : ℕ) × IsCollected hall now session s)
+-- what is to be said where a call gave this receipt: itself, and the seat made no turn; or what the wait came to
+abbrev pub Settles : HallNo → SessionId → Noted → SeatShown → SeatShown → Saying → Type 0
+Settles hall session receipt old new s =
+    ((s ≡ saying.Noted receipt) × (IsToWait receipt.answer → ⊥) × (new ≡ old))
+    ⊎ (IsToWait receipt.answer × (now : ℕ) × IsCollected hall now session old new s)
 
 -- what is to be said where a call was refused
 abbrev pub IsRefusal : CallFault → Saying → Type 0

@@ -29,7 +29,7 @@ fn collected<N: Names, R: Wait>(
     now: Moment,
     session: SessionId,
 ) -> Saying
-    ensures said { IsCollected hall now session result }
+    ensures said { IsCollected hall now session seat.old seat.new result }
     ensures stays { Stays seat.old seat.new }
 {
     let Owed { value, receipt } = await_outcome(rt, halls, seat, hall, session, now);
@@ -40,8 +40,9 @@ fn collected<N: Names, R: Wait>(
     }
 }
 
-/// What is to be said of an ask whose call gave this receipt: its answer, or where the session waits, the outcome of its wait, when it is there. Its
-/// start is to be brought to its end before. It may wait.
+/// What is to be said of an ask whose call gave this receipt: its answer, or where the session waits, the outcome of its wait, when it is there. The
+/// outcome is collected at the moment that the clock tells then, and not at that at which the wait began. Its start is to be brought to its end before.
+/// It may wait.
 pub fn settled<N: Names, R: Wait, C: Clock>(
     rt: &R,
     halls: &Halls<N>,
@@ -51,12 +52,14 @@ pub fn settled<N: Names, R: Wait, C: Clock>(
     receipt: Receipt,
     clock: &mut C,
 ) -> Saying
-    ensures said { Settles hall session receipt result }
+    ensures said { Settles hall session receipt seat.old seat.new result }
     ensures stays { Stays seat.old seat.new }
 {
     match receipt.answer() {
         Answer::Done(_) | Answer::Refused(_) => Saying::Noted(receipt),
         Answer::Start(_, _) | Answer::Waiting(_) | Answer::Negate(_) => {
+            let (place, waiting) = (hall, session);
+            halls.until_ready(rt, place, waiting);
             collected(rt, halls, seat, hall, clock.now(), session)
         }
     }

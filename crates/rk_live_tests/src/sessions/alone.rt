@@ -16,6 +16,7 @@ pub const SCENE: Scene<'static> = Scene {
     programs: &[COMPLETES],
     fuse: None,
     until: 0,
+    pause: 0,
     first: FIRST,
     second: None,
     third: None,

@@ -6,13 +6,13 @@ use crate::fakes::still::{Bin, NOW, Stopped};
 use crate::halls::paths::all;
 use crate::same::same;
 use crate::sessions::line::{Cut, Line};
-use crate::sessions::turns::{Held, Turns, Watched};
+use crate::sessions::turns::{Held, Turns, Watched, later};
 use rk_child::fail;
 use rk_conf::Conf;
 use rk_frame::Frames;
-use rk_hall::{Called, Fresh, HallNo, Halls, Names, Receipt, Seat, Volume, settle};
+use rk_hall::{Called, Fresh, HallNo, Halls, Names, Receipt, Seat, Told, Volume, settle};
 use rk_machine::Event;
-use rk_names::SessionId;
+use rk_names::{Moment, SessionId};
 use rk_session::{Served, serve};
 use std::alloc::Global;
 use std::marker::{Brand, Send, Sync};
@@ -75,8 +75,10 @@ pub struct Scene<'a> {
     pub programs: &'static [Program],
     /// The call of its device that fails.
     pub fuse: Option<Fuse>,
-    /// The turn until which it is held at its start.
+    /// The turn until which a handler is held at its start.
     pub until: u64,
+    /// How many milliseconds it takes from then on, by the clock of the sessions too.
+    pub pause: u64,
     pub first: Part<'a>,
     pub second: Option<Part<'a>>,
     pub third: Option<Part<'a>>,
@@ -144,6 +146,7 @@ fn serves<'a, N: Names, R: Wait + Abort + Clock>(
         rt,
         turns,
         until: scene.until,
+        pause: scene.pause,
     };
     let served = serve(
         rt,
@@ -206,9 +209,18 @@ fn may_serve<N: Names, R: Wait + Abort + Clock>(
     Some(Left { seat, noted })
 }
 
+/// The moment that a receipt is to have: an outcome is collected when the handler has ended, and all that is noted else was asked before.
+fn moment_of(scene: &Scene, receipt: &Receipt) -> Moment {
+    match receipt.told() {
+        Told::Collect(_) => later(scene.pause / 1_000),
+        _ => NOW,
+    }
+}
+
 /// Adds what is left of a session, where it was there, to what others have left.
 fn gather<N: Names>(
     rt: &impl Abort,
+    scene: &Scene,
     left: Option<Left<N>>,
     seats: &mut Vec<Seat<N>>,
     receipts: &mut Vec<Receipt>,
@@ -216,7 +228,7 @@ fn gather<N: Names>(
     if let Some(Left { seat, noted }) = left {
         seats.push(seat).expect(rt, "memory");
         for receipt in noted {
-            same(rt, receipt.now(), NOW);
+            same(rt, receipt.now(), moment_of(scene, &receipt));
             receipts.push(receipt).expect(rt, "memory");
         }
     }
@@ -279,9 +291,9 @@ fn all_left<N: Names + Send + Sync, R: Wait + Abort + Threads + Clock + Sync>(
     seats.push(others).expect(rt, "memory");
     let (first, (second, third)) = all_serve(rt, alloc, halls, scene, &made);
     same(rt, made.late(), 0);
-    gather(rt, first, &mut seats, &mut receipts);
-    gather(rt, second, &mut seats, &mut receipts);
-    gather(rt, third, &mut seats, &mut receipts);
+    gather(rt, scene, first, &mut seats, &mut receipts);
+    gather(rt, scene, second, &mut seats, &mut receipts);
+    gather(rt, scene, third, &mut seats, &mut receipts);
     receipts.sort_unstable_by_key(|receipt| receipt.number());
     (seats, receipts)
 }

@@ -23,6 +23,7 @@ const SCENE: Scene<'static> = Scene {
     programs: &[COMPLETES],
     fuse: None,
     until: 4,
+    pause: 0,
     first: STARTER,
     second: None,
     third: None,
@@ -33,15 +34,16 @@ const SCENE: Scene<'static> = Scene {
 
 #[test]
 fn two_wait_for_one_handler(rt: HostRuntime) {
-    // the fourth moment is that of its collect: it waits then
+    // it asks at its third moment, while the handler takes its five seconds; what it waited for is collected when they have passed
     let waiter = Part {
         pieces: &[(2, JOIN), (3, REQUEST)],
         end: 6,
-        moment: 4,
+        moment: 3,
         words: b"",
         ..STARTER
     };
     let scene = Scene {
+        pause: 5_000,
         second: Some(waiter),
         steps: 14,
         ..SCENE

@@ -9,11 +9,12 @@ use std::sync::atomic::Ordering::SeqCst;
 use std::thread;
 use std::time::{Clock, Duration};
 
-/// Whose turn it is, and how often one was waited for in vain.
+/// Whose turn it is, how often one was waited for in vain, and how many seconds have passed by the clock of the sessions.
 #[derive(Drop)]
 pub struct Turns {
     now: AtomicU64,
     late: AtomicU64,
+    passed: AtomicU64,
 }
 
 impl Turns {
@@ -22,6 +23,7 @@ impl Turns {
         Turns {
             now: AtomicU64::new(0),
             late: AtomicU64::new(0),
+            passed: AtomicU64::new(0),
         }
     }
 
@@ -42,18 +44,35 @@ impl Turns {
         false
     }
 
+    /// So many milliseconds pass, and the clock of the sessions tells it.
+    pub fn pause<R: Clock>(&self, rt: &R, milliseconds: u64) {
+        let _ = thread::sleep(rt, Duration::from_millis(milliseconds));
+        self.passed.fetch_add(milliseconds / 1_000, SeqCst);
+    }
+
+    /// The moment now.
+    pub fn moment(&self) -> Moment {
+        later(self.passed.load(SeqCst))
+    }
+
     /// How often a turn did not come.
     pub fn late(&self) -> u64 {
         self.late.load(SeqCst)
     }
 }
 
-/// A start and a reply each begin a turn; a handler that was started is held until another turn has come.
+/// The moment so many seconds after the first.
+pub fn later(seconds: u64) -> Moment {
+    Moment(NOW.0.saturating_add(seconds))
+}
+
+/// A start and a reply each begin a turn; a handler that was started is held until another turn has come, and takes so many milliseconds from then on.
 #[derive(Drop)]
 pub struct Held<'a, R> {
     pub rt: &'a R,
     pub turns: &'a Turns,
     pub until: u64,
+    pub pause: u64,
 }
 
 impl<'a, R: Clock> Gate for Held<'a, R> {
@@ -62,6 +81,7 @@ impl<'a, R: Clock> Gate for Held<'a, R> {
         let _ = key;
         self.turns.next();
         self.turns.wait(self.rt, self.until);
+        self.turns.pause(self.rt, self.pause);
     }
 
     fn answered<W: Wait>(&self, rt: &W, session: SessionId) {
@@ -71,7 +91,7 @@ impl<'a, R: Clock> Gate for Held<'a, R> {
     }
 }
 
-/// It is always the same moment. Asking for it so many times begins a turn.
+/// The moment moves where a handler pauses. Asking for it so many times begins a turn.
 #[derive(Drop)]
 pub struct Watched<'a> {
     pub turns: &'a Turns,
@@ -84,6 +104,6 @@ impl<'a> rk_devices::Clock for Watched<'a> {
             self.turns.next();
         }
         self.left = self.left.saturating_sub(1);
-        NOW
+        self.turns.moment()
     }
 }

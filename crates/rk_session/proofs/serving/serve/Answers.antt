@@ -1,11 +1,13 @@
-use Rattle.rk_names.specs.declared.numbers.SessionId.TheVariants.{Client}
+use Rattle.std.proofs.Common.{inl, inr, refl}
 use Rattle.rk_record.specs.declared.hall_no.HallNo.TheVariants.{Zero}
 use Rattle.rk_session.proofs.Seats.{came_and_went}
-use Rattle.rk_session.proofs.Talks.{untold_ends}
 use Rattle.rk_session.proofs.serving.serve.Goals as goal
 
 pub returns-in-Some-clause-talked : goal.returns-in-Some-clause-talked
-returns-in-Some-clause-talked g c = untold_ends (Client c.args.client) (g.W.Wire.shown c.args.wire.now)
+returns-in-Some-clause-talked g c = inr (refl, c.in-Some.ensures.2, refl)
+
+pub returns-clause-talked : goal.returns-clause-talked
+returns-clause-talked g c = inl c.talk-served.ensures.talked
 
 pub returns-clause-stays : goal.returns-clause-stays
 returns-clause-stays g c =

@@ -1,6 +1,6 @@
 use Rattle.std.proofs.Common.{subst, sym}
-use Rattle.rk_talk.specs.Replies.{ReplyFramed}
-use Rattle.rk_session.proofs.Sayings.{noted_speaks}
+use Rattle.rk_talk.specs.Replies.{ReplyFramed, TakesMemory, reply_of}
+use Rattle.rk_session.proofs.Sayings.{memory_speaks, noted_speaks}
 use Rattle.rk_session.proofs.turns.tell.Goals as goal
 
 pub returns-in-Ok-clause-speaks : goal.returns-in-Ok-clause-speaks
@@ -8,3 +8,7 @@ returns-in-Ok-clause-speaks g c =
     let framed = subst (λ a. ReplyFramed a c.in-Ok.bytes) c.answer.ensures c.in-Ok.ensures.framed in
     noted_speaks c.args.receipt c.write.result c.as_bytes.result.now _ _ _ (subst (ReplyFramed c.args.receipt.answer) (sym c.as_bytes.ensures) framed)
     c.note.ensures c.write.ensures
+
+pub returns-in-Err-clause-speaks : goal.returns-in-Err-clause-speaks
+returns-in-Err-clause-speaks g c =
+    memory_speaks c.args.receipt c.refuse.result _ _ (subst (λ a. TakesMemory (reply_of a)) c.answer.ensures c.in-Err.ensures.memory) c.refuse.ensures.speaks
