@@ -54,8 +54,9 @@ ALLOWED = {
     13: ((), {0}), 14: (int, {"E22"}), 15: (int, {"E122"}), 255: ((), {"E22"}),
 }
 
-# what the daemon may say, whole lines: that it is ready, a volume that is not kept, and clients that have vanished
-WARNED = r"\[WARN  \S+\] session [1-9][0-9]*: (ReadFault|WriteFault)"
+# what the daemon may say, whole lines: that it is ready, a volume that is not kept, clients that have vanished, and handlers that failed otherwise than by
+# their end
+WARNED = r"\[WARN  \S+\] (session [1-9][0-9]*: (ReadFault|WriteFault)|handler of key [1-9][0-9]*: (StartFailed|ReadFailed|WaitFailed))"
 TOLD = re.compile(rf"reqkeyd: ready|volume [0-3] [1-9][0-9]* [1-9][0-9]*|{WARNED}")
 
 

@@ -78,10 +78,12 @@ def variants(path, enum):
 
 
 def of_warnings():
-    """reqkeyd.8: each end of a session but the plain one."""
+    """reqkeyd.8: each end of a session but the plain one, and each way in which a handler may fail."""
     tags = tagged(sections("reqkeyd.8")["DIAGNOSTICS"])
     ends = [f"session N: {it}" for it in variants("rk_session/src/serving.rt", "Served") if it != "Ended"]
+    fails = [f"handler of key N: {it}" for it in variants("rk_devices/src/driven.rt", "Driven") if it.endswith("Failed")]
     count.same("warnings of sessions", [tag for tag in tags if tag.startswith("session N: ") and tag != "session N: no memory"], ends)
+    count.same("warnings of handlers", [tag for tag in tags if tag.startswith("handler of key N: ")], fails)
 
 
 def of_client(program):

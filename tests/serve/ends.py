@@ -376,12 +376,17 @@ def piped(program, name, script, want_payload, callout=b"x"):
         return differs((reply, len(payload), payload == want_payload), (12, len(want_payload), True))
 
 
-def missing(program, line):
-    """A program that can't be started."""
-    with Daemon(program, f"create user p:* * {line}\n", "--negative", "0") as daemon, daemon.client() as client:
+def missing(program, line, what="StartFailed"):
+    """A program that can't be started: whoever asks is told that there is no key, and a warning says why, once each time; nothing where there is no command."""
+    with Daemon(program, f"create user p:* * {line}\n", "--negative", "0", "--clients", "1") as daemon:
         daemon.script("no_script", "")
         (daemon.room / "no_program").write_text("x")
-        return differs([client.ask(want(b"p:1")) for _ in range(3)], ["E126"] * 3) or daemon.lives()
+        with daemon.client() as client:
+            replies = [client.ask(want(b"p:1")) for _ in range(3)]
+        status, lines = daemon.end()
+        told = [line.rpartition("handler ")[1:] for line in lines if "WARN" in line]
+        wanted = [("handler ", f"of key {key}: {what}") for key in [12, 16, 20]] if what else []
+        return differs((replies, status, told, len(lines)), (["E126"] * 3, 0, wanted, len(wanted))) and f"{replies} {status} {lines}"
 
 
 def ends_unknown(program):
@@ -488,5 +493,6 @@ def cases():
         ("puts out in pieces", "for at in 1 2 3 4 5 6 7 8; do printf $at; done", b"12345678"),
     ]:
         yield f"a piped program that {name}", piped, name.split()[0], script, payload, *callout
-    for line in ["/no/such", "|/no/such", "/", "|/tmp", "%room/no_program", "|%room/no_program", "%room/no_script/x", "/bin/cat %{user:none}"]:
+    for line in ["/no/such", "|/no/such", "/", "|/tmp", "%room/no_program", "|%room/no_program", "%room/no_script/x"]:
         yield f"the line {line}", missing, line
+    yield "a line whose words can't be made", missing, "/bin/cat %{user:none}", None

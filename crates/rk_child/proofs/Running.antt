@@ -8,8 +8,8 @@ use Rattle.rk_devices.specs.declared.reading.ReadFault.TheVariants.{Failed, Used
 use Rattle.rk_devices.specs.Counts.{most, Rose, both}
 use Rattle.rk_devices.specs.Shown.{ChildShown, LauncherShown, FailsReading, GoesOn, new_child, one_more, taken_back}
 use Rattle.rk_devices.proofs.Rising.{rose_up, rose_from, rose_to}
-use Rattle.rk_child.specs.declared.driven.Driven.{Driven}
-use Rattle.rk_child.specs.declared.driven.Driven.TheVariants.{Ended, NotStarted, StartFailed, ReadFailed, WaitFailed}
+use Rattle.rk_devices.specs.declared.driven.Driven.{Driven}
+use Rattle.rk_devices.specs.declared.driven.Driven.TheVariants.{Ended, NotStarted, StartFailed, ReadFailed, WaitFailed}
 use Rattle.rk_child.specs.Driving.{Runs, FaultRose, TellsEnd, HasRun, EndsAs, later_of}
 
 at_most : {a b c : ℕ} → a ≤ b → b ≤ c → a ≤ c

@@ -1,17 +1,10 @@
 -- How a launch is brought to its end.
 use Rattle.std.specs.Prelude.{ℕ, ◌≡◌, ◌≤◌, ◌⊎◌, ◌+◌, ◌-◌, max, true, Some, None, Result, Ok, Err}
-use Rattle.rk_machine.specs.declared.event.How.{How}
-use Rattle.rk_machine.specs.declared.event.How.TheVariants.{Fault}
 use Rattle.rk_devices.specs.declared.reading.ReadFault.{ReadFault}
 use Rattle.rk_devices.specs.Counts.{most, Rose}
 use Rattle.rk_devices.specs.Shown.{ChildShown, LauncherShown}
-use Rattle.rk_child.specs.declared.driven.Driven.{Driven}
-use Rattle.rk_child.specs.declared.driven.Driven.TheVariants.{Ended, NotStarted, StartFailed, ReadFailed, WaitFailed}
-
--- what is told of an end
-abbrev pub told_end : Driven → How
-told_end (Ended how) = how
-told_end _ = Fault
+use Rattle.rk_devices.specs.declared.driven.Driven.{Driven}
+use Rattle.rk_devices.specs.declared.driven.Driven.TheVariants.{Ended, NotStarted, StartFailed, ReadFailed, WaitFailed}
 
 -- what was done with a launcher in the run of a launch of this depth: its counts did not fall, each child came back, and no more children were out at one time
 -- than those before, or with those that are out one for each depth from this one to 8

@@ -1,38 +1,8 @@
-//! How a launch was brought to its end.
+//! How a launch was brought to its end whose command another one followed.
 ghost use Rattle.std.specs.Prelude.{◌≡◌};
 ghost use Rattle.rk_child.specs.Driving.{later_of};
 
-use rk_machine::How;
-
-/// How a launch was brought to its end: what became of its command, or where another command followed it and was started, of that one.
-#[derive(Clone, Copy, Debug, PartialEq, Eq)]
-pub enum Driven {
-    /// The command ran, and has ended so.
-    Ended(How),
-    /// No command was started: no line fits, its words can't be made, or there was no memory for what its run needs.
-    NotStarted,
-    /// The start failed.
-    StartFailed,
-    /// A read of its output failed, or its 1,048,576 reads were used up. It was not waited for.
-    ReadFailed,
-    /// The wait for its end failed.
-    WaitFailed,
-}
-
-impl Driven {
-    ghost use Rattle.std.specs.Prelude.{◌≡◌};
-    ghost use Rattle.rk_child.specs.Driving.{told_end};
-
-    /// What is told of its end.
-    pub fn how(self) -> How
-        ensures { result ≡ told_end self }
-    {
-        match self {
-            Driven::Ended(how) => how,
-            _ => How::Fault,
-        }
-    }
-}
+use rk_devices::Driven;
 
 /// What is told of a launch whose command another one followed: of that one, where it was started.
 pub fn later(first: Driven, second: Driven) -> Driven

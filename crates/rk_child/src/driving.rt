@@ -8,12 +8,12 @@ ghost use Rattle.rk_child.specs.Rooms.{IsEmptyRoom};
 
 use crate::asks::serve_asks;
 use crate::command::{Prepared, prepare};
-use crate::driven::{Driven, later};
+use crate::driven::later;
 use crate::ending::wait_for;
 use crate::room::Room;
 use crate::spent::{begin, fail, finish};
 use rk_conf::Conf;
-use rk_devices::{Child, Clock, Gate, Launcher, ReadFault, pipe_through, read_out};
+use rk_devices::{Child, Clock, Driven, Gate, Launcher, ReadFault, pipe_through, read_out};
 use rk_hall::{Halls, Launch, Names, Running, Seat};
 use rk_names::Payload;
 use rk_talk::Shelf;
@@ -28,8 +28,8 @@ const MAX_DEPTH: u8 = 8;
 ///
 /// Whatever fails, the launch and those of its handler's own starts are spent, and each child is handed back to the launcher. A launch that is deeper than
 /// 8 is ended as a start that failed, and so is one for which there is no command, or no memory for what its run needs; want of memory later is told to
-/// the handler as ENOMEM. What is told is how the child has ended that came back last, or that there was none. It may wait, for its children, for
-/// outcomes and for locks, and holds no lock while it calls a device, the gate or the shelf.
+/// the handler as ENOMEM. What is told is how the child has ended that came back last, or that there was none; the gate is told it of each command. It may
+/// wait, for its children, for outcomes and for locks, and holds no lock while it calls a device, the gate or the shelf.
 #[cycle(driving)]
 pub fn drive<N: Names, R: Wait, L: Launcher, C: Clock, G: Gate, S: Shelf>(
     rt: &R,
@@ -50,19 +50,23 @@ pub fn drive<N: Names, R: Wait, L: Launcher, C: Clock, G: Gate, S: Shelf>(
     ensures clients { clients_at seat.new ≡ clients_at seat.old }
     ensures seen { SeesOn seat.old seat.new }
 {
+    let key = launch.key();
     if launch.depth() > MAX_DEPTH {
         fail(rt, halls, seat, launch, clock);
+        gate.driven(rt, key, Driven::NotStarted);
         return Driven::NotStarted;
     }
     let (first, next) = run(
         rt, alloc, halls, seat, launch, conf, launcher, clock, gate, shelf,
     );
+    gate.driven(rt, key, first);
     let Some(launch) = next else {
         return first;
     };
     let (second, next) = run(
         rt, alloc, halls, seat, launch, conf, launcher, clock, gate, shelf,
     );
+    gate.driven(rt, key, second);
     if let Some(launch) = next {
         fail(rt, halls, seat, launch, clock);
     }

@@ -1,8 +1,7 @@
 //! The end of a child.
 ghost use Rattle.rk_child.specs.Driving.{EndsAs};
 
-use crate::driven::Driven;
-use rk_devices::{Child, ReadFault};
+use rk_devices::{Child, Driven, ReadFault};
 
 /// Closes the input of a child whose output was read, and waits for its end; where its output could not be read, it is not waited for.
 pub fn wait_for<C: Child>(child: &mut C, read: Result<(), ReadFault>) -> Driven

@@ -12,7 +12,7 @@
 //! child comes back to its launcher. Starts are nested at most eight deep, since a nested one is started only where it is deeper than its handler's
 //! own.
 //!
-//! *Faults.* What is told ([`Driven`]) is how the child has ended that came back last. `StartFailed` and `WaitFailed` come only where the launcher's
+//! *Faults.* What is told (`Driven`) is how the child has ended that came back last. `StartFailed` and `WaitFailed` come only where the launcher's
 //! count of failures rose, its children's counted, and `ReadFailed` only there or where a child was read 1,048,576 times. After a read that failed a
 //! child is not waited for, and it was waited for only where a read had told the end of its output.
 //!
@@ -26,7 +26,7 @@
 //!
 //! `driving` and `asks` call each other, since an ask may start a handler: `driving` has one launch and one command, `asks` the messages of a plain
 //! handler. Around them, `command` has the command, `room` what is made before the start, `spent` what is told to a hall of a launch, `replying` the
-//! replies, `ending` the wait, and `driven` what is told.
+//! replies, `ending` the wait, and `driven` which of two ends is told.
 //!
 //! In `specs/`, `Driving` says what is done with a launcher and what is told, `Commands` what a command is, `Rooms` and `Turned` what is held of a
 //! stream.
@@ -41,6 +41,5 @@ mod replying;
 mod room;
 mod spent;
 
-pub use driven::Driven;
 pub use driving::drive;
 pub use spent::fail;

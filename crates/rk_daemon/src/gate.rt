@@ -1,7 +1,8 @@
 //! What is done between a session's asks.
 
 use crate::held::Held;
-use rk_devices::Gate;
+use log::{Log, warn};
+use rk_devices::{Driven, Gate};
 use rk_hall::{HallNo, Halls, Names};
 use rk_names::{Serial, SessionId};
 use rk_talk::Shelf;
@@ -13,24 +14,47 @@ const MOST: u64 = 16 << 20;
 /// What a handler is counted as, of whose asks and output nothing is told here: the bytes of the longest payload.
 const HANDLER: u64 = 32_767;
 
-/// The gate of the daemon: it holds nobody. After each reply, the volume of a hall whose record holds much goes to the shelf.
+/// The gate of the daemon: it holds nobody. After each reply, the volume of a hall whose record holds much goes to the shelf. Where a handler could not be
+/// run, as where its program is not there, a warning tells an operator why a request was answered that there is no key.
 #[derive(Drop)]
-pub struct Relief<'a, N: Names, S: Shelf> {
+pub struct Relief<'a, L: Log, N: Names, S: Shelf> {
+    rt: &'a L,
     halls: &'a Halls<N>,
     held: &'a Held,
     shelf: &'a S,
 }
 
-impl<'a, N: Names, S: Shelf> Relief<'a, N, S> {
-    /// A gate that relieves these halls.
-    pub fn new(halls: &'a Halls<N>, held: &'a Held, shelf: &'a S) -> Relief<'a, N, S> {
-        Relief { halls, held, shelf }
+impl<'a, L: Log, N: Names, S: Shelf> Relief<'a, L, N, S> {
+    /// A gate that warns by this handle, and relieves these halls.
+    pub fn new(
+        rt: &'a L,
+        halls: &'a Halls<N>,
+        held: &'a Held,
+        shelf: &'a S,
+    ) -> Relief<'a, L, N, S> {
+        Relief {
+            rt,
+            halls,
+            held,
+            shelf,
+        }
     }
 }
 
-impl<'a, N: Names, S: Shelf> Gate for Relief<'a, N, S> {
+impl<'a, L: Log, N: Names, S: Shelf> Gate for Relief<'a, L, N, S> {
     fn started<R: Wait>(&self, _rt: &R, key: Serial) {
         self.held.add(HallNo::of_serial(key), HANDLER);
+    }
+
+    /// A fault is told. How a program has ended is its own, and that no line fits a request is none of a handler.
+    fn driven<R: Wait>(&self, _rt: &R, key: Serial, driven: Driven) {
+        match driven {
+            Driven::Ended(_) | Driven::NotStarted => {}
+            Driven::StartFailed | Driven::ReadFailed | Driven::WaitFailed => {
+                let key = key.get();
+                warn!(self.rt; "handler of key {key}: {driven:?}");
+            }
+        }
     }
 
     /// A volume that can't be handed out, since all of it is owed, is tried again once as much has come.

@@ -85,7 +85,7 @@ fn serve_client<N: Names, R: Wait + Clock + Eprint + Log + Keeper, L: Launcher>(
     let mut socket = Socket::new(stream, &shared.held);
     let mut clock = Seconds::since(rt, shared.start);
     let shelf = shared.shelf(rt, alloc);
-    let gate = Relief::new(&shared.halls, &shared.held, &shelf);
+    let gate = Relief::new(rt, &shared.halls, &shared.held, &shelf);
     let served = serve(
         rt,
         alloc,

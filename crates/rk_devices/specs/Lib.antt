@@ -1,3 +1,4 @@
 pub mod Counts
 pub mod Shown
 pub mod Outputs
+pub mod Ends

@@ -16,16 +16,18 @@
 //!
 //! # How it is built
 //!
-//! `device` has the launcher and its children, `around` clock and gate. `output` keeps what a piped handler puts out, in room that was made before its start,
-//! and `reading` reads.
+//! `device` has the launcher and its children, `around` clock and gate, and `driven` what a gate is told of a handler's end. `output` keeps what a piped handler
+//! puts out, in room that was made before its start, and `reading` reads.
 #![tactic(auto)]
 
 mod around;
 mod device;
+mod driven;
 mod output;
 mod reading;
 
 pub use around::{Clock, Gate};
 pub use device::{Child, DeviceFault, Launcher};
+pub use driven::Driven;
 pub use output::Output;
 pub use reading::{MAX_READS, PIECE, ReadFault, pipe_through, read_out};

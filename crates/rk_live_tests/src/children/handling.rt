@@ -6,9 +6,9 @@ use crate::fakes::still::{Bin, NOW, Stopped};
 use crate::halls::calls::{calls, greets, requests};
 use crate::halls::paths::all;
 use crate::same::same;
-use rk_child::{Driven, drive};
+use rk_child::drive;
 use rk_conf::Conf;
-use rk_devices::Gate;
+use rk_devices::{Driven, Gate};
 use rk_hall::{HallNo, Halls, Names, Seat, Volume, settle};
 use rk_machine::Event;
 use rk_names::{Serial, SessionId};
@@ -184,6 +184,12 @@ impl Gate for Open {
     fn started<R: Wait>(&self, rt: &R, key: Serial) {
         let _ = rt;
         let _ = key;
+    }
+
+    fn driven<R: Wait>(&self, rt: &R, key: Serial, driven: Driven) {
+        let _ = rt;
+        let _ = key;
+        let _ = driven;
     }
 
     fn answered<R: Wait>(&self, rt: &R, session: SessionId) {

@@ -3,7 +3,7 @@ use crate::answers::Said;
 use crate::children::handling::{Adder, Handling};
 use crate::fakes::launcher::{Call, Fuse, Program};
 use crate::halls::opening::{Scene, in_new_halls};
-use rk_child::Driven;
+use rk_devices::Driven;
 use rk_machine::How;
 use rk_names::Errno;
 use std::alloc::Global;

@@ -1,7 +1,7 @@
 //! Sessions on threads of their own act in one order: each waits until its turn has come.
 
 use crate::fakes::still::NOW;
-use rk_devices::Gate;
+use rk_devices::{Driven, Gate};
 use rk_names::{Moment, Serial, SessionId};
 use std::sync::Wait;
 use std::sync::atomic::AtomicU64;
@@ -82,6 +82,12 @@ impl<'a, R: Clock> Gate for Held<'a, R> {
         self.turns.next();
         self.turns.wait(self.rt, self.until);
         self.turns.pause(self.rt, self.pause);
+    }
+
+    fn driven<W: Wait>(&self, rt: &W, key: Serial, driven: Driven) {
+        let _ = rt;
+        let _ = key;
+        let _ = driven;
     }
 
     fn answered<W: Wait>(&self, rt: &W, session: SessionId) {
