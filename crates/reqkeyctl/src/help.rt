@@ -51,6 +51,9 @@ const AFTER_RUN: &str =
     "keyutils' programs, such as keyctl, find the daemon by a library that is preloaded. The program, and all that it starts, share one session ring, which \
 lasts until it has ended. It has the standard streams; its environment is the caller's, with LD_PRELOAD, REQKEYD_SOCKET and REQKEYD_JOIN.
 
+Example:
+  reqkeyctl run --socket S -- sh -c 'id=$(keyctl request2 user mykey hello) && keyctl print $id'
+
 Status: the program's own; 128 and the number of the signal that has killed it; 127 where there is no such program, and 126 where it can't be started \
 (reqkeyctl: program); 1 for a refusal (errno N on standard error), a daemon that can't be reached (reqkeyctl: socket), a library that is not there \
 (reqkeyctl: file), or want of memory (reqkeyctl: memory).";

@@ -11,18 +11,23 @@ const VERSION: &str = "0.1.0 (rattle-kit-13f logic dac8208d650f15bf)";
 const SERVE: &str =
     "Answers a Unix socket: keys are found, or made by the handler programs of a configuration.
 
-Connections are served by so many workers at a time; more connections wait, and none is lost. A socket's file that a daemon left behind is \
-replaced, any other file is not.";
+A handler is the program of the first line that fits a key which is missing. One behind | gets the callout on standard input and puts out the payload; \
+any other one speaks the daemon's protocol on its standard streams, as reqkeyctl does for a shell script. All who ask for the key meanwhile wait for its end.
+
+Connections are served by so many workers at a time; more connections wait, and none is lost. Keys are in memory alone and end with the daemon. A \
+socket's file that a daemon left behind is replaced, any other file is not.";
 
 /// What `serve --help` says behind its options.
 const AFTER: &str =
-    "Numbers have no sign. Once connections are accepted, standard error says reqkeyd: ready. Sessions that end badly, connections that can't be \
-accepted, and volumes of the record that are dropped (volume HALL INDEX STEPS) or can't be written are told there, too.
+    "Numbers have no sign. Once connections are accepted, standard error says reqkeyd: ready. Sessions that end badly, handlers that can't be started, \
+read or waited for, connections that can't be accepted, and volumes of the record that are dropped (volume HALL INDEX STEPS) or can't be written are told \
+there, too. Signals are not caught: one that ends the daemon leaves the socket's file, which the next start replaces.
 
 Example:
-  echo 'create user p:* * |/bin/cat' > /etc/reqkeyd.conf
-  reqkeyd serve --socket /run/reqkeyd/socket --conf /etc/reqkeyd.conf &
-  reqkeyctl --socket /run/reqkeyd/socket --uid 1000 request user p:1 user hello
+  echo 'create user p:* * |/bin/cat' > /tmp/reqkeyd.conf
+  reqkeyd serve --socket /tmp/reqkeyd.socket --conf /tmp/reqkeyd.conf --clients 2 &
+  reqkeyctl --socket /tmp/reqkeyd.socket --uid 1000 request user p:1 user hello    (prints 12, the key's serial)
+  reqkeyctl --socket /tmp/reqkeyd.socket --uid 1000 read 12                        (prints hello)
 
 Status: 0 after the connections of --clients; 2 for words that are no call; 1 for a configuration that can't be read (reqkeyd: conf) or has a fault \
 (reqkeyd: conf line 3: C1), a folder of the record that can't be read or has volumes (reqkeyd: record), a socket that can't be opened or is in use \
@@ -68,7 +73,7 @@ const OPTIONS: [(&str, &str, &str); 8] = [
     (
         "record",
         "FOLDER",
-        "Write the volumes of the record into this folder, which is there and has none (docs/RECORD.md)",
+        "Write the volumes of the record into this folder, which is there and has none; no file is replaced (docs/RECORD.md)",
     ),
 ];
 
@@ -108,11 +113,24 @@ fn rejoin<'a>(alloc: Global) -> Result<Command<'a>, AllocError> {
         .arg(files)
 }
 
+/// What `replay --help` says before its options.
+const REPLAY: &str = "Runs a script from standard input, and writes what the daemon does
+
+A script tells what happens, line by line: which client sends which bytes, and how a handler runs and ends (docs/SCRIPTS.md). It is read to its end, played, \
+and then the replies and the commands are written. No socket is opened, no program is started, and no clock is read, so each run writes the same.";
+
+/// What `replay --help` says behind its options.
+const REPLAYED: &str = "Example:
+  (echo 100 accept 1; echo 100 bytes 1 0000000e01000003e8000003e80000000000) | reqkeyd replay
+
+Status: 0 where the script was run to its end; 2 for words that are no call; 1 where it could not be (reqkeyd: script), or for want of memory before it was \
+read (reqkeyd: memory).";
+
 /// What may stand on the command line.
 pub fn command<'a>(alloc: Global) -> Result<Command<'a>, AllocError> {
-    let replay = Command::new(alloc, "replay").about(
-        "Runs a script from standard input, and writes what the daemon does",
-    );
+    let replay = Command::new(alloc, "replay")
+        .about(REPLAY)
+        .after_help(REPLAYED);
     Command::new(alloc, "reqkeyd")
         .version(VERSION)
         .about("A user-space daemon for the construction protocol of request_key(2)")

@@ -72,8 +72,10 @@ pub fn check<'a>(alloc: Global) -> Result<Command<'a>, AllocError> {
 }
 
 /// What `check --help` says behind its option.
-const CHECKED: &str =
-    "Status: 0 (ok, 3 lines); 2 for words that are no call; 1 for a configuration that can't be read (reqkeyd: conf) or has a fault \
+const CHECKED: &str = "Example:
+  reqkeyd check --conf /etc/reqkeyd.conf
+
+Status: 0 (ok, 3 lines); 2 for words that are no call; 1 for a configuration that can't be read (reqkeyd: conf) or has a fault \
 (reqkeyd: conf line 3: C1: fewer than five fields), for want of memory (reqkeyd: memory), or an output that can't be written (reqkeyd: output).";
 
 /// `pick` with its options and the names.
