@@ -2,7 +2,7 @@
 -- them runs out of steps.
 use denote.RattleType.{RattleType}
 use Prim.Native.Nat.{ℕ}
-use denote.Param.{param, number}
+use denote.Param.{number}
 use denote.Param.Send.{IsSend, IsSync, sendable}
 use Rattle.std.proofs.Crossing.{crosses}
 use Rattle.rk_table.specs.contracts.table.Table as table

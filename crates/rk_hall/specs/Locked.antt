@@ -1,9 +1,11 @@
 -- What is under the lock of a hall, and what a call does to it.
-use Rattle.std.specs.Prelude.{◌≡◌, ℕ, ◌+◌, ◌<◌, ◌≤◌, true, false, length, refl, Result, Ok, Err}
+use Rattle.std.specs.Prelude.{◌≡◌, ℕ, ◌+◌, ◌<◌, ◌≤◌, true, false, length, refl, Some, Result, Ok, Err}
 use Rattle.std.specs.Coded.{Coded, code_by, coded×, coded_ℕ}
 use Rattle.rk_machine.specs.declared.event.Event.{Event}
 use Rattle.rk_machine.specs.declared.event.Answer.{Answer}
-use Rattle.rk_machine.specs.Views.{is_owed}
+use Rattle.rk_machine.specs.declared.event.Answer.TheVariants.{Start}
+use Rattle.rk_machine.specs.World.{World}
+use Rattle.rk_machine.specs.Views.{is_owed, depth_of}
 use Rattle.rk_machine.specs.Owing.{constructions}
 use Rattle.rk_record.specs.declared.hall_no.HallNo.{HallNo}
 use Rattle.rk_record.specs.declared.hall_no.HallNo.TheVariants.{Zero, One, Two, Three}
@@ -14,7 +16,7 @@ use Rattle.rk_hall.specs.declared.lapse.Lapse.{Lapse}
 use Rattle.rk_hall.specs.declared.lapse.Lapse.TheVariants.{Behind, Stray}
 use Rattle.rk_hall.specs.declared.lapse.CallFault.{CallFault}
 use Rattle.rk_hall.specs.declared.lapse.CallFault.TheVariants as fault
-use Rattle.rk_hall.specs.Seats.{PartShown}
+use Rattle.rk_hall.specs.Seats.{PartShown, IsDepth}
 
 -- what is under the lock: a hall, how many seats may still be made, the turns of seats that were given back, and the strays
 pub record LockedShown : Type 0 where
@@ -53,6 +55,11 @@ pub record IsLocked (no : ℕ) (hall : HallShown) (left retired strays calls_tot
   pub out : out_total ≡ constructions hall.world
   pub home : home_amount ≡ strays
   pub spare : home_parts + constructions hall.world ≡ 4294967296 + strays
+
+-- the construction that an answer starts stands in the world, 1 to 8 starts deep
+abbrev pub HasDepth : Answer → World → Type 0
+HasDepth (Start k subject) w = (depth : ℕ) × (depth_of w k ≡ Some depth) × IsDepth depth
+HasDepth _ w = Unit {0}
 
 -- why a call was refused, and exactly then: its step would have a number that the part has seen; or there are not as many places as it may need; or
 -- a growth was refused

@@ -82,6 +82,10 @@ without_client p = record p { clients = p.clients - 1 }
 
 -- ---- tokens
 
+-- so many starts lead to a handler: no chain of them is longer than 8
+abbrev pub IsDepth : ℕ → Type 0
+IsDepth depth = (1 ≤ depth) × (depth ≤ 8)
+
 -- a construction whose handler is to be started, or runs: where, and what its handler is told
 pub record TokenShown : Type 0 where
   pub hall : HallNo

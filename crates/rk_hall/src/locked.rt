@@ -1,17 +1,16 @@
 //! What is under the lock of a hall.
 ghost use Rattle.std.specs.Prelude.{◌≢◌, ◌&&◌, not, ◌≡◌, ℕ, ◌+◌, ◌-◌, ◌*◌, ◌<◌, ◌≤◌, ◌↔◌, ◌^◌, true, is_some, length, IfOk, IfErr, OnErr, OnOk, Ok, Err};
 ghost use Rattle.std.specs.Prelude.{Some, None, IfSome, IfNone, option_map, MatchOption};
-ghost use Rattle.std.specs.Option.{option_map_or};
 ghost use Rattle.rk_machine.specs.Views.{is_owed, is_ready, has_wait, depth_of, Peeks};
 ghost use Rattle.rk_machine.specs.Owing.{constructions, begun, is_followed};
 ghost use Rattle.rk_machine.specs.Allowed.{done};
 ghost use Rattle.rk_record.specs.HallNumbers.{hall_number};
-ghost use Rattle.rk_record.specs.Record.{IsRecord};
+ghost use Rattle.rk_record.specs.Record.{IsRecord, IsFull};
 ghost use Rattle.rk_record.specs.Turns.{Turned};
 ghost use Rattle.rk_record.specs.Copies.{started, AreCopies};
 ghost use Rattle.rk_record.specs.Volumes.{volume_of, rolled, CannotRoll};
-ghost use Rattle.rk_hall.specs.Seats.{no_calls, after_call, IsCall, runs_on, without_client, IsOutcomeOrNone, IsOutcome};
-ghost use Rattle.rk_hall.specs.Locked.{taken, RefusedUnder, OwedTurn, IsOwedOr, strays_of};
+ghost use Rattle.rk_hall.specs.Seats.{no_calls, after_call, IsCall, runs_on, without_client, IsOutcomeOrNone, IsOutcome, IsDepth};
+ghost use Rattle.rk_hall.specs.Locked.{taken, HasDepth, RefusedUnder, OwedTurn, IsOwedOr, strays_of};
 
 use crate::lapse::{CallFault, Lapse, Owed};
 use crate::names::{Calls, Names, Out};
@@ -61,6 +60,7 @@ pub(crate) struct Begun<N: Names, const H: u64> {
     pub(crate) subject: Subject,
     pub(crate) depth: u8,
     pub(crate) ticket: Ticket<N, H>,
+    ghost deep: { IsDepth depth },
 }
 
 impl<N: Names, const H: u64> Locked<N, H> {
@@ -137,9 +137,10 @@ impl<N: Names, const H: u64> Locked<N, H> {
         ensures rising { IfOk result (λ d. part.old.seen < d.0.number) }
         ensures part { IfOk result (λ d. part.new ≡ after_call part.old event d.0) }
         ensures begun { IfOk result (λ d. MatchOption d.1 (started d.0.answer ≡ None)
-            (λ b. (d.0.answer ≡ Answer.Start b.key b.subject) × (b.depth ≡ option_map_or (λ n. n) (depth_of self.new.hall.world b.key) 0))) }
+            (λ b. (d.0.answer ≡ Answer.Start b.key b.subject) × (depth_of self.new.hall.world b.key ≡ Some b.depth))) }
         ensures kept { OnOk result (self.new ≡ record self.old { hall = self.new.hall }) }
         ensures err { IfErr result (λ f. RefusedUnder self.old.hall event part.old f) }
+        ensures full { (result ≡ Err CallFault.Full) ↔ ((part.old.seen ≤ taken self.old.hall) × IsFull self.old.hall event) }
         ensures same { OnErr result ((self.new ≡ self.old) × (part.new ≡ part.old)) }
     {
         let found = self.hall.count() + 1;
@@ -361,27 +362,29 @@ fn begin<N: Names, const H: u64>(
     subject: Option<Subject>,
 ) -> Option<Begun<N, H>>
     requires subject { subject ≡ started answer.now }
+    requires depth { HasDepth answer.now hall.now.world }
     requires parts { 1 < home.old.parts }
     ensures begun { MatchOption result (started answer.now ≡ None)
-        (λ b. (answer.now ≡ Answer.Start b.key b.subject) × (b.depth ≡ option_map_or (λ n. n) (depth_of hall.now.world b.key) 0)) }
+        (λ b. (answer.now ≡ Answer.Start b.key b.subject) × (depth_of hall.now.world b.key ≡ Some b.depth)) }
     ensures out { out.new.total ≡ out.old.total + begun answer.now }
     ensures parts { home.new.parts + begun answer.now ≡ home.old.parts }
     ensures amount { home.new.amount ≡ home.old.amount }
 {
     let subject = subject?;
-    match answer {
-        Answer::Start(key, _) => {
-            out.add(home, 1);
-            let share = home.split_off(1, 1);
-            Some(Begun {
-                key: *key,
-                subject,
-                depth: hall.depth(*key).unwrap_or(0),
-                ticket: Ticket { share },
-            })
-        }
-        _ => unreachable!(),
-    }
+    let Answer::Start(key, _) = answer else {
+        unreachable!()
+    };
+    let Some(depth) = hall.depth(*key) else {
+        unreachable!()
+    };
+    out.add(home, 1);
+    let share = home.split_off(1, 1);
+    Some(Begun {
+        key: *key,
+        subject,
+        depth,
+        ticket: Ticket { share },
+    })
 }
 
 /// Takes the ticket of a construction back that has ended.

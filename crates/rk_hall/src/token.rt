@@ -1,5 +1,6 @@
 //! Constructions that are out: to be launched, or running.
 ghost use Rattle.std.specs.Prelude.{◌≡◌};
+ghost use Rattle.rk_hall.specs.Seats.{IsDepth};
 
 use crate::names::Names;
 use crate::ticket::AnyTicket;
@@ -13,6 +14,7 @@ pub struct Launch<N: Names> {
     pub(crate) subject: Subject,
     pub(crate) depth: u8,
     pub(crate) ticket: AnyTicket<N>,
+    ghost deep: { IsDepth depth },
 }
 
 impl<N: Names> Model for Launch<N> {
@@ -30,6 +32,7 @@ pub struct Running<N: Names> {
     pub(crate) subject: Subject,
     pub(crate) depth: u8,
     pub(crate) ticket: AnyTicket<N>,
+    ghost deep: { IsDepth depth },
 }
 
 impl<N: Names> Model for Running<N> {
@@ -58,7 +61,7 @@ impl<N: Names> Launch<N> {
 
     /// How many starts lead to its handler, 1 to 8.
     pub fn depth(&self) -> u8
-        ensures { result ≡ self.now.depth }
+        ensures { (result ≡ self.now.depth) × IsDepth result }
     {
         self.depth
     }
@@ -81,7 +84,7 @@ impl<N: Names> Running<N> {
 
     /// How many starts lead to its handler, 1 to 8.
     pub fn depth(&self) -> u8
-        ensures { result ≡ self.now.depth }
+        ensures { (result ≡ self.now.depth) × IsDepth result }
     {
         self.depth
     }

@@ -7,7 +7,9 @@ use Rattle.std.proofs.lemmas.Option.{slice_get_within, slice_get-get_or, get_or_
 use Rattle.std.proofs.Math.Seq.{take-append-add}
 use Rattle.std.proofs.Math.ListN.{get_or-append}
 use Rattle.std.specs.Prelude.{Some}
+use Rattle.rk_names.specs.declared.errors.Errno.TheVariants as errno
 use Rattle.rk_machine.specs.declared.event.Answer.{Answer}
+use Rattle.rk_machine.specs.declared.event.Answer.TheVariants.{Refused}
 use Rattle.rk_machine.specs.World.{World, empty_world}
 use Rattle.rk_machine.specs.Steps.{Beginning, Step}
 use Rattle.rk_machine.specs.Laws.{ContinuesTo}
@@ -84,6 +86,7 @@ broken_within w v before steps after place run b =
       after = b.after;
       step = b.step;
       other = b.other;
+      memory = b.memory;
     }
 
 -- what is broken in one of the lists is broken in all, joined
@@ -110,8 +113,8 @@ pub run_item : (w v u : World) (ss : List Recorded) (i : ℕ) (x : Recorded) (a 
 run_item w v u ss i x a lt at run step is = run_take w v u ss i x a lt run (subst (λ (y : Recorded). Step v y.now y.event a u) at step) (is ∙ ap (λ (y : Recorded). y.answer) at)
 
 pub broken_item : (w v u : World) (ss : List Recorded) (i : ℕ) (x : Recorded) (a : Answer) → i < length ss → x ≡ get_or ss i x → Runs w (take i ss) v
-    → Step v x.now x.event a u → (a ≡ x.answer → ⊥) → IsBrokenAt w ss i
-broken_item w v u ss i x a lt at run step other = record {
+    → Step v x.now x.event a u → (a ≡ x.answer → ⊥) → (a ≡ Refused errno.Enomem → ⊥) → IsBrokenAt w ss i
+broken_item w v u ss i x a lt at run step other memory = record {
   mid = v;
   run = run;
   found = x;
@@ -120,6 +123,7 @@ broken_item w v u ss i x a lt at run step other = record {
   after = u;
   step = step;
   other = other;
+  memory = memory;
 }
 
 -- steps from the empty world are a run, which obeys the laws

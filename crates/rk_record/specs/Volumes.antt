@@ -4,7 +4,9 @@ use Rattle.std.specs.Coded.{Coded, code_by, coded×, coded_ℕ, coded_list}
 use Rattle.rk_machine.specs.World.{World, world_code}
 use Rattle.rk_machine.specs.Steps.{Step}
 use Rattle.rk_machine.specs.Owing.{owed}
+use Rattle.rk_names.specs.declared.errors.Errno.TheVariants as errno
 use Rattle.rk_machine.specs.declared.event.Answer.{Answer}
+use Rattle.rk_machine.specs.declared.event.Answer.TheVariants.{Refused}
 use Rattle.rk_record.specs.declared.hall_no.HallNo.{HallNo}
 use Rattle.rk_record.specs.contracts.hall_no.HallNo as hall_no
 use Rattle.rk_record.specs.declared.recorded.Recorded.{Recorded}
@@ -57,7 +59,7 @@ CannotRoll h = (places_after h.limit (h.before + length h.steps) ≤ owed h.worl
 abbrev pub counted : ℕ → ℕ
 counted n = min n 18446744073709551615
 
--- the machine, led by the steps before it, answers the step at this place otherwise
+-- the machine, led by the steps before it, answers the step at this place otherwise, and not for want of memory
 pub record IsBrokenAt (from : World) (steps : List Recorded) (place : ℕ) : Type 0 where
   pub mid : World
   pub run : Runs from (take place steps) mid
@@ -67,6 +69,7 @@ pub record IsBrokenAt (from : World) (steps : List Recorded) (place : ℕ) : Typ
   pub after : World
   pub step : Step mid found.now found.event answer after
   pub other : answer ≢ found.answer
+  pub memory : answer ≢ Refused errno.Enomem
 
 -- why steps that come after so many others are no run
 abbrev pub Breaks : World → ℕ → List Recorded → Rejoin → Type 0

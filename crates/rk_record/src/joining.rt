@@ -1,8 +1,10 @@
 //! Volumes that are joined, stepped through anew.
-ghost use Rattle.std.specs.Prelude.{◌≡◌, ◌+◌, ◌≤◌, length, IfOk, IfErr, OnOk, []};
+ghost use Rattle.std.specs.Prelude.{◌≡◌, ◌+◌, ◌≤◌, ◌↔◌, length, IfOk, IfErr, IsTrue, OnOk, []};
+ghost use Rattle.rk_names.specs.declared.errors.Errno.TheVariants.{Enomem};
 ghost use Rattle.std.specs.List.{flat_map};
 ghost use Rattle.rk_machine.specs.World.{World, empty_world};
 ghost use Rattle.rk_machine.specs.Laws.{ContinuesTo};
+ghost use Rattle.rk_machine.specs.declared.event.Answer.TheVariants.{Refused};
 ghost use Rattle.rk_record.specs.Record.{Runs, past_of};
 ghost use Rattle.rk_record.specs.Volumes.{counted, Breaks};
 
@@ -37,6 +39,13 @@ pub fn rejoin(alloc: Global, limits: Limits, volumes: &[&[Recorded]]) -> Result<
     Ok(number)
 }
 
+/// Whether the answer is want of memory.
+fn is_want_of_memory(answer: &Answer) -> bool
+    ensures { IsTrue result ↔ answer.now ≡ Refused Enomem }
+{
+    matches!(answer, Answer::Refused(Errno::Enomem))
+}
+
 /// Steps a book through a list, after so many steps, and compares every answer.
 fn step_through(book: &mut Book, steps: &[Recorded], before: u64) -> Result<u64, Rejoin>
     ensures run { OnOk result (Runs book.old steps.now book.new) }
@@ -51,7 +60,7 @@ fn step_through(book: &mut Book, steps: &[Recorded], before: u64) -> Result<u64,
         };
         let answer = book.step(step.now, event);
         if !answer.equals(&step.answer) {
-            if matches!(answer, Answer::Refused(Errno::Enomem)) {
+            if is_want_of_memory(&answer) {
                 return Err(Rejoin::NoMemory);
             }
             return Err(Rejoin::Broken { number });

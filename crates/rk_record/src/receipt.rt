@@ -77,13 +77,6 @@ impl Receipt {
         &self.answer
     }
 
-    /// What it was answered, of a receipt that is needed no more.
-    pub fn into_answer(self) -> Answer
-        ensures { result ≡ self.answer }
-    {
-        self.answer
-    }
-
     /// Whether it says what the step is: its moment, its event and its answer.
     pub fn is_of(&self, step: &Recorded) -> bool
         ensures { IsTrue result ↔ IsStepOf self.now step.entry.now }

@@ -13,7 +13,8 @@ returns-then-not-equals-clause-broken c =
     let step = subst (λ (e : Event). Step c.loop-step.book c.step-item.result.now e c.step-answer.result c.step-answer.new.self) c.in-Ok.ensures.cases c.step-answer.ensures.step in (
       c.loop-step.step-index,
       c.saturating_add-number.ensures ∙ count_one _ _ _ c.loop-step.invariant.number,
-      broken_item _ _ _ _ _ c.step-item.result _ c.loop-step-test.true c.step-item.is c.loop-step.invariant.run step (λ same. true≢false (sym (c.equals.ensures.1 same) ∙ c.if-not-equals.true)),
+      broken_item _ _ _ _ _ c.step-item.result _ c.loop-step-test.true c.step-item.is c.loop-step.invariant.run step (λ same. true≢false (sym (c.equals.ensures.1 same) ∙ c.if-not-equals.true))
+          (λ want. true≢false (sym (c.is_want_of_memory.ensures.1 want) ∙ c.if-is_want_of_memory.false)),
     )
 
 pub loop-step-preserved : goal.loop-step-preserved
