@@ -58,6 +58,7 @@ pub fn settled<N: Names, R: Wait, C: Clock>(
     match receipt.answer() {
         Answer::Done(_) | Answer::Refused(_) => Saying::Noted(receipt),
         Answer::Start(_, _) | Answer::Waiting(_) | Answer::Negate(_) => {
+            // (copies: the toolchain's borrow checks don't cover a value that is passed on twice)
             let (place, waiting) = (hall, session);
             halls.until_ready(rt, place, waiting);
             collected(rt, halls, seat, hall, clock.now(), session)
