@@ -21,7 +21,7 @@ closed_code =
     code_by (HallShown × (ℕ × (ℕ × ℕ))) (coded× hall_code (coded× coded_ℕ (coded× coded_ℕ coded_ℕ)))
     (λ k. (k.hall, (k.live, (k.retired, k.strays)))) (λ p. record { hall = p.0; live = p.1.0; retired = p.1.1.0; strays = p.1.1.1 }) (λ _. refl)
 
--- what its ledgers keep: the turns that are known of are a share of its steps, and the strays are constructions that are there
+-- what its ledgers keep: the turns that are known of are a share of its steps, and there are at most 1,048,576 strays
 pub record IsClosed (no : ℕ) (hall : HallShown) (live retired strays calls_total pool_amount : ℕ) : Type 0 where
   pub number : hall_number hall.no ≡ no
   pub calls : calls_total ≡ taken hall

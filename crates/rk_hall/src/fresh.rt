@@ -6,7 +6,9 @@ use std::sync::ledger::Blank;
 /// The two ledgers of one hall, which no `Halls` has yet.
 #[derive(Drop)]
 pub struct Ledgers {
+    /// Counts the steps, by the seats that make them.
     pub calls: Blank,
+    /// Counts the constructions, by the tokens that are out.
     pub out: Blank,
     pub ghost call_parts: { calls.parts ≡ 4294967296 },
     pub ghost out_parts: { out.parts ≡ 4294967296 },
@@ -24,9 +26,13 @@ impl Ledgers {
 /// The ledgers that a new `Halls` needs: two for each hall. They take no bytes; whoever makes a `Halls` makes them first, and names them by a type.
 #[derive(Drop)]
 pub struct Fresh {
+    /// Those of hall 0.
     pub zero: Ledgers,
+    /// Those of hall 1.
     pub one: Ledgers,
+    /// Those of hall 2.
     pub two: Ledgers,
+    /// Those of hall 3.
     pub three: Ledgers,
 }
 

@@ -34,7 +34,9 @@ pub struct Halls<N: Names> {
 
 /// What a call gives: its receipt, and a `Launch` where its answer is a start.
 pub struct Called<N: Names> {
+    /// That of the step.
     pub receipt: Receipt,
+    /// The construction to be started, where the step is answered so.
     pub launch: Option<Launch<N>>,
 }
 

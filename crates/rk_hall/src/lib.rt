@@ -19,10 +19,11 @@
 //!
 //! *Receipts.* When all is over, [`settle`] compares the records with the seats and with the receipts that came of them: it answers `Ok` exactly where the
 //! turns of the seats are all steps, and every receipt stands in the record of its hall, by rising number. Else it names what is missed, or the first
-//! receipt at fault.
+//! receipt at fault. The records are those that stand under the locks then: no contract sees what a lock keeps, so that they are the records of the calls
+//! before is the lock's to keep, and tests of threads compare it.
 //!
 //! A seat, a token or a volume works only with the `Halls` that made it, by its type. Not promised: that a lock is ever got, that a waiter wakes, and
-//! any order between threads beyond the numbers.
+//! any order between threads beyond the numbers. That each step which gives an outcome wakes those who wait for it is tried by tests.
 //!
 //! # Use
 //!

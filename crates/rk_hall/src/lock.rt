@@ -1,4 +1,7 @@
 //! One hall under its lock.
+//!
+//! Who waits there for an outcome is woken by the steps that can give one alone: a completion, and the end of a construction. All other steps wake nobody,
+//! so that many who wait cost the others nothing.
 ghost use Rattle.std.specs.Prelude.{◌≡◌, ◌≢◌, ◌+◌, ◌*◌, ◌<◌, ◌≤◌, ◌^◌, is_some, IfOk, IfErr, OnErr, Ok, Err, Some, None, IfSome, MatchOption};
 ghost use Rattle.rk_machine.specs.Owing.{is_followed};
 ghost use Rattle.rk_record.specs.HallNumbers.{hall_number};
@@ -15,16 +18,28 @@ use crate::opening::empty_hall;
 use crate::part::Part;
 use crate::ticket::Ticket;
 use rk_machine::{Answer, Event, How, Ran};
+use rk_message::Ask;
 use rk_names::{Description, Errno, Moment, Payload, Serial, SessionId, TypeName};
 use rk_record::{Copies, HallFault, HallNo, Receipt, Volume};
 use std::alloc::{AllocError, Global};
 use std::sync::{Condvar, Mutex, Wait};
 
-/// Hall `H` under its lock, and who waits for one of its steps.
+/// Hall `H` under its lock, and who waits there for an outcome.
 #[derive(Drop)]
 pub(crate) struct Lock<N: Names, const H: u64> {
     pub(crate) locked: Mutex<Locked<N, H>>,
-    pub(crate) moved: Condvar,
+    pub(crate) told: Condvar,
+}
+
+/// Whether the event is an INSTANTIATE, a NEGATE or a REJECT: where that is done, the key is complete, and those who wait for it have their outcome.
+fn completes(event: &Event) -> bool {
+    matches!(
+        event,
+        Event::Asked(
+            _,
+            Ask::Instantiate { .. } | Ask::Negate { .. } | Ask::Reject { .. }
+        )
+    )
 }
 
 impl<N: Names, const H: u64> Lock<N, H> {
@@ -45,7 +60,7 @@ impl<N: Names, const H: u64> Lock<N, H> {
         let locked = Locked::new(hall, ledgers.calls, ledgers.out);
         Ok(Lock {
             locked: Mutex::new(locked),
-            moved: Condvar::new(),
+            told: Condvar::new(),
         })
     }
 
@@ -75,11 +90,14 @@ impl<N: Names, const H: u64> Lock<N, H> {
         ensures err { IfErr result (λ f. CallRefused part.old f) }
         ensures same { OnErr result (part.new ≡ part.old) }
     {
+        let completes = completes(&event);
         // Before the lock is taken, since others wait for it.
         let copies = Copies::of(&event).ok();
-        let called = self.locked.lock(rt).call(part, now, event, copies);
-        self.moved.notify_all();
-        called
+        let (receipt, begun) = self.locked.lock(rt).call(part, now, event, copies)?;
+        if completes && matches!(receipt.answer(), Answer::Done(_)) {
+            self.told.notify_all();
+        }
+        Ok((receipt, begun))
     }
 
     pub(crate) fn launched<R: Wait>(
@@ -95,7 +113,7 @@ impl<N: Names, const H: u64> Lock<N, H> {
         ensures value { is_some result.value ≡ runs_on ran result.receipt }
     {
         let owed = self.locked.lock(rt).launched(part, now, key, ticket, ran);
-        self.moved.notify_all();
+        self.tell_if_over(&owed);
         owed
     }
 
@@ -117,7 +135,7 @@ impl<N: Names, const H: u64> Lock<N, H> {
             .locked
             .lock(rt)
             .ended(part, now, key, ticket, how, payload);
-        self.moved.notify_all();
+        self.tell_if_over(&owed);
         owed
     }
 
@@ -133,9 +151,7 @@ impl<N: Names, const H: u64> Lock<N, H> {
         ensures outcome { IsOutcomeOrNone result.value }
         ensures stray { result.receipt ≡ Err Lapse.Stray → result.value ≡ Answer.Refused Errno.Einval }
     {
-        let owed = self.locked.lock(rt).collect(part, now, session);
-        self.moved.notify_all();
-        owed
+        self.locked.lock(rt).collect(part, now, session)
     }
 
     pub(crate) fn gone<R: Wait>(
@@ -147,13 +163,18 @@ impl<N: Names, const H: u64> Lock<N, H> {
     ) -> Owed<()>
         ensures { (hall : HallNo) → hall_number hall ≡ H → OwedPart hall now (Event.Gone session) (without_client part.old) part.new result.receipt }
     {
-        let owed = self.locked.lock(rt).gone(part, now, session);
-        self.moved.notify_all();
-        owed
+        self.locked.lock(rt).gone(part, now, session)
+    }
+
+    /// Where no ticket goes on, the construction has ended: those who wait for its key have their outcome, its starter too.
+    fn tell_if_over(&self, owed: &Owed<Option<Ticket<N, H>>>) {
+        if owed.value.is_none() {
+            self.told.notify_all();
+        }
     }
 
     pub(crate) fn until_ready<R: Wait>(&self, rt: &R, session: SessionId) {
-        let _locked = self.moved.wait_while(
+        let _locked = self.told.wait_while(
             rt,
             self.locked.lock(rt),
             |locked| locked.is_held(&session),
@@ -182,7 +203,7 @@ impl<N: Names, const H: u64> Lock<N, H> {
     pub(crate) fn close(self) -> Closed<N, H>
         ensures { result.live ≡ 0 }
     {
-        let Lock { locked, moved: _ } = self;
+        let Lock { locked, told: _ } = self;
         Closed::of(locked.into_inner())
     }
 }

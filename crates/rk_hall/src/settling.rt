@@ -42,6 +42,8 @@ pub enum SettleFault {
 /// four halls. Else hall by hall, from hall 0 on, the first receipt is sought that is not numbered above those of its hall before it, or that does
 /// not stand in its volume with its moment, event and answer: [`SettleFault::Missing`] where its volume is neither the one that the hall records nor
 /// among those that are handed in, or else [`SettleFault::Forged`]. Receipts of several halls may come in any order among one another.
+///
+/// The records are those that stand under the locks in the end. No contract sees what a lock keeps: that the calls before made them is the lock's to keep.
 pub fn settle<N: Names>(
     halls: Halls<N>,
     volumes: &[Volume<N>],
