@@ -1,5 +1,6 @@
 //! The command line.
-use crate::preview_args::{check, pick};
+use crate::preview_args::{NUMBER, check, pick};
+use clap::builder::ValueParser;
 use clap::error::ErrorKind;
 use clap::{Arg, Command, Error};
 use std::alloc::{AllocError, Global};
@@ -20,8 +21,8 @@ socket's file that a daemon left behind is replaced, any other file is not.";
 /// What `serve --help` says behind its options.
 const AFTER: &str =
     "Numbers have no sign. Once connections are accepted, standard error says reqkeyd: ready. Sessions that end badly, handlers that can't be started, \
-read or waited for, connections that can't be accepted, and volumes of the record that are dropped (volume HALL INDEX STEPS) or can't be written are told \
-there, too. Signals are not caught: one that ends the daemon leaves the socket's file, which the next start replaces.
+read or waited for, connections that wait or can't be accepted, and volumes of the record that are dropped (volume HALL INDEX STEPS) or can't be \
+written are told there, too. Signals are not caught: one that ends the daemon leaves the socket's file, which the next start replaces.
 
 Example:
   echo 'create user p:* * |/bin/cat' > /tmp/reqkeyd.conf
@@ -30,49 +31,61 @@ Example:
   reqkeyctl --socket /tmp/reqkeyd.socket --uid 1000 read 12                        (prints hello)
 
 Status: 0 after the connections of --clients; 2 for words that are no call; 1 for a configuration that can't be read (reqkeyd: conf) or has a fault \
-(reqkeyd: conf line 3: C1), a folder of the record that can't be read or has volumes (reqkeyd: record), a socket that can't be opened or is in use \
-(reqkeyd: socket), or want of memory (reqkeyd: memory).";
+(reqkeyd: conf line 3: C1), a system that gives no random bytes (reqkeyd: random), a folder of the record that can't be read or has volumes \
+(reqkeyd: record), a library that can't be read (reqkeyd: keyutils), a socket that can't be opened or is in use (reqkeyd: socket), or want of memory or \
+of a thread (reqkeyd: memory).";
 
-/// The options of `serve`, by name, value and what they are for; the first two must be there.
-const OPTIONS: [(&str, &str, &str); 8] = [
+/// What looks as permission bits: octal digits read as decimal ones.
+const OCTAL: ValueParser = ValueParser::Unsigned(0, 777);
+
+/// The options of `serve`, by name, value, what it has to look like, and what they are for; the first two must be there.
+const OPTIONS: [(&str, &str, ValueParser, &str); 8] = [
     (
         "socket",
         "PATH",
+        ValueParser::String,
         "Where the socket is made, in a folder that is there",
     ),
     (
         "conf",
         "PATH",
+        ValueParser::String,
         "The configuration, read once at the start (docs/CONFIGURATION.md)",
     ),
     (
         "negative",
         "N",
+        NUMBER,
         "For how many seconds a key is negative that its handler did not make, 0 to 4294967295 [default: 60]",
     ),
     (
         "sessions",
         "N",
+        ValueParser::Unsigned(1, 64),
         "How many connections are served at a time, 1 to 64 [default: 64]",
     ),
     (
         "clients",
         "N",
+        NUMBER,
         "End after so many connections, 0 to 4294967295, 0 for never [default: 0]",
     ),
     (
         "mode",
         "OCTAL",
+        OCTAL,
         "The permissions of the socket's file, 0 to 777 in octal [default: 600]",
     ),
     (
         "keyutils",
         "FILE",
+        ValueParser::String,
         "Have handlers that ask preload this library, so that keyutils' own programs are handlers",
     ),
     (
         "record",
         "FOLDER",
+        ValueParser::String,
         "Write the volumes of the record into this folder, which is there and has none; no file is replaced (docs/RECORD.md)",
     ),
 ];
@@ -83,8 +96,11 @@ const REQUIRED: usize = 2;
 /// `serve` with its options.
 fn serve<'a>(alloc: Global) -> Result<Command<'a>, AllocError> {
     let mut serve = Command::new(alloc, "serve").about(SERVE).after_help(AFTER);
-    for (at, (name, value, help)) in OPTIONS.iter().enumerate() {
-        let option = Arg::new(alloc, name).long(name).value_name(value);
+    for (at, (name, value, parser, help)) in OPTIONS.iter().enumerate() {
+        let option = Arg::new(alloc, name)
+            .long(name)
+            .value_name(value)
+            .value_parser(*parser);
         serve = serve.arg(option.required(at < REQUIRED).help(help))?;
     }
     Ok(serve)

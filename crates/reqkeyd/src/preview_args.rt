@@ -1,4 +1,5 @@
 //! What may stand on the command line behind `check` and `pick`.
+use clap::builder::ValueParser;
 use clap::{Arg, ArgAction, Command};
 use std::alloc::{AllocError, Global};
 
@@ -32,24 +33,38 @@ const NAMES: [(&str, &str); 3] = [
     ),
 ];
 
-/// The numbers of a request, and what they are.
-const NUMBERS: [(&str, &str); 6] = [
-    ("uid", "The user that asks, 0 to 4294967295 [default: 0]"),
-    ("gid", "Its group, 0 to 4294967295 [default: 0]"),
+/// A number of 32 bits.
+pub const NUMBER: ValueParser = ValueParser::Unsigned(0, 4_294_967_295);
+
+/// The serial of a ring, or 0.
+const RING: ValueParser = ValueParser::Unsigned(0, 2_147_483_647);
+
+/// The numbers of a request, what they have to look like, and what they are.
+const NUMBERS: [(&str, ValueParser, &str); 6] = [
+    (
+        "uid",
+        NUMBER,
+        "The user that asks, 0 to 4294967295 [default: 0]",
+    ),
+    ("gid", NUMBER, "Its group, 0 to 4294967295 [default: 0]"),
     (
         "key",
+        ValueParser::Unsigned(1, 2_147_483_647),
         "The serial of the key that is to be made, 1 to 2147483647 [default: 1]",
     ),
     (
         "thread",
+        RING,
         "The user's thread ring, 0 to 2147483647, 0 for none [default: 0]",
     ),
     (
         "process",
+        RING,
         "Its process ring, 0 to 2147483647, 0 for none [default: 0]",
     ),
     (
         "session",
+        RING,
         "Its session ring, 0 to 2147483647, 0 for none [default: 0]",
     ),
 ];
@@ -90,8 +105,9 @@ pub fn pick<'a>(alloc: Global) -> Result<Command<'a>, AllocError> {
         .arg(negate.help(
             "What is run after a piped program failed, in place of what makes the key",
         ))?;
-    for (name, help) in &NUMBERS {
-        pick = pick.arg(Arg::new(alloc, name).long(name).value_name("N").help(help))?;
+    for (name, parser, help) in &NUMBERS {
+        let option = Arg::new(alloc, name).long(name).value_name("N");
+        pick = pick.arg(option.value_parser(*parser).help(help))?;
     }
     for (name, help) in &NAMES {
         pick = pick.arg(Arg::new(alloc, name).required(true).help(help))?;

@@ -1,12 +1,11 @@
 //! The asks of a plain handler.
 ghost use Rattle.std.specs.Prelude.{◌≡◌, ◌≤◌, ◌<◌, ◌+◌, length, MatchBool, OnOk, IfErr, true};
-ghost use Rattle.rk_names.specs.declared.numbers.SessionId.TheVariants.{Handler};
 ghost use Rattle.rk_devices.specs.Counts.{most};
 ghost use Rattle.rk_frame.specs.Streams.{IsPartial};
-ghost use Rattle.rk_talk.specs.Said.{Says};
 ghost use Rattle.rk_talk.specs.Stays.{Stays};
 ghost use Rattle.rk_devices.specs.Shown.{FailsReading, GoesOn};
 ghost use Rattle.rk_child.specs.Driving.{Runs};
+ghost use Rattle.rk_child.specs.Replying.{SaysOf};
 ghost use Rattle.rk_child.specs.Rooms.{IsEmpty};
 ghost use Rattle.rk_child.specs.Turned.{Turns};
 
@@ -16,7 +15,7 @@ use crate::spent::fail;
 use rk_conf::Conf;
 use rk_devices::{Child, Clock, Gate, Launcher, MAX_READS, PIECE, ReadFault, read_out};
 use rk_frame::{Frames, Next};
-use rk_hall::{Called, HallNo, Halls, Names, Seat};
+use rk_hall::{Called, HallNo, Halls, Launch, Names, Seat};
 use rk_message::Ask;
 use rk_names::{Serial, SessionId};
 use rk_talk::{Saying, Shelf, ask_in, refused, settled};
@@ -168,8 +167,37 @@ fn answer_next<N: Names, R: Wait, L: Launcher, C: Clock, G: Gate, S: Shelf>(
     }
 }
 
-// What is to be said of the message with this body: it is asked in the hall of the handler's key, and what it starts is brought to its end. A start
-// that is no deeper than the handler's own is ended as one that failed.
+// What an ask has started is brought to its end. A start that is no deeper than the handler's own is ended as one that failed.
+#[cycle(driving)]
+fn brought_to_end<N: Names, R: Wait, L: Launcher, C: Clock, G: Gate, S: Shelf>(
+    rt: &R,
+    alloc: Global,
+    halls: &Halls<N>,
+    seat: &mut Seat<N>,
+    launch: Option<Launch<N>>,
+    depth: u8,
+    conf: &Conf,
+    launcher: &mut L,
+    clock: &mut C,
+    gate: &G,
+    shelf: &S,
+)
+    requires bound { (L.shown launcher.old).count ≤ most }
+    ensures runs { Runs (depth + 1) (L.shown launcher.old) (L.shown launcher.new) }
+    ensures stays { Stays seat.old seat.new }
+{
+    if let Some(nested) = launch {
+        if nested.depth() > depth {
+            let _ = drive(
+                rt, alloc, halls, seat, nested, conf, launcher, clock, gate, shelf,
+            );
+        } else {
+            fail(rt, halls, seat, nested, clock);
+        }
+    }
+}
+
+// What is to be said of the message with this body: it is asked in the hall of the handler's key, and what it starts is brought to its end.
 #[cycle(driving)]
 fn answered<N: Names, R: Wait, L: Launcher, C: Clock, G: Gate, S: Shelf>(
     rt: &R,
@@ -186,7 +214,7 @@ fn answered<N: Names, R: Wait, L: Launcher, C: Clock, G: Gate, S: Shelf>(
     shelf: &S,
 ) -> Saying
     requires bound { (L.shown launcher.old).count ≤ most }
-    ensures says { Says (Handler key) body.now result }
+    ensures says { SaysOf key body.now seat.old seat.new result }
     ensures runs { Runs (depth + 1) (L.shown launcher.old) (L.shown launcher.new) }
     ensures stays { Stays seat.old seat.new }
 {
@@ -208,15 +236,9 @@ fn answered<N: Names, R: Wait, L: Launcher, C: Clock, G: Gate, S: Shelf>(
         shelf,
     ) {
         Ok(Called { receipt, launch }) => {
-            if let Some(nested) = launch {
-                if nested.depth() > depth {
-                    let _ = drive(
-                        rt, alloc, halls, seat, nested, conf, launcher, clock, gate, shelf,
-                    );
-                } else {
-                    fail(rt, halls, seat, nested, clock);
-                }
-            }
+            brought_to_end(
+                rt, alloc, halls, seat, launch, depth, conf, launcher, clock, gate, shelf,
+            );
             settled(
                 rt,
                 halls,

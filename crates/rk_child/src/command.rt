@@ -1,9 +1,10 @@
 //! The command of a launch.
-ghost use Rattle.std.specs.Prelude.{◌≡◌, IfSome};
-ghost use Rattle.rk_child.specs.Commands.{IsCommandFor, IsPrepared};
+ghost use Rattle.std.specs.Prelude.{IfOk, IfErr};
+ghost use Rattle.rk_child.specs.Commands.{IsCommandFor, IsPrepared, IsUnprepared, TellsWhy};
 
 use crate::room::Room;
 use rk_conf::Conf;
+use rk_devices::Driven;
 use rk_hall::{Halls, Launch, Names};
 use rk_macro::{Command, Wanted, expand};
 use rk_names::Moment;
@@ -18,8 +19,8 @@ pub struct Prepared {
     pub room: Room,
 }
 
-// The command of the first line that fits the launch's subject, with `%{..}` looked up in the requester's rings. There is none where no line fits, or
-// its words can't be made, also for want of memory.
+// The command of the first line that fits the launch's subject, with `%{..}` looked up in the requester's rings. An `Err` is what is told of the launch:
+// `NotStarted` where no line fits, and `NotMade` where the words of the first one can't be made, also for want of memory.
 fn command_for<N: Names, R: Wait>(
     rt: &R,
     alloc: Global,
@@ -27,26 +28,31 @@ fn command_for<N: Names, R: Wait>(
     launch: &Launch<N>,
     conf: &Conf,
     now: Moment,
-) -> Option<Command>
-    ensures { IfSome result (IsCommandFor conf.now launch.now.subject) }
+) -> Result<Command, Driven>
+    ensures ok { IfOk result (IsCommandFor conf.now launch.now.subject) }
+    ensures unprepared { IfErr result IsUnprepared }
+    ensures why { IfErr result (TellsWhy conf.now launch.now.subject) }
 {
     let subject = launch.subject();
-    let line = conf.pick(
+    let Some(line) = conf.pick(
         subject.op.as_bytes(),
         &subject.typ,
         &subject.desc,
         &subject.callout,
-    )?;
+    ) else {
+        return Err(Driven::NotStarted);
+    };
     let look = |wanted: &Wanted| -> Result<Option<Vec<u8>>, AllocError> {
         halls.peek(rt, alloc, launch, &wanted.typ, &wanted.desc, now)
     };
     match expand(alloc, line, subject, look) {
-        Ok(command) => Some(command),
-        Err(_) => None,
+        Ok(command) => Ok(command),
+        Err(fault) => Err(Driven::NotMade(fault)),
     }
 }
 
-/// The command of a launch, and the room for its run. There is none where there is no command, or no memory.
+/// The command of a launch, and the room for its run. An `Err` is what is told of the launch: `NotStarted` where no line fits, `NotMade` where one does and
+/// its command can't be made, and `NoMemory` where there is a command and no memory for the room.
 pub fn prepare<N: Names, R: Wait>(
     rt: &R,
     alloc: Global,
@@ -54,12 +60,14 @@ pub fn prepare<N: Names, R: Wait>(
     launch: &Launch<N>,
     conf: &Conf,
     now: Moment,
-) -> Option<Prepared>
-    ensures { IfSome result (λ p. IsPrepared conf.now launch.now.subject p.command p.room) }
+) -> Result<Prepared, Driven>
+    ensures ok { IfOk result (λ p. IsPrepared conf.now launch.now.subject p.command p.room) }
+    ensures unprepared { IfErr result IsUnprepared }
+    ensures why { IfErr result (TellsWhy conf.now launch.now.subject) }
 {
     let command = command_for(rt, alloc, halls, launch, conf, now)?;
     match Room::new(alloc, command.piped) {
-        Ok(room) => Some(Prepared { command, room }),
-        Err(_) => None,
+        Ok(room) => Ok(Prepared { command, room }),
+        Err(AllocError) => Err(Driven::NoMemory),
     }
 }

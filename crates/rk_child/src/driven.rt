@@ -9,7 +9,7 @@ pub fn later(first: Driven, second: Driven) -> Driven
     ensures { result ≡ later_of first second }
 {
     match second {
-        Driven::NotStarted | Driven::StartFailed => first,
+        Driven::NotStarted | Driven::NotMade(_) | Driven::NoMemory | Driven::StartFailed => first,
         _ => second,
     }
 }

@@ -14,22 +14,24 @@
 //!
 //! *Faults.* What is told (`Driven`) is how the child has ended that came back last. `StartFailed` and `WaitFailed` come only where the launcher's
 //! count of failures rose, its children's counted, and `ReadFailed` only there or where a child was read 1,048,576 times. After a read that failed a
-//! child is not waited for, and it was waited for only where a read had told the end of its output.
+//! child is not waited for, and it was waited for only where a read had told the end of its output. Where no command was to be started, it is told why:
+//! `NotStarted` only where no line fits, `NotMade` only where the words of the one that does fail so, and `NoMemory` only where there is a command.
 //!
 //! *A plain handler* has each ask answered in order, by the hall of its key. A reply that can't be written, a frame that none has, or an ask of which
 //! nothing can be said ends its asks: its input is closed, and what it still puts out is read and dropped. *A piped handler* is written the callout,
-//! and what it puts out is the payload, where there are 1 to 32,767 bytes; that its input can't be written is passed over.
+//! and what it puts out is the payload, where there are 1 to 32,767 bytes; that its input can't be written is passed over. One that has exited with 0 and
+//! put out no payload is told as `NoPayload`.
 //!
-//! What a run needs is made before its start: want of memory there is told as a start that failed. Not promised: that a child ends, and what it says.
+//! What a run needs is made before its start: want of memory there ends it as a start that failed. Not promised: that a child ends, and what it says.
 //!
 //! # How it is built
 //!
 //! `driving` and `asks` call each other, since an ask may start a handler: `driving` has one launch and one command, `asks` the messages of a plain
 //! handler. Around them, `command` has the command, `room` what is made before the start, `spent` what is told to a hall of a launch, `replying` the
-//! replies, `ending` the wait, and `driven` which of two ends is told.
+//! replies, `ending` the wait and what is made of the output, and `driven` which of two ends is told.
 //!
-//! In `specs/`, `Driving` says what is done with a launcher and what is told, `Commands` what a command is, `Rooms` and `Turned` what is held of a
-//! stream.
+//! In `specs/`, `Driving` says what is done with a launcher and what is told, `Commands` what a command is, `Replying` what is to be said of a message,
+//! `Rooms` and `Turned` what is held of a stream.
 #![tactic(auto)]
 
 mod asks;

@@ -14,6 +14,7 @@ use Rattle.rk_conf.specs.contracts.line.Line as line
 use Rattle.rk_hall.specs.declared.names.Names as names
 use Rattle.rk_hall.specs.contracts.halls.Halls as halls
 use Rattle.rk_hall.proofs.Crossing.{lock_send, lock_sync}
+use Rattle.rk_daemon.specs.contracts.connections.Connections as connections
 use Rattle.rk_daemon.specs.contracts.held.Held as held
 use Rattle.rk_daemon.specs.contracts.workers.Shared as shared
 
@@ -59,6 +60,12 @@ conf_send = let l = line_send in search (sendable, crosses) depth 40 fits 20000
 pub conf_sync : IsSync conf.the_row
 conf_sync = let l = line_sync in search (sendable, crosses) depth 40 fits 20000
 
+connections_send : IsSend (Struct (shape connections.the_type))
+connections_send = search (sendable, crosses) depth 40 fits 20000
+
+connections_sync : IsSync (Struct (shape connections.the_type))
+connections_sync = search (sendable, crosses) depth 40 fits 20000
+
 held_send : IsSend (Struct (shape held.the_type))
 held_send = search (sendable, crosses) depth 40 fits 20000
 
@@ -77,8 +84,11 @@ module _ (N : RattleType) (g : names.Ghosts N.Denot) (n : IsSend N) where
           (
             search sendable depth 20,
             (
-              held_send,
-              (search (sendable, crosses) depth 40 fits 20000, (search (sendable, crosses) depth 40 fits 20000, (search sendable depth 20, tt))),
+              connections_send,
+              (
+                held_send,
+                (search (sendable, crosses) depth 40 fits 20000, (search (sendable, crosses) depth 40 fits 20000, (search sendable depth 20, tt))),
+              ),
             ),
           ),
         ),
@@ -95,8 +105,11 @@ module _ (N : RattleType) (g : names.Ghosts N.Denot) (n : IsSend N) where
           (
             search sendable depth 20,
             (
-              held_sync,
-              (search (sendable, crosses) depth 40 fits 20000, (search (sendable, crosses) depth 40 fits 20000, (search sendable depth 20, tt))),
+              connections_sync,
+              (
+                held_sync,
+                (search (sendable, crosses) depth 40 fits 20000, (search (sendable, crosses) depth 40 fits 20000, (search sendable depth 20, tt))),
+              ),
             ),
           ),
         ),

@@ -46,6 +46,7 @@ is_known name = list_any (bytes_eq name)
     (codes "--socket" ∷ codes "--conf" ∷ codes "--negative" ∷ codes "--sessions" ∷ codes "--clients" ∷ codes "--mode" ∷ codes "--keyutils"
     ∷ codes "--record" ∷ [])
 
+-- the byte is one of the digits 0 to 7
 abbrev pub is_octal_digit : ℕ → Bool
 is_octal_digit b = nat_le 48 b && nat_le b 55
 
@@ -58,6 +59,7 @@ octal_said (b ∷ bs) = if list_all is_octal_digit (b ∷ bs) then Some (digits_
 abbrev pub permissions_said : List ℕ → Option ℕ
 permissions_said bytes = up_to 0o777 (octal_said bytes)
 
+-- the number, where there is one and it is not 0
 abbrev pub unless_zero : Option ℕ → Option ℕ
 unless_zero None = None
 unless_zero (Some n) = if n == 0 then None else Some n

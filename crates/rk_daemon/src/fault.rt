@@ -18,7 +18,10 @@ pub enum Fault {
     /// The folder of the record can't be read, or has a file of an earlier record.
     #[error("record")]
     Record,
-    /// The socket can't be opened.
+    /// The library that handlers preload can't be read.
+    #[error("keyutils")]
+    Keyutils,
+    /// The socket can't be opened, or nothing can stand in for a standard stream that is closed.
     #[error("socket")]
     Socket,
     /// There was no memory, or no thread could be made.

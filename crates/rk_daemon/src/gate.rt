@@ -15,7 +15,7 @@ const MOST: u64 = 16 << 20;
 const HANDLER: u64 = 32_767;
 
 /// The gate of the daemon: it holds nobody. After each reply, the volume of a hall whose record holds much goes to the shelf. Where a handler could not be
-/// run, as where its program is not there, a warning tells an operator why a request was answered that there is no key.
+/// run, as where its program is not there, or what it put out is no payload, a warning tells an operator why a request was answered that there is no key.
 #[derive(Drop)]
 pub struct Relief<'a, L: Log, N: Names, S: Shelf> {
     rt: &'a L,
@@ -46,13 +46,18 @@ impl<'a, L: Log, N: Names, S: Shelf> Gate for Relief<'a, L, N, S> {
         self.held.add(HallNo::of_serial(key), HANDLER);
     }
 
-    /// A fault is told. How a program has ended is its own, and that no line fits a request is none of a handler.
+    /// A fault is told. How a program has ended is its own, and where no line fits a request there is no handler.
     fn driven<R: Wait>(&self, _rt: &R, key: Serial, driven: Driven) {
         match driven {
             Driven::Ended(_) | Driven::NotStarted => {}
-            Driven::StartFailed | Driven::ReadFailed | Driven::WaitFailed => {
+            Driven::NoPayload(_)
+            | Driven::NotMade(_)
+            | Driven::NoMemory
+            | Driven::StartFailed
+            | Driven::ReadFailed
+            | Driven::WaitFailed => {
                 let key = key.get();
-                warn!(self.rt; "handler of key {key}: {driven:?}");
+                warn!(self.rt; "handler of key {key}: {driven}");
             }
         }
     }

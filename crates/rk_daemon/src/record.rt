@@ -11,10 +11,15 @@ use std::{fs, io};
 /// How the name of each volume begins.
 const PREFIX: &str = "hall-";
 
-/// Whether a record may be written into a folder: it is there, and no file in it has a name that begins as those of volumes do.
+/// How the name of one begins that is being written. It is hidden, so that who lists volumes does not take a part for one, which a daemon leaves that is killed.
+const PART: &str = ".hall-";
+
+/// Whether a record may be written into a folder: it is there, and no file in it has a name that begins as those of volumes and their parts do.
 pub fn is_free<R: Files + AllocGlobal + Clone + Drop>(rt: &R, folder: &str) -> io::Result<bool> {
     for entry in fs::read_dir(rt, folder)? {
-        if entry?.file_name().starts_with(PREFIX) {
+        let entry = entry?;
+        let name = entry.file_name();
+        if name.starts_with(PREFIX) || name.starts_with(PART) {
             return Ok(false);
         }
     }
@@ -33,7 +38,7 @@ impl<R: Files> Keeper for R {
     fn keep(&self, alloc: Global, folder: &str, head: &Head, steps: &[Recorded]) -> io::Result<()> {
         let (hall, index) = (head.hall.number(), head.index);
         let path = format!(in alloc; "{folder}/{PREFIX}{hall}-volume-{index:06}")?;
-        let part = format!(in alloc; "{folder}/{PREFIX}{hall}-volume-{index:06}.part")?;
+        let part = format!(in alloc; "{folder}/{PART}{hall}-volume-{index:06}.part")?;
         let file = create(self, part.as_str())?;
         let written = write(alloc, file, head, steps);
         let kept = written.and_then(|()| fs::hard_link(self, part.as_str(), path.as_str()));

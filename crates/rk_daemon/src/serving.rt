@@ -2,12 +2,14 @@
 ghost use Rattle.std.specs.Prelude.{◌≡◌, IfErr};
 ghost use Rattle.rk_daemon.specs.Faults.{IsFound, IsOfConf};
 
-use crate::accepting::accept;
+use crate::accepting::{Entrance, accept};
+use crate::connections::Connections;
 use crate::fault::Fault;
 use crate::held::Held;
 use crate::path::{give_free, take};
 use crate::record::{Keeper, is_free};
 use crate::settings::Settings;
+use crate::streams::StandIns;
 use crate::workers::{Shared, start};
 use log::{Log, warn};
 use rk_conf::Conf;
@@ -15,7 +17,7 @@ use rk_hall::{Fresh, HallNo, Halls, Names};
 use rk_talk::Shelf;
 use std::alloc::{AllocError, Global};
 use std::fs;
-use std::fs::Files;
+use std::fs::{File, Files};
 use std::io::{Eprint, Write};
 use std::marker::Brand;
 use std::net::Net;
@@ -78,6 +80,7 @@ fn serve_at<
             halls,
             conf,
             start: begun,
+            connections: Connections::new(),
             held: Held::new(),
             keyutils,
             folder,
@@ -88,7 +91,8 @@ fn serve_at<
     let workers = start(rt, alloc, &shared, &from, settings.sessions)?;
     drop(from);
     let _ = errors.write_all(READY);
-    accept(rt, &listener, &to, settings.clients);
+    let entrance = Entrance::new(&shared.connections, settings.sessions);
+    accept(rt, &listener, entrance, &to, settings.clients);
     drop(listener);
     drop(to);
     for worker in workers {
@@ -177,8 +181,9 @@ fn random_seed<R: RandomSource>(rt: &R) -> Result<u64, Fault>
     }
 }
 
-/// Reads the configuration, draws the seed of this run, looks at the folder of the record, takes the path of the socket, and serves connections: for good,
-/// or until so many have come as the settings say, and those are served out. `errors` is told once connections are accepted.
+/// Reads the configuration, draws the seed of this run, looks at the folder of the record and for the library, takes the places of standard streams that are
+/// closed and the path of the socket, and serves connections: for good, or until so many have come as the settings say, and those are served out. `errors` is
+/// told once connections are accepted.
 pub fn serve<
     R: Files
         + Net
@@ -206,6 +211,14 @@ pub fn serve<
     {
         return Err(Fault::Record);
     }
+    if let Some(library) = settings.keyutils
+        && File::open(rt, library).is_err()
+    {
+        return Err(Fault::Keyutils);
+    }
+    let Ok(_stand_ins) = StandIns::take(rt) else {
+        return Err(Fault::Socket);
+    };
     let Ok((listener, taken)) = take(rt, settings.socket, settings.mode) else {
         return Err(Fault::Socket);
     };

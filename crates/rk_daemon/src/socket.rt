@@ -28,7 +28,9 @@ fn one_more(count: u64) -> u64
 
 impl<'a> Socket<'a> {
     /// The socket of a connection that was accepted, which counts what the records hold here.
-    pub fn new(stream: UnixStream, held: &'a Held) -> Socket<'a> {
+    pub fn new(stream: UnixStream, held: &'a Held) -> Socket<'a>
+        ensures { ⟦<Socket<'a> as Wire>⟧.shown result ≡ record { count = 0; reads = 0; story = None } }
+    {
         Socket {
             stream,
             held,

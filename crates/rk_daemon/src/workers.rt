@@ -3,6 +3,7 @@ ghost use Rattle.std.specs.Prelude.{◌≤◌};
 ghost use Rattle.rk_devices.specs.Counts.{most};
 
 use crate::clock::Seconds;
+use crate::connections::Connections;
 use crate::gate::Relief;
 use crate::held::Held;
 use crate::record::Keeper;
@@ -43,6 +44,8 @@ pub struct Shared<N: Names> {
     pub conf: Conf,
     /// When the daemon has started.
     pub start: Instant,
+    /// How many connections there are.
+    pub connections: Connections,
     /// How much the halls' records hold.
     pub held: Held,
     /// The library that plain handlers preload.
@@ -65,24 +68,23 @@ impl<N: Names> Shared<N> {
     }
 }
 
-/// Serves one connection to its end.
+/// Serves the client with this number to its end.
 fn serve_client<N: Names, R: Wait + Clock + Eprint + Log + Keeper, L: Launcher>(
     rt: &R,
     alloc: Global,
     shared: &Shared<N>,
     seat: &mut Seat<N>,
     launcher: &mut L,
-    client: Client,
+    number: u32,
+    socket: &mut Socket<'_>,
 )
     requires bound { (L.shown launcher.old).count ≤ most }
     ensures bound { (L.shown launcher.new).count ≤ most }
 {
-    let Client { number, stream } = client;
     let Ok(frames) = Frames::new(alloc) else {
         warn!(rt; "session {number}: no memory");
         return;
     };
-    let mut socket = Socket::new(stream, &shared.held);
     let mut clock = Seconds::since(rt, shared.start);
     let shelf = shared.shelf(rt, alloc);
     let gate = Relief::new(rt, &shared.halls, &shared.held, &shelf);
@@ -94,7 +96,7 @@ fn serve_client<N: Names, R: Wait + Clock + Eprint + Log + Keeper, L: Launcher>(
         number,
         frames,
         &shared.conf,
-        &mut socket,
+        socket,
         launcher,
         &mut clock,
         &gate,
@@ -118,7 +120,20 @@ fn work<N: Names, R: Wait + Processes + Clock + Eprint + Log + Keeper>(
     let keyutils = shared.keyutils.as_ref().map(|path| path.as_str());
     let mut launcher = Programs::new(rt, alloc, keyutils);
     for client in clients.iter(rt) {
-        serve_client(rt, alloc, shared, &mut seat, &mut launcher, client);
+        let Client { number, stream } = client;
+        let mut socket = Socket::new(stream, &shared.held);
+        serve_client(
+            rt,
+            alloc,
+            shared,
+            &mut seat,
+            &mut launcher,
+            number,
+            &mut socket,
+        );
+        // (before the connection is closed: whoever sees that may count on this worker)
+        shared.connections.go();
+        drop(socket);
     }
     shared.halls.retire(rt, seat);
 }

@@ -1,5 +1,5 @@
 -- Counts of failures and of reads.
-use Rattle.std.specs.Prelude.{ℕ, ◌≡◌, ◌<◌, ◌+◌, ◌⊎◌, min, nat_lt, if◌then◌else◌, Result, Ok, Err}
+use Rattle.std.specs.Prelude.{ℕ, ◌≡◌, ◌<◌, ◌+◌, ◌⊎◌, min, max, nat_lt, if◌then◌else◌, Result, Ok, Err}
 use Rattle.rk_devices.specs.declared.device.DeviceFault.{DeviceFault}
 
 -- the greatest count, at which a count stays
@@ -17,6 +17,10 @@ both a b = min (a + b) most
 -- one more; a count that stands at the greatest stays there
 abbrev pub raised : ℕ → ℕ
 raised n = if nat_lt n most then n + 1 else n
+
+-- so many more; a count that stands at the greatest stays there
+abbrev pub raised_by : ℕ → ℕ → ℕ
+raised_by more n = max n (min (n + more) most)
 
 -- a call that failed raised the count; any other left it
 abbrev pub IsRaised : {A : Type 0} → Result A DeviceFault → ℕ → ℕ → Type 0

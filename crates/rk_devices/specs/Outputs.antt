@@ -1,12 +1,14 @@
 -- What a piped handler puts out.
-use Rattle.std.specs.Prelude.{ℕ, List, ◌++◌, length, nat_lt, ◌==◌, Option, Some, None, if◌then◌else◌}
+use Rattle.std.specs.Prelude.{ℕ, List, ◌++◌, length, nat_lt, ◌==◌, Option, Some, None, Result, Ok, Err, if◌then◌else◌}
+use Rattle.rk_devices.specs.declared.output.OutputFault.{OutputFault}
+use Rattle.rk_devices.specs.declared.output.OutputFault.TheVariants.{Empty, TooLong}
 
 -- the bytes and those that come next, or nothing more once there are more than 32,767
 abbrev pub put_out : Option (List ℕ) → List ℕ → Option (List ℕ)
 put_out (Some bytes) piece = if nat_lt 32767 (length (bytes ++ piece)) then None else Some (bytes ++ piece)
 put_out None piece = None
 
--- the bytes, where there are any
-abbrev pub payload_of : Option (List ℕ) → Option (List ℕ)
-payload_of (Some bytes) = if length bytes == 0 then None else Some bytes
-payload_of None = None
+-- the bytes, where there are any, and not more
+abbrev pub payload_of : Option (List ℕ) → Result (List ℕ) OutputFault
+payload_of (Some bytes) = if length bytes == 0 then Err Empty else Ok bytes
+payload_of None = Err TooLong

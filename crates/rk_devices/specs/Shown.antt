@@ -4,7 +4,7 @@ use Rattle.rk_machine.specs.declared.event.How.{How}
 use Rattle.rk_devices.specs.declared.device.DeviceFault.{DeviceFault}
 use Rattle.rk_devices.specs.declared.reading.ReadFault.{ReadFault}
 use Rattle.rk_devices.specs.declared.reading.ReadFault.TheVariants.{Failed, UsedUp}
-use Rattle.rk_devices.specs.Counts.{Rose, both, raised, IsRaised}
+use Rattle.rk_devices.specs.Counts.{Rose, both, raised, raised_by, IsRaised}
 
 -- a child: how often a call failed; how often it was read; whether the read that came last told the end of its output; and `None` before it was waited for,
 -- then how it has ended, or `None` where the wait failed
@@ -27,6 +27,10 @@ pub record LauncherShown : Type 0 where
 -- a child that was just started
 abbrev pub new_child : ChildShown
 new_child = record { count = 0; reads = 0; at_end = false; waited = None }
+
+-- a launcher that has started nothing
+abbrev pub new_launcher : LauncherShown
+new_launcher = record { count = 0; longest = 0; out = 0; deepest = 0; at_end = false; last = None }
 
 -- how a child has ended that was waited for, `None` where the wait failed
 abbrev pub end_of : Result How DeviceFault → Option How
@@ -60,6 +64,11 @@ pub record GoesOn (old new : ChildShown) : Type 0 where
 abbrev pub FailsReading : ReadFault → ChildShown → ChildShown → Type 0
 FailsReading Failed old new = Rose old.count new.count
 FailsReading UsedUp old new = 1048576 ≤ new.reads
+
+-- a child was read up to so many times, and just as often where its reads are used up
+abbrev pub ReadsUpTo : ℕ → Result Unit ReadFault → ChildShown → ChildShown → Type 0
+ReadsUpTo times (Err UsedUp) old new = new.reads ≡ raised_by times old.reads
+ReadsUpTo times r old new = new.reads ≤ raised_by times old.reads
 
 -- a child more is out
 abbrev pub one_more : LauncherShown → LauncherShown

@@ -29,5 +29,5 @@ mod reading;
 pub use around::{Clock, Gate};
 pub use device::{Child, DeviceFault, Launcher};
 pub use driven::Driven;
-pub use output::Output;
+pub use output::{Output, OutputFault};
 pub use reading::{MAX_READS, PIECE, ReadFault, pipe_through, read_out};

@@ -5,6 +5,18 @@ ghost use Rattle.rk_devices.specs.Outputs.{put_out, payload_of};
 use rk_names::Payload;
 use std::alloc::{AllocError, Global};
 use std::marker::Model;
+use thiserror::Error;
+
+/// Why what a piped handler has put out is no payload.
+#[derive(Clone, Copy, Debug, PartialEq, Eq, Error)]
+pub enum OutputFault {
+    /// There are no bytes.
+    #[error("0 bytes")]
+    Empty,
+    /// There are more bytes than a payload has.
+    #[error("more than 32767 bytes")]
+    TooLong,
+}
 
 /// What a piped handler has put out: its bytes, at most 32,767, or that there were more. Its room is made at first, so that none is wanted while bytes come.
 #[derive(Drop)]
@@ -49,19 +61,18 @@ impl Output {
         }
     }
 
-    /// The payload that it is: none of no bytes, nor of too many. What it does not need of the room is given back; where that takes memory that is
-    /// lacking, the payload keeps the room.
-    pub fn into_payload(self) -> Option<Payload>
+    /// The payload that it is. What it does not need of the room is given back; where that takes memory that is lacking, the payload keeps the room.
+    pub fn into_payload(self) -> Result<Payload, OutputFault>
         ensures { result ≡ payload_of self }
     {
         if self.over {
-            return None;
+            return Err(OutputFault::TooLong);
         }
         let mut bytes = self.bytes;
         bytes.shrink_to_fit();
         match Payload::new(bytes) {
-            Ok(payload) => Some(payload),
-            Err(_) => None,
+            Ok(payload) => Ok(payload),
+            Err(_) => Err(OutputFault::Empty),
         }
     }
 }

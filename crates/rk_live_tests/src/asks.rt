@@ -1,10 +1,13 @@
 //! What the client of the tests asks.
 use rk_message::{Ask, Greeting};
-use rk_names::{Callout, Description, Payload, SessionId, TypeName};
+use rk_names::{Callout, Description, Payload, Serial, SessionId, TypeName};
 use std::alloc::{AllocError, Global};
 
 /// The client of the tests.
 pub const CLIENT: SessionId = SessionId::Client(1);
+
+/// Another one.
+pub const OTHER: SessionId = SessionId::Client(2);
 
 /// The client says that it is user 1000.
 pub fn hello() -> Ask {
@@ -13,12 +16,21 @@ pub fn hello() -> Ask {
 
 /// A client says that it is this user.
 pub fn hello_of(uid: u32) -> Ask {
+    greeting(uid, None)
+}
+
+/// A client says that it is user 1000, and joins this session ring.
+pub fn joining(ring: Serial) -> Ask {
+    greeting(1000, Some(ring))
+}
+
+fn greeting(uid: u32, join: Option<Serial>) -> Ask {
     Ask::Hello(Greeting {
         uid,
         gid: 1000,
         thread: false,
         process: false,
-        join: None,
+        join,
     })
 }
 

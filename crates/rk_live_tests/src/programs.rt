@@ -54,7 +54,7 @@ fn run<L: Launcher>(
     let _ = pipe_through(&mut child, callout, &mut output);
     let how = child.wait().ok();
     launcher.back(child);
-    Some((bytes(alloc, output.into_payload()), how))
+    Some((bytes(alloc, output.into_payload().ok()), how))
 }
 
 /// What is tried of programs. Each is tried over any launcher, so that those of this machine are made and let go in one place.
@@ -155,13 +155,25 @@ fn counted<L: Launcher>(launcher: &mut L, alloc: Global) -> Option<Vec<u8>> {
     run(launcher, alloc, script(alloc, text), b"")?.0
 }
 
-/// Of 200 in a row nothing is left, nor of one that came back before it was waited for.
+/// It says nothing, and exits with 0.
+fn ends_well<L: Launcher>(
+    rt: &impl Abort,
+    alloc: Global,
+    launcher: &mut L,
+    command: Option<Command>,
+) {
+    let ran = run(launcher, alloc, command, b"");
+    let (put_out, ended) = ran.expect(rt, "a program that was started");
+    same(rt, (put_out.is_none(), ended), (true, Some(How::Exit(0))));
+}
+
+/// Of 200 in a row nothing is left.
 fn leftovers<L: Launcher>(rt: &impl Abort, alloc: Global, launcher: &mut L) {
-    let before = counted(launcher, alloc);
+    let before = counted(launcher, alloc).expect(rt, "what is there before");
     for _ in 0..200 {
-        let _ = run(launcher, alloc, command(alloc, "/bin/true", &[]), b"");
+        ends_well(rt, alloc, launcher, command(alloc, "/bin/true", &[]));
     }
-    same(rt, counted(launcher, alloc), before);
+    same(rt, counted(launcher, alloc), Some(before));
 }
 
 #[test]
@@ -187,10 +199,10 @@ const UNTIL_ENDED: &str = "
 
 /// A program that came back before it was waited for is let go at a later start, once it has ended.
 fn unwaited<L: Launcher>(rt: &impl Abort, alloc: Global, launcher: &mut L) {
-    let before = counted(launcher, alloc);
+    let before = counted(launcher, alloc).expect(rt, "what is there before");
     same(rt, leave(launcher, alloc), Some(()));
-    let _ = run(launcher, alloc, script(alloc, UNTIL_ENDED), b"");
-    same(rt, counted(launcher, alloc), before);
+    ends_well(rt, alloc, launcher, script(alloc, UNTIL_ENDED));
+    same(rt, counted(launcher, alloc), Some(before));
 }
 
 #[test]

@@ -18,6 +18,7 @@ byte_text b = if is_shown b then b ∷ [] else 92 ∷ 48 ∷ octal (b / 64) ∷ 
 abbrev pub word_line : List ℕ → List ℕ
 word_line word = flat_map byte_text word ++ codes "\n"
 
+-- whether what a command puts out is the payload, or it asks for itself: request-key.conf(5), "|"
 abbrev pub kind_text : Bool → List ℕ
 kind_text true = codes "piped"
 kind_text false = codes "plain"

@@ -1,6 +1,6 @@
 //! The launcher of real programs.
 ghost use Rattle.std.specs.Prelude.{◌≡◌};
-ghost use Rattle.rk_devices.specs.Shown.{LauncherShown};
+ghost use Rattle.rk_devices.specs.Shown.{LauncherShown, new_launcher};
 
 use crate::counting::one_more;
 use crate::making::made;
@@ -31,7 +31,9 @@ pub struct Programs<'a, R: Processes> {
 impl<'a, R: Processes> Programs<'a, R> {
     /// A launcher that has started nothing, with the library that handlers are told by which keyutils' calls are the daemon's, if there is one. It takes
     /// no memory.
-    pub fn new(rt: &'a R, alloc: Global, keyutils: Option<&'a str>) -> Programs<'a, R> {
+    pub fn new(rt: &'a R, alloc: Global, keyutils: Option<&'a str>) -> Programs<'a, R>
+        ensures { ⟦<Programs<'a, R> as Launcher>⟧.shown result ≡ new_launcher }
+    {
         Programs {
             rt,
             alloc,

@@ -75,6 +75,7 @@ pub record PlaysAll (conf : List Line) (from : Beginning) (number : ℕ) (rs : L
   pub happenings : map moment_of turns ≡ happenings_of (map said_late rs)
   pub text_is : text' ≡ text ++ text_from number (map said_late rs) (map outputs_in turns)
 
+-- all lines from the first happening on, by their numbers; the machine begins with the head's negative time, and draws each serial from 1 on
 abbrev pub PlaysBody : List Line → Head → List ℕ → List ℕ → Type 0
 PlaysBody conf head text text' =
     PlaysAll conf (record { negative = head.settings.negative; first = 1; stride = 1 }) head.number (readings_from head.first) text text'

@@ -36,6 +36,7 @@ said_in text = said_by (map reading_of (lines_of text))
 
 -- ---- what is set
 
+-- the line of the configuration that a line of a script sets, if it sets one
 abbrev pub conf_in : ScriptLine → Option (List ℕ)
 conf_in Blank = None
 conf_in (Conf text) = Some text
@@ -43,6 +44,7 @@ conf_in (Negative n) = None
 conf_in (Happens now h) = None
 conf_in Wrong = None
 
+-- the negative time that a line sets, in seconds, if it sets it
 abbrev pub seconds_in : ScriptLine → Option ℕ
 seconds_in Blank = None
 seconds_in (Conf text) = None
@@ -74,6 +76,7 @@ beginning_of rs = record { negative = last_of 60 (filter_map seconds_in rs); fir
 
 -- ---- what happens
 
+-- what happens on a line, with its moment, if something happens
 abbrev pub happening_in : ScriptLine → Option (ℕ × Happening)
 happening_in Blank = None
 happening_in (Conf text) = None

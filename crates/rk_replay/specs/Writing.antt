@@ -24,6 +24,7 @@ byte_text b = if is_plain b then b ∷ [] else 37 ∷ slice_index upper_digits (
 abbrev pub word_text : List ℕ → List ℕ
 word_text word = codes " =" ++ flat_map byte_text word
 
+-- the kind of a command, as a word: whether it is piped
 abbrev pub kind_text : Bool → List ℕ
 kind_text true = codes "piped"
 kind_text false = codes "plain"
@@ -42,12 +43,15 @@ line_text text = text ++ codes "\n"
 abbrev pub frame_text : List ℕ → ℕ → List ℕ → List ℕ
 frame_text word number bytes = word ++ codes " " ++ decimal number ++ codes " " ++ encode_lower bytes
 
+-- the command that is to be started for a key
 abbrev pub start_text : ℕ → Command → List ℕ
 start_text key command = codes "start " ++ decimal key ++ codes " " ++ command_text command
 
+-- someone is shut, by a word and a number
 abbrev pub shut_text : List ℕ → ℕ → List ℕ
 shut_text word number = word ++ codes " " ++ decimal number
 
+-- what is written for an output, without the newline
 abbrev pub output_text : Output → List ℕ
 output_text (output.ToClient s bytes) = frame_text (codes "to") s bytes
 output_text (output.ToHandler k bytes) = frame_text (codes "tohandler") k bytes
@@ -59,6 +63,7 @@ output_text (output.ShutHandler k) = shut_text (codes "shuthandler") k
 abbrev pub output_line : Output → List ℕ
 output_line o = line_text (output_text o)
 
+-- the code of a fault of a line: S1 where it is no line of a script, S2 where its happening was out of place
 abbrev pub fault_code : LineFault → List ℕ
 fault_code NotALine = codes "S1"
 fault_code Unknown = codes "S2"

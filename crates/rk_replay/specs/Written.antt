@@ -31,9 +31,11 @@ text_from number (Wrong ∷ rs) told = fault_line number NotALine ++ text_from (
 text_from number (Happens now h ∷ rs) [] = text_from (number + 1) rs []
 text_from number (Happens now h ∷ rs) (outputs ∷ told) = turn_text number outputs ++ text_from (number + 1) rs told
 
+-- the moment and the happening of a turn
 abbrev pub moment_of : Turn → ℕ × Happening
 moment_of turn = (turn.now, turn.happening)
 
+-- what was put out for a turn; None where its happening was out of place
 abbrev pub outputs_in : Turn → Option (List Output)
 outputs_in turn = turn.outputs
 

@@ -1,4 +1,4 @@
-//! A script of happenings in; replies, commands and keys out.
+//! A script of happenings in; replies and commands out.
 //!
 //! # What is promised
 //!
@@ -10,8 +10,8 @@
 //! is wanting, the writer is left as it was; a script of fewer than 1,048,576 bytes is never too long.
 //!
 //! [`ScriptLine::read`] says what a line of a script says, and a [`Transcript`] holds what is put out as lines of text
-//! (`specs/Reading.antt`, `specs/Writing.antt`). Numbers are decimal and have 1 to 20 digits, bytes are hexadecimal, and a line has
-//! at most 262,144 bytes.
+//! (`specs/Reading.antt`, `specs/Writing.antt`). Numbers are decimal, those of seconds with 1 to 20 digits; bytes are hexadecimal; and
+//! a line has at most 262,144 bytes.
 //!
 //! # How it is built
 //!

@@ -30,6 +30,7 @@ use Rattle.rk_served.specs.Order.{MovesFirst, MovesInOrder}
 use Rattle.rk_served.specs.Channels.{is_open}
 use Rattle.rk_served.specs.WhoIsThere.{peer_of}
 
+-- a server, seen as what is left: the world of its machine, and its peers
 abbrev pub left_of : Server → Left
 left_of b = record { world = b.book; peers = b.peers.items }
 
@@ -80,6 +81,7 @@ pub record FailsAtOnce (conf : List Line) (now k : ℕ) (subject : Subject) (old
   pub peers : new.peers ≡ old.peers
   pub outputs : put' ≡ put
 
+-- one of the two: the command for k is put out, or there is none and its start fails at once
 abbrev pub StartsNow : List Line → ℕ → ℕ → Subject → Left → List Output → Left → List Output → Type 0
 StartsNow conf now k subject old put new put' = PutsCommand conf now k subject old put new put' ⊎ FailsAtOnce conf now k subject old put new put'
 
@@ -127,6 +129,7 @@ pub record EndsOne (conf : List Line) (now k : ℕ) (event : Event) (made_for : 
   pub ends : EndsBy conf now k event made_for old part new
   pub outputs : put' ≡ put ++ part.outputs
 
+-- the answer is an error: that of a refusal, or the outcome of a wait that failed
 abbrev pub is_refused : Answer → Bool
 is_refused (answer.Refused e) = true
 is_refused (answer.Done r) = false

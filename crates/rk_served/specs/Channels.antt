@@ -18,6 +18,7 @@ is_open (Talks stream) = not stream.is_shut
 is_open (Starts piped) = false
 is_open (Pipes bytes) = false
 
+-- a stream, shut or not
 abbrev pub is_stream : Channel → Bool
 is_stream (Talks stream) = true
 is_stream (Starts piped) = false

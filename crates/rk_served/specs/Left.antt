@@ -25,14 +25,17 @@ pub record Left : Type 0 where
   pub world : World
   pub peers : List Peer
 
+-- before anything happens: the empty world that begins with this, and no peers
 abbrev pub nothing : Beginning → Left
 nothing from = record { world = empty_world from.negative from.first from.stride; peers = [] }
 
 -- ---- peers
 
+-- a peer: who it is, its channel, and what it was made for, if anything
 abbrev pub peer : SessionId → Channel → Option Subject → Peer
 peer who channel made_for = record { who = who; channel = channel; subject = made_for }
 
+-- the peers but those of s, in the same order
 abbrev pub without : SessionId → List Peer → List Peer
 without s peers = filter (λ x. not (same_session x.who s)) peers
 
@@ -43,12 +46,15 @@ pub record Part : Type 0 where
   pub steps : List Past
   pub outputs : List Output
 
+-- one step: when it was, what happened, and what was answered
 abbrev pub step : ℕ → Event → Answer → Past
 step now e a = record { now = now; event = e; answer = a }
 
+-- a part that has no step, and these outputs
 abbrev pub no_step : List Output → Part
 no_step outputs = record { steps = []; outputs = outputs }
 
+-- a part of this one step, and these outputs
 abbrev pub one_step : ℕ → Event → Answer → List Output → Part
 one_step now e a outputs = record { steps = step now e a ∷ []; outputs = outputs }
 
@@ -67,6 +73,7 @@ reply_of (Start k subject) = None
 reply_of (Waiting k) = None
 reply_of (Negate k) = None
 
+-- the reply to a session, as the one output; no output where there is no reply
 abbrev pub told_to : SessionId → Option Reply → List Output
 told_to who None = []
 told_to who (Some r) = reply_to who r ∷ []

@@ -29,6 +29,7 @@ use Rattle.rk_served.specs.Commands.{IsCommand, HasNoCommand}
 
 -- ---- what one ask does
 
+-- the answer is that the construction of a key begins; that one goes on, by Negate, is no start
 abbrev pub is_start : Answer → Bool
 is_start (Start k subject) = true
 is_start (Done r) = false
@@ -36,7 +37,7 @@ is_start (Waiting k) = false
 is_start (Negate k) = false
 is_start (Refused e) = false
 
--- an ask that starts nothing: its reply is put out, unless it waits
+-- an ask that starts nothing: what its answer replies is put out, and an answer that ends no ask replies nothing
 pub record PutsReply (now : ℕ) (old : Left) (who : SessionId) (ask : Ask) (part : Part) (new : Left) : Type 0 where
   pub answer : Answer
   pub step : Step old.world now (Asked who ask) answer new.world
@@ -72,6 +73,7 @@ pub record FailsToStart (conf : List Line) (now : ℕ) (old : Left) (who : Sessi
   }
   pub peers : new.peers ≡ old.peers
 
+-- what one ask does: it starts nothing, or puts the command of a construction out, or starts one that has no command and fails at once
 pub data Answered (conf : List Line) (now : ℕ) (old : Left) (who : SessionId) (ask : Ask) (part : Part) (new : Left) : Type 0 where
   puts_reply : PutsReply now old who ask part new → Answered conf now old who ask part new
   starts_one : StartsOne conf now old who ask part new → Answered conf now old who ask part new

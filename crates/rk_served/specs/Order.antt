@@ -29,6 +29,7 @@ pub record ActsInOrder (conf : List Line) (old : Left) (now : ℕ) (h : Happenin
   pub acts : Acts conf old now h outputs steps new
   pub in_order : MovesInOrder conf now acts.begun acts.parts new
 
+-- a happening that has outputs, or an empty list of them, is acted on, its moves in order; one that has None is passed over
 abbrev pub ServesInOrder : List Line → Left → ℕ → Happening → Option (List Output) → List Past → Left → Type 0
 ServesInOrder conf old now h None steps new = IsPassedOver old h steps new
 ServesInOrder conf old now h (Some outputs) steps new = ActsInOrder conf old now h outputs steps new

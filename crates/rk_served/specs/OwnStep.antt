@@ -95,6 +95,7 @@ channel_with more (Talks stream) = Talks (lengthened more stream)
 channel_with more (Pipes bytes) = Pipes (bytes ++ more)
 channel_with more (Starts piped) = Starts piped
 
+-- the peer of s takes these bytes on its channel, as above; the world stays, no step is made, and nothing is put out
 pub record Lengthens (s : SessionId) (more : List ℕ) (old : Left) (part : Part) (new : Left) : Type 0 where
   pub channel : Channel
   pub made_for : Option Subject
@@ -110,6 +111,7 @@ Accepts now n old part new =
     (StepsBy now (Opened (Client n)) done [] old part new × Adds (peer (Client n) (Talks no_bytes) None) old.peers new.peers)
     ⊎ ((e : Errno) × StepsBy now (Opened (Client n)) (Refused e) (output.Shut n ∷ []) old part new × (new.peers ≡ old.peers))
 
+-- the client is gone, in one step that puts nothing out, and its peer with it
 abbrev pub ClientGoes : ℕ → ℕ → Left → Part → Left → Type 0
 ClientGoes now n old part new = StepsBy now (Gone (Client n)) done [] old part new × (new.peers ≡ without (Client n) old.peers)
 
@@ -127,6 +129,7 @@ pub record Runs (now k : ℕ) (old : Left) (part : Part) (new : Left) : Type 0 w
   pub steps : StepsBy now (Launched k (if piped then ran.Piped else ran.Plain)) done (if piped then callout_to k subject.callout else []) old part new
   pub replaces : Replaces (Handler k) (Some subject) old.peers new.peers (Starts piped) (if piped then Pipes [] else Talks no_bytes)
 
+-- the handler of k could not be started: one step says so and puts nothing out, and its peer is gone
 abbrev pub FailsToRun : ℕ → ℕ → Left → Part → Left → Type 0
 FailsToRun now k old part new = StepsBy now (Launched k ran.Failed) done [] old part new × (new.peers ≡ without (Handler k) old.peers)
 
@@ -187,6 +190,7 @@ pub record Breaks (conf : List Line) (now k : ℕ) (old : Left) (part : Part) (n
 
 -- ---- by the happening
 
+-- what a happening does by itself, each kind in its own way: from what was left, by this part of a run, to what is left then
 abbrev pub OwnStep : List Line → ℕ → Happening → Left → Part → Left → Type 0
 OwnStep conf now (happening.Accept n) old part new = Accepts now n old part new
 OwnStep conf now (happening.Bytes n bytes) old part new = Lengthens (Client n) bytes old part new

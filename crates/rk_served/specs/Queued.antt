@@ -18,6 +18,7 @@ use Rattle.rk_served.specs.Left.{Left}
 use Rattle.rk_served.specs.Moves.{CannotMove}
 use Rattle.rk_served.specs.Movers.{reversed}
 
+-- how many entries the heap of those that may move has; one session may have more than one
 abbrev pub size : Queue → ℕ
 size q = heap_len q.movers
 
@@ -33,9 +34,11 @@ waiters_at facts k = option_map_or (λ list. list.items) (map.get facts k) []
 abbrev pub IsWaiter : Queue → ℕ → SessionId → Type 0
 IsWaiter q k s = Contains (waiters_at q.waiting.facts k) (reversed s)
 
+-- each that may move by the old queue may move by the new one; others may have come
 abbrev pub KeepsMovers : Queue → Queue → Type 0
 KeepsMovers old new = (s : SessionId) → IsMover old s → IsMover new s
 
+-- each that waits for a key in the old queue waits for that key in the new one; others may have come
 abbrev pub KeepsWaiters : Queue → Queue → Type 0
 KeepsWaiters old new = (k : ℕ) (s : SessionId) → IsWaiter old k s → IsWaiter new k s
 

@@ -16,9 +16,11 @@ pub record Turn : Type 0 where
   pub happening : Happening
   pub outputs : Option (List Output)
 
+-- the steps of all parts, those of one part behind those of the other
 abbrev pub steps_of : List Part → List Past
 steps_of parts = flat_map (λ p. p.steps) parts
 
+-- what all parts put out, that of one part behind that of the other
 abbrev pub outputs_of : List Part → List Output
 outputs_of parts = flat_map (λ p. p.outputs) parts
 
@@ -40,10 +42,12 @@ pub record IsPassedOver (old : Left) (h : Happening) (steps : List Past) (new : 
   pub no_steps : steps ≡ []
   pub same : new ≡ old
 
+-- a happening that has outputs, or an empty list of them, is acted on, and puts them out; one that has None is passed over
 abbrev pub ServesBy : List Line → Left → ℕ → Happening → Option (List Output) → List Past → Left → Type 0
 ServesBy conf old now h None steps new = IsPassedOver old h steps new
 ServesBy conf old now h (Some outputs) steps new = Acts conf old now h outputs steps new
 
+-- the same, of a turn
 abbrev pub Serves : List Line → Left → Turn → List Past → Left → Type 0
 Serves conf old turn steps new = ServesBy conf old turn.now turn.happening turn.outputs steps new
 

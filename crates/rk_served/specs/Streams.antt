@@ -3,9 +3,11 @@ use Rattle.std.specs.Prelude.{◌≡◌, ℕ, true, false, List, [], ◌++◌, i
 use Rattle.rk_frame.specs.Streams.{TakesBody}
 use Rattle.rk_served.specs.Unused.{Unused}
 
+-- a stream that is not shut, and has no unused bytes
 abbrev pub no_bytes : Unused
 no_bytes = record { bytes = []; is_shut = false }
 
+-- the stream with these unused bytes instead of its own; it is shut if it was
 abbrev pub with_bytes : List ℕ → Unused → Unused
 with_bytes bytes u = record { bytes = bytes; is_shut = u.is_shut }
 

@@ -17,6 +17,7 @@ pub record View : Type 0 where
   pub left : Left
   pub broken : Bool
 
+-- a view as its four parts in a row, the form in which a model of a struct sees it
 abbrev pub view_code : Coded View
 view_code =
     code_by (List Line × (World × (List Peer × Bool)))

@@ -18,6 +18,7 @@ abbrev pub peer_of : List Peer → SessionId → Option Peer
 peer_of [] s = None
 peer_of (x ∷ xs) s = if same_session x.who s then Some x else peer_of xs s
 
+-- one of the peers is that of this session or construction
 abbrev pub has_peer : List Peer → SessionId → Bool
 has_peer xs s = is_some (peer_of xs s)
 

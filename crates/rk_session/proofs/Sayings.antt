@@ -1,62 +1,56 @@
 -- What is said of a message, and how it is told.
-use Rattle.std.proofs.Common.{◌≡◌, ℕ, List, [], ◌∷◌, inl, inr, refl, sym, ap, ◌∙◌, subst, append_assoc}
+use Rattle.std.proofs.Common.{◌≡◌, ℕ, List, [], ◌∷◌, refl, sym, ap, ◌∙◌, subst, append_assoc}
 use Rattle.std.specs.Prelude.{Option, Some, None, Result, Ok, Err}
 use Rattle.rk_names.specs.declared.numbers.SessionId.{SessionId}
-use Rattle.rk_names.specs.declared.errors.Errno.{Errno}
 use Rattle.rk_names.specs.declared.errors.Errno.TheVariants.{Enomem}
-use Rattle.rk_message.specs.declared.ask.Ask.{Ask}
-use Rattle.rk_message.specs.declared.fault.Fault.{Fault}
-use Rattle.rk_message.specs.declared.fault.ReadError.{ReadError}
-use Rattle.rk_message.specs.declared.fault.ReadError.TheVariants as unreadable
-use Rattle.rk_message.specs.Faults.{error_answer}
-use Rattle.rk_message.specs.Leftmost.{IsFaultOf}
-use Rattle.rk_message.specs.Table.{asks}
 use Rattle.rk_devices.specs.declared.device.DeviceFault.{DeviceFault}
 use Rattle.rk_devices.specs.Counts.{Rose}
+use Rattle.rk_machine.specs.declared.event.Answer.{Answer}
+use Rattle.rk_machine.specs.declared.event.Answer.TheVariants as answer
 use Rattle.rk_record.specs.declared.hall_no.HallNo.{HallNo}
-use Rattle.rk_record.specs.declared.told.Told.TheVariants as told
 use Rattle.rk_record.specs.Turns.{Noted}
 use Rattle.rk_hall.specs.Seats.{SeatShown}
-use Rattle.rk_hall.specs.declared.lapse.CallFault.{CallFault}
-use Rattle.rk_hall.specs.declared.lapse.CallFault.TheVariants as fault
+use Rattle.rk_talk.specs.Said.{IsSettled, IsToWait}
 use Rattle.rk_talk.specs.declared.saying.Saying.{Saying}
 use Rattle.rk_talk.specs.declared.saying.Saying.TheVariants as saying
-use Rattle.rk_talk.specs.Said.{IsRefusal, IsCollected, Settles, Asks, Collects}
-use Rattle.rk_talk.specs.Replies.{ReplyFramed, TakesMemory, reply_of}
+use Rattle.rk_talk.specs.Replies.{LacksFrame, ReplyFramed, TakesMemory, reply_of}
+use Rattle.rk_talk.proofs.Sayings.{answered_settled, refusal_settled}
 use Rattle.rk_session.specs.Wires.{Happened, HasNoted, Said, WireShown, and_then, Notes, Writes}
 use Rattle.rk_session.specs.Parts.{Speaks, ended, spoken}
-use Rattle.rk_session.specs.Places.{IsSaid, IsShut, NotRead, Says}
-use Rattle.rk_session.specs.declared.standing.Place.{Place}
+use Rattle.rk_session.specs.Opening.{IsNotCalled, IsNotOpened, IsRefused, IsShutOut, Refuses}
+use Rattle.rk_session.specs.Places.{AsksHere, Greets, NotRead, Says, ShutOut, Standing}
 
--- of a body that was not read
-pub not_read : (session : SessionId) (from : Place) (body : List ℕ) (error : ReadError) (e : Errno)
-    → ((f : Fault) → ◌≡◌ {A = Result Ask ReadError} (Err error) (Err (unreadable.Fault f)) → IsFaultOf asks body f) → e ≡ error_answer error → Says session from body (saying.Short e) from
-not_read session from body (unreadable.Fault f) e found is = NotRead e (inl (f, found f refl, is))
-not_read session from body unreadable.NoMemory e found is = NotRead e (inr is)
+refused_settled : (a : Answer) → IsRefused a → IsToWait a → ⊥
+refused_settled (answer.Done r) is waits = is
+refused_settled (answer.Start k subject) is waits = is
+refused_settled (answer.Negate k) is waits = is
+refused_settled (answer.Waiting k) is waits = is
+refused_settled (answer.Refused e) is waits = waits
 
--- of an ask whose call was refused
-pub refused_said : (session : SessionId) (hall : HallNo) (a : Ask) (f : CallFault) (s : Saying) → IsRefusal f s → IsSaid session hall a s
-refused_said session hall a (fault.Behind seen found) s is = subst (IsSaid session hall a) (sym is) tt
-refused_said session hall a fault.Full s is = subst (IsSaid session hall a) (sym is) (inr refl)
-refused_said session hall a fault.NoMemory s is = subst (IsSaid session hall a) (sym is) (inl refl)
+shut_settled : (session : SessionId) (hall : HallNo) (old new : SeatShown) (s : Saying) → IsShutOut session hall old new s → IsSettled s
+shut_settled session hall old new s (IsNotCalled f refused is same) = refusal_settled f s is
+shut_settled session hall old new s (IsNotOpened now n called refuses stays) = at s refuses
+  where
+    at : (x : Saying) → Refuses n (Some x) → IsSettled x
+    at (saying.Noted m) is = λ waits. refused_settled n.answer is.1 (subst (λ (r : Noted). IsToWait r.answer) is.0 waits)
+    at (saying.Short e) is = tt
+    at saying.Behind is = tt
 
--- of an opening whose call was refused
-pub refused_shut : (session : SessionId) (hall : HallNo) (f : CallFault) (s : Saying) → IsRefusal f s → IsShut session hall s
-refused_shut session hall (fault.Behind seen found) s is = subst (IsShut session hall) (sym is) tt
-refused_shut session hall fault.Full s is = subst (IsShut session hall) (sym is) (inr refl)
-refused_shut session hall fault.NoMemory s is = subst (IsShut session hall) (sym is) (inl refl)
+-- whatever is to be said, no answer to wait on is
+pub says_settled : (session : SessionId) (from : Standing) (body : List ℕ) (s : Saying) (to : Standing) → Says session from body s to → IsSettled s
+says_settled session from body s to (NotRead e why) = tt
+says_settled session from body s to (AsksHere a x seat spells known answered) = answered_settled session from.place.hall a from.seat seat x answered
+says_settled session from body s to (Greets a x mid there spells first hello seen same answered context) =
+    answered_settled session there.place.hall a mid there.seat x answered
+says_settled session from body s to (ShutOut a x there seat spells first hello another shut) = shut_settled session there from.seat seat x shut
 
-collected_said : (hall : HallNo) (now : ℕ) (session : SessionId) (old new : SeatShown) (a : Ask) (s : Saying) → IsCollected hall now session old new s
-    → IsSaid session hall a s
-collected_said hall now session old new a (saying.Noted n) is = (is.0.0, Collects is.0.2)
-collected_said hall now session old new a (saying.Short e) is = absurd is
-collected_said hall now session old new a saying.Behind is = tt
-
--- of an ask whose call gave this receipt
-pub settled_said : (hall : HallNo) (session : SessionId) (old new : SeatShown) (a : Ask) (r : Noted) (s : Saying) → r.hall ≡ hall
-    → r.told ≡ told.Asked session a → Settles hall session r old new s → IsSaid session hall a s
-settled_said hall session old new a r s here told (inl is) = subst (IsSaid session hall a) (sym is.0) (here, Asks told)
-settled_said hall session old new a r s here told (inr waits) = collected_said hall waits.1 session old new a s waits.2
+-- an answer that is none to wait on lacks a frame only for want of memory
+pub settled_takes : (a : Answer) → (IsToWait a → ⊥) → LacksFrame a → TakesMemory (reply_of a)
+settled_takes (answer.Done r) settled lacks = lacks
+settled_takes (answer.Start k subject) settled lacks = settled tt
+settled_takes (answer.Negate k) settled lacks = settled tt
+settled_takes (answer.Waiting k) settled lacks = settled tt
+settled_takes (answer.Refused e) settled lacks = lacks
 
 two_more : (story : Option (List Happened)) (x y : Happened) → and_then (and_then story (x ∷ [])) (y ∷ []) ≡ and_then story (x ∷ y ∷ [])
 two_more None x y = refl

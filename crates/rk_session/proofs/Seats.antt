@@ -1,5 +1,5 @@
 -- The clients of a seat, hall by hall.
-use Rattle.std.proofs.Common.{◌≡◌, ◌≤◌, ◌<◌, ℕ, ◌+◌, ◌-◌, inl, refl, sym, ap, ◌∙◌, subst, arith}
+use Rattle.std.proofs.Common.{◌≡◌, ◌≢◌, ◌≤◌, ◌<◌, ℕ, ◌+◌, ◌-◌, refl, sym, ap, ◌∙◌, subst, arith}
 use Rattle.std.specs.Prelude.{Option, Some, None, Result}
 use Rattle.rk_names.specs.declared.numbers.SessionId.{SessionId}
 use Rattle.rk_machine.specs.declared.event.Event.{Event}
@@ -17,8 +17,8 @@ use Rattle.rk_hall.specs.declared.lapse.Lapse.{Lapse}
 use Rattle.rk_hall.specs.Seats.{PartShown, SeatShown, part, with_part, after_call, without_client, opens, OwedSeen}
 use Rattle.rk_talk.specs.Stays.{Clients, Stays, SeesOn, clients_at, with_one, without_one}
 use Rattle.rk_talk.proofs.Seats.{call_stays, owed_stays, stays_on}
-use Rattle.rk_session.specs.Moving.{HasOpened, IsNotOpened, IsShutOut, Leaves, Moves, Refuses}
-use Rattle.rk_session.specs.Places.{IsRefused}
+use Rattle.rk_session.specs.Opening.{IsNotOpened, IsRefused, Refuses}
+use Rattle.rk_session.specs.Moving.{HasOpened, Leaves, Moves}
 
 -- a part that has seen no less
 sees_part : (h : HallNo) (s : SeatShown) (p : PartShown) → (part h s).seen ≤ p.seen → SeesOn s (with_part h s p)
@@ -116,6 +116,15 @@ moves_over here to old mid new opened left = (
   sees_then old mid new opened.1 left.1,
 )
 
+-- the same, where the halls are two
+pub has_moved : (here to : HallNo) (old mid new : SeatShown) → to ≢ here → (clients_at mid ≡ with_one to (clients_at old)) × SeesOn old mid
+    → Leaves here mid new → Moves here to old new × (to ≡ here → new ≡ old)
+has_moved here to old mid new another opened left = (moves_over here to old mid new opened left, λ is. absurd (another is))
+
+-- a client that is to stand where it stands
+pub moves_nowhere : (here to : HallNo) (s : SeatShown) → to ≡ here → Moves here to s s × (to ≡ here → s ≡ s)
+moves_nowhere here to s is = ((λ others stood. subst (λ h. clients_at s ≡ with_one h others) (sym is) stood, sees_same s), λ _. refl)
+
 -- one move after the other
 pub moves_then : (a b c : HallNo) (x y z : SeatShown) → Moves a b x y → Moves b c y z → Moves a c x z
 moves_then a b c x y z f g = (λ others is. g.0 others (f.0 others is), sees_then x y z f.1 g.1)
@@ -147,12 +156,6 @@ none_refused session (answer.Negate k) is = absurd is
 none_refused session (answer.Waiting k) is = absurd is
 none_refused session (answer.Refused e) is = refl
 
--- an opening whose call gave this receipt, and which opened no client
-shut_out : (session : SessionId) (h : HallNo) (now : ℕ) (old mid new : SeatShown) (r : Noted) → IsCalled h now (told.Opened session) (part h old) r
-    → opens (Opened session) r.answer ≡ 0 → mid ≡ with_part h old (after_call (part h old) (Opened session) r) → Stays mid new →
-    IsShutOut session h old new
-shut_out session h now old mid new r called none is stays = IsNotOpened now r called none (subst (λ s. Stays s new) is stays)
-
 -- an opening whose call gave this receipt
 pub opened_by : (session : SessionId) (h : HallNo) (now : ℕ) (old mid new : SeatShown) (r : Noted) (result : Option Saying)
     → IsCalled h now (told.Opened session) (part h old) r → mid ≡ with_part h old (after_call (part h old) (Opened session) r) → Stays mid new →
@@ -161,14 +164,12 @@ pub opened_by : (session : SessionId) (h : HallNo) (now : ℕ) (old mid new : Se
 opened_by session h now old mid new r None called is stays (reply, done) =
     let more = call_opens h old mid (Opened session) r (ap (opens (Opened session)) done) called.3 is in
     (stays.clients ∙ more.0, sees_then old mid new more.1 stays.seen)
-opened_by session h now old mid new r (Some (saying.Noted m)) called is stays (same, refused) = (
-  stays_on old mid new (call_stays h old mid (Opened session) r (none_refused session r.answer refused) called.3 is) stays,
-  (ap (λ (n : Noted). n.hall) same ∙ called.0, ap (λ (n : Noted). n.told) same ∙ called.2, subst (λ (n : Noted). IsRefused n.answer) (sym same) refused),
-  shut_out session h now old mid new r called (none_refused session r.answer refused) is stays,
+opened_by session h now old mid new r (Some (saying.Noted m)) called is stays refuses = (
+  stays_on old mid new (call_stays h old mid (Opened session) r (none_refused session r.answer refuses.1) called.3 is) stays,
+  IsNotOpened now r called refuses (subst (λ s. Stays s new) is stays),
 )
-opened_by session h now old mid new r (Some (saying.Short e)) called is stays (memory, waits) = (
+opened_by session h now old mid new r (Some (saying.Short e)) called is stays refuses = absurd refuses
+opened_by session h now old mid new r (Some saying.Behind) called is stays waits = (
   stays_on old mid new (call_stays h old mid (Opened session) r (none_waits session r.answer waits) called.3 is) stays,
-  inl memory,
-  shut_out session h now old mid new r called (none_waits session r.answer waits) is stays,
+  IsNotOpened now r called waits (subst (λ s. Stays s new) is stays),
 )
-opened_by session h now old mid new r (Some saying.Behind) called is stays refuses = absurd refuses

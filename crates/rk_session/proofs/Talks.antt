@@ -1,21 +1,21 @@
 -- A talk, message by message.
-use Rattle.std.proofs.Common.{◌≡◌, ℕ, suc, ◌<◌, ◌≤◌, ◌+◌, List, [], ◌∷◌, ◌++◌, length, refl, sym, ap, ◌∙◌, subst, arith}
+use Rattle.std.proofs.Common.{◌≡◌, ◌≢◌, ℕ, suc, ◌<◌, ◌≤◌, ◌+◌, List, [], ◌∷◌, ◌++◌, length, refl, sym, ap, ◌∙◌, subst, arith}
 use Rattle.std.specs.Prelude.{Option, Some, Ok, Err, Bool, true, false, take, nat_lt, if◌then◌else◌}
 use Rattle.std.proofs.lemmas.Bool.{ltb-false}
-use Rattle.std.proofs.lemmas.List.{length-append}
+use Rattle.std.proofs.lemmas.List.{length-append, length-take-le}
 use Rattle.rk_names.specs.declared.numbers.SessionId.{SessionId}
 use Rattle.rk_frame.specs.Framing.{frame}
 use Rattle.rk_frame.specs.Streams.{TakesBody, IsPartial, HasFault}
 use Rattle.rk_frame.specs.Unread.{Unread}
+use Rattle.rk_hall.specs.Seats.{SeatShown}
 use Rattle.rk_talk.specs.Replies.{reply_bytes}
 use Rattle.rk_devices.specs.Counts.{most, raised}
 use Rattle.rk_devices.specs.declared.device.DeviceFault.{DeviceFault}
 use Rattle.rk_session.specs.Wires.{Happened, Heard, WireShown, and_then, Reads}
 use Rattle.rk_session.specs.declared.serving.Served.{Served}
 use Rattle.rk_session.specs.declared.serving.Served.TheVariants.{Ended, ReadFault, WriteFault, Malformed, TurnsUsed, Behind}
-use Rattle.rk_session.specs.declared.standing.Place.{Place}
-use Rattle.rk_session.specs.Places.{Says, at_first}
-use Rattle.rk_session.specs.Talk.{Turn, Talking, begins, hears, turns, told_in, Talked}
+use Rattle.rk_session.specs.Places.{Says, Standing, at_first, standing_of}
+use Rattle.rk_session.specs.Talk.{Begun, Turn, Talking, begins, hears, turns, told_in, Talked}
 use Rattle.rk_session.specs.Parts.{GoesOn, EndsHere, TurnEnds, IsEndInTurns, TakesOne, TakesAll}
 
 -- what a wire tells, with more
@@ -23,7 +23,7 @@ story_then : (story : Option (List Happened)) (s more : List Happened) → story
 story_then story s more is = ap (λ x. and_then x more) is
 
 -- where nothing happened and nothing was taken
-pub goes_nowhere : (session : SessionId) (old new : WireShown) (held held' : List ℕ) (from to : Place) → new ≡ old → held' ≡ held → to ≡ from
+pub goes_nowhere : (session : SessionId) (old new : WireShown) (held held' : List ℕ) (from to : Standing) → new ≡ old → held' ≡ held → to ≡ from
     → GoesOn session old held from new held' to
 goes_nowhere session old new held held' from to same kept stayed begun story is t = (
   story,
@@ -32,17 +32,17 @@ goes_nowhere session old new held held' from to same kept stayed begun story is 
 )
 
 -- one after the other
-pub goes_then : (session : SessionId) (a b c : WireShown) (x y z : List ℕ) (p q r : Place) → GoesOn session a x p b y q → GoesOn session b y q c z r
+pub goes_then : (session : SessionId) (a b c : WireShown) (x y z : List ℕ) (p q r : Standing) → GoesOn session a x p b y q → GoesOn session b y q c z r
     → GoesOn session a x p c z r
 goes_then session a b c x y z p q r f g begun story is t = let one = f begun story is t in g begun one.0 one.1 one.2
 
 -- and then the end
-pub ends_then : (session : SessionId) (served : Served) (a b c : WireShown) (x y : List ℕ) (p q : Place) → GoesOn session a x p b y q
-    → EndsHere session served b y q c → EndsHere session served a x p c
-ends_then session served a b c x y p q f g begun story is t = let one = f begun story is t in g begun one.0 one.1 one.2
+pub ends_then : (session : SessionId) (served : Served) (a b c : WireShown) (x y : List ℕ) (p q : Standing) (last : SeatShown) → GoesOn session a x p b y q
+    → EndsHere session served b y q c last → EndsHere session served a x p c last
+ends_then session served a b c x y p q last f g begun story is t = let one = f begun story is t in g begun one.0 one.1 one.2
 
 -- one message more, with its reply
-pub turn_goes : (session : SessionId) (body : List ℕ) (old new : WireShown) (held held' : List ℕ) (from to : Place) → TakesBody body held held'
+pub turn_goes : (session : SessionId) (body : List ℕ) (old new : WireShown) (held held' : List ℕ) (from to : Standing) → TakesBody body held held'
     → TurnEnds session from body to (Ok tt) old new → GoesOn session old held from new held' to
 turn_goes session body old new held held' from to takes (s, says, (note, r, tells, is)) begun story told t =
     let one : Turn = record { body = body; note = note; reply = r } in (
@@ -52,8 +52,9 @@ turn_goes session body old new held held' from to takes (s, says, (note, r, tell
     )
 
 -- the end at a message
-pub turn_ends : (session : SessionId) (body : List ℕ) (served : Served) (old new : WireShown) (held held' : List ℕ) (from to : Place)
-    → TakesBody body held held' → TurnEnds session from body to (Err served) old new → IsEndInTurns served × EndsHere session served old held from new
+pub turn_ends : (session : SessionId) (body : List ℕ) (served : Served) (old new : WireShown) (held held' : List ℕ) (from to : Standing)
+    → TakesBody body held held' → TurnEnds session from body to (Err served) old new
+    → IsEndInTurns served × EndsHere session served old held from new to.seat
 turn_ends session body WriteFault old new held held' from to takes (s, says, (note, r, first, others, tells, cut, rose, is)) = (
   tt,
   λ begun story told t.
@@ -64,7 +65,7 @@ turn_ends session body WriteFault old new held held' from to takes (s, says, (no
           story,
           one,
           from,
-          to,
+          to.place,
           held',
           first,
           others,
@@ -84,7 +85,7 @@ turn_ends session body Behind old new held held' from to takes (s, says, (none, 
       body,
       held',
       from,
-      to,
+      to.place,
       subst (λ h. Talking session begun story h from) takes.front t,
       takes.is_body,
       subst (λ x. Says session from body x to) none says,
@@ -97,44 +98,56 @@ turn_ends session body Malformed old new held held' from to takes (s, says, none
 turn_ends session body TurnsUsed old new held held' from to takes (s, says, none) = absurd none
 
 -- the end at a length that no frame has
-pub malformed_ends : (session : SessionId) (old new : WireShown) (held : List ℕ) (from : Place) → HasFault held → new ≡ old
-    → IsEndInTurns Malformed × EndsHere session Malformed old held from new
+pub malformed_ends : (session : SessionId) (old new : WireShown) (held : List ℕ) (from : Standing) → HasFault held → new ≡ old
+    → IsEndInTurns Malformed × EndsHere session Malformed old held from new from.seat
 malformed_ends session old new held from bad same =
-    (tt, λ begun story told t. (story, ap (λ (w : WireShown). w.story) same ∙ told, (held, from, t, bad)))
+    (tt, λ begun story told t. (story, ap (λ (w : WireShown). w.story) same ∙ told, (held, from.place, t, bad)))
 
--- what a session tells since it began: how far it has come, what it holds, and where its client stands
-abbrev pub Stands : SessionId → WireShown → WireShown → List ℕ → Place → Type 0
-Stands session begun now held place = (first : List Happened) → begun.story ≡ Some first → (story : List Happened) × (now.story ≡ Some story) ×
-    Talking session first story held place
+-- what a session tells since it began, with this seat: how far it has come, what it holds, and how its client stands
+abbrev pub Stands : SessionId → SeatShown → WireShown → WireShown → List ℕ → Standing → Type 0
+Stands session seat begun now held standing = (first : List Happened) → begun.story ≡ Some first → (story : List Happened) × (now.story ≡ Some story) ×
+    Talking session (record { story = first; seat = seat }) story held standing
 
-pub stands_first : (session : SessionId) (w : WireShown) → Stands session w w [] at_first
-stands_first session w first is = (first, is, begins session first)
+pub stands_first : (session : SessionId) (seat : SeatShown) (w : WireShown) → Stands session seat w w [] (standing_of at_first seat)
+stands_first session seat w first is = (first, is, begins session (record { story = first; seat = seat }))
 
 -- more bytes came
-stands_heard : (session : SessionId) (begun old new : WireShown) (held held' piece : List ℕ) (place : Place) → Stands session begun old held place
-    → IsPartial held → new.story ≡ and_then old.story (Heard piece ∷ []) → held' ≡ held ++ piece → Stands session begun new held' place
-stands_heard session begun old new held held' piece place s none is fed first begins_so =
-    let one = s first begins_so in (
+stands_heard : (session : SessionId) (seat : SeatShown) (begun old new : WireShown) (held held' piece : List ℕ) (standing : Standing)
+    → Stands session seat begun old held standing → IsPartial held → piece ≢ [] → new.story ≡ and_then old.story (Heard piece ∷ []) → held' ≡ held ++ piece
+    → Stands session seat begun new held' standing
+stands_heard session seat begun old new held held' piece standing s none some is fed first begins_so =
+    let one = s first begins_so in
+    let start : Begun = record { story = first; seat = seat } in (
       one.0 ++ Heard piece ∷ [],
       is ∙ story_then old.story one.0 (Heard piece ∷ []) one.1,
-      subst (λ h. Talking session first (one.0 ++ Heard piece ∷ []) h place) (sym fed) (hears session first one.0 held piece place one.2 none),
+      subst (λ h. Talking session start (one.0 ++ Heard piece ∷ []) h standing) (sym fed) (hears session start one.0 held piece standing one.2 none some),
     )
 
 -- messages got their replies
-pub stands_on : (session : SessionId) (begun old new : WireShown) (held held' : List ℕ) (from to : Place) → Stands session begun old held from
-    → GoesOn session old held from new held' to → Stands session begun new held' to
-stands_on session begun old new held held' from to s goes first is = let one = s first is in goes first one.0 one.1 one.2
+pub stands_on : (session : SessionId) (seat : SeatShown) (begun old new : WireShown) (held held' : List ℕ) (from to : Standing)
+    → Stands session seat begun old held from → GoesOn session old held from new held' to → Stands session seat begun new held' to
+stands_on session seat begun old new held held' from to s goes first is =
+    let one = s first is in goes (record { story = first; seat = seat }) one.0 one.1 one.2
+
+-- some bytes of a buffer are not none
+some_taken : (n size : ℕ) (buf : List ℕ) → n ≢ 0 → n ≤ size → length buf ≡ size → take n buf ≢ []
+some_taken n size buf some le same none =
+    let taken : length (take n buf) ≡ n = length-take-le n buf (subst (λ m. n ≤ m) (sym same) le) in
+    some (sym taken ∙ ap length none)
 
 -- a piece came
-pub stands_read : (session : SessionId) (begun old mid : WireShown) (held held' buf : List ℕ) (place : Place) (n : ℕ) → Stands session begun old held place
-    → IsPartial held → Reads (Ok n) buf old mid → held' ≡ held ++ take n buf → Stands session begun mid held' place
-stands_read session begun old mid held held' buf place n s none read fed =
-    stands_heard session begun old mid held held' (take n buf) place s none (ap (λ (w : WireShown). w.story) read) fed
+pub stands_read : (session : SessionId) (seat : SeatShown) (begun old mid : WireShown) (held held' buf : List ℕ) (standing : Standing) (n size : ℕ)
+    → Stands session seat begun old held standing → IsPartial held → n ≢ 0 → n ≤ size → length buf ≡ size → Reads (Ok n) buf old mid
+    → held' ≡ held ++ take n buf → Stands session seat begun mid held' standing
+stands_read session seat begun old mid held held' buf standing n size s none some le same read fed =
+    stands_heard session seat begun old mid held held' (take n buf) standing s none (some_taken n size buf some le same)
+    (ap (λ (w : WireShown). w.story) read) fed
 
 -- the end behind them
-pub stands_ends : (session : SessionId) (served : Served) (begun old new : WireShown) (held : List ℕ) (place : Place) → Stands session begun old held place
-    → EndsHere session served old held place new → Talked session served begun new
-stands_ends session served begun old new held place s ends first is = let one = s first is in ends first one.0 one.1 one.2
+pub stands_ends : (session : SessionId) (served : Served) (seat last : SeatShown) (begun old new : WireShown) (held : List ℕ) (standing : Standing)
+    → Stands session seat begun old held standing → EndsHere session served old held standing new last → Talked session served seat last begun new
+stands_ends session served seat last begun old new held standing s ends first is =
+    let one = s first is in ends (record { story = first; seat = seat }) one.0 one.1 one.2
 
 -- a body that is taken leaves fewer bytes
 pub takes_fewer : (body old new : List ℕ) → TakesBody body old new → length new < length old
@@ -151,16 +164,16 @@ nothing_held = (λ body more is e. absurd (none body more e), refl)
     none body more e = let f : 0 ≡ suc (suc (suc (suc (length (body ++ more))))) = ap length e in omega (arith, f)
 
 -- one message was taken, and got its reply
-pub taken_goes : (session : SessionId) (old new : WireShown) (f f' : Unread) (from to : Place) → TakesOne session (Ok true) old f from new f' to
+pub taken_goes : (session : SessionId) (old new : WireShown) (f f' : Unread) (from to : Standing) → TakesOne session (Ok true) old f from new f' to
     → GoesOn session old f.bytes from new f'.bytes to
 taken_goes session old new f f' from to (body, takes, ends) = turn_goes session body old new f.bytes f'.bytes from to takes ends
 
-pub taken_fewer : (session : SessionId) (old new : WireShown) (f f' : Unread) (from to : Place) → TakesOne session (Ok true) old f from new f' to
+pub taken_fewer : (session : SessionId) (old new : WireShown) (f f' : Unread) (from to : Standing) → TakesOne session (Ok true) old f from new f' to
     → length f'.bytes < length f.bytes
 taken_fewer session old new f f' from to (body, takes, ends) = takes_fewer body f.bytes f'.bytes takes
 
 -- no message is left
-pub all_taken : (session : SessionId) (old mid new : WireShown) (f g h : Unread) (p q r : Place) → GoesOn session old f.bytes p mid g.bytes q
+pub all_taken : (session : SessionId) (old mid new : WireShown) (f g h : Unread) (p q r : Standing) → GoesOn session old f.bytes p mid g.bytes q
     → TakesOne session (Ok false) mid g q new h r → TakesAll session (Ok tt) old f p new h r
 all_taken session old mid new f g h p q r goes (none, kept, room, same, stayed) = (
   goes_then session old mid new f.bytes g.bytes h.bytes p q r goes (goes_nowhere session mid new g.bytes h.bytes q r same kept stayed),
@@ -169,26 +182,28 @@ all_taken session old mid new f g h p q r goes (none, kept, room, same, stayed) 
 )
 
 -- the input is at its end
-pub read_ends : (session : SessionId) (begun old new : WireShown) (held buf : List ℕ) (place : Place) → Stands session begun old held place →
-    IsPartial held → Reads (Ok 0) buf old new → Talked session Ended begun new
-read_ends session begun old new held buf place s none read first is =
+pub read_ends : (session : SessionId) (seat : SeatShown) (begun old new : WireShown) (held buf : List ℕ) (standing : Standing)
+    → Stands session seat begun old held standing → IsPartial held → Reads (Ok 0) buf old new → Talked session Ended seat standing.seat begun new
+read_ends session seat begun old new held buf standing s none read first is =
     let one = s first is in (
       one.0 ++ Heard [] ∷ [],
       ap (λ (w : WireShown). w.story) read ∙ story_then old.story one.0 (Heard [] ∷ []) one.1,
-      (one.0, held, place, one.2, none, refl),
+      (one.0, held, standing.place, one.2, none, refl),
     )
 
 -- a read failed
-pub fault_ends : (session : SessionId) (e : DeviceFault) (begun old new : WireShown) (held buf : List ℕ) (place : Place)
-    → Stands session begun old held place → IsPartial held → Reads (Err e) buf old new → Talked session ReadFault begun new
-fault_ends session e begun old new held buf place s none read first is =
-    let stands = s first is in
-    (stands.0, ap (λ (w : WireShown). w.story) read.1 ∙ stands.1, (held, place, stands.2, none))
+pub fault_ends : (session : SessionId) (seat : SeatShown) (e : DeviceFault) (begun old new : WireShown) (held buf : List ℕ) (standing : Standing)
+    → Stands session seat begun old held standing → IsPartial held → Reads (Err e) buf old new
+    → Talked session ReadFault seat standing.seat begun new
+fault_ends session seat e begun old new held buf standing s none read first is =
+    let one = s first is in
+    (one.0, ap (λ (w : WireShown). w.story) read.1 ∙ one.1, (held, standing.place, one.2, none))
 
 -- the reads are used up
-pub used_ends : (session : SessionId) (begun now : WireShown) (held : List ℕ) (place : Place) → Stands session begun now held place → IsPartial held
-    → Talked session TurnsUsed begun now
-used_ends session begun now held place s none first is = let stands = s first is in (stands.0, stands.1, (held, place, stands.2, none))
+pub used_ends : (session : SessionId) (seat : SeatShown) (begun now : WireShown) (held : List ℕ) (standing : Standing)
+    → Stands session seat begun now held standing → IsPartial held → Talked session TurnsUsed seat standing.seat begun now
+used_ends session seat begun now held standing s none first is =
+    let one = s first is in (one.0, one.1, (held, standing.place, one.2, none))
 
 -- one read more
 pub least_more : (k old mid new : ℕ) → k ≤ old → k < 1048576 → mid ≡ raised old → new ≡ mid → k + 1 ≤ new

@@ -1,5 +1,5 @@
 -- What a session does, message by message.
-use Rattle.std.specs.Prelude.{◌≡◌, ◌⊎◌, ℕ, List, [], ◌∷◌, ◌++◌, Option, Some, None}
+use Rattle.std.specs.Prelude.{◌≡◌, ◌≢◌, ◌⊎◌, ℕ, List, [], ◌∷◌, ◌++◌, Option, Some, None}
 use Rattle.rk_names.specs.declared.errors.Errno.TheVariants.{Enomem}
 use Rattle.rk_names.specs.declared.numbers.SessionId.{SessionId}
 use Rattle.rk_frame.specs.Framing.{IsBody, frame}
@@ -11,13 +11,14 @@ use Rattle.rk_record.specs.declared.hall_no.HallNo.TheVariants.{Zero}
 use Rattle.rk_record.specs.Turns.{Noted}
 use Rattle.rk_hall.specs.Seats.{SeatShown}
 use Rattle.rk_talk.specs.Replies.{TakesMemory, reply_bytes, reply_of}
+use Rattle.rk_talk.specs.Stays.{SeesOn}
 use Rattle.rk_talk.specs.declared.saying.Saying.{Saying}
 use Rattle.rk_talk.specs.declared.saying.Saying.TheVariants as saying
 use Rattle.rk_session.specs.declared.standing.Place.{Place}
 use Rattle.rk_session.specs.declared.serving.Served.{Served}
 use Rattle.rk_session.specs.declared.serving.Served.TheVariants.{Ended, ReadFault, WriteFault, Malformed, TurnsUsed, Behind}
-use Rattle.rk_session.specs.Moving.{IsShutOut}
-use Rattle.rk_session.specs.Places.{Says, at_first}
+use Rattle.rk_session.specs.Opening.{IsShutOut}
+use Rattle.rk_session.specs.Places.{Says, Standing, at_first, standing_of}
 use Rattle.rk_session.specs.Wires.{Happened, Heard, HasNoted, Said, WireShown}
 
 -- ---- one message
@@ -37,7 +38,7 @@ Tells (saying.Short e) (Some m) r = ⊥
 Tells saying.Behind _ r = ⊥
 
 -- a message of a client that stood here and stands there then: its note and its reply are what is to be said of it
-abbrev pub IsTurn : SessionId → Place → Turn → Place → Type 0
+abbrev pub IsTurn : SessionId → Standing → Turn → Standing → Type 0
 IsTurn session from t to = IsBody t.body × (s : Saying) × Says session from t.body s to × Tells s t.note t.reply
 
 -- a receipt is noted, if there is one, before these bytes are written
@@ -47,33 +48,42 @@ told_in (Some n) bytes = HasNoted n ∷ Said bytes ∷ []
 
 -- ---- a session
 
--- what has happened since a session began, what it holds of the bytes that came, and where its client stands: bytes come only where it holds no whole message;
--- the message at the front is taken, its receipt noted and its reply written, before anything else happens
-pub data Talking : (session : SessionId) (begun story : List Happened) (held : List ℕ) (place : Place) → Type 0 where
-  begins : (session : SessionId) (begun : List Happened) → Talking session begun begun [] at_first
-  hears : (session : SessionId) (begun story : List Happened) (held piece : List ℕ) (place : Place) → Talking session begun story held place → IsPartial held
-      → Talking session begun (story ++ Heard piece ∷ []) (held ++ piece) place
-  turns : (session : SessionId) (begun story : List Happened) (held : List ℕ) (t : Turn) (from to : Place) → Talking session begun story (frame t.body ++ held) from
-      → IsTurn session from t to → Talking session begun (story ++ told_in t.note (reply_bytes t.reply)) held to
+-- a session as it began: what had happened on its wire before, and what its seat showed
+pub record Begun : Type 0 where
+  pub story : List Happened
+  pub seat : SeatShown
 
--- how a session ends: where it holds no whole message, at a read that told the end of the input, a failed read, or its last read; at a length that no frame has;
--- at a reply that could be written only in part; or at an ask of which nothing can be said, which gets no receipt and no reply
-abbrev pub Ends : SessionId → Served → List Happened → List Happened → Type 0
-Ends session Ended begun story = (before : List Happened) × (held : List ℕ) × (place : Place) × Talking session begun before held place × IsPartial held
-    × (story ≡ before ++ Heard [] ∷ [])
-Ends session ReadFault begun story = (held : List ℕ) × (place : Place) × Talking session begun story held place × IsPartial held
-Ends session TurnsUsed begun story = (held : List ℕ) × (place : Place) × Talking session begun story held place × IsPartial held
-Ends session Malformed begun story = (held : List ℕ) × (place : Place) × Talking session begun story held place × HasFault held
-Ends session WriteFault begun story = (before : List Happened) × (t : Turn) × (from to : Place) × (rest first others : List ℕ)
-    × Talking session begun before (frame t.body ++ rest) from × IsTurn session from t to × (reply_bytes t.reply ≡ first ++ others)
-    × (story ≡ before ++ told_in t.note first)
-Ends session Behind begun story = (body rest : List ℕ) × (from to : Place)
-    × Talking session begun story (frame body ++ rest) from × IsBody body × Says session from body saying.Behind to
+-- what has happened since a session began, what it holds of the bytes that came, and how its client stands: bytes come only where it holds no whole message;
+-- the message at the front is taken, its receipt noted and its reply written, before anything else happens; each message finds the seat as the one before
+-- left it
+pub data Talking : (session : SessionId) (begun : Begun) (story : List Happened) (held : List ℕ) (standing : Standing) → Type 0 where
+  begins : (session : SessionId) (begun : Begun) → Talking session begun begun.story [] (standing_of at_first begun.seat)
+  hears : (session : SessionId) (begun : Begun) (story : List Happened) (held piece : List ℕ) (standing : Standing)
+      → Talking session begun story held standing → IsPartial held → piece ≢ []
+      → Talking session begun (story ++ Heard piece ∷ []) (held ++ piece) standing
+  turns : (session : SessionId) (begun : Begun) (story : List Happened) (held : List ℕ) (t : Turn) (from to : Standing)
+      → Talking session begun story (frame t.body ++ held) from → IsTurn session from t to
+      → Talking session begun (story ++ told_in t.note (reply_bytes t.reply)) held to
 
--- a wire that tells what happened on it tells of a session that ended so
-abbrev pub Talked : SessionId → Served → WireShown → WireShown → Type 0
-Talked session served old new =
-    (begun : List Happened) → old.story ≡ Some begun → (story : List Happened) × (new.story ≡ Some story) × Ends session served begun story
+-- how a session ends, and what its seat shows then: where it holds no whole message, at a read that told the end of the input, a failed read, or its last
+-- read; at a length that no frame has; at a reply that could be written only in part; or at an ask of which nothing can be said, which gets no receipt and no
+-- reply
+abbrev pub Ends : SessionId → Served → Begun → List Happened → SeatShown → Type 0
+Ends session Ended begun story last = (before : List Happened) × (held : List ℕ) × (place : Place)
+    × Talking session begun before held (standing_of place last) × IsPartial held × (story ≡ before ++ Heard [] ∷ [])
+Ends session ReadFault begun story last = (held : List ℕ) × (place : Place) × Talking session begun story held (standing_of place last) × IsPartial held
+Ends session TurnsUsed begun story last = (held : List ℕ) × (place : Place) × Talking session begun story held (standing_of place last) × IsPartial held
+Ends session Malformed begun story last = (held : List ℕ) × (place : Place) × Talking session begun story held (standing_of place last) × HasFault held
+Ends session WriteFault begun story last = (before : List Happened) × (t : Turn) × (from : Standing) × (place : Place) × (rest first others : List ℕ)
+    × Talking session begun before (frame t.body ++ rest) from × IsTurn session from t (standing_of place last)
+    × (reply_bytes t.reply ≡ first ++ others) × (story ≡ before ++ told_in t.note first)
+Ends session Behind begun story last = (body rest : List ℕ) × (from : Standing) × (place : Place)
+    × Talking session begun story (frame body ++ rest) from × IsBody body × Says session from body saying.Behind (standing_of place last)
+
+-- a wire that tells what happened on it tells of a session that began with this seat and ended so, with that one
+abbrev pub Talked : SessionId → Served → SeatShown → SeatShown → WireShown → WireShown → Type 0
+Talked session served seat last old new = (begun : List Happened) → old.story ≡ Some begun
+    → (story : List Happened) × (new.story ≡ Some story) × Ends session served (record { story = begun; seat = seat }) story last
 
 -- a fault of the wire comes where its count rose; else the count is as before
 abbrev pub EndCounts : Served → ℕ → ℕ → Type 0
@@ -81,7 +91,9 @@ EndCounts WriteFault before after = Rose before after
 EndCounts ReadFault before after = Rose before after
 EndCounts _ before after = after ≡ before
 
--- a session that was served: there was a talk; or the client was shut out of hall 0, nothing happened on the wire, and that is told as the end of its input
+-- a session that was served: there was a talk, by a seat that had forgotten nothing and forgets nothing of it; or the client was shut out of hall 0, nothing
+-- happened on the wire, and that is told as the end of its input
 abbrev pub Serves : SessionId → Served → SeatShown → SeatShown → WireShown → WireShown → Type 0
 Serves session served seat seat' old new =
-    Talked session served old new ⊎ ((served ≡ Ended) × IsShutOut session Zero seat seat' × (new ≡ old))
+    ((first last : SeatShown) × SeesOn seat first × Talked session served first last old new × SeesOn last seat')
+    ⊎ ((served ≡ Ended) × (s : Saying) × IsShutOut session Zero seat seat' s × (new ≡ old))

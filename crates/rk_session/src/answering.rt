@@ -3,21 +3,46 @@ ghost use Rattle.std.specs.Prelude.{◌≡◌, ◌≤◌, false, true, MatchOpti
 ghost use Rattle.rk_names.specs.declared.numbers.SessionId.TheVariants.{Client};
 ghost use Rattle.rk_message.specs.Bodies.{Spells};
 ghost use Rattle.rk_devices.specs.Counts.{most};
+ghost use Rattle.rk_talk.specs.Said.{IsAnswered};
 ghost use Rattle.rk_talk.specs.Stays.{Stays};
 ghost use Rattle.rk_session.specs.Moving.{Moves};
-ghost use Rattle.rk_session.specs.Places.{IsHello, IsHelloOf, IsSaid, Says, says_done};
+ghost use Rattle.rk_session.specs.Places.{IsHello, IsHelloOf, Says, says_done, standing_of};
 
 use crate::standing::{Place, moved};
 use rk_child::drive;
 use rk_conf::Conf;
 use rk_devices::{Clock, Gate, Launcher};
-use rk_hall::{Called, HallNo, Halls, Names, Seat};
+use rk_hall::{Called, HallNo, Halls, Launch, Names, Seat};
 use rk_machine::Answer;
 use rk_message::Ask;
 use rk_names::SessionId;
 use rk_talk::{Saying, Shelf, ask_in, refused, settled};
 use std::alloc::Global;
 use std::sync::Wait;
+
+// What an ask has started is brought to its end.
+fn brought_to_end<N: Names, R: Wait, L: Launcher, C: Clock, G: Gate, S: Shelf>(
+    rt: &R,
+    alloc: Global,
+    halls: &Halls<N>,
+    seat: &mut Seat<N>,
+    launch: Option<Launch<N>>,
+    conf: &Conf,
+    launcher: &mut L,
+    clock: &mut C,
+    gate: &G,
+    shelf: &S,
+)
+    requires bound { (L.shown launcher.old).count ≤ most }
+    ensures bound { (L.shown launcher.new).count ≤ most }
+    ensures stays { Stays seat.old seat.new }
+{
+    if let Some(launch) = launch {
+        let _ = drive(
+            rt, alloc, halls, seat, launch, conf, launcher, clock, gate, shelf,
+        );
+    }
+}
 
 // The ask is made, and what it starts or waits for is brought to its end.
 fn asked<N: Names, R: Wait, L: Launcher, C: Clock, G: Gate, S: Shelf>(
@@ -38,18 +63,16 @@ fn asked<N: Names, R: Wait, L: Launcher, C: Clock, G: Gate, S: Shelf>(
     requires bound { (L.shown launcher.old).count ≤ most }
     requires spells { Spells ask body.now }
     ensures bound { (L.shown launcher.new).count ≤ most }
-    ensures says { IsSaid (Client client) hall ask result }
+    ensures says { IsAnswered (Client client) hall ask seat.old seat.new result }
     ensures stays { Stays seat.old seat.new }
 {
     let now = clock.now();
     let session = SessionId::Client(client);
     match ask_in(rt, alloc, halls, seat, hall, now, session, ask, body, shelf) {
         Ok(Called { receipt, launch }) => {
-            if let Some(launch) = launch {
-                let _ = drive(
-                    rt, alloc, halls, seat, launch, conf, launcher, clock, gate, shelf,
-                );
-            }
+            brought_to_end(
+                rt, alloc, halls, seat, launch, conf, launcher, clock, gate, shelf,
+            );
             settled(
                 rt,
                 halls,
@@ -106,11 +129,12 @@ fn greeted<N: Names, R: Wait, L: Launcher, C: Clock, G: Gate, S: Shelf>(
     requires hello { IsHelloOf there ask }
     requires first { place.old.greeted ≡ false }
     ensures bound { (L.shown launcher.new).count ≤ most }
-    ensures says { Says (Client client) place.old body.now result place.new }
+    ensures says { Says (Client client) (standing_of place.old seat.old) body.now result (standing_of place.new seat.new) }
     ensures moves { Moves place.old.hall place.new.hall seat.old seat.new }
 {
-    if let Some(saying) = moved(rt, halls, seat, place.hall, there, client, clock, shelf) {
-        return saying;
+    match moved(rt, halls, seat, place.hall, there, client, clock, shelf) {
+        None => {}
+        Some(saying) => return saying,
     }
     place.hall = there;
     let saying = asked(
@@ -137,7 +161,7 @@ pub fn answered<N: Names, R: Wait, L: Launcher, C: Clock, G: Gate, S: Shelf>(
 ) -> Saying
     requires bound { (L.shown launcher.old).count ≤ most }
     ensures bound { (L.shown launcher.new).count ≤ most }
-    ensures says { Says (Client client) place.old body.now result place.new }
+    ensures says { Says (Client client) (standing_of place.old seat.old) body.now result (standing_of place.new seat.new) }
     ensures moves { Moves place.old.hall place.new.hall seat.old seat.new }
 {
     match Ask::read(alloc, body) {

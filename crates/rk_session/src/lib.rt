@@ -8,9 +8,13 @@
 //! # What it promises
 //!
 //! What happens on the wire is a talk, in this order and no other: bytes are read only where no whole message is held; the message at the front is taken;
-//! the receipt of its answer is noted; its reply is written, the one spelling of what that receipt says, before the next message is taken. A reply
-//! without a receipt is the errno of a body that spells no ask, ENOMEM, or EDQUOT. A session that waits isn't read. In every exit the seat has as many
-//! clients, hall by hall, as before: the client is reported gone. A fault is told only where the wire's count of failures rose. It ends at 1,048,576 reads.
+//! the receipt of its answer is noted; its reply is written, the one spelling of what that receipt says, before the next message is taken. A session that
+//! waits isn't read. In every exit the seat has as many clients, hall by hall, as before: the client is reported gone. A fault is told only where the wire's
+//! count of failures rose. It ends at 1,048,576 reads.
+//!
+//! *Receipts.* A receipt that is noted is of a turn of the session's seat, and new to it; each message finds the seat as the one before left it. A reply
+//! without a receipt is the errno of a body that spells no ask; EDQUOT or ENOMEM, where the seat made no turn of the ask; or ENOMEM in place of a reply that
+//! takes memory.
 //!
 //! *Halls.* A client stands in hall 0 at first, without a context. It has one after a HELLO that was answered as done. A HELLO of a client without a context
 //! is asked in the hall of its uid, where the client stands from then on; where it could not be opened there, it stays, and what is noted is the refused
@@ -21,8 +25,9 @@
 //!
 //! `wire` is the trait, `standing` opens a client, moves it and reports it gone, `answering` finds what is to be said of a message, `turns` notes and writes
 //! it, and `serving` reads. What is common to clients and plain handlers is in rk_talk. In `specs/`, `Talk` is to be read first: what a session does. It
-//! cites `Places`, what is to be said of a message and where the client stands then, and `Wires`, what is seen of a wire. `Parts` and `Moving` are of
-//! the functions inside: a part of a talk, and the clients of a seat.
+//! cites `Places`, what is to be said of a message and how the client stands then, and `Wires`, what is seen of a wire. `Places` cites `Opening`: how
+//! an opening came to what is said of it, as the seat knows; of an ask rk_talk says that. `Parts` and `Moving` are of the functions inside: a part of a talk,
+//! and the clients of a seat.
 #![tactic(auto)]
 
 mod answering;

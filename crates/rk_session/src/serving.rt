@@ -5,7 +5,7 @@ ghost use Rattle.rk_devices.specs.Counts.{most};
 ghost use Rattle.rk_talk.specs.Stays.{Stays};
 ghost use Rattle.rk_session.specs.Moving.{Moves};
 ghost use Rattle.rk_session.specs.Parts.{Counts, TakesAll};
-ghost use Rattle.rk_session.specs.Places.{at_first};
+ghost use Rattle.rk_session.specs.Places.{at_first, standing_of};
 ghost use Rattle.rk_session.specs.Talk.{EndCounts, Serves, Talked};
 
 use crate::standing::{Place, leave, open};
@@ -35,7 +35,7 @@ pub enum Served {
     Malformed,
     /// All reads are used up.
     TurnsUsed,
-    /// The seat had seen more than its hall: nothing can be said of an ask.
+    /// Nothing can be said of an ask, as where the seat had seen more than its hall.
     Behind,
 }
 
@@ -57,7 +57,8 @@ fn take_all<N: Names, R: Wait, W: Wire, L: Launcher, C: Clock, G: Gate, S: Shelf
 ) -> Result<(), Served>
     requires bound { (L.shown launcher.old).count ≤ most }
     ensures bound { (L.shown launcher.new).count ≤ most }
-    ensures takes { TakesAll (Client client) result (W.shown wire.old) frames.old place.old (W.shown wire.new) frames.new place.new }
+    ensures takes { TakesAll (Client client) result (W.shown wire.old) frames.old (standing_of place.old seat.old)
+        (W.shown wire.new) frames.new (standing_of place.new seat.new) }
     ensures count { Counts result (W.shown wire.old).count (W.shown wire.new).count }
     ensures reads { (W.shown wire.new).reads ≡ (W.shown wire.old).reads }
     ensures moves { Moves place.old.hall place.new.hall seat.old seat.new }
@@ -93,7 +94,7 @@ fn talk<N: Names, R: Wait, W: Wire, L: Launcher, C: Clock, G: Gate, S: Shelf>(
     requires first { place.old ≡ at_first }
     requires bound { (L.shown launcher.old).count ≤ most }
     ensures bound { (L.shown launcher.new).count ≤ most }
-    ensures talked { Talked (Client client) result (W.shown wire.old) (W.shown wire.new) }
+    ensures talked { Talked (Client client) result seat.old seat.new (W.shown wire.old) (W.shown wire.new) }
     ensures fault { EndCounts result (W.shown wire.old).count (W.shown wire.new).count }
     ensures turns { result ≡ Served.TurnsUsed → 1048576 ≤ (W.shown wire.new).reads }
     ensures reads { (W.shown wire.new).reads ≤ (W.shown wire.old).reads + 1048576 }

@@ -3,13 +3,14 @@ ghost use Rattle.std.specs.Prelude.{◌≡◌, IfOk};
 ghost use Rattle.rk_names.specs.declared.numbers.SessionId.TheVariants.{Client};
 ghost use Rattle.rk_record.specs.declared.told.Told.TheVariants as told;
 ghost use Rattle.rk_talk.specs.Stays.{Stays};
-ghost use Rattle.rk_session.specs.Moving.{HasMoved, HasOpened, Leaves, Refuses};
+ghost use Rattle.rk_session.specs.Opening.{Refuses};
+ghost use Rattle.rk_session.specs.Moving.{HasMoved, HasOpened, Leaves};
 
 use rk_child::fail;
 use rk_devices::Clock;
 use rk_hall::{Called, HallNo, Halls, Lapse, Launch, Names, Owed, Receipt, Seat};
 use rk_machine::Answer;
-use rk_names::{Errno, SessionId};
+use rk_names::SessionId;
 use rk_talk::{Saying, Shelf, open_in, refused};
 use std::sync::Wait;
 
@@ -37,16 +38,15 @@ fn spend<N: Names, R: Wait, C: Clock>(
     }
 }
 
-// What is to be said of an opening with this receipt: nothing yet, where it was done; its refusal; or, of an answer that no opening has, want of memory.
+// What is to be said of an opening with this receipt: nothing yet, where it was done; its refusal; or nothing at all, of an answer that no opening has,
+// since an errno without a receipt would say that no turn was made.
 fn refusal_of(receipt: Receipt) -> Option<Saying>
     ensures { Refuses receipt result }
 {
     match receipt.answer() {
         Answer::Done(_) => None,
         Answer::Refused(_) => Some(Saying::Noted(receipt)),
-        Answer::Start(_, _) | Answer::Waiting(_) | Answer::Negate(_) => {
-            Some(Saying::Short(Errno::Enomem))
-        }
+        Answer::Start(_, _) | Answer::Waiting(_) | Answer::Negate(_) => Some(Saying::Behind),
     }
 }
 
@@ -114,6 +114,6 @@ pub fn moved<N: Names, R: Wait, C: Clock, S: Shelf>(
             drop(leave(rt, halls, seat, here, client, clock));
             None
         }
-        refusal => refusal,
+        Some(refusal) => Some(refusal),
     }
 }

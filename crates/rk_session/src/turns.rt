@@ -2,9 +2,11 @@
 ghost use Rattle.std.specs.Prelude.{◌≡◌, ◌≤◌};
 ghost use Rattle.rk_names.specs.declared.numbers.SessionId.TheVariants.{Client};
 ghost use Rattle.rk_devices.specs.Counts.{most};
+ghost use Rattle.rk_talk.specs.Said.{IsSettled, IsToWait};
 ghost use Rattle.rk_talk.specs.declared.saying.Saying.TheVariants as saying;
 ghost use Rattle.rk_session.specs.Moving.{Moves};
 ghost use Rattle.rk_session.specs.Parts.{Counts, Speaks, TurnEnds, TakesOne, ended};
+ghost use Rattle.rk_session.specs.Places.{standing_of};
 
 use crate::answering::answered;
 use crate::serving::Served;
@@ -21,6 +23,7 @@ use std::sync::Wait;
 
 // Notes the receipt, and then writes the reply of its answer. Where there is no memory for the reply, it is want of memory, and nothing is noted.
 fn tell<W: Wire>(alloc: Global, wire: &mut W, receipt: Receipt) -> Result<(), DeviceFault>
+    requires { IsToWait receipt.answer → ⊥ }
     ensures speaks { Speaks (saying.Noted receipt) (ended result) (W.shown wire.old) (W.shown wire.new) }
     ensures reads { (W.shown wire.new).reads ≡ (W.shown wire.old).reads }
 {
@@ -68,6 +71,7 @@ fn say<R: Wait, W: Wire, G: Gate>(
     saying: Saying,
     gate: &G,
 ) -> Result<(), Served>
+    requires { IsSettled saying }
     ensures speaks { Speaks saying result (W.shown wire.old) (W.shown wire.new) }
     ensures count { Counts result (W.shown wire.old).count (W.shown wire.new).count }
     ensures reads { (W.shown wire.new).reads ≡ (W.shown wire.old).reads }
@@ -97,7 +101,8 @@ fn turn<N: Names, R: Wait, W: Wire, L: Launcher, C: Clock, G: Gate, S: Shelf>(
 ) -> Result<(), Served>
     requires bound { (L.shown launcher.old).count ≤ most }
     ensures bound { (L.shown launcher.new).count ≤ most }
-    ensures ends { TurnEnds (Client client) place.old body.now place.new result (W.shown wire.old) (W.shown wire.new) }
+    ensures ends { TurnEnds (Client client) (standing_of place.old seat.old) body.now (standing_of place.new seat.new) result
+        (W.shown wire.old) (W.shown wire.new) }
     ensures count { Counts result (W.shown wire.old).count (W.shown wire.new).count }
     ensures reads { (W.shown wire.new).reads ≡ (W.shown wire.old).reads }
     ensures moves { Moves place.old.hall place.new.hall seat.old seat.new }
@@ -126,7 +131,8 @@ pub fn next_turn<N: Names, R: Wait, W: Wire, L: Launcher, C: Clock, G: Gate, S: 
 ) -> Result<bool, Served>
     requires bound { (L.shown launcher.old).count ≤ most }
     ensures bound { (L.shown launcher.new).count ≤ most }
-    ensures takes { TakesOne (Client client) result (W.shown wire.old) frames.old place.old (W.shown wire.new) frames.new place.new }
+    ensures takes { TakesOne (Client client) result (W.shown wire.old) frames.old (standing_of place.old seat.old)
+        (W.shown wire.new) frames.new (standing_of place.new seat.new) }
     ensures count { Counts result (W.shown wire.old).count (W.shown wire.new).count }
     ensures reads { (W.shown wire.new).reads ≡ (W.shown wire.old).reads }
     ensures moves { Moves place.old.hall place.new.hall seat.old seat.new }

@@ -1,33 +1,67 @@
--- What is said of a message that spells an ask.
-use Rattle.std.proofs.Common.{◌≡◌, ℕ, List, inl, inr, refl, sym, subst}
+-- What is said of a message, and that it is settled.
+use Rattle.std.proofs.Common.{◌≡◌, ◌⊎◌, ℕ, List, inl, inr, refl, sym, subst}
+use Rattle.std.specs.Prelude.{Result, Err}
+use Rattle.rk_names.specs.declared.errors.Errno.{Errno}
+use Rattle.rk_names.specs.declared.errors.Errno.TheVariants.{Enomem}
 use Rattle.rk_names.specs.declared.numbers.SessionId.{SessionId}
 use Rattle.rk_message.specs.declared.ask.Ask.{Ask}
-use Rattle.rk_message.specs.Bodies.{Spells}
+use Rattle.rk_message.specs.declared.fault.Fault.{Fault}
+use Rattle.rk_message.specs.declared.fault.ReadError.{ReadError}
+use Rattle.rk_message.specs.declared.fault.ReadError.TheVariants as unreadable
+use Rattle.rk_message.specs.Bodies.{IsRefusedAs}
+use Rattle.rk_message.specs.Faults.{error_answer}
+use Rattle.rk_message.specs.Leftmost.{IsFaultOf}
+use Rattle.rk_message.specs.Table.{asks}
+use Rattle.rk_auth.specs.declared.session.Outcome.{Outcome}
+use Rattle.rk_auth.specs.declared.session.Outcome.TheVariants.{Found, Failed}
+use Rattle.rk_machine.specs.Steps.{told_as}
+use Rattle.rk_machine.specs.declared.event.Event.TheVariants.{Asked}
 use Rattle.rk_record.specs.declared.hall_no.HallNo.{HallNo}
 use Rattle.rk_record.specs.declared.told.Told.TheVariants as told
 use Rattle.rk_record.specs.Turns.{Noted}
-use Rattle.rk_hall.specs.Seats.{SeatShown}
+use Rattle.rk_hall.specs.Seats.{SeatShown, after_call, part, with_part}
 use Rattle.rk_hall.specs.declared.lapse.CallFault.{CallFault}
 use Rattle.rk_hall.specs.declared.lapse.CallFault.TheVariants as fault
 use Rattle.rk_talk.specs.declared.saying.Saying.{Saying}
 use Rattle.rk_talk.specs.declared.saying.Saying.TheVariants as saying
-use Rattle.rk_talk.specs.Said.{Says, IsRefusal, Settles, IsCollected, NoMemory, NoPlaces, Asks, Collects}
+use Rattle.rk_talk.specs.Said.{HasSettled, IsAnswered, IsCalled, IsCollected, IsNotAsked, IsRefusal, IsSettled, IsToWait, Settles}
+use Rattle.rk_talk.specs.Stays.{Stays}
 
--- where its call was refused
-pub refused_says : (session : SessionId) (body : List ℕ) (a : Ask) (f : CallFault) (s : Saying) → Spells a body → IsRefusal f s
-    → Says session body s
-refused_says session body a (fault.Behind seen found) s spells is = subst (Says session body) (sym is) (a, spells)
-refused_says session body a fault.Full s spells is = subst (Says session body) (sym is) (NoPlaces a spells refl)
-refused_says session body a fault.NoMemory s spells is = subst (Says session body) (sym is) (NoMemory refl)
-
-collected_says : (hall : HallNo) (now : ℕ) (session : SessionId) (old new : SeatShown) (body : List ℕ) (a : Ask) (s : Saying) → Spells a body
-    → IsCollected hall now session old new s → Says session body s
-collected_says hall now session old new body a (saying.Noted n) spells is = (a, spells, Collects is.0.2)
-collected_says hall now session old new body a (saying.Short e) spells is = absurd is
-collected_says hall now session old new body a saying.Behind spells is = (a, spells)
+-- why a body was not read
+pub why_not_read : (body : List ℕ) (error : ReadError) (e : Errno)
+    → ((f : Fault) → ◌≡◌ {A = Result Ask ReadError} (Err error) (Err (unreadable.Fault f)) → IsFaultOf asks body f) → e ≡ error_answer error
+    → IsRefusedAs e body ⊎ (e ≡ Enomem)
+why_not_read body (unreadable.Fault f) e found is = inl (f, found f refl, is)
+why_not_read body unreadable.NoMemory e found is = inr is
 
 -- where its call gave this receipt
-pub settled_says : (hall : HallNo) (session : SessionId) (old new : SeatShown) (body : List ℕ) (a : Ask) (r : Noted) (s : Saying) → Spells a body
-    → r.told ≡ told.Asked session a → Settles hall session r old new s → Says session body s
-settled_says hall session old new body a r s spells told (inl is) = subst (Says session body) (sym is.0) (a, spells, Asks told)
-settled_says hall session old new body a r s spells told (inr waits) = collected_says hall waits.1 session old new body a s spells waits.2
+pub receipt_answers : (session : SessionId) (hall : HallNo) (now : ℕ) (a : Ask) (old called mid new : SeatShown) (n : Noted) (s : Saying)
+    → IsCalled hall now (told.Asked session a) (part hall old) n → called ≡ with_part hall old (after_call (part hall old) (Asked session a) n)
+    → Stays called mid → Settles hall session n mid new s → IsAnswered session hall a old new s
+receipt_answers session hall now a old called mid new n s noted is stays settles =
+    HasSettled now n mid noted (subst (λ seat. Stays seat mid) is stays) settles
+
+-- where its call was refused
+pub refusal_settled : (f : CallFault) (s : Saying) → IsRefusal f s → IsSettled s
+refusal_settled (fault.Behind seen found) s is = subst IsSettled (sym is) tt
+refusal_settled fault.Full s is = subst IsSettled (sym is) tt
+refusal_settled fault.NoMemory s is = subst IsSettled (sym is) tt
+
+outcome_settled : (o : Outcome) → IsToWait (told_as o) → ⊥
+outcome_settled (Found k) waits = waits
+outcome_settled (Failed e) waits = waits
+
+collected_settled : (hall : HallNo) (now : ℕ) (session : SessionId) (old new : SeatShown) (s : Saying) → IsCollected hall now session old new s → IsSettled s
+collected_settled hall now session old new (saying.Noted n) is = λ waits. outcome_settled is.0.3.0 (subst IsToWait is.0.3.1 waits)
+collected_settled hall now session old new (saying.Short e) is = tt
+collected_settled hall now session old new saying.Behind is = tt
+
+-- where its call gave this receipt
+receipt_settled : (hall : HallNo) (session : SessionId) (old new : SeatShown) (r : Noted) (s : Saying) → Settles hall session r old new s → IsSettled s
+receipt_settled hall session old new r s (inl is) = subst IsSettled (sym is.0) is.1
+receipt_settled hall session old new r s (inr waits) = collected_settled hall waits.1 session old new s waits.2
+
+-- however its ask came to it
+pub answered_settled : (session : SessionId) (hall : HallNo) (a : Ask) (old new : SeatShown) (s : Saying) → IsAnswered session hall a old new s → IsSettled s
+answered_settled session hall a old new s (IsNotAsked f refused is same) = refusal_settled f s is
+answered_settled session hall a old new s (HasSettled now n mid called stays settles) = receipt_settled hall session mid new n s settles

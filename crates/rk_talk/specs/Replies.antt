@@ -24,8 +24,15 @@ reply_of (Waiting k) = None
 abbrev pub ReplyFramed : Answer → List ℕ → Type 0
 ReplyFramed answer bytes = (r : Reply) × (reply_of answer ≡ Some r) × (bytes ≡ reply_bytes r)
 
--- whether memory is asked for to reply with an answer: for bytes and for the serials of rings; an answer that ends no ask has no reply
+-- whether memory is asked for to make a reply: for bytes and for the serials of rings; where there is none, it is for none
 abbrev pub TakesMemory : Option Reply → Type 0
+TakesMemory None = ⊥
 TakesMemory (Some (reply.Number n)) = ⊥
 TakesMemory (Some (reply.Refused e)) = ⊥
 TakesMemory _ = Unit {0}
+
+-- why an answer may get no frame: its reply takes memory, or it ends no ask, and has no reply
+abbrev pub LacksFrame : Answer → Type 0
+LacksFrame (Done r) = TakesMemory (Some r)
+LacksFrame (Refused e) = ⊥
+LacksFrame _ = Unit {0}

@@ -13,10 +13,11 @@ use Rattle.rk_record.specs.declared.told.Told.{Told}
 use Rattle.rk_record.specs.declared.told.Told.TheVariants as told
 use Rattle.rk_record.specs.Copies.{started}
 use Rattle.rk_record.specs.Turns.{Noted}
-use Rattle.rk_hall.specs.Seats.{PartShown, SeatShown, TokenShown, OwedSeen}
+use Rattle.rk_hall.specs.Seats.{CallRefused, OwedSeen, PartShown, SeatShown, TokenShown, after_call, part, with_part}
 use Rattle.rk_hall.specs.declared.lapse.Lapse.{Lapse}
 use Rattle.rk_hall.specs.declared.lapse.CallFault.{CallFault}
 use Rattle.rk_hall.specs.declared.lapse.CallFault.TheVariants as fault
+use Rattle.rk_talk.specs.Stays.{Stays}
 use Rattle.rk_talk.specs.declared.saying.Saying.{Saying}
 use Rattle.rk_talk.specs.declared.saying.Saying.TheVariants as saying
 
@@ -28,27 +29,6 @@ IsCalled hall now t p r = (r.hall ≡ hall) × (r.moment ≡ now) × (r.told ≡
 abbrev pub HasLaunch : HallNo → Answer → Option TokenShown → Type 0
 HasLaunch hall a (Some l) = (l.hall ≡ hall) × (a ≡ answer.Start l.key l.subject)
 HasLaunch hall a None = started a ≡ None
-
--- the receipt is of this session's ask, or of its collect
-pub data IsOfAsk (session : SessionId) (a : Ask) (n : Noted) : Type 0 where
-  Asks : n.told ≡ told.Asked session a → IsOfAsk session a n
-  Collects : n.told ≡ told.Collect session → IsOfAsk session a n
-
--- the body spells an ask, and the receipt is one of it
-abbrev pub IsNoteOf : SessionId → List ℕ → Noted → Type 0
-IsNoteOf session body n = (a : Ask) × Spells a body × IsOfAsk session a n
-
--- why a message gets this errno without a receipt: the body has no reading; memory; or it has one, and the hall is full
-pub data IsShort (body : List ℕ) (e : Errno) : Type 0 where
-  NoReading : IsRefusedAs e body → IsShort body e
-  NoMemory : e ≡ Enomem → IsShort body e
-  NoPlaces : (a : Ask) → Spells a body → e ≡ Edquot → IsShort body e
-
--- what is to be said of a message: what a receipt of its ask says, or an errno, or of an ask nothing
-abbrev pub Says : SessionId → List ℕ → Saying → Type 0
-Says session body (saying.Noted n) = IsNoteOf session body n
-Says session body (saying.Short e) = IsShort body e
-Says session body saying.Behind = (a : Ask) × Spells a body
 
 -- what the wait of a session came to, of a seat: the receipt of the one turn by which the seat collected; or nothing, where its collect gave it no receipt
 abbrev pub IsCollected : HallNo → ℕ → SessionId → SeatShown → SeatShown → Saying → Type 0
@@ -62,6 +42,11 @@ IsToWait (answer.Done r) = ⊥
 IsToWait (answer.Refused e) = ⊥
 IsToWait _ = Unit {0}
 
+-- what a receipt says is no answer after which the session waits
+abbrev pub IsSettled : Saying → Type 0
+IsSettled (saying.Noted n) = IsToWait n.answer → ⊥
+IsSettled _ = Unit {0}
+
 -- what is to be said where a call gave this receipt: itself, and the seat made no turn; or what the wait came to
 abbrev pub Settles : HallNo → SessionId → Noted → SeatShown → SeatShown → Saying → Type 0
 Settles hall session receipt old new s =
@@ -73,3 +58,19 @@ abbrev pub IsRefusal : CallFault → Saying → Type 0
 IsRefusal (fault.Behind seen found) s = s ≡ saying.Behind
 IsRefusal fault.Full s = s ≡ saying.Short Edquot
 IsRefusal fault.NoMemory s = s ≡ saying.Short Enomem
+
+-- an ask was made in this hall, and that is to be said of it
+pub data IsAnswered (session : SessionId) (hall : HallNo) (a : Ask) (old new : SeatShown) (s : Saying) : Type 0 where
+  -- its call was refused, and the seat is as before
+  IsNotAsked : (f : CallFault) → CallRefused (part hall old) f → IsRefusal f s → new ≡ old → IsAnswered session hall a old new s
+  -- its call was a turn of the seat; what that started was brought to its end, and then its receipt settled
+  HasSettled : (now : ℕ) (n : Noted) (mid : SeatShown) → IsCalled hall now (told.Asked session a) (part hall old) n
+      → Stays (with_part hall old (after_call (part hall old) (event.Asked session a) n)) mid → Settles hall session n mid new s
+      → IsAnswered session hall a old new s
+
+-- what is to be said of a message whose ask is made in this hall
+pub data Says (session : SessionId) (hall : HallNo) (body : List ℕ) (old new : SeatShown) : Saying → Type 0 where
+  -- the body spells no ask, or there was no memory to read it: nothing was done
+  NotRead : (e : Errno) → IsRefusedAs e body ⊎ (e ≡ Enomem) → new ≡ old → Says session hall body old new (saying.Short e)
+  -- its ask was made
+  IsMade : (a : Ask) (s : Saying) → Spells a body → IsAnswered session hall a old new s → Says session hall body old new s

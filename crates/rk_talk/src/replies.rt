@@ -1,7 +1,7 @@
 //! Replies in frames.
 ghost use Rattle.std.specs.Prelude.{◌≡◌, Some, IfOk, IfErr};
 ghost use Rattle.rk_message.specs.declared.reply.Reply.TheVariants as reply;
-ghost use Rattle.rk_talk.specs.Replies.{reply_bytes, reply_of, ReplyFramed, TakesMemory};
+ghost use Rattle.rk_talk.specs.Replies.{reply_bytes, LacksFrame, ReplyFramed, TakesMemory};
 
 use crate::frame::Frame;
 use rk_machine::Answer;
@@ -55,7 +55,7 @@ fn framed(alloc: Global, reply: &Reply) -> Result<Frame, AllocError>
 /// says nothing, of a session that waits, is told as that too.
 pub fn answer_frame(alloc: Global, answer: &Answer) -> Result<Frame, AllocError>
     ensures framed { IfOk result (λ b. ReplyFramed answer.now b) }
-    ensures memory { IfErr result (λ e. TakesMemory (reply_of answer.now)) }
+    ensures memory { IfErr result (λ e. LacksFrame answer.now) }
 {
     match answer {
         Answer::Done(reply) => framed(alloc, reply),

@@ -5,25 +5,28 @@ use Rattle.rk_child.specs.Driving.{Runs}
 use Rattle.rk_child.proofs.+driving.Given as goal
 
 abbrev pub decreases-asks::answer_all : goal.decreases-asks::answer_all
-decreases-asks::answer_all g l = 7 * (256 - l.depth) + 2
+decreases-asks::answer_all g l = 8 * (256 - l.depth) + 3
 
 abbrev pub decreases-asks::answer_next : goal.decreases-asks::answer_next
-decreases-asks::answer_next g l = 7 * (256 - l.depth) + 1
+decreases-asks::answer_next g l = 8 * (256 - l.depth) + 2
 
 abbrev pub decreases-asks::answered : goal.decreases-asks::answered
-decreases-asks::answered g l = 7 * (256 - l.depth)
+decreases-asks::answered g l = 8 * (256 - l.depth) + 1
+
+abbrev pub decreases-asks::brought_to_end : goal.decreases-asks::brought_to_end
+decreases-asks::brought_to_end g l = 8 * (256 - l.depth)
 
 abbrev pub decreases-asks::serve_asks : goal.decreases-asks::serve_asks
-decreases-asks::serve_asks g l = 7 * (256 - l.depth) + 3
+decreases-asks::serve_asks g l = 8 * (256 - l.depth) + 4
 
 abbrev pub decreases-driving::attend : goal.decreases-driving::attend
-decreases-driving::attend g l = 7 * (256 - l.running.now.depth) + 4
+decreases-driving::attend g l = 8 * (256 - l.running.now.depth) + 5
 
 abbrev pub decreases-driving::drive : goal.decreases-driving::drive
-decreases-driving::drive g l = 7 * (256 - l.launch.depth) + 6
+decreases-driving::drive g l = 8 * (256 - l.launch.depth) + 7
 
 abbrev pub decreases-driving::run : goal.decreases-driving::run
-decreases-driving::run g l = 7 * (256 - l.launch.depth) + 5
+decreases-driving::run g l = 8 * (256 - l.launch.depth) + 6
 
 abbrev pub invariant-asks::answer_all-loop : goal.invariant-asks::answer_all-loop
 invariant-asks::answer_all-loop g l = record {

@@ -1,6 +1,6 @@
 //! A handler from its start to its end, in halls of its own, and what its requester is told.
 use crate::answers::{Said, in_words};
-use crate::asks::{CLIENT, add, hello_of};
+use crate::asks::{CLIENT, OTHER, add, hello_of};
 use crate::fakes::launcher::{Fake, Fuse, Program};
 use crate::fakes::still::{Bin, NOW, Stopped};
 use crate::halls::calls::{calls, greets, requests};
@@ -52,9 +52,6 @@ impl Adder {
     }
 }
 
-/// Of the same hall as that of the requester.
-const OTHER: SessionId = SessionId::Client(2);
-
 /// This client adds the key.
 fn adds<N: Names, R: Wait + Abort>(
     rt: &R,
@@ -89,6 +86,10 @@ pub struct Handling {
     pub told: Option<&'static [u8]>,
     /// How many steps there are in the end, where it is looked at.
     pub steps: Option<u64>,
+    /// How often the one was read that was read most, where it is looked at.
+    pub reads: Option<u64>,
+    /// How many volumes were handed out.
+    pub volumes: u64,
 }
 
 impl Handling {
@@ -118,6 +119,7 @@ impl Handling {
         let mut fake = fake.expect(rt, "memory");
         let (receipt, launch) = requests(rt, alloc, halls, seat);
         drop(receipt);
+        let bin = Bin::new();
         let driven = drive(
             rt,
             alloc,
@@ -128,13 +130,14 @@ impl Handling {
             &mut fake,
             &mut Stopped,
             &Open,
-            &Bin,
+            &bin,
         );
         let outcome = await_outcome(rt, halls, seat, HallNo::Zero, CLIENT, NOW);
         Came {
             driven,
             outcome: in_words(&outcome.value),
             fake,
+            volumes: bin.count(),
         }
     }
 }
@@ -145,6 +148,7 @@ pub struct Came {
     pub driven: Driven,
     pub outcome: Said,
     pub fake: Fake,
+    pub volumes: u64,
 }
 
 /// The records agree with all seats, and nothing was done where no client stood. How many steps there were.
@@ -171,6 +175,9 @@ fn is_as_wanted<R: Abort>(rt: &R, came: &Came, handling: &Handling, steps: u64) 
     );
     same(rt, fake.deepest, handling.deepest);
     same(rt, fake.failed, u64::from(handling.fuse.is_some()));
+    same(rt, came.volumes, handling.volumes);
+    let reads = handling.reads.unwrap_or(fake.longest);
+    same(rt, fake.longest, reads);
     if let Some(told) = handling.told {
         same(rt, fake.told.as_slice(), told);
     }

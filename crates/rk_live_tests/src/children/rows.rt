@@ -3,8 +3,9 @@ use crate::answers::Said;
 use crate::children::handling::{Adder, Handling};
 use crate::fakes::launcher::{Call, Fuse, Program};
 use crate::halls::opening::{Scene, in_new_halls};
-use rk_devices::Driven;
+use rk_devices::{Driven, OutputFault};
 use rk_machine::How;
+use rk_macro::ExpandFault;
 use rk_names::Errno;
 use std::alloc::Global;
 use std::marker::Sync;
@@ -36,6 +37,10 @@ const ENDED: Driven = Driven::Ended(How::Exit(0));
 
 const NEGATED: Driven = Driven::Ended(How::Exit(3));
 
+const NO_BYTES: Driven = Driven::NoPayload(OutputFault::Empty);
+
+const TOO_MANY: Driven = Driven::NoPayload(OutputFault::TooLong);
+
 /// So many steps has a volume, where it is not looked at.
 const STEPS: usize = 1_048_576;
 
@@ -58,6 +63,8 @@ const FAILS: Program = Program {
     endless: false,
     ends: How::Exit(7),
 };
+
+const FAILS_SILENTLY: Program = Program { says: &[], ..FAILS };
 
 const TEN: Program = Program {
     says: &[(10, b"a")],
@@ -142,6 +149,8 @@ pub const PLAIN: Handling = Handling {
     words: b"/bin/h 12 ",
     told: None,
     steps: None,
+    reads: None,
+    volumes: 0,
 };
 
 /// A piped one.
@@ -185,7 +194,6 @@ const PLAIN_ROWS: &[Row] = &[
     (&[FAILS], None, Driven::Ended(How::Exit(7)), NO_KEY),
     (&[MALFORMED], None, Driven::Ended(How::Signal), MADE),
     (&[EMPTY], None, Driven::Ended(How::Exit(7)), NO_KEY),
-    (&[ENDLESS], None, Driven::ReadFailed, MADE),
     (
         &[COMPLETES],
         Some(Fuse(1, Call::Read, 1)),
@@ -216,11 +224,11 @@ const PLAIN_ROWS: &[Row] = &[
 
 const PIPED_ROWS: &[Row] = &[
     (&[TEN], None, ENDED, MADE),
-    (&[SILENT], None, ENDED, NO_KEY),
+    (&[SILENT], None, NO_BYTES, NO_KEY),
     (&[FAILS], None, Driven::Ended(How::Exit(7)), NO_KEY),
+    (&[FAILS_SILENTLY], None, Driven::Ended(How::Exit(7)), NO_KEY),
     (&[LONGEST], None, ENDED, MADE),
-    (&[TOO_LONG], None, ENDED, NO_KEY),
-    (&[ENDLESS], None, Driven::ReadFailed, NO_KEY),
+    (&[TOO_LONG], None, TOO_MANY, NO_KEY),
     (
         &[TEN],
         Some(Fuse(1, Call::Read, 1)),
@@ -343,12 +351,16 @@ const NOT_STARTED: &[Handling] = &[
     },
     Handling {
         conf: b"create * * * /bin/h %{user:x}\n",
-        ..NO_LINE
+        ..NO_WORD
+    },
+    Handling {
+        conf: b"create * * * |/bin/p %{user:x}\n",
+        ..NO_WORD
     },
     Handling {
         conf: b"create * * * /bin/h %{user:k}\n",
         adder: Adder::Other,
-        ..NO_LINE
+        ..NO_WORD
     },
     Handling {
         conf: b"create * * * /bin/h\n",
@@ -383,6 +395,11 @@ const NO_LINE: Handling = Handling {
     ..PLAIN
 };
 
+const NO_WORD: Handling = Handling {
+    driven: Driven::NotMade(ExpandFault::NoKey),
+    ..NO_LINE
+};
+
 /// A handler is told what its hall answers, and a piped one the callout.
 const TOLD: &[Handling] = &[
     Handling {
@@ -401,7 +418,7 @@ const TOLD: &[Handling] = &[
     },
 ];
 
-/// Of two commands one is not started: the first can't be, or the first makes the key, or the second can't be.
+/// Of two commands one is not started: the first can't be, or the first makes the key, or the second can't be, or can't be made, or there is no line for it.
 const FIRST_ALONE: &[Handling] = &[
     Handling {
         fuse: Some(Fuse(1, Call::Start, 1)),
@@ -419,6 +436,18 @@ const FIRST_ALONE: &[Handling] = &[
     },
     Handling {
         fuse: Some(Fuse(2, Call::Start, 1)),
+        driven: Driven::Ended(How::Exit(7)),
+        words: b"/bin/p ",
+        ..FOLLOWED
+    },
+    Handling {
+        conf: b"create * * * |/bin/p\nnegate * * * |/bin/n %{user:x}\n",
+        driven: Driven::Ended(How::Exit(7)),
+        words: b"/bin/p ",
+        ..FOLLOWED
+    },
+    Handling {
+        conf: b"create * * * |/bin/p\nnegate user b * |/bin/n\n",
         driven: Driven::Ended(How::Exit(7)),
         words: b"/bin/p ",
         ..FOLLOWED
@@ -550,14 +579,83 @@ fn frames_that_are_cut_are_no_asks(rt: HostRuntime) {
 
 const OFTEN: &[Program] = &[ASKS_OFTEN];
 
+/// What it is told: 0, thirty times `x`, 0.
+const TOLD_OFTEN: &[u8] = b"\0\0\0\x05\0\0\0\0\0\
+    \0\0\0\x04\x01\0\x01x\0\0\0\x04\x01\0\x01x\0\0\0\x04\x01\0\x01x\0\0\0\x04\x01\0\x01x\0\0\0\x04\x01\0\x01x\0\0\0\x04\x01\0\x01x\
+    \0\0\0\x04\x01\0\x01x\0\0\0\x04\x01\0\x01x\0\0\0\x04\x01\0\x01x\0\0\0\x04\x01\0\x01x\0\0\0\x04\x01\0\x01x\0\0\0\x04\x01\0\x01x\
+    \0\0\0\x04\x01\0\x01x\0\0\0\x04\x01\0\x01x\0\0\0\x04\x01\0\x01x\0\0\0\x04\x01\0\x01x\0\0\0\x04\x01\0\x01x\0\0\0\x04\x01\0\x01x\
+    \0\0\0\x04\x01\0\x01x\0\0\0\x04\x01\0\x01x\0\0\0\x04\x01\0\x01x\0\0\0\x04\x01\0\x01x\0\0\0\x04\x01\0\x01x\0\0\0\x04\x01\0\x01x\
+    \0\0\0\x04\x01\0\x01x\0\0\0\x04\x01\0\x01x\0\0\0\x04\x01\0\x01x\0\0\0\x04\x01\0\x01x\0\0\0\x04\x01\0\x01x\0\0\0\x04\x01\0\x01x\
+    \0\0\0\x05\0\0\0\0\0";
+
+/// How many steps a volume has, and how many volumes are handed out. Of the 32 asks the first volume has those for which there are places behind its four
+/// steps, and each other one as many as it has places but for three, which are owed: to the client its end and its outcome, to the construction its end.
+const VOLUMES: &[(usize, u64)] = &[
+    (9, 5),
+    (10, 5),
+    (11, 4),
+    (12, 3),
+    (13, 3),
+    (14, 3),
+    (15, 2),
+    (16, 2),
+    (17, 2),
+    (18, 2),
+    (19, 2),
+    (38, 1),
+    (39, 0),
+];
+
 #[test]
 fn volumes_are_handed_out_while_a_handler_asks(rt: HostRuntime) {
-    for steps in 9..20 {
+    for (steps, volumes) in VOLUMES {
         let asking = Handling {
             programs: OFTEN,
+            told: Some(TOLD_OFTEN),
+            volumes: *volumes,
             ..PLAIN
         };
-        in_new_halls(&rt, rt.alloc(), steps, Scene::Handling(asking));
+        in_new_halls(&rt, rt.alloc(), *steps, Scene::Handling(asking));
+    }
+}
+
+/// It puts out bytes that are no frame, for ever.
+const WRITES_ON: Program = Program {
+    says: &[],
+    endless: true,
+    ends: How::Exit(0),
+};
+
+/// A handler that puts out bytes for ever is read a million times; its key is made where it has completed it before.
+const FOR_EVER: &[Handling] = &[
+    Handling {
+        programs: &[WRITES_ON],
+        outcome: NO_KEY,
+        ..GIVEN_UP
+    },
+    Handling {
+        programs: &[ENDLESS],
+        ..GIVEN_UP
+    },
+    Handling {
+        conf: b"create * * * |/bin/p\n",
+        programs: &[WRITES_ON],
+        outcome: NO_KEY,
+        words: b"/bin/p ",
+        ..GIVEN_UP
+    },
+];
+
+const GIVEN_UP: Handling = Handling {
+    driven: Driven::ReadFailed,
+    reads: Some(1_048_576),
+    ..PLAIN
+};
+
+#[test]
+fn a_handler_that_writes_for_ever_is_given_up(rt: HostRuntime) {
+    for handling in FOR_EVER {
+        in_new_halls(&rt, rt.alloc(), STEPS, Scene::Handling(*handling));
     }
 }
 

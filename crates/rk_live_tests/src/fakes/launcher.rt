@@ -45,7 +45,8 @@ pub struct Fake {
     /// The path and the words of each command, a space behind each.
     pub words: Vec<u8>,
     pub failed: u64,
-    longest: u64,
+    /// How often the one was read that was read most.
+    pub longest: u64,
     pub out: u64,
     pub deepest: u64,
     at_end: bool,

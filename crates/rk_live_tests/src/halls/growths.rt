@@ -6,11 +6,12 @@
 ghost use Rattle.rk_hall.specs.Seats.{IsCall};
 
 use crate::answers::Said;
-use crate::asks::{CLIENT, hello, payload, request};
+use crate::asks::{CLIENT, OTHER, hello, joining, payload, request};
 use crate::fakes::still::NOW;
 use crate::halls::calls::refuse_launch;
 use crate::halls::opening::{Scene, in_new_halls};
 use crate::halls::paths::{all, collects, ends, goes, keep, negates, runs, say, strays};
+use crate::record::events::key;
 use crate::same::same;
 use rk_hall::{CallFault, Called, HallNo, Halls, Launch, Names, Receipt, Seat, Volume, settle};
 use rk_machine::{Event, How};
@@ -24,6 +25,8 @@ use std::sync::Wait;
 #[derive(Clone, Copy)]
 pub struct Growths {
     status: u8,
+    /// Whether another client of its session ring requests the same key, and waits with it.
+    two: bool,
     /// What each step of the whole path is answered.
     answers: &'static [Said],
 }
@@ -32,6 +35,8 @@ pub struct Growths {
 #[derive(Drop)]
 struct Needs {
     request: Ask,
+    /// That of the other client.
+    other: Ask,
     put_out: Payload,
 }
 
@@ -39,7 +44,7 @@ impl Growths {
     /// Goes the path as far as memory reaches, and settles.
     pub fn play<N: Names, R: Wait + Abort>(self, rt: &R, alloc: Global, halls: Halls<N>) {
         let mut seats = Vec::with_capacity(alloc, 1).expect(rt, "memory");
-        let mut receipts = Vec::with_capacity(alloc, 8).expect(rt, "memory");
+        let mut receipts = Vec::with_capacity(alloc, 16).expect(rt, "memory");
         let mut seat = halls.seat(rt).expect(rt, "a seat");
         strays(rt, &halls, &mut seat);
         self.follow(rt, alloc, &halls, &mut seat, &mut receipts);
@@ -62,6 +67,7 @@ impl Growths {
     ) {
         let needs = Needs {
             request: request(alloc, b"a").expect(rt, "memory"),
+            other: request(alloc, b"a").expect(rt, "memory"),
             put_out: payload(alloc, b"v").expect(rt, "memory"),
         };
         if !is_made(rt, halls, seat, receipts, Event::Opened(CLIENT)) {
@@ -70,7 +76,7 @@ impl Growths {
         if is_made(rt, halls, seat, receipts, Event::Asked(CLIENT, hello())) {
             self.construct(rt, halls, seat, receipts, needs);
         }
-        goes(rt, halls, seat, receipts);
+        goes(rt, halls, seat, receipts, CLIENT);
     }
 
     /// The key is requested, and, where there is memory for that call, its construction comes to its end.
@@ -82,11 +88,20 @@ impl Growths {
         receipts: &mut Vec<Receipt>,
         needs: Needs,
     ) {
-        let Needs { request, put_out } = needs;
+        let Needs {
+            request,
+            other,
+            put_out,
+        } = needs;
         let request = Event::Asked(CLIENT, request);
         if let Ok(launch) = tries(rt, halls, seat, receipts, request) {
             let launch = launch.expect(rt, "a launch");
+            let waits = self.two && joins(rt, halls, seat, receipts, other);
             self.finish(rt, halls, seat, receipts, launch, put_out);
+            if waits {
+                collects(rt, halls, seat, receipts, OTHER);
+                goes(rt, halls, seat, receipts, OTHER);
+            }
         }
     }
 
@@ -109,9 +124,29 @@ impl Growths {
         } else {
             negates(rt, halls, seat, receipts, next);
         }
-        collects(rt, halls, seat, receipts);
+        collects(rt, halls, seat, receipts, CLIENT);
         halls.retire(rt, other);
     }
+}
+
+/// The other client comes to the session ring of the first one, and waits for its key. Whether it waits; where there was no memory for that it has gone.
+fn joins<N: Names, R: Wait + Abort>(
+    rt: &R,
+    halls: &Halls<N>,
+    seat: &mut Seat<N>,
+    receipts: &mut Vec<Receipt>,
+    request: Ask,
+) -> bool {
+    if !is_made(rt, halls, seat, receipts, Event::Opened(OTHER)) {
+        return false;
+    }
+    let joining = Event::Asked(OTHER, joining(key(rt, 4)));
+    let waits = is_made(rt, halls, seat, receipts, joining)
+        && is_made(rt, halls, seat, receipts, Event::Asked(OTHER, request));
+    if !waits {
+        goes(rt, halls, seat, receipts, OTHER);
+    }
+    waits
 }
 
 /// A call that begins no construction. Whether there was memory for it.
@@ -159,6 +194,7 @@ fn tries<N: Names, R: Wait + Abort>(
 fn growths_of_a_key_that_is_made(rt: HostRuntime) {
     let made = Growths {
         status: 0,
+        two: false,
         answers: &[
             Said::Number(0),
             Said::Rings(4, 8),
@@ -176,6 +212,7 @@ fn growths_of_a_key_that_is_made(rt: HostRuntime) {
 fn growths_of_a_second_handler(rt: HostRuntime) {
     let followed = Growths {
         status: 1,
+        two: false,
         answers: &[
             Said::Number(0),
             Said::Rings(4, 8),
@@ -188,4 +225,27 @@ fn growths_of_a_second_handler(rt: HostRuntime) {
         ],
     };
     in_new_halls(&rt, rt.alloc(), 100, Scene::Growths(followed));
+}
+
+#[test]
+fn growths_of_two_requesters(rt: HostRuntime) {
+    let shared = Growths {
+        status: 0,
+        two: true,
+        answers: &[
+            Said::Number(0),
+            Said::Rings(4, 8),
+            Said::Start(12),
+            Said::Number(0),
+            Said::Rings(4, 8),
+            Said::Waiting(12),
+            Said::Number(0),
+            Said::Number(0),
+            Said::Number(12),
+            Said::Number(12),
+            Said::Number(0),
+            Said::Number(0),
+        ],
+    };
+    in_new_halls(&rt, rt.alloc(), 100, Scene::Growths(shared));
 }

@@ -1,6 +1,5 @@
 //! The steps of a client and of its piped handler, with their receipts.
 use crate::answers::{Said, in_words};
-use crate::asks::CLIENT;
 use crate::fakes::still::NOW;
 use crate::halls::calls::fails;
 use crate::same::same;
@@ -33,14 +32,15 @@ pub fn all(steps: u64) -> Total {
     }
 }
 
-/// The client goes.
+/// This client goes.
 pub fn goes<N: Names, R: Wait + Abort>(
     rt: &R,
     halls: &Halls<N>,
     seat: &mut Seat<N>,
     receipts: &mut Vec<Receipt>,
+    client: SessionId,
 ) {
-    let Owed { value: (), receipt } = halls.gone(rt, seat, HallNo::Zero, NOW, CLIENT);
+    let Owed { value: (), receipt } = halls.gone(rt, seat, HallNo::Zero, NOW, client);
     keep(rt, receipts, receipt.expect(rt, "a receipt"));
 }
 
@@ -87,14 +87,15 @@ pub fn ends<N: Names, R: Wait + Abort>(
     value
 }
 
-/// The client's outcome.
+/// The outcome of this client.
 pub fn collects<N: Names, R: Wait + Abort>(
     rt: &R,
     halls: &Halls<N>,
     seat: &mut Seat<N>,
     receipts: &mut Vec<Receipt>,
+    client: SessionId,
 ) {
-    let Owed { value, receipt } = await_outcome(rt, halls, seat, HallNo::Zero, CLIENT, NOW);
+    let Owed { value, receipt } = await_outcome(rt, halls, seat, HallNo::Zero, client, NOW);
     let receipt = receipt.expect(rt, "a receipt");
     same(rt, in_words(&value), in_words(receipt.answer()));
     keep(rt, receipts, receipt);

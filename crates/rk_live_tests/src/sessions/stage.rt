@@ -160,7 +160,7 @@ fn serves<'a, N: Names, R: Wait + Abort + Clock>(
         &mut launcher,
         &mut clock,
         &gate,
-        &Bin,
+        &Bin::new(),
     );
     let Line {
         said,

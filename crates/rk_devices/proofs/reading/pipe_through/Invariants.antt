@@ -1,4 +1,5 @@
-use Rattle.std.proofs.Common.{◌≤◌}
+use Rattle.std.proofs.Common.{◌≡◌, ◌≤◌}
+use Rattle.rk_devices.specs.Counts.{raised_by}
 use Rattle.rk_devices.specs.Shown.{GoesOn}
 use Rattle.rk_devices.proofs.reading.pipe_through.Given as goal
 
@@ -6,4 +7,5 @@ abbrev pub invariant-loop : goal.invariant-loop
 invariant-loop g l = record {
   goes_on : GoesOn (g.C.Child.shown l.fn.child) (g.C.Child.shown l.child);
   reads : l.counter ≤ (g.C.Child.shown l.child).reads;
+  times : (g.C.Child.shown l.child).reads ≡ raised_by l.counter (g.C.Child.shown l.fn.child).reads;
 }

@@ -4,10 +4,11 @@ use Rattle.rk_session.proofs.Seats.{came_and_went}
 use Rattle.rk_session.proofs.serving.serve.Goals as goal
 
 pub returns-in-Some-clause-talked : goal.returns-in-Some-clause-talked
-returns-in-Some-clause-talked g c = inr (refl, c.in-Some.ensures.2, refl)
+returns-in-Some-clause-talked g c = inr (refl, c.in-Some.refusal, c.in-Some.ensures.1, refl)
 
 pub returns-clause-talked : goal.returns-clause-talked
-returns-clause-talked g c = inl c.talk-served.ensures.talked
+returns-clause-talked g c =
+    inl (c.open.new.seat, c.talk-served.new.seat, c.in-None.ensures.1, c.talk-served.ensures.talked, c.leave.ensures.leaves.1)
 
 pub returns-clause-stays : goal.returns-clause-stays
 returns-clause-stays g c =

@@ -3,13 +3,14 @@ use Rattle.rk_names.specs.declared.numbers.SessionId.TheVariants.{Client}
 use Rattle.rk_devices.specs.Counts.{most}
 use Rattle.rk_session.specs.Moving.{Moves}
 use Rattle.rk_session.specs.Parts.{GoesOn}
+use Rattle.rk_session.specs.Places.{standing_of}
 use Rattle.rk_session.proofs.serving.take_all.Given as goal
 
 abbrev pub invariant-loop-served : goal.invariant-loop-served
 invariant-loop-served g l = record {
   bound : (g.L.Launcher.shown l.launcher).count ≤ most;
-  goes : GoesOn (Client l.client) (g.W.Wire.shown l.fn.wire) l.fn.frames.bytes l.fn.place (g.W.Wire.shown l.wire) l.frames.bytes
-      l.place;
+  goes : GoesOn (Client l.client) (g.W.Wire.shown l.fn.wire) l.fn.frames.bytes (standing_of l.fn.place l.fn.seat) (g.W.Wire.shown l.wire)
+      l.frames.bytes (standing_of l.place l.seat);
   count : (g.W.Wire.shown l.wire).count ≡ (g.W.Wire.shown l.fn.wire).count;
   reads : (g.W.Wire.shown l.wire).reads ≡ (g.W.Wire.shown l.fn.wire).reads;
   moves : Moves l.fn.place.hall l.place.hall l.fn.seat l.seat;

@@ -3,13 +3,14 @@ use Rattle.rk_names.specs.declared.numbers.SessionId.TheVariants.{Client}
 use Rattle.rk_frame.specs.Streams.{IsPartial}
 use Rattle.rk_devices.specs.Counts.{most}
 use Rattle.rk_session.specs.Moving.{Moves}
+use Rattle.rk_session.specs.Places.{standing_of}
 use Rattle.rk_session.proofs.Talks.{Stands}
 use Rattle.rk_session.proofs.serving.talk.Given as goal
 
 abbrev pub invariant-loop : goal.invariant-loop
 invariant-loop g l = record {
   bound : (g.L.Launcher.shown l.launcher).count ≤ most;
-  stands : Stands (Client l.client) (g.W.Wire.shown l.fn.wire) (g.W.Wire.shown l.wire) l.frames.bytes l.place;
+  stands : Stands (Client l.client) l.fn.seat (g.W.Wire.shown l.fn.wire) (g.W.Wire.shown l.wire) l.frames.bytes (standing_of l.place l.seat);
   is_partial : IsPartial l.frames.bytes;
   room : 4096 ≤ l.frames.room;
   least : l.counter ≤ (g.W.Wire.shown l.wire).reads;

@@ -2,8 +2,7 @@ use Rattle.std.proofs.Common.{subst, sym}
 use Rattle.rk_names.specs.declared.numbers.SessionId.TheVariants.{Client}
 use Rattle.rk_talk.specs.Stays.{Stays}
 use Rattle.rk_talk.proofs.Seats.{stays_same}
-use Rattle.rk_session.specs.Moving.{IsNotCalled}
-use Rattle.rk_session.proofs.Sayings.{refused_shut}
+use Rattle.rk_session.specs.Opening.{IsNotCalled}
 use Rattle.rk_session.proofs.Seats.{opened_by}
 use Rattle.rk_session.proofs.standing.open.Goals as goal
 
@@ -16,6 +15,5 @@ returns-in-Ok g c =
 pub returns-in-Err : goal.returns-in-Err
 returns-in-Err g c = (
   subst (Stays c.args.seat.now) (sym c.in-Err.ensures.same) (stays_same c.args.seat.now),
-  refused_shut (Client c.args.client) c.args.hall c.in-Err.fault c.refused.result c.refused.ensures,
-  IsNotCalled c.in-Err.fault c.in-Err.ensures.err c.in-Err.ensures.same,
+  IsNotCalled c.in-Err.fault c.in-Err.ensures.err c.refused.ensures c.in-Err.ensures.same,
 )

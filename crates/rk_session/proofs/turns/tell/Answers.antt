@@ -1,6 +1,6 @@
 use Rattle.std.proofs.Common.{subst, sym}
-use Rattle.rk_talk.specs.Replies.{ReplyFramed, TakesMemory, reply_of}
-use Rattle.rk_session.proofs.Sayings.{memory_speaks, noted_speaks}
+use Rattle.rk_talk.specs.Replies.{LacksFrame, ReplyFramed}
+use Rattle.rk_session.proofs.Sayings.{memory_speaks, noted_speaks, settled_takes}
 use Rattle.rk_session.proofs.turns.tell.Goals as goal
 
 pub returns-in-Ok-clause-speaks : goal.returns-in-Ok-clause-speaks
@@ -11,4 +11,5 @@ returns-in-Ok-clause-speaks g c =
 
 pub returns-in-Err-clause-speaks : goal.returns-in-Err-clause-speaks
 returns-in-Err-clause-speaks g c =
-    memory_speaks c.args.receipt c.refuse.result _ _ (subst (λ a. TakesMemory (reply_of a)) c.answer.ensures c.in-Err.ensures.memory) c.refuse.ensures.speaks
+    memory_speaks c.args.receipt c.refuse.result _ _
+    (settled_takes c.args.receipt.answer c.requires (subst LacksFrame c.answer.ensures c.in-Err.ensures.memory)) c.refuse.ensures.speaks

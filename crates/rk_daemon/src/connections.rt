@@ -1,0 +1,28 @@
+//! How many connections there are.
+
+use std::sync::atomic::{AtomicU32, Ordering};
+
+/// How many connections have been accepted that are not yet served to their end. Threads count here without a lock.
+#[derive(Drop)]
+pub struct Connections {
+    open: AtomicU32,
+}
+
+impl Connections {
+    /// There are none.
+    pub fn new() -> Connections {
+        Connections {
+            open: AtomicU32::new(0),
+        }
+    }
+
+    /// One more was accepted; how many there were before.
+    pub fn come(&self) -> u32 {
+        self.open.fetch_add(1, Ordering::Relaxed)
+    }
+
+    /// One was served to its end.
+    pub fn go(&self) {
+        self.open.fetch_sub(1, Ordering::Relaxed);
+    }
+}
