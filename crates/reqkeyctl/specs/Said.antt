@@ -36,6 +36,7 @@ options_by o = record {
   callout_from = option_map (λ s. s.now) o.callout_from;
 }
 
+-- the same, of a call that was read
 abbrev pub call_by : Call → CallSaid
 call_by c = record { options = options_by c.options; op = c.op; arguments = map string_bytes c.arguments.now }
 

@@ -4,6 +4,7 @@ ghost use Rattle.reqkeyctl.specs.Calls.{asks_help, is_help};
 ghost use Rattle.reqkeyctl.specs.Outcome.{HasTold};
 
 use crate::telling::{misused, no_memory, tell};
+use clap::builder::ValueParser;
 use clap::error::ErrorKind;
 use clap::{Arg, ArgAction, Command, Error};
 use rk_client::ArgumentFault;
@@ -56,20 +57,49 @@ Example:
 
 Status: the program's own; 128 and the number of the signal that has killed it; 127 where there is no such program, and 126 where it can't be started \
 (reqkeyctl: program); 1 for a refusal (errno N on standard error), a daemon that can't be reached (reqkeyctl: socket), a library that is not there \
-(reqkeyctl: file), or want of memory (reqkeyctl: memory).";
+(reqkeyctl: file), a program of which the system does not tell how it has ended (reqkeyctl: program), or want of memory (reqkeyctl: memory).";
 
-/// The options of `run`, by name, value and what they are for.
-const RUN_OPTIONS: [(&str, &str, &str); 4] = [
+/// Any text.
+const TEXT: ValueParser = ValueParser::String;
+
+/// A number of 32 bits.
+const NUMBER: ValueParser = ValueParser::Unsigned(0, 4_294_967_295);
+
+/// The serial of a ring, or 0.
+const RING: ValueParser = ValueParser::Unsigned(0, 2_147_483_647);
+
+/// An option: its name, what its value is called and has to look like, and what it is for.
+type Described = (
+    &'static str,
+    &'static str,
+    ValueParser<'static>,
+    &'static str,
+);
+
+/// The options of `run`.
+const RUN_OPTIONS: [Described; 4] = [
     (
         "socket",
         "PATH",
+        TEXT,
         "The socket of the daemon [default: REQKEYD_SOCKET of the environment]",
     ),
-    ("uid", "N", "The user to act for [default: the caller]"),
-    ("gid", "N", "The group to act for [default: the caller's]"),
+    (
+        "uid",
+        "N",
+        NUMBER,
+        "The user to act for [default: the caller]",
+    ),
+    (
+        "gid",
+        "N",
+        NUMBER,
+        "The group to act for [default: the caller's]",
+    ),
     (
         "library",
         "FILE",
+        TEXT,
         "The library that is preloaded, an absolute path [default: the one that is installed]",
     ),
 ];
@@ -239,28 +269,32 @@ fn run<'a>(alloc: Global) -> Result<Command<'a>, AllocError> {
     command.arg(program.num_args(1..).help("The program and its words"))
 }
 
-/// The options, by name, value and what they are for.
-const OPTIONS: [(&str, &str, &str); 6] = [
+/// The options of the program.
+const OPTIONS: [Described; 6] = [
     (
         "socket",
         "PATH",
+        TEXT,
         "The socket of the daemon; without it, speak as a handler over the standard streams",
     ),
-    ("uid", "N", "The user to act for [default: 0]"),
-    ("gid", "N", "The group to act for [default: 0]"),
+    ("uid", "N", NUMBER, "The user to act for [default: 0]"),
+    ("gid", "N", NUMBER, "The group to act for [default: 0]"),
     (
         "join",
         "N",
+        RING,
         "The session ring to join, 0 for a new one [default: 0]",
     ),
     (
         "payload-from",
         "FILE",
+        TEXT,
         "The payload is what FILE has (- for standard input); no <payload> is given",
     ),
     (
         "callout-from",
         "FILE",
+        TEXT,
         "The callout is what FILE has (- for standard input); no <callout> is given",
     ),
 ];
@@ -269,16 +303,12 @@ const OPTIONS: [(&str, &str, &str); 6] = [
 fn with_options<'a>(
     alloc: Global,
     bare: Command<'a>,
-    options: &'static [(&'static str, &'static str, &'static str)],
+    options: &[Described],
 ) -> Result<Command<'a>, AllocError> {
     let mut command = bare;
-    for (name, value, help) in options {
-        command = command.arg(
-            Arg::new(alloc, name)
-                .long(name)
-                .value_name(value)
-                .help(help),
-        )?;
+    for (name, value, parser, help) in options {
+        let option = Arg::new(alloc, name).long(name).value_name(value);
+        command = command.arg(option.value_parser(*parser).help(help))?;
     }
     Ok(command)
 }

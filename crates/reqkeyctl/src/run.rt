@@ -9,7 +9,7 @@ use crate::asking::{AskFault, ask_for, greeting};
 use crate::call::{Call, Options};
 use crate::help::explain;
 use crate::running::run_program;
-use crate::telling::{answer, answer_alone, no_file, no_memory, no_peer, refused};
+use crate::telling::{answer, answer_alone, no_file, no_memory, refused};
 use rk_client::{PeerFault, exchange, exchange_greeted};
 use rk_message::{Ask, Op, Reply};
 use rk_run::{Host, Wanted};

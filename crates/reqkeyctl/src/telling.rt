@@ -24,11 +24,19 @@ pub fn no_memory<E: Write>(errors: &mut E) -> u8
     FAILED
 }
 
-/// A peer that can't be reached or is gone, or what it sent is no reply; or a stream that takes nothing.
+/// A peer that can't be reached or is gone, or what it sent is no reply.
 pub fn no_peer<E: Write>(errors: &mut E) -> u8
     ensures { result ≡ 1 }
 {
     let _ = errors.write_all(b"reqkeyctl: socket\n");
+    FAILED
+}
+
+/// A stream that does not take what is told.
+pub fn no_output<E: Write>(errors: &mut E) -> u8
+    ensures { result ≡ 1 }
+{
+    let _ = errors.write_all(b"reqkeyctl: output\n");
     FAILED
 }
 
@@ -130,5 +138,5 @@ pub fn answer<W: Write, E: Write>(
     if tell(&text, writer) == 0 {
         return 0;
     }
-    no_peer(errors)
+    no_output(errors)
 }

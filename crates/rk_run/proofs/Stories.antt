@@ -1,6 +1,5 @@
 -- What is done, one thing after the other.
-use Rattle.std.proofs.Common.{◌≡◌, ℕ, List, [], ◌∷◌, ◌++◌, Option, Some, None, Result, Ok, Err, Bool, true, false, option_map, refl, sym, ap, ◌∙◌}
-use Rattle.std.specs.Prelude.{string_bytes}
+use Rattle.std.proofs.Common.{◌≡◌, ℕ, List, [], ◌∷◌, ◌++◌, Option, Some, None, Result, Ok, Err, Bool, true, false, refl, sym, ap, ◌∙◌}
 use Rattle.std.specs.declared.process.status.ExitStatus.{ExitStatus}
 use Rattle.std.proofs.lemmas.List.{append_assoc, append-nil}
 use Rattle.rk_client.specs.declared.fault.PeerFault.{PeerFault}
@@ -11,10 +10,9 @@ use Rattle.rk_run.specs.declared.fault.RunFault.TheVariants as fault
 use Rattle.rk_run.specs.declared.host.Here.{Here}
 use Rattle.rk_run.specs.declared.host.StartFault.{StartFault}
 use Rattle.rk_run.specs.declared.wanted.Wanted.{Wanted}
-use Rattle.rk_run.specs.Starts.{IsStart}
 use Rattle.rk_variables.specs.Starts.{Start}
 use Rattle.rk_run.specs.Story.{Event, Looked, Sought, Greeted, Started, Waited, Closed, and_then}
-use Rattle.rk_run.specs.Runs.{HasRun, HasRunIn, InSession, turned_away, crowded, unstarted, ended, blind, nowhere, without, unanswered, answered, hello_of, library_of, socket_of, ring_in, unheard, unstarted_by, ending}
+use Rattle.rk_run.specs.Runs.{HasRun, HasRunIn, InSession, IsStartIn, turned_away, crowded, unstarted, ended, blind, nowhere, without, unanswered, answered, hello_of, library_of, socket_of, ring_in, unheard, unstarted_by, ending}
 
 -- ---- stories that go on
 
@@ -43,20 +41,16 @@ pub had_no_room : (w : Wanted) (here : Here) (path : List ℕ) (answer : Reply) 
     → Ok ring ≡ ring_in answer → HasRunIn w here path answer s s (Err fault.NoMemory)
 had_no_room w here path answer s ring i = did_nothing w here path answer s (Err fault.NoMemory) (crowded ring (sym i))
 
-module _ (w : Wanted) (here : Here) (path : List ℕ) (answer : Reply) (ring : ℕ) (library : List ℕ) (before : Option (List ℕ)) (c : Start) where
-  is_start : IsStart w library before path ring c → library ≡ library_of w here → before ≡ option_map string_bytes here.preloaded
-      → IsStart w (library_of w here) (option_map string_bytes here.preloaded) path ring c
-  is_start i l b = rw (← l, ← b) i
-
-  pub did_not_start : (s t : Option (List Event)) (e : StartFault) → Ok ring ≡ ring_in answer → IsStart w library before path ring c → library ≡ library_of w here
-      → before ≡ option_map string_bytes here.preloaded → t ≡ and_then s (Started c (Err e) ∷ []) → HasRunIn w here path answer s t (Err (unstarted_by e))
-  did_not_start s t e r i l b told = (Started c (Err e) ∷ [], told, unstarted ring c e (sym r) (is_start i l b))
+module _ (w : Wanted) (here : Here) (path : List ℕ) (answer : Reply) (ring : ℕ) (c : Start) where
+  pub did_not_start : (s t : Option (List Event)) (e : StartFault) → Ok ring ≡ ring_in answer → IsStartIn w here path ring c
+      → t ≡ and_then s (Started c (Err e) ∷ []) → HasRunIn w here path answer s t (Err (unstarted_by e))
+  did_not_start s t e r i told = (Started c (Err e) ∷ [], told, unstarted ring c e (sym r) i)
 
   pub did_end : (s t u : Option (List Event)) (status : Option ExitStatus) (r : Result ℕ RunFault) → Ok ring ≡ ring_in answer
-      → IsStart w library before path ring c → library ≡ library_of w here → before ≡ option_map string_bytes here.preloaded
-      → t ≡ and_then s (Started c (Ok tt) ∷ []) → u ≡ and_then t (Waited status ∷ []) → r ≡ ending status → HasRunIn w here path answer s u r
-  did_end s t u status r is i l b told waited e =
-      (Started c (Ok tt) ∷ Waited status ∷ [], more s t u _ _ told waited, rw e (ended ring c status (sym is) (is_start i l b)))
+      → IsStartIn w here path ring c → t ≡ and_then s (Started c (Ok tt) ∷ []) → u ≡ and_then t (Waited status ∷ []) → r ≡ ending status
+      → HasRunIn w here path answer s u r
+  did_end s t u status r is i told waited e =
+      (Started c (Ok tt) ∷ Waited status ∷ [], more s t u _ _ told waited, rw e (ended ring c status (sym is) i))
 
 -- ---- of a run
 

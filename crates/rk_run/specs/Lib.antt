@@ -1,4 +1,5 @@
 pub mod Ending
+pub mod Paths
 pub mod Runs
 pub mod Starts
 pub mod Story

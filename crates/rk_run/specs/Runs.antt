@@ -15,6 +15,7 @@ use Rattle.rk_run.specs.declared.host.StartFault.{StartFault}
 use Rattle.rk_run.specs.declared.host.StartFault.TheVariants as start
 use Rattle.rk_run.specs.declared.wanted.Wanted.{Wanted}
 use Rattle.rk_run.specs.Ending.{status_of}
+use Rattle.rk_run.specs.Paths.{from_anywhere}
 use Rattle.rk_run.specs.Starts.{IsStart}
 use Rattle.rk_variables.specs.Starts.{Start}
 use Rattle.rk_run.specs.Story.{Event, Looked, Sought, Greeted, Started, Waited, Closed, and_then}
@@ -55,6 +56,11 @@ unstarted_by start.NotFound = fault.NotFound
 unstarted_by start.Unstartable = fault.Unstartable
 unstarted_by start.NoMemory = fault.NoMemory
 
+-- what is started in this ring of the daemon at this path, which the program is told so that it finds it from any folder
+abbrev pub IsStartIn : Wanted → Here → List ℕ → ℕ → Start → Type 0
+IsStartIn w here socket ring s =
+    IsStart w (library_of w here) (option_map string_bytes here.preloaded) (from_anywhere (option_map string_bytes here.folder) socket) ring s
+
 -- how the program has ended
 abbrev pub ending : Option ExitStatus → Result ℕ RunFault
 ending (Some status) = Ok (status_of status)
@@ -65,10 +71,10 @@ pub data InSession (w : Wanted) (here : Here) (socket : List ℕ) (answer : Repl
   turned_away : (e : RunFault) → ring_in answer ≡ Err e → InSession w here socket answer [] (Err e)
   crowded : (ring : ℕ) → ring_in answer ≡ Ok ring → InSession w here socket answer [] (Err fault.NoMemory)
   unstarted : (ring : ℕ) (s : Start) (e : StartFault) → ring_in answer ≡ Ok ring
-      → IsStart w (library_of w here) (option_map string_bytes here.preloaded) socket ring s
+      → IsStartIn w here socket ring s
       → InSession w here socket answer (Started s (Err e) ∷ []) (Err (unstarted_by e))
   ended : (ring : ℕ) (s : Start) (status : Option ExitStatus) → ring_in answer ≡ Ok ring
-      → IsStart w (library_of w here) (option_map string_bytes here.preloaded) socket ring s
+      → IsStartIn w here socket ring s
       → InSession w here socket answer (Started s (Ok tt) ∷ Waited status ∷ []) (ending status)
 
 -- what is done of a run, first things first, and what comes of it. The library is there before anybody is asked; HELLO is the first that is asked; all else

@@ -19,6 +19,8 @@ pub struct Here {
     pub preloaded: Option<String>,
     /// The socket that is told already, `REQKEYD_SOCKET`.
     pub socket: Option<String>,
+    /// The folder in which it is run, where that is known.
+    pub folder: Option<String>,
     /// Where the library is installed.
     pub installed: String,
 }

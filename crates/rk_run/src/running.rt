@@ -1,15 +1,18 @@
 //! A run from its start to its end.
-ghost use Rattle.std.specs.Prelude.{◌≡◌, option_map, string_bytes};
-ghost use Rattle.rk_run.specs.Runs.{HasRun, HasRunIn, hello_of, library_of, ring_in, socket_of, unheard, unstarted_by};
+ghost use Rattle.std.specs.Prelude.{◌≡◌, IfOk, option_map, string_bytes};
+ghost use Rattle.rk_run.specs.Runs.{HasRun, HasRunIn, IsStartIn, hello_of, library_of, ring_in, socket_of, unheard, unstarted_by};
+ghost use Rattle.rk_variables.specs.Starts.{start_of};
 
 use crate::fault::RunFault;
 use crate::host::{Here, Host, StartFault};
+use crate::paths::from_anywhere;
 use crate::starting::made;
 use crate::status::status_of;
 use crate::wanted::Wanted;
 use rk_client::PeerFault;
 use rk_message::{Ask, Greeting, Reply};
-use std::alloc::Global;
+use std::alloc::{AllocError, Global};
+use std::process::Command;
 
 /// Runs the program that is wanted in a session ring of its own, and gives its status as a shell tells it.
 ///
@@ -53,8 +56,7 @@ fn in_session<H: Host>(
         Ok(ring) => ring,
         Err(fault) => return Err(fault),
     };
-    let (library, before) = (library_of(wanted, here), preloaded(here));
-    let Ok(command) = made(alloc, wanted, library, before, socket, ring) else {
+    let Ok(command) = made_in(alloc, wanted, here, socket, ring) else {
         return Err(RunFault::NoMemory);
     };
     if let Err(fault) = host.start(command) {
@@ -64,6 +66,21 @@ fn in_session<H: Host>(
         Some(status) => Ok(status_of(status)),
         None => Err(RunFault::Unknown),
     }
+}
+
+/// The command of the program that is wanted, in this ring of the daemon at this path. The only refusal is want of memory.
+fn made_in(
+    alloc: Global,
+    wanted: &Wanted<'_>,
+    here: &Here,
+    socket: &str,
+    ring: u32,
+) -> Result<Command, AllocError>
+    ensures { IfOk result (λ c. IsStartIn wanted.now here.now socket.now ring (start_of c)) }
+{
+    let (library, before) = (library_of(wanted, here), text_of(&here.preloaded));
+    let socket = from_anywhere(alloc, text_of(&here.folder), socket)?;
+    made(alloc, wanted, library, before, socket.as_str(), ring)
 }
 
 /// HELLO with a new session ring and no other.
@@ -100,11 +117,11 @@ fn library_of<'a, 'w: 'a>(wanted: &Wanted<'w>, here: &'a Here) -> &'a str
     }
 }
 
-/// What is to be preloaded already.
-fn preloaded(here: &Here) -> Option<&str>
-    ensures { option_map (λ s. s.now) result ≡ option_map string_bytes here.now.preloaded }
+/// A text, where there is one.
+fn text_of(owned: &Option<String>) -> Option<&str>
+    ensures { option_map (λ s. s.now) result ≡ option_map string_bytes owned.now }
 {
-    match &here.preloaded {
+    match owned {
         Some(text) => Some(text.as_str()),
         None => None,
     }

@@ -48,6 +48,15 @@ fn variable<R: Env + AllocGlobal>(rt: &R, name: &str) -> Result<Option<String>, 
     }
 }
 
+/// The folder of this process; none where it has been removed, or is no text.
+fn folder<R: Env + AllocGlobal>(rt: &R) -> Result<Option<String>, AllocError> {
+    match env::current_dir(rt) {
+        Ok(path) => Ok(Some(path.into_string())),
+        Err(error) if error.kind() == io::ErrorKind::OutOfMemory => Err(AllocError),
+        Err(_) => Ok(None),
+    }
+}
+
 /// Where the library is installed: beside the folder of this program, as `make install` puts both.
 fn installed<R: Files + AllocGlobal>(rt: &R) -> Result<String, AllocError> {
     let mut path = String::new(rt.alloc());
@@ -89,6 +98,7 @@ impl<'a, R: Processes + Net + Files + Env + AllocGlobal> Host for System<'a, R> 
             gid: libc::getegid(),
             preloaded: variable(self.rt, "LD_PRELOAD")?,
             socket: variable(self.rt, "REQKEYD_SOCKET")?,
+            folder: folder(self.rt)?,
             installed: installed(self.rt)?,
         })
     }
