@@ -5,6 +5,7 @@ something to happen, and gives up after LIMIT seconds.
 """
 import array
 import collections
+import contextlib
 import os
 import pathlib
 import resource
@@ -29,13 +30,14 @@ class GaveUp(Exception):
 
 
 def until(happens, what):
-    """Waits until this holds, and gives what it then is."""
-    end = time.monotonic() + LIMIT
+    """Waits until this holds, and gives what it then is. What comes at once is seen at once; else it is looked for fifty times a second."""
+    end, pause = time.monotonic() + LIMIT, 0.001
     while time.monotonic() < end:
         found = happens()
         if found:
             return found
-        time.sleep(0.002)
+        time.sleep(pause)
+        pause = min(2 * pause, 0.02)
     raise GaveUp(f"{what}: not within {LIMIT} seconds")
 
 
@@ -53,6 +55,13 @@ def told(body):
     if kind == 3 and len(fields) == 1:
         return f"E{fields[0]}"
     raise GaveUp(f"{body!r} is no reply")
+
+
+def ended(thread, what):
+    """Waits until this thread has ended."""
+    thread.join(LIMIT)
+    if thread.is_alive():
+        raise GaveUp(f"{what}: not within {LIMIT} seconds")
 
 
 class Speaker:
@@ -84,8 +93,10 @@ class Client(Speaker):
 
     def __init__(self, path, uid=None, join=0, flags=0):
         self.socket = socket.socket(socket.AF_UNIX)
-        self.socket.settimeout(LIMIT)
+        # (the system waits for a place in the daemon's queue, which may be full, where a socket with Python's own limit is refused)
+        self.socket.setsockopt(socket.SOL_SOCKET, socket.SO_SNDTIMEO, struct.pack("ll", LIMIT, 0))
         self.socket.connect(str(path))
+        self.socket.settimeout(LIMIT)
         self.rings = None if uid is None else self.ask(ask.hello(uid, uid, join, flags))
 
     def __enter__(self):
@@ -192,10 +203,10 @@ class Daemon:
     these options besides, and is killed at the end if it still runs. Its standard error is read as it comes.
     """
 
-    def __init__(self, program, conf="", *options, files=None, mask=None, longest=None, ignored=None, ready=True, environment=None):
+    def __init__(self, program, conf="", *options, files=None, mask=None, longest=None, ignored=None, closed=(), ready=True, environment=None):
         self.program, self.options, self.ready = program, options, ready
         self.client_program = client_of(program)
-        self.files, self.mask, self.longest, self.ignored, self.environment = files, mask, longest, ignored, environment
+        self.files, self.mask, self.longest, self.ignored, self.closed, self.environment = files, mask, longest, ignored, closed, environment
         self.conf_text = conf
         self.folder = tempfile.TemporaryDirectory(prefix="serve-")
         self.room = pathlib.Path(self.folder.name)
@@ -227,7 +238,8 @@ class Daemon:
         return path
 
     def narrow(self):
-        """What is set for the daemon alone: how many descriptors it may have, its mask of permissions, how long a file of it may be, an ignored signal."""
+        """What is set for the daemon alone: how many descriptors it may have, its mask of permissions, how long a file of it may be, an ignored signal, and
+        which standard streams are closed."""
         if self.files:
             resource.setrlimit(resource.RLIMIT_NOFILE, (self.files, self.files))
         if self.mask is not None:
@@ -237,6 +249,8 @@ class Daemon:
             resource.setrlimit(resource.RLIMIT_FSIZE, (self.longest, self.longest))
         if self.ignored:
             signal.signal(self.ignored, signal.SIG_IGN)
+        for stream in self.closed:
+            os.close(stream)
 
     def start(self):
         """Starts it, also once more after its end."""
@@ -264,7 +278,8 @@ class Daemon:
             handlers = self.children()
             self.process.kill()
             for handler in handlers:
-                os.kill(handler, signal.SIGKILL)
+                with contextlib.suppress(ProcessLookupError):
+                    os.kill(handler, signal.SIGKILL)
         self.process.wait()
         self.puppets.close()
         self.reader.join(LIMIT)
@@ -275,7 +290,7 @@ class Daemon:
     def end(self):
         """Its status, and what it has said on standard error but that it was ready. It has to end by itself."""
         status = self.process.wait(LIMIT)
-        self.reader.join(LIMIT)
+        ended(self.reader, "the end of what it says")
         return status, [line for line in self.lines if line != "reqkeyd: ready"]
 
     def client(self, uid=1000, join=0, flags=0):
@@ -294,6 +309,14 @@ class Daemon:
         ran = subprocess.run([self.client_program, "--socket", self.path, *words], input=input, capture_output=True, timeout=LIMIT)
         return ran.returncode, ran.stdout, ran.stderr
 
+    def accepts(self):
+        """Whether one can connect."""
+        try:
+            Client(self.path).socket.close()
+            return True
+        except OSError:
+            return False
+
     # ---- what it holds
 
     def descriptors(self):
@@ -306,6 +329,11 @@ class Daemon:
             except FileNotFoundError:
                 pass
         return collections.Counter(kinds)
+
+    def is_stopped(self):
+        """Whether a signal has stopped all its threads."""
+        tasks = pathlib.Path(f"/proc/{self.process.pid}/task").glob("*/stat")
+        return {task.read_text().rpartition(")")[2].split()[0] for task in tasks} == {"T"}
 
     def children(self):
         """Its child processes, with their states; a zombie is Z."""

@@ -5,6 +5,8 @@ import struct
 import tempfile
 import threading
 
+LIMIT = 60  # seconds in which a client has to have done what it does
+
 
 def frame(body):
     return struct.pack(">I", len(body)) + body
@@ -120,9 +122,17 @@ class Daemon:
             except OSError:
                 pass
 
+    def ended(self):
+        """Waits until the client has gone: then `heard` and `more` have all that it has said."""
+        self.thread.join(LIMIT)
+        if self.thread.is_alive():
+            raise TimeoutError(f"the client has not gone within {LIMIT} seconds")
+
     def __exit__(self, *_):
         # wakes a daemon to which nobody has connected
         self.listener.shutdown(socket.SHUT_RDWR)
-        self.thread.join(20)
-        self.listener.close()
-        self.room.cleanup()
+        try:
+            self.ended()
+        finally:
+            self.listener.close()
+            self.room.cleanup()

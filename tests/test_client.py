@@ -107,7 +107,7 @@ MALFORMED = {
 # bytes that end before a reply does
 CUT = {f"{cut} bytes of {len(whole)}": whole[:cut] for whole in [peer.frame(peer.data(b"hi"))] for cut in range(len(whole))}
 
-SOCKET, FILE = b"reqkeyctl: socket\n", b"reqkeyctl: file\n"
+SOCKET, FILE, OUTPUT = b"reqkeyctl: socket\n", b"reqkeyctl: file\n", b"reqkeyctl: output\n"
 
 
 def ran(program, words, stdin=b"", **more):
@@ -120,7 +120,7 @@ def asks(program, words, ask, options=(), greeting=peer.hello()):
     bodies = [ask] if words == ["hello"] else [greeting, ask]
     with peer.Daemon([peer.frame(peer.rings(0, 0, 1, 2))] * (len(bodies) - 1) + [peer.frame(peer.number(7))]) as daemon:
         got = ran(program, ["--socket", daemon.path, *options, *words])
-        daemon.thread.join(20)
+        daemon.ended()
         return differs((got, daemon.heard, daemon.more), ((0, b"7\n", b""), bodies, b""))
 
 
@@ -145,11 +145,18 @@ def misuses(program, words):
         return differs((done.returncode, done.stdout, left.read(), "usage" in text.lower() or "error: " in text), (2, b"", b"unread", True))
 
 
+def out_of_bounds(program, before, option, value, most):
+    """A value out of bounds: status 2, and standard error says which option has it, and what it may be."""
+    status, output, errors = ran(program, [*before, option, value, *(["--", "true"] if before else ["read", "3"])], b"unread")
+    want = f"error: invalid value '{value}' for '{option} <N>': {value} is not in 0..={most}"
+    return differs((status, output, errors.decode().partition("\n")[0]), (2, b"", want))
+
+
 def misuses_socket(program, words):
     """The same with a socket, to which nothing is said."""
     with peer.Daemon([None]) as daemon:
         got = misuses(program, ["--socket", daemon.path, *words])
-        return got or differs(daemon.heard, [])
+    return got or differs(daemon.heard, [])
 
 
 def prints(program, reply, want, options=(), split=False):
@@ -167,7 +174,7 @@ def refuses(program, errno):
         got = ran(program, ["--socket", daemon.path, "--raw", "read", "3"])
     with peer.Daemon([peer.frame(peer.refused(errno))]) as daemon:
         greeting = ran(program, ["--socket", daemon.path, "read", "3"])
-        daemon.thread.join(20)
+        daemon.ended()
         asked = (daemon.heard, daemon.more)
     handler = ran(program, ["read", "3"], peer.frame(peer.refused(errno)))
     return (
@@ -192,11 +199,11 @@ def no_daemon(program, path):
 
 
 def full_output(program):
-    """A write that fails, of the reply and of a handler's ask."""
+    """A write that fails, of the reply, whose ask was done, and of a handler's ask."""
     with open("/dev/full", "wb") as full, peer.Daemon([peer.frame(peer.rings(0, 0, 1, 2)), peer.frame(peer.number(7))]) as daemon:
         done = [subprocess.run([program, *words, "read", "3"], stdin=subprocess.DEVNULL, stdout=full, stderr=subprocess.PIPE, timeout=60) for words in
                 [["--socket", daemon.path], []]]
-    return differs([(it.returncode, it.stderr) for it in done], [(1, SOCKET)] * 2)
+    return differs([(it.returncode, it.stderr) for it in done], [(1, OUTPUT), (1, SOCKET)])
 
 
 def closed_input(program):
@@ -214,10 +221,8 @@ def from_file(program, words, option, content, ask, want=(0, b"7\n", b"")):
         for source, stdin in [(str(path), b"unread"), ("-", content)]:
             with peer.Daemon([peer.frame(peer.rings(0, 0, 1, 2)), peer.frame(peer.number(7))]) as daemon:
                 got = ran(program, ["--socket", daemon.path, option, source, *words], stdin)
-                if ask is not None:
-                    daemon.thread.join(20)
-                if got != want or daemon.heard != ([peer.hello(), ask] if ask is not None else []):
-                    return f"{str(got)[:200]} {str(daemon.heard)[:200]} from {source}"
+            if got != want or daemon.heard != ([peer.hello(), ask] if ask is not None else []):
+                return f"{str(got)[:200]} {str(daemon.heard)[:200]} from {source}"
         handler = ran(program, [f"{option}={path}", *words], peer.frame(peer.number(7)))
         return differs(handler, (0, peer.frame(ask), b"7\n") if ask is not None else want)
 
@@ -315,6 +320,10 @@ def cases(room):
     (room / "plain").write_bytes(b"x")
     for path in [room / "none", room / "plain", room, "/" + "l" * 120, ""]:
         yield f"a socket at {str(path)[:40]!r}", no_daemon, str(path)
+    for before in [[], ["run"]]:
+        yield f"too great a number of {before}", out_of_bounds, before, "--uid", "4294967296", 4294967295
+        yield f"too great a number of a group of {before}", out_of_bounds, before, "--gid", "4294967296", 4294967295
+    yield "too great a number of a ring", out_of_bounds, [], "--join", "2147483648", 2147483647
     yield "a file that is not there", no_file, str(room / "none")
     yield "a folder for a file", no_file, str(room)
     yield "a full device", full_output

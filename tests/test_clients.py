@@ -129,7 +129,7 @@ def sessions(client, cases):
         daemons = [stack.enter_context(peer.Daemon(replies, split)) for _, replies, split in cases]
         told = client.asks([line for (lines, *_), daemon in zip(cases, daemons) for line in [f"connect {daemon.path}", *lines]])
         for daemon in daemons:
-            daemon.thread.join(20)
+            daemon.ended()
         if not isinstance(told, list):
             return [(told, [])] * len(cases)
         ends = list(itertools.accumulate(1 + len(lines) for lines, *_ in cases))
@@ -228,7 +228,7 @@ def python_alone(room):
         count.same("with", raised(session.revoke, 3), "Ended: REVOKE: the session is over")
     with peer.Daemon([peer.frame(peer.refused(13))]) as daemon:
         count.same("a HELLO that is refused", raised(reqkey.connect, daemon.path), "Refused: HELLO: EACCES (13)")
-        daemon.thread.join(20)
+        daemon.ended()
         count.same("its connection", daemon.more, b"")
     with socket.socket(socket.AF_UNIX) as listener:
         listener.bind(str(room / "silent"))

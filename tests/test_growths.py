@@ -17,9 +17,14 @@ sys.path.insert(0, str(pathlib.Path(__file__).resolve().parent / "serve"))
 from programs import check_all, differs, top
 from scenes import library
 
-# Each path through a hall, and its steps. Before it comes the client makes no step; it goes after having come, after its HELLO, or at the end.
-PATHS = [("growths_of_a_key_that_is_made", 7), ("growths_of_a_second_handler", 8)]
+# Each path through a hall, and its steps, where memory ends it one growth later each time. Before it comes the client makes no step; it goes after having
+# come, after its HELLO, or at the end. Of two requesters the second one may not come, and goes after having come, after its HELLO, or at the end.
 BEFORE = [0, 2, 3]
+PATHS = [
+    ("growths_of_a_key_that_is_made", [*BEFORE, 7]),
+    ("growths_of_a_second_handler", [*BEFORE, 8]),
+    ("growths_of_two_requesters", [*BEFORE, 7, 9, 10, 12]),
+]
 
 PLAIN, ANOTHER, PIPED, NEGATE = "/bin/h 12 ", "/bin/h 16 ", "/bin/p ", "/bin/n negate 12 "
 
@@ -94,7 +99,7 @@ def judged_handler(words, commands, is_made):
     """The steps of a run of a handler: how it ended is told of the last one that was started, and its client is told the key or ENOKEY."""
     steps, driven, outcome, text = words
     count = started(text, commands)
-    ends = {f"Ended({commands[count - 1][1]})"} if count else {"NotStarted", "StartFailed"}
+    ends = {f"Ended({commands[count - 1][1]})"} if count else {"NotMade(NoMemory)", "NoMemory", "StartFailed"}
     holds(driven in ends, "another end")
     holds(outcome in {"Refused(Enokey)", "Number(12)"} if is_made and count else outcome == "Refused(Enokey)", "another outcome")
     return int(steps)
@@ -128,13 +133,13 @@ def judged_session(words, commands, is_made, goes_on):
     return steps
 
 
-def wrong_path(program, test, most, more):
+def wrong_path(program, test, steps, more):
     """What went wrong, or None."""
     try:
-        seen = list(in_turn(program, f"halls::growths::{test}", more, most, lambda words: int(words[0])))
+        seen = list(in_turn(program, f"halls::growths::{test}", more, steps[-1], lambda words: int(words[0])))
     except Odd as odd:
         return str(odd)
-    return differs([it for it, _ in itertools.groupby(seen)], [None, *BEFORE, most])
+    return differs([it for it, _ in itertools.groupby(seen)], [None, *steps])
 
 
 def wrong(program, test, judge, last):
@@ -169,7 +174,7 @@ def wrong_session(program, name, commands, is_made, last):
 
 
 program = top / "crates" / "rk_live_tests" / "out" / "rk_live_tests_tests"
-cases = [(f"{test} {more}", wrong_path, test, most, more) for test, most in PATHS for more in ({}, {"AND_ON": "1"})]
+cases = [(f"{test} {more}", wrong_path, test, steps, more) for test, steps in PATHS for more in ({}, {"AND_ON": "1"})]
 cases += [(f"handler: {it[0]}", wrong_handler, *it) for it in HANDLERS]
 cases += [(f"session: {it[0]}", wrong_session, *it) for it in HANDLERS]
 check_all(cases, lambda program, fault, *case: fault(program, *case), [program])

@@ -239,18 +239,28 @@ def handlers(keys):
     for name, callout, payload in [("debug:yyyy", "spoon", "Debug spoon"), ("debug:loop:zzzz", "abcdefghijkl", "abcdefghijkl")]:
         keys.fits(f"request2 user {name} {callout} @s", (0, SERIAL, ""))
         keys.fits(f"print %user:{name}", (0, f"{payload}\n", ""))
-    count.same("what a stock script prints", "RQDebug callout: spoon" in keys.daemon.lines, True)
+    until(lambda: "RQDebug callout: spoon" in keys.daemon.lines, "what a stock script prints")
 
 
 def scripted(keys):
     """A shell script that calls keyctl, and what it prints."""
     keys.key()
     before = len(keys.daemon.lines)
+
+    def said():
+        """What has been said since, but by stock scripts, whose last lines may come late."""
+        return [line for line in keys.daemon.lines[before:] if not line.startswith("RQDebug ")]
+
     keys.fits("request2 user script:a words @s", (0, SERIAL, ""))
     keys.fits("print %user:script:a", (0, "made\n", ""))
     keys.fits("print %user:made:nested", (0, "inner\n", ""))
     _, nested, _ = keys.run("keyctl", "id", "%user:made:nested")
-    count.same("what a script has said", keys.daemon.lines[before:], [line.format(uid=UID, nested=nested.strip()) for line in SAID])
+    until(lambda: len(said()) >= len(SAID), "what a script says")
+    count.same("what a script has said", said(), [line.format(uid=UID, nested=nested.strip()) for line in SAID])
+
+
+# how long the library of names may look for one that is nowhere
+RESOLVER = {"RES_OPTIONS": "timeout:1 attempts:1"}
 
 
 def resolves(keys):
@@ -275,7 +285,7 @@ def told(daemon, lines):
 def stock(program, library):
     """Handlers as `serve --keyutils` starts them, by lines without variables; and what it tells each kind of handler."""
     lines = EXAMPLE.replace("%plain ", "") + "create user asks:* * /usr/bin/env\ncreate user piped:* * |/usr/bin/env\n"
-    with Daemon(program, lines, "--keyutils", library) as daemon:
+    with Daemon(program, lines, "--keyutils", library, environment=RESOLVER) as daemon:
         daemon.script("script", SCRIPT)
         keys = Keyutils(daemon, library)
         handlers(keys)
@@ -295,13 +305,13 @@ class Runner:
     def __init__(self, program, path, library):
         self.program, self.path, self.library = program, path, library
 
-    def run(self, *words, options=None, piped=b"", **changes):
+    def run(self, *words, options=None, piped=b"", folder=None, **changes):
         """The status, output and errors of a program."""
         options = ["--socket", self.path, "--library", self.library] if options is None else options
         unset = ["LD_PRELOAD", "REQKEYD_SOCKET", "REQKEYD_JOIN", "REQKEYD_STREAMS"]
         environment = {**{name: value for name, value in os.environ.items() if name not in unset}, **changes}
         words = [self.program, "run", *options, "--", *words]
-        ran = subprocess.run(words, input=piped, capture_output=True, timeout=60, env=environment)
+        ran = subprocess.run(words, input=piped, capture_output=True, timeout=60, env=environment, cwd=folder)
         return ran.returncode, ran.stdout.decode(), ran.stderr.decode()
 
     def shell(self, script, **more):
@@ -349,6 +359,26 @@ def passes(runner):
     runner.fits("a socket that is named comes first", runner.run("keyctl", "id", "@s", REQKEYD_SOCKET="/no/such"), 0, SERIAL)
 
 
+def moves(runner, room):
+    """A program changes its folder: a socket that was named from where it was called is still found, unless its whole path is too long for a socket."""
+    library, room = ["--library", runner.library], room.resolve()
+    script = 'echo "$REQKEYD_SOCKET"; cd / && keyctl id @s'
+    for options, changes, path in [
+        (["--socket", "s"], {}, room / "s"), (["--socket=./s"], {}, f"{room}/./s"), ([], {"REQKEYD_SOCKET": "s"}, room / "s"),
+        (["--socket", runner.path], {"REQKEYD_SOCKET": "s"}, runner.path),
+    ]:
+        told = runner.shell(script, options=[*library, *options], folder=room, **changes)
+        runner.fits(f"from another folder, {options} {changes}", told, 0, re.escape(f"{path}\n") + SERIAL)
+    runner.fits("from the root", runner.shell(script, options=[*library, "--socket", str(room / "s")[1:]], folder="/"), 0, re.escape(f"{room}/s\n") + SERIAL)
+    for length in [107, 108]:
+        deep = room / ("d" * (length - len(f"{room}//s")))
+        deep.mkdir()
+        (deep / "s").symlink_to(runner.path)
+        want = f"{deep}/s" if length == 107 else "s"
+        told = runner.shell('keyctl id @s && echo "$REQKEYD_SOCKET"', options=[*library, "--socket", "s"], folder=deep)
+        runner.fits(f"a socket whose whole path has {length} bytes", told, 0, SERIAL + re.escape(f"{want}\n"))
+
+
 def ends(runner, room):
     """The status of a program, and of one that is not started."""
     for script, want in [("exit 0", 0), ("exit 7", 7), ("exit 255", 255), ("kill -9 $$", 137), ("kill -TERM $$", 143)]:
@@ -374,7 +404,7 @@ def refuses(runner, room):
             runner.same(f"a daemon that answers {reply}", runner.run("echo", "ran", options=[*library, "--socket", hostile.path]), (1, "", want))
     with ask.Daemon([ask.frame(ask.rings(0, 0, 41, 42))]) as daemon:
         told = runner.shell("echo $REQKEYD_JOIN", options=[*library, "--socket", daemon.path, "--uid", "7", "--gid=8"])
-        daemon.thread.join(20)
+        daemon.ended()
         runner.same("what is asked", (told, daemon.heard, daemon.more), ((0, "41\n", ""), [ask.hello(7, 8)], b""))
     with ask.Daemon([ask.frame(ask.rings(0, 0, 41, 42))]) as daemon:
         runner.run("true", options=[*library, "--socket", daemon.path])
@@ -392,6 +422,7 @@ def runs(program, library):
         runner = Runner(daemon.client_program, daemon.path, library)
         shares(runner, daemon)
         passes(runner)
+        moves(runner, daemon.room)
         ends(runner, daemon.room)
         refuses(runner, daemon.room)
 
@@ -468,7 +499,8 @@ def fits_header():
 def tries(program, library, *before):
     """All of it on one program, where these are preloaded."""
     preloaded = ":".join(map(str, [*before, library]))
-    with Daemon(program, EXAMPLE.replace("%plain", f"/usr/bin/env REQKEYD_STREAMS=0,1 LD_PRELOAD={preloaded}"), environment=ENVIRONMENT) as daemon:
+    lines = EXAMPLE.replace("%plain", f"/usr/bin/env REQKEYD_STREAMS=0,1 LD_PRELOAD={preloaded}")
+    with Daemon(program, lines, environment={**ENVIRONMENT, **RESOLVER}) as daemon:
         daemon.script("script", SCRIPT)
         daemon.script("slow", "#!/bin/sh\nexec cat %room/fifo\n")
         os.mkfifo(daemon.room / "fifo")

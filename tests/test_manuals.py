@@ -77,13 +77,32 @@ def variants(path, enum):
     return re.findall(r"^    (\w+),$", body, re.MULTILINE)
 
 
+def shown(path, enum):
+    """How the variants of an enum in a source file are shown."""
+    body = (top / "crates" / path).read_text().partition(f"pub enum {enum} {{\n")[2].partition("\n}")[0]
+    return re.findall(r'#\[error\("(.*)"\)\]', body)
+
+
+def shape(text):
+    """A pattern of what a text of the code may say: a word in the place of each of its values."""
+    return r"\S+".join(map(re.escape, re.split(r"\{.*?\}", text)))
+
+
 def of_warnings():
-    """reqkeyd.8: each end of a session but the plain one, and each way in which a handler may fail."""
+    """reqkeyd.8: each end of a session but the plain one, each way in which a handler may fail, with the code or reason of those that have one, and each text
+    with which the daemon warns."""
     tags = tagged(sections("reqkeyd.8")["DIAGNOSTICS"])
     ends = [f"session N: {it}" for it in variants("rk_session/src/serving.rt", "Served") if it != "Ended"]
-    fails = [f"handler of key N: {it}" for it in variants("rk_devices/src/driven.rt", "Driven") if it.endswith("Failed")]
+    fails = ["X1: reason", *(it for it in variants("rk_devices/src/driven.rt", "Driven") if it != "NotStarted"), "no payload (0 bytes)"]
     count.same("warnings of sessions", [tag for tag in tags if tag.startswith("session N: ") and tag != "session N: no memory"], ends)
-    count.same("warnings of handlers", [tag for tag in tags if tag.startswith("handler of key N: ")], fails)
+    count.same("warnings of handlers", [tag for tag in tags if tag.startswith("handler of key N: ")], [f"handler of key N: {it}" for it in fails])
+    text = " ".join(spoken(line) for line in sections("reqkeyd.8")["DIAGNOSTICS"]).partition("handler of key N: ")[2].partition("accept:")[0]
+    reasons = shown("rk_macro/src/fault.rt", "ExpandFault") + shown("rk_devices/src/output.rt", "OutputFault")
+    count.same("reasons of handlers", [it for it in reasons if it not in text], [])
+    sources = (top / "crates" / "rk_daemon" / "src").glob("*.rt")
+    texts = [text for path in sources for text in re.findall(r'warn!\([^;]*; "(.*)"\)', path.read_text())]
+    count.same("texts of warnings", len(texts) > 5, True)
+    count.same("warnings that no tag tells", [text for text in texts if not any(re.fullmatch(shape(text), tag) for tag in tags)], [])
 
 
 def of_client(program):

@@ -204,8 +204,9 @@ def numbers(program, room):
                 got = told(program, room, line, "pick", "--conf", "CONF", f"--{name}", written, *REQUEST)
                 count.same(f"{program.name} --{name} {written}", got, (0, f"line 1 plain\n/p\n{said}\n".encode(), b""))
         for written in [*NO_NUMBERS, str(limit + 1)] + (["0"] if name == "key" else []):
-            got = told(program, room, line, "pick", "--conf", "CONF", f"--{name}={written}", *REQUEST)
-            count.same(f"{program.name} --{name}={written!r}", (got[0], got[1], got[2][:14]), (2, b"", USAGE.encode()))
+            status, output, errors = told(program, room, line, "pick", "--conf", "CONF", f"--{name}={written}", *REQUEST)
+            named = USAGE if written == "+1" else f"error: invalid value '{written}' for '--{name} <N>'" if written else f"'--{name} <N>'"
+            count.same(f"{program.name} --{name}={written!r}: {errors[:80]}", (status, output, named in errors.decode()), (2, b"", True))
 
 
 # ---- beside replay

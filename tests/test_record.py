@@ -1,5 +1,6 @@
 #!/usr/bin/env python3
 """Has daemons write records, and asks `reqkeyd rejoin` what they are: whole ones, and ones that were changed, cut, mixed or left out."""
+import os
 import pathlib
 import re
 import signal
@@ -144,7 +145,7 @@ def many(program):
 
 
 def starts(program):
-    """A folder that is not there, one with volumes, and one that has other files."""
+    """A folder that is not there, one that is free, one with a volume, and one with the part of a volume, of a daemon that was killed."""
     with tempfile.TemporaryDirectory() as folder:
         for path, word in ((folder + "/none", False), (folder, True)):
             with Daemon(program, CONF, "--record", path, "--clients", "1", ready=word) as daemon:
@@ -154,9 +155,16 @@ def starts(program):
                 status, lines = daemon.end()
             if not word and (status != 1 or lines != ["reqkeyd: record"]):
                 return f"{path}: {status} {lines}"
-        with Daemon(program, CONF, "--record", folder, "--clients", "1", ready=False) as daemon:
-            status, lines = daemon.end()
-        return None if status == 1 and lines == ["reqkeyd: record"] else f"again: {status} {lines}"
+        used = [volumes(folder)[0].name, ".hall-2-volume-000001.part"]
+        for file in volumes(folder):
+            file.unlink()
+        for name in used:
+            (pathlib.Path(folder) / name).write_text("what was left")
+            with Daemon(program, CONF, "--record", folder, "--clients", "1", ready=False) as daemon:
+                status, lines = daemon.end()
+            if status != 1 or lines != ["reqkeyd: record"]:
+                return f"with {name}: {status} {lines}"
+            (pathlib.Path(folder) / name).unlink()
 
 
 def killed(program):
@@ -183,7 +191,7 @@ def full(program):
             status, lines = daemon.end()
         if status != 0 or not any("volume 0 1" in line for line in lines):
             return f"{status} {lines}"
-        names = [f.name for f in volumes(folder)]
+        names = os.listdir(folder)
         if "hall-0-volume-000001" in names or any(name.endswith(".part") for name in names):
             return f"{names}"
         status, lines, fault = rejoin(program, volumes(folder))
@@ -194,7 +202,7 @@ def replaces_none(program):
     """Files under the names of a volume have come to stand there: they stay as they are, the volume is told of, and the others are written."""
     with tempfile.TemporaryDirectory() as folder:
         room = pathlib.Path(folder)
-        others = [room / "hall-0-volume-000001", room / "hall-2-volume-000001.part"]
+        others = [room / "hall-0-volume-000001", room / ".hall-2-volume-000001.part"]
         with Daemon(program, CONF, "--record", folder, "--clients", "1") as daemon:
             for other in others:
                 other.write_text("another daemon's")
@@ -203,7 +211,7 @@ def replaces_none(program):
             status, lines = daemon.end()
         told = sorted(line[line.index("volume"):].partition(":")[0] for line in lines)
         names = [f.name for f in volumes(folder)]
-        wanted = [others[0].name, "hall-1-volume-000001", others[1].name, "hall-3-volume-000001"]
+        wanted = [others[0].name, "hall-1-volume-000001", "hall-3-volume-000001"]
         if status != 0 or told != ["volume 0 1", "volume 2 1"] or names != wanted:
             return f"{status} {lines} {names}"
         return None if all(other.read_text() == "another daemon's" for other in others) else "replaced"

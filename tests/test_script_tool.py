@@ -246,12 +246,15 @@ def calls():
 
 
 def examples():
-    """The example is the first path, on the page of scripts too."""
+    """The example is the first path, on the page of scripts too; what the page of the machine shows are scenarios."""
     first = top / "tests" / "replay" / "first_path"
     lines = [line for line in script.lines_of((top / "examples" / "first-path.script").read_bytes()) if not line.startswith("#")]
     count.same("examples/first-path.script", lines, script.lines_of((first / "script").read_bytes()))
     page = (top / "docs" / "SCRIPTS.md").read_text()
     count.same("the example's words stand in docs/SCRIPTS.md", f"```\n{(first / 'words').read_text()}```\n" in page, True)
+    played = [path.read_text() for path in (top / "tests" / "replay").glob("*/words")]
+    shown = (top / "docs" / "MACHINE.md").read_text().split("```\n")[1::2]
+    count.same("docs/MACHINE.md shows scenarios", ([it for it in shown if it not in played], len(shown)), ([], 2))
 
 
 for test in [tables, one_by_one, whole_texts, any_bytes, scenarios, calls, examples]:

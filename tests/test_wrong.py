@@ -7,6 +7,7 @@ a copy. With one of rk_hall the tests of the halls have to fail, with one of rk_
 the example has to come out otherwise. `rt try` runs all of them before any proof.
 """
 import pathlib
+import select
 import shutil
 import socket
 import subprocess
@@ -59,7 +60,7 @@ def fails_in_halls(copy):
         (source / f"{name}.rt").unlink()
         shutil.rmtree(source / name, ignore_errors=True)
     (source / "lib.rt").write_text(root)
-    written = tried(copy, "rk_live_tests", ["--test"], stdin=subprocess.DEVNULL, stderr=subprocess.STDOUT)
+    written = tried(copy, "rk_live_tests", ["--test", "--seconds", "600"], stdin=subprocess.DEVNULL, stderr=subprocess.STDOUT)
     return OF_HALLS + b"FAILED" in written, written[-2000:]
 
 
@@ -76,6 +77,15 @@ def greeted(daemon, path):
     return None
 
 
+def reply_again(client):
+    """What comes for one more ask of this client."""
+    try:
+        client.sendall(ask.frame(ask.on_key(7, 8)))
+    except BrokenPipeError:
+        return b""
+    return reply_to(client)
+
+
 def reply_to(client):
     """What comes first for this client; nothing where the daemon ends before it has answered."""
     try:
@@ -85,15 +95,21 @@ def reply_to(client):
 
 
 def serves_one_by_one(copy):
-    """Whether the daemon answers one client, and not the other one beside it until it is ended after some seconds; and what both got."""
+    """Whether the daemon answers one client, as often as it asks, and another one only when the first is gone; and what was written."""
     path, conf = copy / "socket", copy / "conf"
     conf.write_text("")
-    words = ["rt", "try", "--steps", "1", "--seconds", "10", "--", "serve", "--socket", path, "--conf", conf]
+    words = ["rt", "try", "--steps", "1", "--seconds", "60", "--", "serve", "--clients", "2", "--socket", path, "--conf", conf]
     daemon = subprocess.Popen(words, cwd=copy / "crates" / "reqkeyd", stdin=subprocess.DEVNULL, stdout=subprocess.PIPE, stderr=subprocess.STDOUT)
     first = greeted(daemon, path)
-    got = [reply_to(first), reply_to(first and greeted(daemon, path))]
+    second = reply_to(first) and greeted(daemon, path)
+    waits = second and all(reply_again(first) for _ in range(200)) and not select.select([second], [], [], 0)[0]
+    if first:
+        first.close()
+    got = reply_to(second)
+    if second:
+        second.close()
     written = daemon.communicate()[0]
-    return bool(got[0]) and got[1] == b"", (got, written[-2000:])
+    return bool(waits and got), (got, written[-2000:])
 
 
 def trial_of(name):

@@ -3,7 +3,6 @@
 #include "reqkey.h"
 
 #include <errno.h>
-#include <fcntl.h>
 #include <stdbool.h>
 #include <stdlib.h>
 #include <string.h>
@@ -107,12 +106,14 @@ static int connected(const char *path)
         return -1;
     }
     strcpy(address.sun_path, path);
-    int descriptor = socket(AF_UNIX, SOCK_STREAM, 0);
+    /* at once, since another thread may start a program at any time */
+    int descriptor = socket(AF_UNIX, SOCK_STREAM | SOCK_CLOEXEC, 0);
     if (descriptor < 0)
         return -1;
-    int result = fcntl(descriptor, F_SETFD, FD_CLOEXEC);
-    while (result == 0 && (result = connect(descriptor, (struct sockaddr *)&address, sizeof address)) < 0 && errno == EINTR)
-        result = 0;
+    int result;
+    do
+        result = connect(descriptor, (struct sockaddr *)&address, sizeof address);
+    while (result < 0 && errno == EINTR);
     if (result == 0)
         return descriptor;
     int error = errno;

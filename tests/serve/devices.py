@@ -4,7 +4,7 @@ import os
 import shutil
 
 import protocol_peer as ask
-from daemon import Client, until
+from daemon import until
 from scenes import CONF, Gated, greeted, library, negated, nested, played_twice, said
 
 # what is told where the daemon does not start
@@ -19,9 +19,9 @@ LATER = {
 }
 
 
-def failing(program, call, count, code):
+def failing(program, call, count, code, closed=()):
     """A daemon in which this call fails, of all such calls the one of this number; the file `told` is there when it has."""
-    daemon = Gated(program, CONF, "--sessions", "2", "--negative", "4000000", ready=False)
+    daemon = Gated(program, CONF, "--sessions", "2", "--negative", "4000000", closed=closed, ready=False)
     daemon.environment = {
         "LD_PRELOAD": library("refusing_calls"), "CALL": call, "REFUSED": str(count), "ERROR": str(code), "TOLD": str(daemon.room / "told"),
     }
@@ -34,16 +34,8 @@ def met(daemon):
 
 def begun(daemon):
     """Whether the daemon serves; else it has ended. The line that says so may be what failed."""
-    until(lambda: daemon.lines or daemon.process.poll() is not None or met(daemon) and connects(daemon), "a first line")
+    until(lambda: daemon.lines or daemon.process.poll() is not None or met(daemon) and daemon.accepts(), "a first line")
     return daemon.process.poll() is None and daemon.lines in [[], ["reqkeyd: ready"]]
-
-
-def connects(daemon):
-    try:
-        Client(daemon.path).socket.close()
-        return True
-    except OSError:
-        return False
 
 
 def play(daemon, name):
@@ -59,10 +51,10 @@ def never(call):
     return f"{call} is never called"
 
 
-def at_start(program, call, code):
+def at_start(program, call, code, closed=()):
     """A call fails that the daemon makes before it serves: it says what is amiss, with status 1, and can be started again; or it serves all the same."""
     for count in range(1, 1000):
-        with failing(program, call, count, code) as daemon:
+        with failing(program, call, count, code, closed) as daemon:
             if not begun(daemon):
                 status, lines = daemon.end()
                 if status != 1 or len(lines) != 1 or lines[0] not in LINES:
@@ -99,6 +91,7 @@ def cases():
     if shutil.which("gcc"):
         for call in AT_START:
             yield f"a call of {call} at the start that fails", at_start, call, errno.EIO
+        yield "a call of open at the start that fails, without standard input", at_start, "open", errno.EIO, [0]
         for call, may in LATER.items():
             yield f"a call of {call} that fails", later, call, errno.EIO, may
         for call in ["send", "write", "accept4", "waitpid"]:

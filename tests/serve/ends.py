@@ -252,6 +252,44 @@ def stopped(program):
         return differs(got, [(made, made, b"v") for made in range(key + 4, key + 4 + 4 * 50, 4)]) or daemon.lives()
 
 
+HARMLESS = [signal.SIGCHLD, signal.SIGWINCH, signal.SIGURG, signal.SIGCONT]
+
+
+def signalled(program):
+    """The daemon is stopped and continued, and gets signals that end nobody, while it waits in each of its calls: for the bytes of clients, at the start of a
+    frame and within one, for those of handlers, plain and piped, for the end of a handler, and for a client that doesn't read. Nobody notices."""
+    with Daemon(program, HELD + "create user p:* * |%puppet %k\n") as daemon:
+        idle, cut, slow, plain, closed, piped = [daemon.client() for _ in range(6)]
+        key, body = idle.ask(ask.add(b"user", b"k", b"v" * 32767, USER)), ask.frame(ask.on_key(8, 8))
+        cut.put(body[:3])
+        slow.send(*[ask.on_key(7, key)] * 400)
+        handlers = []
+        for client, name in [(plain, b"h:1"), (closed, b"h:2"), (piped, b"p:1")]:
+            client.send(want(name))
+            handlers.append(daemon.handler())
+        handlers[1].close_output()
+        handlers[2].put(b"ma")
+        for _ in range(20):
+            daemon.process.send_signal(signal.SIGSTOP)
+            until(daemon.is_stopped, "a daemon that is stopped")
+            for number in HARMLESS:
+                daemon.process.send_signal(number)
+            with daemon.client() as other:
+                for number in HARMLESS:
+                    daemon.process.send_signal(number)
+                    other.ask(ask.on_key(8, key))
+        cut.put(body[3:])
+        got = idle.ask(ask.on_key(8, key)), cut.reply(), [slow.reply() for _ in range(400)] == [b"v" * 32767] * 400, completes(handlers[0])
+        handlers[2].put(b"de")
+        for handler in handlers:
+            handler.ends()
+        outcomes = plain.reply(), closed.reply(), piped.reply()
+        made = [handlers[at].key for at in (0, 2)]
+        payloads = idle.ask(*[ask.on_key(7, key) for key in made])
+        want_all = (b"user;1000;valid;k", "E126", True, (0, 0)), (made[0], "E126", made[1]), [b"made", b"made"]
+        return differs((got, outcomes, payloads), want_all) or daemon.lives()
+
+
 def waits_and_dies(program):
     """A handler is killed while it waits for another key, which goes on for its own starter."""
     with Daemon(program, HELD) as daemon, daemon.client() as client, daemon.client() as other:
@@ -365,28 +403,49 @@ def warned(program):
         return differs((status, done, fit), (0, (0, 0), True)) and f"{status} {done} {lines}"
 
 
-def piped(program, name, script, want_payload, callout=b"x"):
-    """What a piped program puts out."""
-    with Daemon(program, f"create user p:* * |%room/program {name}\n", "--negative", "0") as daemon, daemon.client() as client:
+def warnings(lines):
+    """What the daemon has warned of handlers, and every other line."""
+    return [line.partition("WARN  rk_daemon::gate] handler of ")[2] or line for line in lines]
+
+
+def piped(program, name, script, want_payload, callout=b"x", warning=None):
+    """What a piped program puts out: the payload of its key; or None, and a warning where it has ended with 0."""
+    with Daemon(program, f"create user p:* * |%room/program {name}\n", "--negative", "0", "--clients", "1") as daemon:
         daemon.script("program", f"#!/bin/sh\n{script}\n")
-        reply = client.ask(want(b"p:1", callout))
-        if want_payload is None:
-            return differs(reply, "E126") or daemon.lives()
-        payload = client.ask(ask.on_key(7, 12))
-        return differs((reply, len(payload), payload == want_payload), (12, len(want_payload), True))
+        with daemon.client() as client:
+            reply = client.ask(want(b"p:1", callout))
+            payload = None if want_payload is None else client.ask(ask.on_key(7, 12))
+        status, lines = daemon.end()
+        told = [] if warning is None else [f"key 12: {warning}"]
+        wanted = ("E126", True, 0, told) if want_payload is None else (12, True, 0, [])
+        return differs((reply, payload == want_payload, status, warnings(lines)), wanted)
 
 
-def missing(program, line, what="StartFailed"):
-    """A program that can't be started: whoever asks is told that there is no key, and a warning says why, once each time; nothing where there is no command."""
+def not_made(program):
+    """Where a line fits and its words can't be made nothing is started, also for negate, and a warning says why; where no line fits, none does."""
+    words = {"n": "%{user:none}", "t": "%{user:other}", "l": "%{user:b0} %{user:b1} %{user:b2}"}
+    conf = "".join(f"create user {name}:* * %room/starts {it}\n" for name, it in words.items())
+    conf += "create user f:* * |/bin/false\nnegate * * * %room/starts %{user:none}\n"
+    with Daemon(program, conf, "--clients", "1") as daemon:
+        daemon.script("starts", "#!/bin/sh\ntouch %room/started\n")
+        with daemon.client() as client:
+            client.ask(ask.add(b"user", b"other", b"\xff", USER), *[ask.add(b"user", b"b%d" % at, b"w" * 32767, USER) for at in range(3)])
+            replies = client.ask(*[want(name + b":1") for name in [b"n", b"t", b"l", b"f", b"o"]])
+        status, lines = daemon.end()
+        no_key = "X1: an argument %{..} is the payload of a key that the requester doesn't find"
+        told = [f"key 28: {no_key}", "key 32: X2: a payload is no text", "key 36: X3: the words are more than 65536 bytes", f"key 40: {no_key}"]
+        return differs((replies, status, warnings(lines), (daemon.room / "started").exists()), (["E126"] * 5, 0, told, False))
+
+
+def missing(program, line):
+    """A program that can't be started: whoever asks is told that there is no key, and a warning says why, once each time."""
     with Daemon(program, f"create user p:* * {line}\n", "--negative", "0", "--clients", "1") as daemon:
         daemon.script("no_script", "")
         (daemon.room / "no_program").write_text("x")
         with daemon.client() as client:
             replies = [client.ask(want(b"p:1")) for _ in range(3)]
         status, lines = daemon.end()
-        told = [line.rpartition("handler ")[1:] for line in lines if "WARN" in line]
-        wanted = [("handler ", f"of key {key}: {what}") for key in [12, 16, 20]] if what else []
-        return differs((replies, status, told, len(lines)), (["E126"] * 3, 0, wanted, len(wanted))) and f"{replies} {status} {lines}"
+        return differs((replies, status, warnings(lines)), (["E126"] * 3, 0, [f"key {key}: StartFailed" for key in [12, 16, 20]]))
 
 
 def ends_unknown(program):
@@ -434,6 +493,42 @@ def many_wait(program):
         return differs(([clients[0].reply(), *others], len(daemon.children())), (["E129"] * 20, 0))
 
 
+def each_outcome_wakes(program):
+    """Who waits for the key of another one is told its outcome by the step that gives it: by each ask that completes a key while its handler goes on, or by the
+    end of a handler that has not completed it."""
+    asks = [lambda key: ask.instantiate(key, b"made", 0), lambda key: ask.negate(key, 4000, 0), lambda key: ask.reject(key, 4000, 129, 0), None]
+    told = []
+    with Daemon(program, HELD) as daemon, daemon.client() as first, daemon.client() as waiter:
+        for at, completing in enumerate(asks):
+            name = f"h:{at}".encode()
+            first.send(want(name))
+            handler = daemon.handler()
+            waiter.send(want(name))
+            handler.ask(ask.on_key(3, handler.key))
+            if completing:
+                handler.ask(completing(handler.key))
+                told.append(waiter.reply())
+            handler.ends()
+            if not completing:
+                told.append(waiter.reply())
+            told.append(first.reply())
+        return differs(told, [16, 16, "E126", "E126", "E129", "E129", "E126", "E126"])
+
+
+def second_start_fails(program):
+    """Who waits for the key of another one is told its outcome, too, where a piped program has failed and the one that is to follow can't be started."""
+    conf = "create user p:* * |%room/fails\nnegate user p:* * /no/such\n"
+    with Daemon(program, conf) as daemon, daemon.client() as first, daemon.client() as waiter:
+        daemon.script("fails", "#!/bin/sh\nread line < %room/gate\nexit 1\n")
+        os.mkfifo(daemon.room / "gate")
+        first.send(want(b"p:1"))
+        with open(daemon.room / "gate", "wb", buffering=0) as gate:
+            waiter.send(want(b"p:1"))
+            waits = quiet(waiter)
+            gate.write(b"\n")
+        return differs((waits, first.reply(), waiter.reply()), (True, "E126", "E126"))
+
+
 def nothing_left(program):
     """After a hundred handlers of every kind there is no descriptor and no child left."""
     conf = "create user c:* * |/bin/cat\ncreate user f:* * |/bin/false\ncreate user s:* * %room/handler %k\ncreate user m:* * /no/such\n"
@@ -455,7 +550,8 @@ def nothing_left(program):
 
 def cases():
     for try_it in [client_killed, all_clients_killed, again_after, completed_and_killed, daemon_killed, terminated, no_asks, child_goes_on, replies_unread,
-                   handler_leaves, stopped, waits_and_dies, not_followed, warned, ends_unknown, chain, many_wait, nothing_left]:
+                   handler_leaves, stopped, signalled, waits_and_dies, not_followed, not_made, warned, ends_unknown, chain, many_wait, each_outcome_wakes,
+                   second_start_fails, nothing_left]:
         yield try_it.__name__.replace("_", " "), try_it
     for how in ["is killed", "ends", "rejects", "writes no frame", "closes its output", "is not started"]:
         yield f"a handler that is asked for by another one and {how}", inner_fails, how
@@ -473,16 +569,18 @@ def cases():
     yield "a piped program whose child has its output", child_keeps, waits, False, b"made\nmore\n"
     yield "a piped program whose child has its input", child_keeps, f"exec > /dev/null; {waits}", True, b"made\n"
     big = "head -c {} /dev/zero | tr '\\0' p".format
-    for name, script, payload, *callout in [
+    nothing, too_much = "no payload (0 bytes)", "no payload (more than 32767 bytes)"
+    for name, script, payload, *more in [
         ("ignores its input", "echo made", b"made\n", b"c" * 4095),
         ("closes its input", "exec < /dev/null; echo made", b"made\n", b"c" * 4095),
         ("has all of its input", "cat", b"c" * 4095, b"c" * 4095),
         ("has an empty callout", "wc -c", b"0\n", b""),
         ("puts out 32,767 bytes", big(32767), b"p" * 32767),
-        ("puts out 32,768 bytes", big(32768), None),
-        ("puts out ten million bytes", big(10_000_000), None),
+        ("puts out 32,768 bytes", big(32768), None, b"x", too_much),
+        ("puts out ten million bytes", big(10_000_000), None, b"x", too_much),
         ("puts out one byte", "printf x", b"x"),
-        ("puts out nothing", ":", None),
+        ("puts out nothing", ":", None, b"x", nothing),
+        ("puts out nothing and fails", "exit 1", None),
         ("puts out any bytes", "printf '\\000\\377\\n'", b"\0\xff\n"),
         ("exits with 1", "echo made; exit 1", None),
         ("exits with 255", "echo made; exit 255", None),
@@ -492,7 +590,6 @@ def cases():
         ("has no other descriptor", "ls /proc/self/fd | tr '\\n' ' '", b"0 1 2 3 "),
         ("puts out in pieces", "for at in 1 2 3 4 5 6 7 8; do printf $at; done", b"12345678"),
     ]:
-        yield f"a piped program that {name}", piped, name.split()[0], script, payload, *callout
+        yield f"a piped program that {name}", piped, name.split()[0], script, payload, *more
     for line in ["/no/such", "|/no/such", "/", "|/tmp", "%room/no_program", "|%room/no_program", "%room/no_script/x"]:
         yield f"the line {line}", missing, line
-    yield "a line whose words can't be made", missing, "/bin/cat %{user:none}", None

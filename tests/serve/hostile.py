@@ -5,7 +5,7 @@ import select
 import threading
 
 import protocol_peer as ask
-from daemon import LIMIT, Client, Daemon, GaveUp, until
+from daemon import LIMIT, Client, Daemon, GaveUp, ended, until
 from programs import differs
 
 HELLO = ask.frame(ask.hello(1000, 1000))
@@ -134,7 +134,7 @@ def one_worker(program, count):
         alone = first.ask(*[ask.on_key(7, 8)] * 50), dict(replies)
         first.socket.close()
         for thread in threads:
-            thread.join(LIMIT)
+            ended(thread, "the end of a client")
         wrong = [it for it in replies.values() if len(it) != 2 or not isinstance(it[0], tuple) or not isinstance(it[1], int)]
         return differs((set(alone[0]), alone[1], len(replies), wrong[:2]), ({"E126"}, {}, count, [])) or daemon.lives()
 
@@ -216,9 +216,9 @@ def crowd(program):
         for thread in threads:
             thread.start()
         for thread in threads:
-            thread.join(LIMIT)
+            ended(thread, "the end of a client")
         until(lambda: not daemon.children() and daemon.descriptors() == before, "the end of all that they had")
-        return differs((wrong[:3], [thread.is_alive() for thread in threads].count(True)), ([], 0)) or daemon.lives()
+        return differs(wrong[:3], []) or daemon.lives()
 
 
 def body_of(dice):
@@ -270,6 +270,20 @@ def few_descriptors(program):
     return differs(made, [[False] * 3] * enough + [[True] * 3] * (len(made) - enough)) or differs(enough > 0, True)
 
 
+def all_busy(program, workers):
+    """Clients that find all workers busy wait, and the first of them is told of; and again when another one has found a worker free meanwhile."""
+    with Daemon(program, "", "--sessions", str(workers), "--clients", str(2 * workers + 6)) as daemon:
+        for count in [1, 2]:
+            served = [daemon.client() for _ in range(workers)]
+            waiting = [daemon.client(None) for _ in range(3)]
+            until(lambda: len(daemon.lines[1:]) == count, f"a warning that {workers} are busy")
+            rest = [client.ends() for client in served]
+            then = [(type(client.ask(ask.hello(1000, 1000))), client.ends()) for client in waiting]
+            if wrong := differs((rest, then), ([[]] * workers, [(tuple, [])] * 3)):
+                return wrong
+        return differs(daemon.end(), (0, [f"[WARN  rk_daemon::accepting] all {workers} workers are busy, connections wait"] * 2))
+
+
 def served_again(daemon):
     try:
         with Client(daemon.path, 1000) as client:
@@ -288,7 +302,7 @@ def full_record(program):
             sender.start()
             if client.take(len(reply)) != reply:
                 return f"a reply among the asks from {sent} on"
-            sender.join()
+            ended(sender, "the asks")
         told = until(lambda: [line for line in daemon.lines if line.startswith("volume ")], "the line of the volume")
         steps = int(told[0].removeprefix("volume 0 1 "))
         return differs((client.ask(ask.on_key(7, key)), len(told), VOLUME - 64 <= steps <= VOLUME), (b"v", 1, True)) or daemon.lives()
@@ -349,3 +363,5 @@ def cases():
         yield try_it.__name__.replace("_", " "), try_it
     for count in [20, 200]:
         yield f"{count} clients and one worker", one_worker, count
+    for workers in [1, 3]:
+        yield f"more clients than {workers} workers", all_busy, workers

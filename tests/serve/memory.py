@@ -1,11 +1,9 @@
 """Growths that are refused, one in each run of the daemon: at the start they are told, and later they are answered ENOMEM."""
-import bisect
-import functools
 import os
 import shutil
 
 import protocol_peer as ask
-from daemon import Client, Daemon, GaveUp, until
+from daemon import Client, Daemon, until
 from scenes import CONF, Gated, answered, displaced, hellos, library, negated, nested, played_twice, revoked, two_requesters
 
 # what is asked, and its reply where it is the same in every run that has not said HELLO in vain
@@ -50,8 +48,13 @@ def run(program, count):
         return ("short" if short else "whole"), (f"growth {count}: status {status} {lines}" if status else None)
 
 
+def stride(count, part):
+    """How far it is from this growth to the next one that is tried, ever further; where EVERY is set it is the very next."""
+    return 1 if "EVERY" in os.environ else 1 + count // part
+
+
 def refuses(program):
-    """Growths from the first on, more and more apart, until a run needs no more."""
+    """Growths from the first on, more and more apart, until a run needs no more; each of them where EVERY is set."""
     seen, count = {"memory": 0, "short": 0, "whole": 0}, 1
     whole = 0
     while whole < 5:
@@ -60,7 +63,7 @@ def refuses(program):
             return wrong
         seen[kind] += 1
         whole = whole + 1 if kind == "whole" else 0
-        count += 1 + count // 30
+        count += stride(count, 30)
         if count > 10_000_000:
             return "it never ends"
     return None if seen["memory"] and seen["short"] else f"{seen}"
@@ -70,45 +73,28 @@ def refuses(program):
 INSTEAD = ["E12", "E126", None]
 
 
-def gated(program, count):
-    environment = {"LD_PRELOAD": library("refusing_malloc"), "REFUSED": str(count)}
-    return Gated(program, CONF, "--sessions", "4", "--negative", "4000000", environment=environment)
-
-
-def starts(program, count):
-    try:
-        with gated(program, count):
-            return True
-    except GaveUp:
-        return False
-
-
-@functools.cache
-def behind_start(program):
-    """The first growth behind those of the start, where each but a few is needed."""
-    some = next(count for count in (2**at for at in range(5, 20)) if starts(program, count))
-    return bisect.bisect(range(some), False, lo=some // 2, key=lambda count: starts(program, count))
-
-
 def short(program, play, count):
-    """One run in which this growth is refused: whether it was noticed, and what is wrong. Behind it all is as it should be, and nothing is left."""
-    with gated(program, count) as daemon:
+    """One run in which this growth is refused, counted from the first accept on: whether it was met, whether it was noticed, and what is wrong. Behind it all
+    is as it should be, and nothing is left."""
+    daemon = Gated(program, CONF, "--sessions", "4", "--negative", "4000000")
+    told = daemon.room / "told"
+    daemon.environment = {"LD_PRELOAD": library("refusing_malloc"), "REFUSED": str(count), "FROM_ACCEPT": "1", "TOLD": str(told)}
+    with daemon:
         before = daemon.descriptors()
         noticed, wrong = played_twice(daemon, play, INSTEAD)
         until(lambda: not daemon.children() and daemon.descriptors() == before, f"growth {count}: no child, and the descriptors {before}")
-        return noticed, wrong and f"growth {count}, {wrong}"
+        return told.exists(), noticed, wrong and f"growth {count}, {wrong}"
 
 
 def refused_in(program, play):
     """Growths from the first behind the start on, more and more apart, until a run needs no more; each of them where EVERY is set."""
-    count, unseen, seen = behind_start(program), 0, 0
-    while unseen < 5:
-        noticed, wrong = short(program, play, count)
+    count, met, seen = 1, True, 0
+    while met:
+        met, noticed, wrong = short(program, play, count)
         if wrong:
             return wrong
         seen += noticed
-        unseen = 0 if noticed else unseen + 1
-        count += 1 if "EVERY" in os.environ else 1 + count // 10
+        count += stride(count, 3)
     return None if seen > 3 else f"{seen} growths were noticed"
 
 

@@ -1,10 +1,12 @@
-"""Words, options, faults of the start in their order, and what may stand at the socket's path."""
+"""Words, options, faults of the start in their order, what may stand at the socket's path, and standard streams that are closed."""
+import itertools
 import os
 import pathlib
 import socket
 import stat
 import subprocess
 
+import protocol_peer as ask
 from daemon import LIMIT, Client, Daemon, until
 from programs import differs
 
@@ -94,16 +96,16 @@ def faults(program, conf, want):
 
 
 def in_order(program):
-    """Of several faults the first is told: of the words, of the file, of its lines, of the socket."""
+    """Of several faults the first is told: of the words, of the file, of its lines, of the library, of the socket."""
     with Stopped(program, "create") as daemon:
         daemon.path.write_text("plain")
         got = [ended(words_of(daemon, "--sessions", "0"))[0], ended(words_of(daemon))]
         daemon.conf.unlink()
         got += [ended(words_of(daemon, "--sessions", "0"))[0], ended(words_of(daemon))]
         daemon.conf.write_text("")
-        got += [ended(words_of(daemon))]
-        lines = [(1, b"", f"reqkeyd: {it}\n") for it in ["conf line 1: C1", "conf", "socket"]]
-        return differs((got, daemon.path.read_text()), ([2, lines[0], 2, lines[1], lines[2]], "plain"))
+        got += [ended(words_of(daemon, "--keyutils", "/none/libkeyutils.so.1")), ended(words_of(daemon))]
+        lines = [(1, b"", f"reqkeyd: {it}\n") for it in ["conf line 1: C1", "conf", "keyutils", "socket"]]
+        return differs((got, daemon.path.read_text()), ([2, lines[0], 2, *lines[1:]], "plain"))
 
 
 def stands(program, what):
@@ -265,6 +267,23 @@ def speaks_not(program):
         return differs(daemon.process.stdout.read(), b"")
 
 
+def closed(program, streams):
+    """It is started with these standard streams closed: clients read what the protocol says and not a byte more, also where the daemon warns."""
+    with Daemon(program, "create user m:* * /no/such\n", "--clients", "4", closed=streams, ready=False) as daemon:
+        until(daemon.accepts, "a daemon that accepts")
+        clients = [daemon.client(None) for _ in range(3)]
+        for uid, client in enumerate(clients):
+            client.send(ask.hello(uid, uid), ask.request(b"user", b"m:1", b"x", -4))
+        bodies = [(ask.rings(0, 0, uid or 4, uid + (4 if uid else 8)), ask.refused(126)) for uid in range(3)]
+        wanted = [b"".join(map(ask.frame, it)) for it in bodies]
+        first = [client.take(len(it)) for client, it in zip(clients, wanted)]
+        places = [os.readlink(f"/proc/{daemon.process.pid}/fd/{stream}") for stream in streams]
+        rest = [client.ends() for client in clients]
+        status, lines = daemon.end()
+        told = 0 if 2 in streams else 3
+        return differs((first, places, rest, status, len(lines)), (wanted, ["/dev/null"] * len(streams), [[]] * 3, 0, told))
+
+
 def cases():
     base = ["serve", "--socket", "S", "--conf", "C"]
     for words in [["serve"], base[:3], [base[0], *base[3:]], ["serve", "--socket"], [*base, "more"], [*base, "--nothing"], [*base, "--mode"],
@@ -305,3 +324,5 @@ def cases():
     for words in [["--help"], ["-h"], ["serve", "--help"], ["serve", "-h"]]:
         yield f"{words}", helps, words
     yield "standard output", speaks_not
+    for streams in itertools.chain.from_iterable(itertools.combinations(range(3), count) for count in [1, 2, 3]):
+        yield f"closed standard streams {streams}", closed, streams
