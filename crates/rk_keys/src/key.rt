@@ -48,7 +48,7 @@ pub enum Standing {
 impl Key {
     ghost use Rattle.std.specs.Prelude.{◌≡◌, MatchResult, None, Some};
     ghost use Rattle.rk_keys.specs.declared.key.Condition.TheVariants as condition;
-    ghost use Rattle.rk_keys.specs.Key.{standing_of, is_building, is_named};
+    ghost use Rattle.rk_keys.specs.Key.{standing_of, is_building};
     ghost use Rattle.rk_keys.specs.Known.{new_key};
     ghost use Rattle.rk_keys.specs.Faults.{use_fault};
 
@@ -89,14 +89,6 @@ impl Key {
         ensures { result ≡ is_building self.now }
     {
         matches!(self.condition, Condition::Building)
-    }
-
-    /// Whether it has this type and this description.
-    pub fn is_named(&self, typ: &TypeName, description: &Description) -> bool
-        ensures { result ≡ is_named typ.now description.now self.now }
-    {
-        self.typ.as_bytes() == typ.as_bytes()
-            && self.description.as_bytes() == description.as_bytes()
     }
 
     /// The payload of a key that stands Positive. `Busy` where it stands Building; `Own` with its
