@@ -13,7 +13,9 @@ import re
 # What the check says of a function that isn't proved.
 UNPROVED = re.compile(r"^fn (\S+): (.*did not prove.*)$", re.M)
 # What it says of a proof file whose answer no longer fits its goal; where the answer names what an edit took away, that says nothing of the contract.
-WRONG_ANSWER = re.compile(r"^(?:\./)?proofs/(\S+)/\w+\.antt:\d+:\d+: error: (.*)$", re.M)
+WRONG_ANSWER = re.compile(r"^(?:\./)?(proofs/(\S+)/\w+\.antt):(\d+):\d+: error: (.*)$", re.M)
+# An answer of a cycle of calls, whose functions have one file: it begins with the path of its function.
+OF_CYCLE = re.compile(r"pub ((?:\w+::)+\w+)-")
 NAMES = re.compile(r"has no field|is not in scope|has no `|was not admitted")
 FUNCTION = re.compile(r"( *)(?:pub(?:\([a-z]+\))? )?(?:const )?fn (\w+)")
 IMPL = re.compile(r"impl\b(?:<.*?>)? ?(?:(\w+)(?:<.*>)? for )?(\w+)")
@@ -115,11 +117,17 @@ def make(edits, crate):
         (crate / file).write_text(text)
 
 
-def opened(log):
-    """The paths of the functions that have an open goal or a wrong answer of their own, in what a check said. The folder of the answers of a function that
-    calls itself has a + before its name."""
+def opened(log, crate):
+    """The paths of the functions that have an open goal or a wrong answer of their own, in what a check of this crate said."""
     paths = {tuple(path.split("::")[1:]) for path, _ in UNPROVED.findall(log)}
-    return paths | {tuple(path.replace("+", "").split("/")) for path, said in WRONG_ANSWER.findall(log) if not NAMES.search(said)}
+    return paths | {answered(crate / file, folder, int(line)) for file, folder, line, said in WRONG_ANSWER.findall(log) if not NAMES.search(said)}
+
+
+def answered(file, folder, line):
+    """The path of the function whose answer stands at this line of a file. The folder of one that calls itself has a + before its name, and so has that
+    of a cycle of calls."""
+    of_cycle = [found[1] for it in file.read_text().split("\n")[:line] if (found := OF_CYCLE.match(it))]
+    return tuple(of_cycle[-1].split("::") if of_cycle else folder.replace("+", "").split("/"))
 
 
 def is_refused(edit, paths):

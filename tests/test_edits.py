@@ -53,7 +53,7 @@ class Trial:
         self.checks += 1
         if not re.search(r"^(only|logic)=", said, re.M):
             raise NoVerdict("the prover gives no verdict: " + " ".join(said.strip().split("\n")[-3:])[-600:])
-        paths = wrong.opened(said)
+        paths = wrong.opened(said, self.crate)
         return {edit.name for edit in edits if wrong.is_refused(edit, paths)}
 
     def run(self):

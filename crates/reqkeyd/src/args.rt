@@ -50,7 +50,7 @@ const OPTIONS: [(&str, &str, ValueParser, &str); 8] = [
         "conf",
         "PATH",
         ValueParser::String,
-        "The configuration, read once at the start (docs/CONFIGURATION.md)",
+        "The configuration, read once at the start (reqkeyd.conf(5))",
     ),
     (
         "negative",
@@ -86,7 +86,7 @@ const OPTIONS: [(&str, &str, ValueParser, &str); 8] = [
         "record",
         "FOLDER",
         ValueParser::String,
-        "Write the volumes of the record into this folder, which is there and has none; no file is replaced (docs/RECORD.md)",
+        "Write the volumes of the record into this folder, which is there and has none; no file is replaced (docs/RECORD.md of the sources)",
     ),
 ];
 
@@ -132,8 +132,9 @@ fn rejoin<'a>(alloc: Global) -> Result<Command<'a>, AllocError> {
 /// What `replay --help` says before its options.
 const REPLAY: &str = "Runs a script from standard input, and writes what the daemon does
 
-A script tells what happens, line by line: which client sends which bytes, and how a handler runs and ends (docs/SCRIPTS.md). It is read to its end, played, \
-and then the replies and the commands are written. No socket is opened, no program is started, and no clock is read, so each run writes the same.";
+A script tells what happens, line by line: which client sends which bytes, and how a handler runs and ends (docs/SCRIPTS.md of the sources). It is read to \
+its end, played, and then the replies and the commands are written. No socket is opened, no program is started, and no clock is read, so each run writes the \
+same.";
 
 /// What `replay --help` says behind its options.
 const REPLAYED: &str = "Example:

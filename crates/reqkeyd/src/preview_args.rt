@@ -75,7 +75,7 @@ fn conf(alloc: Global) -> Arg<'static> {
         .long("conf")
         .value_name("PATH")
         .required(true)
-        .help("The configuration (docs/CONFIGURATION.md)")
+        .help("The configuration (reqkeyd.conf(5))")
 }
 
 /// `check` with its option.
