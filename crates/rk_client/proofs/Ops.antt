@@ -1,5 +1,5 @@
 -- The op that the table's lines say is the one whose word it is.
-use Rattle.std.proofs.Common.{◌≡◌, ℕ, Bool, true, false, cond, List, [], ◌∷◌, Option, Some, None, refl, ap}
+use Rattle.std.proofs.Common.{◌≡◌, ℕ, Bool, true, false, cond, List, [], ◌∷◌, Option, Some, refl, ap}
 use Rattle.std.proofs.lemmas.Slice.Eq.{bytes_eq-Decides}
 use Rattle.std.specs.Prelude.{map, find, option_map, IfSome}
 use Rattle.std.specs.Str.{bytes_eq, str_to_ascii_lowercase}

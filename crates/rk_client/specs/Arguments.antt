@@ -1,5 +1,6 @@
 -- What the arguments of an op say.
-use Rattle.std.specs.Prelude.{◌≡◌, ℕ, ℤ, pos, negsuc, List, [], ◌∷◌, codes, map, Option, Some, None, option_map, option_and_then, Result, Ok, Err, IsSome, IfOk, if◌then◌else◌}
+use Rattle.std.specs.Prelude.{◌≡◌, ◌≢◌, ℕ, ℤ, pos, negsuc, List, [], ◌∷◌, codes, map, length, Option, Some, None, option_map, option_and_then, Result, Ok, Err, IsSome, IfOk, MatchResult, if◌then◌else◌}
+use Rattle.std.specs.Option.{option_map_or}
 use Rattle.std.specs.Str.{bytes_eq}
 use Rattle.rk_text.specs.Numbers.{number_of, up_to}
 use Rattle.rk_names.specs.declared.errors.NameFault.{NameFault}
@@ -101,17 +102,26 @@ abbrev pub IsSaid : {X : Type 0} → (X → Value) → FieldKind → List ℕ �
 IsSaid view k word (Ok x) = value_said k word ≡ Some (view x)
 IsSaid view k word (Err e) = (value_said k word ≡ None) × (e ≡ Bad k)
 
--- only arguments that say nothing are refused; memory is wanted for those alone that say something
-abbrev pub IsRefused : Option (List Value) → ArgumentFault → Type 0
-IsRefused said NoMemory = IsSome said
-IsRefused said Count = said ≡ None
-IsRefused said (Bad k) = said ≡ None
+-- the kind of the first field that its argument does not say
+unfoldable pub first_unsaid : List FieldKind → List (Option (List ℕ)) → Option FieldKind
+first_unsaid (k ∷ ks) (word ∷ words) = option_map_or (λ v. first_unsaid ks words) (field_said k word) (Some k)
+first_unsaid _ _ = None
+
+-- why arguments are no fields of these kinds: there are more or fewer, or one says nothing; memory is wanted for those alone that say all
+abbrev pub IsRefused : List FieldKind → List (Option (List ℕ)) → ArgumentFault → Type 0
+IsRefused kinds words NoMemory = IsSome (fields_said kinds words)
+IsRefused kinds words Count = length words ≢ length kinds
+IsRefused kinds words (Bad k) = (length words ≡ length kinds) × (first_unsaid kinds words ≡ Some k)
 
 -- what is returned, seen by view, is what the arguments say, or else they are refused
-abbrev pub Gives : {X : Type 0} → (X → List Value) → Option (List Value) → Result X ArgumentFault → Type 0
-Gives view said (Ok x) = said ≡ Some (view x)
-Gives view said (Err e) = IsRefused said e
+abbrev pub Gives : {X : Type 0} → (X → List Value) → List FieldKind → List (Option (List ℕ)) → Result X ArgumentFault → Type 0
+Gives view kinds words r = MatchResult r (λ x. fields_said kinds words ≡ Some (view x)) (IsRefused kinds words)
+
+-- why there is no ask of this op with these arguments: HELLO is made of options, and takes none
+abbrev pub IsNoAsk : Op → List (List ℕ) → ArgumentFault → Type 0
+IsNoAsk op.Hello words e = e ≡ Count
+IsNoAsk o words e = IsRefused (ask_fields o) (in_order o words) e
 
 -- the ask of the op with these arguments, or why there is none
 abbrev pub AsksOrNot : Op → List (List ℕ) → Result Ask ArgumentFault → Type 0
-AsksOrNot o words r = Gives ask_values (ask_said o words) r × IfOk r (λ a. ask_op a ≡ o)
+AsksOrNot o words r = MatchResult r (λ a. ask_said o words ≡ Some (ask_values a)) (IsNoAsk o words) × IfOk r (λ a. ask_op a ≡ o)

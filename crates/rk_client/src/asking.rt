@@ -4,7 +4,7 @@ ghost use Rattle.rk_message.specs.Wire.{I32};
 ghost use Rattle.rk_message.specs.declared.shape.Op.TheVariants as op;
 ghost use Rattle.rk_message.specs.declared.shape.FieldKind.TheVariants as field;
 ghost use Rattle.rk_client.specs.declared.fault.ArgumentFault.TheVariants.{Count};
-ghost use Rattle.rk_client.specs.Arguments.{AsksOrNot, Gives, fields_said};
+ghost use Rattle.rk_client.specs.Arguments.{AsksOrNot, Gives};
 
 use crate::argument;
 use crate::fault::ArgumentFault;
@@ -15,7 +15,8 @@ use std::alloc::Global;
 /// The ask of this op with these arguments, which stand in the order of its fields, but for the callout: it comes last, and may be left out.
 /// HELLO takes no arguments and is never made here.
 ///
-/// Refusals: `Count`; `Bad` for an argument that is none for its field; `NoMemory`, only for arguments that are an ask.
+/// Refusals: `Count` where the op takes more or fewer arguments; else `Bad` with the kind of the first field, in the order of the ask's fields, of which its
+/// argument is none; `NoMemory`, only for arguments that are an ask.
 pub fn ask_of(alloc: Global, op: Op, arguments: &[&[u8]]) -> Result<Ask, ArgumentFault>
     ensures { AsksOrNot op (map (λ s. s.now) arguments.now) result }
 {
@@ -70,7 +71,7 @@ fn request(alloc: Global, arguments: &[&[u8]]) -> Result<Ask, ArgumentFault>
 }
 
 /// A request that tells the handler nothing.
-#[tactic(auto, unfolding(crate::specs::Arguments::fields_said))]
+#[tactic(auto, unfolding(crate::specs::Arguments::fields_said, crate::specs::Arguments::first_unsaid))]
 fn plain_request(
     alloc: Global,
     typ: &[u8],
@@ -91,7 +92,7 @@ fn plain_request(
 }
 
 /// A request with a callout.
-#[tactic(auto, unfolding(crate::specs::Arguments::fields_said))]
+#[tactic(auto, unfolding(crate::specs::Arguments::fields_said, crate::specs::Arguments::first_unsaid))]
 fn telling_request(
     alloc: Global,
     typ: &[u8],
@@ -114,7 +115,7 @@ fn telling_request(
 }
 
 /// `instantiate KEY PAYLOAD RING`.
-#[tactic(auto, unfolding(crate::specs::Arguments::fields_said))]
+#[tactic(auto, unfolding(crate::specs::Arguments::fields_said, crate::specs::Arguments::first_unsaid))]
 fn instantiate(alloc: Global, arguments: &[&[u8]]) -> Result<Ask, ArgumentFault>
     ensures { AsksOrNot op.Instantiate (map (λ s. s.now) arguments.now) result }
 {
@@ -130,7 +131,7 @@ fn instantiate(alloc: Global, arguments: &[&[u8]]) -> Result<Ask, ArgumentFault>
 }
 
 /// `negate KEY SECONDS RING`.
-#[tactic(auto, unfolding(crate::specs::Arguments::fields_said))]
+#[tactic(auto, unfolding(crate::specs::Arguments::fields_said, crate::specs::Arguments::first_unsaid))]
 fn negate(arguments: &[&[u8]]) -> Result<Ask, ArgumentFault>
     ensures { AsksOrNot op.Negate (map (λ s. s.now) arguments.now) result }
 {
@@ -143,7 +144,7 @@ fn negate(arguments: &[&[u8]]) -> Result<Ask, ArgumentFault>
 }
 
 /// `reject KEY SECONDS ERROR RING`.
-#[tactic(auto, unfolding(crate::specs::Arguments::fields_said))]
+#[tactic(auto, unfolding(crate::specs::Arguments::fields_said, crate::specs::Arguments::first_unsaid))]
 fn reject(arguments: &[&[u8]]) -> Result<Ask, ArgumentFault>
     ensures { AsksOrNot op.Reject (map (λ s. s.now) arguments.now) result }
 {
@@ -157,7 +158,7 @@ fn reject(arguments: &[&[u8]]) -> Result<Ask, ArgumentFault>
 }
 
 /// `timeout KEY SECONDS`.
-#[tactic(auto, unfolding(crate::specs::Arguments::fields_said))]
+#[tactic(auto, unfolding(crate::specs::Arguments::fields_said, crate::specs::Arguments::first_unsaid))]
 fn timeout(arguments: &[&[u8]]) -> Result<Ask, ArgumentFault>
     ensures { AsksOrNot op.Timeout (map (λ s. s.now) arguments.now) result }
 {
@@ -169,7 +170,7 @@ fn timeout(arguments: &[&[u8]]) -> Result<Ask, ArgumentFault>
 }
 
 /// `add TYPE DESCRIPTION PAYLOAD RING`.
-#[tactic(auto, unfolding(crate::specs::Arguments::fields_said))]
+#[tactic(auto, unfolding(crate::specs::Arguments::fields_said, crate::specs::Arguments::first_unsaid))]
 fn add(alloc: Global, arguments: &[&[u8]]) -> Result<Ask, ArgumentFault>
     ensures { AsksOrNot op.Add (map (λ s. s.now) arguments.now) result }
 {
@@ -186,40 +187,40 @@ fn add(alloc: Global, arguments: &[&[u8]]) -> Result<Ask, ArgumentFault>
 }
 
 /// The key that is the only argument.
-#[tactic(auto, unfolding(crate::specs::Arguments::fields_said))]
+#[tactic(auto, unfolding(crate::specs::Arguments::fields_said, crate::specs::Arguments::first_unsaid))]
 fn key_alone(arguments: &[&[u8]]) -> Result<i32, ArgumentFault>
-    ensures { Gives (λ z. I32 z ∷ []) (fields_said (field.Key ∷ []) (map Some (map (λ s. s.now) arguments.now))) result }
+    ensures { Gives (λ z. I32 z ∷ []) (field.Key ∷ []) (map Some (map (λ s. s.now) arguments.now)) result }
 {
     argument::key(one(arguments)?)
 }
 
 /// The ring that is the only argument.
-#[tactic(auto, unfolding(crate::specs::Arguments::fields_said))]
+#[tactic(auto, unfolding(crate::specs::Arguments::fields_said, crate::specs::Arguments::first_unsaid))]
 fn ring_alone(arguments: &[&[u8]]) -> Result<i32, ArgumentFault>
-    ensures { Gives (λ z. I32 z ∷ []) (fields_said (field.Ring ∷ []) (map Some (map (λ s. s.now) arguments.now))) result }
+    ensures { Gives (λ z. I32 z ∷ []) (field.Ring ∷ []) (map Some (map (λ s. s.now) arguments.now)) result }
 {
     argument::ring(one(arguments)?)
 }
 
 /// The setting that is the only argument.
-#[tactic(auto, unfolding(crate::specs::Arguments::fields_said))]
+#[tactic(auto, unfolding(crate::specs::Arguments::fields_said, crate::specs::Arguments::first_unsaid))]
 fn setting_alone(arguments: &[&[u8]]) -> Result<i32, ArgumentFault>
-    ensures { Gives (λ z. I32 z ∷ []) (fields_said (field.Setting ∷ []) (map Some (map (λ s. s.now) arguments.now))) result }
+    ensures { Gives (λ z. I32 z ∷ []) (field.Setting ∷ []) (map Some (map (λ s. s.now) arguments.now)) result }
 {
     argument::setting(one(arguments)?)
 }
 
 /// A key and a ring, and no more.
-#[tactic(auto, unfolding(crate::specs::Arguments::fields_said))]
+#[tactic(auto, unfolding(crate::specs::Arguments::fields_said, crate::specs::Arguments::first_unsaid))]
 fn key_and_ring(arguments: &[&[u8]]) -> Result<(i32, i32), ArgumentFault>
-    ensures { Gives (λ x. I32 x.0 ∷ I32 x.1 ∷ []) (fields_said (field.Key ∷ field.Ring ∷ []) (map Some (map (λ s. s.now) arguments.now))) result }
+    ensures { Gives (λ x. I32 x.0 ∷ I32 x.1 ∷ []) (field.Key ∷ field.Ring ∷ []) (map Some (map (λ s. s.now) arguments.now)) result }
 {
     let (key, ring) = two(arguments)?;
     Ok((argument::key(key)?, argument::ring(ring)?))
 }
 
 /// No argument.
-#[tactic(auto, unfolding(crate::specs::Arguments::fields_said))]
+#[tactic(auto, unfolding(crate::specs::Arguments::fields_said, crate::specs::Arguments::first_unsaid))]
 fn callout(arguments: &[&[u8]]) -> Result<Ask, ArgumentFault>
     ensures { AsksOrNot op.Callout (map (λ s. s.now) arguments.now) result }
 {

@@ -1,7 +1,7 @@
 use Rattle.std.proofs.Common.{◌≡◌, Option, sym, subst, ◌∙◌}
 use Rattle.std.specs.Prelude.{IfSome}
 use Rattle.rk_message.specs.declared.shape.Op.{Op}
-use Rattle.rk_client.specs.Words.{op_word, op_said}
+use Rattle.rk_client.specs.Words.{op_word}
 use Rattle.rk_client.proofs.Ops.{op_found, word_of}
 use Rattle.rk_client.proofs.op.op_named.Goals as goal
 
