@@ -1,13 +1,24 @@
--- A greeting and an ask are a conversation.
-use Rattle.std.proofs.Common.{ℕ, List, Option, Result, Ok, Err, IfOk, inr}
+-- What the daemon was asked, and the status behind its answer.
+use Rattle.std.proofs.Common.{◌≡◌, ◌≤◌, ℕ, zero, suc, Bool, true, false, List, Option, Some, Result, refl, sym, subst, arith}
 use Rattle.rk_message.specs.declared.ask.Ask.{Ask}
 use Rattle.rk_message.specs.declared.reply.Reply.{Reply}
 use Rattle.rk_client.specs.declared.fault.PeerFault.{PeerFault}
-use Rattle.rk_client.specs.Peer.{HasGreeted}
-use Rattle.reqkeyctl.specs.declared.call.Options.{Options}
-use Rattle.reqkeyctl.specs.Outcome.{HasConversed, greeting_of}
+use Rattle.reqkeyctl.specs.Calls.{Asks, greeting_before}
+use Rattle.reqkeyctl.specs.Daemon.{Conversation, and_then}
+use Rattle.reqkeyctl.specs.Outcome.{HasAskedAs}
+use Rattle.reqkeyctl.specs.Said.{CallSaid, call_said}
 
-pub greeted : (written written' unread unread' : Option (List ℕ)) (o : Options) (ask : Ask) (r : Result Reply PeerFault)
-    → IfOk r (HasGreeted written written' unread unread' (greeting_of o) ask) → IfOk r (HasConversed written written' unread unread' o ask)
-greeted written written' unread unread' o ask (Ok reply) h = inr h
-greeted written written' unread unread' o ask (Err e) h = tt
+-- a conversation of the call at its socket, behind its greeting
+pub asked_as : (call : CallSaid) (words : List (List ℕ)) (path : List ℕ) (ask : Ask) (answer : Result Reply PeerFault) (greeting : Option Ask)
+    (said said' : Option (List Conversation)) → Some call ≡ call_said words → call.options.socket ≡ Some path → Asks call ask → greeting ≡ greeting_before call
+    → said' ≡ and_then said (record { path = path; greeting = greeting; ask = ask; answer = answer }) → HasAskedAs call ask answer words said said'
+asked_as call words path ask answer greeting said said' is_call is_socket asks is_greeting held =
+    let Held : Option Ask → Type 0 = λ g. said' ≡ and_then said (record { path = path; greeting = g; ask = ask; answer = answer }) in
+    record { is_call = sym is_call; path = path; is_socket = is_socket; asks = asks; once = subst Held is_greeting held }
+
+-- a refusal is no success
+pub failed : (status : ℕ) (refusal : Bool) → status ≤ 1 → (status ≡ 0 → refusal ≡ false) → refusal ≡ true → status ≡ 1
+failed zero refusal most answered refused =
+    let answer : refusal ≡ false = answered refl in
+    cc
+failed (suc n) refusal most answered refused = omega arith

@@ -8,6 +8,7 @@ use Rattle.rk_message.specs.declared.ask.Ask.TheVariants as ask
 use Rattle.rk_message.specs.declared.shape.FieldKind.{FieldKind}
 use Rattle.rk_message.specs.declared.shape.FieldKind.TheVariants as field
 use Rattle.rk_message.specs.declared.shape.Op.{Op}
+use Rattle.rk_message.specs.declared.shape.Op.TheVariants as op
 use Rattle.rk_message.specs.Asks.{ask_op, ask_values}
 use Rattle.rk_message.specs.Table.{ask_fields}
 use Rattle.rk_client.specs.Arguments.{ask_said}
@@ -24,6 +25,15 @@ asks_help words = list_any is_help words
 -- who acts with these options: no ring of its own
 abbrev pub greeting_said : OptionsSaid → Ask
 greeting_said o = ask.Hello (record { uid = o.uid; gid = o.gid; thread = false; process = false; join = serial_of o.join })
+
+-- HELLO
+abbrev pub is_hello : Op → Bool
+is_hello op.Hello = true
+is_hello _ = false
+
+-- what is said to the daemon before the ask of the call: the HELLO of its options; nothing before a HELLO
+abbrev pub greeting_before : CallSaid → Option Ask
+greeting_before call = if is_hello call.op then None else Some (greeting_said call.options)
 
 -- a payload
 abbrev pub is_payload : FieldKind → Bool

@@ -1,35 +1,41 @@
--- What the program did on its streams.
-use Rattle.std.specs.Prelude.{◌≡◌, ◌⊎◌, ℕ, List, Option, Some, None, IsSome, true, false}
+-- What the program did on its streams, and what it said to the daemon.
+use Rattle.std.specs.Prelude.{◌≡◌, ℕ, List, Option, Some, None, Result, Ok, IsSome, MatchResult, true, false}
 use Rattle.std.specs.Io.KnownBytes.{Appends}
 use Rattle.rk_message.specs.declared.ask.Ask.{Ask}
 use Rattle.rk_message.specs.declared.reply.Reply.{Reply}
-use Rattle.rk_message.specs.declared.shape.Op.TheVariants as op
-use Rattle.rk_message.specs.Asks.{ask_op}
-use Rattle.reqkeyctl.specs.declared.call.Options.{Options}
-use Rattle.rk_client.specs.Peer.{HasAsked, HasGreeted, is_refusal}
+use Rattle.rk_client.specs.declared.fault.PeerFault.{PeerFault}
+use Rattle.rk_client.specs.Peer.{HasAsked, is_refusal}
 use Rattle.rk_client.specs.Printed.{printed}
 use Rattle.rk_run.specs.Words.{wanted_said}
-use Rattle.reqkeyctl.specs.Calls.{Asks, asks_help, greeting_said}
-use Rattle.reqkeyctl.specs.Said.{CallSaid, call_said, options_by}
+use Rattle.reqkeyctl.specs.Calls.{Asks, asks_help, greeting_before}
+use Rattle.reqkeyctl.specs.Daemon.{Conversation, and_then}
+use Rattle.reqkeyctl.specs.Said.{CallSaid, call_said}
 
 -- it wrote a text, whatever it says: what was written, before and after
 abbrev pub HasTold : Option (List ℕ) → Option (List ℕ) → Type 0
 HasTold contents contents' = (text : List ℕ) × Appends contents contents' text
 
--- what a run with status 0 did, by its words: what was left to read, what was written and what was told, before and after
-pub data HasDone (words : List (List ℕ)) (unread unread' written written' told told' : Option (List ℕ)) : Type 0 where
-  explained : asks_help words ≡ true → HasTold written written' → HasDone words unread unread' written written' told told'
-  asked_as_handler : (call : CallSaid) (ask : Ask) (reply : Reply) → call_said words ≡ Some call → call.options.socket ≡ None → Asks call ask → HasAsked written written' unread unread' ask reply
-      → is_refusal reply ≡ false → Appends told told' (printed call.options.raw reply) → HasDone words unread unread' written written' told told'
-  asked_as_client : (call : CallSaid) (ask : Ask) (reply : Reply) → call_said words ≡ Some call → IsSome call.options.socket → Asks call ask → is_refusal reply ≡ false
-      → Appends written written' (printed call.options.raw reply) → HasDone words unread unread' written written' told told'
-  ran : IsSome (wanted_said words) → unread' ≡ unread → written' ≡ written → HasDone words unread unread' written written' told told'
+-- the ask of the words went to the socket that they name, once, behind the HELLO of their options, and this is the answer: what was said to the daemon,
+-- before and after
+pub record HasAskedAs (call : CallSaid) (ask : Ask) (answer : Result Reply PeerFault) (words : List (List ℕ)) (said said' : Option (List Conversation)) : Type 0 where
+  pub is_call : call_said words ≡ Some call
+  pub path : List ℕ
+  pub is_socket : call.options.socket ≡ Some path
+  pub asks : Asks call ask
+  pub once : said' ≡ and_then said (record { path = path; greeting = greeting_before call; ask = ask; answer = answer })
 
--- the HELLO of what was read
-abbrev pub greeting_of : Options → Ask
-greeting_of o = greeting_said (options_by o)
+-- what a run with status 0 did, by its words: what was said to the daemon, what was left to read, what was written and what was told, before and after
+pub data HasDone (words : List (List ℕ)) (said said' : Option (List Conversation)) (unread unread' written written' told told' : Option (List ℕ)) : Type 0 where
+  explained : asks_help words ≡ true → said' ≡ said → HasTold written written' → HasDone words said said' unread unread' written written' told told'
+  asked_as_handler : (call : CallSaid) (ask : Ask) (reply : Reply) → call_said words ≡ Some call → call.options.socket ≡ None → Asks call ask
+      → said' ≡ said → HasAsked written written' unread unread' ask reply → is_refusal reply ≡ false → Appends told told' (printed call.options.raw reply)
+      → HasDone words said said' unread unread' written written' told told'
+  asked_as_client : (call : CallSaid) (ask : Ask) (reply : Reply) → HasAskedAs call ask (Ok reply) words said said' → is_refusal reply ≡ false
+      → Appends written written' (printed call.options.raw reply) → HasDone words said said' unread unread' written written' told told'
+  ran : IsSome (wanted_said words) → said' ≡ said → unread' ≡ unread → written' ≡ written → HasDone words said said' unread unread' written written' told told'
 
--- a HELLO was asked and answered; any other ask behind the HELLO of the options
-abbrev pub HasConversed : Option (List ℕ) → Option (List ℕ) → Option (List ℕ) → Option (List ℕ) → Options → Ask → Reply → Type 0
-HasConversed written written' unread unread' o ask reply =
-    ((ask_op ask ≡ op.Hello) × HasAsked written written' unread unread' ask reply) ⊎ HasGreeted written written' unread unread' (greeting_of o) ask reply
+-- what a run with this status said to the daemon, by its words: nothing, or what they ask, once; and without an answer, or with a refusal, the status is 1
+pub data HasSpoken (words : List (List ℕ)) (said said' : Option (List Conversation)) (status : ℕ) : Type 0 where
+  silent : said' ≡ said → HasSpoken words said said' status
+  spoke : (call : CallSaid) (ask : Ask) (answer : Result Reply PeerFault) → HasAskedAs call ask answer words said said'
+      → MatchResult answer (λ reply. is_refusal reply ≡ true → status ≡ 1) (λ fault. status ≡ 1) → HasSpoken words said said' status

@@ -3,9 +3,8 @@ ghost use Rattle.std.specs.Prelude.{◌≡◌, Some, None, IfOk, Err, map, optio
 ghost use Rattle.std.specs.List.{list_any, position};
 ghost use Rattle.rk_message.specs.Table.{ask_fields};
 ghost use Rattle.rk_client.specs.declared.fault.ArgumentFault.{ArgumentFault as Faults};
-ghost use Rattle.reqkeyctl.specs.Calls.{Asks, AsksWith, is_callout, is_payload, place_said, with_bytes};
-ghost use Rattle.reqkeyctl.specs.Outcome.{greeting_of};
-ghost use Rattle.reqkeyctl.specs.Said.{call_by};
+ghost use Rattle.reqkeyctl.specs.Calls.{Asks, AsksWith, greeting_before, greeting_said, is_callout, is_payload, place_said, with_bytes};
+ghost use Rattle.reqkeyctl.specs.Said.{call_by, options_by};
 
 use crate::call::{Call, Options};
 use crate::source::{SourceFault, read_source};
@@ -155,9 +154,19 @@ fn bytes_of<'a>(alloc: Global, arguments: &'a [String]) -> Result<Vec<&'a [u8]>,
     Ok(bytes)
 }
 
+/// The HELLO that a client says before the ask of the call. A HELLO that is asked for is the only message.
+pub fn greeting_before(call: &Call<'_>) -> Option<Ask>
+    ensures { result ≡ greeting_before (call_by call.now) }
+{
+    match call.op {
+        Op::Hello => None,
+        _ => Some(greeting(&call.options)),
+    }
+}
+
 /// The HELLO of these options: no ring of its own.
-pub fn greeting(options: &Options<'_>) -> Ask
-    ensures { result ≡ greeting_of options.now }
+fn greeting(options: &Options<'_>) -> Ask
+    ensures { result ≡ greeting_said (options_by options.now) }
 {
     Ask::Hello(Greeting {
         uid: options.uid,

@@ -7,19 +7,23 @@
 //! `reqkeyctl run -- PROGRAM WORDS` runs a program in a session ring of its own, to which keyutils' calls are the daemon's (docs/KEYUTILS.md).
 //!
 //! `call` reads the words, `source` a file whose bytes stand for an argument, `asking` makes the ask of both; the library `rk_client` has what is
-//! said and heard. `running` runs a program, by the library `rk_run`. `help` is the manual, for words that ask for it or can't be read. All that it does is
-//! one call, [`run::run_words`], over words, streams and a host that are passed in.
+//! said and heard. `daemon` is who is asked at a socket, and `sockets` how the system reaches it. `running` runs a program, by the library `rk_run`. `help`
+//! is the manual, for words that ask for it or can't be read. All that it does is one call, [`run::run_words`], over words, streams, a host and a daemon
+//! that are passed in.
 #![tactic(auto)]
 
 mod asking;
 mod call;
+mod daemon;
 mod help;
 mod run;
 mod running;
+mod sockets;
 mod source;
 mod telling;
 
 use rk_run::System;
+use sockets::Sockets;
 use std::env;
 use std::io::ErrorKind;
 use std::process::ExitCode;
@@ -38,9 +42,11 @@ fn main(rt: HostRuntime) -> ExitCode {
     };
     let (mut reader, mut writer) = (rt.stdin(), rt.stdout());
     let mut host = System::new(&rt, rt.alloc());
+    let mut daemon = Sockets::new(&rt, rt.alloc());
     let status = run::run_words(
         &rt,
         &mut host,
+        &mut daemon,
         words.as_slice(),
         &mut reader,
         &mut writer,

@@ -1,0 +1,22 @@
+-- What is said to the daemon at a socket.
+use Rattle.std.specs.Prelude.{ℕ, List, [], ◌∷◌, ◌++◌, Option, Some, None, option_map, Result}
+use Rattle.rk_message.specs.declared.ask.Ask.{Ask}
+use Rattle.rk_message.specs.declared.reply.Reply.{Reply}
+use Rattle.rk_client.specs.declared.fault.PeerFault.{PeerFault}
+use Rattle.rk_client.specs.Peer.{HasAsked, HasGreeted}
+
+-- one connection: the path of the socket, the HELLO that is said first, where one is, what is asked behind it, and what comes of it
+pub record Conversation : Type 0 where
+  pub path : List ℕ
+  pub greeting : Option Ask
+  pub ask : Ask
+  pub answer : Result Reply PeerFault
+
+-- this one was held, too
+abbrev pub and_then : Option (List Conversation) → Conversation → Option (List Conversation)
+and_then story conversation = option_map (λ s. s ++ conversation ∷ []) story
+
+-- the ask was written and its reply read, behind the greeting where there is one: what was written and what was left to read, before and after
+abbrev pub HasConversed : Option (List ℕ) → Option (List ℕ) → Option (List ℕ) → Option (List ℕ) → Option Ask → Ask → Reply → Type 0
+HasConversed written written' unread unread' None ask reply = HasAsked written written' unread unread' ask reply
+HasConversed written written' unread unread' (Some greeting) ask reply = HasGreeted written written' unread unread' greeting ask reply

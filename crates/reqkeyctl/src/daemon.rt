@@ -1,0 +1,19 @@
+//! The daemon, as a client speaks to it.
+ghost use Rattle.std.specs.Prelude.{◌≡◌, List, Option};
+ghost use Rattle.std.specs.Option.{option_copied};
+ghost use Rattle.reqkeyctl.specs.Daemon.{Conversation, and_then};
+
+use rk_client::PeerFault;
+use rk_message::{Ask, Reply};
+
+/// Who is asked at a socket. It may tell what was said to it, as one for a test would; the system's tells nothing.
+pub trait Daemon {
+    /// What was said to it, first things first, where it tells that.
+    ghost story: { Self → Option (List Conversation) };
+
+    /// Connects to the socket at this path, says the greeting, a HELLO, where one is given, asks, and reads the reply. Where the greeting is refused
+    /// the ask is not sent, and that refusal is the reply.
+    fn ask(&mut self, path: &str, greeting: Option<&Ask>, ask: &Ask) -> Result<Reply, PeerFault>
+        ensures { story self.new ≡ and_then (story self.old)
+            (record { path = path.now; greeting = option_copied greeting.entry; ask = ask.now; answer = result }) };
+}

@@ -1,0 +1,55 @@
+//! The daemon at the sockets of the system.
+ghost use Rattle.std.specs.Prelude.{None, IfOk};
+ghost use Rattle.std.specs.Option.{option_copied};
+ghost use Rattle.reqkeyctl.specs.Daemon.{HasConversed};
+
+use crate::daemon::Daemon;
+use rk_client::{PeerFault, exchange, exchange_greeted};
+use rk_message::{Ask, Reply};
+use std::alloc::Global;
+use std::io::{Read, Write};
+use std::net::Net;
+use std::os::unix::net::UnixStream;
+
+/// The sockets of the system, to each of which a connection of its own is made.
+#[derive(Drop)]
+pub struct Sockets<'a, R: Net> {
+    rt: &'a R,
+    alloc: Global,
+}
+
+impl<'a, R: Net> Sockets<'a, R> {
+    /// The sockets of this system. It takes no memory.
+    pub fn new(rt: &'a R, alloc: Global) -> Sockets<'a, R> {
+        Sockets { rt, alloc }
+    }
+}
+
+impl<'a, R: Net> Daemon for Sockets<'a, R> {
+    ghost story = { λ s. None };
+
+    fn ask(&mut self, path: &str, greeting: Option<&Ask>, ask: &Ask) -> Result<Reply, PeerFault> {
+        let Ok(stream) = UnixStream::connect(self.rt, path) else {
+            return Err(PeerFault::Lost);
+        };
+        let (mut reader, mut writer) = (&stream, &stream);
+        converse(self.alloc, &mut reader, &mut writer, greeting, ask)
+    }
+}
+
+/// Asks over a connection that has just been made, behind the greeting where one is given.
+fn converse<I: Read, W: Write>(
+    alloc: Global,
+    reader: &mut I,
+    writer: &mut W,
+    greeting: Option<&Ask>,
+    ask: &Ask,
+) -> Result<Reply, PeerFault>
+    ensures { IfOk result (HasConversed (W.contents writer.old) (W.contents writer.new) (I.remaining reader.old) (I.remaining reader.new)
+        (option_copied greeting.entry) ask.now) }
+{
+    match greeting {
+        Some(greeting) => exchange_greeted(alloc, reader, writer, greeting, ask),
+        None => exchange(alloc, reader, writer, ask),
+    }
+}
