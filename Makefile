@@ -53,7 +53,7 @@ demo: toolchain  ## Run the example script and the daemon, and show what they do
 quick: toolchain  ## Check what changed since the last time, over kept work, in minutes; no verdict
 	@tests/quick.py
 
-check: toolchain  ## Prove every crate from nothing and pass all tests; the last line counts them
+check: toolchain  ## Prove every crate and pass all tests; the last line counts them. With ANEW=1 nothing is taken from earlier runs
 	@bash tests/check.sh
 
 # The library for keyutils' own programs.

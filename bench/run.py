@@ -336,10 +336,17 @@ def hall(options):
         row([of, *pair(nanos, "{:,.0f}"), *pair(counts, "{:,}"), ratio(counts)])
 
 
+# what a service has in its environment, of which each program that it starts gets a copy: systemd.exec(5), "ENVIRONMENT VARIABLES IN SPAWNED PROCESSES"
+ENVIRONMENT = ["PATH=/usr/local/sbin:/usr/local/bin:/usr/sbin:/usr/bin", "LANG=C.UTF-8", "INVOCATION_ID=" + 32 * "0", "JOURNAL_STREAM=8:10000",
+    "SYSTEMD_EXEC_PID=1000"]
+
+
 def spawn(options):
+    """Both programs start others from the environment of a service."""
     for more in [], ["--resident", "256"]:
         print(f"\nStarts a second, Rattle's to C's to be {figures.STARTS}\n")
-        tell_rates(rates(both("spawn", "spawn_bench", more), options.runs), "starts")
+        programs = {who: ["env", "-i", *ENVIRONMENT, *words] for who, words in both("spawn", "spawn_bench", more).items()}
+        tell_rates(rates(programs, options.runs), "starts")
 
 
 # ---- serve

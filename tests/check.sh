@@ -1,10 +1,10 @@
 #!/usr/bin/env bash
 # Runs the toolchain's gate, then each test program of this folder, and adds up what passed and failed.
 #
-# The gate proves every crate and its tests from nothing, tries the edits of crates/NAME/must-fail one by one, and runs the tests and
-# the programs. A test of this folder is an executable test_*.sh or test_*.py; its last line is `N passed, M failed`, and what it prints
-# before that tells what failed. The log ends with what each program took of processors, the dearest last, with the last ten lines from each one that
-# failed, and with the names of those.
+# The gate proves every crate and its tests, tries the edits of crates/NAME/must-fail one by one, and runs the tests and the programs. What earlier runs on
+# this machine proved or refused of the same files is taken as they kept it, but where ANEW is in the environment. A test of this folder is an executable
+# test_*.sh or test_*.py; its last line is `N passed, M failed`, and what it prints before that tells what failed. The log ends with what each program took
+# of processors, the dearest last, with the last ten lines from each one that failed, and with the names of those.
 set -uo pipefail
 cd "$(dirname "$0")/.."
 
@@ -20,7 +20,7 @@ fail() {
     local count=$1 log=$2 name=$3
     failed=$((failed + count))
     names+=("failed: $name: $count")
-    if [[ $name == "rt ci" ]]; then
+    if [[ $name == "rt ci"* ]]; then
         grep -aE 'NOT PROVED|NOT REFUSED|BAD EDIT|FAILED|ended with status|differ first' "$log"
     else
         grep -avE '^[0-9]+ passed, [0-9]+ failed$|: not (tried|looked for)|edits in [0-9]+ checks|^processor seconds|^$' "$log"
@@ -61,7 +61,7 @@ count() {
     echo "$((seconds - before)) $name" >> "$taken"
 }
 
-count rt ci
+count rt ci ${ANEW:+--anew}
 # (the libraries stand as this run has proved them)
 export PROVED=1
 for test in tests/test_*; do

@@ -3,7 +3,7 @@
 
 Each crate whose files, or those of a crate below it, are not those that passed last time is laid out, proved over what earlier checks kept, and its tests
 are run before any proof of theirs. Then the edits of those crates that changed themselves are tried, and, where a program changed, the test programs of
-this folder; those that play what documents show also where these changed. It is for daily use and no verdict: `make check` proves everything from nothing.
+this folder; those that play what documents show also where these changed. It is for daily use and no verdict: that is `make check`.
 """
 import hashlib
 import os

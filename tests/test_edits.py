@@ -6,7 +6,8 @@
 Works in a copy, and leaves the repository as it is. All edits of a crate are tried in one check (edits.py, twins.py), but for the few that can't be made
 beside another; one that isn't seen to be refused there is tried alone. The crates below are not proved here: within `make check`, which says so by
 PROVED in the environment, they stand as `rt ci` has just left them, and so does the proof of the crate without an edit. Elsewhere what `rt check` has
-kept in crates/NAME/out is brought up to date first, and makes the checks short.
+kept in crates/NAME/out is brought up to date first, and makes the checks short. Where an earlier run on this machine refused the same edits of the same
+files, they count as refused (verdicts.py).
 """
 import concurrent.futures
 import os
@@ -20,6 +21,7 @@ import tempfile
 import crates
 import edits as wrong
 import twins
+from verdicts import Verdicts
 
 top = crates.top
 
@@ -61,7 +63,7 @@ class Trial:
         edits, faults, refused = [], [], set()
         if (self.good / "out" / "incremental").is_dir():
             shutil.copytree(self.good / "out" / "incremental", self.kept)
-        for path in sorted((top / "crates" / self.name / "edits").glob("*.edit")):
+        for path in edits_of(self.name):
             try:
                 edits.append(wrong.Edit(path, self.good))
             except wrong.BadEdit as why:
@@ -84,6 +86,11 @@ class Trial:
         shutil.rmtree(self.crate)
         shutil.rmtree(self.kept, ignore_errors=True)
         return len(refused), [*faults, *(f"{self.name}/{edit.name}: {why}" for edit in edits if edit.name not in refused)]
+
+
+def edits_of(name):
+    """The files of a crate's edits."""
+    return sorted((top / "crates" / name / "edits").glob("*.edit"))
 
 
 def stand_apart(edits):
@@ -145,19 +152,26 @@ def are_built(libraries):
 
 def main(words):
     used = crates.uses()
-    names = [it for it in used if (top / "crates" / it / "edits").is_dir() and (not words or it in words)]
+    asked = [it for it in used if (top / "crates" / it / "edits").is_dir() and (not words or it in words)]
+    verdicts = Verdicts(asked, used)
+    kept = verdicts.kept()
+    names = [it for it in asked if it not in kept]
     below = {it for name in names for it in crates.below(used, name)}
     workers = os.cpu_count() or 1
-    passed, failed, lines = 0, 0, {}
+    passed, failed, lines = sum(len(edits_of(it)) for it in kept), 0, {}
     with tempfile.TemporaryDirectory(prefix="edits-") as name:
         room = pathlib.Path(name)
-        built, first = (top / "crates", 0) if are_built(below) else brought_up_to_date(below | {*names}, room, workers)
+        built, first = (top / "crates", 0) if not names or are_built(below) else brought_up_to_date(below | {*names}, room, workers)
         with concurrent.futures.ThreadPoolExecutor(workers) as pool:
             trials = [Trial(it, built, room) for it in sorted(names, key=size, reverse=True)]
             for trial, (refused, faults) in zip(trials, pool.map(Trial.run, trials)):
                 print("".join(f"{it}\n" for it in faults), end="", flush=True)
                 passed, failed = passed + refused, failed + len(faults)
+                if not faults:
+                    verdicts.keep(trial.name)
                 lines[f"{trial.name}: {refused + len(faults)} edits in {trial.checks} checks, {trial.seconds:.0f} processor seconds"] = trial.seconds
+    for name in kept:
+        print(f"{name}: {len(edits_of(name))} edits in no checks, since an earlier run on this machine refused the same ones")
     print("\n".join(sorted(lines, key=lines.get, reverse=True)))
     print(f"processor seconds: {first:.0f} for the crates without an edit, {sum(lines.values()):.0f} for the edits")
     print(f"{passed} passed, {failed} failed")
