@@ -11,7 +11,7 @@ import subprocess
 
 import crates
 
-PROGRAMS = ["crates.py", "edits.py", "test_edits.py", "twins.py", "verdicts.py"]
+PROGRAMS = ["crates.py", "edits.py", "test_edits.py", "twins.py"]
 
 
 class Verdicts:
@@ -19,8 +19,7 @@ class Verdicts:
 
     def __init__(self, names, used):
         self.used = used
-        # the user's cache, as the XDG Base Directory Specification has it
-        self.folder = pathlib.Path(os.environ.get("XDG_CACHE_HOME") or pathlib.Path.home() / ".cache") / "request-key-daemon" / "edits"
+        self.folder = folder()
         self.entries = self.entries_of(names)
 
     def entries_of(self, names):
@@ -36,15 +35,23 @@ class Verdicts:
 
     def kept(self):
         """The crates whose edits were all refused by an earlier run."""
-        return [] if os.environ.get("ANEW") else [name for name, entry in self.entries.items() if (self.folder / entry).is_file()]
+        if self.folder is None or os.environ.get("ANEW"):
+            return []
+        return [name for name, entry in self.entries.items() if (self.folder / entry).is_file()]
 
     def keep(self, name):
         """Keeps that the edits of a crate were all refused, unless its files were changed meanwhile. Where there is no folder for it, they are tried again."""
-        if self.entries_of([name]) != {name: self.entries[name]}:
+        if self.folder is None or self.entries_of([name]) != {name: self.entries[name]}:
             return
         with contextlib.suppress(OSError):
             self.folder.mkdir(mode=0o700, parents=True, exist_ok=True)
             (self.folder / self.entries[name]).write_text(f"{name}\n")
+
+
+def folder():
+    """A folder of the user's cache, as the XDG Base Directory Specification has it. None where there is no user's home."""
+    cache = os.environ.get("XDG_CACHE_HOME") or os.path.expanduser("~/.cache")
+    return pathlib.Path(cache) / "request-key-daemon" / "edits" if os.path.isabs(cache) else None
 
 
 def sum_of(parts):
