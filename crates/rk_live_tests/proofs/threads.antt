@@ -1,1 +1,1 @@
-mod Crossing
+pub mod Crossing

@@ -1,8 +1,7 @@
 //! Sessions over fakes: what they are told, in what order, and what of it the halls have recorded.
 //!
-//! `turns` lets sessions on threads of their own act in one order, `line` is a wire that keeps what happens on it, `stage` plays a scene of up to three
-//! sessions, and `bytes` has the frames, written by hand. The tests are tables of scenes: `alone` of one session, `together` of more, `growths` of one that
-//! lacks memory.
+//! `line` is a wire that keeps what happens on it, `stage` plays a scene of up to three sessions, and `bytes` has the frames, written by hand. The tests
+//! are tables of scenes: `alone` of one session, `together` of more, `growths` of one that lacks memory.
 
 mod alone;
 mod bytes;
@@ -10,4 +9,3 @@ mod growths;
 mod line;
 mod stage;
 mod together;
-mod turns;

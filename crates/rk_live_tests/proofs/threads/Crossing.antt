@@ -11,15 +11,19 @@ use Rattle.rk_hall.specs.declared.names.Names as names
 use Rattle.rk_hall.specs.contracts.seat.Seat as seat
 use Rattle.rk_hall.specs.contracts.volume.Volume as volume
 use Rattle.rk_hall.proofs.Crossing.{answer_send, ask_send, book_send, recorded_send, reply_send, subject_send}
+use Rattle.rk_live_tests.specs.contracts.fakes.turns.Turns as turns
 use Rattle.rk_live_tests.specs.contracts.threads.caller.Caller as caller
 
 pub global_sync : IsSync global.the_row
 global_sync = search (sendable, crosses) depth 40 fits 20000
 
+pub turns_sync : IsSync turns.the_row
+turns_sync = search (sendable, crosses) depth 40 fits 20000
+
 told_send : IsSend told.the_row
 told_send = let k = ask_send in search (sendable, crosses) depth 40 fits 20000
 
-receipt_send : IsSend receipt.the_row
+pub receipt_send : IsSend receipt.the_row
 receipt_send =
     let k = ask_send in
     let t = told_send in
@@ -32,10 +36,10 @@ steps_send : IsSend recorded.the_row
 steps_send = let b = book_send in let r = recorded_send in search (sendable, crosses) depth 40 fits 20000
 
 module _ (N : RattleType) (g : names.Ghosts N.Denot) where
-  seat_send : IsSend N → IsSend (seat.the_row N g)
+  pub seat_send : IsSend N → IsSend (seat.the_row N g)
   seat_send n = search (sendable, crosses, shares.the_send) depth 40 fits 20000
 
-  volume_send : IsSend N → IsSend (volume.the_row N g)
+  pub volume_send : IsSend N → IsSend (volume.the_row N g)
   volume_send n = let s = steps_send in search (sendable, crosses) depth 40 fits 20000
 
   pub caller_send : IsSend N → IsSend (caller.the_row N g)

@@ -10,9 +10,15 @@ use std::marker::Sync;
 use std::process::Abort;
 use std::sync::Wait;
 use std::thread::Threads;
+use std::time::Clock;
 
 /// Plays the handling, whose steps are counted. A reply that is lost for want of memory takes no step, so what is told is not looked at.
-fn counted<R: Wait + Abort + Threads + Sync>(rt: &R, alloc: Global, whole: Handling, steps: u64) {
+fn counted<R: Wait + Abort + Threads + Clock + Sync>(
+    rt: &R,
+    alloc: Global,
+    whole: Handling,
+    steps: u64,
+) {
     let counted = Handling {
         told: None,
         steps: Some(steps),

@@ -12,6 +12,7 @@ use std::marker::Sync;
 use std::process::Abort;
 use std::sync::Wait;
 use std::thread::Threads;
+use std::time::Clock;
 
 const ASSUME_12: &[u8] = b"\0\0\0\x05\x03\0\0\0\x0c";
 
@@ -314,7 +315,7 @@ const FOLLOWED_ROWS: &[Row] = &[
 ];
 
 /// Plays each row over this handling.
-fn play_rows<R: Wait + Abort + Threads + Sync>(
+fn play_rows<R: Wait + Abort + Threads + Clock + Sync>(
     rt: &R,
     alloc: Global,
     handling: Handling,

@@ -5,12 +5,14 @@ use crate::children::handling::Handling;
 use crate::halls::growths::Growths;
 use crate::halls::settling::{SixSteps, Volumes, hears};
 use crate::threads::together::SideBySide;
+use crate::threads::waking::Waking;
 use rk_hall::{Fresh, Halls, Names};
 use std::alloc::Global;
 use std::marker::{Brand, Send, Sync};
 use std::process::Abort;
 use std::sync::Wait;
 use std::thread::Threads;
+use std::time::Clock;
 
 /// What is done in halls of its own, from their opening to their end.
 #[derive(Clone, Copy)]
@@ -19,12 +21,13 @@ pub enum Scene {
     Hears,
     Volumes(Volumes),
     SideBySide(SideBySide),
+    Waking(Waking),
     Growths(Growths),
     Handling(Handling),
 }
 
 impl Scene {
-    fn play<N: Names + Send + Sync, R: Wait + Abort + Threads + Sync>(
+    fn play<N: Names + Send + Sync, R: Wait + Abort + Threads + Clock + Sync>(
         self,
         rt: &R,
         alloc: Global,
@@ -35,6 +38,7 @@ impl Scene {
             Scene::Hears => hears(rt, alloc, halls),
             Scene::Volumes(volumes) => volumes.play(rt, alloc, halls),
             Scene::SideBySide(threads) => threads.play(rt, alloc, halls),
+            Scene::Waking(waking) => waking.play(rt, alloc, halls),
             Scene::Growths(growths) => growths.play(rt, alloc, halls),
             Scene::Handling(handling) => handling.play(rt, alloc, halls),
         }
@@ -42,7 +46,7 @@ impl Scene {
 }
 
 /// Makes halls of these ledgers, and plays the scene in them.
-fn play_under<N: Names + Send + Sync, R: Wait + Abort + Threads + Sync>(
+fn play_under<N: Names + Send + Sync, R: Wait + Abort + Threads + Clock + Sync>(
     rt: &R,
     alloc: Global,
     fresh: Fresh,
@@ -60,7 +64,7 @@ fn play_under<N: Names + Send + Sync, R: Wait + Abort + Threads + Sync>(
 }
 
 /// Plays a scene in halls whose volumes may have so many steps, under ledgers that are named here.
-pub fn in_new_halls<R: Wait + Abort + Threads + Sync>(
+pub fn in_new_halls<R: Wait + Abort + Threads + Clock + Sync>(
     rt: &R,
     alloc: Global,
     steps: usize,

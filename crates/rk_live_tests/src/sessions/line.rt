@@ -3,8 +3,8 @@
 ghost use Rattle.std.specs.Prelude.{◌≡◌, None};
 
 use crate::fakes::launcher::give;
+use crate::fakes::turns::Turns;
 use crate::sessions::stage::Part;
-use crate::sessions::turns::Turns;
 use rk_devices::DeviceFault;
 use rk_hall::Receipt;
 use rk_session::Wire;

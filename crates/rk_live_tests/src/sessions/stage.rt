@@ -3,23 +3,25 @@ ghost use Rattle.std.specs.Prelude.{◌≡◌};
 
 use crate::fakes::launcher::{Fake, Fuse, Program};
 use crate::fakes::still::{Bin, NOW, Stopped};
+use crate::fakes::turns::{Held, Turns, Watched, later};
 use crate::halls::paths::all;
 use crate::same::same;
 use crate::sessions::line::{Cut, Line};
-use crate::sessions::turns::{Held, Turns, Watched, later};
 use rk_child::fail;
 use rk_conf::Conf;
 use rk_frame::Frames;
 use rk_hall::{Called, Fresh, HallNo, Halls, Names, Receipt, Seat, Told, Volume, settle};
 use rk_machine::Event;
+use rk_message::Ask;
 use rk_names::{Moment, SessionId};
 use rk_session::{Served, serve};
 use std::alloc::Global;
 use std::marker::{Brand, Send, Sync};
 use std::process::Abort;
 use std::sync::Wait;
+use std::thread;
 use std::thread::{Threads, join};
-use std::time::Clock;
+use std::time::{Clock, Duration};
 
 /// A session: what comes on its wire, and what is to come of it.
 #[derive(Clone, Copy)]
@@ -34,8 +36,6 @@ pub struct Part<'a> {
     pub end: u64,
     /// The call of its wire that fails.
     pub cut: Option<Cut>,
-    /// The moment that it asks for which begins a turn, counted from 1; 0 for none.
-    pub moment: u64,
     /// How it is to end.
     pub served: Served,
     /// What it is to be told.
@@ -55,7 +55,6 @@ pub const QUIET: Part<'static> = Part {
     most: usize::MAX,
     end: 0,
     cut: None,
-    moment: 0,
     served: Served::Ended,
     replies: &[],
     repeats: 1,
@@ -77,11 +76,13 @@ pub struct Scene<'a> {
     pub fuse: Option<Fuse>,
     /// The turn until which a handler is held at its start.
     pub until: u64,
-    /// How many milliseconds it takes from then on, by the clock of the sessions too.
-    pub pause: u64,
+    /// How many seconds it takes from then on, by the clock of the sessions.
+    pub takes: u64,
     pub first: Part<'a>,
     pub second: Option<Part<'a>>,
     pub third: Option<Part<'a>>,
+    /// The turn from which on the thread of the third session watches the record instead: a turn begins once client 2 has requested a key.
+    pub watched: Option<u64>,
     /// How many clients are opened in hall 1 before.
     pub crowd: u32,
     /// How many steps there are to be.
@@ -90,11 +91,12 @@ pub struct Scene<'a> {
     pub may_lack: bool,
 }
 
-/// What is left of a session: its seat, and the receipts that were noted.
+/// What is left of a thread: its seat, the receipts that were noted, and the volumes that were handed out.
 #[derive(Drop)]
 struct Left<N: Names> {
     seat: Seat<N>,
     noted: Vec<Receipt>,
+    volumes: Vec<Volume<N>>,
 }
 
 /// What came of a session, without what it was lent.
@@ -138,15 +140,12 @@ fn serves<'a, N: Names, R: Wait + Abort + Clock>(
     let launcher = Fake::new(alloc, scene.programs, 1_000, scene.fuse);
     let mut launcher = launcher.expect(rt, "memory");
     let mut line = Line::new(rt, alloc, turns, part).expect(rt, "memory");
-    let mut clock = Watched {
-        turns,
-        left: part.moment,
-    };
+    let mut clock = Watched { turns };
     let gate = Held {
         rt,
         turns,
         until: scene.until,
-        pause: scene.pause,
+        takes: scene.takes,
     };
     let served = serve(
         rt,
@@ -206,31 +205,99 @@ fn may_serve<N: Names, R: Wait + Abort + Clock>(
     let came = serves(rt, alloc, halls, &mut seat, client, &part, scene, turns);
     is_as_wanted(rt, &part, &came);
     let Came { noted, .. } = came;
-    Some(Left { seat, noted })
+    Some(Left {
+        seat,
+        noted,
+        volumes: Vec::new(alloc),
+    })
+}
+
+/// Whether client 2 has requested a key in this volume.
+fn has_request<N: Names>(volume: &Volume<N>) -> bool {
+    volume.steps().iter().any(|step| {
+        matches!(
+            &step.event,
+            Event::Asked(SessionId::Client(2), Ask::Request { .. })
+        )
+    })
+}
+
+/// Hands out volumes of hall 0 until client 2 has requested a key there, for at most 1,000 times ten milliseconds; then a turn begins.
+fn watches<N: Names, R: Wait + Abort + Clock>(
+    rt: &R,
+    alloc: Global,
+    halls: &Halls<N>,
+    turns: &Turns,
+) -> Option<Left<N>> {
+    let seat = halls.seat(rt)?;
+    let mut volumes = Vec::new(alloc);
+    for _ in 0..1_000 {
+        let volume = halls.roll(rt, HallNo::Zero).expect(rt, "a volume");
+        let is_there = has_request(&volume);
+        volumes.push(volume).expect(rt, "memory");
+        if is_there {
+            turns.next();
+            break;
+        }
+        let _ = thread::sleep(rt, Duration::from_millis(10));
+    }
+    Some(Left {
+        seat,
+        noted: Vec::new(alloc),
+        volumes,
+    })
+}
+
+/// The third session, or who watches in its place.
+fn third_serves<N: Names, R: Wait + Abort + Clock>(
+    rt: &R,
+    alloc: Global,
+    halls: &Halls<N>,
+    scene: &Scene,
+    turns: &Turns,
+) -> Option<Left<N>> {
+    match scene.watched {
+        None => may_serve(rt, alloc, halls, 3, scene.third, scene, turns),
+        Some(turn) => {
+            turns.wait(rt, turn);
+            watches(rt, alloc, halls, turns)
+        }
+    }
 }
 
 /// The moment that a receipt is to have: an outcome is collected when the handler has ended, and all that is noted else was asked before.
 fn moment_of(scene: &Scene, receipt: &Receipt) -> Moment {
     match receipt.told() {
-        Told::Collect(_) => later(scene.pause / 1_000),
+        Told::Collect(_) => later(scene.takes),
         _ => NOW,
     }
 }
 
-/// Adds what is left of a session, where it was there, to what others have left.
-fn gather<N: Names>(
-    rt: &impl Abort,
-    scene: &Scene,
-    left: Option<Left<N>>,
-    seats: &mut Vec<Seat<N>>,
-    receipts: &mut Vec<Receipt>,
-) {
-    if let Some(Left { seat, noted }) = left {
-        seats.push(seat).expect(rt, "memory");
+/// What all threads have left.
+#[derive(Drop)]
+struct Gathered<N: Names> {
+    seats: Vec<Seat<N>>,
+    /// By rising number.
+    receipts: Vec<Receipt>,
+    volumes: Vec<Volume<N>>,
+}
+
+/// Adds what is left of a thread, where it was there, to what others have left.
+fn gather<N: Names>(rt: &impl Abort, scene: &Scene, left: Option<Left<N>>, all: &mut Gathered<N>) {
+    if let Some(
+        Left {
+            seat,
+            noted,
+            mut volumes,
+        },
+    ) = left
+    {
+        all.seats.push(seat).expect(rt, "memory");
         for receipt in noted {
             same(rt, receipt.now(), moment_of(scene, &receipt));
-            receipts.push(receipt).expect(rt, "memory");
+            all.receipts.push(receipt).expect(rt, "memory");
         }
+        all.volumes.append(&mut volumes).expect(rt, "memory");
     }
 }
 
@@ -248,7 +315,7 @@ fn crowd<N: Names, R: Wait + Abort>(rt: &R, halls: &Halls<N>, count: u32) -> Sea
     seat
 }
 
-/// The second session and the third one, on two threads.
+/// The second session and the third one, or who watches, on two threads.
 fn others_serve<N: Names + Send + Sync, R: Wait + Abort + Threads + Clock + Sync>(
     rt: &R,
     alloc: Global,
@@ -259,7 +326,7 @@ fn others_serve<N: Names + Send + Sync, R: Wait + Abort + Threads + Clock + Sync
     join(
         rt,
         move || may_serve(rt, alloc, halls, 2, scene.second, scene, turns),
-        move || may_serve(rt, alloc, halls, 3, scene.third, scene, turns),
+        move || third_serves(rt, alloc, halls, scene, turns),
     )
 }
 
@@ -278,24 +345,29 @@ fn all_serve<N: Names + Send + Sync, R: Wait + Abort + Threads + Clock + Sync>(
     )
 }
 
-/// The sessions on their threads: all seats, and the receipts that were noted, by rising number.
+/// The sessions on their threads, to their ends.
 fn all_left<N: Names + Send + Sync, R: Wait + Abort + Threads + Clock + Sync>(
     rt: &R,
     alloc: Global,
     halls: &Halls<N>,
     scene: &Scene,
-) -> (Vec<Seat<N>>, Vec<Receipt>) {
+) -> Gathered<N> {
     let made = Turns::new();
-    let (mut seats, mut receipts) = (Vec::new(alloc), Vec::new(alloc));
+    let mut all = Gathered {
+        seats: Vec::new(alloc),
+        receipts: Vec::new(alloc),
+        volumes: Vec::new(alloc),
+    };
     let others = crowd(rt, halls, scene.crowd);
-    seats.push(others).expect(rt, "memory");
+    all.seats.push(others).expect(rt, "memory");
     let (first, (second, third)) = all_serve(rt, alloc, halls, scene, &made);
     same(rt, made.late(), 0);
-    gather(rt, scene, first, &mut seats, &mut receipts);
-    gather(rt, scene, second, &mut seats, &mut receipts);
-    gather(rt, scene, third, &mut seats, &mut receipts);
-    receipts.sort_unstable_by_key(|receipt| receipt.number());
-    (seats, receipts)
+    gather(rt, scene, first, &mut all);
+    gather(rt, scene, second, &mut all);
+    gather(rt, scene, third, &mut all);
+    all.receipts
+        .sort_unstable_by_key(|receipt| receipt.number());
+    all
 }
 
 /// Plays a scene; then the records are settled with all seats and all receipts.
@@ -305,9 +377,12 @@ fn plays<N: Names + Send + Sync, R: Wait + Abort + Threads + Clock + Sync>(
     halls: Halls<N>,
     scene: &Scene,
 ) {
-    let (seats, receipts) = all_left(rt, alloc, &halls, scene);
-    let none: Vec<Volume<N>> = Vec::new(alloc);
-    let settled = settle(halls, &none, seats, &receipts);
+    let Gathered {
+        seats,
+        receipts,
+        volumes,
+    } = all_left(rt, alloc, &halls, scene);
+    let settled = settle(halls, &volumes, seats, &receipts);
     same(rt, settled, Ok(all(scene.steps)));
 }
 

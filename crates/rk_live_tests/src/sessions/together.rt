@@ -23,10 +23,11 @@ const SCENE: Scene<'static> = Scene {
     programs: &[COMPLETES],
     fuse: None,
     until: 4,
-    pause: 0,
+    takes: 0,
     first: STARTER,
     second: None,
     third: None,
+    watched: None,
     crowd: 0,
     steps: 9,
     may_lack: false,
@@ -34,17 +35,17 @@ const SCENE: Scene<'static> = Scene {
 
 #[test]
 fn two_wait_for_one_handler(rt: HostRuntime) {
-    // it asks at its third moment, while the handler takes its five seconds; what it waited for is collected when they have passed
+    // once it has asked, turn 4 comes, and the handler takes its five seconds; what it waited for is collected when they have passed
     let waiter = Part {
         pieces: &[(2, JOIN), (3, REQUEST)],
         end: 6,
-        moment: 3,
         words: b"",
         ..STARTER
     };
     let scene = Scene {
-        pause: 5_000,
+        takes: 5,
         second: Some(waiter),
+        watched: Some(3),
         steps: 14,
         ..SCENE
     };

@@ -1,4 +1,4 @@
-//! Sessions on threads of their own act in one order: each waits until its turn has come.
+//! Threads act in one order: each waits until its turn has come.
 
 use crate::fakes::still::NOW;
 use rk_devices::{Driven, Gate};
@@ -44,10 +44,9 @@ impl Turns {
         false
     }
 
-    /// So many milliseconds pass, and the clock of the sessions tells it.
-    pub fn pause<R: Clock>(&self, rt: &R, milliseconds: u64) {
-        let _ = thread::sleep(rt, Duration::from_millis(milliseconds));
-        self.passed.fetch_add(milliseconds / 1_000, SeqCst);
+    /// So many seconds pass by the clock of the sessions, all at once.
+    pub fn pass(&self, seconds: u64) {
+        self.passed.fetch_add(seconds, SeqCst);
     }
 
     /// The moment now.
@@ -66,13 +65,14 @@ pub fn later(seconds: u64) -> Moment {
     Moment(NOW.0.saturating_add(seconds))
 }
 
-/// A start and a reply each begin a turn; a handler that was started is held until another turn has come, and takes so many milliseconds from then on.
+/// A start and a reply each begin a turn; a handler that was started is held until another turn has come, and takes so many seconds from then on, by the
+/// clock of the sessions.
 #[derive(Drop)]
 pub struct Held<'a, R> {
     pub rt: &'a R,
     pub turns: &'a Turns,
     pub until: u64,
-    pub pause: u64,
+    pub takes: u64,
 }
 
 impl<'a, R: Clock> Gate for Held<'a, R> {
@@ -81,7 +81,7 @@ impl<'a, R: Clock> Gate for Held<'a, R> {
         let _ = key;
         self.turns.next();
         self.turns.wait(self.rt, self.until);
-        self.turns.pause(self.rt, self.pause);
+        self.turns.pass(self.takes);
     }
 
     fn driven<W: Wait>(&self, rt: &W, key: Serial, driven: Driven) {
@@ -97,19 +97,14 @@ impl<'a, R: Clock> Gate for Held<'a, R> {
     }
 }
 
-/// The moment moves where a handler pauses. Asking for it so many times begins a turn.
+/// The moment moves where a handler takes its seconds.
 #[derive(Drop)]
 pub struct Watched<'a> {
     pub turns: &'a Turns,
-    pub left: u64,
 }
 
 impl<'a> rk_devices::Clock for Watched<'a> {
     fn now(&mut self) -> Moment {
-        if self.left == 1 {
-            self.turns.next();
-        }
-        self.left = self.left.saturating_sub(1);
         self.turns.moment()
     }
 }

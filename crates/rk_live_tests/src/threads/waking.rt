@@ -1,0 +1,198 @@
+//! Who waits for a key is woken by each step that gives its outcome.
+use crate::answers::{Said, in_words};
+use crate::asks::{OTHER, joining, payload, request};
+use crate::fakes::still::NOW;
+use crate::fakes::turns::Turns;
+use crate::halls::calls::{calls, fails, greets, refuse_launch, requests};
+use crate::halls::opening::{Scene, in_new_halls};
+use crate::same::same;
+use rk_hall::{HallNo, Halls, Launch, Names, Owed, Seat};
+use rk_machine::{Event, How, Ran};
+use rk_message::Ask;
+use rk_names::{Errno, KeyError, Serial, SessionId};
+use rk_wait::await_outcome;
+use std::alloc::{AllocError, Global};
+use std::marker::{Send, Sync};
+use std::process::Abort;
+use std::sync::Wait;
+use std::thread::{self, Threads, join};
+use std::time::{Clock, Duration};
+
+/// The turn from which on the key is under construction.
+const REQUESTED: u64 = 1;
+
+/// The turn from which on the client waits.
+const WAITS: u64 = 2;
+
+/// The turn from which on it has its outcome.
+const TOLD: u64 = 3;
+
+/// By which step a key gets its outcome.
+#[derive(Clone, Copy)]
+enum Step {
+    Instantiate,
+    Negate,
+    Reject,
+    /// Its handler can't be started.
+    FailedStart,
+    /// Its handler ends, and has not completed it.
+    End,
+}
+
+impl Step {
+    /// The ask by which its handler completes the key, where it does.
+    fn ask(self, alloc: Global, key: i32) -> Result<Option<Ask>, AllocError> {
+        Ok(match self {
+            Step::Instantiate => Some(Ask::Instantiate {
+                key,
+                payload: payload(alloc, b"v")?,
+                ring: 0,
+            }),
+            Step::Negate => Some(Ask::Negate {
+                key,
+                timeout: 30,
+                ring: 0,
+            }),
+            Step::Reject => Some(Ask::Reject {
+                key,
+                timeout: 30,
+                error: KeyError::Rejected,
+                ring: 0,
+            }),
+            Step::FailedStart | Step::End => None,
+        })
+    }
+}
+
+/// A client waits for key 12 on a thread of its own, until this step is done on another.
+#[derive(Clone, Copy)]
+pub struct Waking {
+    step: Step,
+    outcome: Said,
+}
+
+impl Waking {
+    /// Plays it. A wait that nobody ends would last for good.
+    pub fn play<N: Names + Send + Sync, R: Wait + Abort + Threads + Clock + Sync>(
+        self,
+        rt: &R,
+        alloc: Global,
+        halls: Halls<N>,
+    ) {
+        let made = Turns::new();
+        let (lent, turns) = (&halls, &made);
+        let (told, ()) = join(
+            rt,
+            move || waits(rt, alloc, lent, turns),
+            move || self.acts(rt, alloc, lent, turns),
+        );
+        same(rt, (told, made.late()), (self.outcome, 0));
+    }
+
+    /// The first client requests the key, and what is to be done for it is done when the other one waits.
+    fn acts<N: Names, R: Wait + Abort + Clock>(
+        self,
+        rt: &R,
+        alloc: Global,
+        halls: &Halls<N>,
+        turns: &Turns,
+    ) {
+        let mut seat = halls.seat(rt).expect(rt, "a seat");
+        drop(greets(rt, halls, &mut seat));
+        let (receipt, launch) = requests(rt, alloc, halls, &mut seat);
+        drop(receipt);
+        turns.next();
+        if let Step::FailedStart = self.step {
+            is_waited_for(rt, turns);
+            drop(fails(rt, halls, &mut seat, launch));
+        } else {
+            self.handles(rt, alloc, halls, &mut seat, launch, turns);
+        }
+    }
+
+    /// The handler runs, completes the key or not, and ends once the other client was told.
+    fn handles<N: Names, R: Wait + Abort + Clock>(
+        self,
+        rt: &R,
+        alloc: Global,
+        halls: &Halls<N>,
+        seat: &mut Seat<N>,
+        launch: Launch<N>,
+        turns: &Turns,
+    ) {
+        let Owed { value, receipt } = halls.launched(rt, seat, NOW, launch, Ran::Plain);
+        drop(receipt);
+        let running = value.expect(rt, "a handler that runs");
+        let key = running.key();
+        drop(calls(
+            rt,
+            halls,
+            seat,
+            Event::Asked(SessionId::Handler(key), Ask::Assume { key: 12 }),
+        ));
+        is_waited_for(rt, turns);
+        let ask = self.step.ask(alloc, 12).expect(rt, "memory");
+        if let Some(ask) = ask {
+            completes(rt, halls, seat, key, ask);
+            turns.wait(rt, TOLD);
+        }
+        let Owed { value, receipt } = halls.ended(rt, seat, NOW, running, How::Exit(0), None);
+        drop(receipt);
+        refuse_launch(rt, halls, seat, value);
+    }
+}
+
+/// The handler of the key completes it by this ask.
+fn completes<N: Names, R: Wait + Abort>(
+    rt: &R,
+    halls: &Halls<N>,
+    seat: &mut Seat<N>,
+    key: Serial,
+    ask: Ask,
+) {
+    let asked = Event::Asked(SessionId::Handler(key), ask);
+    let done = calls(rt, halls, seat, asked);
+    same(rt, in_words(done.answer()), Said::Number(0));
+}
+
+/// Returns when the client waits, or is about to: a few milliseconds more, so that it is nearly always asleep and needs to be woken.
+fn is_waited_for<R: Clock>(rt: &R, turns: &Turns) {
+    turns.wait(rt, WAITS);
+    let _ = thread::sleep(rt, Duration::from_millis(20));
+}
+
+/// The other client joins the first one's session ring and requests the same key. What it is told in the end.
+fn waits<N: Names, R: Wait + Abort + Clock>(
+    rt: &R,
+    alloc: Global,
+    halls: &Halls<N>,
+    turns: &Turns,
+) -> Said {
+    let mut seat = halls.seat(rt).expect(rt, "a seat");
+    turns.wait(rt, REQUESTED);
+    drop(calls(rt, halls, &mut seat, Event::Opened(OTHER)));
+    let ring = Serial::new(4).expect(rt, "a serial");
+    drop(calls(rt, halls, &mut seat, Event::Asked(OTHER, joining(ring))));
+    let ask = request(alloc, b"a").expect(rt, "an ask");
+    let receipt = calls(rt, halls, &mut seat, Event::Asked(OTHER, ask));
+    same(rt, in_words(receipt.answer()), Said::Waiting(12));
+    turns.next();
+    let outcome = await_outcome(rt, halls, &mut seat, HallNo::Zero, OTHER, NOW);
+    turns.next();
+    in_words(&outcome.value)
+}
+
+#[test]
+fn each_outcome_wakes_who_waits(rt: HostRuntime) {
+    let rows = [
+        (Step::Instantiate, Said::Number(12)),
+        (Step::Negate, Said::Refused(Errno::Enokey)),
+        (Step::Reject, Said::Refused(Errno::Ekeyrejected)),
+        (Step::FailedStart, Said::Refused(Errno::Enokey)),
+        (Step::End, Said::Refused(Errno::Enokey)),
+    ];
+    for (step, outcome) in rows {
+        let waking = Waking { step, outcome };
+        in_new_halls(&rt, rt.alloc(), 100, Scene::Waking(waking));
+    }
+}
