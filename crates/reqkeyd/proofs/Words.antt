@@ -1,5 +1,5 @@
 -- What words that ask for `rejoin` do not ask for.
-use Rattle.std.proofs.Common.{◌≡◌, ◌<◌, ℕ, true, false, List, [], ◌∷◌, length, map, None, true≢false, refl, sym, subst, arith}
+use Rattle.std.proofs.Common.{◌≡◌, ◌<◌, ℕ, true, false, List, [], ◌∷◌, length, map, drop, None, true≢false, refl, sym, subst, arith}
 use Rattle.std.specs.Prelude.{codes}
 use Rattle.std.specs.List.{list_all}
 use Rattle.std.specs.Str.{bytes_eq}
@@ -7,7 +7,7 @@ use Rattle.std.proofs.lemmas.Bool.{and_parts}
 use Rattle.std.proofs.lemmas.List.Folds.{list_all-map}
 use Rattle.std.proofs.lemmas.Slice.Eq.{bytes_eq-Decides}
 use Rattle.reqkeyd.specs.Outcome.{asks_preview, asks_replay, asks_serve}
-use Rattle.reqkeyd.specs.Rejoined.{are_files, asks_rejoin, is_file}
+use Rattle.reqkeyd.specs.Rejoined.{are_files, asks_rejoin, is_file, named_files}
 
 is_rejoin : (name word : List ℕ) (words : List (List ℕ)) → asks_rejoin (name ∷ word ∷ words) ≡ true → word ≡ codes "rejoin"
 is_rejoin name word words e = (bytes_eq-Decides word (codes "rejoin")).0 (and_parts (bytes_eq word (codes "rejoin")) (are_files words) e).0
@@ -32,3 +32,9 @@ no_serve (name ∷ word ∷ words) e = subst (λ (w : List ℕ). asks_serve (nam
 pub files_in : {A : Type 0} (f : A → List ℕ) (ws : List A) → 0 < length ws → list_all (λ w. is_file (f w)) ws ≡ are_files (map f ws)
 files_in f [] h = absurd (omega arith)
 files_in f (w ∷ ws) h = sym (list_all-map is_file f (w ∷ ws))
+
+-- the words behind the first two are the files that are named
+pub files_behind : {A : Type 0} (f : A → List ℕ) (ws : List A) → map f (drop 2 ws) ≡ named_files (map f ws)
+files_behind f [] = refl
+files_behind f (name ∷ []) = refl
+files_behind f (name ∷ word ∷ ws) = refl

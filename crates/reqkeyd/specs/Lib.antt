@@ -1,2 +1,3 @@
+pub mod Disk
 pub mod Outcome
 pub mod Rejoined

@@ -1,6 +1,6 @@
 -- What `rejoin` does on its streams.
-use Rattle.std.specs.Prelude.{◌≡◌, ℕ, Bool, true, false, ◌&&◌, ◌==◌, not, List, [], ◌∷◌, codes, length, Option}
-use Rattle.std.specs.List.{AllByRecursion, list_all}
+use Rattle.std.specs.Prelude.{◌≡◌, ℕ, Bool, true, false, ◌&&◌, ◌==◌, not, List, [], ◌∷◌, map, codes, Option, Ok}
+use Rattle.std.specs.List.{AllZip, list_all}
 use Rattle.std.specs.List.Sorted.{IsPermutation}
 use Rattle.std.specs.Str.{bytes_eq}
 use Rattle.std.specs.Io.KnownBytes.{Appends}
@@ -9,6 +9,7 @@ use Rattle.rk_volumes.specs.declared.stored.Stored.{Stored}
 use Rattle.rk_volumes.specs.Format.{IsStored}
 use Rattle.rk_rejoin.specs.declared.part.Part.{Part}
 use Rattle.rk_rejoin.specs.Judged.{IsRecordOf, negative_of}
+use Rattle.reqkeyd.specs.Disk.{Reading, and_then}
 
 -- a word that is no option
 abbrev pub is_file : List ℕ → Bool
@@ -26,21 +27,35 @@ asks_rejoin [] = false
 asks_rejoin (name ∷ []) = false
 asks_rejoin (name ∷ word ∷ words) = bytes_eq word (codes "rejoin") && are_files words
 
--- some file is the volume
-abbrev pub IsOfSomeFile : Stored → Type 0
-IsOfSomeFile v = (file : List ℕ) × IsStored v.head v.steps.items file
+-- the files that such words name
+abbrev pub named_files : List (List ℕ) → List (List ℕ)
+named_files [] = []
+named_files (name ∷ []) = []
+named_files (name ∷ word ∷ files) = files
 
--- each of so many files is a volume
-abbrev pub AreRead : ℕ → List Stored → Type 0
-AreRead count vs = (length vs ≡ count) × AllByRecursion IsOfSomeFile vs
+-- what was read are bytes, and these are the volume
+abbrev pub IsVolumeIn : Reading → Stored → Type 0
+IsVolumeIn reading v = (bytes : List ℕ) × (reading.outcome ≡ Ok bytes) × IsStored v.head v.steps.items bytes
 
--- the same in some order
-abbrev pub AreOfFiles : ℕ → List Stored → Type 0
-AreOfFiles count vs = (read : List Stored) × AreRead count read × IsPermutation read vs
+-- the file at the path was read, and it is the volume: what was read, before and after
+abbrev pub IsRead : List ℕ → Option (List Reading) → Option (List Reading) → Stored → Type 0
+IsRead path story story' v = (reading : Reading) × (reading.path ≡ path) × IsVolumeIn reading v × (story' ≡ and_then story (reading ∷ []))
 
--- each of so many files is a volume, and the volumes are for each hall a run of the machine from the empty world on, which obeys its laws; that was written
-abbrev pub HasRejoined : ℕ → Option (List ℕ) → Option (List ℕ) → Type 0
-HasRejoined count contents contents' = (vs : List Stored) × (text : List ℕ) × AreOfFiles count vs
+-- each of the files was read once, in their order, and nothing else was; each is the volume in its place: what was read, before and after
+pub record AreRead (files : List (List ℕ)) (story story' : Option (List Reading)) (vs : List Stored) : Type 0 where
+  pub readings : List Reading
+  pub paths : map (λ reading. reading.path) readings ≡ files
+  pub volumes : AllZip IsVolumeIn readings vs
+  pub told : story' ≡ and_then story readings
+
+-- the same, with the volumes in some order
+abbrev pub AreOfFiles : List (List ℕ) → Option (List Reading) → Option (List Reading) → List Stored → Type 0
+AreOfFiles files story story' vs = (read : List Stored) × AreRead files story story' read × IsPermutation read vs
+
+-- each of the files is a volume, and the volumes are for each hall a run of the machine from the empty world on, which obeys its laws; some text was
+-- written: what was read, and what was written, before and after
+abbrev pub HasRejoined : List (List ℕ) → Option (List Reading) → Option (List Reading) → Option (List ℕ) → Option (List ℕ) → Type 0
+HasRejoined files story story' contents contents' = (vs : List Stored) × (text : List ℕ) × AreOfFiles files story story' vs
     × ((part : Part) × IsRecordOf (negative_of vs) vs hall.Zero part) × ((part : Part) × IsRecordOf (negative_of vs) vs hall.One part)
     × ((part : Part) × IsRecordOf (negative_of vs) vs hall.Two part) × ((part : Part) × IsRecordOf (negative_of vs) vs hall.Three part)
     × Appends contents contents' text

@@ -5,18 +5,21 @@
 //! what is wrong with it, and what it would start (docs/CONFIGURATION.md). `reqkeyd rejoin` tells of the files of a record whether they are a run of the
 //! machine (docs/RECORD.md).
 //!
-//! All that it does is one call, [`run::run_words`], over the words, the streams and the process that are passed in.
+//! All that it does is one call, [`run::run_words`], over the words, the streams, the process and the disk that are passed in.
 #![tactic(auto)]
 
 mod args;
+mod disk;
 mod preview_args;
 mod rejoining;
 mod run;
 mod showing;
+mod system_disk;
 
 use std::env;
 use std::io::ErrorKind;
 use std::process::ExitCode;
+use system_disk::SystemDisk;
 
 fn main(rt: HostRuntime) -> ExitCode {
     let mut errors = rt.stderr();
@@ -31,6 +34,14 @@ fn main(rt: HostRuntime) -> ExitCode {
         Err(_) => return ExitCode::from(run::usage(&mut errors)),
     };
     let (mut reader, mut writer) = (rt.stdin(), rt.stdout());
-    let status = run::run_words(&rt, words.as_slice(), &mut reader, &mut writer, &mut errors);
+    let mut disk = SystemDisk::new(&rt);
+    let status = run::run_words(
+        &rt,
+        &mut disk,
+        words.as_slice(),
+        &mut reader,
+        &mut writer,
+        &mut errors,
+    );
     ExitCode::from(status)
 }

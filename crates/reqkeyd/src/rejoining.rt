@@ -1,12 +1,12 @@
 //! `rejoin`: what the volumes of a record are, written.
-ghost use Rattle.std.specs.Prelude.{◌≡◌, ◌≤◌, IfOk, length};
-ghost use Rattle.reqkeyd.specs.Rejoined.{HasRejoined, AreOfFiles, AreRead, IsOfSomeFile};
+ghost use Rattle.std.specs.Prelude.{◌≡◌, ◌≤◌, IfOk, map, string_bytes};
+ghost use Rattle.reqkeyd.specs.Rejoined.{HasRejoined, AreOfFiles, AreRead, IsRead};
 
+use crate::disk::{Disk, ReadFault};
 use crate::run::{FAILED, tell};
 use rk_rejoin::judge;
 use rk_volumes::{Fault, Stored};
-use std::fs;
-use std::fs::Files;
+use std::alloc::Global;
 use std::io::Write;
 
 /// Why files were not judged.
@@ -20,20 +20,20 @@ enum Unread<'a> {
     NoMemory,
 }
 
-/// Reads the files, and writes what the volumes in them are. The status is 1, with a line on `errors`, where a file can't be read or is no volume, where
-/// the volumes are no run of the machine, for want of memory, or where `writer` fails.
-pub fn rejoin<R: Files + AllocGlobal, W: Write, E: Write>(
-    rt: &R,
+/// Has `disk` read the files, each once, and writes what the volumes in them are. The status is 1, with a line on `errors`, where a file can't be read or
+/// is no volume, where the volumes are no run of the machine, for want of memory, or where `writer` fails.
+pub fn rejoin<D: Disk, W: Write, E: Write>(
+    alloc: Global,
+    disk: &mut D,
     files: &[String],
     writer: &mut W,
     errors: &mut E,
 ) -> u8
-    ensures rejoined { result ≡ 0 → HasRejoined (length files.now) (W.contents writer.old) (W.contents writer.new) }
+    ensures rejoined { result ≡ 0 → HasRejoined (map string_bytes files.now) (D.story disk.old) (D.story disk.new) (W.contents writer.old) (W.contents writer.new) }
     ensures quiet { result ≡ 0 → errors.new ≡ errors.old }
     ensures status { result ≤ 1 }
 {
-    let alloc = rt.alloc();
-    let volumes = match volumes_of(rt, files) {
+    let volumes = match volumes_of(alloc, disk, files) {
         Ok(volumes) => volumes,
         Err(why) => return refused(why, errors),
     };
@@ -56,13 +56,14 @@ pub fn rejoin<R: Files + AllocGlobal, W: Write, E: Write>(
 }
 
 /// The volumes of the files, by hall and index.
-fn volumes_of<'a, R: Files + AllocGlobal>(
-    rt: &R,
+fn volumes_of<'a, D: Disk>(
+    alloc: Global,
+    disk: &mut D,
     files: &'a [String],
 ) -> Result<Vec<Stored>, Unread<'a>>
-    ensures read { IfOk result (λ vs. AreOfFiles (length files.now) vs.items) }
+    ensures read { IfOk result (λ vs. AreOfFiles (map string_bytes files.now) (D.story disk.old) (D.story disk.new) vs.items) }
 {
-    let mut volumes = read_all(rt, files)?;
+    let mut volumes = read_all(alloc, disk, files)?;
     let Ok(()) = volumes.sort_by_key(|volume| (volume.head.hall.number(), volume.head.index)) else {
         return Err(Unread::NoMemory);
     };
@@ -70,15 +71,16 @@ fn volumes_of<'a, R: Files + AllocGlobal>(
 }
 
 /// The volumes of the files, in their order.
-fn read_all<'a, R: Files + AllocGlobal>(
-    rt: &R,
+fn read_all<'a, D: Disk>(
+    alloc: Global,
+    disk: &mut D,
     files: &'a [String],
 ) -> Result<Vec<Stored>, Unread<'a>>
-    ensures { IfOk result (λ vs. AreRead (length files.now) vs.items) }
+    ensures { IfOk result (λ vs. AreRead (map string_bytes files.now) (D.story disk.old) (D.story disk.new) vs.items) }
 {
-    let mut volumes = Vec::new(rt.alloc());
+    let mut volumes = Vec::new(alloc);
     for file in files {
-        let Ok(()) = volumes.push(read(rt, file.as_str())?) else {
+        let Ok(()) = volumes.push(read(alloc, disk, file.as_str())?) else {
             return Err(Unread::NoMemory);
         };
     }
@@ -86,13 +88,15 @@ fn read_all<'a, R: Files + AllocGlobal>(
 }
 
 /// The volume of a file.
-fn read<'a, R: Files + AllocGlobal>(rt: &R, file: &'a str) -> Result<Stored, Unread<'a>>
-    ensures { IfOk result (λ v. IsOfSomeFile v) }
+fn read<'a, D: Disk>(alloc: Global, disk: &mut D, file: &'a str) -> Result<Stored, Unread<'a>>
+    ensures { IfOk result (λ v. IsRead file.now (D.story disk.old) (D.story disk.new) v) }
 {
-    let Ok(bytes) = fs::read(rt, file) else {
-        return Err(Unread::File(file));
+    let bytes = match disk.read(file) {
+        Ok(bytes) => bytes,
+        Err(ReadFault::Unreadable) => return Err(Unread::File(file)),
+        Err(ReadFault::NoMemory) => return Err(Unread::NoMemory),
     };
-    match Stored::read(rt.alloc(), &bytes) {
+    match Stored::read(alloc, &bytes) {
         Ok(volume) => Ok(volume),
         Err(Fault::NoMemory) => Err(Unread::NoMemory),
         Err(fault) => Err(Unread::Volume(file, fault)),

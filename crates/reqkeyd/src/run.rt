@@ -1,13 +1,14 @@
 //! What the words ask for, done over the streams that are passed in.
-ghost use Rattle.std.specs.Prelude.{◌≡◌, ◌≤◌, ◌+◌, ◌-◌, length, true, false, None, map, string_bytes, IfOk, IfSome, OnErr, IsSome, MatchOption, option_map};
+ghost use Rattle.std.specs.Prelude.{◌≡◌, ◌≤◌, true, false, None, map, string_bytes, IfOk, IfSome, OnErr, IsSome, MatchOption, option_map};
 ghost use Rattle.std.specs.List.{list_all};
 ghost use Rattle.std.specs.Io.KnownBytes.{Appends};
 ghost use Rattle.rk_preview.specs.Views.{asked_by};
 ghost use Rattle.rk_daemon.specs.Settings.{set_by};
-ghost use Rattle.reqkeyd.specs.Rejoined.{are_files, asks_rejoin, is_file, HasRejoined};
+ghost use Rattle.reqkeyd.specs.Rejoined.{are_files, asks_rejoin, is_file, named_files, HasRejoined};
 ghost use Rattle.reqkeyd.specs.Outcome.{asks_preview, asks_replay, asks_serve, HasPlayed, HasShown, HasTold};
 
 use crate::args::{command, is_memory};
+use crate::disk::Disk;
 use crate::rejoining::rejoin;
 use crate::showing::show;
 use clap::Error;
@@ -109,8 +110,8 @@ fn is_replay(words: &[String]) -> bool
 /// The first word is the name of the program. Where `replay` is the only other one, a script is read from `reader` and played to
 /// `writer`. For all other words nothing is read. `serve` with its options runs the daemon, to its end: 1 where it could not begin, with the fault on
 /// `errors`. `check` and `pick` with theirs write what a configuration has to say: 1 where it can't be read, has a fault or chooses no line, with that on
-/// `errors`. `rejoin` with files tells whether they are a run of the machine: 0 where they are, else 1, with why not on `errors`. Help and the version are
-/// asked for, so they are written to `writer` with status 0.
+/// `errors`. `rejoin` with files has `disk` read them, and tells whether they are a run of the machine: 0 where they are, else 1, with why not on `errors`.
+/// Help and the version are asked for, so they are written to `writer` with status 0.
 pub fn run_words<
     R: Files
         + Net
@@ -127,10 +128,11 @@ pub fn run_words<
         + Send
         + Drop
         + 'static,
+    D: Disk,
     I: Read,
     W: Write,
     E: Write,
->(rt: &R, words: &[String], reader: &mut I, writer: &mut W, errors: &mut E) -> u8
+>(rt: &R, disk: &mut D, words: &[String], reader: &mut I, writer: &mut W, errors: &mut E) -> u8
     // `replay` and nothing else: with status 0 it has written the lines of a served list for the happenings of the script that it read.
     ensures played { asks_replay (map string_bytes words.now) ≡ true → result ≡ 0
         → HasPlayed (I.remaining reader.old) (W.contents writer.old) (W.contents writer.new) }
@@ -141,10 +143,12 @@ pub fn run_words<
         → HasShown asked (W.contents writer.old) (W.contents writer.new)) }
     ensures looks { IsSome (asks_preview (map string_bytes words.now)) → result ≤ 1 }
 
-    // `rejoin` and files: with status 0 the volumes of as many files are, for each hall, a run of the machine that obeys its laws.
+    // `rejoin` and files: with status 0 each of the files was read once, and the volumes in them are, for each hall, a run of the machine that obeys its
+    // laws. For other words the disk reads nothing.
     ensures rejoined { asks_rejoin (map string_bytes words.now) ≡ true → result ≡ 0
-        → HasRejoined (length words.now - 2) (W.contents writer.old) (W.contents writer.new) }
+        → HasRejoined (named_files (map string_bytes words.now)) (D.story disk.old) (D.story disk.new) (W.contents writer.old) (W.contents writer.new) }
     ensures joins { asks_rejoin (map string_bytes words.now) ≡ true → result ≤ 1 }
+    ensures unasked { asks_rejoin (map string_bytes words.now) ≡ false → disk.new ≡ disk.old }
 
     // other words than `replay`: nothing is read; help and version are told with status 0, and nothing is with status 2.
     ensures unread { asks_replay (map string_bytes words.now) ≡ false → reader.new ≡ reader.old }
@@ -156,10 +160,10 @@ pub fn run_words<
     ensures quiet { asks_serve (map string_bytes words.now) ≡ None → result ≡ 0 → errors.new ≡ errors.old }
     ensures status { result ≤ 2 }
 {
-    if let Some(files) = files_of(words) {
-        return rejoin(rt, files, writer, errors);
-    }
     let alloc = rt.alloc();
+    if let Some(files) = files_of(words) {
+        return rejoin(alloc, disk, files, writer, errors);
+    }
     if is_replay(words) {
         return replay(alloc, reader, writer, errors);
     }
@@ -188,7 +192,7 @@ fn preview_of<'a>(alloc: Global, words: &'a [String]) -> Result<Option<Preview<'
 /// The files of words that ask whether they are a run of the machine.
 fn files_of(words: &[String]) -> Option<&[String]>
     ensures { MatchOption result (asks_rejoin (map string_bytes words.now) ≡ false)
-        (λ files. (asks_rejoin (map string_bytes words.now) ≡ true) × (length files.now + 2 ≡ length words.now)) }
+        (λ files. (asks_rejoin (map string_bytes words.now) ≡ true) × (map string_bytes files.now ≡ named_files (map string_bytes words.now))) }
 {
     match words {
         [_, word, files @ ..] if word.as_str() == "rejoin" && are_files(files) => Some(files),
