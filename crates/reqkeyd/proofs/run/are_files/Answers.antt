@@ -1,4 +1,4 @@
-use Rattle.std.proofs.Common.{rules, ◌≡◌, ◌∙◌, ◌<◌, length, string_bytes}
+use Rattle.std.proofs.Common.{rules, ◌∙◌, ◌<◌, length, string_bytes}
 use Rattle.reqkeyd.proofs.Words.{files_in}
 use Rattle.reqkeyd.proofs.run.are_files.Goals as goal
 
