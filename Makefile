@@ -18,7 +18,7 @@ ZSH_DIR = $(PREFIX)/share/zsh/site-functions
 PYTHON_DIR = $(shell python3 -c 'import site, sys; \
 	print(next((it for it in site.getsitepackages() if it.startswith(sys.argv[1])), sys.argv[1] + "python3/dist-packages"))' '$(PREFIX)/lib/')
 
-.PHONY: all bench quick check demo soak install uninstall deb completion pictures clean help toolchain
+.PHONY: all bench quick check cost edits demo soak install uninstall deb completion pictures clean help toolchain
 
 all: $(addprefix build/,$(PROGRAMS))  ## Prove and build the programs, into build/
 
@@ -29,11 +29,16 @@ bench: all  ## Prove and build the programs, and build their peers in C, into bu
 # What a program is made of: any change of a crate makes it anew.
 SOURCES := $(shell find crates -path '*/out' -prune -o -type f \( -name '*.rt' -o -name '*.antt' \) -print) crates.txt
 
-# The log has a verdict for each library too; the last one is the program's.
-build/%: $(SOURCES)
+build/proved: $(SOURCES)
 	@$(MAKE) --no-print-directory toolchain
 	@mkdir -p build
-	@echo "Proving and building $*; the first time takes some minutes (build/$*.log)"
+	@echo "Proving the crates; the first time takes an hour or so (build/prove.log)"
+	@tools/prove.py build/prove.log || { echo "A crate is not proved: build/prove.log says why." >&2; exit 1; }
+	@touch $@
+
+# The crates below are proved; the last verdict of the log is the program's.
+build/%: build/proved
+	@echo "Building $* (build/$*.log)"
 	@rm -f crates/$*/out/$*
 	@cd crates/$* && { rt run -- --version < /dev/null > ../../build/$*.log 2>&1 || true; }
 	@grep '^logic=' build/$*.log | tail -n 1 | grep -q '^logic=proved' && [ -x crates/$*/out/$* ] || { \
@@ -56,22 +61,38 @@ quick: toolchain  ## Check what changed since the last time, over kept work, in 
 check: toolchain  ## Prove every crate and pass all tests; the last line counts them. With ANEW=1 nothing is taken from earlier runs
 	@bash tests/check.sh
 
+# The crates of which `make cost` tells; none for all.
+CRATES =
+
+cost:  ## List the functions that are the dearest to prove, of what the last checks kept; of some crates with CRATES=
+	@tools/cost.py $(CRATES)
+
+edits: toolchain  ## Try all edits that must fail, and write edits.lock, which lists what was refused. With ANEW=1 nothing is taken from earlier runs
+	@tests/test_edits.py --lock
+
 # The library for keyutils' own programs.
 $(BUILT)/libkeyutils.so.1: $(wildcard clients/keyutils/*) clients/c/reqkey.c clients/c/reqkey.h
 	@$(MAKE) --no-print-directory -C clients/keyutils OUT=$(abspath $(BUILT))
 
+# The program for those that make the system calls themselves.
+$(BUILT)/reqkey-trap: $(wildcard clients/trap/* clients/keyutils/*) clients/c/reqkey.c clients/c/reqkey.h
+	@$(MAKE) --no-print-directory -C clients/trap OUT=$(abspath $(BUILT))
+
+# What is installed beside the programs, and is written in C.
+IN_C = $(BUILT)/libkeyutils.so.1 $(BUILT)/reqkey-trap
+
 INSTALL = BUILT='$(BUILT)' PREFIX='$(PREFIX)' DESTDIR='$(DESTDIR)' ZSH_DIR='$(ZSH_DIR)' PYTHON_DIR='$(PYTHON_DIR)' packaging/install.sh
 
-install: $(addprefix $(BUILT)/,$(PROGRAMS)) $(BUILT)/libkeyutils.so.1  ## Install what is built, below PREFIX=/usr/local (docs/INSTALL.md)
+install: $(addprefix $(BUILT)/,$(PROGRAMS)) $(IN_C)  ## Install what is built, below PREFIX=/usr/local (docs/INSTALL.md)
 	@$(INSTALL) install
 
 uninstall:  ## Remove what make install has put there
 	@$(INSTALL) uninstall
 
-deb: $(addprefix $(BUILT)/,$(PROGRAMS)) $(BUILT)/libkeyutils.so.1  ## Make a Debian package of the same, into build/
+deb: $(addprefix $(BUILT)/,$(PROGRAMS)) $(IN_C)  ## Make a Debian package of the same, into build/
 	@BUILT='$(BUILT)' PACKAGES='$(PACKAGES)' packaging/debian/build.sh
 
-completion: $(addprefix $(BUILT)/,$(PROGRAMS))  ## Write packaging/completion/ anew, of what the programs say of themselves
+completion: $(addprefix $(BUILT)/,$(PROGRAMS)) $(BUILT)/reqkey-trap  ## Write packaging/completion/ anew, of what the programs say of themselves
 	@tools/completion.py $(BUILT) packaging/completion
 
 pictures:  ## Draw docs/pictures/ anew, of crates.txt and the tables of tools/picture.py, and bench/pictures/, of bench/README.md
@@ -92,5 +113,7 @@ help:  ## List the targets
 
 toolchain:
 	@command -v rt > /dev/null || { \
-		echo "The Rattle toolchain is not here: its command rt has to be on the PATH (README.md)." >&2; \
+		echo "The Rattle toolchain is not here: its command rt has to be on the PATH. It is no part of these sources, and" >&2; \
+		echo "no public place of it is known here: ask whoever gave you the sources (README.md, \"Build and install\")." >&2; \
+		echo "Built programs are installed without it: make install BUILT=FOLDER, with reqkeyd and reqkeyctl there." >&2; \
 		exit 1; }

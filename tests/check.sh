@@ -1,17 +1,23 @@
 #!/usr/bin/env bash
 # Runs the toolchain's gate, then each test program of this folder, and adds up what passed and failed.
 #
-# The gate proves every crate and its tests, tries the edits of crates/NAME/must-fail one by one, and runs the tests and the programs. What earlier runs on
-# this machine proved or refused of the same files is taken as they kept it, but where ANEW is in the environment. A test of this folder is an executable
-# test_*.sh or test_*.py; its last line is `N passed, M failed`, and what it prints before that tells what failed. The log ends with what each program took
-# of processors, the dearest last, with the last ten lines from each one that failed, and with the names of those.
+# The gate proves every crate and its tests, tries the edits of crates/NAME/must-fail, and runs the tests and the programs. What earlier runs on this
+# machine proved or refused of the same files, and the edits that edits.lock lists, are not done again unless ANEW is in the environment. Each
+# verdict is kept as soon as it is there, so that a run that was cut off goes on where it was. A test of this folder is an executable test_*.sh or test_*.py;
+# its last line is `N passed, M failed`, and what it prints before that tells what failed. The log ends with what was taken from earlier runs, with what each
+# part took of processors, the dearest last, with the last ten lines from each one that failed, and with the names of those.
 set -uo pipefail
 cd "$(dirname "$0")/.."
+
+# A second job of a proof costs a quarter more. On two processors other proofs fill them; with more, the longest chain of crates takes those that are spare.
+processors=$(nproc)
+[[ $processors -gt 2 ]] || export RT_JOBS=${RT_JOBS:-$processors}
 
 passed=0
 failed=0
 names=()
 again=$(mktemp)
+earlier=$(mktemp)
 taken=$(mktemp)
 used=$(mktemp)
 
@@ -23,7 +29,7 @@ fail() {
     if [[ $name == "rt ci"* ]]; then
         grep -aE 'NOT PROVED|NOT REFUSED|BAD EDIT|FAILED|ended with status|differ first' "$log"
     else
-        grep -avE '^[0-9]+ passed, [0-9]+ failed$|: not (tried|looked for)|edits in [0-9]+ checks|^processor seconds|^$' "$log"
+        grep -avE '^[0-9]+ passed, [0-9]+ failed$|: not (tried|looked for)|edits in [0-9]+ checks|^(taken|processor seconds)|^$' "$log"
     fi | tail -n 10 | cut -c1-200 | sed "s/^/$name| /" >> "$again"
 }
 
@@ -56,6 +62,7 @@ count() {
         echo "ended without a count, status $status" >> "$log"
         fail 1 "$log" "$name"
     fi
+    sed -n 's/^rt: ok.*\(done in this run\|every proof and\)/rt ci: \1/p; s/^taken: /edits: /p' "$log" >> "$earlier"
     rm -f "$log"
     processors
     echo "$((seconds - before)) $name" >> "$taken"
@@ -67,11 +74,12 @@ export PROVED=1
 for test in tests/test_*; do
     [[ -x $test ]] && count "$test"
 done
+cat "$earlier"
 echo "processor seconds:"
 sort -n "$taken"
-echo "$seconds in all"
+echo "$seconds in all, in $((SECONDS / 60)) minutes on $processors processors"
 cat "$again"
-rm -f "$taken" "$used" "$again"
+rm -f "$earlier" "$taken" "$used" "$again"
 [[ ${#names[@]} -eq 0 ]] || printf '%s\n' "${names[@]}"
 echo "$passed passed, $failed failed"
 [[ $failed -eq 0 ]]

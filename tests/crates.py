@@ -1,5 +1,6 @@
 """The crates of the repository, as crates.txt lists them."""
 import hashlib
+import os
 import pathlib
 
 top = pathlib.Path(__file__).resolve().parent.parent
@@ -38,10 +39,15 @@ def below(used, name):
     return {it for dep in used[name] for it in {dep} | below(used, dep)}
 
 
-def digest(folder, parts=PARTS):
-    """What the files of a crate are, in one number."""
-    files = sorted(path for part in parts for path in (folder / part).rglob("*") if path.is_file())
+def digest(folder, parts=PARTS, but=()):
+    """What the files of these folders are, but those of some names, in one number."""
+    files = sorted(path for part in parts for path in (folder / part).rglob("*") if path.is_file() and path.name not in but)
     said = hashlib.sha256()
     for path in files:
         said.update(f"{path.relative_to(folder)} {hashlib.sha256(path.read_bytes()).hexdigest()}\n".encode())
     return said.hexdigest()
+
+
+def jobs():
+    """How many checks to run side by side: RT_JOBS of the environment, as the toolchain reads it, or as many as there are processors."""
+    return int(os.environ.get("RT_JOBS") or len(os.sched_getaffinity(0)))

@@ -2,23 +2,29 @@
 
 An edit is a wrong body: a file with a line `file: src/NAME.rt` and then pairs of lines `old: TEXT` and `new: TEXT`, where each old text stands
 once in what the pairs before it made of that file, or is one whole line of it. The prover checks each function against its own contract and its
-callees' contracts, so the edits of different functions say nothing of one another. They are made together in a copy, which is checked once; where two
-stand in one function, the second is made in a twin of it (twins.py). An edit is refused where a function in which it stands has an open goal of its
-own; a function that only calls one that isn't proved counts for nothing, and neither does one whose proof names what the edit took away, since that
-says nothing of its contract: an edit changes a value and keeps the names.
+callees' contracts, so the edits of different functions say nothing of one another. They are made together in a copy, which is checked once; if two
+stand in one function, the second is made in a twin of it (twins.py).
+
+An edit is refused if a function in which it stands has an open goal of its own: one that the search did not prove, or an answer that no longer fits.
+It counts for nothing that a function calls one that isn't proved, that its proof names what the edit took away, or that the prover doesn't cover it, as
+after `let _ = (a, b);` of references: that says nothing of its contract. So an edit changes a value and keeps the names.
 """
 import difflib
 import re
 
-# What the check says of a function that isn't proved.
-UNPROVED = re.compile(r"^fn (\S+): (.*did not prove.*)$", re.M)
-# What it says of a proof file whose answer no longer fits its goal; where the answer names what an edit took away, that says nothing of the contract.
-WRONG_ANSWER = re.compile(r"^(?:\./)?(proofs/(\S+)/\w+\.antt):(\d+):\d+: error: (.*)$", re.M)
+# What the check says of a function, and of one with a goal that the search did not prove.
+SAID = re.compile(r"^fn (\S+): (.*)$", re.M)
+UNPROVED = re.compile(r"^fn (\S+): (?!.*does not cover).*did not prove", re.M)
+# The place of such a goal. This alone is said if an answer of the function names what isn't there.
+OPEN_GOAL = re.compile(r"^note: (src/\S+?):(\d+):\d+: it is not proved", re.M)
+# What it says of a proof file whose answer or invariant no longer fits.
+WRONG_ANSWER = re.compile(r"^(?:\./)?(proofs/(\S+)/(\w+)\.antt):(\d+):\d+: error: (.*)$", re.M)
 # An answer of a cycle of calls, whose functions have one file: it begins with the path of its function.
 OF_CYCLE = re.compile(r"pub ((?:\w+::)+\w+)-")
+# What it says of an answer that names what isn't there.
 NAMES = re.compile(r"has no field|is not in scope|has no `|was not admitted")
 FUNCTION = re.compile(r"( *)(?:pub(?:\([a-z]+\))? )?(?:const )?fn (\w+)")
-IMPL = re.compile(r"impl\b(?:<.*?>)? ?(?:(\w+)(?:<.*>)? for )?(\w+)")
+IMPL = re.compile(r"impl\b(?:<.*?>)? ?(?:(?:\w+::)*(\w+)(?:<.*>)? for )?(?:\w+::)*(\w+)")
 
 
 class BadEdit(Exception):
@@ -33,6 +39,8 @@ class Edit:
         self.changes = {}
         self.places = set()
         self.proofs = {}
+        # what a twin has in their place when nothing is wrong
+        self.right = {}
         for file, text in made(path.read_text(), crate).items():
             before = (crate / file).read_text()
             lines = text.split("\n")
@@ -41,7 +49,7 @@ class Edit:
             self.places |= {place(file, before, line) for first, end, _ in self.changes[file] for line in range(first, max(end, first + 1))}
 
     def functions(self):
-        """The functions in which it stands; none where a part of it stands outside of all."""
+        """The functions in which it stands; none if a part of it stands outside of all."""
         return set() if None in self.places else self.places
 
 
@@ -76,7 +84,7 @@ def replaced(text, old, new, file):
 
 
 def place(file, text, line):
-    """The function in which a line stands: its module path, its block, and its name. None where it stands in none."""
+    """The function in which a line stands: its module path, its block, and its name. None if it stands in none."""
     for block, name, first, last in spans(text):
         if first <= line <= last:
             return module(file), block, name
@@ -119,8 +127,17 @@ def make(edits, crate):
 
 def opened(log, crate):
     """The paths of the functions that have an open goal or a wrong answer of their own, in what a check of this crate said."""
-    paths = {tuple(path.split("::")[1:]) for path, _ in UNPROVED.findall(log)}
-    return paths | {answered(crate / file, folder, int(line)) for file, folder, line, said in WRONG_ANSWER.findall(log) if not NAMES.search(said)}
+    paths = {tuple(path.split("::")[1:]) for path in UNPROVED.findall(log)}
+    unbound = set()
+    for file, folder, kind, line, said in WRONG_ANSWER.findall(log):
+        path = answered(crate / file, folder, int(line))
+        if not NAMES.search(said):
+            paths.add(path)
+        elif kind == "Invariants" or "`goal." in said:
+            unbound.add(path)
+    # (a loop whose invariant names what isn't there has none, and a goal that has another name now has no answer: open whatever the body does)
+    noted = {place(file, (crate / file).read_text(), int(line) - 1) for file, line in OPEN_GOAL.findall(log)} - {None}
+    return paths | {path_of(*it) for it in noted if not any(is_path(path, *it) for path in unbound)}
 
 
 def answered(file, folder, line):
@@ -137,12 +154,23 @@ def is_refused(edit, paths):
     return any(is_path(path, *function) for path in paths for function in edit.functions())
 
 
+def said_of(edit, log):
+    """What the check says of the functions in which an edit stands."""
+    said = [line for path, line in SAID.findall(log) if any(is_path(tuple(path.split("::")[1:]), *it) for it in edit.functions())]
+    return "; ".join(said)[:400] or "the check says nothing of it"
+
+
 def is_path(path, inside, block, name):
-    """Whether a path of the check is that of a function. A method's path has the module and the name of its type, wherever the method stands, and behind
+    """Whether a path of the check is that of a function. A method's path has the module and the name of its type, wherever the method stands, and after
     that name a trait's, with the trait's arguments."""
     if any(block):
         return path[-1] == name and len(path) > 1 and path[-2].startswith("".join(block))
     return path == (*inside, name)
+
+
+def path_of(inside, block, name):
+    """A path that is that of a function."""
+    return (*inside, "".join(block), name) if any(block) else (*inside, name)
 
 
 def asked(inside, block, name):

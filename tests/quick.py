@@ -14,12 +14,12 @@ import time
 import crates
 
 kept = crates.top / "build" / "quick"
-OF_PROGRAMS = ["replay", "replay_growths", "words", "pick", "client", "clients", "keyutils", "serve", "manuals", "completion", "install",
-               "record", "demo"]
+OF_PROGRAMS = ["replay", "replay_growths", "words", "pick", "client", "clients", "keyutils", "keyutils_habits", "trap", "serve", "manuals",
+               "completion", "install", "record", "demo"]
 # what those that play what documents show are made of, beside the programs
 OF_DOCUMENTS = {
     "record": ["tests/test_record.py", "docs/RECORD.md"],
-    "demo": ["tests/test_demo.py", "README.md", "docs/RECORD.md", "Makefile", "examples", "tools/script.py"],
+    "demo": ["tests/test_demo.py", "README.md", "docs/RECORD.md", "docs/TUTORIAL.md", "clients/c", "Makefile", "examples", "tools/script.py"],
 }
 
 

@@ -7,31 +7,40 @@ import tempfile
 
 import crates
 from counted import Counted
-from verdicts import Verdicts
+from verdicts import Verdicts, lock_file
 
 count = Counted()
 # a crate, the one below it, and one that is not
 TRIED, BELOW, APART = "rk_options", "rk_text", "rk_variables"
 
 
+def verdicts():
+    return Verdicts([TRIED], crates.uses(), crates.top / "crates")
+
+
 def kept():
-    """Whether the edits of the crate count as refused."""
-    return Verdicts([TRIED], crates.uses()).kept() == [TRIED]
+    """Whether the edits of the crate count as refused on this machine."""
+    return verdicts().is_kept(TRIED, has_control=False)
 
 
-def changed(file):
+def locked():
+    """Whether edits.lock lists them."""
+    return verdicts().locked() == [TRIED]
+
+
+def changed(file, asked=kept):
     """Whether they do while this file has one more line, which is taken away again."""
     path = crates.top / file
     before = path.read_bytes()
     path.write_bytes(before + b"\n")
-    said = kept()
+    said = asked()
     path.write_bytes(before)
     return said
 
 
-def some(name, part):
+def some(name, part, pattern="*"):
     """A file of a part of a crate."""
-    return next(it for it in sorted((crates.top / "crates" / name / part).rglob("*")) if it.is_file()).relative_to(crates.top)
+    return next(it for it in sorted((crates.top / "crates" / name / part).rglob(pattern)) if it.is_file()).relative_to(crates.top)
 
 
 with tempfile.TemporaryDirectory() as name:
@@ -40,12 +49,16 @@ with tempfile.TemporaryDirectory() as name:
         shutil.copy(crates.top / part, room)
     for crate in [*crates.below(crates.uses(), TRIED), TRIED, APART]:
         shutil.copytree(crates.top / "crates" / crate, room / "crates" / crate, ignore=shutil.ignore_patterns("out"))
+        # what a build leaves of a library, in a line
+        interface = room / "crates" / crate / "out" / "rlib" / f"{crate}.rlib" / "interface" / "lib.rt"
+        interface.parent.mkdir(parents=True)
+        interface.write_text(f"pub fn of_{crate} ( ) ;\n")
     crates.top = room
     os.environ.pop("ANEW", None)
     os.environ["XDG_CACHE_HOME"] = str(room / "cache")
 
     count.same("nothing is kept at first", kept(), False)
-    first = Verdicts([TRIED], crates.uses())
+    first = verdicts()
     source = room / some(TRIED, "src")
     text = source.read_bytes()
     source.write_bytes(text + b"\n")
@@ -55,20 +68,47 @@ with tempfile.TemporaryDirectory() as name:
     count.same("nor when they are as before", kept(), False)
     first.keep(TRIED)
     count.same("what was refused is kept", kept(), True)
-    for what, file in [("an edit", some(TRIED, "edits")), ("a source", some(TRIED, "src")), ("a definition", some(TRIED, "specs")),
-                       ("a source below", some(BELOW, "src")), ("HANDLES", "HANDLES")]:
-        count.same(f"another line in {what}", changed(file), False)
-    count.same("a line of a crate that is not below", changed(some(APART, "src")), True)
+    count.same("and not in the lock", lock_file().exists(), False)
+    for what, file, want in [
+        ("an edit", some(TRIED, "edits"), False),
+        ("a source", some(TRIED, "src"), False),
+        ("a definition", some(TRIED, "specs"), False),
+        ("a definition below", some(BELOW, "specs"), False),
+        ("a lemma below", some(BELOW, "proofs", "Cuts.antt"), False),
+        ("an interface below", some(BELOW, "out"), False),
+        ("a body below", some(BELOW, "src"), True),
+        ("an answer below", some(BELOW, "proofs", "Answers.antt"), True),
+        ("a crate that is not below", some(APART, "src"), True),
+        ("HANDLES", "HANDLES", False),
+    ]:
+        count.same(f"another line in {what}", changed(file), want)
     lines = (room / "crates.txt").read_text()
     (room / "crates.txt").write_text(lines.replace(f"{TRIED}: ", f"{TRIED}: {APART} "))
     count.same("one more library", kept(), False)
     (room / "crates.txt").write_text(lines)
+
+    lock_file().write_text(f"{APART} 0\n")
+    first.keep(TRIED, in_lock=True)
+    count.same("the lock has a line of it, beside those that it had", [it.split()[0] for it in lock_file().read_text().splitlines()], [TRIED, APART])
+    count.same("and it counts", locked(), True)
+    count.same("not for another source", changed(some(TRIED, "src"), locked), False)
+    written = lock_file().read_text()
+    lock_file().write_text(written.replace(first.sums[TRIED], first.sums[TRIED][::-1]))
+    count.same("nor by a line with another sum", locked(), False)
+    shutil.rmtree(room / "cache")
+    count.same("so the edits are tried", verdicts().taken(for_lock=False), {})
+    lock_file().write_text(written)
+    count.same("of what the lock lists some is drawn: of one crate, that one", verdicts().taken(for_lock=False), {})
+    first.keep(TRIED)
+    count.same("what is kept is taken", [*verdicts().taken(for_lock=False)], [TRIED])
+    count.same("not for a line of the lock, which wants a control", verdicts().taken(for_lock=True), {})
+    first.keep(TRIED, in_lock=True)
+    count.same("and one that had it is", [*verdicts().taken(for_lock=True)], [TRIED])
     os.environ["ANEW"] = "1"
-    count.same("where all are to be tried again", kept(), False)
+    count.same("but where all are to be tried again", verdicts().taken(for_lock=False), {})
     del os.environ["ANEW"]
-    count.same("and then", kept(), True)
     os.environ["XDG_CACHE_HOME"] = "cache"
-    Verdicts([TRIED], crates.uses()).keep(TRIED)
+    verdicts().keep(TRIED)
     count.same("a cache that is relative", kept(), False)
     count.same("makes no folder", pathlib.Path("cache").exists(), False)
 

@@ -1,12 +1,16 @@
 #!/usr/bin/env python3
 """Wrong bodies that no contract can refuse, and a run does.
 
-A start may fail for want of memory, and no contract sees how much memory there is; so a body that never starts a command keeps its contract. No contract
+    test_wrong.py [NAME ..]
+
+A start may fail when memory is out, and no contract sees how much memory there is; so a body that never starts a command keeps its contract. No contract
 names what a lock holds either, so a call of the halls that only gives up keeps its own, nor how many workers there are. Each edit of tests/wrong is made in
 a copy. With one of rk_hall the tests of the halls have to fail, with one of rk_daemon a client has to wait for the end of another one, and with any other
-the example has to come out otherwise. `rt try` runs all of them before any proof.
+the example has to come out otherwise. `rt try` runs all of them before any proof, and builds no more than that needs: a program that only replays, one
+that only serves (tests/wrong/*.program), or the tests of the halls with the libraries that they name.
 """
 import pathlib
+import re
 import select
 import shutil
 import socket
@@ -40,6 +44,15 @@ def made(edit, copy):
     return name
 
 
+def add_program(copy, name, libraries):
+    """Adds a program of tests/wrong to the crates of a copy."""
+    source = copy / "crates" / name / "src"
+    source.mkdir(parents=True)
+    shutil.copy(top / "tests" / "wrong" / f"{name}.program", source / "main.rt")
+    with (copy / "crates.txt").open("a") as listed:
+        listed.write(f"{name}: {libraries}\n")
+
+
 def tried(folder, crate, words, **more):
     """What `rt try` writes in a crate of this copy."""
     return subprocess.run(["rt", "try", *words], cwd=folder / "crates" / crate, stdout=subprocess.PIPE, **more).stdout
@@ -47,7 +60,8 @@ def tried(folder, crate, words, **more):
 
 def replays_otherwise(copy):
     """Whether the program runs, and not as the right body does; and what it wrote."""
-    written = tried(copy, "reqkeyd", ["--", "replay"], input=(stored / "script").read_bytes(), stderr=subprocess.DEVNULL)
+    add_program(copy, "replays", "rk_replay")
+    written = tried(copy, "replays", [], input=(stored / "script").read_bytes(), stderr=subprocess.DEVNULL)
     return written.startswith(b"to 1 ") and written != (stored / "expected").read_bytes(), written
 
 
@@ -60,6 +74,10 @@ def fails_in_halls(copy):
         (source / f"{name}.rt").unlink()
         shutil.rmtree(source / name, ignore_errors=True)
     (source / "lib.rt").write_text(root)
+    named = {it for path in source.rglob("*.rt") for it in re.findall(r"\brk_\w+", path.read_text())}
+    listed = (copy / "crates.txt").read_text()
+    whole = next(line for line in listed.splitlines() if line.startswith("rk_live_tests:"))
+    (copy / "crates.txt").write_text(listed.replace(whole, f"rk_live_tests: {' '.join(it for it in whole.split()[1:] if it in named)}"))
     written = tried(copy, "rk_live_tests", ["--test", "--seconds", "600"], stdin=subprocess.DEVNULL, stderr=subprocess.STDOUT)
     return OF_HALLS + b"FAILED" in written, written[-2000:]
 
@@ -98,8 +116,9 @@ def serves_one_by_one(copy):
     """Whether the daemon answers one client, as often as it asks, and another one only when the first is gone; and what was written."""
     path, conf = copy / "socket", copy / "conf"
     conf.write_text("")
-    words = ["rt", "try", "--steps", "1", "--seconds", "60", "--", "serve", "--clients", "2", "--socket", path, "--conf", conf]
-    daemon = subprocess.Popen(words, cwd=copy / "crates" / "reqkeyd", stdin=subprocess.DEVNULL, stdout=subprocess.PIPE, stderr=subprocess.STDOUT)
+    add_program(copy, "serves", "rk_daemon log")
+    words = ["rt", "try", "--steps", "1", "--seconds", "60", "--", "--clients", "2", "--socket", path, "--conf", conf]
+    daemon = subprocess.Popen(words, cwd=copy / "crates" / "serves", stdin=subprocess.DEVNULL, stdout=subprocess.PIPE, stderr=subprocess.STDOUT)
     first = greeted(daemon, path)
     second = reply_to(first) and greeted(daemon, path)
     waits = second and all(reply_again(first) for _ in range(200)) and not select.select([second], [], [], 0)[0]
@@ -119,7 +138,7 @@ def trial_of(name):
 
 
 passed = failed = 0
-for edit in sorted((top / "tests" / "wrong").glob("*.edit")):
+for edit in sorted(it for it in (top / "tests" / "wrong").glob("*.edit") if it.stem in sys.argv[1:] or not sys.argv[1:]):
     with tempfile.TemporaryDirectory() as room:
         copy = pathlib.Path(room) / "copy"
         shutil.copytree(top, copy, ignore=shutil.ignore_patterns("out", "build", ".git", "must-fail"))

@@ -1,7 +1,7 @@
 """Many edits of a crate at once: those of different functions where they stand, and a second one of a function in a twin of it.
 
-A twin stands behind its function under another name, with the same contract and the same answers, and has the wrong body. Nothing calls it. So what the
-prover is given for the twin is what it would be given for the function under that edit, and the twin has an open goal exactly where the function would.
+A twin stands after its function under another name, with the same contract and the same answers, and has the wrong body. Nothing calls it. So what the
+prover is given for the twin is what it would be given for the function under that edit, and the twin has an open goal exactly if the function would.
 """
 import copy
 import re
@@ -24,8 +24,8 @@ def together(edits, crate):
 
 
 def beside(edit, crate):
-    """The edit as it is made in a twin of its function. None where the prover would see the twin otherwise than the function: where the edit stands in
-    several functions or in none, and where the function is a method of a trait or one of a cycle of calls."""
+    """The edit as it is made in a twin of its function. None if the prover would see the twin otherwise than the function: if the edit stands in
+    several functions or in none, or if the function is a method of a trait or one of a cycle of calls."""
     if len(edit.functions()) != 1:
         return None
     [(inside, block, name)], [(file, changes)] = edit.places, edit.changes.items()
@@ -39,12 +39,25 @@ def beside(edit, crate):
     if of_trait or is_in_cycle(body, of_type, name):
         return None
     twin = f"{name}_as_{edit.name.removesuffix('.edit')}"
+    made = copy.copy(edit)
+    made.right = {file: [(last + 1, last + 1, ["", *renamed(body, first - top, name, twin)])]}
     for begin, end, new in reversed(changes):
         body[begin - top : end - top] = new
-    body[first - top] = body[first - top].replace(f"fn {name}", f"fn {twin}", 1)
-    made = copy.copy(edit)
-    made.changes, made.places = {file: [(last + 1, last + 1, ["", *body])]}, {(inside, block, twin)}
+    made.changes = {file: [(last + 1, last + 1, ["", *renamed(body, first - top, name, twin)])]}
+    made.places = {(inside, block, twin)}
     made.proofs = dict(proofs(crate, (inside, block, name), twin))
+    return made
+
+
+def renamed(body, at, name, twin):
+    """The lines of a function, its head at this one, under another name."""
+    return [*body[:at], body[at].replace(f"fn {name}", f"fn {twin}", 1), *body[at + 1 :]]
+
+
+def right(edit):
+    """The same with nothing wrong: its function as it is, or a twin like it."""
+    made = copy.copy(edit)
+    made.changes = edit.right
     return made
 
 

@@ -1,55 +1,111 @@
-"""Crates whose edits an earlier run on this machine refused, all of them.
+"""Crates whose edits were all refused: by an earlier run on this machine, or where edits.lock was written.
 
-The verdict on a crate's edits rests on its files, those of the crates below it, the toolchain and the programs that try them. An entry's name is the sum of
-all these, so it never goes stale; `rt ci` keeps what it proves by the same rule. Where ANEW is in the environment (`make check ANEW=1`), all are tried again.
+The verdict on a crate's edits rests on its files, the toolchain, the programs that try them, and what it can cite of the crates below it: their specs, their
+lemmas, and the interfaces of their built libraries. The sum of all these is the verdict's name, so it never goes stale. A body that is changed below is in
+none of them, so it costs the edits of its own crate and not those above.
+
+A run on this machine keeps its verdicts in the user's cache. `edits.lock`, at the top, has the sums of all crates, one in a line; `make edits` writes it. It
+says what others can't see, so a run tries a twelfth of the crates that it lists once more, drawn by lot. A line with another sum counts for nothing. If ANEW
+is in the environment (`make check ANEW=1`), all are tried again.
 """
 import contextlib
+import fcntl
 import hashlib
 import os
 import pathlib
+import random
 import subprocess
 
 import crates
 
-PROGRAMS = ["crates.py", "edits.py", "test_edits.py", "twins.py"]
+PROGRAMS = ["edits.py", "stubs.py", "trial.py", "twins.py"]
+# What is written of the proof of one function, which no other crate can cite.
+OF_FUNCTIONS = ["Answers.antt", "Invariants.antt", "Proof.antt"]
+# Of so many crates that edits.lock lists one is tried.
+DRAWN = 12
+# What the name of a verdict ends in for which there was a control (trial.py).
+CONTROL = "-control"
 
 
 class Verdicts:
-    """The entries of some crates, as their files are now."""
+    """The verdicts on the edits of some crates, as these and the libraries below them stand in this folder."""
 
-    def __init__(self, names, used):
+    def __init__(self, names, used, built):
         self.used = used
+        self.built = built
         self.folder = folder()
-        self.entries = self.entries_of(names)
+        self.sums = self.sums_of(names)
 
-    def entries_of(self, names):
+    def sums_of(self, names):
         """For each crate the sum of all on which the verdict on its edits rests."""
         here = pathlib.Path(__file__).resolve().parent
-        files = [crates.top / "HANDLES", *(here / it for it in PROGRAMS)]
-        tried_by = [subprocess.check_output(["rt", "version"], text=True), *(hashlib.sha256(it.read_bytes()).hexdigest() for it in files)]
+        programs = [crates.top / "HANDLES", *(here / it for it in PROGRAMS)]
+        tried_by = [subprocess.check_output(["rt", "version"], text=True), *(hashlib.sha256(it.read_bytes()).hexdigest() for it in programs)]
         lines = crates.listed()
         below = {name: sorted(crates.below(self.used, name)) for name in names}
-        proved = {it: f"{lines[it]} {crates.digest(crates.top / 'crates' / it)}" for it in {*names, *(it for some in below.values() for it in some)}}
-        tried = {name: crates.digest(crates.top / "crates" / name, ["edits"]) for name in names}
-        return {name: sum_of([tried[name], proved[name], *(proved[it] for it in below[name]), *tried_by]) for name in names}
+        cited = {it: f"{lines[it]} {self.cited(it)}" for it in {it for some in below.values() for it in some}}
+        own = {name: f"{lines[name]} {crates.digest(self.built / name)} {crates.digest(crates.top / 'crates' / name, ['edits'])}" for name in names}
+        return {name: sum_of([own[name], *(cited[it] for it in below[name]), *tried_by]) for name in names}
 
-    def kept(self):
-        """The crates whose edits were all refused by an earlier run."""
-        if self.folder is None or os.environ.get("ANEW"):
-            return []
-        return [name for name, entry in self.entries.items() if (self.folder / entry).is_file()]
+    def cited(self, name):
+        """What other crates can cite of one."""
+        library = self.built / name / "out" / "rlib" / f"{name}.rlib"
+        if not (library / "interface").is_dir():
+            raise SystemExit(f"{library} is not built\n0 passed, 1 failed")
+        return f"{crates.digest(self.built / name, ['specs', 'proofs'], but=OF_FUNCTIONS)} {crates.digest(library, ['interface'])}"
 
-    def keep(self, name):
-        """Keeps that the edits of a crate were all refused, unless its files were changed meanwhile. Where there is no folder for it, they are tried again."""
-        if self.folder is None or self.entries_of([name]) != {name: self.entries[name]}:
+    def taken(self, for_lock):
+        """The crates whose edits count as refused, each with the reason: kept on this machine, or listed in edits.lock and not drawn. For a line of the lock
+        only what was kept with a control counts."""
+        if os.environ.get("ANEW"):
+            return {}
+        kept = {name: "a run on this machine refused them" for name in self.sums if self.is_kept(name, for_lock)}
+        locked = [name for name in self.locked() if name not in kept and not for_lock]
+        drawn = random.SystemRandom().sample(locked, -(-len(locked) // DRAWN))
+        if drawn:
+            print(f"drawn by lot, though edits.lock lists them: the edits of {' '.join(drawn)}", flush=True)
+        return kept | {name: "edits.lock lists them" for name in locked if name not in drawn}
+
+    def is_kept(self, name, has_control):
+        """Whether a run on this machine refused all edits of a crate; if that is asked, one with a control."""
+        return self.folder is not None and (self.folder / f"{self.sums[name]}{CONTROL * has_control}").is_file()
+
+    def locked(self):
+        """The crates of which edits.lock has the sum."""
+        lines = lines_of(lock_file().read_text()) if lock_file().is_file() else {}
+        return [name for name, it in self.sums.items() if lines.get(name) == it]
+
+    def keep(self, name, in_lock=False):
+        """Keeps that the edits of a crate were all refused, on this machine and, if there was a control, in edits.lock; unless its files were changed
+        meanwhile. If there is no folder for it, they are tried again. Several runs can fill the lock side by side."""
+        if self.sums_of([name]) != {name: self.sums[name]}:
             return
+        if in_lock:
+            with open(lock_file(), "a+") as file:
+                fcntl.flock(file, fcntl.LOCK_EX)
+                file.seek(0)
+                lines = {**lines_of(file.read()), name: self.sums[name]}
+                file.truncate(0)
+                file.write("".join(f"{it} {lines[it]}\n" for it in sorted(lines) if it in self.used))
         with contextlib.suppress(OSError):
-            self.folder.mkdir(mode=0o700, parents=True, exist_ok=True)
-            (self.folder / self.entries[name]).write_text(f"{name}\n")
+            if self.folder is not None:
+                self.folder.mkdir(mode=0o700, parents=True, exist_ok=True)
+                for has_control in {False, in_lock}:
+                    (self.folder / f"{self.sums[name]}{CONTROL * has_control}").write_text(f"{name}\n")
+
+
+def lock_file():
+    """Where the lock is."""
+    return crates.top / "edits.lock"
+
+
+def lines_of(text):
+    """The lines of a lock: crates and sums."""
+    return dict(line.split() for line in text.splitlines())
 
 
 def folder():
-    """A folder of the user's cache, as the XDG Base Directory Specification has it. None where there is no user's home."""
+    """A folder of the user's cache, as the XDG Base Directory Specification has it. None if there is no user's home."""
     cache = os.environ.get("XDG_CACHE_HOME") or os.path.expanduser("~/.cache")
     return pathlib.Path(cache) / "request-key-daemon" / "edits" if os.path.isabs(cache) else None
 
