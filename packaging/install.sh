@@ -2,7 +2,7 @@
 # Installs the programs and what belongs to them, or removes it again: install.sh install, install.sh uninstall. `make` calls it, with these in the
 # environment.
 #
-#   BUILT       the folder that has the programs and libkeyutils.so.1
+#   BUILT       the folder that has the programs, reqkey-trap and libkeyutils.so.1
 #   PREFIX      below which everything goes
 #   DESTDIR     put before all of that, for a package
 #   PYTHON_DIR  where Python finds modules
@@ -36,7 +36,7 @@ everything() {
     local examples=$share/doc/reqkeyd/examples
     local name
 
-    for name in reqkeyd reqkeyctl; do
+    for name in reqkeyd reqkeyctl reqkey-trap; do
         put 755 "$BUILT/$name" "$PREFIX/bin/$name"
         put 644 "packaging/completion/$name.bash" "$share/bash-completion/completions/$name"
         put 644 "packaging/completion/$name.fish" "$share/fish/vendor_completions.d/$name.fish"
@@ -49,6 +49,20 @@ everything() {
         put_text "packaging/systemd/$name/reqkeyd.service" "$PREFIX/lib/systemd/$name/reqkeyd.service"
     done
     put_text packaging/reqkeyd.conf "$examples/reqkeyd.conf"
+
+    # the documents, which the manual pages name; their pictures; and beside them what they link
+    for name in docs/*.md docs/pictures/*; do
+        put 644 "$name" "$share/doc/reqkeyd/$name"
+    done
+    for name in README.md CHANGELOG.md SECURITY.md; do
+        put 644 "$name" "$share/doc/reqkeyd/$name"
+    done
+
+    # the licences, and the notices of the libraries that the programs contain
+    put 644 packaging/debian/copyright "$share/doc/reqkeyd/copyright"
+    for name in LICENSE-APACHE LICENSE-MIT; do
+        put 644 "$name" "$share/doc/reqkeyd/$name"
+    done
 
     # clients: C has its header and a source to be compiled with a program, Python its module, and keyutils' programs their library
     put 644 clients/c/reqkey.h "$PREFIX/include/reqkey.h"
@@ -63,7 +77,7 @@ everything() {
 act=$1
 everything
 if [[ $act == uninstall ]]; then
-    for folder in lib/reqkeyd share/reqkeyd share/doc/reqkeyd/examples share/doc/reqkeyd; do
+    for folder in lib/reqkeyd share/reqkeyd share/doc/reqkeyd/{examples,docs/pictures,docs} share/doc/reqkeyd; do
         rmdir --ignore-fail-on-non-empty "$DESTDIR$PREFIX/$folder" 2> /dev/null || true
     done
 fi

@@ -1,4 +1,4 @@
-/* Loaded before the C library (LD_PRELOAD): the growth whose number stands in REFUSED, counted from 1, is refused, and with AND_ON all that come after
+/* Loaded before the C library (LD_PRELOAD): the allocation whose number stands in REFUSED, counted from 1, is refused, and with AND_ON all that come after
    it; no other is, and none of the programs that this one starts. With FROM_ACCEPT they are counted from the first call of accept4 on. The file TOLD is made when
    one is refused, where it is named. */
 #define _GNU_SOURCE

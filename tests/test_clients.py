@@ -16,7 +16,7 @@ import tempfile
 import protocol_peer as peer
 from counted import Counted
 from daemon import Daemon
-from programs import PROGRAMS, top
+from programs import LIMIT, PROGRAMS, top
 from sanitizers import SANITIZED, sanitizes
 
 count = Counted()
@@ -27,7 +27,7 @@ ANY = bytes(range(256))
 ANY_WORD = "".join(f"%{byte:02X}" for byte in ANY)
 ANY_TOLD = "".join(chr(byte) if b" "[0] < byte <= b"~"[0] and byte != b"%"[0] else f"%{byte:02X}" for byte in ANY)
 
-# what a driver is told, the body of its ask, a reply, and what the driver tells of it
+# what a driver gets, the body of its ask, a reply, and what the driver tells of it
 GOOD = [
     ("hello 0 0 0 0", peer.hello(), RINGS, "0 0 1 2"),
     ("hello 4294967295 7 3 2147483647", peer.hello(4294967295, 7, 2147483647, 3), peer.rings(4, 8, 4294967295, 0), "4 8 4294967295 0"),
@@ -77,7 +77,7 @@ NO_REPLY = {
     "the greatest kind": peer.frame(b"\xff" * 65536),
     "an errno that there is not": peer.frame(peer.refused(3)),
     "errno 0": peer.frame(peer.refused(0)),
-    "an errno that is no byte of a refusal": peer.frame(b"\x03\x00\x00\x00\x16"),
+    "an errno of five bytes": peer.frame(b"\x03\x00\x00\x00\x16"),
     "a refusal without its errno": peer.frame(b"\x03"),
     "a refusal that goes on": peer.frame(b"\x03\x16\x00"),
 }
@@ -106,15 +106,15 @@ class Language:
         self.name, self.words = name, [str(word) for word in words]
 
     def asks(self, lines):
-        """What comes of these asks over sockets, line by line."""
-        ran = subprocess.run([*self.words, "client"], input="".join(f"{line}\n" for line in lines).encode(), capture_output=True, timeout=60)
+        """The results of these asks over sockets, line by line."""
+        ran = subprocess.run([*self.words, "client"], input="".join(f"{line}\n" for line in lines).encode(), capture_output=True, timeout=LIMIT)
         return told_by(ran, ran.stdout)
 
     def handles(self, room, lines, **streams):
-        """What a handler puts out, and what comes of its asks."""
+        """What a handler outputs, and the results of its asks."""
         script, told = room / "script", room / "told"
         script.write_text("".join(f"{line}\n" for line in lines))
-        ran = subprocess.run([*self.words, "handler", str(script), str(told)], stderr=subprocess.PIPE, timeout=60, **streams)
+        ran = subprocess.run([*self.words, "handler", str(script), str(told)], stderr=subprocess.PIPE, timeout=LIMIT, **streams)
         return ran.stdout, told_by(ran, told.read_bytes())
 
 
@@ -137,7 +137,7 @@ def sessions(client, cases):
 
 
 def speaks(client, room):
-    """Each ask is the one frame that the protocol has for it, and its reply is told: in one session over a socket, in one handler, and byte by byte."""
+    """Each ask is the one frame that the protocol has for it, and its reply is printed: in one session over a socket, in one handler, and byte by byte."""
     lines, bodies, replies, wanted = zip(*GOOD)
     [got] = sessions(client, [(lines, list(map(peer.frame, replies)), False)])
     count.same(f"{client.name}: asks over a socket", got, (list(wanted), list(bodies)))
@@ -149,14 +149,14 @@ def speaks(client, room):
 
 
 def is_refused(client):
-    """Each refusal is told by its name, and the session goes on."""
+    """Each refusal is reported by its name, and the session goes on."""
     replies = [peer.frame(peer.refused(errno)) for errno in ERRNOS]
     for name, (told, _) in zip(ONE_OF_EACH, sessions(client, [([line] * len(ERRNOS), replies, False) for line in ONE_OF_EACH.values()])):
         count.same(f"{client.name}: {name} is refused", told, list(ERRNOS.values()))
 
 
 def meets_hostile(client, room):
-    """What is no reply is told so, and nothing more is asked."""
+    """An invalid reply is reported, and nothing more is asked."""
     names, cases = [], []
     for name, line in ONE_OF_EACH.items():
         wrong = {f"wrong reply {body[:8].hex()} of {len(body)}": peer.frame(body) for body in WRONG[ANSWERED.get(name, "0")]}
@@ -212,7 +212,7 @@ AS_HANDLER = [
     ("clear -1", "ENOKEY"), ("assume 0", "0"), ("callout", "EACCES"), ("assume 12", "0"), ("instantiate 16 v 0", "EPERM"), ("instantiate 12 v 99", "ENOKEY"),
     ("negate 16 1 0", "EPERM"), ("reject 12 1 129 99", "ENOKEY"), ("instantiate 12 v 0", "0"), ("instantiate 12 v 0", "EACCES"), ("assume 12", "EKEYREVOKED"),
 ]
-# how a plain handler may end a construction, and what its requester is told
+# how a plain handler may end a construction, and what its requester gets
 ENDS = [("instantiate 12 made 0", "12"), ("negate 12 60 0", "ENOKEY"), ("reject 12 60 127 0", "EKEYEXPIRED"), ("reject 12 60 128 -3", "EKEYREVOKED"),
         ("reject 12 60 129 0", "EKEYREJECTED")]
 
@@ -275,7 +275,7 @@ def differing(lines, told, wanted):
 def examples(program, ask, handler):
     """The examples of a language: a client requests what a handler makes."""
     with Daemon(program, f"create user capitals:* * {handler} %k\n") as daemon:
-        got = [subprocess.run([ask, daemon.path, *words], capture_output=True, timeout=60) for words in
+        got = [subprocess.run([ask, daemon.path, *words], capture_output=True, timeout=LIMIT) for words in
                [["user", "capitals:a", "hello"], ["user", "capitals:b", ""], ["user", "capitals:c"], ["user"]]]
         told = [(it.returncode, b"HELLO" in it.stdout, b"ENOKEY" in it.stderr, b"usage" in it.stderr) for it in got]
         none = (1, False, True, False)
@@ -285,7 +285,7 @@ def examples(program, ask, handler):
 def compiled(room, name, *sources, flags=()):
     """A program in C, or what the compiler said of it."""
     out = room / name
-    made = subprocess.run(["gcc", *STRICT, *flags, "-o", out, *sources, CLIENTS / "c" / "reqkey.c"], capture_output=True, text=True, timeout=120)
+    made = subprocess.run(["gcc", *STRICT, *flags, "-o", out, *sources, CLIENTS / "c" / "reqkey.c"], capture_output=True, text=True, timeout=LIMIT)
     return out if made.returncode == 0 else made.stderr
 
 

@@ -17,134 +17,20 @@ import tempfile
 import protocol_peer as ask
 from counted import Counted
 from daemon import Daemon, until
-from programs import PROGRAMS, top
-from sanitizers import SANITIZED, sanitizes
+from keyctl_commands import ALONE, CASES, DENIED, EXPIRED, LEFT_OUT, MISSING, NONE, OF_ANY_LENGTH, REJECTED, REVOKED, SERIAL, USAGE, Keyctl
+from keyutils_library import ENVIRONMENT, UID, Programs, available, libraries
+from programs import LIMIT, PROGRAMS, top
 
 count = Counted()
-UID = os.geteuid()
 CALLS = top / "tests" / "clients" / "calls.py"
-ENVIRONMENT = {"ASAN_OPTIONS": "detect_leaks=0"}  # programs that end don't give all their memory back
-MISSING, REVOKED, EXPIRED, REJECTED = "Required key not available", "Key has been revoked", "Key has expired", "Key was rejected by service"
-LEFT_OUT, INVALID, DENIED, NOT_ALLOWED = "Operation not supported", "Invalid argument", "Permission denied", "Operation not permitted"
+class Keyutils(Programs, Keyctl):
+    """Programs in a session ring, and what keyctl has to print there."""
 
-SERIAL, NONE = r"\d+\n", "2000000000"
-RAW = r"user;{uid};-1;3f000000;k\n"
-
-# Commands without arguments that are no mistake; their status, and their output and errors, as patterns.
-ALONE = {
-    "new_session": (1, "", LEFT_OUT),
-    "reap": (0, "-1 keys reaped\n", ""),
-    "session": (0, "", "Joined session keyring"),
-    "show": (0, f"Session Keyring\\n{{session}}: key inaccessible \\({LEFT_OUT}\\)\\n", ""),
-    "supports": (0, "have_capabilities=1\n(have_[a-z_]+=0\n)+", ""),
-}
-
-USAGE = (2, "", "Format:")
-
-# Commands that take any number of arguments.
-OF_ANY_LENGTH = ["pkey_decrypt", "pkey_encrypt", "pkey_query", "pkey_sign", "pkey_verify", "session", "watch_session"]
-
-# Runs of keyctl that follow one another: words, status, and output and errors as patterns. {key} is a key `k` of the type user with the payload `v`, alone in
-# the session ring {session}; {user} is the user ring, and {uid} who acts. What is piped in is `piped`. Keys `made:*` are made of their callout.
-CASES = [
-    [("add user n w @s", 0, SERIAL, ""), ("print %user:n", 0, "w\n", "")],
-    [("add -x user n 77_78 @s", 1, "", "hex"), ("add -x user n 7778 @s", 0, SERIAL, ""), ("print %user:n", 0, "wx\n", "")],
-    [("add user k w @s", 0, SERIAL, ""), ("print {key}", 1, "", MISSING), ("print %user:k", 0, "w\n", "")],
-    [("add user n v @t", 1, "", MISSING)],
-    [("add user n v " + NONE, 1, "", MISSING)],
-    [("add .user n v @s", 1, "", NOT_ALLOWED)],
-    [("add keyring n v @s", 1, "", LEFT_OUT)],
-    [("padd user n @s", 0, SERIAL, ""), ("print %user:n", 0, "piped\n", ""), ("padd user n @p", 1, "", MISSING)],
-    [("request user k", 0, "{key}\n", ""), ("request user none", 1, "", MISSING), ("request user k " + NONE, 1, "", MISSING)],
-    [("request user k @u", 0, "{key}\n", ""), ("unlink {key} @s", 0, "", ""), ("print {key}", 0, "v\n", ""), ("unlink {key} @u", 0, "", ""),
-     ("print {key}", 1, "", MISSING)],
-    [("request2 user made:1 hello @s", 0, SERIAL, ""), ("print %user:made:1", 0, "hello\n", ""), ("request2 user none hello", 1, "", MISSING)],
-    [("prequest2 user made:2 @s", 0, SERIAL, ""), ("print %user:made:2", 0, "piped\n", ""), ("prequest2 user none @s", 1, "", MISSING)],
-    [("print {key}", 0, "v\n", ""), ("print " + NONE, 1, "", MISSING), ("print @s", 1, "", LEFT_OUT), ("print nothing", 2, "", "Unparsable key")],
-    [("pipe {key}", 0, "v", ""), ("pipe " + NONE, 1, "", MISSING)],
-    [("read {key}", 0, "1 bytes of data in key:\n76 ?\n", ""), ("read " + NONE, 1, "", MISSING), ("read @u", 1, "", LEFT_OUT)],
-    [("describe {key}", 0, r" *{key}: alswrv-+ +{uid} +-1 user: k\n", ""), ("describe " + NONE, 1, "", MISSING), ("describe @s", 1, "", LEFT_OUT)],
-    [("rdescribe {key}", 0, RAW, ""), ("rdescribe {key} /", 0, RAW.replace(";", "/"), ""), ("rdescribe {session}", 1, "", LEFT_OUT)],
-    [("revoke {key}", 0, "", ""), ("print {key}", 1, "", REVOKED), ("describe {key}", 1, "", REVOKED), ("revoke {key}", 1, "", REVOKED)],
-    [("revoke " + NONE, 1, "", MISSING), ("revoke @s", 1, "", LEFT_OUT)],
-    [("timeout {key} 4000000000", 0, "", ""), ("timeout {key} 0", 0, "", ""), ("timeout {key} soon", 2, "", "Unparsable timeout")],
-    [("timeout " + NONE + " 1", 1, "", MISSING), ("timeout {session} 1", 1, "", LEFT_OUT)],
-    [("link {key} @u", 0, "", ""), ("unlink {key} @u", 0, "", ""), ("unlink {key} @u", 1, "", "No such file or directory")],
-    [("link {key} " + NONE, 1, "", MISSING), ("link @u @s", 1, "", LEFT_OUT), ("link {key} {key}", 1, "", MISSING), ("unlink " + NONE + " @s", 1, "", MISSING)],
-    [("clear @s", 0, "", ""), ("print {key}", 1, "", MISSING), ("clear @p", 1, "", MISSING), ("clear " + NONE, 1, "", MISSING)],
-    [("id @s", 0, "{session}\n", ""), ("id {key}", 0, "{key}\n", ""), ("id @p", 1, "", MISSING), ("id @us", 1, "", LEFT_OUT)],
-    [("id %user:k", 0, "{key}\n", ""), ("id %user:none", 1, "", "Can't find")],
-    [("instantiate {key} w @s", 1, "", NOT_ALLOWED), ("pinstantiate {key} @s", 1, "", NOT_ALLOWED), ("negate {key} 10 @s", 1, "", NOT_ALLOWED)],
-    [("reject {key} 10 rejected @s", 1, "", NOT_ALLOWED), ("reject {key} 10 13 @s", 1, "", INVALID)],
-    [("session - /bin/sh -c 'keyctl add user in w @s; keyctl print %user:in; keyctl id @s'", 0, SERIAL + "w\n" + SERIAL, "Joined session keyring: ")],
-    [("session - keyctl print {key}", 1, "", DENIED), ("session name keyctl id @s", 1, "", LEFT_OUT)],
-    [("supports capabilities", 0, "", ""), ("supports persistent_keyrings", 1, "", "")],
-    [("unlink {key}", 0, "-1 links removed\n", ""), ("print {key}", 0, "v\n", "")],
-    [("show @u", 0, "Keyring\\n{user}: key inaccessible .*", "")],
-    [("purge user", 0, ".*-1 keys\n", ""), ("print {key}", 0, "v\n", "")],
-    # what is left out
-    *[[(words, 1, ".*", LEFT_OUT)] for words in [
-        "update {key} w", "pupdate {key}", "newring n @s", "move {key} @s @u", "search @s user k", "restrict_keyring @s", "list @s", "rlist @s",
-        "chown {key} 0", "chgrp {key} 0", "setperm {key} 0x3f000000", "security {key}", "invalidate {key}", "get_persistent @s", "dh_compute {key} {key} {key}",
-        "dh_compute_kdf {key} {key} {key} 9 sha1", "dh_compute_kdf_oi {key} {key} {key} 9 sha1", "pkey_query {key} 0", "pkey_encrypt {key} 0 /dev/null",
-        "pkey_decrypt {key} 0 /dev/null", "pkey_sign {key} 0 /dev/null", "pkey_verify {key} 0 /dev/null /dev/null", "watch_add 0 {key}", "watch_rm 0 {key}",
-    ]],
-]
-
-
-def install():
-    """Installs keyutils, where that goes within some minutes."""
-    quiet = {"stdin": subprocess.DEVNULL, "capture_output": True, "env": {**os.environ, "DEBIAN_FRONTEND": "noninteractive"}}
-    try:
-        for words in [["install", "-y", "keyutils"], ["update"], ["install", "-y", "keyutils"]]:
-            if not shutil.which("keyctl"):
-                subprocess.run(["apt-get", *words], timeout=120, **quiet)
-    except subprocess.TimeoutExpired:
-        pass
-
-
-def available():
-    """Whether there are a compiler and keyutils, or keyutils could be installed."""
-    if not shutil.which("gcc") or not shutil.which("make"):
-        print("clients/keyutils: not tried, there is no gcc and make")
-        return False
-    if not shutil.which("keyctl") and shutil.which("apt-get") and UID == 0:
-        install()
-    if not shutil.which("keyctl"):
-        print("clients/keyutils: not tried, there is no keyutils")
-    return bool(shutil.which("keyctl"))
-
-
-class Keyutils:
-    """A daemon, a client that holds a session ring, and programs in that ring."""
-
-    def __init__(self, daemon, library, *before):
-        self.daemon, self.library, self.before = daemon, library, ":".join(map(str, before))
-        self.holder = daemon.client(UID)
-        self.session = self.holder.rings[2]
-        self.environment = {
-            **os.environ, "LD_PRELOAD": ":".join(map(str, [*before, library])), "REQKEYD_SOCKET": str(daemon.path), "REQKEYD_JOIN": str(self.session),
-            "SHELL": "/bin/true", **ENVIRONMENT,
-        }
-        self.environment.pop("REQKEYD_STREAMS", None)
-
-    def run(self, *words, **changes):
-        """The status, output and errors of a program."""
-        environment = {name: value for name, value in {**self.environment, **changes}.items() if value is not None}
-        ran = subprocess.run(words, input=b"piped", capture_output=True, timeout=60, env=environment)
-        return ran.returncode, ran.stdout.decode(), ran.stderr.decode()
+    count = count
 
     def key(self):
-        """A new key `k`, alone in the session ring."""
         self.holder.ask(ask.clear(-3))
         return self.holder.ask(ask.add(b"user", b"k", b"v", -3))
-
-    def fits(self, words, want, **known):
-        """Runs keyctl, and compares what it does with patterns."""
-        status, output, errors = self.run("keyctl", *shlex.split(words.format(**known)))
-        told, complained = [re.sub(r"\{([a-z]+)\}", lambda name: str(known[name[1]]), text) for text in want[1:]]
-        right = status == want[0] and re.fullmatch(told, output, re.DOTALL) and (complained in errors if complained else not errors)
-        count.same(f"keyctl {words}", (status, output, errors) if not right else want, want)
 
 
 def commands(keys):
@@ -169,32 +55,32 @@ NOT_TRIED = ["watch", "watch_session", "watch_sync"]
 
 def listed():
     """The commands that keyctl has."""
-    usage = subprocess.run(["keyctl"], capture_output=True, text=True, timeout=60)
+    usage = subprocess.run(["keyctl"], capture_output=True, text=True, timeout=LIMIT)
     return sorted(set(re.findall(r"^  keyctl ([a-z_0-9]+)", usage.stdout + usage.stderr, re.MULTILINE)))
 
 
 def documented():
     """The document has each command and each call, and each command is tried here."""
-    page = (top / "docs" / "KEYUTILS.md").read_text()
+    page = (top / "docs" / "PROGRAMS.md").read_text()
     sections = {part.partition("\n")[0]: part for part in page.split("\n## ")}
     told = {name: " ".join(re.findall(r"^\| (`.*?) \|", text, re.MULTILINE)) for name, text in sections.items()}
     tried = {words.split()[0] for case in CASES for words, *_ in case} | set(ALONE)
-    count.same("the commands of docs/KEYUTILS.md", sorted(re.findall("`([a-z_0-9]+)`", told["Commands"])), listed())
+    count.same("the commands of docs/PROGRAMS.md", sorted(re.findall("`([a-z_0-9]+)`", told["Commands"])), listed())
     count.same("the commands that are tried", sorted(set(listed()) - tried), NOT_TRIED)
     return re.findall("`([a-zA-Z_]+)`", told["Calls"])
 
 
 def symbols(library, calls):
     """The library has the calls of keyutils' own, in the same versions, and the document has them."""
-    place = re.search(r"libkeyutils\.so\.1 => (\S+)", subprocess.run(["ldd", shutil.which("keyctl")], capture_output=True, text=True, timeout=60).stdout)[1]
+    place = re.search(r"libkeyutils\.so\.1 => (\S+)", subprocess.run(["ldd", shutil.which("keyctl")], capture_output=True, text=True, timeout=LIMIT).stdout)[1]
     names = []
     for path in [place, library]:
-        output = subprocess.run(["nm", "-D", "--defined-only", path], capture_output=True, text=True, timeout=60).stdout
+        output = subprocess.run(["nm", "-D", "--defined-only", path], capture_output=True, text=True, timeout=LIMIT).stdout
         names.append({name for _, kind, name in (line.split() for line in output.splitlines()) if kind != "A"})
     kernel = {name for name in names[0] if "@" in name}
     count.same("symbols of the library", sorted(kernel - names[1]), [])
     count.same("names of the library", sorted({name.split("@")[0] for name in names[1]}), sorted({name.split("@")[0] for name in names[0]}))
-    count.same("the calls of docs/KEYUTILS.md", sorted(calls), sorted({name.split("@")[0] for name in names[0] if "_string" not in name}))
+    count.same("the calls of docs/PROGRAMS.md", sorted(calls), sorted({name.split("@")[0] for name in names[0] if "_string" not in name}))
 
 
 # The example of request-key.conf(5), with the lines that Debian's file has besides, and a program that fails.
@@ -220,13 +106,14 @@ keyctl rdescribe "$1"
 keyctl print @a
 keyctl request2 user made:nested inner @s
 keyctl id @s
+keyctl rdescribe "$(keyctl id @a)"
 keyctl timeout "$1" 4000000000
 cat
 printf made | keyctl pinstantiate "$1" @s
 keyctl negate "$1" 10 @s
 """
 SAID = ["request_key: Permission denied", "user;{uid};-1;3f000000;script:a", "words", "{nested}", f"keyctl_get_keyring_ID: {LEFT_OUT}",
-        "keyctl_negate: Permission denied"]
+        f"keyctl_describe: {LEFT_OUT}", "keyctl_negate: Permission denied"]
 
 
 def handlers(keys):
@@ -277,9 +164,9 @@ def resolves(keys):
 
 
 def told(daemon, lines):
-    """What these lines say of the variables that a handler is told: the library, and whether there are streams."""
+    """What these lines say of the variables that a handler gets: the library, and whether there are streams."""
     found = dict(line.partition("=")[::2] for line in lines if line.startswith(("LD_PRELOAD=", "REQKEYD_STREAMS=")))
-    return found.get("LD_PRELOAD"), bool(re.fullmatch(r"\d+,\d+", found.get("REQKEYD_STREAMS", "")))
+    return found.get("LD_PRELOAD"), bool(re.fullmatch(r"\d+,\d+(,\d+){5}", found.get("REQKEYD_STREAMS", "")))
 
 
 def stock(program, library):
@@ -292,11 +179,11 @@ def stock(program, library):
         scripted(keys)
         resolves(keys)
         keys.fits("request2 user piped:a x @s", (0, SERIAL, ""))
-        count.same("what a piped handler is told", told(daemon, keys.run("keyctl", "pipe", "%user:piped:a")[1].split("\n")), (None, False))
+        count.same("what a piped handler gets", told(daemon, keys.run("keyctl", "pipe", "%user:piped:a")[1].split("\n")), (None, False))
         daemon.lines.clear()
         keys.fits("request2 user asks:a x @s", (1, "", MISSING))
         until(lambda: all(told(daemon, daemon.lines)), "the variables of a handler")
-        count.same("what a handler that asks is told", told(daemon, daemon.lines), (str(library), True))
+        count.same("what a handler that asks gets", told(daemon, daemon.lines), (str(library), True))
 
 
 class Runner:
@@ -311,7 +198,7 @@ class Runner:
         unset = ["LD_PRELOAD", "REQKEYD_SOCKET", "REQKEYD_JOIN", "REQKEYD_STREAMS"]
         environment = {**{name: value for name, value in os.environ.items() if name not in unset}, **changes}
         words = [self.program, "run", *options, "--", *words]
-        ran = subprocess.run(words, input=piped, capture_output=True, timeout=60, env=environment, cwd=folder)
+        ran = subprocess.run(words, input=piped, capture_output=True, timeout=LIMIT, env=environment, cwd=folder)
         return ran.returncode, ran.stdout.decode(), ran.stderr.decode()
 
     def shell(self, script, **more):
@@ -342,7 +229,7 @@ def shares(runner, daemon):
     rings = outer[1].split()
     runner.same("a run in a run has a ring of its own", (outer[0], len(set(rings)), outer[2]), (0, 2, ""))
     runner.fits("another user", runner.run("keyctl", "id", "@u", options=["--socket", runner.path, "--library", runner.library, "--uid", str(UID + 1)]), 1, "",
-                f"keyctl_get_keyring_ID: {MISSING}\n")
+                f"keyctl_get_keyring_ID: {REVOKED}\n")
 
 
 def passes(runner):
@@ -390,7 +277,7 @@ def ends(runner, room):
 
 
 def refuses(runner, room):
-    """No daemon, wrong ones, no library, and words that are no call."""
+    """No daemon, wrong ones, no library, and usage errors."""
     library = ["--library", runner.library]
     socket = ["--socket", runner.path]
     for options in [library, [*library, "--socket", room / "none"], [*library, "--socket", room]]:
@@ -412,7 +299,7 @@ def refuses(runner, room):
     wrong = [["--uid", "x"], ["--uid", "4294967296"], ["--socket"], ["--join", "1"], ["--raw"], ["--socket", "a", "--socket=b"]]
     wrong += [["--library", path] for path in ["libkeyutils.so.1", "/a:/b", "/a b", ""]]
     for words in [[], ["--"], ["true"], *([*options, "--", "true"] for options in wrong)]:
-        ran = subprocess.run([runner.program, "run", *words], stdin=subprocess.DEVNULL, capture_output=True, timeout=60)
+        ran = subprocess.run([runner.program, "run", *words], stdin=subprocess.DEVNULL, capture_output=True, timeout=LIMIT)
         runner.same(f"no call {words}", (ran.returncode, ran.stdout, ran.stderr != b""), (2, b"", True))
 
 
@@ -432,17 +319,18 @@ PRINTED = {
     "left_out": ["[]"],
     "faults": [
         "add_key EOPNOTSUPP", "add_key EFAULT", "add_key EINVAL", "add_key EFAULT", "add_key EINVAL", "add_key EINVAL", "request_key EFAULT",
-        "keyctl_instantiate EFAULT", "keyctl_join_session_keyring EOPNOTSUPP",
+        "keyctl_instantiate EFAULT", "keyctl_join_session_keyring EINVAL", "keyctl_join_session_keyring EINVAL", "keyctl_join_session_keyring EPERM",
+        "keyctl_search EFAULT", "keyctl_search EINVAL", "keyctl_clear EINVAL",
         *[f"{name} ['EOPNOTSUPP', 'EOPNOTSUPP', 'EOPNOTSUPP', 'ENOKEY']" for name in ["keyctl_describe", "keyctl_read", "keyctl_revoke", "keyctl_set_timeout"]],
-        "keyctl_link EOPNOTSUPP", "keyctl_revoke EOPNOTSUPP", "keyctl_get_keyring_ID ['ENOKEY', 'EOPNOTSUPP', 'ENOKEY', 'EINVAL'] True",
+        "keyctl_link 0", "keyctl_revoke EOPNOTSUPP", "keyctl_get_keyring_ID ['ENOKEY', 'EOPNOTSUPP', 'ENOKEY', 'ENOKEY', 'ENOKEY', 'EINVAL'] True",
     ],
     "buffers": [
         "keyctl_read 5 b''", "keyctl_read 5 b'hel'", "keyctl_read 5 b'hello'", "keyctl_describe 20 b'user'",
         r"keyctl_describe 20 b'user;;-1;3f000000;n\x00'", "keyctl_read_alloc 5 b'hello'", "keyctl_describe_alloc True",
     ],
     "raw": [
-        "0 True", "6 True", "8 0", "9 0", "11 1", "12 EPERM", "13 EPERM", "14 0", "15 0", "16 ENOKEY", "16 0", "19 EPERM", "20 EINVAL", "31 2", "3 0", "7 0",
-        "2 EOPNOTSUPP", "99 EOPNOTSUPP", "1 True True",
+        "0 True", "6 True", "10 True", "8 0", "9 0", "11 1", "12 EPERM", "13 EPERM", "14 0", "15 0", "16 ENOKEY", "16 0", "19 EPERM", "20 EINVAL", "31 2",
+        "3 0", "7 0", "2 EOPNOTSUPP", "99 EOPNOTSUPP", "1 True True",
     ],
     "shared": ["child 0 EKEYREVOKED", "threads []"],
     "waiting": ["child 0", "thread 7"],
@@ -461,7 +349,7 @@ def without(keys, room):
     """No daemon, and wrong ones."""
     for changes, want in [
         ({"REQKEYD_SOCKET": None}, "Transport endpoint is not connected"), ({"REQKEYD_SOCKET": ""}, "Transport endpoint is not connected"),
-        ({"REQKEYD_SOCKET": str(room / "none")}, "No such file or directory"), ({"REQKEYD_JOIN": NONE}, MISSING),
+        ({"REQKEYD_SOCKET": str(room / "none")}, "No such file or directory"), ({"REQKEYD_JOIN": NONE}, REVOKED),
         ({"REQKEYD_STREAMS": "88,89"}, "Bad file descriptor"),
     ]:
         count.same(f"with {changes}", keys.run("keyctl", "print", "5", **changes), (1, "", f"keyctl_read_alloc: {want}\n"))
@@ -479,21 +367,12 @@ def placed(keys):
     count.same("in the place of the system's library", told, (0, "v\n", ""))
 
 
-def built(room, name, *flags):
-    """The library, or what was said where it could not be built."""
-    (room / name).mkdir()
-    words = ["make", "-s", "-C", top / "clients" / "keyutils", f"OUT={room / name}", f"WARNINGS=-Wall -Wextra -Werror {' '.join(flags)}"]
-    made = subprocess.run(words, capture_output=True, text=True, timeout=120)
-    count.same(f"clients/keyutils is built {' '.join(flags)}", (made.returncode, made.stderr), (0, ""))
-    return room / name / "libkeyutils.so.1" if made.returncode == 0 else None
-
-
 def fits_header():
     """The calls are declared as in keyutils' own header, where that is here."""
     if pathlib.Path("/usr/include/keyutils.h").exists():
         for name in ["calls.c", "left_out.c", "raw.c"]:
             words = ["gcc", "-std=c11", "-D_GNU_SOURCE", "-fsyntax-only", "-Werror", "-include", "/usr/include/keyutils.h", top / "clients" / "keyutils" / name]
-            count.same(f"{name} and keyutils.h", subprocess.run(words, capture_output=True, text=True, timeout=60).stderr, "")
+            count.same(f"{name} and keyutils.h", subprocess.run(words, capture_output=True, text=True, timeout=LIMIT).stderr, "")
 
 
 def tries(program, library, *before):
@@ -516,21 +395,11 @@ def tries(program, library, *before):
         without(keys, daemon.room)
 
 
-def libraries(room):
-    """The library as it is installed, and one that ends at a wrong access to memory, with what has to be loaded before each."""
-    yield built(room, "plain"), []
-    if sanitizes(room):
-        path = subprocess.run(["gcc", "-print-file-name=libasan.so"], capture_output=True, text=True, timeout=60).stdout.strip()
-        yield built(room, "sanitized", *SANITIZED), [path]
-    else:
-        print("clients/keyutils: not tried with gcc's sanitizers, which are not here")
-
-
 def main():
     if not available():
         count.end()
     with tempfile.TemporaryDirectory(prefix="keyutils-") as folder:
-        there = [each for each in libraries(pathlib.Path(folder)) if each[0] is not None]
+        there = [each for each in libraries(count, pathlib.Path(folder)) if each[0] is not None]
         fits_header()
         if there:
             symbols(there[0][0], documented())

@@ -1,4 +1,4 @@
-/* The configuration of docs/CONFIGURATION.md: its lines, which one a request picks, and the words of its command. */
+/* The configuration of reqkeyd.conf(5): its lines, which one a request picks, and the words of its command. */
 #ifndef CONF_H
 #define CONF_H
 

@@ -3,7 +3,7 @@
  * usage: hall [CALLS]
  *
  * Each thread is a client with 199 keys in its user ring. Where there are four halls, a user stands in that of its uid's remainder by four,
- * and serials are drawn by fours. The best of five rounds is told, each of so many calls. */
+ * and serials are drawn by fours. The best of five rounds is printed, each of so many calls. */
 #include "machine.h"
 #include "threads.h"
 

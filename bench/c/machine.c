@@ -305,7 +305,7 @@ static struct ring *ring_named(const struct machine *m, const struct asker *aske
     return NULL;
 }
 
-/* The same where 0 stands for no ring, which is no error. */
+/* The same where 0 stands for no ring, without an error. */
 static struct ring *ring_or_none(const struct machine *m, const struct asker *asker, int32_t number, int *error)
 {
     if (number)
@@ -416,7 +416,7 @@ static bool would_circle(const struct machine *m, const struct session *s, uint3
 
 /* ---- completion */
 
-/* The authority is spent, and all who wait are told what became of the key. */
+/* The authority is spent, and all who wait get the outcome of the key. */
 static void announce(struct machine *m, struct construction *c, struct key *key, uint64_t now)
 {
     c->unspent = false;
@@ -511,7 +511,7 @@ static struct answer hello(struct machine *m, struct session *s, const struct as
 
 /* ---- REQUEST */
 
-/* The first key of the name that is valid or under construction; else null and the error that is told. `stale` says that the error is of
+/* The first key of the name that is valid or under construction; else null and the error to be returned. `stale` says that the error is of
  * revoked and expired keys alone, or of none. */
 static struct key *search(const struct machine *m, const struct context *context, const struct name *name, uint64_t now, int *error, bool *stale)
 {

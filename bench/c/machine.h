@@ -1,7 +1,7 @@
 /* The machine of docs/MACHINE.md in plain C: keys, rings, sessions and constructions in hash maps.
  *
  * It is the measure for `rk_core`, and answers the same events alike. Each event has a function; a session is found by its number
- * first. A want of memory ends the program. */
+ * first. Out of memory ends the program. */
 #ifndef MACHINE_H
 #define MACHINE_H
 
@@ -65,7 +65,7 @@ struct construction {
     bool unspent;
     struct context context; /* of the first requester */
     uint32_t destination;
-    uint32_t rings[3]; /* what the handler is told: the thread, process and session ring at the start, or 0 */
+    uint32_t rings[3]; /* what the handler gets: the thread, process and session ring at the start, or 0 */
     uint8_t *callout;
     size_t callout_len;
     struct session session;  /* of its plain handler */

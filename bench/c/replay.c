@@ -17,7 +17,7 @@ struct peer {
     bool shut;            /* its bytes were no frame */
     bool queued;          /* it stands in the queue of those that may move */
     size_t taken;         /* how many of the bytes were used */
-    struct buffer bytes;  /* of its frames, or what a piped handler has put out */
+    struct buffer bytes;  /* of its frames, or the output of a piped handler */
     struct session *session;
     struct construction *construction; /* null for a client */
 };

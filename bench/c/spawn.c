@@ -3,7 +3,7 @@
  * usage: spawn [--resident MIB] [--starts STARTS]
  *
  * Once with /bin/cat and once with a program that does nothing, 1 and 8 at a time; with so many MiB that were written to before. The best of five
- * rounds is told, each of so many starts. */
+ * rounds is printed, each of so many starts. */
 #include "threads.h"
 
 #include <errno.h>
@@ -22,7 +22,7 @@ extern char **environ;
 struct starter {
     const char *program;
     unsigned starts;
-    size_t wanted; /* the bytes that the program is to put out */
+    size_t wanted; /* the bytes that the program is to output */
 };
 
 /* The child's standard input and output are pipes; no other end of them is left open in it. */

@@ -52,7 +52,7 @@ static inline uint64_t best_of_rounds(unsigned count, void *(*function)(void *),
     return best;
 }
 
-/* A number in a word of the command line, at least `least`; else the usage is told. */
+/* A number in a word of the command line, at least `least`; else the usage is printed. */
 static inline unsigned number_in(const char *word, unsigned least, const char *usage)
 {
     char *end;

@@ -2,6 +2,8 @@
  * A plain handler: makes keys whose payload is their callout in capitals, and says for an hour that there is none where the callout is empty.
  *
  * Its line in the configuration: create user capitals:* * /path/of/example_handler %k
+ *
+ * A key that is to expire gets its time before its payload: reqkey_timeout, and then reqkey_instantiate, after which all is refused (EACCES).
  */
 #include "reqkey.h"
 

@@ -36,8 +36,8 @@ static const struct {
 } ERRORS[] = {
     {REQKEY_EPERM, "EPERM", "the authority of that key is not assumed, or a type begins with a dot"},
     {REQKEY_ENOENT, "ENOENT", "the key is not linked in that ring"},
-    {REQKEY_ENOMEM, "ENOMEM", "the daemon lacks memory"},
-    {REQKEY_EACCES, "EACCES", "nobody to act for, or a key or ring that is not the asker's"},
+    {REQKEY_ENOMEM, "ENOMEM", "the daemon is out of memory"},
+    {REQKEY_EACCES, "EACCES", "nobody to act for, or a key or ring that is not the requester's"},
     {REQKEY_EBUSY, "EBUSY", "the key is under construction"},
     {REQKEY_EINVAL, "EINVAL", "a name, payload or number that is not allowed"},
     {REQKEY_EDEADLK, "EDEADLK", "handlers would wait in a circle"},
@@ -46,9 +46,9 @@ static const struct {
     {REQKEY_EKEYEXPIRED, "EKEYEXPIRED", "the key has expired"},
     {REQKEY_EKEYREVOKED, "EKEYREVOKED", "the key was revoked, or the authority is spent"},
     {REQKEY_EKEYREJECTED, "EKEYREJECTED", "the key was rejected"},
-    {REQKEY_UNSPELT, "unspelt", "the arguments have no place in a frame"},
+    {REQKEY_UNSPELT, "unspelt", "the arguments do not fit a frame"},
     {REQKEY_ENDED, "ended", "the connection has ended"},
-    {REQKEY_MALFORMED, "malformed", "what came is no reply to this ask"},
+    {REQKEY_MALFORMED, "malformed", "what came is not a reply to this request"},
     {REQKEY_SYSTEM, "system", "a read or write has failed"},
 };
 
@@ -141,6 +141,11 @@ void reqkey_free(struct reqkey *session)
 {
     if (session != NULL && session->connected)
         close(session->input);
+    free(session);
+}
+
+void reqkey_forget(struct reqkey *session)
+{
     free(session);
 }
 

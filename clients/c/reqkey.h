@@ -134,10 +134,13 @@ struct reqkey *reqkey_open(int input, int output);
  */
 void reqkey_free(struct reqkey *session);
 
+/* The same without closing anything, for a program that has closed the connection by itself: its number may be another file's by now. */
+void reqkey_forget(struct reqkey *session);
+
 /* The descriptor that it reads from: the connection of a client. To set its limits of time, or whether exec(3) closes it, as it does unless that is changed. */
 int reqkey_descriptor(const struct reqkey *session);
 
-/* The name of a result, as "ENOKEY" of -126, and what it says in words. For a number that is no error they are "?" and "unknown error". */
+/* The name of a result, as "ENOKEY" of -126, and what it says in words. For any other number they are "?" and "unknown error". */
 const char *reqkey_name(int result);
 const char *reqkey_text(int result);
 
@@ -198,7 +201,7 @@ int reqkey_default(struct reqkey *session, int32_t setting);
 /* Makes a key with its payload, of 1 to 32,767 bytes, links it in a ring, and gives its serial. */
 int reqkey_add(struct reqkey *session, const char *type, const char *description, const void *payload, size_t length, int32_t ring);
 
-/* What a handler is told by who requested its key: its length, and where it stands. */
+/* The callout of the request for a handler's key: its length, and where it stands. */
 int reqkey_callout(struct reqkey *session, const char **text);
 
 #ifdef __cplusplus

@@ -2,6 +2,7 @@
 #include "session.h"
 
 #include <errno.h>
+#include <stdbool.h>
 #include <stdio.h>
 #include <stdlib.h>
 #include <string.h>
@@ -12,6 +13,7 @@ const char keyutils_build_string[] = "on reqkeyd";
 
 enum {
     PAYLOAD = 32767,
+    NAME = 4096, /* of a ring, with its zero byte */
     DESCRIPTION = 31 + 1 + 10 + 1 + 2 + 1 + 8 + 1 + 4095 + 1, /* type;uid;gid;permissions;description and a zero byte */
 };
 
@@ -22,6 +24,20 @@ static int failed(int error)
 {
     errno = error;
     return -1;
+}
+
+/*
+ * A handler's authority and its requester's ring have no serials. These stand for them in a handler's calls. They are the numbers that the daemon would give
+ * last, after two thousand million keys.
+ */
+enum { REQUESTOR_SERIAL = INT32_MAX - 7, AUTHORITY_SERIAL = INT32_MAX - 6 };
+
+/* What a serial stands for. */
+static key_serial_t meant(key_serial_t id)
+{
+    if (!session_is_handlers())
+        return id;
+    return id == REQUESTOR_SERIAL ? REQKEY_REQUESTOR_RING : id == AUTHORITY_SERIAL ? REQKEY_AUTHORITY : id;
 }
 
 /* ---- names */
@@ -35,7 +51,7 @@ key_serial_t add_key(const char *type, const char *description, const void *payl
     if (strcmp(type, "keyring") == 0)
         return failed(EOPNOTSUPP);
     struct reqkey *session = session_begin(0);
-    return session == NULL ? -1 : (key_serial_t)session_end(reqkey_add(session, type, description, payload, plen, ringid));
+    return session == NULL ? -1 : (key_serial_t)session_end(reqkey_add(session, type, description, payload, plen, meant(ringid)));
 }
 
 key_serial_t request_key(const char *type, const char *description, const char *callout_info, key_serial_t destringid)
@@ -43,7 +59,7 @@ key_serial_t request_key(const char *type, const char *description, const char *
     if (type == NULL || description == NULL)
         return failed(EFAULT);
     struct reqkey *session = session_begin(0);
-    return session == NULL ? -1 : (key_serial_t)session_end(reqkey_request(session, type, description, callout_info, destringid));
+    return session == NULL ? -1 : (key_serial_t)session_end(reqkey_request(session, type, description, callout_info, meant(destringid)));
 }
 
 key_serial_t find_key_by_type_and_desc(const char *type, const char *desc, key_serial_t destringid)
@@ -70,12 +86,26 @@ static key_serial_t ring_serial(struct reqkey_rings rings, key_serial_t id)
     }
 }
 
+/* The number that stands for a handler's authority, or its requester's ring. Only a handler with its authority assumed has them, and it has a callout. */
+static key_serial_t handlers_serial(key_serial_t id)
+{
+    const char *callout;
+    struct reqkey *session = session_begin(0);
+    if (session == NULL)
+        return -1;
+    int result = session_is_handlers() ? reqkey_callout(session, &callout) : -REQKEY_ENOKEY;
+    key_serial_t serial = id == REQKEY_AUTHORITY ? AUTHORITY_SERIAL : REQUESTOR_SERIAL;
+    return session_end(result < 0 ? result : 0) < 0 ? -1 : serial;
+}
+
 /* No ring is made, whatever `create` says. Of the serials those of rings are left out for keyctl_describe. */
 key_serial_t keyctl_get_keyring_ID(key_serial_t id, int create)
 {
     (void)create;
     if (id >= 0)
         return keyctl_describe(id, NULL, 0) >= 0 || errno == EOPNOTSUPP ? id : -1;
+    if (id == REQKEY_AUTHORITY || id == REQKEY_REQUESTOR_RING)
+        return handlers_serial(id);
     if (session_begin(0) == NULL)
         return -1;
     key_serial_t serial = ring_serial(session_rings(), id);
@@ -85,25 +115,76 @@ key_serial_t keyctl_get_keyring_ID(key_serial_t id, int create)
 
 key_serial_t keyctl_join_session_keyring(const char *name)
 {
-    return name != NULL ? failed(EOPNOTSUPP) : (key_serial_t)session_renew();
+    if (name != NULL && (name[0] == 0 || strlen(name) >= NAME))
+        return failed(EINVAL);
+    if (name != NULL && name[0] == '.')
+        return failed(EPERM);
+    return (key_serial_t)session_renew(name);
 }
 
 long keyctl_clear(key_serial_t ringid)
 {
+    if (ringid == 0)
+        return failed(EINVAL);
     struct reqkey *session = session_begin(0);
-    return session == NULL ? -1 : session_end(reqkey_clear(session, ringid));
+    return session == NULL ? -1 : session_end(reqkey_clear(session, meant(ringid)));
+}
+
+/* Whether the user ring would be linked into the session ring. It is searched anyway, so that is done. Of the session that has begun. */
+static bool is_users_link(key_serial_t id, key_serial_t ringid)
+{
+    struct reqkey_rings rings = session_rings();
+    bool from_user = id == REQKEY_USER_RING || (id > 0 && (uint32_t)id == rings.user);
+    return from_user && (ringid == REQKEY_SESSION_RING || (ringid > 0 && (uint32_t)ringid == rings.session));
 }
 
 long keyctl_link(key_serial_t id, key_serial_t ringid)
 {
+    if (session_begin(0) == NULL)
+        return -1;
+    bool done = is_users_link(id, ringid);
+    session_end(0);
+    if (done)
+        return 0;
     struct reqkey *session = session_begin(id);
-    return session == NULL ? -1 : session_end(reqkey_link(session, id, ringid));
+    return session == NULL ? -1 : session_end(reqkey_link(session, id, meant(ringid)));
 }
 
 long keyctl_unlink(key_serial_t id, key_serial_t ringid)
 {
     struct reqkey *session = session_begin(id);
-    return session == NULL ? -1 : session_end(reqkey_unlink(session, id, ringid));
+    return session == NULL ? -1 : session_end(reqkey_unlink(session, id, meant(ringid)));
+}
+
+/* A key of this name in the user ring, linked in another ring: a result of the session that has begun. */
+static int found_in_user_ring(struct reqkey *session, const char *type, const char *description, key_serial_t destringid)
+{
+    struct reqkey *alone = session_alone();
+    if (alone == NULL)
+        return -errno;
+    int key = reqkey_request(alone, type, description, NULL, REQKEY_NO_RING);
+    reqkey_free(alone);
+    if (key < 0 || destringid == 0)
+        return key <= -REQKEY_ENDED ? -ECONNRESET : key;
+    int result = reqkey_link(session, key, meant(destringid));
+    return result < 0 ? result : key;
+}
+
+/* The session ring is searched with the user ring behind it, as all requests are. */
+long keyctl_search(key_serial_t ringid, const char *type, const char *description, key_serial_t destringid)
+{
+    if (type == NULL || description == NULL)
+        return failed(EFAULT);
+    struct reqkey *session = session_begin(0);
+    if (session == NULL)
+        return -1;
+    struct reqkey_rings rings = session_rings();
+    if (ringid == REQKEY_USER_RING || (ringid > 0 && (uint32_t)ringid == rings.user))
+        return session_end(found_in_user_ring(session, type, description, destringid));
+    if (ringid == REQKEY_SESSION_RING || (ringid > 0 && (uint32_t)ringid == rings.session))
+        return session_end(reqkey_request(session, type, description, NULL, meant(destringid)));
+    session_end(0);
+    return failed(ringid == REQKEY_THREAD_RING || ringid == REQKEY_PROCESS_RING || ringid > 0 ? ENOKEY : ringid == 0 ? EINVAL : EOPNOTSUPP);
 }
 
 long keyctl_set_reqkey_keyring(int reqkey_defl)
@@ -138,10 +219,11 @@ static long copied(int length, const void *bytes, char *buffer, size_t buflen)
 long keyctl_read(key_serial_t id, char *buffer, size_t buflen)
 {
     const void *payload = NULL;
-    struct reqkey *session = session_begin(id == REQKEY_AUTHORITY ? 0 : id);
+    key_serial_t key = meant(id);
+    struct reqkey *session = session_begin(key == REQKEY_AUTHORITY ? 0 : key);
     if (session == NULL)
         return -1;
-    int length = reqkey_read(session, id, &payload);
+    int length = reqkey_read(session, key, &payload);
     return copied(length, payload, buffer, buflen);
 }
 
@@ -159,10 +241,28 @@ static int kernels_words(const char *text, char *words)
     return length < DESCRIPTION ? length + 1 : -REQKEY_MALFORMED;
 }
 
+/* The authority of a handler that has assumed it, as the kernel describes its key: for the user whom the handler acts for, and named by the handler's key. */
+static long described_authority(char *buffer, size_t buflen)
+{
+    const char *text, *uid;
+    char words[DESCRIPTION];
+    struct reqkey *session = session_begin(0);
+    if (session == NULL)
+        return -1;
+    int key = session_assumed(), length = key == 0 ? -EOPNOTSUPP : reqkey_describe(session, key, &text);
+    if (length >= 0 && (uid = strchr(text, ';')) != NULL)
+        length = 1 + snprintf(words, sizeof words, ".request_key_auth;%u;-1;0b010000;%x", (unsigned)strtoul(uid + 1, NULL, 10), (unsigned)key);
+    else if (length >= 0)
+        length = -REQKEY_MALFORMED;
+    return copied(length, words, buffer, buflen);
+}
+
 long keyctl_describe(key_serial_t id, char *buffer, size_t buflen)
 {
     const char *text;
     char words[DESCRIPTION];
+    if (meant(id) == REQKEY_AUTHORITY && session_is_handlers())
+        return described_authority(buffer, buflen);
     struct reqkey *session = session_begin(id);
     if (session == NULL)
         return -1;
@@ -209,8 +309,9 @@ long keyctl_assume_authority(key_serial_t key)
     struct reqkey *session = session_begin(0);
     if (session == NULL)
         return -1;
-    session_assumes();
-    return session_end(reqkey_assume(session, key));
+    int result = reqkey_assume(session, key);
+    session_assumes(result == 0 ? key : 0);
+    return session_end(result);
 }
 
 long keyctl_instantiate(key_serial_t id, const void *payload, size_t plen, key_serial_t ringid)
@@ -218,7 +319,7 @@ long keyctl_instantiate(key_serial_t id, const void *payload, size_t plen, key_s
     if (payload == NULL && plen > 0)
         return failed(EFAULT);
     struct reqkey *session = session_begin(id);
-    return session == NULL ? -1 : session_end(reqkey_instantiate(session, id, payload, plen, ringid));
+    return session == NULL ? -1 : session_end(reqkey_instantiate(session, id, payload, plen, meant(ringid)));
 }
 
 /* All parts in one; EINVAL where they are no payload together. */
@@ -239,13 +340,13 @@ long keyctl_instantiate_iov(key_serial_t id, const struct iovec *payload_iov, un
 long keyctl_negate(key_serial_t id, unsigned timeout, key_serial_t ringid)
 {
     struct reqkey *session = session_begin(id);
-    return session == NULL ? -1 : session_end(reqkey_negate(session, id, timeout, ringid));
+    return session == NULL ? -1 : session_end(reqkey_negate(session, id, timeout, meant(ringid)));
 }
 
 long keyctl_reject(key_serial_t id, unsigned timeout, unsigned error, key_serial_t ringid)
 {
     struct reqkey *session = session_begin(id);
-    return session == NULL ? -1 : session_end(reqkey_reject(session, id, timeout, error, ringid));
+    return session == NULL ? -1 : session_end(reqkey_reject(session, id, timeout, error, meant(ringid)));
 }
 
 /* ---- what there is */

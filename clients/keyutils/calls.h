@@ -1,5 +1,5 @@
 /*
- * libkeyutils' calls, as <keyutils.h> of keyutils 1.6.3 declares them; docs/KEYUTILS.md tells what each does here. Programs are compiled with the header of
+ * libkeyutils' calls, as <keyutils.h> of keyutils 1.6.3 declares them; docs/PROGRAMS.md tells what each does here. Programs are compiled with the header of
  * keyutils itself: this one is there so that the library can be built without it.
  */
 #ifndef CALLS_H
@@ -25,6 +25,7 @@ struct keyctl_pkey_query;
 #define KEYCTL_CLEAR 7
 #define KEYCTL_LINK 8
 #define KEYCTL_UNLINK 9
+#define KEYCTL_SEARCH 10
 #define KEYCTL_READ 11
 #define KEYCTL_INSTANTIATE 12
 #define KEYCTL_NEGATE 13
@@ -50,6 +51,7 @@ int keyctl_describe_alloc(key_serial_t id, char **_buffer);
 long keyctl_clear(key_serial_t ringid);
 long keyctl_link(key_serial_t id, key_serial_t ringid);
 long keyctl_unlink(key_serial_t id, key_serial_t ringid);
+long keyctl_search(key_serial_t ringid, const char *type, const char *description, key_serial_t destringid);
 long keyctl_read(key_serial_t id, char *buffer, size_t buflen);
 int keyctl_read_alloc(key_serial_t id, void **_buffer);
 long keyctl_instantiate(key_serial_t id, const void *payload, size_t plen, key_serial_t ringid);
@@ -68,7 +70,6 @@ long keyctl(int cmd, ...);
 long keyctl_update(key_serial_t id, const void *payload, size_t plen);
 long keyctl_chown(key_serial_t id, uid_t uid, gid_t gid);
 long keyctl_setperm(key_serial_t id, key_perm_t perm);
-long keyctl_search(key_serial_t ringid, const char *type, const char *description, key_serial_t destringid);
 long keyctl_get_security(key_serial_t key, char *buffer, size_t buflen);
 int keyctl_get_security_alloc(key_serial_t id, char **_buffer);
 long keyctl_session_to_parent(void);

@@ -1,4 +1,4 @@
-/* The calls for which the daemon has nothing: each fails with EOPNOTSUPP, whatever it is told, and says nothing to the daemon. */
+/* The calls for which the daemon has nothing: each fails with EOPNOTSUPP, whatever its arguments, and says nothing to the daemon. */
 #include "calls.h"
 
 #include <errno.h>
@@ -15,7 +15,6 @@
 LEFT_OUT(long, keyctl_update, key_serial_t id, const void *payload, size_t plen)
 LEFT_OUT(long, keyctl_chown, key_serial_t id, uid_t uid, gid_t gid)
 LEFT_OUT(long, keyctl_setperm, key_serial_t id, key_perm_t perm)
-LEFT_OUT(long, keyctl_search, key_serial_t ringid, const char *type, const char *description, key_serial_t destringid)
 LEFT_OUT(long, keyctl_get_security, key_serial_t key, char *buffer, size_t buflen)
 LEFT_OUT(int, keyctl_get_security_alloc, key_serial_t id, char **_buffer)
 LEFT_OUT(long, keyctl_session_to_parent, void)

@@ -28,6 +28,8 @@ long keyctl(int cmd, ...)
         return keyctl_link(id, (key_serial_t)a[1]);
     case KEYCTL_UNLINK:
         return keyctl_unlink(id, (key_serial_t)a[1]);
+    case KEYCTL_SEARCH:
+        return keyctl_search(id, (const char *)a[1], (const char *)a[2], (key_serial_t)a[3]);
     case KEYCTL_READ:
         return keyctl_read(id, (char *)a[1], a[2]);
     case KEYCTL_INSTANTIATE:

@@ -1,78 +1,51 @@
 #include "session.h"
 
+#include "environment.h"
+#include "streams.h"
+#include "turn.h"
+
 #include <errno.h>
 #include <fcntl.h>
-#include <pthread.h>
+#include <poll.h>
+#include <signal.h>
 #include <stdio.h>
 #include <stdlib.h>
-#include <string.h>
+#include <sys/socket.h>
+#include <sys/stat.h>
 #include <unistd.h>
 
-static pthread_mutex_t lock = PTHREAD_MUTEX_INITIALIZER;
+/* The calls after which a connection is made anew. The daemon reads a connection 1,048,576 times, at most 4,096 bytes each time. */
+enum { CALLS = 50000 };
+
+/* A session, and what its descriptor is. */
+struct held {
+    struct reqkey *session; /* or NULL */
+    dev_t device;
+    ino_t inode;
+};
+
+/* Sessions of calls that did not end, as long as their functions may go on with them. */
+static struct {
+    struct held held;
+    int thread;
+    const char *frame; /* where the stack was when the call began */
+} aside[8];
 
 static struct {
-    struct reqkey *session; /* or NULL */
-    bool is_handler;
-    bool assumed; /* a handler's authority, or the program does that itself */
-    pid_t owner;  /* of a client */
+    struct held held;
+    bool asks;              /* the program itself assumes authorities */
+    int32_t assumed;        /* the handler's key, or 0 */
+    pid_t owner;            /* of a client's connection */
+    uid_t uid;
+    gid_t gid;
+    pid_t daemon; /* who has answered it, or 0 */
+    unsigned calls;
     struct reqkey_rings rings;
+    uint32_t handed;   /* the ring that is there for what this process executes, or 0 */
+    const char *frame; /* where the stack was when the call began */
 } own;
 
-/* ---- a handler's streams */
-
-static bool streams_told(int *input, int *output)
-{
-    const char *told = secure_getenv("REQKEYD_STREAMS");
-    return told != NULL && sscanf(told, "%d,%d", input, output) == 2 && *input >= 0 && *output >= 0;
-}
-
-/* Puts what a file has, or else nothing, in the place of this descriptor. */
-static void replace(int descriptor, int file)
-{
-    if (file < 0 || dup2(file, descriptor) < 0) {
-        int nothing = open("/dev/null", O_RDWR | O_CLOEXEC);
-        dup2(nothing, descriptor);
-        if (nothing > STDERR_FILENO)
-            close(nothing);
-    }
-}
-
-static void take_lock(void)
-{
-    pthread_mutex_lock(&lock);
-}
-
-static void give_lock(void)
-{
-    pthread_mutex_unlock(&lock);
-}
-
-/* The thread that held it may be one of the parent. */
-static void renew_lock(void)
-{
-    pthread_mutex_init(&lock, NULL);
-}
-
-__attribute__((constructor)) static void loaded(void)
-{
-    int input, output;
-    pthread_atfork(NULL, NULL, renew_lock);
-    if (!streams_told(&input, &output) || input != STDIN_FILENO || output != STDOUT_FILENO)
-        return;
-    /* not closed by exec: they are for all programs of the handler */
-    input = fcntl(STDIN_FILENO, F_DUPFD, 10);
-    output = fcntl(STDOUT_FILENO, F_DUPFD, 10);
-    char told[32];
-    snprintf(told, sizeof told, "%d,%d", input, output);
-    if (input < 0 || output < 0 || setenv("REQKEYD_STREAMS", told, 1) < 0)
-        return;
-    replace(STDIN_FILENO, -1);
-    replace(STDOUT_FILENO, STDERR_FILENO);
-}
-
-/* ---- the session */
-
-/* What errno says of a result that is no reply. */
+/* The errno of a result without a reply. */
 static int errno_of(int result)
 {
     switch (-result) {
@@ -89,7 +62,17 @@ static int errno_of(int result)
     }
 }
 
-/* A client's session in this session ring, or in a new one for 0; NULL, and errno. */
+/* ---- a client's connection */
+
+/* The process that listens at the other end; 0 if that is not known. */
+static pid_t daemon_of(const struct reqkey *session)
+{
+    struct ucred who = {0, 0, 0};
+    socklen_t length = sizeof who;
+    return getsockopt(reqkey_descriptor(session), SOL_SOCKET, SO_PEERCRED, &who, &length) == 0 ? who.pid : 0;
+}
+
+/* A connection in this session ring, or in a new one for 0; NULL, and errno. A ring of a daemon that is not the same one any more is not there: ENOKEY. */
 static struct reqkey *client(uint32_t join, struct reqkey_rings *rings)
 {
     const char *path = secure_getenv("REQKEYD_SOCKET");
@@ -100,7 +83,8 @@ static struct reqkey *client(uint32_t join, struct reqkey_rings *rings)
     struct reqkey *session = reqkey_connect(path);
     if (session == NULL)
         return NULL;
-    int result = reqkey_hello(session, geteuid(), getegid(), 0, join, rings);
+    bool other = join != 0 && own.daemon != 0 && daemon_of(session) != own.daemon;
+    int result = other ? -REQKEY_ENOKEY : reqkey_hello(session, geteuid(), getegid(), 0, join, rings);
     if (result < 0) {
         int error = errno_of(result);
         reqkey_free(session);
@@ -116,34 +100,106 @@ static uint32_t ring_told(void)
     return told == NULL ? 0 : (uint32_t)strtoul(told, NULL, 10);
 }
 
+static bool is_same_user(void)
+{
+    return own.uid == geteuid() && own.gid == getegid();
+}
+
+/* A connection in the ring that this process has been in, else in the one of its environment, else in a new one; NULL, and errno. */
+static struct reqkey *next_client(struct reqkey_rings *rings)
+{
+    uint32_t told = ring_told(), before = own.rings.session;
+    struct reqkey *session = NULL;
+    errno = ENOKEY;
+    if (before != 0)
+        session = client(before, rings);
+    if (session == NULL && told != 0 && told != before && (errno == ENOKEY || errno == EACCES))
+        session = client(told, rings);
+    if (session != NULL || (errno != ENOKEY && errno != EACCES))
+        return session;
+    if (told == 0 || (before != 0 && !is_same_user()))
+        return client(0, rings);
+    errno = errno == ENOKEY ? EKEYREVOKED : errno;
+    return NULL;
+}
+
+/* Whether the descriptor still is this session's: the program may have closed it, and opened another file. */
+static bool is_mine(const struct held *held)
+{
+    struct stat file;
+    return fstat(reqkey_descriptor(held->session), &file) == 0 && file.st_dev == held->device && file.st_ino == held->inode;
+}
+
+/* Whether the daemon has ended the connection. It says nothing that it was not asked. */
+static bool has_ended(const struct reqkey *session)
+{
+    struct pollfd end = {reqkey_descriptor(session), POLLIN | POLLRDHUP, 0};
+    return poll(&end, 1, 0) > 0;
+}
+
+static void end(struct held *held)
+{
+    if (held->session != NULL && is_mine(held))
+        reqkey_free(held->session);
+    else if (held->session != NULL)
+        reqkey_forget(held->session);
+    held->session = NULL;
+}
+
 /* This session, which may be none, in the place of the one before. */
 static bool is_now(struct reqkey *session, const struct reqkey_rings *rings)
 {
-    struct reqkey *before = own.session;
+    struct stat file = {.st_ino = 0};
     if (session == NULL)
         return false;
+    end(&own.held);
+    fstat(reqkey_descriptor(session), &file);
+    own.held = (struct held){session, file.st_dev, file.st_ino};
     own.rings = *rings;
     own.owner = getpid();
-    own.session = session;
-    reqkey_free(before);
+    own.uid = geteuid();
+    own.gid = getegid();
+    own.daemon = daemon_of(session);
+    own.calls = 0;
+    if (own.handed == rings->session)
+        fcntl(reqkey_descriptor(session), F_SETFD, 0);
     return true;
 }
 
-/* Sees to a session of this process. */
-static bool is_there(void)
+/* Sees to a connection that is right for this call. */
+static bool is_connected(void)
 {
-    int input, output;
     struct reqkey_rings rings = {0, 0, 0, 0};
-    if (own.session != NULL && (own.is_handler || own.owner == getpid()))
+    bool right = own.held.session != NULL && own.owner == getpid() && is_same_user() && is_mine(&own.held) && !has_ended(own.held.session);
+    if (right && own.calls++ < CALLS)
         return true;
-    /* a child: its parent's session ring is there at least as long as its copy of the connection */
-    if (own.session != NULL)
-        return is_now(client(own.rings.session, &rings), &rings);
-    own.is_handler = streams_told(&input, &output);
-    if (own.is_handler)
-        return is_now(reqkey_open(input, output), &rings);
-    return is_now(client(ring_told(), &rings), &rings);
+    struct reqkey *next = next_client(&rings);
+    return is_now(next, &rings) || (right && next == NULL);
 }
+
+/* ---- a handler's session, over its streams */
+
+static struct reqkey *over_streams(void)
+{
+    int input, output, error = streams_take(&input, &output);
+    errno = error;
+    struct reqkey *session = error == 0 ? reqkey_open(input, output) : NULL;
+    if (session == NULL && error == 0) {
+        streams_give(true);
+        errno = ENOMEM;
+    }
+    return session;
+}
+
+/* Assumes the authority over this key, if it is the handler's own; an error where the session is over. */
+static int assume(int32_t key)
+{
+    int result = reqkey_assume(own.held.session, key);
+    own.assumed = result == 0 ? key : 0;
+    return result <= -REQKEY_ENDED ? errno_of(result) : 0;
+}
+
+/* ---- a call */
 
 static bool is_ring(int32_t key)
 {
@@ -154,39 +210,83 @@ static bool is_ring(int32_t key)
     return key > 0 && (serial == rings->session || serial == rings->user || serial == rings->thread || serial == rings->process);
 }
 
-/* Assumes the authority over this key, if it is the handler's own; an error where the session is over. */
-static int assume(int32_t key)
+/* An earlier call of this thread did not end, so that nobody knows whose the next reply is: its session is over, and set aside. */
+static void set_aside(void)
 {
-    int result = reqkey_assume(own.session, key);
-    own.assumed = result == 0;
-    return result <= -REQKEY_ENDED ? errno_of(result) : 0;
+    if (streams_are_told())
+        streams_give(false);
+    else if (own.held.session != NULL && is_mine(&own.held))
+        shutdown(reqkey_descriptor(own.held.session), SHUT_RDWR);
+    for (size_t i = 0; i < sizeof aside / sizeof *aside && own.held.session != NULL; i++) {
+        if (aside[i].held.session != NULL)
+            continue;
+        aside[i].held = own.held;
+        aside[i].thread = gettid();
+        aside[i].frame = own.frame;
+        own.held.session = NULL;
+    }
+    own.held.session = NULL; /* without a place for it, it stays in memory */
+}
+
+/* Ends the sessions of this thread whose functions were left: the stack is back at where these began, or before. Else a signal's function may be calling. */
+static void end_aside(const char *frame)
+{
+    stack_t stack = {.ss_flags = SS_ONSTACK};
+    if (sigaltstack(NULL, &stack) < 0 || (stack.ss_flags & SS_ONSTACK) != 0)
+        return;
+    for (size_t i = 0; i < sizeof aside / sizeof *aside; i++)
+        if (aside[i].held.session != NULL && aside[i].thread == gettid() && frame >= aside[i].frame)
+            end(&aside[i].held);
+}
+
+static void take_turn(const char *frame)
+{
+    if (turn_take() == TURN_LEFT)
+        set_aside();
+    end_aside(frame);
+    own.frame = frame;
 }
 
 struct reqkey *session_begin(int32_t key)
 {
-    take_lock();
-    int fault = !is_there() ? errno : is_ring(key) ? EOPNOTSUPP : 0;
-    if (fault == 0 && own.is_handler && !own.assumed && key > 0)
-        fault = assume(key);
-    if (fault == 0)
-        return own.session;
-    give_lock();
-    errno = fault;
+    take_turn(__builtin_frame_address(0));
+    bool handler = streams_are_told();
+    if (handler)
+        own.held = (struct held){over_streams(), 0, 0};
+    int fault = handler ? (own.held.session == NULL ? errno : 0) : is_connected() ? 0 : errno;
+    if (fault == 0 && is_ring(key))
+        fault = EOPNOTSUPP;
+    int broken = fault == 0 && handler && !own.asks && own.assumed == 0 && key > 0 ? assume(key) : 0;
+    if (fault == 0 && broken == 0)
+        return own.held.session;
+    if (handler && own.held.session != NULL) {
+        end(&own.held);
+        streams_give(broken == 0);
+    }
+    turn_give();
+    errno = fault != 0 ? fault : broken;
     return NULL;
 }
 
 long session_end(int result)
 {
     int error = result < 0 ? errno_of(result) : 0;
-    if (result <= -REQKEY_ENDED && !own.is_handler) {
-        reqkey_free(own.session);
-        own.session = NULL;
+    bool whole = result > -REQKEY_ENDED;
+    if (turn_is_mine() && (streams_are_told() || !whole)) {
+        end(&own.held);
+        if (streams_are_told())
+            streams_give(whole);
     }
-    give_lock();
+    turn_give();
     if (error == 0)
         return result;
     errno = error;
     return -1;
+}
+
+bool session_is_handlers(void)
+{
+    return streams_are_told();
 }
 
 struct reqkey_rings session_rings(void)
@@ -194,33 +294,45 @@ struct reqkey_rings session_rings(void)
     return own.rings;
 }
 
-void session_assumes(void)
+struct reqkey *session_alone(void)
 {
-    own.assumed = true;
-}
-
-/* Has this connection last as long as the programs that are executed, and tells them its ring. */
-static void hand_down(const struct reqkey *session, uint32_t ring)
-{
-    char told[16];
-    fcntl(reqkey_descriptor(session), F_SETFD, 0);
-    snprintf(told, sizeof told, "%u", ring);
-    setenv("REQKEYD_JOIN", told, 1);
-}
-
-long session_renew(void)
-{
-    int input, output;
     struct reqkey_rings rings;
-    if (streams_told(&input, &output)) {
+    if (!streams_are_told())
+        return client(0, &rings);
+    errno = EOPNOTSUPP;
+    return NULL;
+}
+
+void session_assumes(int32_t key)
+{
+    own.asks = true;
+    own.assumed = key;
+}
+
+int32_t session_assumed(void)
+{
+    return own.assumed;
+}
+
+long session_renew(const char *name)
+{
+    struct reqkey_rings rings;
+    (void)name;
+    if (streams_are_told()) {
         errno = EOPNOTSUPP;
         return -1;
     }
-    take_lock();
+    take_turn(__builtin_frame_address(0));
     struct reqkey *session = client(0, &rings);
+    if (session != NULL) {
+        char told[16];
+        snprintf(told, sizeof told, "%u", rings.session);
+        own.handed = rings.session; /* the connection lasts as long as the programs that are executed */
+        environment_set("REQKEYD_JOIN", told);
+    }
     bool done = is_now(session, &rings);
-    if (done)
-        hand_down(session, rings.session);
-    give_lock();
+    int error = errno;
+    turn_give();
+    errno = error;
     return done ? (long)rings.session : -1;
 }

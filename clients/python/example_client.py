@@ -1,5 +1,5 @@
 #!/usr/bin/env python3
-"""Requests a key of the daemon and prints its payload; where there is none, the callout is what its handler is told.
+"""Requests a key of the daemon and prints its payload; where there is none, the callout is what its handler gets.
 
 usage: example_client.py SOCKET TYPE DESCRIPTION [CALLOUT]
 """

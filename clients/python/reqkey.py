@@ -255,14 +255,14 @@ class Session:
         try:
             return Setting(value)
         except ValueError:
-            raise self._fault(_Ask.DEFAULT, f"{value}, which is no setting") from None
+            raise self._fault(_Ask.DEFAULT, f"an invalid setting: {value}") from None
 
     def add(self, type: str, description: str, payload: bytes, ring: int) -> int:
         """Makes a key with its payload, of 1 to 32,767 bytes, links it in a ring, and gives its serial."""
         return self._serial(_Ask.ADD, _text(type), _text(description), _block(payload), _i32(ring))
 
     def callout(self) -> str:
-        """What a handler is told by who requested its key."""
+        """The callout of the request for a handler's key."""
         return self._string(_Ask.CALLOUT)
 
     # ---- what the replies are
@@ -275,7 +275,7 @@ class Session:
     def _serial(self, ask: _Ask, *fields: bytes) -> int:
         value = self._value(ask, *fields)
         if not 1 <= value <= _SERIAL:
-            raise self._fault(ask, f"{value}, which is no serial")
+            raise self._fault(ask, f"an invalid serial: {value}")
         return value
 
     def _value(self, ask: _Ask, *fields: bytes) -> int:
@@ -295,7 +295,7 @@ class Session:
         try:
             return data.decode()
         except UnicodeDecodeError:
-            raise self._fault(ask, "bytes that are no text") from None
+            raise self._fault(ask, "bytes that are not text") from None
 
     def _ask(self, ask: _Ask, kind: _Reply, *fields: bytes) -> bytes:
         """Sends an ask, and gives what is behind the first byte of its reply, which has to be this one."""
@@ -305,7 +305,7 @@ class Session:
         if body[0] != _Reply.REFUSED:
             raise self._fault(ask, f"a reply of kind {body[0]}, not {kind.value}")
         if len(body) != 2 or body[1] not in _ERRNOS:
-            raise self._fault(ask, "a refusal that is none of the errors")
+            raise self._fault(ask, "a refusal with an unknown error")
         raise Refused(ask.name, Errno(body[1]))
 
     def _fault(self, ask: _Ask, text: str) -> Malformed:

@@ -1,6 +1,6 @@
 #!/usr/bin/env bash
-# Makes a Debian package of what is built, by dpkg-deb alone: `make deb` calls it, with the folder BUILT that has the programs and libkeyutils.so.1, and
-# the folder PACKAGES for the package.
+# Makes a Debian package of what is built, by dpkg-deb alone: `make deb` calls it, with the folder BUILT that has the programs, reqkey-trap and
+# libkeyutils.so.1, and the folder PACKAGES for the package.
 #
 # The same programs give the same bytes: times are SOURCE_DATE_EPOCH, or else that of the last commit, or where there is no history that of the program.
 # Nothing is run when the package is installed, and no daemon is started or restarted.
@@ -16,7 +16,6 @@ umask 022
 export DESTDIR=$root PREFIX=/usr ZSH_DIR=/usr/share/zsh/vendor-completions PYTHON_DIR=/usr/lib/python3/dist-packages
 packaging/install.sh install
 find "$root/usr/share/man" -type f -exec gzip -9n {} +
-install -D -m 644 packaging/debian/copyright "$root/usr/share/doc/reqkeyd/copyright"
 
 # the newest version of the C library of which a program here uses something
 libc=$(cat "$root"/usr/bin/* "$root"/usr/lib/reqkeyd/* | grep -aoE 'GLIBC_2[0-9.]+' | sort -uV | tail -n 1)

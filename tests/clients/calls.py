@@ -9,10 +9,10 @@ import sys
 import threading
 
 library = ctypes.CDLL(sys.argv[1], use_errno=True)
-THREAD, SESSION, USER, USER_SESSION, AUTHORITY = -1, -3, -4, -5, -7
+THREAD, SESSION, USER, USER_SESSION, AUTHORITY, REQUESTOR = -1, -3, -4, -5, -7, -8
 NOTHING = 2_000_000_000  # a serial that nothing has
 
-LEFT_OUT = ["keyctl_update", "keyctl_chown", "keyctl_setperm", "keyctl_search", "keyctl_get_security", "keyctl_get_security_alloc", "keyctl_session_to_parent",
+LEFT_OUT = ["keyctl_update", "keyctl_chown", "keyctl_setperm", "keyctl_get_security", "keyctl_get_security_alloc", "keyctl_session_to_parent",
             "keyctl_invalidate", "keyctl_get_persistent", "keyctl_dh_compute", "keyctl_dh_compute_alloc", "keyctl_dh_compute_kdf", "keyctl_restrict_keyring",
             "keyctl_pkey_query", "keyctl_pkey_encrypt", "keyctl_pkey_decrypt", "keyctl_pkey_sign", "keyctl_pkey_verify", "keyctl_move", "keyctl_watch_key",
             "recursive_key_scan", "recursive_session_key_scan"]
@@ -48,12 +48,17 @@ def faults():
     show("add_key", b"user", b"n", b"v" * 70000, 70000, SESSION)
     show("request_key", None, b"n", None, 0)
     show("keyctl_instantiate", NOTHING, None, 1, 0)
-    show("keyctl_join_session_keyring", b"a name")
+    show("keyctl_join_session_keyring", b"")
+    show("keyctl_join_session_keyring", b"n" * 4096)
+    show("keyctl_join_session_keyring", b".name")
+    show("keyctl_search", SESSION, b"user", None, 0)
+    show("keyctl_search", 0, b"user", b"n", 0)
+    show("keyctl_clear", 0)
     for name in ["keyctl_describe", "keyctl_read", "keyctl_revoke", "keyctl_set_timeout"]:
         print(name, [call(name, key, None, 0) for key in [SESSION, USER_SESSION, ring, NOTHING]])
     show("keyctl_link", USER, SESSION)
     show("keyctl_revoke", AUTHORITY)
-    print("keyctl_get_keyring_ID", [call("keyctl_get_keyring_ID", key, 1) for key in [THREAD, USER_SESSION, NOTHING, 0]],
+    print("keyctl_get_keyring_ID", [call("keyctl_get_keyring_ID", key, 1) for key in [THREAD, USER_SESSION, AUTHORITY, REQUESTOR, NOTHING, 0]],
           call("keyctl_get_keyring_ID", ring, 0) == ring)
 
 
@@ -76,6 +81,7 @@ def raw():
     buffer = ctypes.create_string_buffer(99)
     print("0", call("keyctl", 0, SESSION, 0) == ring)
     print("6", call("keyctl", 6, key, None, 0) == call("keyctl_describe", key, None, 0))
+    print("10", call("keyctl", 10, SESSION, b"user", b"n", 0) == key)
     for number, *words in [
         (8, key, USER), (9, key, USER), (11, key, buffer, 99), (12, key, b"v", 1, 0), (13, key, 1, 0), (14, -1), (15, key, 9), (16, key), (16, 0),
         (19, key, 1, 129, 0), (20, key, None, 0, 0), (31, buffer, 99), (3, key), (7, SESSION), (2, key, b"v", 1), (99, 0),

@@ -1,0 +1,170 @@
+/* The library's session.h, for whoever calls at the moment: a handler's one session, or a connection in the ring of the caller's process. */
+#include "session.h"
+
+#include "../keyutils/session.h"
+#include "caller.h"
+#include "handler.h"
+#include "processes.h"
+#include "rings.h"
+#include "sets.h"
+
+#include <errno.h>
+#include <stddef.h>
+
+static __thread struct connection *mine; /* of the call of this thread */
+
+/* The user of the daemon that the caller is; false and ENOMEM if there is no memory for it. */
+static bool number_of_caller(uint32_t *number)
+{
+    rings_lock();
+    bool known = set_number(caller.set, caller.uid, number) == 0;
+    rings_unlock();
+    errno = known ? 0 : ENOMEM;
+    return known;
+}
+
+/* The ring of the caller's process, held; the first one of its user if it is in none, or in another user's, who is let into no ring of that. */
+static struct ring *ring_of_caller(int *setting)
+{
+    uint32_t number;
+    if (!number_of_caller(&number))
+        return NULL;
+    rings_lock();
+    struct ring *ring = process_ring();
+    bool joined = ring != NULL && ring_is_of(ring, number), held = joined && ring_hold(ring);
+    *setting = process_setting();
+    rings_unlock();
+    if (held)
+        return ring;
+    if (!joined)
+        return ring_first(caller.set, number, caller.gid);
+    errno = EKEYREVOKED;
+    return NULL;
+}
+
+/* A connection for the caller; NULL and errno. If the daemon is found to be another one, a first ring is made anew, and the call goes on there. */
+static struct connection *connection_of_caller(int *setting)
+{
+    for (int turn = 0; turn < 2; turn++) {
+        struct ring *ring = ring_of_caller(setting);
+        struct connection *connection = ring == NULL ? NULL : connection_take(ring, caller.gid);
+        if (ring == NULL || connection != NULL)
+            return connection;
+        int error = errno;
+        ring_let_go(ring);
+        errno = error;
+        if (error != EKEYREVOKED)
+            break;
+    }
+    return NULL;
+}
+
+static bool is_ring(int32_t key)
+{
+    uint32_t serial = (uint32_t)key;
+    return key < 0 || (key > 0 && !is_handler() && (serial == mine->rings.session || serial == mine->rings.user));
+}
+
+/* Has a connection of several processes the setting of this one. */
+static void set_default(int setting)
+{
+    if (mine->setting == setting || reqkey_default(mine->session, setting) < 0)
+        return;
+    mine->setting = setting;
+}
+
+struct reqkey *session_begin(int32_t key)
+{
+    int setting = 0;
+    struct reqkey *session = NULL;
+    if (is_handler())
+        session = handler_take();
+    else if ((mine = connection_of_caller(&setting)) != NULL) {
+        set_default(setting);
+        mine->calls++;
+        session = mine->session;
+    }
+    if (session == NULL)
+        return NULL;
+    int fault = is_ring(key) ? EOPNOTSUPP : caller_lives() ? 0 : ESRCH; /* it may have waited for its turn */
+    if (fault == 0)
+        return session;
+    session_end(0);
+    errno = fault;
+    return NULL;
+}
+
+long session_end(int result)
+{
+    int error = result < 0 ? errno_of(result) : 0;
+    if (is_handler())
+        handler_give();
+    else
+        connection_give(mine, result <= -REQKEY_ENDED);
+    mine = NULL;
+    if (error == 0)
+        return result;
+    errno = error;
+    return -1;
+}
+
+bool session_is_handlers(void)
+{
+    return is_handler();
+}
+
+struct reqkey_rings session_rings(void)
+{
+    return is_handler() ? (struct reqkey_rings){0, 0, 0, 0} : mine->rings;
+}
+
+struct reqkey *session_alone(void)
+{
+    if (is_handler()) {
+        errno = EOPNOTSUPP;
+        return NULL;
+    }
+    uint32_t number;
+    return number_of_caller(&number) ? ring_alone(number, caller.gid) : NULL;
+}
+
+long session_renew(const char *name)
+{
+    if (is_handler()) {
+        errno = EOPNOTSUPP;
+        return -1;
+    }
+    uint32_t number;
+    struct ring *ring = number_of_caller(&number) ? ring_named(caller.set, number, caller.gid, name) : NULL;
+    if (ring == NULL)
+        return -1;
+    uint32_t serial = ring_serial(ring);
+    rings_lock();
+    bool joined = process_join(ring);
+    rings_unlock();
+    ring_let_go(ring);
+    if (joined)
+        return (long)serial;
+    errno = ENOMEM;
+    return -1;
+}
+
+void session_setting(int setting)
+{
+    if (is_handler())
+        return;
+    mine->setting = setting;
+    rings_lock();
+    process_set(setting);
+    rings_unlock();
+}
+
+void session_assumes(int32_t key)
+{
+    handler_assumes(key);
+}
+
+int32_t session_assumed(void)
+{
+    return handler_key();
+}

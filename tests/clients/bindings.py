@@ -1,0 +1,13 @@
+"""What python3-keyutils gives, line by line: each of its calls that the daemon answers, and one that is left out."""
+import keyutils as k
+
+key = k.add_key(b"n", b"v", k.KEY_SPEC_SESSION_KEYRING)
+print(k.read_key(key), k.request_key(b"n", k.KEY_SPEC_SESSION_KEYRING) == key, k.describe_key(key).endswith(b";-1;3f000000;n"))
+print(k.search(k.KEY_SPEC_SESSION_KEYRING, b"n") == key, k.request_key(b"none", k.KEY_SPEC_SESSION_KEYRING))
+print(k.link(key, k.KEY_SPEC_USER_KEYRING), k.unlink(key, k.KEY_SPEC_USER_KEYRING), k.set_timeout(key, 1000), k.revoke(key))
+for call in [lambda: k.read_key(key), lambda: k.update_key(key, b"w")]:
+    try:
+        print(call())
+    except k.Error as error:
+        print(error.args[1])
+print(k.join_session_keyring(b"a name") > 0, k.join_session_keyring() > 0, k.clear(k.KEY_SPEC_SESSION_KEYRING))

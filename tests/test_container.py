@@ -1,0 +1,206 @@
+#!/usr/bin/env python3
+"""Containers with a key service of their own, by reqkey-trap and the runtimes that are here: crun, runc, and podman over one of these. Each container has its
+own rings, what is started in it later finds them, and keyutils' own programs run in it unmodified.
+
+A container sees this machine's /usr, so no image is needed. What needs a program or a right that is not there is not tried, and says so.
+"""
+import json
+import os
+import pathlib
+import shutil
+import subprocess
+import tempfile
+
+from counted import Counted
+from daemon import Daemon, until
+from programs import LIMIT, PROGRAMS
+from trap import Trap, built, environment, notifies
+
+count = Counted()
+CALLS = ["add_key", "request_key", "keyctl"]
+PATH = "PATH=/usr/sbin:/usr/bin:/sbin:/bin"
+
+# What a container does until it gets the word to end.
+WAITS = "keyctl add user k mine @u > /dev/null; touch /tmp/ready; while [ ! -e /tmp/end ]; do sleep 0.05; done; keyctl print %user:later"
+
+
+def profile(listener):
+    """The filter of a container, as its runtime takes it."""
+    return {
+        "defaultAction": "SCMP_ACT_ALLOW", "architectures": ["SCMP_ARCH_X86_64", "SCMP_ARCH_X86", "SCMP_ARCH_X32"], "listenerPath": str(listener),
+        "syscalls": [{"names": CALLS, "action": "SCMP_ACT_NOTIFY"}],
+    }
+
+
+def hardened(listener):
+    """podman's own profile, with the three calls for the listener; the one above where that is not here."""
+    stock = pathlib.Path("/usr/share/containers/seccomp.json")
+    if not stock.exists():
+        return profile(listener)
+    own = json.loads(stock.read_text())
+    others = [{**rule, "names": [name for name in rule["names"] if name not in CALLS]} for rule in own["syscalls"]]
+    return {**own, "listenerPath": str(listener), "syscalls": [*(rule for rule in others if rule["names"]), {"names": CALLS, "action": "SCMP_ACT_NOTIFY"}]}
+
+
+class Container:
+    """A folder with the root of a container; `start` runs words in it."""
+
+    def __init__(self, room, name, listener):
+        self.room, self.name, self.listener = room / name, f"{room.name}-{name}", listener
+        self.root = self.room / "rootfs"
+        for folder in ["proc", "dev", "usr", "tmp", "sys", "etc"]:
+            (self.root / folder).mkdir(parents=True)
+        for link in ["bin", "sbin", "lib", "lib64"]:
+            if os.path.islink(f"/{link}"):
+                (self.root / link).symlink_to(f"usr/{link}")
+
+    def write(self, *words, filtered=True):
+        """The container's configuration, for these words; with a filter, or without."""
+        mounts = [
+            {"destination": "/proc", "type": "proc", "source": "proc"},
+            {"destination": "/dev", "type": "tmpfs", "source": "tmpfs", "options": ["nosuid", "mode=755", "size=65536k"]},
+            {"destination": "/usr", "type": "bind", "source": "/usr", "options": ["bind", "ro"]},
+        ]
+        process = {"terminal": False, "user": {"uid": 0, "gid": 0}, "args": list(words), "env": [PATH], "cwd": "/", "noNewPrivileges": True}
+        namespaces = [{"type": kind} for kind in ["pid", "network", "ipc", "uts", "mount"]]
+        linux = {"namespaces": namespaces, **({"seccomp": profile(self.listener)} if filtered else {})}
+        config = {"ociVersion": "1.0.0", "process": process, "root": {"path": "rootfs", "readonly": False}, "mounts": mounts, "linux": linux}
+        (self.room / "config.json").write_text(json.dumps(config))
+
+
+def wrapped(*words):
+    """A runtime's words, on a machine with both versions of cgroups, too, where it sees version 2 alone."""
+    if not os.path.isdir("/sys/fs/cgroup/unified"):
+        return list(words)
+    return ["unshare", "-m", "sh", "-c", 'mount --make-rprivate / && mount --bind /sys/fs/cgroup/unified /sys/fs/cgroup && exec "$@"', "sh", *words]
+
+
+class Runtime:
+    """crun or runc."""
+
+    def __init__(self, name, state):
+        self.name, self.state = name, state
+        self.words = [name, "--root", str(state), *(["--cgroup-manager=disabled"] if name == "crun" else [])]
+
+    def run(self, container, *words):
+        """Status, output and errors of words in a new container."""
+        container.write(*words)
+        ran = subprocess.run(wrapped(*self.words, "run", container.name), capture_output=True, text=True, timeout=LIMIT, cwd=container.room)
+        return ran.returncode, ran.stdout, ran.stderr
+
+    def start(self, container, *words):
+        container.write(*words)
+        streams = {"stdin": subprocess.DEVNULL, "stdout": subprocess.PIPE, "stderr": subprocess.PIPE}
+        return subprocess.Popen(wrapped(*self.words, "run", container.name), text=True, cwd=container.room, **streams)
+
+    def more(self, container, *words):
+        """The same of words in a container that runs."""
+        ran = subprocess.run(wrapped(*self.words, "exec", container.name, *words), capture_output=True, text=True, timeout=LIMIT, cwd=container.room)
+        return ran.returncode, ran.stdout, ran.stderr
+
+
+class Podman(Runtime):
+    """podman over one of the runtimes."""
+
+    def __init__(self, over, state):
+        self.name, self.over = f"podman over {over}", over
+        self.profile = state / "profile.json"
+        self.words = [
+            "podman", "--root", str(state / "root"), "--runroot", str(state / "run"), "--tmpdir", str(state / "tmp"), "--storage-driver", "vfs",
+            "--cgroup-manager", "cgroupfs", "--events-backend", "file", "--log-level", "error", "--runtime", shutil.which(over, path="/usr/bin:/usr/sbin"),
+        ]
+
+    def options(self, container):
+        self.profile.write_text(json.dumps(hardened(container.listener)))
+        groups = ["--cgroups", "disabled"] if self.over == "crun" else []
+        limits = ["--ulimit", "nofile=1024:1024", "--ulimit", "nproc=1024:1024"]
+        return ["run", "--rm", "--name", container.name, "--network", "none", *limits, *groups, "--security-opt", f"seccomp={self.profile}",
+                "--annotation", f"run.oci.seccomp.receiver={container.listener}", "-v", "/usr:/usr:ro", "--rootfs", str(container.root)]
+
+    def run(self, container, *words):
+        ran = subprocess.run(wrapped(*self.words, *self.options(container), *words), capture_output=True, text=True, timeout=LIMIT)
+        return ran.returncode, ran.stdout, ran.stderr
+
+    def start(self, container, *words):
+        streams = {"stdin": subprocess.DEVNULL, "stdout": subprocess.PIPE, "stderr": subprocess.PIPE}
+        return subprocess.Popen(wrapped(*self.words, *self.options(container), *words), text=True, **streams)
+
+
+def tries(runtime, room, listener):
+    """One runtime: a container alone, and two of them at a time."""
+    alone = Container(room, "alone", listener)
+    status, output, errors = runtime.run(alone, "true")
+    if status != 0:
+        print(f"containers by {runtime.name}: not tried, it starts none here: {errors.strip()[:200]}")
+        return
+    got = runtime.run(alone, "sh", "-c", "keyctl print $(keyctl request2 user made:a hello @s); keyctl add user k v @u > /dev/null; keyctl rdescribe %user:k")
+    count.same(f"{runtime.name}: the calls of a container", got, (0, "hello\nuser;0;-1;3f000000;k\n", ""))
+    web, other = Container(room, "web", listener), Container(room, "other", listener)
+    runs = runtime.start(web, "sh", "-c", WAITS)
+    until(lambda: (web.root / "tmp" / "ready").exists() or runs.poll() is not None, "a container")
+    count.same(f"{runtime.name}: another container", runtime.run(other, "keyctl", "print", "%user:k"), (1, "", "Can't find 'user:k'\n"))
+    count.same(f"{runtime.name}: what is started later", runtime.more(web, "keyctl", "print", "%user:k"), (0, "mine\n", ""))
+    count.same(f"{runtime.name}: and adds a key", runtime.more(web, "keyctl", "add", "user", "later", "told", "@u")[0], 0)
+    (web.root / "tmp" / "end").touch()
+    output, errors = runs.communicate(timeout=LIMIT)
+    count.same(f"{runtime.name}: the container finds it", (runs.returncode, output, errors), (0, "told\n", ""))
+
+
+def within(program, socket, room):
+    """crun itself in a trap: its containers have the trap's rings, each a session ring of its own."""
+    if not shutil.which("crun"):
+        return
+    (room / "within").mkdir()
+    runtime, container = Runtime("crun", room / "within" / "state"), Container(room / "within", "alone", "")
+    container.write("sh", "-c", "keyctl id @s; keyctl add user k v @s > /dev/null; keyctl print %user:k", filtered=False)
+    words = " ".join(f"'{word}'" for word in wrapped(*runtime.words, "run", container.name))
+    script = f"keyctl id @s; cd {container.room} && {words}"
+    status, output, errors = Trap(program, socket).run("sh", "-c", script)
+    if status != 0:
+        print(f"crun in a trap: not tried, it starts none here: {errors.strip()[:200]}")
+        return
+    outer, inner, payload = output.split()
+    count.same("crun in a trap", (outer != inner, payload), (True, "v"))
+
+
+def runtimes(room):
+    """Those that are here."""
+    for name in ["crun", "runc"]:
+        if not shutil.which(name, path="/usr/bin:/usr/sbin:/usr/local/bin"):
+            print(f"containers by {name}: not tried, it is not here")
+            continue
+        (room / name).mkdir()
+        yield Runtime(name, room / name / "state"), room / name
+        if shutil.which("podman"):
+            (room / f"podman-{name}").mkdir()
+            yield Podman(name, room / f"podman-{name}"), room / f"podman-{name}"
+        else:
+            print(f"containers by podman over {name}: not tried, it is not here")
+
+
+def main():
+    lacking = [name for name in ["gcc", "make", "keyctl", "unshare"] if not shutil.which(name)]
+    if lacking or os.geteuid() != 0 or not notifies():
+        why = f"there is no {lacking[0]}" if lacking else "this is not root, or the kernel has no seccomp with user notification"
+        print(f"containers: not tried, {why}")
+        count.end()
+    with tempfile.TemporaryDirectory(prefix="container-") as folder:
+        room = pathlib.Path(folder)
+        trapping = built(count, room, "trap")
+        for program in PROGRAMS[:1] if trapping else []:
+            if not program.exists():
+                count.same(f"{program} is built", False, True)
+                continue
+            with Daemon(program, "create user made:* * |/bin/cat\n") as daemon:
+                words = [trapping, "--listen", daemon.room / "listen", "--socket", daemon.path]
+                listening = subprocess.Popen(list(map(str, words)), stderr=subprocess.PIPE, text=True, env=environment())
+                count.same("a trap for containers", listening.stderr.readline(), "reqkey-trap: ready\n")
+                for runtime, place in runtimes(room):
+                    tries(runtime, place, daemon.room / "listen")
+                within(trapping, daemon.path, room)
+                listening.kill()
+                count.same("what it says", listening.communicate(timeout=LIMIT)[1], "")
+    count.end()
+
+
+main()

@@ -1,0 +1,198 @@
+#!/usr/bin/env python3
+"""Debian's own programs on the daemon, unmodified, by the library and by reqkey-trap: the handlers request-key, with its own request-key.conf,
+key.dns_resolver, nfsidmap, and cifs.upcall with a local KDC; and the client python3-keyutils. Each is tried where its package is here."""
+import os
+import pathlib
+import re
+import shutil
+import socket
+import subprocess
+import tempfile
+
+import trap
+from counted import Counted
+from daemon import Daemon, until
+from keyutils_library import Programs, available, built
+from programs import LIMIT, PROGRAMS, top
+
+count = Counted()
+SYSTEM = "/usr/sbin:/sbin:/usr/bin:/bin"
+BINDINGS = top / "tests" / "clients" / "bindings.py"
+BOUND = ["b'v' True True", "True None", "None None None None", "Key has been revoked", "Operation not supported", "True True None"]
+
+# A handler in a trap, where all handlers have the library, too: what it gets, and what it has of the library's variables.
+BOTH = """#!/bin/sh
+keyctl instantiate $1 "$(keyctl print @a), <$LD_PRELOAD$REQKEYD_STREAMS>" @s
+"""
+
+# request-key is called as the kernel calls it; it finds the handler in /etc/request-key.conf.
+LINES = """create id_resolver * * %way{nfsidmap} -t 600 %k %d
+create cifs.spnego * * %way{cifs.upcall} -k %kdc/krb5.conf %k
+create * * * %way{request-key} create %k %u %g 0 0 0
+"""
+
+# What a machine's stock configuration makes of requests: a name, a callout, and the payload or the error.
+REQUESTS = [
+    ("debug:stock", "hello", "Debug hello"), ("debug:loop:stock", "looped", "looped"), ("debug:none", "negate", "Required key not available"),
+    ("debug:rejected", "rejected", "Key was rejected by service"), ("debug:expired", "expired", "Key has expired"),
+    ("other:none", "x", "Required key not available"),
+]
+
+
+def stock(way, run):
+    """Requests that the stock configuration answers."""
+    for name, callout, want in REQUESTS:
+        status, key, errors = run("keyctl", "request2", "user", name, callout, "@s")
+        got = run("keyctl", "print", key.strip())[1].strip() if status == 0 else errors.strip().partition(": ")[2]
+        count.same(f"request-key by {way}: {name}", got, want)
+
+
+def resolves(way, run):
+    """A name of /etc/hosts, by the stock line for key.dns_resolver."""
+    hosts = re.findall(r"^(\d+\.\d+\.\d+\.\d+)\s+(\S+)", pathlib.Path("/etc/hosts").read_text(), re.MULTILINE)
+    if not hosts or not shutil.which("key.dns_resolver", path=SYSTEM):
+        print("key.dns_resolver: not tried, there is no name in /etc/hosts, or no such program")
+        return
+    key = run("keyctl", "request2", "dns_resolver", hosts[0][1], "ipv4", "@s")[1].strip()
+    count.same(f"key.dns_resolver by {way}", run("keyctl", "pipe", key), (0, f"{hosts[0][0]}\0", ""))
+
+
+def maps(way, run):
+    """Users and groups of this machine, by nfsidmap."""
+    if not shutil.which("nfsidmap", path=SYSTEM):
+        print("nfsidmap: not tried, it is not here")
+        return
+    domain = subprocess.run([shutil.which("nfsidmap", path=SYSTEM), "-d"], capture_output=True, text=True, timeout=LIMIT).stdout.strip()
+    if not domain:
+        print("nfsidmap: not tried, it says no domain")
+        return
+    for name, want in [("user:0", f"root@{domain}"), ("group:0", f"root@{domain}")]:
+        key = run("keyctl", "request2", "id_resolver", name, "", "@s")[1].strip()
+        count.same(f"nfsidmap by {way}: {name}", run("keyctl", "print", key), (0, f"{want}\n", ""))
+
+
+REALM = """[libdefaults]
+ default_realm = KEYS.TEST
+ default_ccache_name = FILE:%room/cache
+ dns_lookup_kdc = false
+ dns_canonicalize_hostname = false
+ rdns = false
+[realms]
+ KEYS.TEST = {
+  kdc = 127.0.0.1:%port
+ }
+[domain_realm]
+ server = KEYS.TEST
+"""
+CENTER = """[kdcdefaults]
+ kdc_listen = 127.0.0.1:%port
+ kdc_tcp_listen = 127.0.0.1:%port
+[realms]
+ KEYS.TEST = {
+  database_name = %room/principal
+  key_stash_file = %room/stash
+  acl_file = %room/acl
+ }
+"""
+
+
+class Center:
+    """A KDC of this test's own, with a user who has a ticket, and a server's key; `there` is whether it could be made."""
+
+    def __init__(self, room):
+        self.room, self.process = room, None
+        room.mkdir()
+        with socket.socket() as free:
+            free.bind(("127.0.0.1", 0))
+            port = str(free.getsockname()[1])
+        for name, text in [("krb5.conf", REALM), ("kdc.conf", CENTER)]:
+            (room / name).write_text(text.replace("%port", port).replace("%room", str(room)))
+        self.environment = {**os.environ, "PATH": SYSTEM, "KRB5_CONFIG": str(room / "krb5.conf"), "KRB5_KDC_PROFILE": str(room / "kdc.conf")}
+        lacking = [name for name in ["krb5kdc", "kdb5_util", "kadmin.local", "kinit", "cifs.upcall"] if not shutil.which(name, path=SYSTEM)]
+        self.there = not lacking and os.geteuid() == 0 and self.begins()
+        if not self.there:
+            print(f"cifs.upcall: not tried, there is no {lacking[0]}" if lacking else "cifs.upcall: not tried, there is no KDC to be had")
+
+    def does(self, *words, piped=""):
+        return subprocess.run(words, input=piped, capture_output=True, text=True, timeout=LIMIT, env=self.environment).returncode == 0
+
+    def begins(self):
+        made = self.does("kdb5_util", "create", "-s", "-r", "KEYS.TEST", "-P", "master")
+        made = made and self.does("kadmin.local", "-q", "addprinc -pw secret user") and self.does("kadmin.local", "-q", "addprinc -randkey cifs/server")
+        if not made:
+            return False
+        quiet = {"stdin": subprocess.DEVNULL, "stdout": subprocess.DEVNULL, "stderr": subprocess.DEVNULL}
+        self.process = subprocess.Popen(["krb5kdc", "-n"], env=self.environment, **quiet)
+        return until(lambda: self.process.poll() is not None or self.does("kinit", "user", piped="secret\n"), "a ticket") and self.process.poll() is None
+
+    def end(self):
+        if self.process is not None:
+            self.process.kill()
+            self.process.wait()
+
+    def upcalls(self, way, run):
+        """The blob with which a client begins a session at a server."""
+        if not self.there:
+            return
+        name = f"ver=0x2;host=server;ip4=127.0.0.1;sec=krb5;uid=0x0;creduid=0x0;user=user;pid=0x{os.getpid():x}"
+        status, key, errors = run("keyctl", "request2", "cifs.spnego", name, "", "@s")
+        count.same(f"cifs.upcall by {way}", (status, errors), (0, ""))
+        shown = run("keyctl", "read", key.strip())[1]
+        count.same(f"cifs.upcall by {way}: the ticket", int(shown.split(" ")[0] if status == 0 else 0) > 400, True)
+
+
+def bindings(way, run):
+    python = "/usr/bin/python3"
+    if not os.path.exists("/usr/lib/python3/dist-packages/keyutils/__init__.py"):
+        print("python3-keyutils: not tried, it is not here")
+        return
+    status, output, errors = run(python, str(BINDINGS))
+    count.same(f"python3-keyutils by {way}", (status, output.split("\n")[:-1], errors), (0, BOUND, ""))
+
+
+def tries(way, run, center):
+    if shutil.which("request-key", path=SYSTEM) and os.path.exists("/etc/request-key.conf"):
+        stock(way, run)
+        resolves(way, run)
+    else:
+        print("request-key: not tried, it or its configuration is not here")
+    maps(way, run)
+    center.upcalls(way, run)
+    bindings(way, run)
+
+
+def lines(way, center):
+    """The configuration, whose handlers are started in this way."""
+    return re.sub(r"%way\{(.*?)\}", lambda name: f"{way}{shutil.which(name[1], path=SYSTEM) or '/no/such/program'}", LINES).replace("%kdc", str(center.room))
+
+
+def main():
+    if not available():
+        count.end()
+    with tempfile.TemporaryDirectory(prefix="stock-") as folder:
+        room = pathlib.Path(folder)
+        library, program, center = built(count, room, "library"), trap.built(count, room, "trap"), Center(room / "kdc")
+        try:
+            for daemon_program in PROGRAMS if library and program else []:
+                if not daemon_program.exists():
+                    count.same(f"{daemon_program} is built", False, True)
+                    continue
+                with Daemon(daemon_program, f"create user both:* * {program} --key %k %room/both %k\n" + lines("", center), "--keyutils", library) as daemon:
+                    daemon.script("both", BOTH)
+                    keys = Programs(daemon, library)
+                    tries("the library", keys.run, center)
+                    if trap.notifies():
+                        key = keys.run("keyctl", "request2", "user", "both:a", "words", "@s")[1].strip()
+                        count.same("a trap where all handlers have the library", keys.run("keyctl", "print", key), (0, "words, <>\n", ""))
+                if not trap.notifies():
+                    print("stock programs by reqkey-trap: not tried, this kernel has no seccomp with user notification")
+                    continue
+                with Daemon(daemon_program, lines(f"{program} --key %k ", center)) as daemon:
+                    with trap.Inside(trap.Trap(program, daemon.path).words(), env=trap.environment()) as inside:
+                        tries("the trap", inside.run, center)
+        finally:
+            center.end()
+    count.end()
+
+
+main()
