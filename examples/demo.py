@@ -1,9 +1,9 @@
 #!/usr/bin/env python3
-"""Shows a script in words, line by line: what happens on the left, what comes of it on the right.
+"""Shows a script in words, line by line: events on the left, the output of each on the right.
 
 usage: demo.py SCRIPT COMMAND ..
 
-COMMAND reads a script from its standard input and writes what comes of it, as `reqkeyd replay` does. The comments of the script stand above
+COMMAND reads a script from its standard input and writes its output, as `reqkeyd replay` does. The comments of the script stand above
 the lines that follow them. The status is that of COMMAND; 1 where it did not run the script; 2 for a wrong command line.
 """
 import pathlib
@@ -18,16 +18,16 @@ from script import ANSWER, is_conf, lines_of, read_answer, read_line
 LEFT = 46  # the columns of what happens
 WHOLE = 100  # the columns of a comment
 MARK = "?"
-LEGEND = """c1 is client 1, h3 the handler of key 3; a number in front is the moment in seconds, until another one stands there.
-What comes of a line stands beside it, with <- before a reply."""
+LEGEND = """c1 is client 1, h3 the handler of key 3. A number at the start is the moment in seconds, until the next one.
+The output of a line stands beside it, with <- before a reply."""
 MEANS = {
-    "S1": "this is no line of a script, and is passed over",
-    "S2": "this can't happen now, and is passed over",
+    "S1": "this line is invalid, and is skipped",
+    "S2": "this can't happen now, and is skipped",
     "C1": "it has fewer than five fields",
-    "C2": "its program is no absolute path",
-    "C3": "an argument is no macro",
+    "C2": "its program is not an absolute path",
+    "C3": "an argument is not a macro",
     "C4": "it has more than 8,192 bytes",
-    "C6": "it is no UTF-8, or has a zero byte",
+    "C6": "it is not UTF-8, or has a zero byte",
 }
 
 
@@ -46,7 +46,7 @@ def run(command, lines, errors=None):
     came = [[]]
     for answer in lines_of(ran.stdout):
         if not ANSWER.fullmatch(answer):
-            raise Failed(f"{answer[:80]!r} comes of no script")
+            raise Failed(f"{answer[:80]!r} is no output of a script")
         verb, number, *rest = answer.split(" ")
         if verb == "fault" and int(number) == 2 * len(came):
             came.append([])

@@ -1,9 +1,9 @@
 #!/usr/bin/env python3
-"""Starts the daemon, has its handlers make two keys, and shows what a client and a handler say and what they are answered.
+"""Starts the daemon, has its handlers make two keys, and shows the requests of a client and a handler, and their replies.
 
 usage: serve.py COMMAND ..
 
-COMMAND is reqkeyd, perhaps with words before its own. The status is 0 where all went as it is told; 1 where it did not; 2 for a wrong command line.
+COMMAND is reqkeyd, perhaps with words before its own. The status is 0 if all replies are those shown here, 1 if not, 2 for a usage error.
 """
 import pathlib
 import socket
@@ -24,10 +24,10 @@ PATIENCE = 600  # seconds, since the program may have to be compiled before
 # What is done, in words; what the client then asks; and what it has to be answered.
 SHOWN = [
     ("A client connects, and says who it is: user 1000. Its session ring is 4, and the user's ring is 8.", "HELLO 1000 1000 0 0", "rings 0 0 4 8"),
-    ("It requests a key with the callout `hello`. There is none, so /bin/cat makes it: it is handed\nthe callout, and puts out the payload. The key is 12, "
+    ("It requests a key with the callout `hello`. There is none, so /bin/cat makes it: it reads\nthe callout, and outputs the payload. The key is 12, "
      "linked in the user's ring (-4).", "REQUEST user debug:a =hello -4", "12"),
     ("", "READ 12", "bytes hello"),
-    ("A key that is there is found, and nothing is started.", "REQUEST user debug:a =again 0", "12"),
+    ("An existing key is found, and nothing is started.", "REQUEST user debug:a =again 0", "12"),
     ("This key is made by examples/handler.py, which speaks the protocol itself.", "REQUEST user mail:joe =letter 0", "16"),
     ("", "READ 16", "bytes mail:joe:letter"),
     ("No line is for this key.", "REQUEST user other =x 0", "ENOKEY (126)"),
@@ -35,7 +35,7 @@ SHOWN = [
 
 
 class Failed(Exception):
-    """The daemon did not do as it is told here."""
+    """The daemon did not do as is shown here."""
 
 
 def started(command, room):
@@ -99,7 +99,7 @@ def run(command, room):
     finally:
         daemon.kill()
         daemon.wait()
-    print("\nThe client has gone, and the daemon, which was told to serve one, ends.")
+    print("\nThe client has disconnected. The daemon was started for one client, and ends.")
 
 
 def main():
