@@ -1,4 +1,11 @@
 pub mod Walks
-pub mod Rows
-pub mod Runs
-pub mod Index
+pub mod Lists
+pub mod Slabs
+pub mod Links
+pub mod Chained
+pub mod Rounds
+pub mod Stands
+pub mod Seen
+pub mod Seated
+pub mod Told
+pub mod Crossing

@@ -4,6 +4,7 @@ pub mod Circles
 pub mod Walk
 pub mod Faults
 pub mod Held
-pub mod Waiting
+pub mod Chains
+pub mod Seats
 pub use Rattle.rk_table.specs.Maps
 pub use Rattle.rk_table.specs.Says

@@ -1,9 +1,11 @@
 //! The changes of sessions and constructions, each as the table takes it.
 ghost use Rattle.std.specs.Prelude.{◌≡◌, Some, None};
+ghost use Rattle.rk_auth.specs.Seats.{in_session, in_construction};
 ghost use Rattle.rk_auth.specs.Changes.{in_stage, in_handler, in_new_stage, with_context, with_setting, with_assumed, with_wait, new_wait, without_authority, told};
 
 use crate::construction::{Construction, Stage};
 use crate::session::{Outcome, Session, Wait};
+use crate::slot::Standing;
 use rk_names::{Context, Serial, Setting};
 use rk_table::ChangeOnce;
 
@@ -100,6 +102,36 @@ impl<C: ChangeOnce<Session> + Copy> ChangeOnce<Construction> for InHandler<C> {
     fn change(self, construction: &mut Construction) {
         if let Stage::Plain(session) = &mut construction.stage {
             self.0.change(session);
+        }
+    }
+}
+
+/// A change of the session of who stands in a slot, where there is one.
+#[derive(Clone, Copy)]
+pub struct InSession<C>(pub C);
+
+impl<C: ChangeOnce<Session> + Copy> ChangeOnce<Standing> for InSession<C> {
+    ghost changed = { λ c one. in_session (C.changed c.0) one };
+
+    fn change(self, standing: &mut Standing) {
+        match standing {
+            Standing::Nobody => {}
+            Standing::Client(_, session) => self.0.change(session),
+            Standing::Construction(_, construction) => InHandler(self.0).change(construction),
+        }
+    }
+}
+
+/// A change of the construction that stands in a slot, where there is one.
+#[derive(Clone, Copy)]
+pub struct InConstruction<C>(pub C);
+
+impl<C: ChangeOnce<Construction> + Copy> ChangeOnce<Standing> for InConstruction<C> {
+    ghost changed = { λ c one. in_construction (C.changed c.0) one };
+
+    fn change(self, standing: &mut Standing) {
+        if let Standing::Construction(_, construction) = standing {
+            self.0.change(construction);
         }
     }
 }

@@ -21,24 +21,31 @@
 //!
 //! # How it is built
 //!
-//! Two tables: the constructions by their keys, with the plain handler's session inside its stage, so that a launch needs no room and an
-//! ending is one removal; and the clients by their numbers, with room for 64. Each is a `Waiting` (`waiting`), a table with an index of its
-//! waiters (`waiters`), in the order of the keys for which they wait: `spend` finds those of one key by halves, and goes through no others. The
-//! index has a place for each entry, reserved with the entry's own, so that a wait takes no memory. `changes` has what is done to one entry,
-//! `circles` the walk from a key to the handler that makes it and the key on which that one waits. A look-up halves the entries of its
-//! table; no contract says so.
+//! One slab has a slot for each client and each construction (`slot`), the plain handler's session inside its construction's stage: a launch needs
+//! no room, and an ending is one removal. `places` is the slab as a finite map; the 64 clients' places are made by `new`, a construction's by
+//! `reserve`. `seats` finds a slot by the client's number or the key, and compares that with what stands there: a slot that is used again is
+//! never taken for the old one.
+//!
+//! A construction's slot heads the chain of those who wait for its key, through their own slots (`chain`): a wait is put in front, and who leaves
+//! is taken out between the two beside him. `spend` goes through that chain, and through the chain of nobody, in which those wait whose construction
+//! is gone or never was. `waits` keeps who waits in his chain, whatever is done to a slot. `changes` has what is done to one session or construction,
+//! `circles` the walk from a key to the handler that makes it and the key on which that one waits.
 #![tactic(auto)]
 
 mod auths;
+mod chain;
 mod changes;
 mod circles;
 mod construction;
 mod fault;
+mod places;
+mod seats;
 mod session;
-mod waiters;
-mod waiting;
+mod slot;
+mod waits;
 
-pub use auths::{Auths, MAX_CLIENTS, MAX_DEPTH};
+pub use auths::{Auths, MAX_DEPTH};
 pub use construction::{Authority, Construction, Stage};
 pub use fault::AuthFault;
+pub use seats::MAX_CLIENTS;
 pub use session::{Outcome, Session, Wait};

@@ -1,5 +1,4 @@
 //! Sessions, and what they wait for.
-use crate::waiting::Waits;
 use rk_names::{Context, KeyError, Serial, Setting};
 
 /// What those who waited for a key are told.
@@ -37,7 +36,7 @@ pub struct Session {
 
 impl Session {
     ghost use Rattle.std.specs.Prelude.{◌≡◌};
-    ghost use Rattle.rk_auth.specs.Sessions.{new_session};
+    ghost use Rattle.rk_auth.specs.Sessions.{new_session, waited_key};
 
     /// A session as it begins: no context, nothing assumed, no wait, the default setting.
     pub fn new() -> Session
@@ -50,14 +49,11 @@ impl Session {
             wait: None,
         }
     }
-}
 
-impl Waits for Session {
-    ghost use Rattle.rk_auth.specs.Sessions.{waited_key};
-
-    ghost waited = { waited_key };
-
-    fn waited(&self) -> Option<Serial> {
+    /// The key for which it waits, if it does.
+    pub fn waited(&self) -> Option<Serial>
+        ensures { result ≡ waited_key self.now }
+    {
         Some(self.wait.as_ref()?.key)
     }
 }

@@ -4,7 +4,6 @@ ghost use Rattle.std.specs.Option.{option_copied};
 ghost use Rattle.rk_keys.specs.Buckets.{is_of, recounted};
 
 use crate::named::Named;
-use rk_names::{Description, TypeName};
 use rk_table::ChangeOnce;
 use std::alloc::{AllocError, Global};
 use std::marker::Model;
@@ -57,7 +56,7 @@ impl Bucket {
     }
 
     /// What is kept of a name; `None` where it is not among these.
-    pub fn find(&self, typ: &TypeName, description: &Description) -> Option<&Named>
+    pub fn find(&self, typ: &[u8], description: &[u8]) -> Option<&Named>
         ensures { option_copied result ≡ list_find (is_of typ.now description.now) self.now }
     {
         self.names.iter().find(|named| named.is(typ, description))
@@ -68,9 +67,9 @@ impl Bucket {
 #[derive(Drop)]
 pub struct Recount<'a> {
     /// The type.
-    pub typ: &'a TypeName,
+    pub typ: &'a [u8],
     /// The description.
-    pub description: &'a Description,
+    pub description: &'a [u8],
     /// How many keys have it now.
     pub keys: u32,
 }
@@ -86,7 +85,7 @@ impl<'a> ChangeOnce<Bucket> for Recount<'a> {
     }
 }
 
-fn count_anew(names: &mut Vec<Named>, typ: &TypeName, description: &Description, keys: u32)
+fn count_anew(names: &mut Vec<Named>, typ: &[u8], description: &[u8], keys: u32)
     ensures { names.new.items ≡ list_map (recounted typ.now description.now keys) names.old.items }
 {
     for named in names.iter_mut() {
@@ -100,9 +99,9 @@ fn count_anew(names: &mut Vec<Named>, typ: &TypeName, description: &Description,
 #[derive(Drop)]
 pub struct Lose<'a> {
     /// The type.
-    pub typ: &'a TypeName,
+    pub typ: &'a [u8],
     /// The description.
-    pub description: &'a Description,
+    pub description: &'a [u8],
 }
 
 impl<'a> ChangeOnce<Bucket> for Lose<'a> {
@@ -116,7 +115,7 @@ impl<'a> ChangeOnce<Bucket> for Lose<'a> {
     }
 }
 
-fn take_name_out(names: &mut Vec<Named>, typ: &TypeName, description: &Description)
+fn take_name_out(names: &mut Vec<Named>, typ: &[u8], description: &[u8])
     ensures { names.new.items ≡ filter (λ n. not (is_of typ.now description.now n)) names.old.items }
 {
     names.retain(|named| !named.is(typ, description));

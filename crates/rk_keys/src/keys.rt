@@ -19,7 +19,9 @@ use crate::key::{Condition, Key, Standing};
 use crate::naming::{count_in, leave_name, number_of};
 use crate::owners::leave;
 use crate::serials::Serials;
-use rk_names::{Description, KeyError, Moment, NameNo, Payload, Serial, TypeName};
+use rk_names::{
+    Description, DescriptionView, KeyError, Moment, NameNo, Payload, Serial, TypeName, TypeView,
+};
 use rk_table::{Counts, HashTable};
 use std::alloc::{AllocError, Global};
 use std::marker::Model;
@@ -116,7 +118,7 @@ impl Keys {
     }
 
     /// The number of the name: live keys share one exactly where their type and description are equal. `None` where no live key has that name.
-    pub fn name(&self, typ: &TypeName, description: &Description) -> Option<NameNo>
+    pub fn name(&self, typ: &TypeView<'_>, description: &DescriptionView<'_>) -> Option<NameNo>
         ensures naming { IsNaming self.now.keys self.now.numbers }
         ensures none { result ≡ None → (k : ℕ) → has_name self.now.keys k typ.now description.now ≡ false }
         ensures some { IfSome result (λ n. (k : ℕ) × (has_name self.now.keys k typ.now description.now ≡ true) × (map.get self.now.numbers k ≡ Some n)) }

@@ -23,8 +23,9 @@
 //!
 //! `key` has one key and what it is at a moment, `serials` the serials, `fault` the refusals. `keys` puts three tables, the names by their hashes and
 //! the serials to draw together. `named` has what is kept of a name, its number and how many live keys have it, and `by_name` the names with one hash;
-//! `naming` hashes names, looks up their numbers, and counts keys in and out. `owners` counts the keys of each user, `changes` has what happens to one
-//! key. Where the specifications speak of a key in few words, as `standing_of`, they stand in `specs/Key.antt`; of all keys in `specs/Known.antt`.
+//! `naming` hashes names, looks up their numbers, and counts keys in and out. So they are an index from type and description to serials, since the
+//! number of a name is the serial of the key with which the name came; it grows in `make` alone. `owners` counts the keys of each user, `changes` has
+//! what happens to one key. Where the specifications speak of a key in few words, as `standing_of`, they stand in `specs/Key.antt`; of all keys in `specs/Known.antt`.
 #![tactic(auto)]
 
 mod by_name;

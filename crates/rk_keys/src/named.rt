@@ -19,10 +19,9 @@ impl Named {
     ghost use Rattle.rk_keys.specs.Buckets.{is_of};
 
     /// Whether it is this name.
-    pub fn is(&self, typ: &TypeName, description: &Description) -> bool
+    pub fn is(&self, typ: &[u8], description: &[u8]) -> bool
         ensures { result ≡ is_of typ.now description.now self.now }
     {
-        self.typ.as_bytes() == typ.as_bytes()
-            && self.description.as_bytes() == description.as_bytes()
+        self.typ.as_bytes() == typ && self.description.as_bytes() == description
     }
 }

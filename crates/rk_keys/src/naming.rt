@@ -9,21 +9,21 @@ ghost use Rattle.rk_keys.specs.Buckets.{IsIndex, name_hash, is_of, is_same, name
 use crate::by_name::{Bucket, Lose, Recount};
 use crate::key::Key;
 use crate::named::Named;
-use rk_names::{Description, NameNo, TypeName};
+use rk_names::{Description, DescriptionView, NameNo, TypeName, TypeView};
 use rk_table::HashTable;
 use std::alloc::{AllocError, Global};
 use std::hash::{DefaultHasher, Hasher};
 
 /// The hash of a name. Who does not know the seed can't choose names whose hashes are equal.
 #[tactic(auto, unfolding(crate::specs::Buckets::name_hash))]
-fn hash_of(seed: u64, typ: &TypeName, description: &Description) -> u32
+fn hash_of(seed: u64, typ: &[u8], description: &[u8]) -> u32
     ensures { result ≡ name_hash seed typ.now description.now }
 {
     let mut hasher = DefaultHasher::new();
     hasher.write_u64(seed);
-    hasher.write(typ.as_bytes());
+    hasher.write(typ);
     hasher.write_u8(0);
-    hasher.write(description.as_bytes());
+    hasher.write(description);
     (hasher.finish() & 0xFFFF_FFFF) as u32
 }
 
@@ -31,11 +31,12 @@ fn hash_of(seed: u64, typ: &TypeName, description: &Description) -> u32
 pub fn number_of(
     by_name: &HashTable<Bucket>,
     seed: u64,
-    typ: &TypeName,
-    description: &Description,
+    typ: &TypeView<'_>,
+    description: &DescriptionView<'_>,
 ) -> Option<NameNo>
     ensures { result ≡ number_in (kept_of seed by_name.now.facts typ.now description.now) }
 {
+    let (typ, description) = (typ.as_bytes(), description.as_bytes());
     let hash = hash_of(seed, typ, description);
     kept(by_name, hash, typ, description).map(|named| named.number)
 }
@@ -55,8 +56,9 @@ pub fn count_in(
     ensures number { IfOk result (λ n. n ≡ unwrap_or (number_in (kept_of seed by_name.old.facts typ.now description.now)) serial) }
     ensures err { OnErr result ((t d : List ℕ) → kept_of seed by_name.new.facts t d ≡ kept_of seed by_name.old.facts t d) }
 {
-    let hash = hash_of(seed, typ, description);
-    let Some(named) = kept(by_name, hash, typ, description) else {
+    let (type_bytes, bytes) = (typ.as_bytes(), description.as_bytes());
+    let hash = hash_of(seed, type_bytes, bytes);
+    let Some(named) = kept(by_name, hash, type_bytes, bytes) else {
         let number = NameNo(serial);
         let named = Named {
             typ: typ.clone()?,
@@ -69,17 +71,12 @@ pub fn count_in(
     };
     let number = named.number;
     let keys = named.keys + 1;
-    recount(by_name, hash, typ, description, keys);
+    recount(by_name, hash, type_bytes, bytes, keys);
     Ok(number)
 }
 
 /// Counts a key out of those of its name. Of a name that no key has any more nothing is kept.
-pub fn count_out(
-    by_name: &mut HashTable<Bucket>,
-    seed: u64,
-    typ: &TypeName,
-    description: &Description,
-)
+pub fn count_out(by_name: &mut HashTable<Bucket>, seed: u64, typ: &[u8], description: &[u8])
     ensures { (t d : List ℕ) → kept_of seed by_name.new.facts t d ≡
         (if is_same typ.now description.now t d then counted_out (kept_of seed by_name.old.facts t d) else kept_of seed by_name.old.facts t d) }
 {
@@ -98,7 +95,12 @@ pub fn leave_name(facts: &HashTable<Key>, by_name: &mut HashTable<Bucket>, seed:
         IsIndex seed (map.remove facts.now.facts key) (map.remove numbers key) by_name.new.facts }
 {
     if let Some(fact) = facts.get(key) {
-        count_out(by_name, seed, &fact.typ, &fact.description);
+        count_out(
+            by_name,
+            seed,
+            fact.typ.as_bytes(),
+            fact.description.as_bytes(),
+        );
     }
 }
 
@@ -106,8 +108,8 @@ pub fn leave_name(facts: &HashTable<Key>, by_name: &mut HashTable<Bucket>, seed:
 fn kept<'a>(
     by_name: &'a HashTable<Bucket>,
     hash: u32,
-    typ: &TypeName,
-    description: &Description,
+    typ: &[u8],
+    description: &[u8],
 ) -> Option<&'a Named>
     ensures { option_copied result ≡ list_find (is_of typ.now description.now) (names_at by_name.now.facts hash) }
 {
@@ -115,12 +117,7 @@ fn kept<'a>(
 }
 
 /// How many keys have a name.
-fn count_at(
-    by_name: &HashTable<Bucket>,
-    hash: u32,
-    typ: &TypeName,
-    description: &Description,
-) -> u32
+fn count_at(by_name: &HashTable<Bucket>, hash: u32, typ: &[u8], description: &[u8]) -> u32
     ensures { result ≡ count_of (list_find (is_of typ.now description.now) (names_at by_name.now.facts hash)) }
 {
     match kept(by_name, hash, typ, description) {
@@ -130,13 +127,7 @@ fn count_at(
 }
 
 /// Changes how many keys have a name that is kept under a hash.
-fn recount(
-    by_name: &mut HashTable<Bucket>,
-    hash: u32,
-    typ: &TypeName,
-    description: &Description,
-    keys: u32,
-)
+fn recount(by_name: &mut HashTable<Bucket>, hash: u32, typ: &[u8], description: &[u8], keys: u32)
     ensures { (h : ℕ) → names_at by_name.new.facts h ≡
         (if hash == h then list_map (recounted typ.now description.now keys) (names_at by_name.old.facts h) else names_at by_name.old.facts h) }
 {
@@ -188,7 +179,7 @@ fn bucket_at(by_name: &mut HashTable<Bucket>, alloc: Global, hash: u32) -> Bucke
 }
 
 /// Takes a name out of those under its hash.
-fn take_out(by_name: &mut HashTable<Bucket>, hash: u32, typ: &TypeName, description: &Description)
+fn take_out(by_name: &mut HashTable<Bucket>, hash: u32, typ: &[u8], description: &[u8])
     ensures { (h : ℕ) → names_at by_name.new.facts h ≡
         (if hash == h then filter (λ n. not (is_of typ.now description.now n)) (names_at by_name.old.facts h) else names_at by_name.old.facts h) }
 {

@@ -6,8 +6,8 @@ use Rattle.rk_names.specs.declared.errors.Errno.{Errno}
 use Rattle.rk_names.specs.declared.errors.Errno.TheVariants as errno
 use Rattle.rk_names.specs.declared.errors.KeyError.TheVariants as error
 use Rattle.rk_names.specs.Numbers.{moment_plus}
-use Rattle.rk_message.specs.declared.ask.Ask.{Ask}
-use Rattle.rk_message.specs.declared.ask.Ask.TheVariants as ask
+use Rattle.rk_message.specs.Ask.{Ask}
+use Rattle.rk_message.specs.declared.ask.AskOf.TheVariants as ask
 use Rattle.rk_keys.specs.declared.key.Condition.{Condition}
 use Rattle.rk_keys.specs.declared.key.Condition.TheVariants.{Positive, Negative}
 use Rattle.rk_auth.specs.Sessions.{session_of, wait_of, unspent}

@@ -1,7 +1,7 @@
 //! What holds of every run of the machine.
 ghost use Rattle.std.specs.Prelude.{◌≡◌, ◌≤◌, ℕ, true, List};
 ghost use Rattle.rk_names.specs.declared.numbers.SessionId.{SessionId};
-ghost use Rattle.rk_machine.specs.declared.event.Event.{Event};
+ghost use Rattle.rk_machine.specs.Event.{Event};
 ghost use Rattle.rk_machine.specs.declared.event.Answer.{Answer};
 ghost use Rattle.rk_machine.specs.World.{World, empty_world};
 ghost use Rattle.rk_machine.specs.Steps.{Beginning, Past, Run, Step};

@@ -29,8 +29,8 @@
 //!
 //! # How it is built
 //!
-//! `event` has what happens and what is answered, `asker` has what the definitions of the asks speak of, `owing` counts what is owed,
-//! and `laws` has the one call that promises the laws.
+//! `event` has what happens and what is answered, `boxed_subject` the subject of a start, `asker` has what the definitions of the asks speak of, `owing`
+//! counts what is owed, and `laws` has the one call that promises the laws.
 //!
 //! `proofs/Effects/KindsOfStep.antt` turns a step inside out once: whatever step the machine may take is one of some twenty, each with what it found and
 //! what it
@@ -41,11 +41,13 @@
 #![tactic(auto)]
 
 mod asker;
+mod boxed_subject;
 mod event;
 mod laws;
 mod owing;
 
 pub use asker::Asker;
-pub use event::{Answer, Event, How, Ran, done};
+pub use boxed_subject::BoxedSubject;
+pub use event::{Answer, Event, EventOf, EventStep, EventView, How, Ran, done};
 pub use laws::{every_run, every_step_owed};
 pub use owing::{session_owes, stage_ends, stage_owes};

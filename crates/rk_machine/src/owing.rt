@@ -2,9 +2,9 @@
 ghost use Rattle.std.specs.Prelude.{◌≡◌, ◌+◌};
 ghost use Rattle.rk_machine.specs.Owing as owing;
 
-use crate::event::{Answer, Event};
+use crate::event::{Answer, EventStep};
 use rk_auth::{Session, Stage};
-use rk_message::Ask;
+use rk_message::AskStep;
 use rk_names::SessionId;
 
 /// How many steps are owed to a session that is there: its end, and the collect of its wait.
@@ -36,14 +36,17 @@ pub fn stage_ends(stage: &Stage) -> usize
     }
 }
 
-impl Event {
+impl<'a> EventStep<'a> {
     /// Whose event it is.
     pub fn whose(&self) -> SessionId
         ensures { result ≡ owing.whose self.now }
     {
         match self {
-            Event::Opened(id) | Event::Asked(id, _) | Event::Collect(id) | Event::Gone(id) => *id,
-            Event::Launched(key, _) | Event::Ended(key, _, _) => SessionId::Handler(*key),
+            EventStep::Opened(id)
+            | EventStep::Asked(id, _)
+            | EventStep::Collect(id)
+            | EventStep::Gone(id) => *id,
+            EventStep::Launched(key, _) | EventStep::Ended(key, _, _) => SessionId::Handler(*key),
         }
     }
 
@@ -52,8 +55,8 @@ impl Event {
         ensures { result ≡ owing.need self.now }
     {
         match self {
-            Event::Opened(_) => 2,
-            Event::Asked(_, Ask::Request { .. }) => 6,
+            EventStep::Opened(_) => 2,
+            EventStep::Asked(_, AskStep::Request { .. }) => 6,
             _ => 1,
         }
     }

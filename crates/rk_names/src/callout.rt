@@ -1,5 +1,5 @@
 //! What a handler is told.
-ghost use Rattle.std.specs.Prelude.{◌≡◌, IfOk, IfErr, None};
+ghost use Rattle.std.specs.Prelude.{◌≡◌, IfOk, IfErr, None, MatchResult, Some};
 ghost use Rattle.rk_names.specs.Rules.{callout_fault, IsRefusedFor};
 
 use crate::errors::NameFault;
@@ -71,6 +71,13 @@ impl Callout {
     {
         &self.bytes
     }
+
+    /// The same, borrowed.
+    pub fn view(&self) -> CalloutView<'_>
+        ensures { result ≡ self.now }
+    {
+        CalloutView { bytes: &self.bytes }
+    }
 }
 
 impl Clone for Callout {
@@ -80,5 +87,49 @@ impl Clone for Callout {
         Ok(Callout {
             bytes: self.bytes.clone()?,
         })
+    }
+}
+
+/// A callout that is still borrowed: the bytes keep the rule of a [`Callout`].
+#[derive(Debug, Drop)]
+pub struct CalloutView<'a> {
+    bytes: &'a [u8],
+}
+
+impl<'a> Model for CalloutView<'a> {
+    ghost use Rattle.std.specs.Prelude.{◌≡◌, List, ℕ, None};
+    ghost use Rattle.rk_names.specs.Rules.{callout_fault};
+
+    ghost Value = { List ℕ };
+
+    ghost view = { λ n. n.bytes.now };
+
+    ghost invariant = { λ n. callout_fault n.bytes.now ≡ None };
+}
+
+impl<'a> CalloutView<'a> {
+    /// The bytes, where they keep the rule; else the first rule that they break. It takes no memory.
+    pub fn new(bytes: &'a [u8]) -> Result<CalloutView<'a>, NameFault>
+        ensures { MatchResult result (λ n. (n ≡ bytes.now) × (callout_fault bytes.now ≡ None)) (λ f. callout_fault bytes.now ≡ Some f) }
+    {
+        match Callout::fault(bytes) {
+            Some(fault) => Err(fault),
+            None => Ok(CalloutView { bytes }),
+        }
+    }
+
+    /// The bytes that it was made of.
+    pub fn as_bytes(&self) -> &'a [u8]
+        ensures bytes { result.now ≡ self.now }
+        ensures rule { callout_fault self.now ≡ None }
+    {
+        self.bytes
+    }
+
+    /// A copy. Only want of memory refuses it.
+    pub fn to_owned(&self, alloc: Global) -> Result<Callout, AllocError>
+        ensures { IfOk result (λ n. n ≡ self.now) }
+    {
+        Callout::from_checked(alloc, self.bytes)
     }
 }

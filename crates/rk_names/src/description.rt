@@ -1,5 +1,5 @@
 //! What a key is called.
-ghost use Rattle.std.specs.Prelude.{◌≡◌, IfOk, IfErr, None};
+ghost use Rattle.std.specs.Prelude.{◌≡◌, IfOk, IfErr, None, MatchResult, Some};
 ghost use Rattle.rk_names.specs.Rules.{description_fault, IsRefusedFor};
 
 use crate::errors::NameFault;
@@ -75,6 +75,13 @@ impl Description {
     {
         &self.bytes
     }
+
+    /// The same, borrowed.
+    pub fn view(&self) -> DescriptionView<'_>
+        ensures { result ≡ self.now }
+    {
+        DescriptionView { bytes: &self.bytes }
+    }
 }
 
 impl Clone for Description {
@@ -84,5 +91,49 @@ impl Clone for Description {
         Ok(Description {
             bytes: self.bytes.clone()?,
         })
+    }
+}
+
+/// A description that is still borrowed: the bytes keep the rule of a [`Description`].
+#[derive(Debug, Drop)]
+pub struct DescriptionView<'a> {
+    bytes: &'a [u8],
+}
+
+impl<'a> Model for DescriptionView<'a> {
+    ghost use Rattle.std.specs.Prelude.{◌≡◌, List, ℕ, None};
+    ghost use Rattle.rk_names.specs.Rules.{description_fault};
+
+    ghost Value = { List ℕ };
+
+    ghost view = { λ n. n.bytes.now };
+
+    ghost invariant = { λ n. description_fault n.bytes.now ≡ None };
+}
+
+impl<'a> DescriptionView<'a> {
+    /// The bytes, where they keep the rule; else the first rule that they break. It takes no memory.
+    pub fn new(bytes: &'a [u8]) -> Result<DescriptionView<'a>, NameFault>
+        ensures { MatchResult result (λ n. (n ≡ bytes.now) × (description_fault bytes.now ≡ None)) (λ f. description_fault bytes.now ≡ Some f) }
+    {
+        match Description::fault(bytes) {
+            Some(fault) => Err(fault),
+            None => Ok(DescriptionView { bytes }),
+        }
+    }
+
+    /// The bytes that it was made of.
+    pub fn as_bytes(&self) -> &'a [u8]
+        ensures bytes { result.now ≡ self.now }
+        ensures rule { description_fault self.now ≡ None }
+    {
+        self.bytes
+    }
+
+    /// A copy. Only want of memory refuses it.
+    pub fn to_owned(&self, alloc: Global) -> Result<Description, AllocError>
+        ensures { IfOk result (λ n. n ≡ self.now) }
+    {
+        Description::from_checked(alloc, self.bytes)
     }
 }

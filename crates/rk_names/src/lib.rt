@@ -12,8 +12,8 @@
 //! A maker tests its rule and refuses by name, in one order: `Empty`, `TooLong`, `Dot`, `Byte`, and
 //! want of memory last. So `TypeName::new(b"user")` is made, `TypeName::new(b".x")` is
 //! refused with `Dot`. Where bytes are still borrowed, as in a message that is being read,
-//! `TypeName::fault(bytes)` applies the same rule, and `TypeName::from_checked`
-//! then copies what it found no fault in without another look. A type lies in its value and takes no memory. The bytes of a description and of a
+//! a [`TypeView`] keeps the same rule and takes no memory, and `to_owned` copies it without
+//! another look; [`DescriptionView`], [`CalloutView`] and [`PayloadView`] likewise. A type lies in its value and takes no memory. The bytes of a description and of a
 //! callout are shared by its copies, so that a step, its record and its receipt have one text in memory. [`Payload::new`] moves the
 //! bytes that it is handed and takes no memory either.
 //!
@@ -34,10 +34,10 @@ mod payload;
 mod text;
 mod type_name;
 
-pub use callout::Callout;
+pub use callout::{Callout, CalloutView};
 pub use context::{Context, Setting};
-pub use description::Description;
+pub use description::{Description, DescriptionView};
 pub use errors::{Errno, KeyError, NameFault};
 pub use numbers::{Moment, NameNo, Serial, SessionId};
-pub use payload::Payload;
-pub use type_name::TypeName;
+pub use payload::{Payload, PayloadView};
+pub use type_name::{TypeName, TypeView};

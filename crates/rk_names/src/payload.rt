@@ -1,9 +1,9 @@
 //! What a key holds.
-ghost use Rattle.std.specs.Prelude.{◌≡◌, MatchResult, None, Some};
+ghost use Rattle.std.specs.Prelude.{◌≡◌, MatchResult, None, Some, IfOk};
 ghost use Rattle.rk_names.specs.Rules.{payload_fault};
 
 use crate::errors::NameFault;
-use std::alloc::AllocError;
+use std::alloc::{AllocError, Global};
 use std::marker::Model;
 
 /// What a key holds: 1 to 32,767 bytes, any bytes (add_key(2), the type `user`).
@@ -67,6 +67,13 @@ impl Payload {
     {
         &self.bytes
     }
+
+    /// The same, borrowed.
+    pub fn view(&self) -> PayloadView<'_>
+        ensures { result ≡ self.now }
+    {
+        PayloadView { bytes: &self.bytes }
+    }
 }
 
 impl Clone for Payload {
@@ -76,5 +83,49 @@ impl Clone for Payload {
         Ok(Payload {
             bytes: self.bytes.clone()?,
         })
+    }
+}
+
+/// A payload that is still borrowed: the bytes keep the rule of a [`Payload`].
+#[derive(Debug, Drop)]
+pub struct PayloadView<'a> {
+    bytes: &'a [u8],
+}
+
+impl<'a> Model for PayloadView<'a> {
+    ghost use Rattle.std.specs.Prelude.{◌≡◌, List, ℕ, None};
+    ghost use Rattle.rk_names.specs.Rules.{payload_fault};
+
+    ghost Value = { List ℕ };
+
+    ghost view = { λ n. n.bytes.now };
+
+    ghost invariant = { λ n. payload_fault n.bytes.now ≡ None };
+}
+
+impl<'a> PayloadView<'a> {
+    /// The bytes, where they keep the rule; else the first rule that they break. It takes no memory.
+    pub fn new(bytes: &'a [u8]) -> Result<PayloadView<'a>, NameFault>
+        ensures { MatchResult result (λ n. (n ≡ bytes.now) × (payload_fault bytes.now ≡ None)) (λ f. payload_fault bytes.now ≡ Some f) }
+    {
+        match Payload::fault(bytes) {
+            Some(fault) => Err(fault),
+            None => Ok(PayloadView { bytes }),
+        }
+    }
+
+    /// The bytes that it was made of.
+    pub fn as_bytes(&self) -> &'a [u8]
+        ensures bytes { result.now ≡ self.now }
+        ensures rule { payload_fault self.now ≡ None }
+    {
+        self.bytes
+    }
+
+    /// A copy. Only want of memory refuses it.
+    pub fn to_owned(&self, alloc: Global) -> Result<Payload, AllocError>
+        ensures { IfOk result (λ n. n ≡ self.now) }
+    {
+        Ok(Payload::from_checked(Vec::from_slice(alloc, self.bytes)?))
     }
 }

@@ -1,5 +1,5 @@
 //! The type of a key.
-ghost use Rattle.std.specs.Prelude.{◌≡◌, IfOk, IfErr, None, Some};
+ghost use Rattle.std.specs.Prelude.{◌≡◌, IfOk, IfErr, None, Some, MatchResult};
 ghost use Rattle.rk_names.specs.Rules.{type_fault};
 
 use crate::errors::NameFault;
@@ -76,6 +76,13 @@ impl TypeName {
     {
         &self.bytes
     }
+
+    /// The same, borrowed.
+    pub fn view(&self) -> TypeView<'_>
+        ensures { result ≡ self.now }
+    {
+        TypeView { bytes: &self.bytes }
+    }
 }
 
 impl Clone for TypeName {
@@ -85,5 +92,49 @@ impl Clone for TypeName {
         Ok(TypeName {
             bytes: self.bytes.clone()?,
         })
+    }
+}
+
+/// A type that is still borrowed: the bytes keep the rule of a [`TypeName`].
+#[derive(Debug, Drop)]
+pub struct TypeView<'a> {
+    bytes: &'a [u8],
+}
+
+impl<'a> Model for TypeView<'a> {
+    ghost use Rattle.std.specs.Prelude.{◌≡◌, List, ℕ, None};
+    ghost use Rattle.rk_names.specs.Rules.{type_fault};
+
+    ghost Value = { List ℕ };
+
+    ghost view = { λ n. n.bytes.now };
+
+    ghost invariant = { λ n. type_fault n.bytes.now ≡ None };
+}
+
+impl<'a> TypeView<'a> {
+    /// The bytes, where they keep the rule; else the first rule that they break. It takes no memory.
+    pub fn new(bytes: &'a [u8]) -> Result<TypeView<'a>, NameFault>
+        ensures { MatchResult result (λ n. (n ≡ bytes.now) × (type_fault bytes.now ≡ None)) (λ f. type_fault bytes.now ≡ Some f) }
+    {
+        match TypeName::fault(bytes) {
+            Some(fault) => Err(fault),
+            None => Ok(TypeView { bytes }),
+        }
+    }
+
+    /// The bytes that it was made of.
+    pub fn as_bytes(&self) -> &'a [u8]
+        ensures bytes { result.now ≡ self.now }
+        ensures rule { type_fault self.now ≡ None }
+    {
+        self.bytes
+    }
+
+    /// A copy, which takes no memory.
+    pub fn to_owned(&self) -> TypeName
+        ensures { result ≡ self.now }
+    {
+        TypeName::from_checked(self.bytes)
     }
 }

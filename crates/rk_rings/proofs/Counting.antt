@@ -1,10 +1,10 @@
 -- Counts that are not 0, among those that are held.
-use Rattle.std.proofs.Common.{◌≡◌, ◌∙◌, ap, sym, refl, ℕ, zero, suc, ◌+◌, ◌-◌, ◌<◌, ◌≤◌, Bool, true, false, cond, ltb, inl, inr, subst, arith}
+use Rattle.std.proofs.Common.{◌≡◌, ◌∙◌, ap, sym, refl, ℕ, zero, suc, ◌-◌, ◌<◌, ◌≤◌, Bool, true, false, cond, ltb, inl, inr, subst, arith}
 use Rattle.std.specs.Prelude.{Option, Some, None, nat_eq, unwrap_or}
 use Rattle.std.specs.Option.{option_map_or}
 use Rattle.std.specs.Ordering.{nat_cmp}
 use Rattle.std.specs.Cmp.{nat_cmp_total}
-use Rattle.std.specs.FinMap.{FinMap, get, len, empty, same_map, get-empty, len-empty, nat_cmp-IsAntisymmetric}
+use Rattle.std.specs.FinMap.{FinMap, get, len, empty, same_map, get-empty, nat_cmp-IsAntisymmetric}
 use Rattle.std.proofs.lemmas.Bool.{lt-ltb, cases_eq, ne_eqb}
 use Rattle.std.proofs.lemmas.Option.{none-some, same_Some}
 use Rattle.rk_table.specs.Stored.{Stored, places}

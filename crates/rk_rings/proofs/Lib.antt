@@ -3,6 +3,7 @@ pub mod Counts
 pub mod Links
 pub mod Named
 pub mod Turned
+pub mod Placed
 pub mod UserRings
 pub mod Changed
 pub mod Made

@@ -5,8 +5,8 @@ use Rattle.std.specs.Option.{option_map_or}
 use Rattle.std.specs.List.{list_any}
 use Rattle.std.specs.Ordering.{nat_cmp, eq_by_cmp}
 use Rattle.std.specs.Cmp.{nat_cmp_total}
-use Rattle.std.specs.FinMap.{FinMap, get, values, len, insert, remove, empty, contains_key, get-insert, get-empty}
-use Rattle.std.proofs.lemmas.Bool.{both_ways, le-ltb, ne_eqb, leb-false, not-false}
+use Rattle.std.specs.FinMap.{FinMap, get, values, len, insert, remove, empty, contains_key, get-insert, get-empty, same_map, nat_cmp-IsAntisymmetric}
+use Rattle.std.proofs.lemmas.Bool.{both_ways, eq-eqb, le-ltb, ne_eqb, leb-false, not-false}
 use Rattle.rk_names.specs.Numbers.{serial_of}
 use Rattle.rk_table.specs.Maps.{kept_where}
 use Rattle.rk_table.proofs.Gets.{get_kept_where}
@@ -94,3 +94,16 @@ still_new p links k h =
       | None ↦ λ e. refl
       | Some v ↦ λ e. absurd (both_ways _ h (kept_within p links k (ap is_some e)))
     ] refl
+
+-- a walk over the links finds no key of a name where there is none
+pub walked_none : (m : FinMap nat_cmp ℕ) (n : ℕ) → FindsEntry (λ k v. nat_eq v n) m None → (k : ℕ) → ¬ (get m k ≡ Some n)
+walked_none m n h k there = no_entry (λ (e : ℕ × ℕ). nat_eq e.1 n) m k n h there (eq-eqb n n refl)
+
+-- no link is left where none passes
+pub none_passes : (m : FinMap nat_cmp ℕ) → kept_where (λ k n. false) m ≡ empty
+none_passes m = same_map nat_cmp_total nat_cmp-IsAntisymmetric _ _ (λ q.
+    get_kept_where (λ k n. false) m q ∙ gone (get m q) ∙ sym (get-empty nat_cmp q))
+  where
+    gone : (o : Option ℕ) → cond (option_map_or (λ n. false) o false) o None ≡ None
+    gone None = refl
+    gone (Some n) = refl

@@ -1,17 +1,16 @@
 -- The links of a ring by the numbers of their names, through each change.
-use Rattle.std.proofs.Common.{◌≡◌, ◌∙◌, ap, sym, subst, refl, ℕ, ◌+◌, ◌-◌, ◌<◌, Bool, true, false, cond, not, ◌&&◌, inl, inr, leb, arith}
-use Rattle.std.specs.Prelude.{Option, Some, None, is_some, nat_eq, option_map, MatchOption}
+use Rattle.std.proofs.Common.{◌≡◌, ◌∙◌, ap, sym, subst, refl, ℕ, ◌+◌, ◌-◌, Bool, true, false, cond, not, inl, inr}
+use Rattle.std.specs.Prelude.{Option, Some, None, is_some, nat_eq, MatchOption}
 use Rattle.std.specs.Option.{option_map_or}
 use Rattle.std.specs.List.{list_any}
 use Rattle.std.specs.Ordering.{nat_cmp}
 use Rattle.std.specs.Cmp.{nat_cmp_total}
 use Rattle.std.specs.FinMap.{FinMap, get, entries, values, len, insert, remove, empty, contains_key}
 use Rattle.std.specs.FinMap.{get-empty, len-insert, len-remove, same_map, nat_cmp-IsAntisymmetric}
-use Rattle.std.proofs.lemmas.Bool.{both_ways, cases_eq, eqb-true, eq-eqb, ne_eqb, leb-false}
+use Rattle.std.proofs.lemmas.Bool.{cases_eq, eqb-true, eq-eqb, ne_eqb}
 use Rattle.std.proofs.lemmas.Option.{none-some, same_Some}
-use Rattle.rk_table.specs.Maps.{changed_at, kept_where}
-use Rattle.rk_table.proofs.Gets.{get_kept_where, get_changed_at, at_new, at_other, left_in, taken_out}
-use Rattle.rk_rings.specs.Numbered.{Numbered, is_full, has_number}
+use Rattle.rk_table.specs.Maps.{kept_where}
+use Rattle.rk_table.proofs.Gets.{get_kept_where, at_new, at_other, left_in, taken_out}
 use Rattle.rk_rings.specs.ByName.{IsTurned, AreByName}
 use Rattle.rk_rings.proofs.Finds.{entry_found, some_entry, any_value}
 
@@ -116,14 +115,10 @@ kept_all a b n h is = same_map nat_cmp_total nat_cmp-IsAntisymmetric _ _ (λ q. 
         ∙ ap (λ b. cond (not b) (Some m) None) (ne_eqb m n (λ e. none-some q (sym is ∙ ap (get b) (sym e) ∙ h.found q m at))))
 
 -- the name stands for another key
-renamed : (b : FinMap nat_cmp ℕ) (n r k : ℕ) → get b n ≡ Some r → changed_at n (λ _. k) b ≡ insert (remove b n) n k
-renamed b n r k is = same_map nat_cmp_total nat_cmp-IsAntisymmetric _ _ (λ q. get_changed_at n (λ _. k) b q ∙ elim (cases_eq q n) [
-  | inl e ↦
-      ap (λ t. cond t (option_map (λ _. k) (get b q)) (get b q)) (eq-eqb n q (sym e))
-      ∙ ap (λ o. option_map (λ _. k) o) (ap (get b) e ∙ is) ∙ sym (at_new (remove b n) n k q e)
-  | inr ne ↦
-      ap (λ t. cond t (option_map (λ _. k) (get b q)) (get b q)) (ne_eqb n q (λ e. ne (sym e)))
-      ∙ sym (at_other (remove b n) n k q ne ∙ left_in b n q ne)
+renamed : (b : FinMap nat_cmp ℕ) (n k : ℕ) → insert b n k ≡ insert (remove b n) n k
+renamed b n k = same_map nat_cmp_total nat_cmp-IsAntisymmetric _ _ (λ q. elim (cases_eq q n) [
+  | inl e ↦ at_new b n k q e ∙ sym (at_new (remove b n) n k q e)
+  | inr ne ↦ at_other b n k q ne ∙ sym (at_other (remove b n) n k q ne ∙ left_in b n q ne)
 ])
 
 none_of : (b : Bool) (o : Option ℕ) → is_some o ≡ false → o ≡ None
@@ -131,25 +126,16 @@ none_of b None h = refl
 none_of b (Some x) h = absurd (cc)
 
 pub by_name_given : (a b : FinMap nat_cmp ℕ) (r k n : ℕ) → AreByName a b → get b n ≡ Some r → contains_key a k ≡ false →
-    AreByName (insert (remove a r) k n) (changed_at n (λ _. k) b)
+    AreByName (insert (remove a r) k n) (insert b n k)
 by_name_given a b r k n h is lacks =
     let none : get a k ≡ None = none_of true (get a k) lacks in
-    subst (AreByName (insert (remove a r) k n)) (sym (renamed b n r k is))
+    subst (AreByName (insert (remove a r) k n)) (sym (renamed b n k))
     (by_name_put (remove a r) (remove b n) k n (by_name_out a b r n h (h.linked n r is))
     (elim (cases_eq k r) [ inl e ↦ taken_out a r k e | inr ne ↦ left_in a r k ne ∙ none ])
     (taken_out b n n refl))
 
 pub by_name_new : (a b : FinMap nat_cmp ℕ) (k n : ℕ) → AreByName a b → get b n ≡ None → contains_key a k ≡ false → AreByName (insert a k n) (insert b n k)
 by_name_new a b k n h free lacks = by_name_put a b k n h (none_of true (get a k) lacks) free
-
--- where a ring is not full for a name that no key has, there is a place for the name
-pub name_room : (r : Numbered) (by_name : FinMap nat_cmp ℕ) (n room : ℕ) → AreByName r.links by_name → is_full (Some n) r ≡ false →
-    contains_key by_name n ≡ false → len by_name + room ≡ 256 → 0 < room
-name_room r by_name n room h full lacks sum = by_len (leb 256 (len r.links)) refl
-  where
-    by_len : (b : Bool) → leb 256 (len r.links) ≡ b → 0 < room
-    by_len false e = omega (arith, leb-false 256 (len r.links) e, h.as_many, sum)
-    by_len true e = absurd (both_ways _ full (ap (λ b. b && not (has_number r n)) e ∙ ap not (sym (number_known r.links by_name n h) ∙ lacks)))
 
 pub nothing_out : (m : FinMap nat_cmp ℕ) (k : ℕ) → get m k ≡ None → m ≡ remove m k
 nothing_out m k none = same_map nat_cmp_total nat_cmp-IsAntisymmetric _ _ (λ q. elim (cases_eq q k) [

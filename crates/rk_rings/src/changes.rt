@@ -21,9 +21,7 @@ impl ChangeOnce<Row> for Link {
     ghost changed = { λ c r. linked_in_room c.key c.name r };
 
     fn change(self, row: &mut Row) {
-        if row.takes(self.key, self.name) {
-            row.link(self.key, self.name);
-        }
+        row.link(self.key, self.name);
     }
 }
 

@@ -13,7 +13,7 @@
 //! ever has two keys of one name, so the key of a name that a look-up finds is the only one there. A link takes the place of another key of that
 //! name in the ring, and changes nothing for a key that is there. A ring has at most 256 links, there are at most 1,024 rings, and `Full` comes
 //! exactly where a limit would be passed. Each refusal comes exactly in its case and changes nothing. Only `make` takes memory: it makes several
-//! rings or none, each with the room for its links, so no later call can want any.
+//! rings or none, each with the room for its links, so no later call can want any. It uses the room of rings that were dropped first.
 //!
 //! # An example
 //!
@@ -24,14 +24,16 @@
 //! # How it is built
 //!
 //! `kind` says what a ring is for, `place` how an ask names one, `fault` why a call is refused. `row` is one
-//! ring, a table of its links by their keys and one by the numbers of their names; `changes` has the changes of a ring as the table of rings takes
-//! them; `link_counts` counts the links of each key; `rings` is all of them, with a user ring of each user; `reach` goes over the rings of a
-//! context. A look-up of a ring halves the rings, and of a key or a name the links of its ring, as `rk_table` finds. No clause says how they lie.
+//! ring, a table of its links by their keys; `by_name` has the same links in an `indexmap` by the numbers of their names; `changes` has the changes
+//! of a ring as the table of rings takes them; `link_counts` counts the links of each key; `rings` is all of them, with a user ring of each user;
+//! `reach` goes over the rings of a context. A look-up of a ring halves the rings, and of a key the links of its ring, as `rk_table` finds; a name is
+//! found by its hash, or by a walk where there are few links. No clause says how they lie.
 //!
 //! For libraries above, which see a ring as the set of its keys, `proofs/Seen.antt` and `proofs/SeenPlaces.antt`
 //! say what each change and each look-up is without the numbers.
 #![tactic(auto)]
 
+mod by_name;
 mod changes;
 mod fault;
 mod kind;

@@ -19,12 +19,16 @@ use rk_table::Table;
 use std::alloc::{AllocError, Global};
 use std::marker::Model;
 
+/// The most rings that are kept when they are dropped: as many as a context has.
+const MAX_UNUSED: usize = 4;
+
 /// The most rings at a time.
 pub const MAX_RINGS: usize = 1_024;
 
 /// The live rings by their serials, each with room for its 256 links, of which no two are to keys of one name.
 ///
-/// A call that is given a ring looks at 11 of 1,024 rings to find it, and at 9 of its 256 links to find a key or a name.
+/// A call that is given a ring looks at 11 of 1,024 rings to find it, and at 9 of its 256 links to find a key. A name is found by its hash, or
+/// among up to 8 links by a walk.
 #[derive(Drop)]
 pub struct Rings {
     /// Each ring by its serial.
@@ -33,6 +37,8 @@ pub struct Rings {
     users: Table<Serial>,
     /// In how many rings each key is linked.
     counts: LinkCounts,
+    /// Rings that were dropped, whose places the next ones take.
+    unused: Vec<Row>,
 }
 
 impl Model for Rings {
@@ -75,6 +81,7 @@ impl Rings {
             rows: Table::new(alloc),
             users: Table::new(alloc),
             counts: LinkCounts::new(alloc),
+            unused: Vec::new(alloc),
         }
     }
 
@@ -164,7 +171,7 @@ impl Rings {
         if !self.has_room(wanted.len()) {
             return Err(RingFault::Full);
         }
-        let Ok(rows) = new_rows(alloc, wanted) else {
+        let Ok(rows) = new_rows(alloc, wanted, &mut self.unused) else {
             return Err(RingFault::NoMemory);
         };
         if self.rows.reserve(rows.len()).is_err() || self.users.reserve(rows.len()).is_err() {
@@ -190,16 +197,16 @@ impl Rings {
         ensures full { (result ≡ Err RingFault.Full) ↔ ((is_full_at self.old ring (Some name) ≡ true) × (holds self.old ring key ≡ false)) }
         ensures others { IfErr result (λ f. (f ≡ RingFault.NoRing) ⊎ (f ≡ RingFault.Full)) }
     {
-        if !self.contains(ring) {
+        let Some(row) = self.row(ring) else {
             return Err(RingFault::NoRing);
-        }
-        if self.holds(ring, key) {
+        };
+        if row.holds(key) {
             return Ok(());
         }
-        if self.is_full(ring, Some(name)) {
+        if row.is_full(Some(name)) {
             return Err(RingFault::Full);
         }
-        let rival = self.find_in(ring, name);
+        let rival = row.find(name);
         self.rows.change(ring.get(), Link { key, name });
         count_gone(&mut self.counts, &rival);
         self.counts.one_more(key.get());
@@ -274,7 +281,8 @@ impl Rings {
         }
         self.empty(ring);
         let user = self.user_of(ring);
-        self.rows.remove(ring.get());
+        let row = self.rows.take(ring.get());
+        keep(&mut self.unused, row);
         renew_user(&self.rows, &mut self.users, user);
         Ok(())
     }
@@ -306,15 +314,42 @@ fn count_gone(counts: &mut LinkCounts, rival: &Option<Serial>)
     }
 }
 
-/// The rings that are wanted, each with room for its links.
-fn new_rows(alloc: Global, wanted: &[NewRing]) -> Result<Vec<(Serial, Row)>, AllocError>
+/// The rings that are wanted, each with room for its links; and room in `unused` for the rings of a context.
+fn new_rows(
+    alloc: Global,
+    wanted: &[NewRing],
+    unused: &mut Vec<Row>,
+) -> Result<Vec<(Serial, Row)>, AllocError>
     ensures { IfOk result (λ rows. rows.items ≡ list_map (λ w. (w.serial, new_ring w)) wanted.now) }
 {
+    unused.reserve_exact(MAX_UNUSED.saturating_sub(unused.len()))?;
     let mut rows = Vec::with_capacity(alloc, wanted.len())?;
     for ring in wanted {
-        rows.push((ring.serial, Row::new(alloc, *ring)?))?;
+        rows.push((ring.serial, row_for(alloc, *ring, unused)?))?;
     }
     Ok(rows)
+}
+
+/// A ring that is wanted: one that was dropped, or else a new one.
+fn row_for(alloc: Global, wanted: NewRing, unused: &mut Vec<Row>) -> Result<Row, AllocError>
+    ensures { IfOk result (λ r. r ≡ new_ring wanted) }
+{
+    match unused.pop() {
+        Some(mut row) => {
+            row.renew(wanted);
+            Ok(row)
+        }
+        None => Row::new(alloc, wanted),
+    }
+}
+
+/// Keeps a ring that was dropped, where there is room for it. It takes no memory.
+fn keep(unused: &mut Vec<Row>, row: Option<Row>) {
+    if let Some(row) = row
+        && unused.len() < unused.capacity()
+    {
+        unused.push_reserved(row);
+    }
 }
 
 /// Puts rings at new serials into places that were reserved, and users who had no user ring beside them.

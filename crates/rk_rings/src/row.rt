@@ -1,18 +1,23 @@
 //! One ring, with places for 256 links, found by their keys and by their names.
-ghost use Rattle.std.specs.Prelude.{◌≡◌, ◌<◌, ◌==◌, not, false};
+ghost use Rattle.std.specs.Prelude.{◌≡◌, ◌≤◌, ◌==◌, not, false};
 ghost use Rattle.std.specs.FinMap as map;
 ghost use Rattle.rk_table.specs.Maps.{kept_where};
 ghost use Rattle.rk_table.specs.Stored.{places};
+ghost use Rattle.rk_rings.specs.Numbered.{AreSerials};
 ghost use Rattle.rk_rings.specs.ByName.{AreByName};
 
+use crate::by_name::ByName;
 use crate::kind::{NewRing, RingKind};
 use rk_names::{NameNo, Serial};
-use rk_table::{ChangeOnce, Table, Test};
+use rk_table::{Table, Test};
 use std::alloc::{AllocError, Global};
 use std::marker::Model;
 
 /// The most links of a ring.
 pub const MAX_LINKS: usize = 256;
+
+/// The most links that are looked at one by one.
+const FEW_LINKS: usize = 8;
 
 /// One ring: whose it is, and the keys that are linked in it with the numbers of their names, of which no two have one.
 #[derive(Drop)]
@@ -24,7 +29,7 @@ pub struct Row {
     /// The number of each key's name, by the key's serial.
     links: Table<NameNo>,
     /// The same links the other way round: each key, by the number of its name.
-    by_name: Table<Serial>,
+    by_name: ByName,
 }
 
 impl Model for Row {
@@ -41,15 +46,15 @@ impl Model for Row {
 
     ghost invariant = { λ r. record {
       links : (places r.links ≡ 256) × AreSerials r.links.facts;
-      by_name : (places r.by_name ≡ 256) × AreByName r.links.facts r.by_name.facts;
+      by_name : AreByName r.links.facts r.by_name.facts;
     } };
 }
 
 impl Row {
-    ghost use Rattle.std.specs.Prelude.{◌≡◌, ◌||◌, not, false, true, Some, None, IfOk, MatchOption, ℕ};
+    ghost use Rattle.std.specs.Prelude.{◌≡◌, false, true, Some, IfOk, MatchOption, ℕ};
     ghost use Rattle.std.specs.FinMap as map;
     ghost use Rattle.std.specs.Option.{option_map_or};
-    ghost use Rattle.rk_rings.specs.Numbered.{is_full, is_user_ring, has_number, linked, unlinked, new_ring};
+    ghost use Rattle.rk_rings.specs.Numbered.{is_full, is_user_ring, has_number, linked_in_room, unlinked, new_ring};
 
     /// An empty ring, with its places.
     pub fn new(alloc: Global, wanted: NewRing) -> Result<Row, AllocError>
@@ -59,8 +64,18 @@ impl Row {
             kind: wanted.kind,
             uid: wanted.uid,
             links: Table::with_room(alloc, MAX_LINKS)?,
-            by_name: Table::with_room(alloc, MAX_LINKS)?,
+            by_name: ByName::new(alloc)?,
         })
+    }
+
+    /// Becomes an empty ring that is wanted. Its places stay.
+    pub fn renew(&mut self, wanted: NewRing)
+        ensures { self.new ≡ new_ring wanted }
+    {
+        self.kind = wanted.kind;
+        self.uid = wanted.uid;
+        self.links.retain(&IsGone);
+        self.by_name.clear();
     }
 
     /// Whose ring it is.
@@ -101,27 +116,29 @@ impl Row {
         self.links.len() >= MAX_LINKS && !self.has_name(name)
     }
 
-    /// Whether the key is linked, or there is room for one of that name.
-    pub fn takes(&self, key: Serial, name: NameNo) -> bool
-        ensures { result ≡ (map.contains_key self.now.links key || not (is_full (Some name) self.now)) }
-    {
-        self.holds(key) || !self.is_full(Some(name))
-    }
-
     fn has_name(&self, name: Option<NameNo>) -> bool
         ensures { result ≡ option_map_or (has_number self.now) name false }
     {
         match name {
-            Some(number) => self.by_name.contains(number.0),
+            Some(number) => self.by_name.get(number).is_some(),
             None => false,
         }
     }
 
-    /// The key of that name, if one is linked.
+    /// The key of that name, if one is linked. Where there are few links, it looks at each, which takes less than to hash the name.
     pub fn find(&self, name: NameNo) -> Option<Serial>
         ensures { MatchOption result ((k : ℕ) → ¬ (map.get self.now.links k ≡ Some name)) (λ k. map.get self.now.links k ≡ Some name) }
     {
-        self.by_name.get(name.0).copied()
+        if self.links.len() <= FEW_LINKS {
+            return self.find_by_walk(name);
+        }
+        self.by_name.get(name)
+    }
+
+    fn find_by_walk(&self, name: NameNo) -> Option<Serial>
+        ensures { MatchOption result ((k : ℕ) → ¬ (map.get self.now.links k ≡ Some name)) (λ k. map.get self.now.links k ≡ Some name) }
+    {
+        Serial::new(self.links.find(&HasName(name))?)
     }
 
     /// A key that is linked, if there is one.
@@ -131,12 +148,12 @@ impl Row {
         Serial::new(self.links.find(&IsThere)?)
     }
 
-    /// Links a key of that name, in the place of another of that name. It takes no memory, and changes nothing where the key is linked already.
+    /// Links a key of that name, in the place of another of that name. It takes no memory, and changes nothing where the key is linked already,
+    /// or there is no room for it.
     pub fn link(&mut self, key: Serial, name: NameNo)
-        requires { (map.contains_key self.old.links key ≡ false) → is_full (Some name) self.old ≡ false }
-        ensures { self.new ≡ linked key name self.old }
+        ensures { self.new ≡ linked_in_room key name self.old }
     {
-        if self.links.contains(key.get()) {
+        if self.links.contains(key.get()) || self.is_full(Some(name)) {
             return;
         }
         give_way(&mut self.links, &mut self.by_name, key, name);
@@ -151,38 +168,54 @@ impl Row {
             return;
         };
         self.links.remove(key.get());
-        self.by_name.remove(name.0);
+        self.by_name.remove(name);
     }
 }
 
 /// Takes out the link of the key of a name, where there is one, so that another may take its place; by its name the other is found already.
-fn give_way(links: &mut Table<NameNo>, by_name: &mut Table<Serial>, key: Serial, name: NameNo)
+fn give_way(links: &mut Table<NameNo>, by_name: &mut ByName, key: Serial, name: NameNo)
+    requires serials { AreSerials links.old.facts }
     requires index { AreByName links.old.facts by_name.old.facts }
     requires new { map.contains_key links.old.facts key ≡ false }
-    requires room { map.contains_key by_name.old.facts name ≡ false → 0 < by_name.old.room }
+    requires few { map.len links.old.facts ≤ 256 }
     ensures links { links.new.facts ≡ kept_where (λ j m. not (m == name)) links.old.facts }
     ensures places { places links.new ≡ places links.old }
-    ensures name_places { places by_name.new ≡ places by_name.old }
     ensures index { AreByName (map.insert links.new.facts key name) by_name.new.facts }
 {
-    match by_name.get(name.0).copied() {
-        Some(rival) => {
-            links.remove(rival.get());
-            by_name.change(name.0, Become(key));
-        }
-        None => by_name.insert(name.0, key),
+    by_name.make_way(links);
+    if let Some(rival) = by_name.put(name, key) {
+        links.remove(rival.get());
     }
 }
 
-/// The name stands for this key from now on.
+/// The link of a key of that name.
 #[derive(Clone, Copy)]
-struct Become(Serial);
+struct HasName(NameNo);
 
-impl ChangeOnce<Serial> for Become {
-    ghost changed = { λ b _. b.0 };
+impl Test<NameNo> for HasName {
+    ghost use Rattle.std.specs.Prelude.{◌==◌};
 
-    fn change(self, key: &mut Serial) {
-        *key = self.0;
+    ghost passes = { λ t _ n. n == t.0 };
+
+    fn passes(&self, key: u32, value: &NameNo) -> bool {
+        let _ = key;
+        *value == self.0
+    }
+}
+
+/// No link.
+#[derive(Clone, Copy)]
+struct IsGone;
+
+impl Test<NameNo> for IsGone {
+    ghost use Rattle.std.specs.Prelude.{false};
+
+    ghost passes = { λ _ k n. false };
+
+    fn passes(&self, key: u32, value: &NameNo) -> bool {
+        let _ = key;
+        let _ = value;
+        false
     }
 }
 

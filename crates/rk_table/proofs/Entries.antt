@@ -1,5 +1,5 @@
 -- A list of entries as a finite map.
-use Rattle.std.proofs.Common.{◌≡◌, ℕ, zero, suc, ◌+◌, ◌<◌, ◌≤◌, Bool, true, false, cond, not, List, [], ◌∷◌, ◌++◌, length, get_or, set, drop, refl, ap, sym, ◌∙◌, arith, add-one, drop-cons}
+use Rattle.std.proofs.Common.{◌≡◌, ℕ, ◌+◌, ◌<◌, Bool, true, false, cond, not, List, [], ◌∷◌, ◌++◌, length, get_or, drop, refl, ap, sym, ◌∙◌, add-one, drop-cons}
 use Rattle.std.specs.Prelude.{Option, Some, None, filter, nat_eq}
 use Rattle.std.specs.Prelude.{map as list_map}
 use Rattle.std.specs.Ordering.{nat_cmp, eq_by_cmp}

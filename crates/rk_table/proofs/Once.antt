@@ -7,7 +7,7 @@ use Rattle.std.specs.List.{list_any}
 use Rattle.std.specs.Option.{option_map_or}
 use Rattle.std.specs.Ordering.{nat_cmp, eq_by_cmp, is_eq}
 use Rattle.std.specs.declared.cmp.Ordering.TheVariants.{Less, Equal, Greater}
-use Rattle.std.specs.Cmp.{nat_cmp_total}
+use Rattle.std.specs.Cmp.{nat_cmp_total, nat_cmp_is}
 use Rattle.std.specs.FinMap.{FinMap, from_entries, get, find, empty, len, entries, len-empty, len-insert, get-entries, entries-insert, get-retain_keys, len-entries, same_map, nat_cmp-IsAntisymmetric}
 use Rattle.std.specs.FinMap.Entries.{put, by_order}
 use Rattle.std.proofs.lemmas.Bool.{both_ways, eqb-true, eq-eqb}
@@ -62,6 +62,17 @@ module _ {X : Type 0} where
   pub once_rising : (es : List (ℕ × X)) → KeysRise es → HasEachOnce es
   once_rising [] h = tt
   once_rising (e ∷ es) h = (none_above e.0 es h.0, once_rising es h.1)
+
+  -- entries whose keys rise are in their map's order
+  put_first : (k : ℕ) (v : X) (es : List (ℕ × X)) → AreAbove k es → put nat_cmp k v es ≡ (k, v) ∷ es
+  put_first k v [] h = refl
+  put_first k v (e ∷ es) h = ap (λ r. by_order r ((k, v) ∷ e ∷ es) ((e.0, v) ∷ es) (e ∷ put nat_cmp k v es)) (sym (nat_cmp_is k e.0 Less h.0))
+
+  pub entries_rising : (es : List (ℕ × X)) → KeysRise es → entries (from_entries {R = nat_cmp} es) ≡ es
+  entries_rising [] h = no_entries
+  entries_rising (e ∷ es) h =
+      entries-insert nat_cmp_total (from_entries es) e.0 e.1
+      ∙ ap (put nat_cmp e.0 e.1) (entries_rising es h.1) ∙ put_first e.0 e.1 es h.0
 
   -- ---- what keeps each key once
   none_left : (p : ℕ × X → Bool) (q : ℕ) (es : List (ℕ × X)) → find nat_cmp q es ≡ None → find nat_cmp q (filter p es) ≡ None

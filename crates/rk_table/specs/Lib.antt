@@ -3,3 +3,4 @@ pub mod Entries
 pub mod Stored
 pub mod Says
 pub mod Counts
+pub mod Hashed

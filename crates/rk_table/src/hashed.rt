@@ -7,17 +7,19 @@ ghost use Rattle.indexmap.specs.IndexMap.{spare};
 ghost use Rattle.rk_table.specs.Maps.{changed_at};
 ghost use Rattle.rk_table.specs.Stored.{Stored, stored_code};
 
+use crate::hashing::DrawnNumbers;
 use crate::table::ChangeOnce;
 use indexmap::IndexMap;
 use std::alloc::{AllocError, Global};
 use std::marker::Model;
 
 /// A finite map from numbers to values, for many entries: each call but `reserve` takes the same time, however many there are. What is
-/// reserved is for the insertions that follow: an entry that is taken out need not leave its place to the next.
+/// reserved is for the insertions that follow: an entry that is taken out need not leave its place to the next. Keys are hashed without a seed, so
+/// they are to be numbers that no stranger chooses.
 #[derive(Drop)]
 pub struct HashTable<V> {
     /// In no order.
-    entries: IndexMap<u32, V>,
+    entries: IndexMap<u32, V, DrawnNumbers>,
 }
 
 impl<V> Model for HashTable<V> {
@@ -34,7 +36,7 @@ impl<V> HashTable<V> {
         ensures { result.facts ≡ map.empty }
     {
         HashTable {
-            entries: IndexMap::new(alloc),
+            entries: IndexMap::with_hasher(alloc, DrawnNumbers),
         }
     }
 
@@ -44,7 +46,7 @@ impl<V> HashTable<V> {
         ensures room { IfOk result (λ t. room ≤ t.room) }
     {
         Ok(HashTable {
-            entries: IndexMap::with_capacity(alloc, room)?,
+            entries: IndexMap::with_capacity_and_hasher(alloc, room, DrawnNumbers)?,
         })
     }
 

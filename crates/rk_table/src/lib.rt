@@ -25,15 +25,17 @@
 //! `table` has the table, `places` the search. A plain vector of entries in the order of their keys, each key once, so that a search halves
 //! it: `get`, `contains` and `change` look at 8 entries where 256 are held. `insert` and `remove` search alike, and then the entries
 //! of greater keys move by one place, in one piece; keys that come rising, as serials do, are put at the end. `any`, `find`
-//! and `retain` walk over all entries. `hashed` has the other, over an `indexmap`, whose entries are found by the hashes of their keys. `counts`
-//! counts numbers in a `Table`. No contract says how entries lie, so that another index can take its place.
+//! and `retain` walk over all entries. `hashed` has the other, over an `indexmap`, whose entries are found by the hashes of their keys, which
+//! `hashing` makes. `counts` counts numbers in a `Table`. No contract says how entries lie, so that another index can take its place.
 #![tactic(auto)]
 
 mod counts;
 mod hashed;
+mod hashing;
 mod places;
 mod table;
 
 pub use counts::Counts;
 pub use hashed::HashTable;
+pub use hashing::{DrawnNumbers, NumberHasher};
 pub use table::{ChangeOnce, Table, Test};

@@ -107,6 +107,13 @@ impl<V> Table<V> {
         self.entries.len()
     }
 
+    /// All entries, in the order of their keys.
+    pub fn entries(&self) -> &[(u32, V)]
+        ensures { result.now ≡ map.entries self.now.facts }
+    {
+        &self.entries
+    }
+
     /// Whether some entry passes the test.
     pub fn any<T: Test<V>>(&self, test: &T) -> bool
         ensures { result ≡ list_any (λ e. T.passes test.now e.0 e.1) (map.entries self.now.facts) }
@@ -160,16 +167,27 @@ impl<V: Drop> Table<V> {
         retain_entries(&mut self.entries, test);
     }
 
-    /// Takes out the value at a key, if it has one. Its place is free. It is found as `get` finds, and then the entries of greater keys
-    /// move down.
+    /// Takes out the value at a key, if it has one, and hands it over. Its place is free. It is found as `get` finds, and then the entries of
+    /// greater keys move down.
+    pub fn take(&mut self, key: u32) -> Option<V>
+        ensures value { result ≡ map.get self.old.facts key }
+        ensures facts { self.new.facts ≡ map.remove self.old.facts key }
+        ensures room { self.old.room ≤ self.new.room }
+        ensures places { places self.new ≡ places self.old }
+    {
+        match place_of(&self.entries, key) {
+            Ok(place) => Some(self.entries.remove(place).1),
+            Err(_) => None,
+        }
+    }
+
+    /// Takes out the value at a key, if it has one, as `take` does.
     pub fn remove(&mut self, key: u32)
         ensures facts { self.new.facts ≡ map.remove self.old.facts key }
         ensures room { self.old.room ≤ self.new.room }
         ensures places { places self.new ≡ places self.old }
     {
-        if let Ok(place) = place_of(&self.entries, key) {
-            self.entries.remove(place);
-        }
+        self.take(key);
     }
 }
 

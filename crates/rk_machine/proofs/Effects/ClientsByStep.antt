@@ -16,8 +16,8 @@ use Rattle.rk_auth.specs.declared.session.Wait.{Wait}
 use Rattle.rk_auth.specs.declared.session.Outcome.{Outcome}
 use Rattle.rk_auth.specs.Sessions.{Sessions, new_session, wait_of, unspent}
 use Rattle.rk_auth.specs.Changes.{session_changed, spent, all_told, told, with_context, ready_outcome}
-use Rattle.rk_machine.specs.declared.event.Event.{Event}
-use Rattle.rk_machine.specs.declared.event.Event.TheVariants.{Opened, Asked, Launched, Ended, Collect, Gone}
+use Rattle.rk_machine.specs.Event.{Event}
+use Rattle.rk_machine.specs.declared.event.EventOf.TheVariants.{Opened, Asked, Launched, Ended, Collect, Gone}
 use Rattle.rk_machine.specs.declared.event.Answer.{Answer}
 use Rattle.rk_machine.specs.declared.event.Answer.TheVariants.{Done, Start, Waiting, Refused, Negate}
 use Rattle.rk_machine.specs.World.{World, tidied}

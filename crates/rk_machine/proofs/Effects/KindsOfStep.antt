@@ -14,8 +14,8 @@ use Rattle.rk_names.specs.declared.errors.KeyError.TheVariants as error
 use Rattle.rk_names.specs.Numbers.{key_errno}
 use Rattle.rk_names.specs.Settings.{setting_number}
 use Rattle.rk_table.specs.Says.{Says}
-use Rattle.rk_message.specs.declared.ask.Ask.{Ask}
-use Rattle.rk_message.specs.declared.ask.Ask.TheVariants as ask
+use Rattle.rk_message.specs.Ask.{Ask}
+use Rattle.rk_message.specs.declared.ask.AskOf.TheVariants as ask
 use Rattle.rk_message.specs.declared.reply.Reply.TheVariants.{Number, Bytes}
 use Rattle.rk_keys.specs.declared.key.Key.{Key}
 use Rattle.rk_keys.specs.declared.key.Condition.{Condition}
@@ -31,8 +31,8 @@ use Rattle.rk_auth.specs.declared.construction.Authority.{Authority}
 use Rattle.rk_auth.specs.Sessions.{new_session, session_of, wait_of, stage_of, is_to_launch, assumed_authority}
 use Rattle.rk_auth.specs.Changes as sessions
 use Rattle.rk_auth.specs.Circles.{Leads}
-use Rattle.rk_machine.specs.declared.event.Event.{Event}
-use Rattle.rk_machine.specs.declared.event.Event.TheVariants.{Opened, Asked, Launched, Ended, Collect, Gone}
+use Rattle.rk_machine.specs.Event.{Event}
+use Rattle.rk_machine.specs.declared.event.EventOf.TheVariants.{Opened, Asked, Launched, Ended, Collect, Gone}
 use Rattle.rk_machine.specs.declared.event.Ran.{Ran}
 use Rattle.rk_machine.specs.declared.event.Ran.TheVariants as ran
 use Rattle.rk_machine.specs.declared.event.How.{How}

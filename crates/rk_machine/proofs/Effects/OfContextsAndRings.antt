@@ -8,8 +8,8 @@ use Rattle.rk_names.specs.declared.errors.Errno.{Errno}
 use Rattle.rk_names.specs.declared.errors.KeyError.TheVariants as error
 use Rattle.rk_names.specs.declared.numbers.SessionId.{SessionId}
 use Rattle.rk_names.specs.declared.numbers.SessionId.TheVariants.{Client}
-use Rattle.rk_message.specs.declared.ask.Ask.{Ask}
-use Rattle.rk_message.specs.declared.ask.Ask.TheVariants as ask
+use Rattle.rk_message.specs.Ask.{Ask}
+use Rattle.rk_message.specs.declared.ask.AskOf.TheVariants as ask
 use Rattle.rk_message.specs.declared.reply.Reply.TheVariants.{Rings}
 use Rattle.rk_keys.specs.declared.key.Condition.TheVariants.{Negative}
 use Rattle.rk_rings.specs.Ring.{without_link, without_links}
@@ -18,8 +18,8 @@ use Rattle.rk_auth.specs.declared.construction.Stage.TheVariants.{Plain, Piped, 
 use Rattle.rk_auth.specs.declared.construction.Authority.{Authority}
 use Rattle.rk_auth.specs.Sessions.{Sessions, new_session, unspent}
 use Rattle.rk_auth.specs.Changes.{session_changed, with_wait, with_context, with_setting, with_assumed, with_construction, spent}
-use Rattle.rk_machine.specs.declared.event.Event.{Event}
-use Rattle.rk_machine.specs.declared.event.Event.TheVariants.{Asked}
+use Rattle.rk_machine.specs.Event.{Event}
+use Rattle.rk_machine.specs.declared.event.EventOf.TheVariants.{Asked}
 use Rattle.rk_machine.specs.declared.event.Answer.{Answer}
 use Rattle.rk_machine.specs.declared.event.Answer.TheVariants.{Done, Start, Refused}
 use Rattle.rk_machine.specs.World.{World, tidied}

@@ -8,8 +8,8 @@ use Rattle.std.proofs.lemmas.Bool.{eqb-true, eq-eqb}
 use Rattle.rk_names.specs.declared.numbers.SessionId.{SessionId}
 use Rattle.rk_names.specs.declared.numbers.SessionId.TheVariants.{Client, Handler}
 use Rattle.rk_names.specs.declared.errors.Errno.TheVariants as errno
-use Rattle.rk_message.specs.declared.ask.Ask.{Ask}
-use Rattle.rk_message.specs.declared.ask.Ask.TheVariants as ask
+use Rattle.rk_message.specs.Ask.{Ask}
+use Rattle.rk_message.specs.declared.ask.AskOf.TheVariants as ask
 use Rattle.rk_keys.specs.declared.key.Key.{Key}
 use Rattle.rk_names.specs.declared.errors.KeyError.TheVariants as error
 use Rattle.rk_message.specs.declared.reply.Reply.TheVariants.{Bytes}
@@ -24,8 +24,8 @@ use Rattle.rk_auth.specs.declared.construction.Authority.{Authority}
 use Rattle.rk_auth.specs.declared.construction.Construction.{Construction}
 use Rattle.rk_auth.specs.Sessions.{Sessions, new_session, session_of, stage_of, is_to_launch, handler_in, unspent, assumed_authority}
 use Rattle.rk_auth.specs.Changes.{spent, all_told, with_context}
-use Rattle.rk_machine.specs.declared.event.Event.{Event}
-use Rattle.rk_machine.specs.declared.event.Event.TheVariants.{Opened, Asked, Launched, Ended, Collect, Gone}
+use Rattle.rk_machine.specs.Event.{Event}
+use Rattle.rk_machine.specs.declared.event.EventOf.TheVariants.{Opened, Asked, Launched, Ended, Collect, Gone}
 use Rattle.rk_machine.specs.declared.event.Ran.TheVariants as ran
 use Rattle.rk_machine.specs.declared.event.Answer.{Answer}
 use Rattle.rk_machine.specs.declared.event.Answer.TheVariants.{Done, Waiting, Refused}

@@ -5,7 +5,7 @@ use Rattle.std.specs.Ordering.{nat_cmp}
 use Rattle.std.specs.FinSet as set
 use Rattle.rk_rings.specs.declared.kind.RingKind.{RingKind}
 use Rattle.rk_rings.specs.declared.kind.RingKind.TheVariants as kind
-use Rattle.rk_machine.specs.declared.event.Event.{Event}
+use Rattle.rk_machine.specs.Event.{Event}
 use Rattle.rk_machine.specs.declared.event.Answer.{Answer}
 use Rattle.rk_machine.specs.World.{World, drawn}
 use Rattle.rk_machine.specs.Hello.{Greeting, Makes, MakesIf, HasSessionRing, HasUserRing, MakesRings}

@@ -9,7 +9,7 @@ use Rattle.rk_names.specs.declared.context.Context.{Context}
 use Rattle.rk_names.specs.declared.numbers.SessionId.{SessionId}
 use Rattle.rk_names.specs.declared.numbers.SessionId.TheVariants.{Client, Handler}
 use Rattle.rk_macro.specs.declared.subject.Subject.{Subject}
-use Rattle.rk_message.specs.declared.ask.Ask.{Ask}
+use Rattle.rk_message.specs.Ask.{Ask}
 use Rattle.rk_rings.specs.declared.kind.RingKind.{RingKind}
 use Rattle.rk_rings.specs.declared.kind.RingKind.TheVariants as kind
 use Rattle.rk_rings.specs.Ring.{Ring}
@@ -17,8 +17,8 @@ use Rattle.rk_auth.specs.declared.session.Session.{Session}
 use Rattle.rk_auth.specs.declared.construction.Authority.{Authority}
 use Rattle.rk_auth.specs.declared.construction.Construction.{Construction}
 use Rattle.rk_auth.specs.Sessions.{unspent}
-use Rattle.rk_machine.specs.declared.event.Event.{Event}
-use Rattle.rk_machine.specs.declared.event.Event.TheVariants.{Asked}
+use Rattle.rk_machine.specs.Event.{Event}
+use Rattle.rk_machine.specs.declared.event.EventOf.TheVariants.{Asked}
 use Rattle.rk_machine.specs.declared.event.Answer.{Answer}
 use Rattle.rk_machine.specs.declared.event.Answer.TheVariants.{Start}
 use Rattle.rk_machine.specs.World.{World, empty_world}

@@ -11,7 +11,7 @@ use Rattle.rk_names.specs.declared.numbers.SessionId.TheVariants.{Client, Handle
 use Rattle.rk_auth.specs.declared.construction.Authority.{Authority}
 use Rattle.rk_auth.specs.declared.construction.Construction.{Construction}
 use Rattle.rk_auth.specs.Sessions.{Sessions, unspent}
-use Rattle.rk_machine.specs.declared.event.Event.TheVariants.{Asked}
+use Rattle.rk_machine.specs.declared.event.EventOf.TheVariants.{Asked}
 use Rattle.rk_machine.specs.declared.event.Answer.TheVariants.{Start}
 use Rattle.rk_machine.specs.World.{World, empty_world}
 use Rattle.rk_machine.specs.Asker.{Asker, asker_of}
@@ -22,7 +22,7 @@ use Rattle.rk_machine.proofs.Effects.OfOneConstruction.{Goods}
 use Rattle.rk_machine.proofs.OneConstruction.EachOnce.{knows}
 use Rattle.rk_machine.proofs.Effects.WhoActs.{client_acts, handler_acts}
 use Rattle.rk_machine.proofs.Effects.OfContextsAndRings.{NoStart, NoNewAuthority, Move, rests, one_starts, one_comes, one_goes, move}
-use Rattle.rk_message.specs.declared.ask.Ask.{Ask}
+use Rattle.rk_message.specs.Ask.{Ask}
 use Rattle.rk_macro.specs.declared.subject.Subject.{Subject}
 use Rattle.rk_machine.proofs.Found.Options.{none_some, some_same}
 

@@ -16,7 +16,7 @@ use Rattle.rk_auth.specs.declared.session.Outcome.TheVariants.{Found, Failed}
 use Rattle.rk_auth.specs.declared.construction.Construction.{Construction}
 use Rattle.rk_auth.specs.Sessions.{wait_of, handler_in}
 use Rattle.rk_auth.specs.Changes.{told_wait}
-use Rattle.rk_machine.specs.declared.event.Event.TheVariants.{Collect}
+use Rattle.rk_machine.specs.declared.event.EventOf.TheVariants.{Collect}
 use Rattle.rk_machine.specs.declared.event.Answer.{Answer}
 use Rattle.rk_machine.specs.declared.event.Answer.TheVariants.{Waiting, Refused}
 use Rattle.rk_machine.specs.World.{World, empty_world}

@@ -22,7 +22,7 @@ use Rattle.rk_auth.specs.declared.construction.Authority.{Authority}
 use Rattle.rk_auth.specs.declared.construction.Construction.{Construction}
 use Rattle.rk_auth.specs.Sessions.{Sessions, new_session, wait_of, unspent}
 use Rattle.rk_auth.specs.Changes.{spent, all_told, told_wait, new_wait, without_construction, with_construction, with_context}
-use Rattle.rk_machine.specs.declared.event.Event.{Event}
+use Rattle.rk_machine.specs.Event.{Event}
 use Rattle.rk_machine.specs.declared.event.Answer.{Answer}
 use Rattle.rk_machine.specs.World.{World, tidied}
 use Rattle.rk_machine.specs.Links.{linked_in, unlinked_in, cleared_in}

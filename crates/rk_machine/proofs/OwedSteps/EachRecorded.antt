@@ -10,8 +10,8 @@ use Rattle.rk_names.specs.declared.numbers.SessionId.TheVariants.{Client, Handle
 use Rattle.rk_names.specs.declared.errors.Errno.{Errno}
 use Rattle.rk_names.specs.declared.errors.Errno.TheVariants as errno
 use Rattle.rk_names.specs.declared.errors.KeyError.TheVariants as error
-use Rattle.rk_message.specs.declared.ask.Ask.{Ask}
-use Rattle.rk_message.specs.declared.ask.Ask.TheVariants as ask
+use Rattle.rk_message.specs.Ask.{Ask}
+use Rattle.rk_message.specs.declared.ask.AskOf.TheVariants as ask
 use Rattle.rk_message.specs.declared.reply.Reply.TheVariants.{Bytes}
 use Rattle.rk_macro.specs.declared.subject.Subject.{Subject}
 use Rattle.rk_auth.specs.declared.session.Wait.{Wait}
@@ -22,8 +22,8 @@ use Rattle.rk_auth.specs.declared.construction.Stage.TheVariants.{Starting, Plai
 use Rattle.rk_auth.specs.declared.construction.Construction.{Construction}
 use Rattle.rk_auth.specs.Sessions.{Sessions, wait_of, stage_of, is_running}
 use Rattle.rk_auth.specs.Changes.{ready_outcome}
-use Rattle.rk_machine.specs.declared.event.Event.{Event}
-use Rattle.rk_machine.specs.declared.event.Event.TheVariants.{Opened, Asked, Launched, Ended, Collect, Gone}
+use Rattle.rk_machine.specs.Event.{Event}
+use Rattle.rk_machine.specs.declared.event.EventOf.TheVariants.{Opened, Asked, Launched, Ended, Collect, Gone}
 use Rattle.rk_machine.specs.declared.event.Ran.{Ran}
 use Rattle.rk_machine.specs.declared.event.Ran.TheVariants as ran
 use Rattle.rk_machine.specs.declared.event.How.{How}

@@ -12,13 +12,13 @@ use Rattle.rk_rings.proofs.rings.Rings.drop_ring.Goals as goal
 
 pub renew_user-requires-clause-serials : goal.renew_user-requires-clause-serials
 renew_user-requires-clause-serials c =
-    subst AreSerials (sym c.remove.ensures.facts) (serials-remove c.self.inside.rows.facts c.get.result c.self.invariant.rows.1)
+    subst AreSerials (sym c.take-row.ensures.facts) (serials-remove c.self.inside.rows.facts c.get.result c.self.invariant.rows.1)
 
 pub renew_user-requires-clause-others : goal.renew_user-requires-clause-others
 renew_user-requires-clause-others c =
     let m = c.self.inside.rows.facts in
-    dropped_others m c.remove.new.self.facts c.self.inside.users.facts c.args.ring c.user_of-user.result
-    (c.remove.ensures.facts ∙ ap (remove m) c.get.ensures.number)
+    dropped_others m c.take-row.new.self.facts c.self.inside.users.facts c.args.ring c.user_of-user.result
+    (c.take-row.ensures.facts ∙ ap (remove m) c.get.ensures.number)
     (subst (λ (n : Rings). MatchOption c.user_of-user.result ((uid : ℕ) → is_his n uid c.args.ring ≡ false) (λ uid. is_his n uid c.args.ring ≡ true))
     (sym c.self.view_is) c.user_of-user.ensures)
     c.self.invariant.users
@@ -26,9 +26,9 @@ renew_user-requires-clause-others c =
 pub invariant_of-self : goal.invariant_of-self
 invariant_of-self c =
     let m = c.self.inside.rows.facts in
-    let gone : c.remove.new.self.facts ≡ remove m c.args.ring = c.remove.ensures.facts ∙ ap (remove m) c.get.ensures.number in
+    let gone : c.take-row.new.self.facts ≡ remove m c.args.ring = c.take-row.ensures.facts ∙ ap (remove m) c.get.ensures.number in
     record {
-      rows = rows-remove _ _ _ c.remove.ensures.facts c.self.invariant.rows;
+      rows = rows-remove _ _ _ c.take-row.ensures.facts c.self.invariant.rows;
       users = c.renew_user.ensures;
       counted = subst (λ n. AreCounted n c.self.inside.counts) (sym gone) (counted_dropped c.args.self.now m c.self.inside.counts c.args.ring (c.self.view_is ∙
           c.empty.ensures) c.self.invariant.counted);
@@ -36,5 +36,5 @@ invariant_of-self c =
 
 pub returns-clause-ok : goal.returns-clause-ok
 returns-clause-ok c =
-    c.remove.ensures.facts ∙ ap (remove c.self.inside.rows.facts) c.get.ensures.number ∙ ap (λ m. remove m c.args.ring) (c.self.view_is ∙ c.empty.ensures) ∙
+    c.take-row.ensures.facts ∙ ap (remove c.self.inside.rows.facts) c.get.ensures.number ∙ ap (λ m. remove m c.args.ring) (c.self.view_is ∙ c.empty.ensures) ∙
     dropped c.args.self.now c.args.ring

@@ -1,28 +1,33 @@
-use Rattle.std.proofs.Common.{◌≡◌, ap, sym, subst, cond, ◌+◌, ◌≤◌, ◌∙◌, arith}
-use Rattle.std.specs.Prelude.{nat_eq, Some}
-use Rattle.std.specs.FinMap.{contains_key}
+use Rattle.std.proofs.Common.{◌≡◌, ap, sym, subst, cond, ◌+◌, ◌≤◌, ◌∙◌, false, arith}
+use Rattle.std.specs.Prelude.{nat_eq}
+use Rattle.std.specs.Option.{option_map_or}
+use Rattle.std.specs.FinMap.{get, contains_key}
 use Rattle.rk_table.specs.Maps.{changed_at}
 use Rattle.rk_table.specs.Counts.{count_at}
-use Rattle.rk_rings.specs.Numbered.{linked_in_room, holds, is_full_at, IsMatch}
+use Rattle.rk_rings.specs.Numbered.{linked_in_room}
 use Rattle.rk_rings.specs.Counted.{AreCounted}
 use Rattle.rk_rings.proofs.Named.{once_linked}
-use Rattle.rk_rings.proofs.Changed.{rows-changed_at}
+use Rattle.rk_rings.proofs.Changed.{rows-changed_at, match_found}
 use Rattle.rk_rings.proofs.UserRings.{users_changed, user_linked}
-use Rattle.rk_rings.proofs.Counted.{Takes, takes, linked_there, room_linked, few_enough, counted_linked}
+use Rattle.rk_rings.proofs.Counted.{Takes, linked_there, room_linked, few_enough, counted_linked}
 use Rattle.rk_rings.proofs.rings.Rings.link.Goals as goal
 
 pub returns-then-holds-clause-ok : goal.returns-then-holds-clause-ok
-returns-then-holds-clause-ok c = linked_there c.args.self.now c.args.ring c.args.key c.args.name (sym c.holds.ensures ∙ c.if-holds.true)
+returns-then-holds-clause-ok c =
+    linked_there c.args.self.now c.args.ring c.args.key c.args.name
+    (ap (λ o. option_map_or (λ r. contains_key r.links c.args.key) o false) (sym c.in-Some.ensures.row) ∙ sym c.holds.ensures ∙ c.if-holds.true)
 
 pub one_more-requires-clause-room : goal.one_more-requires-clause-room
 one_more-requires-clause-room c none =
     let m = c.self.inside.rows.facts in
-    let t : Takes m c.args.ring c.args.key c.args.name = takes m c.args.ring c.args.key c.args.name
-    (ap (λ n. contains_key n c.args.ring) c.self.view_is ∙ sym c.contains.ensures ∙ c.if-not-contains.false)
-    (ap (λ n. holds n c.args.ring c.args.key) c.self.view_is ∙ sym c.holds.ensures ∙ c.if-holds.false)
-    (ap (λ n. is_full_at n c.args.ring (Some c.args.name)) c.self.view_is ∙ sym c.is_full.ensures ∙ c.if-is_full.false) in
-    room_linked m c.self.inside.counts c.count_gone.new.counts c.args.ring c.args.key c.args.name c.find_in-rival.result c.self.invariant.counted t
-    (subst (λ n. IsMatch n c.args.name (Some c.args.ring) c.find_in-rival.result) (sym c.self.view_is) c.find_in-rival.ensures)
+    let t : Takes m c.args.ring c.args.key c.args.name = (
+      c.in-Some.row.now,
+      ap (λ n. get n c.args.ring) c.self.view_is ∙ sym c.in-Some.ensures.row,
+      sym c.holds.ensures ∙ c.if-holds.false,
+      sym c.is_full.ensures ∙ c.if-is_full.false,
+    ) in
+    room_linked m c.self.inside.counts c.count_gone.new.counts c.args.ring c.args.key c.args.name c.find-rival.result c.self.invariant.counted t
+    (match_found m c.args.ring c.args.name t.0 c.find-rival.result t.1 c.in-Some.ensures.once c.find-rival.ensures)
     c.count_gone.ensures.each (c.count_gone.ensures.positive c.self.invariant.counted.positive) c.count_gone.ensures.places
     (ap (count_at c.count_gone.new.counts.facts) (sym c.get-2.ensures.number) ∙ none)
 
@@ -39,18 +44,20 @@ pub invariant_of-self : goal.invariant_of-self
 invariant_of-self c =
     let m = c.self.inside.rows.facts in
     let mid = c.count_gone.new.counts in
-    let t : Takes m c.args.ring c.args.key c.args.name = takes m c.args.ring c.args.key c.args.name
-    (ap (λ n. contains_key n c.args.ring) c.self.view_is ∙ sym c.contains.ensures ∙ c.if-not-contains.false)
-    (ap (λ n. holds n c.args.ring c.args.key) c.self.view_is ∙ sym c.holds.ensures ∙ c.if-holds.false)
-    (ap (λ n. is_full_at n c.args.ring (Some c.args.name)) c.self.view_is ∙ sym c.is_full.ensures ∙ c.if-is_full.false) in
+    let t : Takes m c.args.ring c.args.key c.args.name = (
+      c.in-Some.row.now,
+      ap (λ n. get n c.args.ring) c.self.view_is ∙ sym c.in-Some.ensures.row,
+      sym c.holds.ensures ∙ c.if-holds.false,
+      sym c.is_full.ensures ∙ c.if-is_full.false,
+    ) in
     let put : c.change.new.self.facts ≡ changed_at c.args.ring (linked_in_room c.args.key c.args.name) m =
     c.change.ensures.facts ∙ ap (λ r. changed_at r (linked_in_room c.args.key c.args.name) m) c.get.ensures.number in
     record {
       rows = rows-changed_at _ _ _ _ c.change.ensures.facts (once_linked c.args.key c.args.name) c.self.invariant.rows;
       users = users_changed _ _ _ _ _ c.change.ensures.facts (user_linked c.args.key c.args.name) c.self.invariant.users;
       counted = subst (λ n. AreCounted n c.one_more.new.self) (sym put)
-          (counted_linked m c.self.inside.counts mid c.one_more.new.self c.args.ring c.args.key c.args.name c.find_in-rival.result c.self.invariant.counted t
-          (subst (λ n. IsMatch n c.args.name (Some c.args.ring) c.find_in-rival.result) (sym c.self.view_is) c.find_in-rival.ensures)
+          (counted_linked m c.self.inside.counts mid c.one_more.new.self c.args.ring c.args.key c.args.name c.find-rival.result c.self.invariant.counted t
+          (match_found m c.args.ring c.args.name t.0 c.find-rival.result t.1 c.in-Some.ensures.once c.find-rival.ensures)
           c.count_gone.ensures.each c.count_gone.ensures.places
           (λ q. c.one_more.ensures.each q ∙ ap (λ k. cond (nat_eq k q) (count_at mid.facts q + 1) (count_at mid.facts q)) c.get-2.ensures.number)
           c.one_more.ensures.positive c.one_more.ensures.places);

@@ -1,22 +1,11 @@
 use Rattle.std.proofs.Common.{subst, sym, ◌∙◌, ap, arith, ◌≤◌, not, nat_eq}
 use Rattle.std.specs.FinMap.{get, insert, len, contains_key}
-use Rattle.std.specs.Prelude.{false, ◌≡◌}
+use Rattle.std.specs.Prelude.{◌≡◌}
 use Rattle.rk_table.specs.Maps.{kept_where}
 use Rattle.rk_rings.specs.Numbered.{AreSerials}
 use Rattle.rk_rings.specs.ByName.{AreByName}
 use Rattle.rk_rings.proofs.Links.{serials-insert, serials_within, kept_within, room_left, still_new, is_serial}
-use Rattle.rk_rings.proofs.Turned.{name_room}
 use Rattle.rk_rings.proofs.row.Row.link.Goals as goal
-
-pub give_way-requires-clause-new : goal.give_way-requires-clause-new
-give_way-requires-clause-new c = ap (contains_key c.self.inside.links.facts) (sym c.get.ensures.number) ∙ sym c.contains.ensures ∙ c.if-contains.false
-
-pub give_way-requires-clause-room : goal.give_way-requires-clause-room
-give_way-requires-clause-room c lacks =
-    let new : contains_key c.args.self.now.links c.args.key ≡ false =
-    ap (λ r. contains_key r.links c.args.key) (sym c.self.view_is) ∙ give_way-requires-clause-new c in
-    name_room c.args.self.now c.self.inside.by_name.facts c.args.name c.self.inside.by_name.room
-    (subst (λ r. AreByName r.links c.self.inside.by_name.facts) c.self.view_is c.self.invariant.by_name.1) (c.requires new) lacks c.self.invariant.by_name.0
 
 pub insert-requires-clause-new : goal.insert-requires-clause-new
 insert-requires-clause-new c =
@@ -26,11 +15,9 @@ insert-requires-clause-new c =
 
 pub insert-requires-clause-room : goal.insert-requires-clause-room
 insert-requires-clause-room c =
-    let lacks : contains_key c.args.self.now.links c.args.key ≡ false =
-    ap (λ r. contains_key r.links c.args.key) (sym c.self.view_is) ∙ ap (contains_key c.self.inside.links.facts) (sym c.get.ensures.number) ∙
-    sym c.contains.ensures ∙ c.if-contains.false in
     let most : len c.self.inside.links.facts ≤ 256 = omega (arith, c.self.invariant.links.0) in
-    room_left c.args.self.now c.args.name (len c.give_way.new.links.facts) c.give_way.new.links.room (c.requires lacks) (rw (← c.self.view_is) most)
+    room_left c.args.self.now c.args.name (len c.give_way.new.links.facts) c.give_way.new.links.room (sym c.is_full.ensures ∙ c.if-is_full.false)
+    (rw (← c.self.view_is) most)
     (ap len c.give_way.ensures.links ∙ ap (λ r. len (kept_where (λ j m. not (nat_eq m c.args.name)) r.links)) c.self.view_is) (c.give_way.ensures.places ∙
     c.self.invariant.links.0)
 
@@ -45,8 +32,5 @@ invariant_of-self c =
             (serials-insert _ _ _ (subst AreSerials (sym c.give_way.ensures.links) (serials_within _ _ (kept_within _ _) c.self.invariant.links.1))
             (rw c.get-2.ensures.number (is_serial _ c.get-2.ensures.range.0 c.get-2.ensures.range.1))),
       );
-      by_name = (
-        c.give_way.ensures.name_places ∙ c.self.invariant.by_name.0,
-        subst (λ m. AreByName m c.give_way.new.by_name.facts) (sym put) c.give_way.ensures.index,
-      );
+      by_name = subst (λ m. AreByName m c.give_way.new.by_name.facts) (sym put) c.give_way.ensures.index;
     }

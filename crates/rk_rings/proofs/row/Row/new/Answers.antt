@@ -10,8 +10,5 @@ invariant_of-result c = record {
     omega (arith, c.in_ok-with_room.ensures.len, c.in_ok-with_room.ensures.room),
     subst AreSerials (sym c.in_ok-with_room.ensures.empty) (serials-empty _),
   );
-  by_name = (
-    omega (arith, c.in_ok-with_room-2.ensures.len, c.in_ok-with_room-2.ensures.room),
-    by_name_empty _ _ c.in_ok-with_room.ensures.empty c.in_ok-with_room-2.ensures.empty,
-  );
+  by_name = by_name_empty _ _ c.in_ok-with_room.ensures.empty c.in_ok-new.ensures;
 }

@@ -20,14 +20,9 @@ invariant_of-self c =
     let m = c.self.inside.links.facts in
     let is : get m c.args.key ≡ Some c.in-Some.name = ap (get m) (sym c.get.ensures.number) ∙ sym (c.in-Some.ensures ∙ c.get-2.ensures) in
     let links : c.remove.new.self.facts ≡ remove m c.args.key = c.remove.ensures.facts ∙ ap (remove m) c.get-3.ensures.number in
-    let by_name : c.remove-2.new.self.facts ≡ remove c.self.inside.by_name.facts c.in-Some.name =
-    c.remove-2.ensures.facts ∙ ap (remove c.self.inside.by_name.facts) c.name.view_is in
     record {
       links = (c.remove.ensures.places ∙ c.self.invariant.links.0, subst AreSerials (sym c.remove.ensures.facts) (serials-remove _ _ c.self.invariant.links.1));
-      by_name = (
-        c.remove-2.ensures.places ∙ c.self.invariant.by_name.0,
-        subst (λ x. AreByName x c.remove-2.new.self.facts) (sym links)
-            (subst (AreByName (remove m c.args.key)) (sym by_name)
-            (by_name_out m c.self.inside.by_name.facts c.args.key c.in-Some.name c.self.invariant.by_name.1 is)),
-      );
+      by_name = subst (λ x. AreByName x c.remove-2.new.self.facts) (sym links)
+          (subst (AreByName (remove m c.args.key)) (sym c.remove-2.ensures.facts)
+          (by_name_out m c.self.inside.by_name.facts c.args.key c.in-Some.name c.self.invariant.by_name is));
     }

@@ -1,0 +1,438 @@
+-- The chains through the slots, where one is put in front and where one is taken out.
+use Rattle.std.proofs.Common.{◌≡◌, ◌∙◌, ap, sym, subst, refl, ℕ, Bool, true, false, cond, ◌||◌, List, ◌∷◌, inl, inr}
+use Rattle.std.specs.Prelude.{Option, Some, None, is_some, nat_eq, option_map, option_and_then}
+use Rattle.std.specs.Ordering.{nat_cmp}
+use Rattle.std.specs.FinMap.{FinMap, get}
+use Rattle.std.proofs.lemmas.Bool.{both_ways, cases_eq, eq-eqb, ne_eqb}
+use Rattle.std.proofs.lemmas.Option.{none-some, same_Some}
+use Rattle.rk_table.specs.Maps.{changed_at}
+use Rattle.rk_table.proofs.Gets.{get_changed_at}
+use Rattle.rk_auth.specs.declared.slot.Slot.{Slot}
+use Rattle.rk_auth.specs.declared.slot.Link.{Link}
+use Rattle.rk_auth.specs.Chains.{has, names, IsChain, standing_in, first_in, link_in, home_in, next_in, before_in, standing_at, first_at, home_at, next_at, before_at, IsChainOf, AreChained, with_first, with_link, with_before, with_next, changed_if, led_to}
+use Rattle.rk_auth.proofs.Lists.{without, has_without, once_without}
+use Rattle.rk_auth.proofs.Links.{at_same, at_apart, named_is, is_named, not_named, over, over_named, over_other, frame, in_front, taken_from, head_is, next_back, before_on, first_is}
+
+abbrev Slots : Type 0
+Slots = FinMap nat_cmp Slot
+
+-- ---- what a change of one slot does to a part of it
+
+same_cond : {X : Type 0} (b : Bool) (x : X) → cond b x x ≡ x
+same_cond true x = refl
+same_cond false x = refl
+
+part : {X : Type 0} (P : Option Slot → X) (b : Bool) (o w : Option Slot) → P (cond b o w) ≡ cond b (P o) (P w)
+part P true o w = refl
+part P false o w = refl
+
+pub changed : {X : Type 0} (P : Option Slot → X) (k : ℕ) (f : Slot → Slot) (m : Slots) (q : ℕ) → P (get (changed_at k f m) q) ≡ cond (nat_eq k q) (P (option_map f (get m q))) (P (get m q))
+changed P k f m q = ap P (get_changed_at k f m q) ∙ part P (nat_eq k q) (option_map f (get m q)) (get m q)
+
+pub untouched : {X : Type 0} (P : Option Slot → X) (k : ℕ) (f : Slot → Slot) → ((o : Option Slot) → P (option_map f o) ≡ P o) → (m : Slots) (q : ℕ) → P (get (changed_at k f m) q) ≡ P (get m q)
+untouched P k f same m q = changed P k f m q ∙ ap (λ x. cond (nat_eq k q) x (P (get m q))) (same (get m q)) ∙ same_cond (nat_eq k q) (P (get m q))
+
+touched : {X : Type 0} (P : Option Slot → X) (k : ℕ) (f : Slot → Slot) (m : Slots) (q : ℕ) → k ≡ q → P (get (changed_at k f m) q) ≡ P (option_map f (get m q))
+touched P k f m q e = changed P k f m q ∙ at_same k q _ _ e
+
+passed : {X : Type 0} (P : Option Slot → X) (k : ℕ) (f : Slot → Slot) (m : Slots) (q : ℕ) → (k ≡ q → ⊥) → P (get (changed_at k f m) q) ≡ P (get m q)
+passed P k f m q ne = changed P k f m q ∙ at_apart k q _ _ ne
+
+-- ---- the parts that each change leaves
+
+first_standing : (v : Option ℕ) (o : Option Slot) → standing_in (option_map (with_first v) o) ≡ standing_in o
+first_standing v None = refl
+first_standing v (Some s) = refl
+
+first_link : (v : Option ℕ) (o : Option Slot) → link_in (option_map (with_first v) o) ≡ link_in o
+first_link v None = refl
+first_link v (Some s) = refl
+
+link_standing : (l : Option Link) (o : Option Slot) → standing_in (option_map (with_link l) o) ≡ standing_in o
+link_standing l None = refl
+link_standing l (Some s) = refl
+
+link_first : (l : Option Link) (o : Option Slot) → first_in (option_map (with_link l) o) ≡ first_in o
+link_first l None = refl
+link_first l (Some s) = refl
+
+before_standing : (v : Option ℕ) (o : Option Slot) → standing_in (option_map (with_before v) o) ≡ standing_in o
+before_standing v None = refl
+before_standing v (Some s) = refl
+
+before_first : (v : Option ℕ) (o : Option Slot) → first_in (option_map (with_before v) o) ≡ first_in o
+before_first v None = refl
+before_first v (Some s) = refl
+
+before_home : (v : Option ℕ) (o : Option Slot) → home_in (option_map (with_before v) o) ≡ home_in o
+before_home v None = refl
+before_home v (Some s) = elim s.link as (λ k. option_map (λ (l : Link). l.home) (option_map {T = Link} (λ l. record l { before = v }) k) ≡ option_map (λ (l : Link). l.home) k) [ None ↦ refl | Some l ↦ refl ]
+
+before_next : (v : Option ℕ) (o : Option Slot) → next_in (option_map (with_before v) o) ≡ next_in o
+before_next v None = refl
+before_next v (Some s) = elim s.link as (λ k. option_and_then (λ (l : Link). l.next) (option_map {T = Link} (λ l. record l { before = v }) k) ≡ option_and_then (λ (l : Link). l.next) k) [ None ↦ refl | Some l ↦ refl ]
+
+next_standing : (v : Option ℕ) (o : Option Slot) → standing_in (option_map (with_next v) o) ≡ standing_in o
+next_standing v None = refl
+next_standing v (Some s) = refl
+
+next_first : (v : Option ℕ) (o : Option Slot) → first_in (option_map (with_next v) o) ≡ first_in o
+next_first v None = refl
+next_first v (Some s) = refl
+
+next_home : (v : Option ℕ) (o : Option Slot) → home_in (option_map (with_next v) o) ≡ home_in o
+next_home v None = refl
+next_home v (Some s) = elim s.link as (λ k. option_map (λ (l : Link). l.home) (option_map {T = Link} (λ l. record l { next = v }) k) ≡ option_map (λ (l : Link). l.home) k) [ None ↦ refl | Some l ↦ refl ]
+
+next_before : (v : Option ℕ) (o : Option Slot) → before_in (option_map (with_next v) o) ≡ before_in o
+next_before v None = refl
+next_before v (Some s) = elim s.link as (λ k. option_and_then (λ (l : Link). l.before) (option_map {T = Link} (λ l. record l { next = v }) k) ≡ option_and_then (λ (l : Link). l.before) k) [ None ↦ refl | Some l ↦ refl ]
+
+-- ---- what a change writes
+
+home_written : (l : Link) (o : Option Slot) → is_some o ≡ true → home_in (option_map (with_link (Some l)) o) ≡ Some l.home
+home_written l None t = absurd (both_ways _ refl t)
+home_written l (Some s) t = refl
+
+next_linked : (l : Link) (o : Option Slot) → is_some o ≡ true → next_in (option_map (with_link (Some l)) o) ≡ l.next
+next_linked l None t = absurd (both_ways _ refl t)
+next_linked l (Some s) t = refl
+
+before_linked : (l : Link) (o : Option Slot) → is_some o ≡ true → before_in (option_map (with_link (Some l)) o) ≡ l.before
+before_linked l None t = absurd (both_ways _ refl t)
+before_linked l (Some s) t = refl
+
+first_written : (v : Option ℕ) (o : Option Slot) → is_some o ≡ true → first_in (option_map (with_first v) o) ≡ v
+first_written v None t = absurd (both_ways _ refl t)
+first_written v (Some s) t = refl
+
+before_written : (v : Option ℕ) (o : Option Slot) → is_some (home_in o) ≡ true → before_in (option_map (with_before v) o) ≡ v
+before_written v None t = absurd (both_ways _ refl t)
+before_written v (Some s) t = elim s.link as (λ k. is_some (option_map (λ (l : Link). l.home) k) ≡ true → option_and_then (λ (l : Link). l.before) (option_map {T = Link} (λ l. record l { before = v }) k) ≡ v) [ None ↦ λ t. absurd (both_ways _ refl t) | Some l ↦ λ t. refl ] t
+
+next_written : (v : Option ℕ) (o : Option Slot) → is_some (home_in o) ≡ true → next_in (option_map (with_next v) o) ≡ v
+next_written v None t = absurd (both_ways _ refl t)
+next_written v (Some s) t = elim s.link as (λ k. is_some (option_map (λ (l : Link). l.home) k) ≡ true → option_and_then (λ (l : Link). l.next) (option_map {T = Link} (λ l. record l { next = v }) k) ≡ v) [ None ↦ λ t. absurd (both_ways _ refl t) | Some l ↦ λ t. refl ] t
+
+home_out : (o : Option Slot) → home_in (option_map (with_link None) o) ≡ None
+home_out None = refl
+home_out (Some s) = refl
+
+-- ---- a place that has a part is there, and in a chain
+
+some_there : (o : Option Slot) (v : ℕ) → first_in o ≡ Some v → is_some o ≡ true
+some_there None v e = absurd (none-some v e)
+some_there (Some s) v e = refl
+
+next_home_of : (o : Option Slot) (v : ℕ) → next_in o ≡ Some v → (h : ℕ) × (home_in o ≡ Some h)
+next_home_of None v e = absurd (none-some v e)
+next_home_of (Some s) v e = elim s.link as (λ k. option_and_then (λ (l : Link). l.next) k ≡ Some v → (h : ℕ) × (option_map (λ (l : Link). l.home) k ≡ Some h)) [ None ↦ λ e. absurd (none-some v e) | Some l ↦ λ e. (l.home, refl) ] e
+
+before_home_of : (o : Option Slot) (v : ℕ) → before_in o ≡ Some v → (h : ℕ) × (home_in o ≡ Some h)
+before_home_of None v e = absurd (none-some v e)
+before_home_of (Some s) v e = elim s.link as (λ k. option_and_then (λ (l : Link). l.before) k ≡ Some v → (h : ℕ) × (option_map (λ (l : Link). l.home) k ≡ Some h)) [ None ↦ λ e. absurd (none-some v e) | Some l ↦ λ e. (l.home, refl) ] e
+
+-- ---- the facts of all chains
+
+module _ (m : Slots) (chained : AreChained m) where
+  in_chain : (q h : ℕ) → home_at m q ≡ Some h → has (chained h).0 q ≡ true
+  in_chain q h e = (chained h).1.exact q ∙ is_named (home_at m q) h e
+
+  pub back : (x y : ℕ) → next_at m x ≡ Some y → before_at m y ≡ Some x
+  back x y e =
+      let home = next_home_of (get m x) y e in
+      (next_back (next_at m) (before_at m) x y None (first_at m home.0) (chained home.0).0 (chained home.0).1.linked (in_chain x home.0 home.1) e).0
+
+  pub on : (x y : ℕ) → before_at m y ≡ Some x → next_at m x ≡ Some y
+  on x y e =
+      let home = before_home_of (get m y) x e in
+      elim (before_on (next_at m) (before_at m) x y None (first_at m home.0) (chained home.0).0 (chained home.0).1.linked (in_chain y home.0 home.1) e) [
+        | inl first ↦ absurd (none-some x first.0)
+        | inr next ↦ next
+      ]
+
+  pub none_before : (j h : ℕ) → home_at m j ≡ Some h → before_at m j ≡ None → first_at m h ≡ Some j
+  none_before j h home e = first_is (next_at m) (before_at m) j None (first_at m h) (chained h).0 (chained h).1.linked (in_chain j h home) e
+
+  pub heads : (j h : ℕ) → first_at m h ≡ Some j → (home_at m j ≡ Some h) × (before_at m j ≡ None)
+  heads j h e =
+      let head = head_is (next_at m) (before_at m) j None (first_at m h) (chained h).0 (chained h).1.linked e in
+      (named_is (home_at m j) h (sym ((chained h).1.exact j) ∙ head.1), head.0)
+
+-- nothing that the chains are made of has changed
+pub chained_same : (m n : Slots) → AreChained m → ((q : ℕ) → next_at n q ≡ next_at m q) → ((q : ℕ) → before_at n q ≡ before_at m q)
+    → ((q : ℕ) → first_at n q ≡ first_at m q) → ((q : ℕ) → home_at n q ≡ home_at m q) → AreChained n
+chained_same m n chained nexts befores firsts homes h =
+    let xs : List ℕ = (chained h).0 in (
+      xs,
+      record {
+        linked = subst (λ o. IsChain (next_at n) (before_at n) None o xs) (sym (firsts h))
+            (frame (next_at m) (before_at m) (next_at n) (before_at n) None (first_at m h) xs (λ q t. nexts q) (λ q t. befores q) (chained h).1.linked);
+        once = (chained h).1.once;
+        exact = λ q. (chained h).1.exact q ∙ ap (λ o. names o h) (sym (homes q));
+      },
+    )
+
+-- ---- one is taken out
+
+-- it is taken out where before and after it are joined
+pub record IsTaken (m n : Slots) (j : ℕ) : Type 0 where
+  pub nexts : (q : ℕ) → (q ≡ j → ⊥) → next_at n q ≡ over (next_at m) j (next_at m q)
+  pub befores : (q : ℕ) → (q ≡ j → ⊥) → before_at n q ≡ over (before_at m) j (before_at m q)
+  pub firsts : (q : ℕ) → first_at n q ≡ over (next_at m) j (first_at m q)
+  pub homes : (q : ℕ) → home_at n q ≡ cond (nat_eq j q) None (home_at m q)
+
+pub chained_taken : (m n : Slots) (j : ℕ) → AreChained m → IsTaken m n j → AreChained n
+chained_taken m n j chained taken h =
+    let xs : List ℕ = (chained h).0 in (
+      without j xs,
+      record {
+        linked = subst (λ o. IsChain (next_at n) (before_at n) None o (without j xs)) (sym (taken.firsts h))
+            (taken_from (next_at m) (before_at m) (next_at n) (before_at n) j None (first_at m h) xs (chained h).1.once taken.nexts taken.befores (chained h).1.linked);
+        once = once_without j xs (chained h).1.once;
+        exact = λ q. has_without j xs q ∙ ap (cond (nat_eq j q) false) ((chained h).1.exact q) ∙ by_test (nat_eq j q) (home_at m q) h ∙ ap (λ o. names o h) (sym (taken.homes q));
+      },
+    )
+  where
+    by_test : (b : Bool) (o : Option ℕ) (h : ℕ) → cond b false (names o h) ≡ names (cond b None o) h
+    by_test true o h = refl
+    by_test false o h = refl
+
+-- ---- one is put in front
+
+pub record IsPut (m n : Slots) (j h : ℕ) : Type 0 where
+  pub next : next_at n j ≡ first_at m h
+  pub before : before_at n j ≡ None
+  pub nexts : (q : ℕ) → (q ≡ j → ⊥) → next_at n q ≡ next_at m q
+  pub befores : (q : ℕ) → (q ≡ j → ⊥) → before_at n q ≡ cond (names (first_at m h) q) (Some j) (before_at m q)
+  pub firsts : (q : ℕ) → first_at n q ≡ cond (nat_eq h q) (Some j) (first_at m q)
+  pub homes : (q : ℕ) → home_at n q ≡ cond (nat_eq j q) (Some h) (home_at m q)
+
+module _ (m n : Slots) (j h : ℕ) (chained : AreChained m) (idle : home_at m j ≡ None) (is : IsPut m n j h) where
+  not_in : (g : ℕ) → has (chained g).0 j ≡ false
+  not_in g = (chained g).1.exact j ∙ ap (λ o. names o g) idle
+
+  differs : (g q : ℕ) → has (chained g).0 q ≡ true → q ≡ j → ⊥
+  differs g q t e = both_ways _ (ap (has (chained g).0) e ∙ not_in g) t
+
+  put_here : IsChainOf n h (j ∷ (chained h).0)
+  put_here = record {
+    linked = subst (λ o. IsChain (next_at n) (before_at n) None o (j ∷ (chained h).0)) (sym (is.firsts h ∙ at_same h h (Some j) (first_at m h) refl))
+        (in_front (next_at m) (before_at m) (next_at n) (before_at n) j (first_at m h) (chained h).0 (chained h).1.once is.next is.before
+        (λ q t. is.nexts q (differs h q t)) (λ q t. is.befores q (differs h q t)) (chained h).1.linked);
+    once = (not_in h, (chained h).1.once);
+    exact = λ q. elim (cases_eq j q) [
+      | inl e ↦ ap (λ b. b || has (chained h).0 q) (eq-eqb j q e) ∙ sym (is_named (home_at n q) h (is.homes q ∙ at_same j q (Some h) (home_at m q) e))
+      | inr ne ↦ ap (λ b. b || has (chained h).0 q) (ne_eqb j q ne) ∙ (chained h).1.exact q ∙ ap (λ o. names o h) (sym (is.homes q ∙ at_apart j q (Some h) (home_at m q) ne))
+    ];
+  }
+
+  left_there : (g : ℕ) → (h ≡ g → ⊥) → IsChainOf n g (chained g).0
+  left_there g ne = record {
+    linked = subst (λ o. IsChain (next_at n) (before_at n) None o (chained g).0) (sym (is.firsts g ∙ at_apart h g (Some j) (first_at m g) ne))
+        (frame (next_at m) (before_at m) (next_at n) (before_at n) None (first_at m g) (chained g).0 (λ q t. is.nexts q (differs g q t))
+        (λ q t. is.befores q (differs g q t) ∙ ap (λ b. cond b (Some j) (before_at m q)) (not_named (first_at m h) q (λ e. ne (same_Some h g
+        (sym (heads m chained q h e).0 ∙ named_is (home_at m q) g (sym ((chained g).1.exact q) ∙ t)))))) (chained g).1.linked);
+    once = (chained g).1.once;
+    exact = λ q. elim (cases_eq j q) [
+      | inl e ↦
+          ap (has (chained g).0) (sym e) ∙ not_in g
+          ∙ sym (not_named (home_at n q) g (λ s. ne (same_Some h g (sym (is.homes q ∙ at_same j q (Some h) (home_at m q) e) ∙ s))))
+      | inr other ↦ (chained g).1.exact q ∙ ap (λ o. names o g) (sym (is.homes q ∙ at_apart j q (Some h) (home_at m q) other))
+    ];
+  }
+
+  pub chained_put : AreChained n
+  chained_put g = elim (cases_eq h g) [
+    | inl e ↦ subst (λ x. (xs : List ℕ) × IsChainOf n x xs) e (j ∷ (chained h).0, put_here)
+    | inr ne ↦ ((chained g).0, left_there g ne)
+  ]
+
+-- ---- the writes of push
+
+module _ (m : Slots) (j h : ℕ) (chained : AreChained m) (idle : home_at m j ≡ None) (there : is_some (get m j) ≡ true) (home : is_some (get m h) ≡ true) where
+  abbrev pub put_link : Link
+  put_link = record { home = h; before = None; next = first_at m h }
+
+  abbrev put_1 : Slots
+  put_1 = changed_at j (with_link (Some put_link)) m
+
+  abbrev put_2 : Slots
+  put_2 = changed_at h (with_first (Some j)) put_1
+
+  abbrev pub put_3 : Option ℕ → Slots
+  put_3 n = changed_if n (with_before (Some j)) put_2
+
+  -- what the first write leaves, the last leaves
+  last_left : {X : Type 0} (P : Option Slot → X) → ((o : Option Slot) → P (option_map (with_before (Some j)) o) ≡ P o) → (n : Option ℕ) (q : ℕ) → P (get (put_3 n) q) ≡ P (get put_2 q)
+  last_left P same None q = refl
+  last_left P same (Some y) q = untouched P y (with_before (Some j)) same put_2 q
+
+  next_2 : (q : ℕ) → next_at put_2 q ≡ next_at put_1 q
+  next_2 q = untouched next_in h (with_first (Some j)) (λ o. ap (option_and_then (λ (l : Link). l.next)) (first_link (Some j) o)) put_1 q
+
+  before_2 : (q : ℕ) → before_at put_2 q ≡ before_at put_1 q
+  before_2 q = untouched before_in h (with_first (Some j)) (λ o. ap (option_and_then (λ (l : Link). l.before)) (first_link (Some j) o)) put_1 q
+
+  home_2 : (q : ℕ) → home_at put_2 q ≡ home_at put_1 q
+  home_2 q = untouched home_in h (with_first (Some j)) (λ o. ap (option_map (λ (l : Link). l.home)) (first_link (Some j) o)) put_1 q
+
+  there_at : (q : ℕ) → j ≡ q → is_some (get m q) ≡ true
+  there_at q e = ap (λ x. is_some (get m x)) (sym e) ∙ there
+
+  is_some_kept : (f : Slot → Slot) (o : Option Slot) → is_some (option_map f o) ≡ is_some o
+  is_some_kept f None = refl
+  is_some_kept f (Some s) = refl
+
+  befores_3 : (n : Option ℕ) → n ≡ first_at m h → (q : ℕ) → before_at (put_3 n) q ≡ cond (names n q) (Some j) (before_at put_1 q)
+  befores_3 None is q = before_2 q
+  befores_3 (Some y) is q = elim (cases_eq y q) [
+    | inl e ↦
+        let homed : home_at m q ≡ Some h = (heads m chained q h (sym is ∙ ap (λ x. Some x) e)).0 in
+        let apart : j ≡ q → ⊥ = λ s. none-some h (sym idle ∙ ap (home_at m) s ∙ homed) in
+        touched before_in y (with_before (Some j)) put_2 q e
+        ∙ before_written (Some j) (get put_2 q) (ap is_some (home_2 q ∙ passed home_in j (with_link (Some put_link)) m q apart ∙ homed))
+        ∙ sym (at_same y q (Some j) (before_at put_1 q) e)
+    | inr ne ↦ passed before_in y (with_before (Some j)) put_2 q ne ∙ before_2 q ∙ sym (at_apart y q (Some j) (before_at put_1 q) ne)
+  ]
+
+  firsts_3 : (n : Option ℕ) (q : ℕ) → first_at (put_3 n) q ≡ cond (nat_eq h q) (Some j) (first_at m q)
+  firsts_3 n q =
+      last_left first_in (before_first (Some j)) n q
+      ∙ elim (cases_eq h q) [
+        | inl e ↦
+            touched first_in h (with_first (Some j)) put_1 q e
+            ∙ first_written (Some j) (get put_1 q) (untouched is_some j (with_link (Some put_link)) (is_some_kept (with_link (Some put_link))) m q ∙ ap (λ x. is_some (get m x)) (sym e) ∙ home)
+            ∙ sym (at_same h q (Some j) (first_at m q) e)
+        | inr ne ↦
+            passed first_in h (with_first (Some j)) put_1 q ne ∙ untouched first_in j (with_link (Some put_link)) (link_first (Some put_link)) m q
+            ∙ sym (at_apart h q (Some j) (first_at m q) ne)
+      ]
+
+  pub is_put : (n : Option ℕ) → n ≡ first_at m h → IsPut m (put_3 n) j h
+  is_put n is = record {
+    next = last_left next_in (before_next (Some j)) n j ∙ next_2 j ∙ touched next_in j (with_link (Some put_link)) m j refl ∙ next_linked put_link (get m j) there;
+    before =
+        befores_3 n is j
+        ∙ ap (λ b. cond b (Some j) (before_at put_1 j)) (not_named n j (λ e. none-some h (sym idle ∙ (heads m chained j h (sym is ∙ e)).0)))
+        ∙ touched before_in j (with_link (Some put_link)) m j refl ∙ before_linked put_link (get m j) there;
+    nexts = λ q ne. last_left next_in (before_next (Some j)) n q ∙ next_2 q ∙ passed next_in j (with_link (Some put_link)) m q (λ e. ne (sym e));
+    befores = λ q ne.
+        befores_3 n is q ∙ ap (cond (names n q) (Some j)) (passed before_in j (with_link (Some put_link)) m q (λ e. ne (sym e)))
+        ∙ ap (λ o. cond (names o q) (Some j) (before_at m q)) is;
+    firsts = firsts_3 n;
+    homes = λ q. last_left home_in (before_home (Some j)) n q ∙ home_2 q ∙ elim (cases_eq j q) [
+      | inl e ↦
+          touched home_in j (with_link (Some put_link)) m q e ∙ home_written put_link (get m q) (there_at q e) ∙ sym (at_same j q (Some h) (home_at m q) e)
+      | inr ne ↦ passed home_in j (with_link (Some put_link)) m q ne ∙ sym (at_apart j q (Some h) (home_at m q) ne)
+    ];
+  }
+
+  pub put_standing : (n : Option ℕ) (q : ℕ) → standing_at (put_3 n) q ≡ standing_at m q
+  put_standing n q =
+      last_left standing_in (before_standing (Some j)) n q ∙ untouched standing_in h (with_first (Some j)) (first_standing (Some j)) put_1 q
+      ∙ untouched standing_in j (with_link (Some put_link)) (link_standing (Some put_link)) m q
+
+-- ---- the writes of unlink
+
+module _ (m : Slots) (j : ℕ) (l : Link) (chained : AreChained m) (at : link_in (get m j) ≡ Some l) where
+  abbrev out_1 : Option ℕ → Slots
+  out_1 b = led_to l.home b l.next m
+
+  abbrev out_2 : Option ℕ → Option ℕ → Slots
+  out_2 b n = changed_if n (with_before l.before) (out_1 b)
+
+  abbrev pub out_3 : Option ℕ → Option ℕ → Slots
+  out_3 b n = changed_at j (with_link None) (out_2 b n)
+
+  home_is : home_at m j ≡ Some l.home
+  home_is = ap (option_map (λ (k : Link). k.home)) at
+
+  next_is : next_at m j ≡ l.next
+  next_is = ap (option_and_then (λ (k : Link). k.next)) at
+
+  before_is : before_at m j ≡ l.before
+  before_is = ap (option_and_then (λ (k : Link). k.before)) at
+
+  -- what both writes of the first step leave
+  left_1 : {X : Type 0} (P : Option Slot → X) → ((o : Option Slot) → P (option_map (with_first l.next) o) ≡ P o) → ((o : Option Slot) → P (option_map (with_next l.next) o) ≡ P o)
+      → (b : Option ℕ) (q : ℕ) → P (get (out_1 b) q) ≡ P (get m q)
+  left_1 P one other None q = untouched P l.home (with_first l.next) one m q
+  left_1 P one other (Some p) q = untouched P p (with_next l.next) other m q
+
+  left_2 : {X : Type 0} (P : Option Slot → X) → ((o : Option Slot) → P (option_map (with_before l.before) o) ≡ P o) → (b n : Option ℕ) (q : ℕ) → P (get (out_2 b n) q) ≡ P (get (out_1 b) q)
+  left_2 P same b None q = refl
+  left_2 P same b (Some y) q = untouched P y (with_before l.before) same (out_1 b) q
+
+  home_1 : (b : Option ℕ) (q : ℕ) → home_at (out_1 b) q ≡ home_at m q
+  home_1 b q = left_1 home_in (λ o. ap (option_map (λ (k : Link). k.home)) (first_link l.next o)) (next_home l.next) b q
+
+  before_1 : (b : Option ℕ) (q : ℕ) → before_at (out_1 b) q ≡ before_at m q
+  before_1 b q = left_1 before_in (λ o. ap (option_and_then (λ (k : Link). k.before)) (first_link l.next o)) (next_before l.next) b q
+
+  nexts_1 : (b : Option ℕ) → b ≡ l.before → (q : ℕ) → next_at (out_1 b) q ≡ over (next_at m) j (next_at m q)
+  nexts_1 None is q =
+      untouched next_in l.home (with_first l.next) (λ o. ap (option_and_then (λ (k : Link). k.next)) (first_link l.next o)) m q
+      ∙ sym (over_other (next_at m) j (next_at m q) (λ e. none-some q (is ∙ sym before_is ∙ back m chained q j e)))
+  nexts_1 (Some p) is q = elim (cases_eq p q) [
+    | inl e ↦
+        let next : next_at m q ≡ Some j = on m chained q j (before_is ∙ sym is ∙ ap (λ x. Some x) e) in
+        touched next_in p (with_next l.next) m q e ∙ next_written l.next (get m q) (ap is_some (next_home_of (get m q) j next).1)
+        ∙ sym (over_named (next_at m) j (next_at m q) next ∙ next_is)
+    | inr ne ↦
+        passed next_in p (with_next l.next) m q ne
+        ∙ sym (over_other (next_at m) j (next_at m q) (λ e. ne (same_Some p q (is ∙ sym before_is ∙ back m chained q j e))))
+  ]
+
+  firsts_1 : (b : Option ℕ) → b ≡ l.before → (q : ℕ) → first_at (out_1 b) q ≡ over (next_at m) j (first_at m q)
+  firsts_1 None is q = elim (cases_eq l.home q) [
+    | inl e ↦
+        let first : first_at m q ≡ Some j = ap (first_at m) (sym e) ∙ none_before m chained j l.home home_is (before_is ∙ sym is) in
+        touched first_in l.home (with_first l.next) m q e ∙ first_written l.next (get m q) (some_there (get m q) j first)
+        ∙ sym (over_named (next_at m) j (first_at m q) first ∙ next_is)
+    | inr ne ↦
+        passed first_in l.home (with_first l.next) m q ne
+        ∙ sym (over_other (next_at m) j (first_at m q) (λ e. ne (same_Some l.home q (sym home_is ∙ (heads m chained j q e).0))))
+  ]
+  firsts_1 (Some p) is q =
+      untouched first_in p (with_next l.next) (next_first l.next) m q
+      ∙ sym (over_other (next_at m) j (first_at m q) (λ e. none-some p (sym (heads m chained j q e).1 ∙ before_is ∙ sym is)))
+
+  befores_2 : (b n : Option ℕ) → n ≡ l.next → (q : ℕ) → before_at (out_2 b n) q ≡ over (before_at m) j (before_at m q)
+  befores_2 b None is q =
+      before_1 b q ∙ sym (over_other (before_at m) j (before_at m q) (λ e. none-some q (is ∙ sym next_is ∙ on m chained j q e)))
+  befores_2 b (Some y) is q = elim (cases_eq y q) [
+    | inl e ↦
+        let before : before_at m q ≡ Some j = back m chained j q (next_is ∙ sym is ∙ ap (λ x. Some x) e) in
+        touched before_in y (with_before l.before) (out_1 b) q e
+        ∙ before_written l.before (get (out_1 b) q) (ap is_some (home_1 b q ∙ (before_home_of (get m q) j before).1))
+        ∙ sym (over_named (before_at m) j (before_at m q) before ∙ before_is)
+    | inr ne ↦
+        passed before_in y (with_before l.before) (out_1 b) q ne ∙ before_1 b q
+        ∙ sym (over_other (before_at m) j (before_at m q) (λ e. ne (same_Some y q (is ∙ sym next_is ∙ on m chained j q e))))
+  ]
+
+  pub is_taken : (b n : Option ℕ) → b ≡ l.before → n ≡ l.next → IsTaken m (out_3 b n) j
+  is_taken b n b_is n_is = record {
+    nexts = λ q ne. passed next_in j (with_link None) (out_2 b n) q (λ e. ne (sym e)) ∙ left_2 next_in (before_next l.before) b n q ∙ nexts_1 b b_is q;
+    befores = λ q ne. passed before_in j (with_link None) (out_2 b n) q (λ e. ne (sym e)) ∙ befores_2 b n n_is q;
+    firsts = λ q. untouched first_in j (with_link None) (link_first None) (out_2 b n) q ∙ left_2 first_in (before_first l.before) b n q ∙ firsts_1 b b_is q;
+    homes = λ q. elim (cases_eq j q) [
+      | inl e ↦ touched home_in j (with_link None) (out_2 b n) q e ∙ home_out (get (out_2 b n) q) ∙ sym (at_same j q None (home_at m q) e)
+      | inr ne ↦
+          passed home_in j (with_link None) (out_2 b n) q ne ∙ left_2 home_in (before_home l.before) b n q ∙ home_1 b q
+          ∙ sym (at_apart j q None (home_at m q) ne)
+    ];
+  }
+
+  pub out_standing : (b n : Option ℕ) (q : ℕ) → standing_at (out_3 b n) q ≡ standing_at m q
+  out_standing b n q =
+      untouched standing_in j (with_link None) (link_standing None) (out_2 b n) q ∙ left_2 standing_in (before_standing l.before) b n q
+      ∙ left_1 standing_in (first_standing l.next) (next_standing l.next) b q
+
+-- who stands in no chain is in none once he is taken out
+pub no_link : (m : Slots) (j : ℕ) → link_in (get m j) ≡ None → (q : ℕ) → home_at m q ≡ cond (nat_eq j q) None (home_at m q)
+no_link m j none q = elim (cases_eq j q) [
+  | inl e ↦ ap (home_at m) (sym e) ∙ ap (option_map (λ (k : Link). k.home)) none ∙ sym (at_same j q None (home_at m q) e)
+  | inr ne ↦ sym (at_apart j q None (home_at m q) ne)
+]

@@ -1,0 +1,175 @@
+-- What one sees by the names of an index, through changes of who stands in the slots.
+use Rattle.std.proofs.Common.{◌≡◌, ◌∙◌, ap, sym, refl, ℕ, Bool, true, false, cond, ◌||◌, ◌&&◌, T, List, [], ◌∷◌, length, inl, inr, arith}
+use Rattle.std.specs.Prelude.{Option, Some, None, option_map}
+use Rattle.std.specs.Prelude.{map as list_map}
+use Rattle.std.specs.Option.{option_map_or}
+use Rattle.std.specs.List.{list_any}
+use Rattle.std.specs.Ordering.{nat_cmp, eq_by_cmp, is_lt, is_eq}
+use Rattle.std.specs.declared.cmp.Ordering.{Ordering}
+use Rattle.std.specs.declared.cmp.Ordering.TheVariants.{Less, Equal, Greater}
+use Rattle.std.specs.Cmp.{nat_cmp_total}
+use Rattle.std.specs.FinMap.{FinMap, get, insert, remove, find, len, entries, is_sorted, entries_sorted, get-entries, len-entries, same_map, nat_cmp-IsAntisymmetric}
+use Rattle.std.specs.FinMap.Entries.{below_all}
+use Rattle.std.proofs.lemmas.Bool.{cases_eq}
+use Rattle.std.proofs.lemmas.Option.{none-some}
+use Rattle.rk_table.specs.Maps.{changed_at, changed_all}
+use Rattle.rk_table.proofs.Entries.{get_in, get_changed_all}
+use Rattle.rk_table.proofs.Gets.{get_changed_at, at_new, at_other, left_in, taken_out}
+use Rattle.rk_table.proofs.Once.{HasEachOnce, len_once, any_once}
+use Rattle.rk_auth.specs.declared.slot.Slot.{Slot}
+use Rattle.rk_auth.specs.declared.slot.Standing.{Standing}
+use Rattle.rk_auth.specs.Chains.{standing_at}
+use Rattle.rk_auth.specs.Seats.{seen}
+use Rattle.rk_auth.proofs.Links.{at_same, at_apart}
+
+abbrev Slots : Type 0
+Slots = FinMap nat_cmp Slot
+
+abbrev Index : Type 0
+Index = FinMap nat_cmp ℕ
+
+-- ---- an index has each name once
+
+first : (a b : Bool) → T (a && b) → T a
+first true b h = tt
+first false b h = h
+
+second : (a b : Bool) → T (a && b) → T b
+second true b h = h
+second false b h = absurd h
+
+not_tied : (r : Ordering) → T (is_lt r) → is_eq r ≡ false
+not_tied Less h = refl
+not_tied Equal h = absurd h
+not_tied Greater h = absurd h
+
+none_above : (x : ℕ) (es : List (ℕ × ℕ)) → T (below_all nat_cmp x es) → find nat_cmp x es ≡ None
+none_above x [] h = refl
+none_above x (e ∷ es) h = ap (λ b. cond b (Some e.1) (find nat_cmp x es)) (not_tied (nat_cmp x e.0) (first _ _ h)) ∙ none_above x es (second _ _ h)
+
+once_sorted : (es : List (ℕ × ℕ)) → T (is_sorted nat_cmp es) → HasEachOnce es
+once_sorted [] h = tt
+once_sorted (e ∷ es) h = (none_above e.0 es (first _ _ h), once_sorted es (second _ _ h))
+
+-- ---- what is seen at a name
+
+module _ {V : Type 0} where
+  named_by : (g : ℕ → V) → List (ℕ × ℕ) → List (ℕ × V)
+  named_by g es = list_map (λ (e : ℕ × ℕ). (e.0, g e.1)) es
+
+  found_if : (g : ℕ → V) (b : Bool) (i : ℕ) (o : Option ℕ) → cond b (Some (g i)) (option_map g o) ≡ option_map g (cond b (Some i) o)
+  found_if g true i o = refl
+  found_if g false i o = refl
+
+  find_named : (g : ℕ → V) (q : ℕ) (es : List (ℕ × ℕ)) → find nat_cmp q (list_map (λ (e : ℕ × ℕ). (e.0, g e.1)) es) ≡ option_map g (find nat_cmp q es)
+  find_named g q [] = refl
+  find_named g q (e ∷ es) = ap (cond (eq_by_cmp nat_cmp q e.0) (Some (g e.1))) (find_named g q es) ∙ found_if g (eq_by_cmp nat_cmp q e.0) e.1 (find nat_cmp q es)
+
+  once_named : (g : ℕ → V) (es : List (ℕ × ℕ)) → HasEachOnce es → HasEachOnce (list_map (λ (e : ℕ × ℕ). (e.0, g e.1)) es)
+  once_named g [] h = tt
+  once_named g (e ∷ es) h = (find_named g e.0 es ∙ ap (option_map g) h.0, once_named g es h.1)
+
+  length_named : (g : ℕ → V) (es : List (ℕ × ℕ)) → length {A = ℕ × V} (list_map (λ (e : ℕ × ℕ). (e.0, g e.1)) es) ≡ length es
+  length_named g [] = refl
+  length_named g (e ∷ es) = omega (arith, length_named g es)
+
+  any_named : (p : ℕ × V → Bool) (g : ℕ → V) (es : List (ℕ × ℕ)) → list_any p (list_map (λ (e : ℕ × ℕ). (e.0, g e.1)) es) ≡ list_any (λ (e : ℕ × ℕ). p (e.0, g e.1)) es
+  any_named p g [] = refl
+  any_named p g (e ∷ es) = ap (λ b. p (e.0, g e.1) || b) (any_named p g es)
+
+  same_seen : (a b : ℕ → V) (o : Option ℕ) → ((i : ℕ) → o ≡ Some i → a i ≡ b i) → option_map a o ≡ option_map b o
+  same_seen a b None h = refl
+  same_seen a b (Some i) h = ap (λ x. Some x) (h i refl)
+
+  module _ (pick : Option Standing → V) where
+    pub seen_get : (m : Slots) (index : Index) (q : ℕ) → get (seen pick m index) q ≡ option_map (λ i. pick (standing_at m i)) (get index q)
+    seen_get m index q =
+        get_in (list_map (λ (e : ℕ × ℕ). (e.0, pick (standing_at m e.1))) (entries index)) q ∙ find_named (λ i. pick (standing_at m i)) q (entries index)
+        ∙ ap (option_map (λ i. pick (standing_at m i))) (sym (get-entries index q))
+
+    pub seen_at : (m : Slots) (index : Index) (q i : ℕ) → get index q ≡ Some i → get (seen pick m index) q ≡ Some (pick (standing_at m i))
+    seen_at m index q i is = seen_get m index q ∙ ap (option_map (λ i. pick (standing_at m i))) is
+
+    pub seen_none : (m : Slots) (index : Index) (q : ℕ) → get index q ≡ None → get (seen pick m index) q ≡ None
+    seen_none m index q is = seen_get m index q ∙ ap (option_map (λ i. pick (standing_at m i))) is
+
+    none_unseen : (o : Option ℕ) (a : ℕ → V) → option_map a o ≡ None → o ≡ None
+    none_unseen None a e = refl
+    none_unseen (Some i) a e = absurd (none-some (a i) (sym e))
+
+    pub unseen : (m : Slots) (index : Index) (q : ℕ) → get (seen pick m index) q ≡ None → get index q ≡ None
+    unseen m index q none = none_unseen (get index q) (λ i. pick (standing_at m i)) (sym (seen_get m index q) ∙ none)
+
+    pub seen_len : (m : Slots) (index : Index) → len (seen pick m index) ≡ len index
+    seen_len m index =
+        len_once (list_map (λ (e : ℕ × ℕ). (e.0, pick (standing_at m e.1))) (entries index))
+        (once_named (λ i. pick (standing_at m i)) (entries index) (once_sorted (entries index) (entries_sorted index)))
+        ∙ length_named (λ i. pick (standing_at m i)) (entries index) ∙ sym (len-entries index)
+
+    pub seen_any : (p : ℕ × V → Bool) (m : Slots) (index : Index)
+        → list_any p (entries (seen pick m index)) ≡ list_any (λ (e : ℕ × ℕ). p (e.0, pick (standing_at m e.1))) (entries index)
+    seen_any p m index =
+        any_once p (list_map (λ (e : ℕ × ℕ). (e.0, pick (standing_at m e.1))) (entries index))
+        (once_named (λ i. pick (standing_at m i)) (entries index) (once_sorted (entries index) (entries_sorted index)))
+        ∙ any_named p (λ i. pick (standing_at m i)) (entries index)
+
+    -- nothing that the index names has changed
+    pub seen_same : (m n : Slots) (index : Index) → ((q i : ℕ) → get index q ≡ Some i → pick (standing_at n i) ≡ pick (standing_at m i)) → seen pick n index ≡ seen pick m index
+    seen_same m n index same = same_map nat_cmp_total nat_cmp-IsAntisymmetric _ _ (λ q.
+        seen_get n index q ∙ same_seen (λ i. pick (standing_at n i)) (λ i. pick (standing_at m i)) (get index q) (same q) ∙ sym (seen_get m index q))
+
+    other_seen : (m n : Slots) (index : Index) (q : ℕ) → ((i : ℕ) → get index q ≡ Some i → pick (standing_at n i) ≡ pick (standing_at m i))
+        → get (seen pick n index) q ≡ get (seen pick m index) q
+    other_seen m n index q same =
+        seen_get n index q ∙ same_seen (λ i. pick (standing_at n i)) (λ i. pick (standing_at m i)) (get index q) same ∙ sym (seen_get m index q)
+
+    pub seen_changed : (m n : Slots) (index : Index) (k i : ℕ) (g : V → V) → get index k ≡ Some i → pick (standing_at n i) ≡ g (pick (standing_at m i))
+        → ((q j : ℕ) → (k ≡ q → ⊥) → get index q ≡ Some j → pick (standing_at n j) ≡ pick (standing_at m j))
+        → seen pick n index ≡ changed_at k g (seen pick m index)
+    seen_changed m n index k i g is to others = same_map nat_cmp_total nat_cmp-IsAntisymmetric _ _ (λ q. elim (cases_eq k q) [
+      | inl e ↦
+          let here : get index q ≡ Some i = ap (get index) (sym e) ∙ is in
+          seen_at n index q i here ∙ ap (λ x. Some x) to ∙ sym (ap (option_map g) (seen_at m index q i here))
+          ∙ sym (get_changed_at k g (seen pick m index) q ∙ at_same k q _ _ e)
+      | inr ne ↦ other_seen m n index q (λ j. others q j ne) ∙ sym (get_changed_at k g (seen pick m index) q ∙ at_apart k q _ _ ne)
+    ])
+
+    pub seen_unchanged : (m : Slots) (index : Index) (k : ℕ) (g : V → V) → get index k ≡ None → seen pick m index ≡ changed_at k g (seen pick m index)
+    seen_unchanged m index k g none = sym (ap (λ o. option_map_or (λ v. insert (seen pick m index) k (g v)) o (seen pick m index)) (seen_none m index k none))
+
+    pub seen_put : (m n : Slots) (index : Index) (k p : ℕ) (v : V) → pick (standing_at n p) ≡ v
+        → ((q j : ℕ) → get index q ≡ Some j → pick (standing_at n j) ≡ pick (standing_at m j))
+        → seen pick n (insert index k p) ≡ insert (seen pick m index) k v
+    seen_put m n index k p v to others = same_map nat_cmp_total nat_cmp-IsAntisymmetric _ _ (λ q. elim (cases_eq q k) [
+      | inl e ↦ seen_at n (insert index k p) q p (at_new index k p q e) ∙ ap (λ x. Some x) to ∙ sym (at_new (seen pick m index) k v q e)
+      | inr ne ↦
+          seen_get n (insert index k p) q ∙ ap (option_map (λ i. pick (standing_at n i))) (at_other index k p q ne)
+          ∙ same_seen (λ i. pick (standing_at n i)) (λ i. pick (standing_at m i)) (get index q) (others q) ∙ sym (seen_get m index q)
+          ∙ sym (at_other (seen pick m index) k v q ne)
+    ])
+
+    pub seen_out : (m n : Slots) (index : Index) (k : ℕ) → ((q j : ℕ) → (k ≡ q → ⊥) → get index q ≡ Some j → pick (standing_at n j) ≡ pick (standing_at m j))
+        → seen pick n (remove index k) ≡ remove (seen pick m index) k
+    seen_out m n index k others = same_map nat_cmp_total nat_cmp-IsAntisymmetric _ _ (λ q. elim (cases_eq q k) [
+      | inl e ↦ seen_none n (remove index k) q (taken_out index k q e) ∙ sym (taken_out (seen pick m index) k q e)
+      | inr ne ↦
+          seen_get n (remove index k) q ∙ ap (option_map (λ i. pick (standing_at n i))) (left_in index k q ne)
+          ∙ same_seen (λ i. pick (standing_at n i)) (λ i. pick (standing_at m i)) (get index q) (λ j. others q j (λ e. ne (sym e))) ∙ sym (seen_get m index q)
+          ∙ sym (left_in (seen pick m index) k q ne)
+    ])
+
+    pub seen_not_out : (m : Slots) (index : Index) (k : ℕ) → get index k ≡ None → seen pick m index ≡ remove (seen pick m index) k
+    seen_not_out m index k none = same_map nat_cmp_total nat_cmp-IsAntisymmetric _ _ (λ q. elim (cases_eq q k) [
+      | inl e ↦ ap (get (seen pick m index)) e ∙ seen_none m index k none ∙ sym (taken_out (seen pick m index) k q e)
+      | inr ne ↦ sym (left_in (seen pick m index) k q ne)
+    ])
+
+    pub seen_all : (m n : Slots) (index : Index) (g : V → V) → ((q i : ℕ) → get index q ≡ Some i → pick (standing_at n i) ≡ g (pick (standing_at m i)))
+        → seen pick n index ≡ changed_all g (seen pick m index)
+    seen_all m n index g to = same_map nat_cmp_total nat_cmp-IsAntisymmetric _ _ (λ q.
+        seen_get n index q ∙ by_found (get index q) (to q) ∙ ap (option_map g) (sym (seen_get m index q)) ∙ sym (get_changed_all g (seen pick m index) q))
+      where
+        by_found : (o : Option ℕ) → ((i : ℕ) → o ≡ Some i → pick (standing_at n i) ≡ g (pick (standing_at m i)))
+            → option_map (λ i. pick (standing_at n i)) o ≡ option_map g (option_map (λ i. pick (standing_at m i)) o)
+        by_found None h = refl
+        by_found (Some i) h = ap (λ x. Some x) (h i refl)
