@@ -327,7 +327,7 @@ def both(name, ours, more):
 
 
 def hall(options):
-    """What a call takes is told as its thread sees it, with the time in which it waits for the lock."""
+    """What a call takes, as its thread sees it, with the time in which it waits for the lock."""
     table("of", "ns a call Rattle", "C", "calls/s Rattle", "C", "ratio")
     for of, best in rates(both("hall", "hall_bench", []), options.runs).items():
         counts = {who: rate for who, (rate, _) in best.items()}

@@ -1,6 +1,6 @@
 -- What the daemon was asked, and the status behind its answer.
 use Rattle.std.proofs.Common.{◌≡◌, ◌≤◌, ℕ, zero, suc, Bool, true, false, List, Option, Some, Result, refl, sym, subst, arith}
-use Rattle.rk_message.specs.declared.ask.Ask.{Ask}
+use Rattle.rk_message.specs.Ask.{Ask}
 use Rattle.rk_message.specs.declared.reply.Reply.{Reply}
 use Rattle.rk_client.specs.declared.fault.PeerFault.{PeerFault}
 use Rattle.reqkeyctl.specs.Calls.{Asks, greeting_before}

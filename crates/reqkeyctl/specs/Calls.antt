@@ -3,8 +3,8 @@ use Rattle.std.specs.Prelude.{◌≡◌, ℕ, List, [], length, Bool, true, fals
 use Rattle.std.specs.Str.{bytes_eq}
 use Rattle.std.specs.List.{insert, list_any, position}
 use Rattle.rk_names.specs.Numbers.{serial_of}
-use Rattle.rk_message.specs.declared.ask.Ask.{Ask}
-use Rattle.rk_message.specs.declared.ask.Ask.TheVariants as ask
+use Rattle.rk_message.specs.Ask.{Ask}
+use Rattle.rk_message.specs.declared.ask.AskOf.TheVariants as ask
 use Rattle.rk_message.specs.declared.shape.FieldKind.{FieldKind}
 use Rattle.rk_message.specs.declared.shape.FieldKind.TheVariants as field
 use Rattle.rk_message.specs.declared.shape.Op.{Op}

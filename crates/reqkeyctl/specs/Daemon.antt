@@ -1,6 +1,6 @@
 -- What is said to the daemon at a socket.
 use Rattle.std.specs.Prelude.{ℕ, List, [], ◌∷◌, ◌++◌, Option, Some, None, option_map, Result}
-use Rattle.rk_message.specs.declared.ask.Ask.{Ask}
+use Rattle.rk_message.specs.Ask.{Ask}
 use Rattle.rk_message.specs.declared.reply.Reply.{Reply}
 use Rattle.rk_client.specs.declared.fault.PeerFault.{PeerFault}
 use Rattle.rk_client.specs.Peer.{HasAsked, HasGreeted}

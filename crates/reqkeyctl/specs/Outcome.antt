@@ -1,7 +1,7 @@
 -- What the program did on its streams, and what it said to the daemon.
 use Rattle.std.specs.Prelude.{◌≡◌, ℕ, List, Option, Some, None, Result, Ok, IsSome, MatchResult, true, false}
 use Rattle.std.specs.Io.KnownBytes.{Appends}
-use Rattle.rk_message.specs.declared.ask.Ask.{Ask}
+use Rattle.rk_message.specs.Ask.{Ask}
 use Rattle.rk_message.specs.declared.reply.Reply.{Reply}
 use Rattle.rk_client.specs.declared.fault.PeerFault.{PeerFault}
 use Rattle.rk_client.specs.Peer.{HasAsked, is_refusal}

@@ -4,7 +4,7 @@
 //! has started: it writes the ask to its standard output, reads the reply from its standard input, and not a byte more, and tells it on standard
 //! error. So a handler can be a shell script of a few such lines (docs/CLIENT.md).
 //!
-//! `reqkeyctl run -- PROGRAM WORDS` runs a program in a session ring of its own, to which keyutils' calls are the daemon's (docs/KEYUTILS.md).
+//! `reqkeyctl run -- PROGRAM WORDS` runs a program in a session ring of its own, to which keyutils' calls are the daemon's (docs/PROGRAMS.md).
 //!
 //! `call` reads the words, `source` a file whose bytes stand for an argument, `asking` makes the ask of both; the library `rk_client` has what is
 //! said and heard. `daemon` is who is asked at a socket, and `sockets` how the system reaches it. `running` runs a program, by the library `rk_run`. `help`

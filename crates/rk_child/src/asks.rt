@@ -12,15 +12,12 @@ ghost use Rattle.rk_child.specs.Turned.{Turns};
 use crate::driving::drive;
 use crate::replying::reply;
 use crate::spent::fail;
-use rk_conf::Conf;
-use rk_devices::{Child, Clock, Gate, Launcher, MAX_READS, PIECE, ReadFault, read_out};
+use rk_devices::{Child, Clock, Launcher, MAX_READS, PIECE, ReadFault, read_out};
 use rk_frame::{Frames, Next};
-use rk_hall::{Called, HallNo, Halls, Launch, Names, Seat};
-use rk_message::Ask;
+use rk_hall::{Called, HallNo, Launch};
+use rk_message::AskStep;
 use rk_names::{Serial, SessionId};
-use rk_talk::{Saying, Shelf, ask_in, refused, settled};
-use std::alloc::Global;
-use std::sync::Wait;
+use rk_talk::{Crew, Message, Platform, Saying, Stage, ask_in, refused, settled};
 
 /// What became of the next message of a handler.
 #[derive(Clone, Copy, Debug, PartialEq, Eq)]
@@ -36,28 +33,21 @@ pub enum Turned {
 /// Reads what a plain handler puts out to its end, and answers each ask in it. A reply that can't be written, a length that no frame has, or an ask of
 /// which nothing can be said ends the asks: then the input is closed, and the rest is read and dropped.
 #[cycle(driving)]
-pub fn serve_asks<N: Names, R: Wait, L: Launcher, C: Clock, G: Gate, S: Shelf>(
-    rt: &R,
-    alloc: Global,
-    halls: &Halls<N>,
-    seat: &mut Seat<N>,
+pub fn serve_asks<P: Platform>(
+    stage: &Stage<'_, P>,
+    crew: &mut Crew<P>,
     key: Serial,
     depth: u8,
     frames: Frames,
-    child: &mut L::Started,
-    conf: &Conf,
-    launcher: &mut L,
-    clock: &mut C,
-    gate: &G,
-    shelf: &S,
+    child: &mut <P::Launcher as Launcher>::Started,
 ) -> Result<(), ReadFault>
-    requires bound { (L.shown launcher.old).count ≤ most }
+    requires bound { (P.Launcher.shown crew.old.launcher).count ≤ most }
     requires empty { IsEmpty frames }
-    ensures runs { Runs (depth + 1) (L.shown launcher.old) (L.shown launcher.new) }
-    ensures child { GoesOn (L.Started.shown child.old) (L.Started.shown child.new) }
-    ensures end { OnOk result ((L.Started.shown child.new).at_end ≡ true) }
-    ensures fault { IfErr result (λ f. FailsReading f (L.Started.shown child.old) (L.Started.shown child.new)) }
-    ensures stays { Stays seat.old seat.new }
+    ensures runs { Runs (depth + 1) (P.Launcher.shown crew.old.launcher) (P.Launcher.shown crew.new.launcher) }
+    ensures child { GoesOn (P.Launcher.Started.shown child.old) (P.Launcher.Started.shown child.new) }
+    ensures end { OnOk result ((P.Launcher.Started.shown child.new).at_end ≡ true) }
+    ensures fault { IfErr result (λ f. FailsReading f (P.Launcher.Started.shown child.old) (P.Launcher.Started.shown child.new)) }
+    ensures stays { Stays crew.old.caller.seat crew.new.caller.seat }
 {
     let mut frames = frames;
     let mut piece = [0u8; PIECE];
@@ -71,21 +61,7 @@ pub fn serve_asks<N: Names, R: Wait, L: Launcher, C: Clock, G: Gate, S: Shelf>(
             Ok(()) => {}
             Err(_) => unreachable!(),
         }
-        let goes_on = answer_all(
-            rt,
-            alloc,
-            halls,
-            seat,
-            key,
-            depth,
-            &mut frames,
-            child,
-            conf,
-            launcher,
-            clock,
-            gate,
-            shelf,
-        );
+        let goes_on = answer_all(stage, crew, key, depth, &mut frames, child);
         if !goes_on {
             child.close_input();
             return read_out(child, reads + 1);
@@ -96,31 +72,22 @@ pub fn serve_asks<N: Names, R: Wait, L: Launcher, C: Clock, G: Gate, S: Shelf>(
 
 // Answers all messages that are there. False where the asks are at their end.
 #[cycle(driving)]
-fn answer_all<N: Names, R: Wait, L: Launcher, C: Clock, G: Gate, S: Shelf>(
-    rt: &R,
-    alloc: Global,
-    halls: &Halls<N>,
-    seat: &mut Seat<N>,
+fn answer_all<P: Platform>(
+    stage: &Stage<'_, P>,
+    crew: &mut Crew<P>,
     key: Serial,
     depth: u8,
     frames: &mut Frames,
-    child: &mut L::Started,
-    conf: &Conf,
-    launcher: &mut L,
-    clock: &mut C,
-    gate: &G,
-    shelf: &S,
+    child: &mut <P::Launcher as Launcher>::Started,
 ) -> bool
-    requires bound { (L.shown launcher.old).count ≤ most }
+    requires bound { (P.Launcher.shown crew.old.launcher).count ≤ most }
     ensures left { MatchBool result (IsPartial frames.new.bytes × (4096 ≤ frames.new.room)) (Unit {0}) }
-    ensures runs { Runs (depth + 1) (L.shown launcher.old) (L.shown launcher.new) }
-    ensures child { GoesOn (L.Started.shown child.old) (L.Started.shown child.new) }
-    ensures stays { Stays seat.old seat.new }
+    ensures runs { Runs (depth + 1) (P.Launcher.shown crew.old.launcher) (P.Launcher.shown crew.new.launcher) }
+    ensures child { GoesOn (P.Launcher.Started.shown child.old) (P.Launcher.Started.shown child.new) }
+    ensures stays { Stays crew.old.caller.seat crew.new.caller.seat }
 {
     loop {
-        match answer_next(
-            rt, alloc, halls, seat, key, depth, frames, child, conf, launcher, clock, gate, shelf,
-        ) {
+        match answer_next(stage, crew, key, depth, frames, child) {
             Turned::Replied => {}
             Turned::NoneYet => return true,
             Turned::AtEnd => return false,
@@ -130,33 +97,24 @@ fn answer_all<N: Names, R: Wait, L: Launcher, C: Clock, G: Gate, S: Shelf>(
 
 // Answers the next message, if there is one.
 #[cycle(driving)]
-fn answer_next<N: Names, R: Wait, L: Launcher, C: Clock, G: Gate, S: Shelf>(
-    rt: &R,
-    alloc: Global,
-    halls: &Halls<N>,
-    seat: &mut Seat<N>,
+fn answer_next<P: Platform>(
+    stage: &Stage<'_, P>,
+    crew: &mut Crew<P>,
     key: Serial,
     depth: u8,
     frames: &mut Frames,
-    child: &mut L::Started,
-    conf: &Conf,
-    launcher: &mut L,
-    clock: &mut C,
-    gate: &G,
-    shelf: &S,
+    child: &mut <P::Launcher as Launcher>::Started,
 ) -> Turned
-    requires bound { (L.shown launcher.old).count ≤ most }
+    requires bound { (P.Launcher.shown crew.old.launcher).count ≤ most }
     ensures takes { Turns result frames.old frames.new }
-    ensures runs { Runs (depth + 1) (L.shown launcher.old) (L.shown launcher.new) }
-    ensures child { GoesOn (L.Started.shown child.old) (L.Started.shown child.new) }
-    ensures stays { Stays seat.old seat.new }
+    ensures runs { Runs (depth + 1) (P.Launcher.shown crew.old.launcher) (P.Launcher.shown crew.new.launcher) }
+    ensures child { GoesOn (P.Launcher.Started.shown child.old) (P.Launcher.Started.shown child.new) }
+    ensures stays { Stays crew.old.caller.seat crew.new.caller.seat }
 {
     match frames.next() {
         Next::Whole(body) => {
-            let saying = answered(
-                rt, alloc, halls, seat, key, depth, body, conf, launcher, clock, gate, shelf,
-            );
-            if reply(rt, alloc, child, SessionId::Handler(key), saying, gate) {
+            let saying = answered(stage, crew, key, depth, body);
+            if reply(stage, child, SessionId::Handler(key), saying) {
                 Turned::Replied
             } else {
                 Turned::AtEnd
@@ -169,85 +127,52 @@ fn answer_next<N: Names, R: Wait, L: Launcher, C: Clock, G: Gate, S: Shelf>(
 
 // What an ask has started is brought to its end. A start that is no deeper than the handler's own is ended as one that failed.
 #[cycle(driving)]
-fn brought_to_end<N: Names, R: Wait, L: Launcher, C: Clock, G: Gate, S: Shelf>(
-    rt: &R,
-    alloc: Global,
-    halls: &Halls<N>,
-    seat: &mut Seat<N>,
-    launch: Option<Launch<N>>,
+fn brought_to_end<P: Platform>(
+    stage: &Stage<'_, P>,
+    crew: &mut Crew<P>,
+    launch: Option<Launch<P::Names>>,
     depth: u8,
-    conf: &Conf,
-    launcher: &mut L,
-    clock: &mut C,
-    gate: &G,
-    shelf: &S,
 )
-    requires bound { (L.shown launcher.old).count ≤ most }
-    ensures runs { Runs (depth + 1) (L.shown launcher.old) (L.shown launcher.new) }
-    ensures stays { Stays seat.old seat.new }
+    requires bound { (P.Launcher.shown crew.old.launcher).count ≤ most }
+    ensures runs { Runs (depth + 1) (P.Launcher.shown crew.old.launcher) (P.Launcher.shown crew.new.launcher) }
+    ensures stays { Stays crew.old.caller.seat crew.new.caller.seat }
 {
     if let Some(nested) = launch {
         if nested.depth() > depth {
-            let _ = drive(
-                rt, alloc, halls, seat, nested, conf, launcher, clock, gate, shelf,
-            );
+            let _ = drive(stage, crew, nested);
         } else {
-            fail(rt, halls, seat, nested, clock);
+            fail(stage, &mut crew.caller, nested);
         }
     }
 }
 
 // What is to be said of the message with this body: it is asked in the hall of the handler's key, and what it starts is brought to its end.
 #[cycle(driving)]
-fn answered<N: Names, R: Wait, L: Launcher, C: Clock, G: Gate, S: Shelf>(
-    rt: &R,
-    alloc: Global,
-    halls: &Halls<N>,
-    seat: &mut Seat<N>,
+fn answered<P: Platform>(
+    stage: &Stage<'_, P>,
+    crew: &mut Crew<P>,
     key: Serial,
     depth: u8,
     body: &[u8],
-    conf: &Conf,
-    launcher: &mut L,
-    clock: &mut C,
-    gate: &G,
-    shelf: &S,
 ) -> Saying
-    requires bound { (L.shown launcher.old).count ≤ most }
-    ensures says { SaysOf key body.now seat.old seat.new result }
-    ensures runs { Runs (depth + 1) (L.shown launcher.old) (L.shown launcher.new) }
-    ensures stays { Stays seat.old seat.new }
+    requires bound { (P.Launcher.shown crew.old.launcher).count ≤ most }
+    ensures says { SaysOf key body.now crew.old.caller.seat crew.new.caller.seat result }
+    ensures runs { Runs (depth + 1) (P.Launcher.shown crew.old.launcher) (P.Launcher.shown crew.new.launcher) }
+    ensures stays { Stays crew.old.caller.seat crew.new.caller.seat }
 {
     let hall = HallNo::of_serial(key);
-    let ask = match Ask::read(alloc, body) {
+    let ask = match AskStep::read(stage.alloc, body) {
         Ok(ask) => ask,
         Err(error) => return Saying::Short(error.errno()),
     };
-    match ask_in(
-        rt,
-        alloc,
-        halls,
-        seat,
-        hall,
-        clock.now(),
-        SessionId::Handler(key),
-        ask,
-        body,
-        shelf,
-    ) {
+    let now = crew.caller.clock.now();
+    let session = SessionId::Handler(key);
+    let message = Message { ask, body };
+    match ask_in(stage, &mut crew.caller.seat, hall, now, session, message) {
         Ok(Called { receipt, launch }) => {
-            brought_to_end(
-                rt, alloc, halls, seat, launch, depth, conf, launcher, clock, gate, shelf,
-            );
-            settled(
-                rt,
-                halls,
-                seat,
-                hall,
-                SessionId::Handler(key),
-                receipt,
-                clock,
-            )
+            brought_to_end(stage, crew, launch, depth);
+            let session = SessionId::Handler(key);
+            settled(stage, &mut crew.caller, hall, session, receipt)
         }
         Err(fault) => refused(fault),
     }

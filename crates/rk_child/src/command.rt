@@ -3,13 +3,12 @@ ghost use Rattle.std.specs.Prelude.{IfOk, IfErr};
 ghost use Rattle.rk_child.specs.Commands.{IsCommandFor, IsPrepared, IsUnprepared, TellsWhy};
 
 use crate::room::Room;
-use rk_conf::Conf;
 use rk_devices::Driven;
-use rk_hall::{Halls, Launch, Names};
+use rk_hall::Launch;
 use rk_macro::{Command, Wanted, expand};
 use rk_names::Moment;
-use std::alloc::{AllocError, Global};
-use std::sync::Wait;
+use rk_talk::{Platform, Stage};
+use std::alloc::AllocError;
 
 /// All that is made before a command is started.
 pub struct Prepared {
@@ -21,31 +20,36 @@ pub struct Prepared {
 
 // The command of the first line that fits the launch's subject, with `%{..}` looked up in the requester's rings. An `Err` is what is told of the launch:
 // `NotStarted` where no line fits, and `NotMade` where the words of the first one can't be made, also for want of memory.
-fn command_for<N: Names, R: Wait>(
-    rt: &R,
-    alloc: Global,
-    halls: &Halls<N>,
-    launch: &Launch<N>,
-    conf: &Conf,
+fn command_for<P: Platform>(
+    stage: &Stage<'_, P>,
+    launch: &Launch<P::Names>,
     now: Moment,
 ) -> Result<Command, Driven>
-    ensures ok { IfOk result (IsCommandFor conf.now launch.now.subject) }
+    ensures ok { IfOk result (IsCommandFor stage.now.conf.now launch.now.subject) }
     ensures unprepared { IfErr result IsUnprepared }
-    ensures why { IfErr result (TellsWhy conf.now launch.now.subject) }
+    ensures why { IfErr result (TellsWhy stage.now.conf.now launch.now.subject) }
 {
     let subject = launch.subject();
-    let Some(line) = conf.pick(
+    let Some(line) = stage.conf.pick(
         subject.op.as_bytes(),
         &subject.typ,
         &subject.desc,
         &subject.callout,
-    ) else {
+    )
+    else {
         return Err(Driven::NotStarted);
     };
     let look = |wanted: &Wanted| -> Result<Option<Vec<u8>>, AllocError> {
-        halls.peek(rt, alloc, launch, &wanted.typ, &wanted.desc, now)
+        stage.halls.peek(
+            stage.rt,
+            stage.alloc,
+            launch,
+            &wanted.typ,
+            &wanted.desc,
+            now,
+        )
     };
-    match expand(alloc, line, subject, look) {
+    match expand(stage.alloc, line, subject, look) {
         Ok(command) => Ok(command),
         Err(fault) => Err(Driven::NotMade(fault)),
     }
@@ -53,20 +57,17 @@ fn command_for<N: Names, R: Wait>(
 
 /// The command of a launch, and the room for its run. An `Err` is what is told of the launch: `NotStarted` where no line fits, `NotMade` where one does and
 /// its command can't be made, and `NoMemory` where there is a command and no memory for the room.
-pub fn prepare<N: Names, R: Wait>(
-    rt: &R,
-    alloc: Global,
-    halls: &Halls<N>,
-    launch: &Launch<N>,
-    conf: &Conf,
+pub fn prepare<P: Platform>(
+    stage: &Stage<'_, P>,
+    launch: &Launch<P::Names>,
     now: Moment,
 ) -> Result<Prepared, Driven>
-    ensures ok { IfOk result (λ p. IsPrepared conf.now launch.now.subject p.command p.room) }
+    ensures ok { IfOk result (λ p. IsPrepared stage.now.conf.now launch.now.subject p.command p.room) }
     ensures unprepared { IfErr result IsUnprepared }
-    ensures why { IfErr result (TellsWhy conf.now launch.now.subject) }
+    ensures why { IfErr result (TellsWhy stage.now.conf.now launch.now.subject) }
 {
-    let command = command_for(rt, alloc, halls, launch, conf, now)?;
-    match Room::new(alloc, command.piped) {
+    let command = command_for(stage, launch, now)?;
+    match Room::new(stage.alloc, command.piped) {
         Ok(room) => Ok(Prepared { command, room }),
         Err(AllocError) => Err(Driven::NoMemory),
     }

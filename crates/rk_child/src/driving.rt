@@ -13,15 +13,12 @@ use crate::driven::later;
 use crate::ending::{wait_for, with_output};
 use crate::room::Room;
 use crate::spent::{begin, fail, finish};
-use rk_conf::Conf;
 use rk_devices::{
     Child, Clock, Driven, Gate, Launcher, OutputFault, ReadFault, pipe_through, read_out,
 };
-use rk_hall::{Halls, Launch, Names, Running, Seat};
+use rk_hall::{Launch, Running};
 use rk_names::Payload;
-use rk_talk::Shelf;
-use std::alloc::Global;
-use std::sync::Wait;
+use rk_talk::{Crew, Platform, Stage};
 
 /// The greatest depth of a launch.
 const MAX_DEPTH: u8 = 8;
@@ -34,138 +31,99 @@ const MAX_DEPTH: u8 = 8;
 /// the child has ended that came back last, or why there was none; the gate is told it of each command. It may wait, for its children, for outcomes and for
 /// locks, and holds no lock while it calls a device, the gate or the shelf.
 #[cycle(driving)]
-pub fn drive<N: Names, R: Wait, L: Launcher, C: Clock, G: Gate, S: Shelf>(
-    rt: &R,
-    alloc: Global,
-    halls: &Halls<N>,
-    seat: &mut Seat<N>,
-    launch: Launch<N>,
-    conf: &Conf,
-    launcher: &mut L,
-    clock: &mut C,
-    gate: &G,
-    shelf: &S,
+pub fn drive<P: Platform>(
+    stage: &Stage<'_, P>,
+    crew: &mut Crew<P>,
+    launch: Launch<P::Names>,
 ) -> Driven
-    requires { (L.shown launcher.old).count ≤ most }
-    ensures runs { Runs launch.depth (L.shown launcher.old) (L.shown launcher.new) }
-    ensures fault { FaultRose result (L.shown launcher.old) (L.shown launcher.new) }
-    ensures end { TellsEnd result (L.shown launcher.old) (L.shown launcher.new) }
-    ensures why { TellsWhy conf.now launch.subject result }
-    ensures clients { clients_at seat.new ≡ clients_at seat.old }
-    ensures seen { SeesOn seat.old seat.new }
+    requires { (P.Launcher.shown crew.old.launcher).count ≤ most }
+    ensures runs { Runs launch.depth (P.Launcher.shown crew.old.launcher) (P.Launcher.shown crew.new.launcher) }
+    ensures fault { FaultRose result (P.Launcher.shown crew.old.launcher) (P.Launcher.shown crew.new.launcher) }
+    ensures end { TellsEnd result (P.Launcher.shown crew.old.launcher) (P.Launcher.shown crew.new.launcher) }
+    ensures why { TellsWhy stage.now.conf.now launch.subject result }
+    ensures clients { clients_at crew.new.caller.seat ≡ clients_at crew.old.caller.seat }
+    ensures seen { SeesOn crew.old.caller.seat crew.new.caller.seat }
 {
     let key = launch.key();
     prove!(launch.depth() <= MAX_DEPTH);
-    let (first, next) = run(
-        rt, alloc, halls, seat, launch, conf, launcher, clock, gate, shelf,
-    );
-    gate.driven(rt, key, first);
+    let (first, next) = run(stage, crew, launch);
+    stage.gate.driven(stage.rt, key, first);
     let Some(launch) = next else {
         return first;
     };
-    let (second, next) = run(
-        rt, alloc, halls, seat, launch, conf, launcher, clock, gate, shelf,
-    );
-    gate.driven(rt, key, second);
+    let (second, next) = run(stage, crew, launch);
+    stage.gate.driven(stage.rt, key, second);
     if let Some(launch) = next {
-        fail(rt, halls, seat, launch, clock);
+        fail(stage, &mut crew.caller, launch);
     }
     later(first, second)
 }
 
 // One command, from its start to its end. A launch comes back where another command is to follow.
 #[cycle(driving)]
-fn run<N: Names, R: Wait, L: Launcher, C: Clock, G: Gate, S: Shelf>(
-    rt: &R,
-    alloc: Global,
-    halls: &Halls<N>,
-    seat: &mut Seat<N>,
-    launch: Launch<N>,
-    conf: &Conf,
-    launcher: &mut L,
-    clock: &mut C,
-    gate: &G,
-    shelf: &S,
-) -> (Driven, Option<Launch<N>>)
-    requires bound { (L.shown launcher.old).count ≤ most }
+fn run<P: Platform>(
+    stage: &Stage<'_, P>,
+    crew: &mut Crew<P>,
+    launch: Launch<P::Names>,
+) -> (Driven, Option<Launch<P::Names>>)
+    requires bound { (P.Launcher.shown crew.old.launcher).count ≤ most }
     requires depth { launch.depth ≤ 8 }
-    ensures runs { Runs launch.depth (L.shown launcher.old) (L.shown launcher.new) }
-    ensures fault { FaultRose result.0 (L.shown launcher.old) (L.shown launcher.new) }
-    ensures end { TellsEnd result.0 (L.shown launcher.old) (L.shown launcher.new) }
-    ensures why { TellsWhy conf.now launch.subject result.0 }
+    ensures runs { Runs launch.depth (P.Launcher.shown crew.old.launcher) (P.Launcher.shown crew.new.launcher) }
+    ensures fault { FaultRose result.0 (P.Launcher.shown crew.old.launcher) (P.Launcher.shown crew.new.launcher) }
+    ensures end { TellsEnd result.0 (P.Launcher.shown crew.old.launcher) (P.Launcher.shown crew.new.launcher) }
+    ensures why { TellsWhy stage.now.conf.now launch.subject result.0 }
     ensures next { IfSome result.1 (λ l. (l.depth ≡ launch.depth) × HasRun result.0) }
-    ensures stays { Stays seat.old seat.new }
+    ensures stays { Stays crew.old.caller.seat crew.new.caller.seat }
 {
-    let Prepared { command, room } = match prepare(rt, alloc, halls, &launch, conf, clock.now()) {
+    let now = crew.caller.clock.now();
+    let Prepared { command, room } = match prepare(stage, &launch, now) {
         Ok(prepared) => prepared,
         Err(why) => {
-            fail(rt, halls, seat, launch, clock);
+            fail(stage, &mut crew.caller, launch);
             return (why, None);
         }
     };
-    let Ok(mut child) = launcher.start(&command) else {
-        fail(rt, halls, seat, launch, clock);
+    let Ok(mut child) = crew.launcher.start(&command) else {
+        fail(stage, &mut crew.caller, launch);
         return (Driven::StartFailed, None);
     };
-    let Some(running) = begin(rt, halls, seat, launch, room.ran(), clock) else {
+    let Some(running) = begin(stage, &mut crew.caller, launch, room.ran()) else {
         child.close_input();
         let read = read_out(&mut child, 0);
         let driven = wait_for(&mut child, read);
-        launcher.back(child);
+        crew.launcher.back(child);
         return (driven, None);
     };
-    gate.started(rt, running.key());
-    let (read, output) = attend(
-        rt, alloc, halls, seat, &running, room, &mut child, conf, launcher, clock, gate, shelf,
-    );
+    stage.gate.started(stage.rt, running.key());
+    let (read, output) = attend(stage, crew, &running, room, &mut child);
     let ended = wait_for(&mut child, read);
-    launcher.back(child);
+    crew.launcher.back(child);
     let (driven, payload) = with_output(ended, output);
-    let next = finish(rt, halls, seat, running, driven.how(), payload, clock);
+    let next = finish(stage, &mut crew.caller, running, driven.how(), payload);
     (driven, next)
 }
 
 // Serves the asks of a plain handler, or pipes the callout through a piped one, which has an output.
 #[cycle(driving)]
-fn attend<N: Names, R: Wait, L: Launcher, C: Clock, G: Gate, S: Shelf>(
-    rt: &R,
-    alloc: Global,
-    halls: &Halls<N>,
-    seat: &mut Seat<N>,
-    running: &Running<N>,
+fn attend<P: Platform>(
+    stage: &Stage<'_, P>,
+    crew: &mut Crew<P>,
+    running: &Running<P::Names>,
     room: Room,
-    child: &mut L::Started,
-    conf: &Conf,
-    launcher: &mut L,
-    clock: &mut C,
-    gate: &G,
-    shelf: &S,
+    child: &mut <P::Launcher as Launcher>::Started,
 ) -> (Result<(), ReadFault>, Option<Result<Payload, OutputFault>>)
-    requires bound { (L.shown launcher.old).count ≤ most }
+    requires bound { (P.Launcher.shown crew.old.launcher).count ≤ most }
     requires empty { IsEmptyRoom room }
-    ensures runs { Runs (running.now.depth + 1) (L.shown launcher.old) (L.shown launcher.new) }
-    ensures child { GoesOn (L.Started.shown child.old) (L.Started.shown child.new) }
-    ensures end { OnOk result.0 ((L.Started.shown child.new).at_end ≡ true) }
-    ensures fault { IfErr result.0 (λ f. FailsReading f (L.Started.shown child.old) (L.Started.shown child.new)) }
-    ensures stays { Stays seat.old seat.new }
+    ensures runs { Runs (running.now.depth + 1) (P.Launcher.shown crew.old.launcher) (P.Launcher.shown crew.new.launcher) }
+    ensures child { GoesOn (P.Launcher.Started.shown child.old) (P.Launcher.Started.shown child.new) }
+    ensures end { OnOk result.0 ((P.Launcher.Started.shown child.new).at_end ≡ true) }
+    ensures fault { IfErr result.0 (λ f. FailsReading f (P.Launcher.Started.shown child.old) (P.Launcher.Started.shown child.new)) }
+    ensures stays { Stays crew.old.caller.seat crew.new.caller.seat }
 {
     match room {
         Room::Plain(frames) => {
-            let read = serve_asks(
-                rt,
-                alloc,
-                halls,
-                seat,
-                running.key(),
-                running.depth(),
-                frames,
-                child,
-                conf,
-                launcher,
-                clock,
-                gate,
-                shelf,
-            );
+            let (key, depth) = (running.key(), running.depth());
+            let read = serve_asks(stage, crew, key, depth, frames, child);
             (read, None)
         }
         Room::Piped(output) => {

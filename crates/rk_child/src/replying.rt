@@ -4,9 +4,8 @@ ghost use Rattle.rk_child.specs.Replying.{EndsAsks};
 
 use rk_devices::{Child, Gate};
 use rk_names::{Errno, SessionId};
-use rk_talk::{Saying, answer_frame, refusal_frame};
+use rk_talk::{Platform, Saying, Stage, answer_frame, refusal_frame};
 use std::alloc::Global;
-use std::sync::Wait;
 
 // Writes what is to be said, in one write; where there is no memory for the reply, it is want of memory. False where it can't be written, or nothing
 // is to be said.
@@ -25,20 +24,18 @@ fn is_said<C: Child>(alloc: Global, child: &mut C, saying: Saying) -> bool
 }
 
 /// Replies to the handler of this session, and tells the gate. False where its asks are at their end: the reply can't be written, or there is none.
-pub fn reply<R: Wait, C: Child, G: Gate>(
-    rt: &R,
-    alloc: Global,
+pub fn reply<P: Platform, C: Child>(
+    stage: &Stage<'_, P>,
     child: &mut C,
     session: SessionId,
     saying: Saying,
-    gate: &G,
 ) -> bool
     ensures goes_on { GoesOn (C.shown child.old) (C.shown child.new) }
     ensures ends { EndsAsks result saying (C.shown child.old) (C.shown child.new) }
 {
-    if !is_said(alloc, child, saying) {
+    if !is_said(stage.alloc, child, saying) {
         return false;
     }
-    gate.answered(rt, session);
+    stage.gate.answered(stage.rt, session);
     true
 }

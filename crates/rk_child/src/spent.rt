@@ -3,22 +3,19 @@ ghost use Rattle.std.specs.Prelude.{◌≡◌, IfSome};
 ghost use Rattle.rk_talk.specs.Stays.{Stays};
 
 use rk_devices::Clock;
-use rk_hall::{Halls, Launch, Names, Owed, Running, Seat};
+use rk_hall::{Launch, Owed, Running};
 use rk_machine::{How, Ran};
 use rk_names::Payload;
-use std::sync::Wait;
+use rk_talk::{Caller, Platform, Stage};
 
 /// Tells that no command was started for a launch.
-pub fn fail<N: Names, R: Wait, C: Clock>(
-    rt: &R,
-    halls: &Halls<N>,
-    seat: &mut Seat<N>,
-    launch: Launch<N>,
-    clock: &mut C,
-)
-    ensures { Stays seat.old seat.new }
+pub fn fail<P: Platform>(stage: &Stage<'_, P>, caller: &mut Caller<P>, launch: Launch<P::Names>)
+    ensures { Stays caller.old.seat caller.new.seat }
 {
-    let Owed { value, receipt } = halls.launched(rt, seat, clock.now(), launch, Ran::Failed);
+    let now = caller.clock.now();
+    let Owed { value, receipt } = stage
+        .halls
+        .launched(stage.rt, &mut caller.seat, now, launch, Ran::Failed);
     drop(receipt);
     match value {
         None => {}
@@ -27,36 +24,38 @@ pub fn fail<N: Names, R: Wait, C: Clock>(
 }
 
 /// Tells that a handler runs. Where its hall owes that no more, there is none.
-pub fn begin<N: Names, R: Wait, C: Clock>(
-    rt: &R,
-    halls: &Halls<N>,
-    seat: &mut Seat<N>,
-    launch: Launch<N>,
+pub fn begin<P: Platform>(
+    stage: &Stage<'_, P>,
+    caller: &mut Caller<P>,
+    launch: Launch<P::Names>,
     ran: Ran,
-    clock: &mut C,
-) -> Option<Running<N>>
+) -> Option<Running<P::Names>>
     ensures token { IfSome result (λ r. r ≡ launch) }
-    ensures stays { Stays seat.old seat.new }
+    ensures stays { Stays caller.old.seat caller.new.seat }
 {
-    let Owed { value, receipt } = halls.launched(rt, seat, clock.now(), launch, ran);
+    let now = caller.clock.now();
+    let Owed { value, receipt } = stage
+        .halls
+        .launched(stage.rt, &mut caller.seat, now, launch, ran);
     drop(receipt);
     value
 }
 
 /// Tells how a handler has ended. A launch comes back where another command is to follow.
-pub fn finish<N: Names, R: Wait, C: Clock>(
-    rt: &R,
-    halls: &Halls<N>,
-    seat: &mut Seat<N>,
-    running: Running<N>,
+pub fn finish<P: Platform>(
+    stage: &Stage<'_, P>,
+    caller: &mut Caller<P>,
+    running: Running<P::Names>,
     how: How,
     payload: Option<Payload>,
-    clock: &mut C,
-) -> Option<Launch<N>>
+) -> Option<Launch<P::Names>>
     ensures token { IfSome result (λ l. l.depth ≡ running.depth) }
-    ensures stays { Stays seat.old seat.new }
+    ensures stays { Stays caller.old.seat caller.new.seat }
 {
-    let Owed { value, receipt } = halls.ended(rt, seat, clock.now(), running, how, payload);
+    let now = caller.clock.now();
+    let Owed { value, receipt } = stage
+        .halls
+        .ended(stage.rt, &mut caller.seat, now, running, how, payload);
     drop(receipt);
     value
 }

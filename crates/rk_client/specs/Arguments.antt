@@ -10,7 +10,7 @@ use Rattle.rk_message.specs.declared.shape.Op.{Op}
 use Rattle.rk_message.specs.declared.shape.Op.TheVariants as op
 use Rattle.rk_message.specs.declared.shape.FieldKind.{FieldKind}
 use Rattle.rk_message.specs.declared.shape.FieldKind.TheVariants as field
-use Rattle.rk_message.specs.declared.ask.Ask.{Ask}
+use Rattle.rk_message.specs.Ask.{Ask}
 use Rattle.rk_message.specs.Wire.{Value, U32, I32, Blob, Maybe}
 use Rattle.rk_message.specs.Table.{ask_fields}
 use Rattle.rk_message.specs.Asks.{ask_op, ask_values, error_number}

@@ -2,7 +2,7 @@
 use Rattle.std.specs.Prelude.{◌≡◌, ℕ, List, ◌++◌, Option, Bool, true, false}
 use Rattle.std.specs.Io.KnownBytes.{Appends, Consumes}
 use Rattle.rk_frame.specs.Framing.{frame}
-use Rattle.rk_message.specs.declared.ask.Ask.{Ask}
+use Rattle.rk_message.specs.Ask.{Ask}
 use Rattle.rk_message.specs.declared.reply.Reply.{Reply}
 use Rattle.rk_message.specs.declared.reply.Reply.TheVariants as reply
 use Rattle.rk_message.specs.Wire.{spelling}

@@ -8,7 +8,7 @@ ghost use Rattle.rk_core.specs.Sound.{IsSound};
 use crate::tables::Tables;
 use rk_machine::{Answer, Asker};
 use rk_message::Reply;
-use rk_names::{Description, Errno, Payload, Serial, TypeName};
+use rk_names::{Description, DescriptionView, Errno, Payload, Serial, TypeName, TypeView};
 use std::alloc::AllocError;
 
 impl Tables {
@@ -16,8 +16,8 @@ impl Tables {
     fn ring_with_room(
         &self,
         asker: &Asker,
-        typ: &TypeName,
-        description: &Description,
+        typ: &TypeView<'_>,
+        description: &DescriptionView<'_>,
         ring: i32,
         left: bool,
     ) -> Result<Serial, Errno>
@@ -39,17 +39,17 @@ impl Tables {
     pub fn add(
         &mut self,
         asker: &Asker,
-        typ: TypeName,
-        description: Description,
+        typ: TypeView<'_>,
+        description: DescriptionView<'_>,
         payload: Payload,
         ring: i32,
     ) -> Result<Answer, Errno>
         requires sound { IsSound self.old }
-        ensures { Adds self.old asker.now typ description payload ring (answer_of result) self.new }
+        ensures { Adds self.old asker.now typ.entry description.entry payload ring (answer_of result) self.new }
     {
         let left = self.keys.left(1);
         let ring = self.ring_with_room(asker, &typ, &description, ring, left)?;
-        match self.add_to(asker, typ, description, payload, ring) {
+        match self.add_copy(asker, &typ, &description, payload, ring) {
             Ok(key) => Ok(Answer::Done(Reply::Number(key.get()))),
             Err(_) => Err(Errno::Enomem),
         }
@@ -72,5 +72,24 @@ impl Tables {
         let ring = Some(ring);
         self.link(&ring, key);
         Ok(key)
+    }
+
+    /// The same with copies of the names, which are made before anything changes.
+    fn add_copy(
+        &mut self,
+        asker: &Asker,
+        typ: &TypeView<'_>,
+        description: &DescriptionView<'_>,
+        payload: Payload,
+        ring: Serial,
+    ) -> Result<Serial, AllocError>
+        requires sound { IsSound self.old }
+        requires room { is_full_at self.old ring typ.now description.now ≡ false }
+        ensures ok { IfOk result (λ k. AddsTo self.old asker.now typ.now description.now payload ring (Answer.Done (Reply.Number k)) self.new) }
+        ensures err { OnErr result (self.new ≡ self.old) }
+    {
+        let alloc = self.alloc;
+        let description = description.to_owned(alloc)?;
+        self.add_to(asker, typ.to_owned(), description, payload, ring)
     }
 }

@@ -11,15 +11,15 @@ ghost use Rattle.rk_core.specs.Sound.{IsSound};
 
 use crate::tables::Tables;
 use rk_keys::Condition;
-use rk_machine::{Answer, Asker, Event};
-use rk_message::Ask;
+use rk_machine::{Answer, Asker, EventOf};
+use rk_message::AskStep;
 use rk_names::{Errno, KeyError, Moment, Serial, SessionId};
 
 impl Tables {
     /// What a session asks is done, refused, waited for or started.
-    pub fn asked(&mut self, now: Moment, id: &SessionId, ask: Ask) -> Answer
+    pub fn asked(&mut self, now: Moment, id: &SessionId, ask: AskStep<'_>) -> Answer
         requires sound { IsSound self.old }
-        ensures { Step self.old now (Event.Asked id.now ask) result self.new }
+        ensures { Step self.old now (EventOf.Asked id.now ask.entry) result self.new }
     {
         match self.ask(now, id, ask) {
             Ok(answer) => answer,
@@ -27,9 +27,9 @@ impl Tables {
         }
     }
 
-    fn ask(&mut self, now: Moment, id: &SessionId, ask: Ask) -> Result<Answer, Errno>
+    fn ask(&mut self, now: Moment, id: &SessionId, ask: AskStep<'_>) -> Result<Answer, Errno>
         requires sound { IsSound self.old }
-        ensures { Step self.old now (Event.Asked id.now ask) (answer_of result) self.new }
+        ensures { Step self.old now (EventOf.Asked id.now ask.entry) (answer_of result) self.new }
     {
         self.may_ask(id)?;
         match self.asker(id) {
@@ -52,40 +52,46 @@ impl Tables {
     }
 
     /// An ask of a session for which nobody acts yet: HELLO of a client, ASSUME of a handler. EACCES for any other.
-    fn first_ask(&mut self, now: Moment, id: &SessionId, ask: &Ask) -> Result<Answer, Errno>
+    fn first_ask(&mut self, now: Moment, id: &SessionId, ask: &AskStep<'_>) -> Result<Answer, Errno>
         requires sound { IsSound self.old }
         ensures { MatchBool (is_first id.now ask.now) (Asking self.old now id.now ask.now (answer_of result) self.new)
             (Tells (Answer.Refused Errno.Eacces) self.old (answer_of result) self.new) }
     {
         let _ = now;
         match (id, ask) {
-            (SessionId::Client(_), Ask::Hello(greeting)) => self.hello(id, greeting),
-            (SessionId::Handler(_), Ask::Assume { key }) => self.assume(id, *key),
+            (SessionId::Client(_), AskStep::Hello(greeting)) => self.hello(id, greeting),
+            (SessionId::Handler(_), AskStep::Assume { key }) => self.assume(id, *key),
             _ => Err(Errno::Eacces),
         }
     }
 
     /// The asks of one who acts. It has a context, so that HELLO is EINVAL.
-    fn act(&mut self, now: Moment, id: &SessionId, asker: &Asker, ask: Ask) -> Result<Answer, Errno>
+    fn act(
+        &mut self,
+        now: Moment,
+        id: &SessionId,
+        asker: &Asker,
+        ask: AskStep<'_>,
+    ) -> Result<Answer, Errno>
         requires sound { IsSound self.old }
         requires there { is_some (session_of self.old.sessions id.now) ≡ true }
         requires asker { asker_of self.old id.now ≡ Some asker.now }
-        ensures { MatchBool (is_hello ask) (Tells (Answer.Refused Errno.Einval) self.old (answer_of result) self.new)
-            (Asking self.old now id.now ask (answer_of result) self.new) }
+        ensures { MatchBool (is_hello ask.entry) (Tells (Answer.Refused Errno.Einval) self.old (answer_of result) self.new)
+            (Asking self.old now id.now ask.entry (answer_of result) self.new) }
     {
         match ask {
-            Ask::Hello(_) => Err(Errno::Einval),
-            Ask::Request {
+            AskStep::Hello(_) => Err(Errno::Einval),
+            AskStep::Request {
                 typ,
                 description,
                 callout,
                 destination,
             } => self.request(now, id, asker, typ, description, callout, destination),
-            Ask::Assume { key } => self.assume(id, key),
-            Ask::Instantiate { key, payload, ring } => {
+            AskStep::Assume { key } => self.assume(id, key),
+            AskStep::Instantiate { key, payload, ring } => {
                 self.complete_key(now, asker, key, ring, Condition::Positive(payload), None)
             }
-            Ask::Negate { key, timeout, ring } => self.complete_key(
+            AskStep::Negate { key, timeout, ring } => self.complete_key(
                 now,
                 asker,
                 key,
@@ -93,7 +99,7 @@ impl Tables {
                 Condition::Negative(KeyError::NoKey),
                 Some(now.plus(timeout)),
             ),
-            Ask::Reject {
+            AskStep::Reject {
                 key,
                 timeout,
                 error,
@@ -106,21 +112,21 @@ impl Tables {
                 Condition::Negative(error),
                 Some(now.plus(timeout)),
             ),
-            Ask::Read { key } => self.read(now, id, asker, key),
-            Ask::Describe { key } => self.describe(now, asker, key),
-            Ask::Revoke { key } => self.revoke(asker, key),
-            Ask::Timeout { key, seconds } => self.set_timeout(now, asker, key, seconds),
-            Ask::Link { key, ring } => self.link_key(now, asker, key, ring),
-            Ask::Unlink { key, ring } => self.unlink_key(asker, key, ring),
-            Ask::Clear { ring } => self.clear_ring(asker, ring),
-            Ask::Default { setting } => self.set_default(id, asker, setting),
-            Ask::Add {
+            AskStep::Read { key } => self.read(now, id, asker, key),
+            AskStep::Describe { key } => self.describe(now, asker, key),
+            AskStep::Revoke { key } => self.revoke(asker, key),
+            AskStep::Timeout { key, seconds } => self.set_timeout(now, asker, key, seconds),
+            AskStep::Link { key, ring } => self.link_key(now, asker, key, ring),
+            AskStep::Unlink { key, ring } => self.unlink_key(asker, key, ring),
+            AskStep::Clear { ring } => self.clear_ring(asker, ring),
+            AskStep::Default { setting } => self.set_default(id, asker, setting),
+            AskStep::Add {
                 typ,
                 description,
                 payload,
                 ring,
             } => self.add(asker, typ, description, payload, ring),
-            Ask::Callout => self.callout(id),
+            AskStep::Callout => self.callout(id),
         }
     }
 }

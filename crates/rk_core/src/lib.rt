@@ -57,4 +57,4 @@ mod views;
 
 pub use book::Book;
 pub use limits::Limits;
-pub use rk_machine::{Answer, Event, How, Ran, every_run};
+pub use rk_machine::{Answer, Event, EventStep, How, Ran, every_run};

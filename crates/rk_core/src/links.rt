@@ -10,11 +10,16 @@ ghost use Rattle.rk_core.specs.Finding.{Passes};
 ghost use Rattle.rk_core.specs.Vanishing.{vanished_at, without_ring, StayBut, rival_in};
 
 use crate::tables::Tables;
-use rk_names::{Description, Errno, Serial, TypeName};
+use rk_names::{DescriptionView, Errno, Serial, TypeView};
 
 impl Tables {
     /// Whether a ring has no room for a key of that name.
-    pub fn is_full_at(&self, ring: Serial, typ: &TypeName, description: &Description) -> bool
+    pub fn is_full_at(
+        &self,
+        ring: Serial,
+        typ: &TypeView<'_>,
+        description: &DescriptionView<'_>,
+    ) -> bool
         ensures { result ≡ is_full_at self.now ring typ.now description.now }
     {
         self.rings.is_full(ring, self.keys.name(typ, description))
@@ -24,7 +29,7 @@ impl Tables {
         ensures { result ≡ is_full_for self.now ring key }
     {
         match self.keys.fact(key) {
-            Some(fact) => self.is_full_at(ring, &fact.typ, &fact.description),
+            Some(fact) => self.is_full_at(ring, &fact.typ.view(), &fact.description.view()),
             None => false,
         }
     }

@@ -8,7 +8,7 @@ ghost use Rattle.rk_core.specs.Sought.{IsSought, in_order, any_stands, stands, l
 
 use crate::tables::Tables;
 use rk_keys::Standing;
-use rk_names::{Context, Description, KeyError, Moment, Serial, TypeName};
+use rk_names::{Context, DescriptionView, KeyError, Moment, Serial, TypeView};
 
 /// The key of the name in a ring, and how it stands.
 #[derive(Clone, Copy, Debug)]
@@ -156,8 +156,8 @@ impl Tables {
     pub fn search(
         &self,
         context: &Context,
-        typ: &TypeName,
-        description: &Description,
+        typ: &TypeView<'_>,
+        description: &DescriptionView<'_>,
         now: Moment,
     ) -> Sought
         ensures { IsSought self.now (record { context = context.now; typ = typ.now; description = description.now; now = now }) result }

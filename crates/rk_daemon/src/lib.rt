@@ -9,8 +9,8 @@
 //! `settings` has what an operator sets by options, `fault` why nothing is served. `socket`, `clock`, `gate` and `shelf` are the devices of a session:
 //! the wire over an accepted socket, seconds of the system's monotonic clock, a gate that holds nobody, warns of handlers that could not be run, and hands
 //! out volumes of which `held` counts much, and a shelf that writes a volume into the folder of the `record`, or names it and drops it. `path` takes the
-//! socket's path and gives it free, and `streams` takes the places of standard streams that are closed. `workers` serves the `connections` that `accepting`
-//! hands out, and warns of where they wait, and `serving` puts it all together.
+//! socket's path and gives it free, and `streams` takes the places of standard streams that are closed. `platform` names the types of all these for a
+//! worker's sessions. `workers` serves the `connections` that `accepting` hands out, and warns of where they wait, and `serving` puts it all together.
 #![tactic(auto)]
 
 mod accepting;
@@ -20,6 +20,7 @@ mod fault;
 mod gate;
 mod held;
 mod path;
+mod platform;
 mod record;
 mod serving;
 mod settings;

@@ -6,17 +6,17 @@ use crate::clock::Seconds;
 use crate::connections::Connections;
 use crate::gate::Relief;
 use crate::held::Held;
+use crate::platform::WorkerPlatform;
 use crate::record::Keeper;
 use crate::shelf::Outlet;
 use crate::socket::Socket;
 use crossbeam_channel::Receiver;
 use log::{Log, warn};
 use rk_conf::Conf;
-use rk_devices::Launcher;
 use rk_frame::Frames;
-use rk_hall::{Halls, Names, Seat};
+use rk_hall::{Halls, Names};
 use rk_programs::Programs;
-use rk_session::{Served, serve};
+use rk_session::{Caller, Crew, Platform, Served, Stage, serve};
 use std::alloc::{AllocError, Global};
 use std::io::Eprint;
 use std::os::unix::net::UnixStream;
@@ -69,73 +69,80 @@ impl<N: Names> Shared<N> {
 }
 
 /// Serves the client with this number to its end.
-fn serve_client<N: Names, R: Wait + Clock + Eprint + Log + Keeper, L: Launcher>(
-    rt: &R,
-    alloc: Global,
-    shared: &Shared<N>,
-    seat: &mut Seat<N>,
-    launcher: &mut L,
+fn serve_client<P: Platform>(
+    stage: &Stage<'_, P>,
+    crew: &mut Crew<P>,
     number: u32,
     socket: &mut Socket<'_>,
 )
-    requires bound { (L.shown launcher.old).count ≤ most }
-    ensures bound { (L.shown launcher.new).count ≤ most }
+where
+    P::Runtime: Log,
+    requires bound { (P.Launcher.shown crew.old.launcher).count ≤ most }
+    ensures bound { (P.Launcher.shown crew.new.launcher).count ≤ most }
 {
-    let Ok(frames) = Frames::new(alloc) else {
-        warn!(rt; "session {number}: no memory");
+    let Ok(frames) = Frames::new(stage.alloc) else {
+        warn!(stage.rt; "session {number}: no memory");
         return;
     };
-    let mut clock = Seconds::since(rt, shared.start);
-    let shelf = shared.shelf(rt, alloc);
-    let gate = Relief::new(rt, &shared.halls, &shared.held, &shelf);
-    let served = serve(
-        rt,
-        alloc,
-        &shared.halls,
-        seat,
-        number,
-        frames,
-        &shared.conf,
-        socket,
-        launcher,
-        &mut clock,
-        &gate,
-        &shelf,
-    );
+    let served = serve(stage, crew, number, frames, socket);
     if served != Served::Ended {
-        warn!(rt; "session {number}: {served:?}");
+        warn!(stage.rt; "session {number}: {served:?}");
     }
 }
 
 /// Serves the connections that come, until no more can.
+fn serve_clients<'a, N: Names, R: Wait + Processes + Clock + Eprint + Log + Keeper>(
+    rt: &'a R,
+    alloc: Global,
+    shared: &'a Shared<N>,
+    gate: &'a Relief<'a, R, N, Outlet<'a, R>>,
+    shelf: &'a Outlet<'a, R>,
+    clients: &Receiver<Client>,
+) {
+    let Some(seat) = shared.halls.seat(rt) else {
+        return;
+    };
+    let stage: Stage<'a, WorkerPlatform<'a, N, R>> = Stage {
+        rt,
+        alloc,
+        halls: &shared.halls,
+        conf: &shared.conf,
+        gate,
+        shelf,
+    };
+    let keyutils = shared.keyutils.as_ref().map(|path| path.as_str());
+    let mut crew: Crew<WorkerPlatform<'a, N, R>> = Crew {
+        caller: Caller {
+            seat,
+            clock: Seconds::since(rt, shared.start),
+        },
+        launcher: Programs::new(rt, alloc, keyutils),
+    };
+    for client in clients.iter(rt) {
+        let Client { number, stream } = client;
+        let mut socket = Socket::new(stream, &shared.held);
+        serve_client(&stage, &mut crew, number, &mut socket);
+        // (before the connection is closed: whoever sees that may count on this worker)
+        shared.connections.go();
+        drop(socket);
+    }
+    let Crew { caller, launcher } = crew;
+    let Caller { seat, clock } = caller;
+    drop(launcher);
+    drop(clock);
+    shared.halls.retire(rt, seat);
+}
+
+/// A worker, from its first connection to its last.
 fn work<N: Names, R: Wait + Processes + Clock + Eprint + Log + Keeper>(
     rt: &R,
     alloc: Global,
     shared: &Shared<N>,
     clients: &Receiver<Client>,
 ) {
-    let Some(mut seat) = shared.halls.seat(rt) else {
-        return;
-    };
-    let keyutils = shared.keyutils.as_ref().map(|path| path.as_str());
-    let mut launcher = Programs::new(rt, alloc, keyutils);
-    for client in clients.iter(rt) {
-        let Client { number, stream } = client;
-        let mut socket = Socket::new(stream, &shared.held);
-        serve_client(
-            rt,
-            alloc,
-            shared,
-            &mut seat,
-            &mut launcher,
-            number,
-            &mut socket,
-        );
-        // (before the connection is closed: whoever sees that may count on this worker)
-        shared.connections.go();
-        drop(socket);
-    }
-    shared.halls.retire(rt, seat);
+    let shelf = shared.shelf(rt, alloc);
+    let gate = Relief::new(rt, &shared.halls, &shared.held, &shelf);
+    serve_clients(rt, alloc, shared, &gate, &shelf, clients);
 }
 
 /// Starts so many workers. They end when no more connections can come.

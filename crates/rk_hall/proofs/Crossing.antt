@@ -13,25 +13,19 @@ use Rattle.rk_keys.specs.contracts.keys.Keys as keys
 use Rattle.rk_names.specs.contracts.numbers.NameNo as name
 use Rattle.rk_keys.specs.contracts.by_name.Bucket as bucket
 use Rattle.rk_keys.specs.contracts.serials.Serials as serials
+use Rattle.rk_rings.specs.contracts.by_name.ByName as by_name
 use Rattle.rk_rings.specs.contracts.row.Row as row
 use Rattle.rk_rings.specs.contracts.rings.Rings as rings
-use Rattle.rk_auth.specs.contracts.construction.Construction as construction
-use Rattle.rk_auth.specs.contracts.construction.ConstructionWaits.TheImpl as construction_waits
-use Rattle.rk_auth.specs.contracts.construction.Stage as stage
-use Rattle.rk_auth.specs.contracts.construction.Authority as authority
-use Rattle.rk_auth.specs.contracts.session.Wait as wait
-use Rattle.rk_names.specs.contracts.context.Context as context
-use Rattle.rk_auth.specs.contracts.session.Session as session
-use Rattle.rk_auth.specs.contracts.session.SessionWaits.TheImpl as session_waits
-use Rattle.rk_auth.specs.declared.waiting.Waits as waits
-use Rattle.rk_auth.specs.contracts.waiters.Waiters as waiters
-use Rattle.rk_auth.specs.contracts.waiting.Waiting as waiting
-use Rattle.rk_auth.specs.contracts.auths.Auths as auths
+use Rattle.rk_auth.proofs.Crossing.{auths_send}
 use Rattle.rk_core.specs.contracts.book.Book as book
-use Rattle.rk_message.specs.contracts.ask.Ask as ask
+use Rattle.rk_names.specs.contracts.type_name.TypeName as type_name
+use Rattle.rk_names.specs.contracts.description.Description as description
+use Rattle.rk_names.specs.contracts.callout.Callout as callout
+use Rattle.rk_names.specs.contracts.payload.Payload as payload
+use Rattle.rk_message.specs.contracts.ask.AskOf as ask
 use Rattle.rk_message.specs.contracts.reply.Reply as reply
 use Rattle.rk_macro.specs.contracts.subject.Subject as subject
-use Rattle.rk_machine.specs.contracts.event.Event as event
+use Rattle.rk_machine.specs.contracts.event.EventOf as event
 use Rattle.rk_machine.specs.contracts.event.Answer as answer
 use Rattle.rk_record.specs.contracts.recorded.Recorded as recorded
 use Rattle.rk_record.specs.contracts.room.Room as room
@@ -81,50 +75,24 @@ keys_send =
 
 -- ---- rings
 
+pub by_name_send : IsSend by_name.the_row
+by_name_send = search (sendable, crosses) depth 40 fits 20000
+
 pub row_send : IsSend row.the_row
-row_send = search (sendable, crosses) depth 40
+row_send = let l = table_send name.the_row (search (sendable, crosses) depth 40) in let b = by_name_send in search (sendable, crosses) depth 40 fits 20000
 
 pub rings_send : IsSend rings.the_row
-rings_send = let r = table_send row.the_row row_send in let c = counts_send in search (sendable, crosses) depth 40
-
--- ---- sessions and constructions
-
-pub context_send : IsSend context.the_row
-context_send = search (sendable, crosses) depth 40 fits 20000
-
-pub wait_send : IsSend wait.the_row
-wait_send = search (sendable, crosses) depth 40 fits 20000
-
-pub session_send : IsSend session.the_row
-session_send = let c = context_send in let w = wait_send in search (sendable, crosses) depth 40 fits 20000
-
-pub stage_send : IsSend stage.the_row
-stage_send = let c = context_send in let s = session_send in search (sendable, crosses) depth 40 fits 20000
-
-pub authority_send : IsSend authority.the_row
-authority_send = let c = context_send in search (sendable, crosses) depth 40 fits 20000
-
-pub construction_send : IsSend construction.the_row
-construction_send = let s = stage_send in let a = authority_send in search (sendable, crosses) depth 40 fits 20000
-
-pub waiters_send : IsSend waiters.the_row
-waiters_send = search (sendable, crosses) depth 40 fits 20000
-
-pub waiting_send : (V : RattleType) (g : waits.Ghosts V.Denot) → IsSend V → IsSend (waiting.the_row V g)
-waiting_send V g v = let t = table_send V v in let w = waiters_send in search (sendable, crosses) depth 40
-
-pub auths_send : IsSend auths.the_row
-auths_send =
-    let c = waiting_send construction.the_row construction_waits.ghosts construction_send in
-    let s = waiting_send session.the_row session_waits.ghosts session_send in
-    search (sendable, crosses) depth 40
+rings_send = let w = row_send in let r = table_send row.the_row row_send in let c = counts_send in search (sendable, crosses) depth 40 fits 20000
 
 -- ---- the book and the record of its steps
 
 pub book_send : IsSend book.the_row
 book_send = let k = keys_send in let r = rings_send in let a = auths_send in search (sendable, crosses) depth 40
 
-pub ask_send : IsSend ask.the_row
+abbrev asks : RattleType
+asks = ask.the_row type_name.the_row description.the_row callout.the_row payload.the_row
+
+pub ask_send : IsSend asks
 ask_send = search (sendable, crosses) depth 40 fits 20000
 
 pub reply_send : IsSend reply.the_row
@@ -133,7 +101,7 @@ reply_send = search (sendable, crosses) depth 40 fits 20000
 pub subject_send : IsSend subject.the_row
 subject_send = search (sendable, crosses) depth 40 fits 20000
 
-pub event_send : IsSend event.the_row
+pub event_send : IsSend (event.the_row asks)
 event_send = let a = ask_send in search (sendable, crosses) depth 40 fits 20000
 
 pub answer_send : IsSend answer.the_row

@@ -10,9 +10,9 @@ use Rattle.rk_macro.specs.declared.subject.Subject.{Subject}
 use Rattle.rk_auth.specs.declared.session.Session.{Session}
 use Rattle.rk_auth.specs.declared.construction.Authority.{Authority}
 use Rattle.rk_auth.specs.Sessions.{session_of, assumed_authority, unspent}
-use Rattle.rk_message.specs.declared.ask.Ask.{Ask}
-use Rattle.rk_machine.specs.declared.event.Event.{Event}
-use Rattle.rk_machine.specs.declared.event.Event.TheVariants.{Opened, Asked, Launched, Ended, Collect, Gone}
+use Rattle.rk_message.specs.Ask.{Ask}
+use Rattle.rk_machine.specs.Event.{Event}
+use Rattle.rk_machine.specs.declared.event.EventOf.TheVariants.{Opened, Asked, Launched, Ended, Collect, Gone}
 use Rattle.rk_machine.specs.declared.event.Answer.{Answer}
 use Rattle.rk_machine.specs.declared.event.Answer.TheVariants.{Done, Start, Negate, Waiting, Refused}
 use Rattle.rk_machine.specs.Allowed.{done, Leaves, Unless, OrNoMemory}

@@ -5,8 +5,8 @@ use Rattle.rk_macro.specs.declared.subject.Subject.{Subject}
 use Rattle.rk_macro.specs.declared.subject.Op.TheVariants as op
 use Rattle.rk_message.specs.declared.reply.Reply.TheVariants.{Number}
 use Rattle.rk_auth.specs.declared.session.Outcome.{Outcome}
-use Rattle.rk_machine.specs.declared.event.Event.{Event}
-use Rattle.rk_machine.specs.declared.event.Event.TheVariants.{Opened, Asked}
+use Rattle.rk_machine.specs.Event.{Event}
+use Rattle.rk_machine.specs.declared.event.EventOf.TheVariants.{Opened, Asked}
 use Rattle.rk_machine.specs.declared.event.Ran.{Ran}
 use Rattle.rk_machine.specs.declared.event.Ran.TheVariants as ran
 use Rattle.rk_machine.specs.declared.event.Answer.{Answer}

@@ -15,8 +15,7 @@ use crate::seat::Seat;
 use crate::ticket::OneOfFour;
 use crate::token::{Launch, Running};
 use crate::volume::Volume;
-use rk_machine::{Answer, Event, How, Ran};
-use rk_macro::{Op, Subject};
+use rk_machine::{Answer, EventOf, EventStep, How, Ran};
 use rk_names::{Description, Errno, Moment, Payload, Serial, SessionId, TypeName};
 use rk_record::{HallFault, HallNo, MAX_STEPS, Receipt};
 use std::alloc::{AllocError, Global};
@@ -185,12 +184,12 @@ impl<N: Names> Halls<N> {
         seat: &mut Seat<N>,
         hall: HallNo,
         now: Moment,
-        event: Event,
+        event: EventStep<'_>,
     ) -> Result<Called<N>, CallFault>
         requires { IsCall event }
-        ensures receipt { IfOk result (λ d. (d.receipt.hall ≡ hall) × (d.receipt.moment ≡ now) × (d.receipt.told ≡ told_of event)) }
+        ensures receipt { IfOk result (λ d. (d.receipt.hall ≡ hall) × (d.receipt.moment ≡ now) × (d.receipt.told ≡ told_of event.entry)) }
         ensures rising { IfOk result (λ d. (part hall seat.old).seen < d.receipt.number) }
-        ensures seat { IfOk result (λ d. seat.new ≡ with_part hall seat.old (after_call (part hall seat.old) event d.receipt)) }
+        ensures seat { IfOk result (λ d. seat.new ≡ with_part hall seat.old (after_call (part hall seat.old) event.entry d.receipt)) }
         ensures launch { IfOk result (λ d. MatchOption d.launch (started d.receipt.answer ≡ None)
             (λ l. (l.hall ≡ hall) × (d.receipt.answer ≡ Answer.Start l.key l.subject))) }
         ensures err { IfErr result (λ f. CallRefused (part hall seat.old) f) }
@@ -216,7 +215,7 @@ impl<N: Names> Halls<N> {
         launch: Launch<N>,
         ran: Ran,
     ) -> Owed<Option<Running<N>>>
-        ensures step { OwedSeen launch.hall now (Event.Launched launch.key ran) seat.old seat.new result.receipt }
+        ensures step { OwedSeen launch.hall now (EventOf.Launched launch.key ran) seat.old seat.new result.receipt }
         ensures value { result.value ≡ (if runs_on ran result.receipt then Some launch else None) }
     {
         let Launch {
@@ -276,7 +275,7 @@ impl<N: Names> Halls<N> {
         how: How,
         payload: Option<Payload>,
     ) -> Owed<Option<Launch<N>>>
-        ensures step { OwedSeen running.hall now (Event.Ended running.key how payload) seat.old seat.new result.receipt }
+        ensures step { OwedSeen running.hall now (EventOf.Ended running.key how payload) seat.old seat.new result.receipt }
         ensures value { IfSome result.value (λ l. l ≡ negated running) }
         ensures answer { IfOk result.receipt (λ r. is_some result.value ≡ is_followed r.answer) }
         ensures stray { result.receipt ≡ Err Lapse.Stray → result.value ≡ None }
@@ -287,10 +286,7 @@ impl<N: Names> Halls<N> {
             depth,
             ticket,
         } = running;
-        let subject = Subject {
-            op: Op::Negate,
-            ..subject
-        };
+        let subject = subject.negated();
         match ticket {
             OneOfFour::Zero(ticket) => goes_on!(
                 self.zero
@@ -341,7 +337,7 @@ impl<N: Names> Halls<N> {
         now: Moment,
         session: SessionId,
     ) -> Owed<Answer>
-        ensures step { OwedSeen hall now (Event.Collect session) seat.old seat.new result.receipt }
+        ensures step { OwedSeen hall now (EventOf.Collect session) seat.old seat.new result.receipt }
         ensures value { IfOk result.receipt (λ r. r.answer ≡ result.value) }
         ensures outcome { IsOutcomeOrNone result.value }
         ensures stray { result.receipt ≡ Err Lapse.Stray → result.value ≡ Answer.Refused Errno.Einval }
@@ -363,7 +359,7 @@ impl<N: Names> Halls<N> {
         now: Moment,
         session: SessionId,
     ) -> Owed<()>
-        ensures { OwedSeen hall now (Event.Gone session) (with_part hall seat.old (without_client (part hall seat.old))) seat.new result.receipt }
+        ensures { OwedSeen hall now (EventOf.Gone session) (with_part hall seat.old (without_client (part hall seat.old))) seat.new result.receipt }
     {
         match hall {
             HallNo::Zero => self.zero.gone(rt, &mut seat.zero, now, session),

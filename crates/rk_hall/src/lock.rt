@@ -17,8 +17,8 @@ use crate::names::Names;
 use crate::opening::empty_hall;
 use crate::part::Part;
 use crate::ticket::Ticket;
-use rk_machine::{Answer, Event, How, Ran};
-use rk_message::Ask;
+use rk_machine::{Answer, EventOf, EventStep, How, Ran};
+use rk_message::AskStep;
 use rk_names::{Description, Errno, Moment, Payload, Serial, SessionId, TypeName};
 use rk_record::{Copies, HallFault, HallNo, Receipt, Volume};
 use std::alloc::{AllocError, Global};
@@ -29,15 +29,17 @@ use std::sync::{Condvar, Mutex, Wait};
 pub(crate) struct Lock<N: Names, const H: u64> {
     pub(crate) locked: Mutex<Locked<N, H>>,
     pub(crate) told: Condvar,
+    /// Where memory comes from.
+    pub(crate) alloc: Global,
 }
 
 /// Whether the event is an INSTANTIATE, a NEGATE or a REJECT: where that is done, the key is complete, and those who wait for it have their outcome.
-fn completes(event: &Event) -> bool {
+fn completes(event: &EventStep<'_>) -> bool {
     matches!(
         event,
-        Event::Asked(
+        EventStep::Asked(
             _,
-            Ask::Instantiate { .. } | Ask::Negate { .. } | Ask::Reject { .. }
+            AskStep::Instantiate { .. } | AskStep::Negate { .. } | AskStep::Reject { .. }
         )
     )
 }
@@ -61,6 +63,7 @@ impl<N: Names, const H: u64> Lock<N, H> {
         Ok(Lock {
             locked: Mutex::new(locked),
             told: Condvar::new(),
+            alloc,
         })
     }
 
@@ -79,20 +82,20 @@ impl<N: Names, const H: u64> Lock<N, H> {
         rt: &R,
         part: &mut Part<N, H>,
         now: Moment,
-        event: Event,
+        event: EventStep<'_>,
     ) -> Result<(Receipt, Option<Begun<N, H>>), CallFault>
         requires { IsCall event }
-        ensures receipt { IfOk result (λ d. (hall_number d.0.hall ≡ H) × (d.0.moment ≡ now) × (d.0.told ≡ told_of event)
+        ensures receipt { IfOk result (λ d. (hall_number d.0.hall ≡ H) × (d.0.moment ≡ now) × (d.0.told ≡ told_of event.entry)
             × (d.0.answer ≢ Answer.Refused Errno.Enomem)) }
         ensures rising { IfOk result (λ d. part.old.seen < d.0.number) }
-        ensures part { IfOk result (λ d. part.new ≡ after_call part.old event d.0) }
+        ensures part { IfOk result (λ d. part.new ≡ after_call part.old event.entry d.0) }
         ensures begun { IfOk result (λ d. MatchOption d.1 (started d.0.answer ≡ None) (λ b. d.0.answer ≡ Answer.Start b.key b.subject)) }
         ensures err { IfErr result (λ f. CallRefused part.old f) }
         ensures same { OnErr result (part.new ≡ part.old) }
     {
         let completes = completes(&event);
         // Before the lock is taken, since others wait for it.
-        let copies = Copies::of(&event).ok();
+        let copies = Copies::of(self.alloc, &event).ok();
         let (receipt, begun) = self.locked.lock(rt).call(part, now, event, copies)?;
         if completes && matches!(receipt.answer(), Answer::Done(_)) {
             self.told.notify_all();
@@ -109,7 +112,7 @@ impl<N: Names, const H: u64> Lock<N, H> {
         ticket: Ticket<N, H>,
         ran: Ran,
     ) -> Owed<Option<Ticket<N, H>>>
-        ensures step { (hall : HallNo) → hall_number hall ≡ H → OwedPart hall now (Event.Launched key ran) part.old part.new result.receipt }
+        ensures step { (hall : HallNo) → hall_number hall ≡ H → OwedPart hall now (EventOf.Launched key ran) part.old part.new result.receipt }
         ensures value { is_some result.value ≡ runs_on ran result.receipt }
     {
         let owed = self.locked.lock(rt).launched(part, now, key, ticket, ran);
@@ -127,7 +130,7 @@ impl<N: Names, const H: u64> Lock<N, H> {
         how: How,
         payload: Option<Payload>,
     ) -> Owed<Option<Ticket<N, H>>>
-        ensures step { (hall : HallNo) → hall_number hall ≡ H → OwedPart hall now (Event.Ended key how payload) part.old part.new result.receipt }
+        ensures step { (hall : HallNo) → hall_number hall ≡ H → OwedPart hall now (EventOf.Ended key how payload) part.old part.new result.receipt }
         ensures answer { IfOk result.receipt (λ r. is_some result.value ≡ is_followed r.answer) }
         ensures stray { result.receipt ≡ Err Lapse.Stray → result.value ≡ None }
     {
@@ -146,7 +149,7 @@ impl<N: Names, const H: u64> Lock<N, H> {
         now: Moment,
         session: SessionId,
     ) -> Owed<Answer>
-        ensures step { (hall : HallNo) → hall_number hall ≡ H → OwedPart hall now (Event.Collect session) part.old part.new result.receipt }
+        ensures step { (hall : HallNo) → hall_number hall ≡ H → OwedPart hall now (EventOf.Collect session) part.old part.new result.receipt }
         ensures value { IfOk result.receipt (λ r. r.answer ≡ result.value) }
         ensures outcome { IsOutcomeOrNone result.value }
         ensures stray { result.receipt ≡ Err Lapse.Stray → result.value ≡ Answer.Refused Errno.Einval }
@@ -161,7 +164,7 @@ impl<N: Names, const H: u64> Lock<N, H> {
         now: Moment,
         session: SessionId,
     ) -> Owed<()>
-        ensures { (hall : HallNo) → hall_number hall ≡ H → OwedPart hall now (Event.Gone session) (without_client part.old) part.new result.receipt }
+        ensures { (hall : HallNo) → hall_number hall ≡ H → OwedPart hall now (EventOf.Gone session) (without_client part.old) part.new result.receipt }
     {
         self.locked.lock(rt).gone(part, now, session)
     }
@@ -203,7 +206,11 @@ impl<N: Names, const H: u64> Lock<N, H> {
     pub(crate) fn close(self) -> Closed<N, H>
         ensures { result.live ≡ 0 }
     {
-        let Lock { locked, told: _ } = self;
+        let Lock {
+            locked,
+            told: _,
+            alloc: _,
+        } = self;
         Closed::of(locked.into_inner())
     }
 }

@@ -16,8 +16,7 @@ use crate::lapse::{CallFault, Lapse, Owed};
 use crate::names::{Calls, Names, Out};
 use crate::part::Part;
 use crate::ticket::Ticket;
-use rk_machine::{Answer, Event, How, Ran};
-use rk_macro::Subject;
+use rk_machine::{Answer, BoxedSubject, EventOf, EventStep, How, Ran};
 use rk_message::Reply;
 use rk_names::{Description, Errno, Moment, Payload, Serial, SessionId, TypeName};
 use rk_record::{Copies, Hall, HallFault, Receipt, Volume};
@@ -57,7 +56,7 @@ impl<N: Names, const H: u64> Model for Locked<N, H> {
 /// A construction that a call has begun.
 pub(crate) struct Begun<N: Names, const H: u64> {
     pub(crate) key: Serial,
-    pub(crate) subject: Subject,
+    pub(crate) subject: BoxedSubject,
     pub(crate) depth: u8,
     pub(crate) ticket: Ticket<N, H>,
     ghost deep: { IsDepth depth },
@@ -127,20 +126,20 @@ impl<N: Names, const H: u64> Locked<N, H> {
         &mut self,
         part: &mut Part<N, H>,
         now: Moment,
-        event: Event,
+        event: EventStep<'_>,
         copies: Option<Copies>,
     ) -> Result<(Receipt, Option<Begun<N, H>>), CallFault>
         requires call { IsCall event }
         requires copies { IfSome copies (λ c. AreCopies event c) }
-        ensures ok { IfOk result (λ d. Turned self.old.hall now event d.0 self.new.hall) }
+        ensures ok { IfOk result (λ d. Turned self.old.hall now event.entry d.0 self.new.hall) }
         ensures hall { IfOk result (λ d. hall_number d.0.hall ≡ H) }
         ensures rising { IfOk result (λ d. part.old.seen < d.0.number) }
-        ensures part { IfOk result (λ d. part.new ≡ after_call part.old event d.0) }
+        ensures part { IfOk result (λ d. part.new ≡ after_call part.old event.entry d.0) }
         ensures begun { IfOk result (λ d. MatchOption d.1 (started d.0.answer ≡ None)
             (λ b. (d.0.answer ≡ Answer.Start b.key b.subject) × (depth_of self.new.hall.world b.key ≡ Some b.depth))) }
         ensures kept { OnOk result (self.new ≡ record self.old { hall = self.new.hall }) }
-        ensures err { IfErr result (λ f. RefusedUnder self.old.hall event part.old f) }
-        ensures full { (result ≡ Err CallFault.Full) ↔ ((part.old.seen ≤ taken self.old.hall) × IsFull self.old.hall event) }
+        ensures err { IfErr result (λ f. RefusedUnder self.old.hall event.entry part.old f) }
+        ensures full { (result ≡ Err CallFault.Full) ↔ ((part.old.seen ≤ taken self.old.hall) × IsFull self.old.hall event.entry) }
         ensures same { OnErr result ((self.new ≡ self.old) × (part.new ≡ part.old)) }
     {
         let found = self.hall.count() + 1;
@@ -150,7 +149,7 @@ impl<N: Names, const H: u64> Locked<N, H> {
                 found,
             });
         }
-        let opens = matches!(event, Event::Opened(_));
+        let opens = matches!(event, EventStep::Opened(_));
         match self.hall.turn_to_start(now, event, copies) {
             Ok((receipt, subject)) => {
                 let _steps = self.hall.count();
@@ -184,13 +183,13 @@ impl<N: Names, const H: u64> Locked<N, H> {
         ticket: Ticket<N, H>,
         ran: Ran,
     ) -> Owed<Option<Ticket<N, H>>>
-        ensures step { OwedTurn self.old.hall now (Event.Launched key ran) part.old part.new self.new.hall result.receipt (λ a. a ≡ done) }
+        ensures step { OwedTurn self.old.hall now (EventOf.Launched key ran) part.old part.new self.new.hall result.receipt (λ a. a ≡ done) }
         ensures value { is_some result.value ≡ runs_on ran result.receipt }
-        ensures owed { IsOwedOr self.old.hall (Event.Launched key ran) result.receipt }
+        ensures owed { IsOwedOr self.old.hall (EventOf.Launched key ran) result.receipt }
         ensures hall { IfOk result.receipt (λ r. hall_number r.hall ≡ H) }
         ensures kept { self.new ≡ record self.old { hall = self.new.hall; strays = self.old.strays + strays_of result.receipt } }
     {
-        let event = Event::Launched(key, ran);
+        let event = EventStep::Launched(key, ran);
         if !self.hall.owes(&event) {
             self.put_stray(ticket);
             return Owed {
@@ -222,14 +221,14 @@ impl<N: Names, const H: u64> Locked<N, H> {
         how: How,
         payload: Option<Payload>,
     ) -> Owed<Option<Ticket<N, H>>>
-        ensures step { OwedTurn self.old.hall now (Event.Ended key how payload) part.old part.new self.new.hall result.receipt
+        ensures step { OwedTurn self.old.hall now (EventOf.Ended key how payload) part.old part.new self.new.hall result.receipt
             (λ a. is_some result.value ≡ is_followed a) }
         ensures stray { result.receipt ≡ Err Lapse.Stray → result.value ≡ None }
-        ensures owed { IsOwedOr self.old.hall (Event.Ended key how payload) result.receipt }
+        ensures owed { IsOwedOr self.old.hall (EventOf.Ended key how payload) result.receipt }
         ensures hall { IfOk result.receipt (λ r. hall_number r.hall ≡ H) }
         ensures kept { self.new ≡ record self.old { hall = self.new.hall; strays = self.old.strays + strays_of result.receipt } }
     {
-        let event = Event::Ended(key, how, payload);
+        let event = EventStep::Ended(key, how, payload);
         if !self.hall.owes(&event) {
             self.put_stray(ticket);
             return Owed {
@@ -257,14 +256,14 @@ impl<N: Names, const H: u64> Locked<N, H> {
         now: Moment,
         session: SessionId,
     ) -> Owed<Answer>
-        ensures step { OwedTurn self.old.hall now (Event.Collect session) part.old part.new self.new.hall result.receipt (λ a. a ≡ result.value) }
+        ensures step { OwedTurn self.old.hall now (EventOf.Collect session) part.old part.new self.new.hall result.receipt (λ a. a ≡ result.value) }
         ensures outcome { IsOutcomeOrNone result.value }
         ensures stray { result.receipt ≡ Err Lapse.Stray → result.value ≡ Answer.Refused Errno.Einval }
-        ensures owed { IsOwedOr self.old.hall (Event.Collect session) result.receipt }
+        ensures owed { IsOwedOr self.old.hall (EventOf.Collect session) result.receipt }
         ensures hall { IfOk result.receipt (λ r. hall_number r.hall ≡ H) }
         ensures kept { self.new ≡ record self.old { hall = self.new.hall } }
     {
-        let event = Event::Collect(session);
+        let event = EventStep::Collect(session);
         if !self.hall.owes(&event) {
             return Owed {
                 value: Answer::Refused(Errno::Einval),
@@ -286,13 +285,13 @@ impl<N: Names, const H: u64> Locked<N, H> {
         now: Moment,
         session: SessionId,
     ) -> Owed<()>
-        ensures step { OwedTurn self.old.hall now (Event.Gone session) (without_client part.old) part.new self.new.hall result.receipt (λ a. a ≡ done) }
-        ensures owed { IsOwedOr self.old.hall (Event.Gone session) result.receipt }
+        ensures step { OwedTurn self.old.hall now (EventOf.Gone session) (without_client part.old) part.new self.new.hall result.receipt (λ a. a ≡ done) }
+        ensures owed { IsOwedOr self.old.hall (EventOf.Gone session) result.receipt }
         ensures hall { IfOk result.receipt (λ r. hall_number r.hall ≡ H) }
         ensures kept { self.new ≡ record self.old { hall = self.new.hall } }
     {
         part.lose_client();
-        let event = Event::Gone(session);
+        let event = EventStep::Gone(session);
         if !self.hall.owes(&event) {
             return Owed {
                 value: (),
@@ -359,7 +358,7 @@ fn begin<N: Names, const H: u64>(
     out: &mut Book<Out<N, H>>,
     home: &mut Share<Out<N, H>>,
     answer: &Answer,
-    subject: Option<Subject>,
+    subject: Option<BoxedSubject>,
 ) -> Option<Begun<N, H>>
     requires subject { subject ≡ started answer.now }
     requires depth { HasDepth answer.now hall.now.world }
@@ -408,11 +407,11 @@ fn turn_owed<N: Names, const H: u64>(
     calls: &mut Book<Calls<N, H>>,
     part: &mut Part<N, H>,
     now: Moment,
-    event: Event,
+    event: EventStep<'_>,
 ) -> Receipt
     requires owed { is_owed hall.old.world event ≡ true }
     requires counted { calls.old.total ≡ taken hall.old }
-    ensures turned { Turned hall.old now event result hall.new }
+    ensures turned { Turned hall.old now event.entry result hall.new }
     ensures part { part.new ≡ record part.old { calls = part.old.calls + 1 } }
     ensures counted { calls.new.total ≡ taken hall.new }
 {

@@ -9,6 +9,7 @@ use crate::names::Names;
 use crate::seat::Seat;
 use crate::volume::Volume;
 use rk_record::{HallNo, Receipt};
+use thiserror::Error;
 
 /// The sums of the four records.
 #[derive(Clone, Copy, PartialEq, Eq, Debug)]
@@ -24,14 +25,17 @@ pub struct Total {
 }
 
 /// Why a settlement fails.
-#[derive(Clone, Copy, PartialEq, Eq, Debug)]
+#[derive(Clone, Copy, PartialEq, Eq, Debug, Error)]
 pub enum SettleFault {
     /// There are so many steps, and the seats that were handed in or given back made only `held` turns: a seat is missed.
+    #[error("the record has {steps} steps, and the seats {held}: one is missing")]
     Uneven { steps: u64, held: u64 },
     /// The first receipt at fault is of a volume that is neither the one that its hall records nor handed in.
+    #[error("hall {}: volume {volume} is missing", .hall.number())]
     Missing { hall: HallNo, volume: u64 },
     /// The first receipt at fault has this number: it is not above those of its hall that come before it, or no step of its volume has its number,
     /// moment, event and answer.
+    #[error("hall {}: receipt {number} does not stand in the record", .hall.number())]
     Forged { hall: HallNo, number: u64 },
 }
 

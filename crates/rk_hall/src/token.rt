@@ -4,6 +4,7 @@ ghost use Rattle.rk_hall.specs.Seats.{IsDepth};
 
 use crate::names::Names;
 use crate::ticket::AnyTicket;
+use rk_machine::BoxedSubject;
 use rk_macro::Subject;
 use rk_names::Serial;
 use std::marker::Model;
@@ -11,7 +12,7 @@ use std::marker::Model;
 /// A construction whose handler is to be started. It can't be dropped: `Halls::launched` takes it.
 pub struct Launch<N: Names> {
     pub(crate) key: Serial,
-    pub(crate) subject: Subject,
+    pub(crate) subject: BoxedSubject,
     pub(crate) depth: u8,
     pub(crate) ticket: AnyTicket<N>,
     ghost deep: { IsDepth depth },
@@ -29,7 +30,7 @@ impl<N: Names> Model for Launch<N> {
 /// A construction whose handler runs. It can't be dropped: `Halls::ended` takes it.
 pub struct Running<N: Names> {
     pub(crate) key: Serial,
-    pub(crate) subject: Subject,
+    pub(crate) subject: BoxedSubject,
     pub(crate) depth: u8,
     pub(crate) ticket: AnyTicket<N>,
     ghost deep: { IsDepth depth },
@@ -56,7 +57,7 @@ impl<N: Names> Launch<N> {
     pub fn subject(&self) -> &Subject
         ensures { result.now ≡ self.now.subject }
     {
-        &self.subject
+        self.subject.as_subject()
     }
 
     /// How many starts lead to its handler, 1 to 8.
@@ -79,7 +80,7 @@ impl<N: Names> Running<N> {
     pub fn subject(&self) -> &Subject
         ensures { result.now ≡ self.now.subject }
     {
-        &self.subject
+        self.subject.as_subject()
     }
 
     /// How many starts lead to its handler, 1 to 8.

@@ -1,6 +1,8 @@
 //! What the client of the tests asks.
-use rk_message::{Ask, Greeting};
-use rk_names::{Callout, Description, Payload, Serial, SessionId, TypeName};
+use rk_message::{AskStep, Greeting};
+use rk_names::{
+    CalloutView, Description, DescriptionView, Payload, Serial, SessionId, TypeName, TypeView,
+};
 use std::alloc::{AllocError, Global};
 
 /// The client of the tests.
@@ -10,22 +12,22 @@ pub const CLIENT: SessionId = SessionId::Client(1);
 pub const OTHER: SessionId = SessionId::Client(2);
 
 /// The client says that it is user 1000.
-pub fn hello() -> Ask {
+pub fn hello() -> AskStep<'static> {
     hello_of(1000)
 }
 
 /// A client says that it is this user.
-pub fn hello_of(uid: u32) -> Ask {
+pub fn hello_of(uid: u32) -> AskStep<'static> {
     greeting(uid, None)
 }
 
 /// A client says that it is user 1000, and joins this session ring.
-pub fn joining(ring: Serial) -> Ask {
+pub fn joining(ring: Serial) -> AskStep<'static> {
     greeting(1000, Some(ring))
 }
 
-fn greeting(uid: u32, join: Option<Serial>) -> Ask {
-    Ask::Hello(Greeting {
+fn greeting(uid: u32, join: Option<Serial>) -> AskStep<'static> {
+    AskStep::Hello(Greeting {
         uid,
         gid: 1000,
         thread: false,
@@ -35,31 +37,30 @@ fn greeting(uid: u32, join: Option<Serial>) -> Ask {
 }
 
 /// It adds the key of this name, with the payload `v`, to its session ring.
-pub fn add(alloc: Global, name: &[u8]) -> Result<Ask, AllocError> {
-    Ok(Ask::Add {
-        typ: user(alloc)?,
-        description: description(alloc, name)?,
+pub fn add(alloc: Global, name: &[u8]) -> Result<AskStep<'_>, AllocError> {
+    Ok(AskStep::Add {
+        typ: TypeView::new(b"user").map_err(|_| AllocError)?,
+        description: DescriptionView::new(name).map_err(|_| AllocError)?,
         payload: payload(alloc, b"v")?,
         ring: -3,
     })
 }
 
-/// It requests the key of this name, with the callout `x`.
-pub fn request(alloc: Global, name: &[u8]) -> Result<Ask, AllocError> {
-    let callout = Callout::new(alloc, b"x").map_err(|_| AllocError)?;
-    Ok(Ask::Request {
-        typ: user(alloc)?,
-        description: description(alloc, name)?,
-        callout: Some(callout),
+/// It requests the key of this name, with the callout `x`; `None` for bytes that are no name.
+pub fn request(name: &[u8]) -> Option<AskStep<'_>> {
+    Some(AskStep::Request {
+        typ: TypeView::new(b"user").ok()?,
+        description: DescriptionView::new(name).ok()?,
+        callout: Some(CalloutView::new(b"x").ok()?),
         destination: 0,
     })
 }
 
-/// It requests the key of this name, without a callout.
-pub fn find(alloc: Global, name: &[u8]) -> Result<Ask, AllocError> {
-    Ok(Ask::Request {
-        typ: user(alloc)?,
-        description: description(alloc, name)?,
+/// It requests the key of this name, without a callout; `None` for bytes that are no name.
+pub fn find(name: &[u8]) -> Option<AskStep<'_>> {
+    Some(AskStep::Request {
+        typ: TypeView::new(b"user").ok()?,
+        description: DescriptionView::new(name).ok()?,
         callout: None,
         destination: 0,
     })

@@ -10,8 +10,8 @@
 //! # How it is built
 //!
 //! `record` (a hall, its turns and volumes), `halls` (four halls and their seats), `threads` (threads that share four halls), `children` (handlers) and
-//! `sessions` (whole connections), both over the devices of `fakes`, `programs` (handlers that are really started). `asks` and `answers` have what is asked
-//! and answered there; `same` compares a value with the one that was worked out.
+//! `sessions` (whole connections), both over the devices of `fakes`, `programs` (handlers that are really started), `texts` (what faults print). `asks` and
+//! `answers` have what is asked and answered there; `same` compares a value with the one that was worked out.
 #![tactic(auto)]
 
 #[cfg(test)]
@@ -32,5 +32,7 @@ mod record;
 mod same;
 #[cfg(test)]
 mod sessions;
+#[cfg(test)]
+mod texts;
 #[cfg(test)]
 mod threads;

@@ -1,21 +1,21 @@
 -- An ask can be told from its message.
-use Rattle.std.proofs.Common.{◌≡◌, ℕ, ℤ, zero, suc, true, false, Bool, List, [], ◌∷◌, Option, Some, None, Result, Ok, Err, refl, sym, ap, ◌∙◌, arith}
-use Rattle.std.specs.Prelude.{◌||◌, ◌==◌, pos, unwrap_or, IfOk, MatchResult, if◌then◌else◌}
+use Rattle.std.proofs.Common.{◌≡◌, ℕ, ℤ, zero, suc, true, false, Bool, List, [], ◌∷◌, Option, Some, None, Result, Ok, Err, refl, sym, ap, subst, ◌∙◌, arith}
+use Rattle.std.specs.Prelude.{◌||◌, ◌==◌, pos, unwrap_or, IfOk, if◌then◌else◌}
 use Rattle.rk_names.specs.declared.errors.KeyError.{KeyError}
 use Rattle.rk_names.specs.declared.errors.KeyError.TheVariants as error
 use Rattle.rk_names.specs.Numbers.{key_error_named}
-use Rattle.rk_message.specs.declared.ask.Ask.{Ask}
-use Rattle.rk_message.specs.declared.ask.Ask.TheVariants as ask
+use Rattle.rk_message.specs.Ask.{Ask}
+use Rattle.rk_message.specs.declared.ask.AskOf.TheVariants as ask
 use Rattle.rk_message.specs.declared.greeting.Greeting.{Greeting}
-use Rattle.rk_message.specs.declared.fault.ReadError.{ReadError}
-use Rattle.rk_message.specs.declared.fault.ReadError.TheVariants.{NoMemory}
+use Rattle.rk_message.specs.declared.fault.Fault.{Fault}
 use Rattle.rk_message.specs.Wire.{Value, U8, U32, I32, Blob, Maybe, Message, spelling}
 use Rattle.rk_message.specs.Table.{asks}
 use Rattle.rk_message.specs.Reading.{message_at}
-use Rattle.rk_message.specs.Asks.{ask_message, JoinsASerial, IsAsk, GivesAsk}
+use Rattle.rk_message.specs.Asks.{ask_message, JoinsASerial, IsAsk, ReadsAsk}
+use Rattle.rk_message.specs.Leftmost.{IsFaultOf}
 use Rattle.rk_message.proofs.Numbers.{IsBytes}
-use Rattle.rk_message.proofs.Messages.{message_again}
-use Rattle.rk_message.proofs.Readers.{is_found, is_only}
+use Rattle.rk_message.proofs.Messages.{message_takes, message_again}
+use Rattle.rk_message.proofs.Faults.{fault_of_body}
 
 -- the field at a place, whatever stands there where there is none
 abbrev pub at : List Value → ℕ → Value
@@ -112,15 +112,23 @@ pub same_ask : (a b : Ask) → JoinsASerial a → JoinsASerial b → ask_message
 same_ask a b here there e = sym (ask_of-message a here) ∙ ap ask_of e ∙ ask_of-message b there
 
 -- what was read is an ask, spelled by the body
-pub ask_is_found : (body : List ℕ) (r : Result Ask ReadError) → IsBytes body → GivesAsk r (message_at asks body) → IfOk r (λ a. IsAsk a × (body ≡ spelling (ask_message a)))
-ask_is_found body (Ok a) fits given = let t = is_found ask_message asks body (Ok a) fits given.0 in ((t.0, given.1), t.1)
-ask_is_found body (Err e) fits given = tt
+pub ask_is_found : (body : List ℕ) (r : Result Ask Fault) → IsBytes body → ReadsAsk r (message_at asks body) → IfOk r (λ a. IsAsk a × (body ≡ spelling (ask_message a)))
+ask_is_found body (Ok a) fits given = let t = message_takes asks body (ask_message a) fits given.0 in ((t.1, given.1), t.0)
+ask_is_found body (Err f) fits given = tt
 
--- an ask that the body spells is what was read, unless memory ran out
-pub ask_is_only : (body : List ℕ) (r : Result Ask ReadError) (a : Ask) → IsAsk a → body ≡ spelling (ask_message a) → GivesAsk r (message_at asks body)
-    → MatchResult r (λ b. b ≡ a) (λ e. e ≡ NoMemory)
-ask_is_only body (Ok b) a is e given = same_ask b a given.1 is.1 (is_only ask_message asks body (Ok b) (ask_message a) is.0 e given.0)
-ask_is_only body (Err f) a is e given = is_only ask_message asks body (Err f) (ask_message a) is.0 e given.0
+-- an ask that the body spells is what was read
+pub ask_is_only : (body : List ℕ) (r : Result Ask Fault) (a : Ask) → IsAsk a → body ≡ spelling (ask_message a) → ReadsAsk r (message_at asks body) → r ≡ Ok a
+ask_is_only body (Ok b) a is e given =
+    let reads = ap (message_at asks) e ∙ message_again asks (ask_message a) is.0 in
+    let same : ask_message b ≡ ask_message a = cc in
+    ap Ok (same_ask b a given.1 is.1 same)
+ask_is_only body (Err f) a is e given = let reads = ap (message_at asks) e ∙ message_again asks (ask_message a) is.0 in absurd cc
+
+-- the refusal is for the leftmost fault
+pub ask_is_leftmost : (body : List ℕ) (r : Result Ask Fault) → IsBytes body → ReadsAsk r (message_at asks body) → (f : Fault) → r ≡ Err f → IsFaultOf asks body f
+ask_is_leftmost body (Ok a) fits given f e = absurd cc
+ask_is_leftmost body (Err g) fits given f e =
+    let same : g ≡ f = cc in subst (λ x. IsFaultOf asks body x) same (fault_of_body asks body g fits given.0)
 
 -- asks with the same spelling are the same ask
 pub asks_are_told : (a b : Ask) → IsAsk a → IsAsk b → spelling (ask_message a) ≡ spelling (ask_message b) → a ≡ b

@@ -6,8 +6,8 @@ use Rattle.std.proofs.lemmas.Bool.{ltb-false}
 use Rattle.std.proofs.lemmas.List.Concat.{flat_map-cons}
 use Rattle.rk_names.specs.declared.errors.NameFault.{NameFault}
 use Rattle.rk_names.specs.Rules.{type_fault, description_fault, callout_fault, payload_fault}
-use Rattle.rk_message.specs.declared.ask.Ask.{Ask}
-use Rattle.rk_message.specs.declared.ask.Ask.TheVariants as ask
+use Rattle.rk_message.specs.Ask.{Ask}
+use Rattle.rk_message.specs.declared.ask.AskOf.TheVariants as ask
 use Rattle.rk_message.specs.declared.reply.Reply.{Reply}
 use Rattle.rk_message.specs.declared.reply.Reply.TheVariants as reply
 use Rattle.rk_message.specs.Wire.{Value, U8, U32, I32, Blob, Maybe, spelled, spelling}

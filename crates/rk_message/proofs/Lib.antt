@@ -10,6 +10,5 @@ pub mod Whole
 pub mod Lengths
 pub mod Kept
 pub mod Lines
-pub mod Slotted
 pub mod Tells
 pub mod Equal

@@ -2,15 +2,15 @@
 use Rattle.std.specs.Prelude.{ℕ, List, [], ◌∷◌, ◌+◌, ◌≤◌, Bool, Option, Some, None, Result, IfOk, IfSome, if◌then◌else◌}
 use Rattle.rk_names.specs.declared.errors.KeyError.{KeyError}
 use Rattle.rk_names.specs.Numbers.{errno_number, key_errno}
-use Rattle.rk_message.specs.declared.ask.Ask.{Ask}
-use Rattle.rk_message.specs.declared.ask.Ask.TheVariants as ask
+use Rattle.rk_message.specs.declared.ask.AskOf.{AskOf}
+use Rattle.rk_message.specs.Ask.{Ask}
+use Rattle.rk_message.specs.declared.ask.AskOf.TheVariants as ask
 use Rattle.rk_message.specs.declared.shape.Op.{Op}
 use Rattle.rk_message.specs.declared.shape.Op.TheVariants as op
 use Rattle.rk_message.specs.declared.fault.Fault.{Fault}
-use Rattle.rk_message.specs.declared.fault.ReadError.{ReadError}
 use Rattle.rk_message.specs.Wire.{Value, U8, U32, I32, Blob, Maybe, Message, IsMessage}
 use Rattle.rk_message.specs.Table.{asks, ask_line, op_byte}
-use Rattle.rk_message.specs.Reading.{Gives}
+use Rattle.rk_message.specs.Reading.{Reads}
 
 -- bit 0: a thread ring, bit 1: a process ring
 abbrev pub flag_bits : Bool → Bool → ℕ
@@ -45,7 +45,7 @@ ask_values (ask.Add typ description payload ring) = Blob typ ∷ Blob descriptio
 ask_values ask.Callout = []
 
 -- what an ask asks
-abbrev pub ask_op : Ask → Op
+abbrev pub ask_op : {T D C P : Type 0} → AskOf T D C P → Op
 ask_op (ask.Hello _) = op.Hello
 ask_op (ask.Request _ _ _ _) = op.Request
 ask_op (ask.Assume _) = op.Assume
@@ -64,7 +64,7 @@ ask_op (ask.Add _ _ _ _) = op.Add
 ask_op ask.Callout = op.Callout
 
 -- the name of an ask in the table
-abbrev pub ask_name : Ask → List ℕ
+abbrev pub ask_name : {T D C P : Type 0} → AskOf T D C P → List ℕ
 ask_name a = (ask_line (ask_op a)).1
 
 -- the message that an ask is
@@ -80,6 +80,6 @@ JoinsASerial _ = Unit {0}
 abbrev pub IsAsk : Ask → Type 0
 IsAsk a = IsMessage asks (ask_message a) × JoinsASerial a
 
--- the ask that was returned is what reading gives, or memory ran out
-abbrev pub GivesAsk : Result Ask ReadError → Result Message Fault → Type 0
-GivesAsk r read = Gives ask_message r read × IfOk r JoinsASerial
+-- the ask that was returned is what reading gives
+abbrev pub ReadsAsk : Result Ask Fault → Result Message Fault → Type 0
+ReadsAsk r read = Reads ask_message r read × IfOk r JoinsASerial

@@ -1,7 +1,7 @@
 -- What the body of a frame says, where it is to be an ask.
 use Rattle.std.specs.Prelude.{◌≡◌, ℕ, List}
 use Rattle.rk_names.specs.declared.errors.Errno.{Errno}
-use Rattle.rk_message.specs.declared.ask.Ask.{Ask}
+use Rattle.rk_message.specs.Ask.{Ask}
 use Rattle.rk_message.specs.declared.fault.Fault.{Fault}
 use Rattle.rk_message.specs.Wire.{spelling}
 use Rattle.rk_message.specs.Table.{asks}

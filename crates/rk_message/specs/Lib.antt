@@ -3,8 +3,8 @@ pub mod Table
 pub mod Reading
 pub mod Leftmost
 pub mod Faults
+pub mod Ask
 pub mod Asks
-pub mod Slots
 pub mod Replies
 pub mod Spellings
 pub mod Laws

@@ -4,13 +4,25 @@ ghost use Rattle.std.specs.Prelude.{◌≡◌};
 
 use crate::greeting::Greeting;
 use crate::shape::Op;
-use rk_names::{Callout, Description, KeyError, Payload, TypeName};
+use rk_names::{
+    Callout, CalloutView, Description, DescriptionView, KeyError, Payload, PayloadView, TypeName,
+    TypeView,
+};
 
-/// What a session asks. Rings and keys are numbers as on the wire: positive ones are serials, others
+/// What a session asks, with names and a payload of its own.
+pub type Ask = AskOf<TypeName, Description, Callout, Payload>;
+
+/// What a session asks, still borrowed from the bytes that say it. It takes no memory.
+pub type AskView<'a> = AskOf<TypeView<'a>, DescriptionView<'a>, CalloutView<'a>, PayloadView<'a>>;
+
+/// What a session asks, with borrowed names and a payload of its own: what a step takes, where the payload becomes a key's.
+pub type AskStep<'a> = AskOf<TypeView<'a>, DescriptionView<'a>, CalloutView<'a>, Payload>;
+
+/// What a session asks, with a type `T`, a description `D`, a callout `C` and a payload `P`. Rings and keys are numbers as on the wire: positive ones are serials, others
 /// name a ring or a key by its role, as -3 the session ring (keyctl(2), "Special key IDs"). What a
 /// number means, and whether it is refused, is for whoever carries the ask out.
 #[derive(Debug, Drop, PartialEq, Eq)]
-pub enum Ask {
+pub enum AskOf<T, D, C, P> {
     /// Makes the session's context: who asks, which of its own rings it has, and the session ring
     /// that it joins (keyctl_join_session_keyring(3)).
     Hello(Greeting),
@@ -18,9 +30,9 @@ pub enum Ask {
     /// destination. For 0 a key that is found is linked nowhere, and one that is made into the
     /// session's default ring (request_key(2)).
     Request {
-        typ: TypeName,
-        description: Description,
-        callout: Option<Callout>,
+        typ: T,
+        description: D,
+        callout: Option<C>,
         destination: i32,
     },
     /// Takes on the authority to make a key; 0 lays it down (keyctl_assume_authority(3)).
@@ -30,7 +42,7 @@ pub enum Ask {
     /// Gives the key its payload and links it; 0 links it nowhere (keyctl_instantiate(3)).
     Instantiate {
         key: i32,
-        payload: Payload,
+        payload: P,
         ring: i32,
     },
     /// Makes the key negative for so many seconds, with ENOKEY (keyctl_negate(3)).
@@ -84,16 +96,16 @@ pub enum Ask {
     },
     /// Makes a key with its payload and links it (add_key(2)).
     Add {
-        typ: TypeName,
-        description: Description,
-        payload: Payload,
+        typ: T,
+        description: D,
+        payload: P,
         ring: i32,
     },
     /// What the requester told the handler whose authority is assumed (request_key(2), `callout_info`).
     Callout,
 }
 
-impl Ask {
+impl<T, D, C, P> AskOf<T, D, C, P> {
     ghost use Rattle.rk_message.specs.Asks.{ask_op, ask_name};
 
     /// Which line of the table it is.
@@ -101,22 +113,22 @@ impl Ask {
         ensures { result ≡ ask_op self.now }
     {
         match self {
-            Ask::Hello(_) => Op::Hello,
-            Ask::Request { .. } => Op::Request,
-            Ask::Assume { .. } => Op::Assume,
-            Ask::Instantiate { .. } => Op::Instantiate,
-            Ask::Negate { .. } => Op::Negate,
-            Ask::Reject { .. } => Op::Reject,
-            Ask::Read { .. } => Op::Read,
-            Ask::Describe { .. } => Op::Describe,
-            Ask::Revoke { .. } => Op::Revoke,
-            Ask::Timeout { .. } => Op::Timeout,
-            Ask::Link { .. } => Op::Link,
-            Ask::Unlink { .. } => Op::Unlink,
-            Ask::Clear { .. } => Op::Clear,
-            Ask::Default { .. } => Op::Default,
-            Ask::Add { .. } => Op::Add,
-            Ask::Callout => Op::Callout,
+            AskOf::Hello(_) => Op::Hello,
+            AskOf::Request { .. } => Op::Request,
+            AskOf::Assume { .. } => Op::Assume,
+            AskOf::Instantiate { .. } => Op::Instantiate,
+            AskOf::Negate { .. } => Op::Negate,
+            AskOf::Reject { .. } => Op::Reject,
+            AskOf::Read { .. } => Op::Read,
+            AskOf::Describe { .. } => Op::Describe,
+            AskOf::Revoke { .. } => Op::Revoke,
+            AskOf::Timeout { .. } => Op::Timeout,
+            AskOf::Link { .. } => Op::Link,
+            AskOf::Unlink { .. } => Op::Unlink,
+            AskOf::Clear { .. } => Op::Clear,
+            AskOf::Default { .. } => Op::Default,
+            AskOf::Add { .. } => Op::Add,
+            AskOf::Callout => Op::Callout,
         }
     }
 

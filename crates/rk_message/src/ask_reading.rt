@@ -1,20 +1,20 @@
-//! Asks out of bodies.
+//! Asks out of bodies: borrowed, and with names and a payload of their own.
 
-ghost use Rattle.std.specs.Prelude.{◌≡◌, [], ◌∷◌, true, map, IfOk, MatchResult, Err};
-ghost use Rattle.rk_message.specs.Wire.{spelling};
-ghost use Rattle.rk_message.specs.Table.{asks, form, ask_fields};
-ghost use Rattle.rk_message.specs.Reading.{Reads, Gives, value_at, values_at, all_values, message_behind, message_at};
-ghost use Rattle.rk_message.specs.Asks.{IsAsk, GivesAsk, ask_message};
+ghost use Rattle.std.specs.Prelude.{◌≡◌, [], ◌∷◌, IfOk, MatchResult, Ok, Err};
+ghost use Rattle.rk_message.specs.Wire.{I32, Signed, spelling};
+ghost use Rattle.rk_message.specs.Table.{asks};
+ghost use Rattle.rk_message.specs.Reading.{Reads, Gives, all_values, message_behind, message_at};
+ghost use Rattle.rk_message.specs.Asks.{IsAsk, ReadsAsk, ask_message};
 ghost use Rattle.rk_message.specs.Leftmost.{IsFaultOf};
-ghost use Rattle.rk_message.specs.declared.ask.Ask.{Ask as Asks};
+ghost use Rattle.rk_message.specs.Ask.{Ask as Asks};
 ghost use Rattle.rk_message.specs.declared.fault.Fault.{Fault as Faults};
 ghost use Rattle.rk_message.specs.declared.fault.ReadError.TheVariants.{NoMemory, Fault as the_fault};
 
-use crate::ask::Ask;
+use crate::ask::{Ask, AskStep, AskView};
 use crate::fault::{Fault, ReadError};
 use crate::field;
-use crate::shape::{FieldKind, Op};
-use crate::slots::Slots;
+use crate::greeting::Greeting;
+use rk_names::Serial;
 use std::alloc::Global;
 
 impl Ask {
@@ -30,78 +30,215 @@ impl Ask {
         // Which ask or fault it is; memory runs out only for what has a reading.
         ensures exact { Gives ask_message result (message_at asks body.now) }
     {
-        read_body(alloc, body)
+        Ok(AskView::read(body)?.to_owned(alloc)?)
+    }
+}
+
+impl<'a> AskStep<'a> {
+    /// The same, with its names borrowed from the body and a payload of its own: what a step takes.
+    pub fn read(alloc: Global, body: &'a [u8]) -> Result<AskStep<'a>, ReadError>
+        // What is read is spelled by the body.
+        ensures found { IfOk result (λ a. IsAsk a × (body.now ≡ spelling (ask_message a))) }
+        // An ask that the body spells is read, unless memory runs out.
+        ensures only { (a : Asks) → IsAsk a → body.now ≡ spelling (ask_message a) → MatchResult result (λ b. b ≡ a) (λ e. e ≡ NoMemory) }
+        // A body that has no reading is refused for its leftmost fault.
+        ensures leftmost { (f : Faults) → result ≡ Err (the_fault f) → IsFaultOf asks body.now f }
+        // Which ask or fault it is; memory runs out only for what has a reading.
+        ensures exact { Gives ask_message result (message_at asks body.now) }
+    {
+        Ok(AskView::read(body)?.to_step(alloc)?)
+    }
+}
+
+impl<'a> AskView<'a> {
+    /// The ask that all of the body spells, borrowed from it. An `Err` is the leftmost fault of a body that spells none.
+    pub fn read(body: &'a [u8]) -> Result<AskView<'a>, Fault>
+        // What is read is spelled by the body.
+        ensures found { IfOk result (λ a. IsAsk a × (body.now ≡ spelling (ask_message a))) }
+        // An ask that the body spells is read.
+        ensures only { (a : Asks) → IsAsk a → body.now ≡ spelling (ask_message a) → result ≡ Ok a }
+        // A body that has no reading is refused for its leftmost fault.
+        ensures leftmost { (f : Faults) → result ≡ Err f → IsFaultOf asks body.now f }
+        // Which ask or fault it is.
+        ensures exact { Reads ask_message result (message_at asks body.now) }
+    {
+        read_body(body)
     }
 }
 
 #[tactic(auto, unfolding(crate::specs::Reading::message_at))]
-fn read_body(alloc: Global, body: &[u8]) -> Result<Ask, ReadError>
-    ensures { GivesAsk result (message_at asks body.now) }
+fn read_body(body: &[u8]) -> Result<AskView<'_>, Fault>
+    ensures { ReadsAsk result (message_at asks body.now) }
 {
     match body {
-        [] => Err(ReadError::Fault(Fault::Short)),
-        [op, rest @ ..] => read_behind(alloc, *op, rest),
+        [] => Err(Fault::Short),
+        [op, rest @ ..] => read_behind(*op, rest),
     }
 }
 
 /// The ask of the op that has this byte, where there is one.
-fn read_behind(alloc: Global, byte: u8, rest: &[u8]) -> Result<Ask, ReadError>
-    ensures { GivesAsk result (message_behind asks byte rest.now) }
+#[tactic(auto, unfolding(crate::specs::Reading::message_behind))]
+fn read_behind(op: u8, rest: &[u8]) -> Result<AskView<'_>, Fault>
+    ensures { ReadsAsk result (message_behind asks op rest.now) }
 {
-    let op = Op::from_byte(byte).ok_or(Fault::UnknownOp)?;
-    Slots::read(op, rest)?.ask(alloc, op)
+    match op {
+        1 => hello(rest),
+        2 => request(rest),
+        3 => Ok(AskView::Assume { key: one(rest)? }),
+        4 => instantiate(rest),
+        5 => negate(rest),
+        6 => reject(rest),
+        7 => Ok(AskView::Read { key: one(rest)? }),
+        8 => Ok(AskView::Describe { key: one(rest)? }),
+        9 => Ok(AskView::Revoke { key: one(rest)? }),
+        10 => timeout(rest),
+        11 => {
+            let (key, ring) = two(rest)?;
+            Ok(AskView::Link { key, ring })
+        }
+        12 => {
+            let (key, ring) = two(rest)?;
+            Ok(AskView::Unlink { key, ring })
+        }
+        13 => Ok(AskView::Clear { ring: one(rest)? }),
+        14 => Ok(AskView::Default {
+            setting: one(rest)?,
+        }),
+        15 => add(rest),
+        16 => {
+            none(rest)?;
+            Ok(AskView::Callout)
+        }
+        _ => Err(Fault::UnknownOp),
+    }
 }
 
-impl<'a> Slots<'a> {
-    ghost use Rattle.rk_message.specs.Slots.{slot, are_apart, KeepsOthers, slots_of};
+/// Nothing.
+#[tactic(auto, unfolding(crate::specs::Reading::all_values, crate::specs::Reading::values_at))]
+fn none(bytes: &[u8]) -> Result<(), Fault>
+    ensures { Reads (λ _. []) result (all_values [] bytes.now) }
+{
+    field::end(bytes)
+}
 
-    /// The fields of an ask of this op, all that the bytes spell, or their leftmost fault.
-    pub fn read(op: Op, bytes: &'a [u8]) -> Result<Slots<'a>, Fault>
-        ensures { Reads (λ slots. slots_of slots op) result (all_values (map form (ask_fields op)) bytes.now) }
-    {
-        let mut slots = Slots::empty();
-        let rest = slots.take_all(op.shape().fields, bytes)?;
-        field::end(rest)?;
-        Ok(slots)
-    }
+/// A number, and nothing else.
+#[tactic(auto, unfolding(crate::specs::Reading::all_values, crate::specs::Reading::values_at))]
+fn one(bytes: &[u8]) -> Result<i32, Fault>
+    ensures { Reads (λ z. I32 z ∷ []) result (all_values (Signed ∷ []) bytes.now) }
+{
+    let (number, rest) = field::signed(bytes)?;
+    field::end(rest)?;
+    Ok(number)
+}
 
-    /// Takes fields of the kinds from the front of the bytes, each into its slot, and leaves the bytes behind them.
-    #[tactic(auto, unfolding(crate::specs::Reading::values_at))]
-    fn take_all(&mut self, kinds: &[FieldKind], bytes: &'a [u8]) -> Result<&'a [u8], Fault>
-        requires { are_apart kinds.now ≡ true }
-        ensures values { Reads (λ rest. (map (slot self.new) kinds.now, rest.now)) result (values_at (map form kinds.now) bytes.now) }
-        ensures kept { IfOk result (λ _. KeepsOthers self.old self.new kinds.now) }
-    {
-        match kinds {
-            [] => Ok(bytes),
-            [kind, others @ ..] => {
-                let rest = self.take(*kind, bytes)?;
-                self.take_all(others, rest)
-            }
-        }
-    }
+/// Two numbers, and nothing else.
+#[tactic(auto, unfolding(crate::specs::Reading::all_values, crate::specs::Reading::values_at))]
+fn two(bytes: &[u8]) -> Result<(i32, i32), Fault>
+    ensures { Reads (λ x. I32 x.0 ∷ I32 x.1 ∷ []) result (all_values (Signed ∷ Signed ∷ []) bytes.now) }
+{
+    let (first, rest) = field::signed(bytes)?;
+    let (second, rest) = field::signed(rest)?;
+    field::end(rest)?;
+    Ok((first, second))
+}
 
-    /// Takes one field of the kind.
-    fn take(&mut self, kind: FieldKind, bytes: &'a [u8]) -> Result<&'a [u8], Fault>
-        ensures value { Reads (λ rest. (slot self.new kind, rest.now)) result (value_at (form kind) bytes.now) }
-        ensures kept { IfOk result (λ _. KeepsOthers self.old self.new (kind ∷ [])) }
-    {
-        let rest;
-        match kind {
-            FieldKind::Uid => (self.uid, rest) = field::word(bytes)?,
-            FieldKind::Gid => (self.gid, rest) = field::word(bytes)?,
-            FieldKind::Flags => (self.thread, self.process, rest) = field::own_rings(bytes)?,
-            FieldKind::Join => (self.join, rest) = field::join(bytes)?,
-            FieldKind::Type => (self.typ, rest) = field::type_name(bytes)?,
-            FieldKind::Description => (self.description, rest) = field::description(bytes)?,
-            FieldKind::Callout => (self.callout, rest) = field::callout(bytes)?,
-            FieldKind::Key => (self.key, rest) = field::signed(bytes)?,
-            FieldKind::Payload => (self.payload, rest) = field::payload(bytes)?,
-            FieldKind::Ring => (self.ring, rest) = field::signed(bytes)?,
-            FieldKind::Seconds => (self.seconds, rest) = field::word(bytes)?,
-            FieldKind::Error => (self.error, rest) = field::key_error(bytes)?,
-            FieldKind::Setting => (self.setting, rest) = field::signed(bytes)?,
-        }
-        Ok(rest)
-    }
+#[tactic(auto, unfolding(crate::specs::Reading::message_behind, crate::specs::Reading::all_values, crate::specs::Reading::values_at))]
+fn hello(bytes: &[u8]) -> Result<AskView<'_>, Fault>
+    ensures { ReadsAsk result (message_behind asks 1 bytes.now) }
+{
+    let (uid, rest) = field::word(bytes)?;
+    let (gid, rest) = field::word(rest)?;
+    let (thread, process, rest) = field::own_rings(rest)?;
+    let (join, rest) = field::join(rest)?;
+    field::end(rest)?;
+    Ok(AskView::Hello(Greeting {
+        uid,
+        gid,
+        thread,
+        process,
+        join: Serial::new(join),
+    }))
+}
+
+#[tactic(auto, unfolding(crate::specs::Reading::message_behind, crate::specs::Reading::all_values, crate::specs::Reading::values_at))]
+fn request(bytes: &[u8]) -> Result<AskView<'_>, Fault>
+    ensures { ReadsAsk result (message_behind asks 2 bytes.now) }
+{
+    let (typ, rest) = field::type_name(bytes)?;
+    let (description, rest) = field::description(rest)?;
+    let (callout, rest) = field::callout(rest)?;
+    let (destination, rest) = field::signed(rest)?;
+    field::end(rest)?;
+    Ok(AskView::Request {
+        typ,
+        description,
+        callout,
+        destination,
+    })
+}
+
+#[tactic(auto, unfolding(crate::specs::Reading::message_behind, crate::specs::Reading::all_values, crate::specs::Reading::values_at))]
+fn instantiate(bytes: &[u8]) -> Result<AskView<'_>, Fault>
+    ensures { ReadsAsk result (message_behind asks 4 bytes.now) }
+{
+    let (key, rest) = field::signed(bytes)?;
+    let (payload, rest) = field::payload(rest)?;
+    let (ring, rest) = field::signed(rest)?;
+    field::end(rest)?;
+    Ok(AskView::Instantiate { key, payload, ring })
+}
+
+#[tactic(auto, unfolding(crate::specs::Reading::message_behind, crate::specs::Reading::all_values, crate::specs::Reading::values_at))]
+fn negate(bytes: &[u8]) -> Result<AskView<'_>, Fault>
+    ensures { ReadsAsk result (message_behind asks 5 bytes.now) }
+{
+    let (key, rest) = field::signed(bytes)?;
+    let (timeout, rest) = field::word(rest)?;
+    let (ring, rest) = field::signed(rest)?;
+    field::end(rest)?;
+    Ok(AskView::Negate { key, timeout, ring })
+}
+
+#[tactic(auto, unfolding(crate::specs::Reading::message_behind, crate::specs::Reading::all_values, crate::specs::Reading::values_at))]
+fn reject(bytes: &[u8]) -> Result<AskView<'_>, Fault>
+    ensures { ReadsAsk result (message_behind asks 6 bytes.now) }
+{
+    let (key, rest) = field::signed(bytes)?;
+    let (timeout, rest) = field::word(rest)?;
+    let (error, rest) = field::key_error(rest)?;
+    let (ring, rest) = field::signed(rest)?;
+    field::end(rest)?;
+    Ok(AskView::Reject {
+        key,
+        timeout,
+        error,
+        ring,
+    })
+}
+
+#[tactic(auto, unfolding(crate::specs::Reading::message_behind, crate::specs::Reading::all_values, crate::specs::Reading::values_at))]
+fn timeout(bytes: &[u8]) -> Result<AskView<'_>, Fault>
+    ensures { ReadsAsk result (message_behind asks 10 bytes.now) }
+{
+    let (key, rest) = field::signed(bytes)?;
+    let (seconds, rest) = field::word(rest)?;
+    field::end(rest)?;
+    Ok(AskView::Timeout { key, seconds })
+}
+
+#[tactic(auto, unfolding(crate::specs::Reading::message_behind, crate::specs::Reading::all_values, crate::specs::Reading::values_at))]
+fn add(bytes: &[u8]) -> Result<AskView<'_>, Fault>
+    ensures { ReadsAsk result (message_behind asks 15 bytes.now) }
+{
+    let (typ, rest) = field::type_name(bytes)?;
+    let (description, rest) = field::description(rest)?;
+    let (payload, rest) = field::payload(rest)?;
+    let (ring, rest) = field::signed(rest)?;
+    field::end(rest)?;
+    Ok(AskView::Add {
+        typ,
+        description,
+        payload,
+        ring,
+    })
 }

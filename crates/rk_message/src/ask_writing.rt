@@ -1,15 +1,15 @@
 //! Asks as bodies.
 
-ghost use Rattle.std.specs.Prelude.{◌≡◌, ◌+◌, ◌-◌, ◌≤◌, ◌++◌, length, vec_len, vec_capacity, IfOk, OnOk, OnErr, IsOk};
-ghost use Rattle.rk_message.specs.Wire.{IsValue, spelled, spelling};
-ghost use Rattle.rk_message.specs.Table.{form};
-ghost use Rattle.rk_message.specs.Asks.{IsAsk, ask_message};
+ghost use Rattle.std.specs.Prelude.{◌≡◌, ◌+◌, ◌≤◌, ◌++◌, length, vec_len, vec_capacity, IfOk, IfSome, OnOk, OnErr, IsOk};
+ghost use Rattle.rk_message.specs.Wire.{U8, U32, I32, Blob, Maybe, Signed, IsValue, spelled, spelling};
+ghost use Rattle.rk_message.specs.Table.{any, flags, join as join_kind, type_name as type_kind, description as description_kind};
+ghost use Rattle.rk_message.specs.Table.{payload as payload_kind, callout as callout_kind, error as error_kind};
+ghost use Rattle.rk_message.specs.Asks.{IsAsk, ask_message, flag_bits, join_number, error_number};
 ghost use Rattle.rk_message.specs.Spellings.{all_bytes, field_bytes, AreTold, IsTold};
 
-use crate::ask::Ask;
-use crate::shape::FieldKind;
-use crate::slots::Slots;
+use crate::ask::{Ask, AskView};
 use crate::spelling::{self, Field, Spelling};
+use rk_names::{CalloutView, DescriptionView, KeyError, PayloadView, Serial, TypeView};
 use std::alloc::{AllocError, Global};
 
 impl Ask {
@@ -18,7 +18,7 @@ impl Ask {
         ensures len { result ≡ length (spelling (ask_message self.now)) }
         ensures fits { (1 ≤ result) × (result ≤ 65536) }
     {
-        spelling::len(self.spelled())
+        spelling::len(self.view().spelled())
     }
 
     /// The one spelling of the ask. Only want of memory refuses it.
@@ -40,69 +40,173 @@ impl Ask {
         ensures succeeds { vec_len out.old + length (spelling (ask_message self.now)) ≤ vec_capacity out.old → IsOk result }
         ensures ask { IsAsk self.now }
     {
-        let message = self.spelled();
+        let message = self.view().spelled();
         out.reserve(spelling::len(message))?;
         spelling::put(out, message);
         Ok(())
     }
+}
 
-    /// The line of the table, with this ask's fields.
-    fn spelled(&self) -> Spelling<'_>
+impl<'a> AskView<'a> {
+    /// The op byte and the fields behind it.
+    fn spelled(&self) -> Spelling<'a>
         ensures bytes { all_bytes result ≡ spelling (ask_message self.now) }
         ensures told { AreTold result }
         ensures ask { IsAsk self.now }
     {
-        let op = self.op();
-        let slots = Slots::of(self);
-        let (first, kinds) = slots.next(op.shape().fields);
-        let (second, kinds) = slots.next(kinds);
-        let (third, kinds) = slots.next(kinds);
-        let (fourth, _) = slots.next(kinds);
+        let none = Field::Absent;
+        let fields = match self {
+            AskView::Hello(greeting) => (
+                word(greeting.uid),
+                word(greeting.gid),
+                own_rings(greeting.thread, greeting.process),
+                joined(greeting.join),
+            ),
+            AskView::Request {
+                typ,
+                description,
+                callout,
+                destination,
+            } => (
+                typed(typ),
+                described(description),
+                called_out(callout),
+                signed(*destination),
+            ),
+            AskView::Instantiate { key, payload, ring } => (
+                signed(*key),
+                held(payload),
+                signed(*ring),
+                none,
+            ),
+            AskView::Negate { key, timeout, ring } => (
+                signed(*key),
+                word(*timeout),
+                signed(*ring),
+                none,
+            ),
+            AskView::Reject {
+                key,
+                timeout,
+                error,
+                ring,
+            } => (signed(*key), word(*timeout), failed(*error), signed(*ring)),
+            AskView::Assume { key }
+            | AskView::Read { key }
+            | AskView::Describe { key }
+            | AskView::Revoke { key }
+            | AskView::Clear { ring: key }
+            | AskView::Default { setting: key } => (signed(*key), none, none, none),
+            AskView::Timeout { key, seconds } => { (signed(*key), word(*seconds), none, none) }
+            AskView::Link { key, ring } | AskView::Unlink { key, ring } => {
+                (signed(*key), signed(*ring), none, none)
+            }
+            AskView::Add {
+                typ,
+                description,
+                payload,
+                ring,
+            } => (
+                typed(typ),
+                described(description),
+                held(payload),
+                signed(*ring),
+            ),
+            AskView::Callout => (none, none, none, none),
+        };
         Spelling {
-            op: op.byte(),
-            fields: (first, second, third, fourth),
+            op: self.op().byte(),
+            fields,
         }
     }
 }
 
-impl<'a> Slots<'a> {
-    ghost use Rattle.rk_message.specs.Slots.{slot, AreKept, fields_bytes};
+/// A number without a rule.
+fn word<'a>(number: u32) -> Field<'a>
+    ensures bytes { field_bytes result ≡ spelled (U32 number) }
+    ensures told { IsTold result }
+    ensures kind { IsValue any (U32 number) }
+{
+    Field::Word(number)
+}
 
-    /// The field of the first of the kinds, and the kinds behind it; an absent one where there are none.
-    fn next<'k>(&self, kinds: &'k [FieldKind]) -> (Field<'a>, &'k [FieldKind])
-        requires { AreKept self.now kinds.now }
-        ensures bytes { fields_bytes self.now kinds.now ≡ field_bytes result.0 ++ fields_bytes self.now result.1.now }
-        ensures told { IsTold result.0 }
-        ensures kept { AreKept self.now result.1.now }
-        ensures fewer { length result.1.now ≡ length kinds.now - 1 }
-    {
-        match kinds {
-            [] => (Field::Absent, kinds),
-            [kind, others @ ..] => (self.field(*kind), others),
-        }
+/// A number with a sign.
+fn signed<'a>(number: i32) -> Field<'a>
+    ensures bytes { field_bytes result ≡ spelled (I32 number) }
+    ensures told { IsTold result }
+    ensures kind { IsValue Signed (I32 number) }
+{
+    Field::Signed(number)
+}
+
+/// Which own rings there are.
+#[tactic(auto, using(crate::proofs::Kept::flags_kept))]
+fn own_rings<'a>(thread: bool, process: bool) -> Field<'a>
+    ensures bytes { field_bytes result ≡ spelled (U8 (flag_bits thread process)) }
+    ensures told { IsTold result }
+    ensures kind { IsValue flags (U8 (flag_bits thread process)) }
+{
+    Field::Byte(u8::from(thread) + 2 * u8::from(process))
+}
+
+/// The number of a ring to join.
+fn joined<'a>(join: Option<Serial>) -> Field<'a>
+    ensures bytes { field_bytes result ≡ spelled (U32 (join_number join)) }
+    ensures told { IsTold result }
+    ensures kind { IsValue join_kind (U32 (join_number join)) }
+    ensures serial { IfSome join (λ n. 1 ≤ n) }
+{
+    match join {
+        None => Field::Word(0),
+        Some(serial) => Field::Word(serial.get()),
     }
+}
 
-    /// The field of the kind.
-    #[tactic(auto, unfolding(crate::specs::Wire::spelled))]
-    fn field(&self, kind: FieldKind) -> Field<'a>
-        requires { IsValue (form kind) (slot self.now kind) }
-        ensures bytes { field_bytes result ≡ spelled (slot self.now kind) }
-        ensures told { IsTold result }
-    {
-        match kind {
-            FieldKind::Uid => Field::Word(self.uid),
-            FieldKind::Gid => Field::Word(self.gid),
-            FieldKind::Flags => Field::Byte(u8::from(self.thread) + 2 * u8::from(self.process)),
-            FieldKind::Join => Field::Word(self.join),
-            FieldKind::Type => Field::Block(self.typ),
-            FieldKind::Description => Field::Block(self.description),
-            FieldKind::Callout => Field::Optional(self.callout),
-            FieldKind::Key => Field::Signed(self.key),
-            FieldKind::Payload => Field::Block(self.payload),
-            FieldKind::Ring => Field::Signed(self.ring),
-            FieldKind::Seconds => Field::Word(self.seconds),
-            FieldKind::Error => Field::Word(u32::from(self.error.errno().number())),
-            FieldKind::Setting => Field::Signed(self.setting),
-        }
+/// The number of an error.
+#[tactic(auto, using(crate::proofs::Kept::error_kept))]
+fn failed<'a>(error: KeyError) -> Field<'a>
+    ensures bytes { field_bytes result ≡ spelled (U32 (error_number error)) }
+    ensures told { IsTold result }
+    ensures kind { IsValue error_kind (U32 (error_number error)) }
+{
+    Field::Word(u32::from(error.errno().number()))
+}
+
+/// A type behind its length.
+fn typed<'a>(name: &TypeView<'a>) -> Field<'a>
+    ensures bytes { field_bytes result ≡ spelled (Blob name.now) }
+    ensures told { IsTold result }
+    ensures kind { IsValue type_kind (Blob name.now) }
+{
+    Field::Block(name.as_bytes())
+}
+
+/// A description behind its length.
+fn described<'a>(name: &DescriptionView<'a>) -> Field<'a>
+    ensures bytes { field_bytes result ≡ spelled (Blob name.now) }
+    ensures told { IsTold result }
+    ensures kind { IsValue description_kind (Blob name.now) }
+{
+    Field::Block(name.as_bytes())
+}
+
+/// A payload behind its length.
+fn held<'a>(payload: &PayloadView<'a>) -> Field<'a>
+    ensures bytes { field_bytes result ≡ spelled (Blob payload.now) }
+    ensures told { IsTold result }
+    ensures kind { IsValue payload_kind (Blob payload.now) }
+{
+    Field::Block(payload.as_bytes())
+}
+
+/// A callout, if there is one.
+fn called_out<'a>(callout: &Option<CalloutView<'a>>) -> Field<'a>
+    ensures bytes { field_bytes result ≡ spelled (Maybe callout.now) }
+    ensures told { IsTold result }
+    ensures kind { IsValue callout_kind (Maybe callout.now) }
+{
+    match callout {
+        None => Field::Optional(None),
+        Some(text) => Field::Optional(Some(text.as_bytes())),
     }
 }

@@ -1,66 +1,182 @@
-//! Copies of asks. Those that own memory are copied by a function each, which want of memory may refuse.
+//! Asks with names and a payload of their own, of asks that borrow them, and the other way round; and copies of asks.
 
 ghost use Rattle.std.specs.Prelude.{◌≡◌, IfOk};
+ghost use Rattle.rk_message.specs.declared.ask.AskOf.TheVariants.{Request as asks_request, Instantiate as asks_instantiate, Add as asks_add};
 
-use crate::ask::Ask;
-use rk_names::{Callout, Description, Payload, TypeName};
-use std::alloc::AllocError;
+use crate::ask::{Ask, AskOf, AskStep, AskView};
+use rk_names::{
+    Callout, CalloutView, Description, DescriptionView, Payload, PayloadView, TypeName, TypeView,
+};
+use std::alloc::{AllocError, Global};
+
+/// An ask as another instance of [`AskOf`]: by the given arms what has a name or a payload, and any other as it stands.
+macro_rules! converted {
+    ($ask:expr; $($arms:tt)*) => {
+        match $ask {
+            $($arms)*
+            AskOf::Hello(greeting) => AskOf::Hello(greeting),
+            AskOf::Assume { key } => AskOf::Assume { key },
+            AskOf::Negate { key, timeout, ring } => AskOf::Negate { key, timeout, ring },
+            AskOf::Reject { key, timeout, error, ring } => AskOf::Reject { key, timeout, error, ring },
+            AskOf::Read { key } => AskOf::Read { key },
+            AskOf::Describe { key } => AskOf::Describe { key },
+            AskOf::Revoke { key } => AskOf::Revoke { key },
+            AskOf::Timeout { key, seconds } => AskOf::Timeout { key, seconds },
+            AskOf::Link { key, ring } => AskOf::Link { key, ring },
+            AskOf::Unlink { key, ring } => AskOf::Unlink { key, ring },
+            AskOf::Clear { ring } => AskOf::Clear { ring },
+            AskOf::Default { setting } => AskOf::Default { setting },
+            AskOf::Callout => AskOf::Callout,
+        }
+    };
+}
+
+impl<'a> AskView<'a> {
+    /// The same ask with copies of its names and its payload. An `Err` is out of memory.
+    pub fn to_owned(&self, alloc: Global) -> Result<Ask, AllocError>
+        ensures { IfOk result (λ ask. ask ≡ self.now) }
+    {
+        Ok(converted! { *self;
+            AskOf::Request { ref typ, ref description, ref callout, destination } => {
+                owned_request(alloc, typ, description, callout, destination)?
+            }
+            AskOf::Instantiate { key, ref payload, ring } => {
+                AskOf::Instantiate { key, payload: payload.to_owned(alloc)?, ring }
+            }
+            AskOf::Add { ref typ, ref description, ref payload, ring } => {
+                owned_add(alloc, typ, description, payload, ring)?
+            }
+        })
+    }
+
+    /// The same ask with a copy of its payload alone. An `Err` is out of memory, and comes only of an ask that has a payload.
+    pub fn to_step(self, alloc: Global) -> Result<AskStep<'a>, AllocError>
+        ensures { IfOk result (λ ask. ask ≡ self.entry) }
+    {
+        Ok(converted! { self;
+            AskOf::Request { typ, description, callout, destination } => {
+                AskOf::Request { typ, description, callout, destination }
+            }
+            AskOf::Instantiate { key, payload, ring } => {
+                AskOf::Instantiate { key, payload: payload.to_owned(alloc)?, ring }
+            }
+            AskOf::Add { typ, description, payload, ring } => {
+                AskOf::Add { typ, description, payload: payload.to_owned(alloc)?, ring }
+            }
+        })
+    }
+}
+
+impl<'a> AskStep<'a> {
+    /// The same ask with copies of its names and its payload. An `Err` is out of memory.
+    pub fn to_owned(&self, alloc: Global) -> Result<Ask, AllocError>
+        ensures { IfOk result (λ ask. ask ≡ self.now) }
+    {
+        Ok(converted! { *self;
+            AskOf::Request { ref typ, ref description, ref callout, destination } => {
+                owned_request(alloc, typ, description, callout, destination)?
+            }
+            AskOf::Instantiate { key, ref payload, ring } => {
+                AskOf::Instantiate { key, payload: payload.clone()?, ring }
+            }
+            AskOf::Add { ref typ, ref description, ref payload, ring } => {
+                owned_add(alloc, typ, description, &payload.view(), ring)?
+            }
+        })
+    }
+}
+
+impl Ask {
+    /// The same ask, which borrows its names and its payload.
+    pub fn view(&self) -> AskView<'_>
+        ensures { result ≡ self.now }
+    {
+        converted! { *self;
+            AskOf::Request { ref typ, ref description, ref callout, destination } => {
+                request_view(typ, description, callout, destination)
+            }
+            AskOf::Instantiate { key, ref payload, ring } => {
+                AskOf::Instantiate { key, payload: payload.view(), ring }
+            }
+            AskOf::Add { ref typ, ref description, ref payload, ring } => AskOf::Add {
+                typ: typ.view(),
+                description: description.view(),
+                payload: payload.view(),
+                ring,
+            },
+        }
+    }
+}
 
 impl Clone for Ask {
     ghost is_clone = { λ ask copy. copy ≡ ask };
 
     fn clone(&self) -> Result<Ask, AllocError> {
-        match self {
-            Ask::Request {
-                typ,
-                description,
-                callout,
-                destination,
-            } => request(typ, description, callout, *destination),
-            Ask::Instantiate { key, payload, ring } => instantiate(*key, payload, *ring),
-            Ask::Add {
-                typ,
-                description,
-                payload,
-                ring,
-            } => add(typ, description, payload, *ring),
-            Ask::Hello(greeting) => Ok(Ask::Hello(*greeting)),
-            Ask::Assume { key } => Ok(Ask::Assume { key: *key }),
-            Ask::Negate { key, timeout, ring } => Ok(Ask::Negate {
-                key: *key,
-                timeout: *timeout,
-                ring: *ring,
-            }),
-            Ask::Reject {
-                key,
-                timeout,
-                error,
-                ring,
-            } => Ok(Ask::Reject {
-                key: *key,
-                timeout: *timeout,
-                error: *error,
-                ring: *ring,
-            }),
-            Ask::Read { key } => Ok(Ask::Read { key: *key }),
-            Ask::Describe { key } => Ok(Ask::Describe { key: *key }),
-            Ask::Revoke { key } => Ok(Ask::Revoke { key: *key }),
-            Ask::Timeout { key, seconds } => Ok(Ask::Timeout {
-                key: *key,
-                seconds: *seconds,
-            }),
-            Ask::Link { key, ring } => Ok(Ask::Link {
-                key: *key,
-                ring: *ring,
-            }),
-            Ask::Unlink { key, ring } => Ok(Ask::Unlink {
-                key: *key,
-                ring: *ring,
-            }),
-            Ask::Clear { ring } => Ok(Ask::Clear { ring: *ring }),
-            Ask::Default { setting } => Ok(Ask::Default { setting: *setting }),
-            Ask::Callout => Ok(Ask::Callout),
-        }
+        Ok(converted! { *self;
+            AskOf::Request { ref typ, ref description, ref callout, destination } => {
+                request(typ, description, callout, destination)?
+            }
+            AskOf::Instantiate { key, ref payload, ring } => instantiate(key, payload, ring)?,
+            AskOf::Add { ref typ, ref description, ref payload, ring } => {
+                add(typ, description, payload, ring)?
+            }
+        })
+    }
+}
+
+fn owned_request(
+    alloc: Global,
+    typ: &TypeView<'_>,
+    description: &DescriptionView<'_>,
+    callout: &Option<CalloutView<'_>>,
+    destination: i32,
+) -> Result<Ask, AllocError>
+    ensures { IfOk result (λ ask. ask ≡ asks_request typ.now description.now callout.now destination) }
+{
+    Ok(Ask::Request {
+        typ: typ.to_owned(),
+        description: description.to_owned(alloc)?,
+        callout: match callout {
+            Some(text) => Some(text.to_owned(alloc)?),
+            None => None,
+        },
+        destination,
+    })
+}
+
+fn owned_add(
+    alloc: Global,
+    typ: &TypeView<'_>,
+    description: &DescriptionView<'_>,
+    payload: &PayloadView<'_>,
+    ring: i32,
+) -> Result<Ask, AllocError>
+    ensures { IfOk result (λ ask. ask ≡ asks_add typ.now description.now payload.now ring) }
+{
+    Ok(Ask::Add {
+        typ: typ.to_owned(),
+        description: description.to_owned(alloc)?,
+        payload: payload.to_owned(alloc)?,
+        ring,
+    })
+}
+
+fn request_view<'a>(
+    typ: &'a TypeName,
+    description: &'a Description,
+    callout: &'a Option<Callout>,
+    destination: i32,
+) -> AskView<'a>
+    ensures { result ≡ asks_request typ.now description.now callout.now destination }
+{
+    AskOf::Request {
+        typ: typ.view(),
+        description: description.view(),
+        callout: match callout {
+            Some(text) => Some(text.view()),
+            None => None,
+        },
+        destination,
     }
 }
 
@@ -70,7 +186,7 @@ fn request(
     callout: &Option<Callout>,
     destination: i32,
 ) -> Result<Ask, AllocError>
-    ensures { IfOk result (λ copy. copy ≡ Ask.Request typ.now description.now callout.now destination) }
+    ensures { IfOk result (λ copy. copy ≡ asks_request typ.now description.now callout.now destination) }
 {
     Ok(Ask::Request {
         typ: typ.clone()?,
@@ -81,7 +197,7 @@ fn request(
 }
 
 fn instantiate(key: i32, payload: &Payload, ring: i32) -> Result<Ask, AllocError>
-    ensures { IfOk result (λ copy. copy ≡ Ask.Instantiate key payload.now ring) }
+    ensures { IfOk result (λ copy. copy ≡ asks_instantiate key payload.now ring) }
 {
     Ok(Ask::Instantiate {
         key,
@@ -96,7 +212,7 @@ fn add(
     payload: &Payload,
     ring: i32,
 ) -> Result<Ask, AllocError>
-    ensures { IfOk result (λ copy. copy ≡ Ask.Add typ.now description.now payload.now ring) }
+    ensures { IfOk result (λ copy. copy ≡ asks_add typ.now description.now payload.now ring) }
 {
     Ok(Ask::Add {
         typ: typ.clone()?,

@@ -1,6 +1,6 @@
 //! One field at the front of the bytes: its value and the bytes after it, or its fault.
 
-ghost use Rattle.std.specs.Prelude.{◌≡◌, ◌≤◌, ◌==◌, List, ℕ, length, Ok, Err, Some, None, option_copied, IfOk, if◌then◌else◌};
+ghost use Rattle.std.specs.Prelude.{◌≡◌, ◌≤◌, ◌==◌, List, ℕ, length, Ok, Err, Some, None, IfOk, if◌then◌else◌};
 ghost use Rattle.std.specs.Int.{w16, w32};
 ghost use Rattle.rk_names.specs.Numbers.{errno_number};
 ghost use Rattle.rk_message.specs.declared.fault.Fault.TheVariants.{Trailing as trailing};
@@ -12,7 +12,7 @@ ghost use Rattle.rk_message.specs.Asks.{flag_bits, error_number};
 use crate::fault::Fault;
 use crate::reply::ReplyBytes;
 use bytes::Buf;
-use rk_names::{Callout, Description, Errno, KeyError, Payload, TypeName};
+use rk_names::{CalloutView, DescriptionView, Errno, KeyError, PayloadView, TypeView};
 
 const INVALID: Fault = Fault::Bad(Errno::Einval);
 
@@ -118,56 +118,56 @@ pub fn key_error(bytes: &[u8]) -> Result<(KeyError, &[u8]), Fault>
 
 /// A type that keeps its rule, still borrowed.
 #[tactic(auto, unfolding(crate::specs::Reading::value_at, crate::specs::Reading::checked_at))]
-pub fn type_name(bytes: &[u8]) -> Result<(&[u8], &[u8]), Fault>
-    ensures { Reads (λ x. (Blob x.0.now, x.1.now)) result (value_at type_name bytes.now) }
+pub fn type_name(bytes: &[u8]) -> Result<(TypeView<'_>, &[u8]), Fault>
+    ensures { Reads (λ x. (Blob x.0, x.1.now)) result (value_at type_name bytes.now) }
 {
     let (name, rest) = block(bytes)?;
-    match TypeName::fault(name) {
-        Some(fault) => Err(Fault::Bad(fault.errno())),
-        None => Ok((name, rest)),
+    match TypeView::new(name) {
+        Ok(name) => Ok((name, rest)),
+        Err(fault) => Err(Fault::Bad(fault.errno())),
     }
 }
 
 /// A description that keeps its rule, still borrowed.
 #[tactic(auto, unfolding(crate::specs::Reading::value_at, crate::specs::Reading::checked_at))]
-pub fn description(bytes: &[u8]) -> Result<(&[u8], &[u8]), Fault>
-    ensures { Reads (λ x. (Blob x.0.now, x.1.now)) result (value_at description bytes.now) }
+pub fn description(bytes: &[u8]) -> Result<(DescriptionView<'_>, &[u8]), Fault>
+    ensures { Reads (λ x. (Blob x.0, x.1.now)) result (value_at description bytes.now) }
 {
     let (name, rest) = block(bytes)?;
-    match Description::fault(name) {
-        Some(fault) => Err(Fault::Bad(fault.errno())),
-        None => Ok((name, rest)),
+    match DescriptionView::new(name) {
+        Ok(name) => Ok((name, rest)),
+        Err(fault) => Err(Fault::Bad(fault.errno())),
     }
 }
 
 /// A payload that keeps its rule, still borrowed.
 #[tactic(auto, unfolding(crate::specs::Reading::value_at, crate::specs::Reading::checked_at))]
-pub fn payload(bytes: &[u8]) -> Result<(&[u8], &[u8]), Fault>
-    ensures { Reads (λ x. (Blob x.0.now, x.1.now)) result (value_at payload bytes.now) }
+pub fn payload(bytes: &[u8]) -> Result<(PayloadView<'_>, &[u8]), Fault>
+    ensures { Reads (λ x. (Blob x.0, x.1.now)) result (value_at payload bytes.now) }
 {
     let (payload, rest) = block(bytes)?;
-    match Payload::fault(payload) {
-        Some(fault) => Err(Fault::Bad(fault.errno())),
-        None => Ok((payload, rest)),
+    match PayloadView::new(payload) {
+        Ok(payload) => Ok((payload, rest)),
+        Err(fault) => Err(Fault::Bad(fault.errno())),
     }
 }
 
 /// The text of a callout that keeps its rule, still borrowed.
 #[tactic(auto, unfolding(crate::specs::Reading::checked_at))]
-fn callout_text(bytes: &[u8]) -> Result<(&[u8], &[u8]), Fault>
-    ensures { Reads (λ x. (x.0.now, x.1.now)) result (checked_at callout_rule bytes.now) }
+fn callout_text(bytes: &[u8]) -> Result<(CalloutView<'_>, &[u8]), Fault>
+    ensures { Reads (λ x. (x.0, x.1.now)) result (checked_at callout_rule bytes.now) }
 {
     let (text, rest) = block(bytes)?;
-    match Callout::fault(text) {
-        Some(fault) => Err(Fault::Bad(fault.errno())),
-        None => Ok((text, rest)),
+    match CalloutView::new(text) {
+        Ok(text) => Ok((text, rest)),
+        Err(fault) => Err(Fault::Bad(fault.errno())),
     }
 }
 
 /// A callout behind a byte 1, or a byte 0 for none; still borrowed.
 #[tactic(auto, unfolding(crate::specs::Reading::value_at))]
-pub fn callout(bytes: &[u8]) -> Result<(Option<&[u8]>, &[u8]), Fault>
-    ensures { Reads (λ x. (Maybe (option_copied x.0), x.1.now)) result (value_at callout bytes.now) }
+pub fn callout(bytes: &[u8]) -> Result<(Option<CalloutView<'_>>, &[u8]), Fault>
+    ensures { Reads (λ x. (Maybe x.0, x.1.now)) result (value_at callout bytes.now) }
 {
     match bytes {
         [] => Err(Fault::Short),

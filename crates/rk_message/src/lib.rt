@@ -16,6 +16,10 @@
 //! op, and a field that breaks its rule is bad and carries its errno. `Fault::errno` says what
 //! the session is answered. Want of memory comes only for a body that has a reading.
 //!
+//! All asks are one enum, [`AskOf`], over the types of their parts. An [`Ask`] owns its names and its payload. An [`AskView`] borrows them from the body,
+//! and takes no memory. An [`AskStep`] borrows its names and owns its payload: that is what a step takes, since the payload becomes a key's.
+//! `AskView::read(body)` and `AskStep::read(alloc, body)` read as `Ask::read` does, and `to_owned`, `to_step` and `view` lead from one to another.
+//!
 //! To write a reply behind its length into one buffer, ask `body_len` for the length and call `write_into`, which
 //! reserves once and then appends. `Reply::refusal(errno)` is the body of a refusal and takes no
 //! memory, so that ENOMEM can always be answered.
@@ -28,11 +32,10 @@
 //! # How it is built
 //!
 //! The format stands once, as a table of first bytes and kinds of fields, in `specs/Table.antt`; the code's table of asks, in
-//! `shape`, is proved to be that one. Reading and writing an ask both go along its line of the table: `ask_reading`
-//! takes each field that the line names into the slot of its kind, `ask_writing` puts each from its slot, and `slots` turns
-//! slots into an ask and back. `field` reads one field from the front of the bytes, `spelling` writes a message.
-//! `reply_reading` and `reply_writing` have the four replies. What the table says of every body stands as laws in `laws`.
-//! `equality` compares messages, `copying` copies asks.
+//! `shape`, is proved to be that one. Asks are read and written field by field, and each is proved to go along its line of the
+//! table: `ask_reading` reads a view of the body, `ask_writing` writes a view of the ask. `field` reads one field from the front
+//! of the bytes, `spelling` writes a message. `reply_reading` and `reply_writing` have the four replies. What the table says of
+//! every body stands as laws in `laws`. `equality` compares messages, `copying` leads from each instance of an ask to the others.
 #![tactic(auto)]
 
 mod ask;
@@ -48,10 +51,9 @@ mod reply;
 mod reply_reading;
 mod reply_writing;
 mod shape;
-mod slots;
 mod spelling;
 
-pub use ask::Ask;
+pub use ask::{Ask, AskOf, AskStep, AskView};
 pub use fault::{Fault, ReadError};
 pub use greeting::Greeting;
 pub use laws::{asks_have_one_reading, replies_have_one_reading};

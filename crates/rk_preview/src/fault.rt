@@ -4,18 +4,22 @@ ghost use Rattle.rk_preview.specs.Rules.{rule_text, failure_text};
 
 use rk_conf::{ConfFault, ConfKind};
 use rk_macro::ExpandFault;
-use std::fmt;
+use thiserror::Error;
 
 /// Why nothing is told of a configuration.
-#[derive(Clone, Copy, Debug, PartialEq, Eq)]
+#[derive(Clone, Copy, Debug, PartialEq, Eq, Error)]
 pub enum Fault {
     /// It has a fault. It is shown as `conf line 3: C1: fewer than five fields`.
+    #[error("conf {fault}: {rule}", fault = .0, rule = rule(.0.kind))]
     Conf(ConfFault),
     /// No line is for the request. It is shown as `no line`.
+    #[error("no line")]
     NoLine,
     /// The words of the chosen line, by its number, can't be made. It is shown as `line 3: X3: ..`.
+    #[error("line {0}: {1}: {failure}", failure = failure(*.1))]
     NoWords(usize, ExpandFault),
     /// There was no memory for what is told. It is shown as `memory`.
+    #[error("memory")]
     NoMemory,
 }
 
@@ -43,22 +47,5 @@ fn failure(fault: ExpandFault) -> &'static str
         ExpandFault::NotText => "a payload is no text",
         ExpandFault::TooLong => "the words are more than 65536 bytes",
         ExpandFault::NoMemory => "no memory",
-    }
-}
-
-impl fmt::Display for Fault {
-    fn fmt<W: fmt::Write>(&self, f: &mut fmt::Formatter<W>) -> fmt::Result {
-        match self {
-            Fault::Conf(fault) => write!(f, "conf {}: {}", fault, rule(fault.kind)),
-            Fault::NoLine => f.write_str("no line"),
-            Fault::NoWords(line, fault) => write!(
-                f,
-                "line {}: {}: {}",
-                line,
-                fault,
-                failure(*fault)
-            ),
-            Fault::NoMemory => f.write_str("memory"),
-        }
     }
 }

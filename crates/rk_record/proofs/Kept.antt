@@ -8,8 +8,8 @@ use Rattle.rk_names.specs.declared.numbers.SessionId.TheVariants.{Handler}
 use Rattle.rk_auth.specs.declared.construction.Stage.{Stage}
 use Rattle.rk_auth.specs.declared.construction.Stage.TheVariants.{Starting, Plain, Piped, Negating}
 use Rattle.rk_auth.specs.Sessions.{is_running}
-use Rattle.rk_machine.specs.declared.event.Event.{Event}
-use Rattle.rk_machine.specs.declared.event.Event.TheVariants.{Opened, Asked, Launched, Ended, Collect, Gone}
+use Rattle.rk_machine.specs.Event.{Event}
+use Rattle.rk_machine.specs.declared.event.EventOf.TheVariants.{Opened, Asked, Launched, Ended, Collect, Gone}
 use Rattle.rk_machine.specs.declared.event.Answer.{Answer}
 use Rattle.rk_machine.specs.declared.event.Answer.TheVariants.{Done, Start, Negate, Waiting, Refused}
 use Rattle.rk_machine.specs.World.{World}

@@ -2,7 +2,7 @@
 use Rattle.std.proofs.Common.{◌≡◌, ℕ, ◌+◌, ◌-◌, ◌≤◌, ◌<◌, ◌^◌, List, [], ◌∷◌, ◌++◌, length, refl, sym, subst, arith, Bool, true, false, if◌then◌else◌, length-append}
 use Rattle.std.specs.Prelude.{nat_le}
 use Rattle.std.proofs.lemmas.Bool.Decides.{nat_tests}
-use Rattle.rk_machine.specs.declared.event.Event.{Event}
+use Rattle.rk_machine.specs.Event.{Event}
 use Rattle.rk_machine.specs.declared.event.Answer.{Answer}
 use Rattle.rk_machine.specs.World.{World, empty_world}
 use Rattle.rk_machine.specs.Steps.{Beginning, Past, Step, Run}

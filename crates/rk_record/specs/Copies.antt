@@ -3,14 +3,13 @@ use Rattle.std.specs.Prelude.{◌≡◌, ◌⊎◌, ℕ, List, length, Option, S
 use Rattle.rk_names.specs.declared.errors.Errno.TheVariants as errno
 use Rattle.rk_macro.specs.declared.subject.Subject.{Subject}
 use Rattle.rk_message.specs.declared.reply.Reply.TheVariants.{Bytes}
-use Rattle.rk_machine.specs.declared.event.Event.{Event}
-use Rattle.rk_machine.specs.declared.event.Event.TheVariants as event
+use Rattle.rk_machine.specs.Event.{Event}
+use Rattle.rk_machine.specs.declared.event.EventOf.TheVariants as event
 use Rattle.rk_machine.specs.declared.event.Answer.{Answer}
 use Rattle.rk_machine.specs.declared.event.Answer.TheVariants.{Done, Start, Refused}
 use Rattle.rk_machine.specs.Owing.{names_in, asked_of}
 use Rattle.rk_record.specs.declared.told.Told.{Told}
 use Rattle.rk_record.specs.declared.told.Told.TheVariants as told
-use Rattle.rk_record.specs.declared.copies.Asked.{Asked}
 use Rattle.rk_record.specs.declared.turn.Copies.{Copies}
 
 -- what a receipt says of an event: all, but of a payload its length
@@ -26,10 +25,6 @@ told_of (event.Gone s) = told.Gone s
 abbrev pub started : Answer → Option Subject
 started (Start k subject) = Some subject
 started _ = None
-
--- the type, the description and the callout of a copy
-abbrev pub asked_names : Asked → List ℕ × (List ℕ × List ℕ)
-asked_names n = (n.typ, (n.description, n.callout))
 
 -- a start tells what was asked for
 abbrev pub FitsStart : Option (List ℕ × (List ℕ × List ℕ)) → Answer → Type 0
@@ -49,5 +44,5 @@ IsIdleAnswer a = ((b : List ℕ) × (a ≡ Done (Bytes b))) ⊎ (a ≡ Refused e
 pub record AreCopies (e : Event) (c : Copies) : Type 0 where
   pub event : c.event ≡ e
   pub told : c.told ≡ told_of e
-  pub recorded : option_map asked_names c.recorded ≡ asked_of e
-  pub started : option_map asked_names c.started ≡ asked_of e
+  pub recorded : option_map names_in c.recorded ≡ asked_of e
+  pub started : option_map names_in c.started ≡ asked_of e

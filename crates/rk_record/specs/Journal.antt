@@ -1,8 +1,8 @@
 -- The steps of a volume that is being recorded, with places and room that are kept for steps to come.
 use Rattle.std.specs.Prelude.{ℕ, ◌+◌, ◌-◌, ◌≤◌, Bool, cond, is_some, List, length, refl, Some, if◌then◌else◌}
 use Rattle.std.specs.Coded.{Coded, code_by, coded×, coded_ℕ, coded_list}
-use Rattle.rk_machine.specs.declared.event.Event.{Event}
-use Rattle.rk_machine.specs.declared.event.Event.TheVariants.{Ended}
+use Rattle.rk_machine.specs.Event.{Event}
+use Rattle.rk_machine.specs.declared.event.EventOf.TheVariants.{Ended}
 use Rattle.rk_machine.specs.Owing.{need, asked_of}
 use Rattle.rk_record.specs.declared.recorded.Recorded.{Recorded}
 use Rattle.rk_record.specs.contracts.recorded.Recorded as recorded

@@ -7,7 +7,7 @@ use Rattle.rk_machine.specs.Laws.{ContinuesTo}
 use Rattle.rk_machine.specs.Views.{is_owed}
 use Rattle.rk_machine.specs.Owing.{owed, ends_owed, need}
 use Rattle.rk_machine.specs.Recording.{Reached}
-use Rattle.rk_machine.specs.declared.event.Event.{Event}
+use Rattle.rk_machine.specs.Event.{Event}
 use Rattle.rk_record.specs.declared.hall_no.HallNo.{HallNo}
 use Rattle.rk_record.specs.contracts.hall_no.HallNo as hall_no
 use Rattle.rk_record.specs.declared.recorded.Recorded.{Recorded}

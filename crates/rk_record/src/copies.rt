@@ -2,82 +2,51 @@
 ghost use Rattle.std.specs.Prelude.{◌≡◌, ◌≤◌, ◌-◌, None, Some, option_map, IfOk, IfSome, IfNone, ◌≢◌};
 ghost use Rattle.rk_machine.specs.Owing.{asked_of, names_in};
 ghost use Rattle.rk_record.specs.Journal.{rooms_taken};
-ghost use Rattle.rk_record.specs.Copies.{asked_names, started, FitsStart, IsNoAsk, IsIdleAnswer};
+ghost use Rattle.rk_record.specs.Copies.{started, FitsStart, IsNoAsk, IsIdleAnswer};
 
 use crate::journal::Journal;
-use rk_machine::{Answer, Event};
-use rk_macro::Subject;
+use rk_machine::{Answer, BoxedSubject, Event, EventStep};
 use rk_message::{Ask, Reply};
-use rk_names::{Callout, Description, Errno, TypeName};
-use std::alloc::AllocError;
+use rk_names::Errno;
+use std::alloc::{AllocError, Global};
 
-/// A copy of the names of a start: what is asked for.
-#[derive(Drop)]
-pub(crate) struct Asked {
-    pub(crate) typ: TypeName,
-    pub(crate) description: Description,
-    pub(crate) callout: Callout,
-}
-
-impl Asked {
-    /// A copy of what an event asks for, where it may start a construction.
-    pub(crate) fn of(event: &Event) -> Result<Option<Asked>, AllocError>
-        ensures { IfOk result (λ n. option_map asked_names n ≡ asked_of event.now) }
-    {
-        match event {
-            Event::Asked(
-                _,
-                Ask::Request {
-                    typ,
-                    description,
-                    callout: Some(callout),
-                    ..
-                },
-            ) => Ok(Some(Asked {
-                typ: typ.clone()?,
-                description: description.clone()?,
-                callout: callout.clone()?,
-            })),
-            _ => Ok(None),
-        }
-    }
-
-    /// A copy of a subject of these names. It takes no memory.
-    fn into_subject(self, subject: &Subject) -> Subject
-        requires { asked_names self ≡ names_in subject.now }
-        ensures { result ≡ subject.now }
-    {
-        let Asked {
-            typ,
-            description,
-            callout,
-        } = self;
-        Subject {
-            key: subject.key,
-            op: subject.op,
-            typ,
-            desc: description,
-            callout,
-            uid: subject.uid,
-            gid: subject.gid,
-            thread: subject.thread,
-            process: subject.process,
-            session: subject.session,
-        }
+/// The names that an event asks for, where it may start a construction, in a place for the subject that a start tells.
+pub(crate) fn place_for_subject(
+    alloc: Global,
+    event: &Event,
+) -> Result<Option<BoxedSubject>, AllocError>
+    ensures { IfOk result (λ n. option_map names_in n ≡ asked_of event.now) }
+{
+    match event {
+        Event::Asked(
+            _,
+            Ask::Request {
+                typ,
+                description,
+                callout: Some(callout),
+                ..
+            },
+        ) => Ok(Some(BoxedSubject::of_names(
+            alloc,
+            typ.clone()?,
+            description.clone()?,
+            callout.clone()?,
+        )?)),
+        _ => Ok(None),
     }
 }
 
-/// A copy of an answer for the record, which for a start takes no memory but the names. `None` where there is none: want of memory is no answer
+/// A copy of an answer for the record, which for a start takes no memory but the place. `None` where there is none: out of memory is no answer
 /// for a record, and for bytes there may be no memory. Neither has changed anything.
-pub(crate) fn recorded_answer(answer: &Answer, asked: Option<Asked>) -> Option<Answer>
-    requires { FitsStart (option_map asked_names asked) answer.now }
+pub(crate) fn recorded_answer(answer: &Answer, place: Option<BoxedSubject>) -> Option<Answer>
+    requires { FitsStart (option_map names_in place) answer.now }
     ensures copy { IfSome result (λ a. (a ≡ answer.now) × (a ≢ Answer.Refused Errno.Enomem)) }
     ensures none { IfNone result (IsIdleAnswer answer.now) }
 {
     match answer {
         Answer::Done(reply) => Some(Answer::Done(recorded_reply(reply)?)),
-        Answer::Start(key, subject) => match asked {
-            Some(asked) => Some(Answer::Start(*key, asked.into_subject(subject))),
+        Answer::Start(key, subject) => match place {
+            Some(place) => Some(Answer::Start(*key, place.fill(subject.as_subject()))),
             None => unreachable!(),
         },
         Answer::Negate(key) => Some(Answer::Negate(*key)),
@@ -113,32 +82,32 @@ fn recorded_reply(reply: &Reply) -> Option<Reply>
 }
 
 /// The subject of a start once more. It takes no memory.
-pub(crate) fn started_subject(answer: &Answer, asked: Option<Asked>) -> Option<Subject>
-    requires { FitsStart (option_map asked_names asked) answer.now }
+pub(crate) fn started_subject(answer: &Answer, place: Option<BoxedSubject>) -> Option<BoxedSubject>
+    requires { FitsStart (option_map names_in place) answer.now }
     ensures { result ≡ started answer.now }
 {
-    match (answer, asked) {
-        (Answer::Start(_, subject), Some(asked)) => Some(asked.into_subject(subject)),
+    match (answer, place) {
+        (Answer::Start(_, subject), Some(place)) => Some(place.fill(subject.as_subject())),
         _ => None,
     }
 }
 
 /// A copy of an event that is no ask, with the payload of an end in room that was kept for it. It takes no memory.
-pub(crate) fn copy_without_memory(event: &Event, journal: &mut Journal) -> Event
+pub(crate) fn copy_without_memory(event: &EventStep<'_>, journal: &mut Journal) -> Event
     requires ask { IsNoAsk event.now }
     requires room { rooms_taken event.now ≤ journal.old.ends }
     ensures copy { result ≡ event.now }
     ensures journal { journal.new ≡ record journal.old { ends = journal.old.ends - rooms_taken event.now } }
 {
     match event {
-        Event::Opened(id) => Event::Opened(*id),
-        Event::Asked(_, _) => unreachable!(),
-        Event::Launched(key, ran) => Event::Launched(*key, *ran),
-        Event::Ended(key, how, None) => Event::Ended(*key, *how, None),
-        Event::Ended(key, how, Some(payload)) => {
+        EventStep::Opened(id) => Event::Opened(*id),
+        EventStep::Asked(_, _) => unreachable!(),
+        EventStep::Launched(key, ran) => Event::Launched(*key, *ran),
+        EventStep::Ended(key, how, None) => Event::Ended(*key, *how, None),
+        EventStep::Ended(key, how, Some(payload)) => {
             Event::Ended(*key, *how, Some(journal.take_room().fill(payload)))
         }
-        Event::Collect(id) => Event::Collect(*id),
-        Event::Gone(id) => Event::Gone(*id),
+        EventStep::Collect(id) => Event::Collect(*id),
+        EventStep::Gone(id) => Event::Gone(*id),
     }
 }

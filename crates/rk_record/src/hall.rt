@@ -8,7 +8,7 @@ use crate::hall_no::HallNo;
 use crate::journal::Journal;
 use crate::recorded::Recorded;
 use rk_core::{Book, Limits};
-use rk_machine::Event;
+use rk_machine::EventStep;
 use rk_names::{Description, Moment, Serial, SessionId, TypeName};
 use std::alloc::{AllocError, Global};
 use std::marker::Model;
@@ -126,7 +126,7 @@ impl Hall {
     }
 
     /// Whether the event is owed: nothing may refuse it.
-    pub fn owes(&self, event: &Event) -> bool
+    pub fn owes(&self, event: &EventStep<'_>) -> bool
         ensures { result ≡ is_owed self.now.world event.now }
     {
         self.book.owes(event)

@@ -31,7 +31,7 @@ pub fn rejoin(alloc: Global, limits: Limits, volumes: &[&[Recorded]]) -> Result<
     };
     let mut number = 0;
     for volume in volumes {
-        match step_through(&mut book, volume, number) {
+        match step_through(alloc, &mut book, volume, number) {
             Ok(next) => number = next,
             Err(fault) => return Err(fault),
         }
@@ -47,7 +47,12 @@ fn is_want_of_memory(answer: &Answer) -> bool
 }
 
 /// Steps a book through a list, after so many steps, and compares every answer.
-fn step_through(book: &mut Book, steps: &[Recorded], before: u64) -> Result<u64, Rejoin>
+fn step_through(
+    alloc: Global,
+    book: &mut Book,
+    steps: &[Recorded],
+    before: u64,
+) -> Result<u64, Rejoin>
     ensures run { OnOk result (Runs book.old steps.now book.new) }
     ensures count { IfOk result (λ n. n ≡ counted (before + length steps.now)) }
     ensures broken { IfErr result (λ f. Breaks book.old before steps.now f) }
@@ -55,7 +60,7 @@ fn step_through(book: &mut Book, steps: &[Recorded], before: u64) -> Result<u64,
     let mut number = before;
     for step in steps {
         number = number.saturating_add(1);
-        let Ok(event) = step.event.clone() else {
+        let Ok(event) = step.event.to_step(alloc) else {
             return Err(Rejoin::NoMemory);
         };
         let answer = book.step(step.now, event);

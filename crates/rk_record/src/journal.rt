@@ -60,6 +60,11 @@ impl Journal {
         &self.steps
     }
 
+    /// Where memory comes from.
+    pub(crate) fn alloc(&self) -> Global {
+        self.alloc
+    }
+
     /// How many places are kept.
     pub(crate) fn reserved(&self) -> usize
         ensures { result ≡ self.now.reserved }

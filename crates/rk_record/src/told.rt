@@ -2,7 +2,7 @@
 ghost use Rattle.std.specs.Prelude.{◌≡◌, ◌↔◌, IsTrue, IfOk, length, option_map};
 ghost use Rattle.rk_record.specs.Copies.{told_of, IsNoAsk};
 
-use rk_machine::{Event, How, Ran};
+use rk_machine::{Event, EventStep, How, Ran};
 use rk_message::Ask;
 use rk_names::{Payload, Serial, SessionId};
 use std::alloc::AllocError;
@@ -29,24 +29,28 @@ impl Told {
     pub(crate) fn of(event: &Event) -> Result<Told, AllocError>
         ensures { IfOk result (λ t. t ≡ told_of event.now) }
     {
-        match event {
-            Event::Asked(id, ask) => Ok(Told::Asked(*id, ask.clone()?)),
-            _ => Ok(Told::of_no_ask(event)),
-        }
-    }
-
-    /// What is told of an event that is no ask. It takes no memory.
-    pub(crate) fn of_no_ask(event: &Event) -> Told
-        requires { IsNoAsk event.now }
-        ensures { result ≡ told_of event.now }
-    {
-        match event {
+        Ok(match event {
             Event::Opened(id) => Told::Opened(*id),
-            Event::Asked(_, _) => unreachable!(),
+            Event::Asked(id, ask) => Told::Asked(*id, ask.clone()?),
             Event::Launched(key, ran) => Told::Launched(*key, *ran),
             Event::Ended(key, how, payload) => Told::Ended(*key, *how, payload_len(payload)),
             Event::Collect(id) => Told::Collect(*id),
             Event::Gone(id) => Told::Gone(*id),
+        })
+    }
+
+    /// What is told of an event that is no ask. It takes no memory.
+    pub(crate) fn of_no_ask(event: &EventStep<'_>) -> Told
+        requires { IsNoAsk event.now }
+        ensures { result ≡ told_of event.now }
+    {
+        match event {
+            EventStep::Opened(id) => Told::Opened(*id),
+            EventStep::Asked(_, _) => unreachable!(),
+            EventStep::Launched(key, ran) => Told::Launched(*key, *ran),
+            EventStep::Ended(key, how, payload) => Told::Ended(*key, *how, payload_len(payload)),
+            EventStep::Collect(id) => Told::Collect(*id),
+            EventStep::Gone(id) => Told::Gone(*id),
         }
     }
 

@@ -7,7 +7,7 @@ ghost use Rattle.rk_record.specs.Turns.{Turned};
 ghost use Rattle.rk_record.specs.Journal.{prepared, rooms_taken, rooms_made};
 ghost use Rattle.rk_record.specs.Copies.{started, IsNoAsk, AreCopies};
 
-use crate::copies::{Asked, copy_without_memory, recorded_answer, started_subject};
+use crate::copies::{copy_without_memory, place_for_subject, recorded_answer, started_subject};
 use crate::fault::HallFault;
 use crate::hall::Hall;
 use crate::journal::Journal;
@@ -15,10 +15,9 @@ use crate::receipt::Receipt;
 use crate::recorded::Recorded;
 use crate::told::Told;
 use rk_core::Book;
-use rk_machine::{Answer, Event};
-use rk_macro::Subject;
+use rk_machine::{Answer, BoxedSubject, Event, EventStep};
 use rk_names::{Moment, SessionId};
-use std::alloc::AllocError;
+use std::alloc::{AllocError, Global};
 
 impl Hall {
     /// Takes one step of the book at this moment, and records it. The receipt says the step.
@@ -26,17 +25,17 @@ impl Hall {
     /// [`HallFault::Full`] comes exactly where an event that is not owed has not as many free places as it may need: 2 for `Opened`, 6 for REQUEST,
     /// 1 for any other. [`HallFault::NoMemory`] comes where a growth was refused. Neither takes a step or changes anything, and neither comes for what
     /// is owed, which takes no memory.
-    pub fn turn(&mut self, now: Moment, event: Event) -> Result<Receipt, HallFault>
-        ensures ok { IfOk result (λ r. Turned self.old now event r self.new) }
+    pub fn turn(&mut self, now: Moment, event: EventStep<'_>) -> Result<Receipt, HallFault>
+        ensures ok { IfOk result (λ r. Turned self.old now event.entry r self.new) }
         ensures err { OnErr result (self.new ≡ self.old) }
         ensures sound { IsRecord self.new }
-        ensures owed { is_owed self.old.world event ≡ true → IsOk result }
-        ensures full { (result ≡ Err HallFault.Full) ↔ IsFull self.old event }
+        ensures owed { is_owed self.old.world event.entry ≡ true → IsOk result }
+        ensures full { (result ≡ Err HallFault.Full) ↔ IsFull self.old event.entry }
     {
         let copies = if self.book.owes(&event) {
             None
         } else {
-            Copies::of(&event).ok()
+            Copies::of(self.journal.alloc(), &event).ok()
         };
         match self.turn_to_start(now, event, copies) {
             Ok((receipt, _)) => Ok(receipt),
@@ -49,16 +48,16 @@ impl Hall {
     pub fn turn_to_start(
         &mut self,
         now: Moment,
-        event: Event,
+        event: EventStep<'_>,
         copies: Option<Copies>,
-    ) -> Result<(Receipt, Option<Subject>), HallFault>
+    ) -> Result<(Receipt, Option<BoxedSubject>), HallFault>
         requires { IfSome copies (λ c. AreCopies event c) }
-        ensures ok { IfOk result (λ r. Turned self.old now event r.0 self.new) }
+        ensures ok { IfOk result (λ r. Turned self.old now event.entry r.0 self.new) }
         ensures subject { IfOk result (λ r. r.1 ≡ started r.0.answer) }
         ensures err { OnErr result (self.new ≡ self.old) }
         ensures sound { IsRecord self.new }
-        ensures owed { is_owed self.old.world event ≡ true → IsOk result }
-        ensures full { (result ≡ Err HallFault.Full) ↔ IsFull self.old event }
+        ensures owed { is_owed self.old.world event.entry ≡ true → IsOk result }
+        ensures full { (result ≡ Err HallFault.Full) ↔ IsFull self.old event.entry }
     {
         let kept = Kept::of(&self.journal);
         let copies = prepare(&self.book, &mut self.journal, &event, copies)?;
@@ -128,22 +127,23 @@ pub struct Copies {
     event: Event,
     /// What the receipt says of it.
     told: Told,
-    /// The names of a start, for the record.
-    recorded: Option<Asked>,
+    /// A place for the subject of a start, for the record.
+    recorded: Option<BoxedSubject>,
     /// And once more, for whoever starts the handler.
-    started: Option<Asked>,
+    started: Option<BoxedSubject>,
 }
 
 impl Copies {
     /// The copies of an event. An `Err` is want of memory.
-    pub fn of(event: &Event) -> Result<Copies, AllocError>
+    pub fn of(alloc: Global, event: &EventStep<'_>) -> Result<Copies, AllocError>
         ensures { IfOk result (λ c. AreCopies event.now c) }
     {
+        let event = event.to_owned(alloc)?;
         Ok(Copies {
-            event: event.clone()?,
-            told: Told::of(event)?,
-            recorded: Asked::of(event)?,
-            started: Asked::of(event)?,
+            told: Told::of(&event)?,
+            recorded: place_for_subject(alloc, &event)?,
+            started: place_for_subject(alloc, &event)?,
+            event,
         })
     }
 }
@@ -153,7 +153,7 @@ impl Copies {
 fn prepare(
     book: &Book,
     journal: &mut Journal,
-    event: &Event,
+    event: &EventStep<'_>,
     copies: Option<Copies>,
 ) -> Result<Copies, HallFault>
     requires given { IfSome copies (λ c. AreCopies event.now c) }
@@ -183,7 +183,7 @@ fn prepare(
 }
 
 /// The copies of an event that is owed, so that it is no ask. They take no memory.
-fn owed_copies(journal: &mut Journal, event: &Event) -> Copies
+fn owed_copies(journal: &mut Journal, event: &EventStep<'_>) -> Copies
     requires ask { IsNoAsk event.now }
     requires room { rooms_taken event.now ≤ journal.old.ends }
     ensures copies { AreCopies event.now result }
@@ -200,7 +200,7 @@ fn owed_copies(journal: &mut Journal, event: &Event) -> Copies
 /// The copies of an event that is not owed, once there is room for the ends of what it may start. A refusal changes nothing.
 fn with_ends(
     journal: &mut Journal,
-    event: &Event,
+    event: &EventStep<'_>,
     copies: Option<Copies>,
 ) -> Result<Copies, AllocError>
     requires given { IfSome copies (λ c. AreCopies event.now c) }

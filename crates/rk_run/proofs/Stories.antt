@@ -3,7 +3,7 @@ use Rattle.std.proofs.Common.{◌≡◌, ℕ, List, [], ◌∷◌, ◌++◌, Opt
 use Rattle.std.specs.declared.process.status.ExitStatus.{ExitStatus}
 use Rattle.std.proofs.lemmas.List.{append_assoc, append-nil}
 use Rattle.rk_client.specs.declared.fault.PeerFault.{PeerFault}
-use Rattle.rk_message.specs.declared.ask.Ask.{Ask}
+use Rattle.rk_message.specs.Ask.{Ask}
 use Rattle.rk_message.specs.declared.reply.Reply.{Reply}
 use Rattle.rk_run.specs.declared.fault.RunFault.{RunFault}
 use Rattle.rk_run.specs.declared.fault.RunFault.TheVariants as fault

@@ -4,8 +4,8 @@ use Rattle.std.specs.Option.{unwrap_or}
 use Rattle.std.specs.declared.process.status.ExitStatus.{ExitStatus}
 use Rattle.rk_client.specs.declared.fault.PeerFault.{PeerFault}
 use Rattle.rk_client.specs.declared.fault.PeerFault.TheVariants as peer
-use Rattle.rk_message.specs.declared.ask.Ask.{Ask}
-use Rattle.rk_message.specs.declared.ask.Ask.TheVariants.{Hello}
+use Rattle.rk_message.specs.Ask.{Ask}
+use Rattle.rk_message.specs.declared.ask.AskOf.TheVariants.{Hello}
 use Rattle.rk_message.specs.declared.reply.Reply.{Reply}
 use Rattle.rk_message.specs.declared.reply.Reply.TheVariants as reply
 use Rattle.rk_run.specs.declared.fault.RunFault.{RunFault}

@@ -2,7 +2,7 @@
 use Rattle.std.specs.Prelude.{◌≡◌, ℕ, Bool, List, [], ◌∷◌, ◌++◌, Option, option_map, Result, Ok, Err}
 use Rattle.std.specs.declared.process.status.ExitStatus.{ExitStatus}
 use Rattle.rk_client.specs.declared.fault.PeerFault.{PeerFault}
-use Rattle.rk_message.specs.declared.ask.Ask.{Ask}
+use Rattle.rk_message.specs.Ask.{Ask}
 use Rattle.rk_message.specs.declared.reply.Reply.{Reply}
 use Rattle.rk_variables.specs.Starts.{Start}
 use Rattle.rk_run.specs.declared.host.Here.{Here}

@@ -3,7 +3,7 @@ use Rattle.std.proofs.Common.{◌≡◌, ℕ, List, [], ◌∷◌, ◌++◌, Opt
 use Rattle.std.specs.Prelude.{reverse}
 use Rattle.std.proofs.lemmas.List.{append-nil, reverse-append}
 use Rattle.rk_names.specs.declared.numbers.SessionId.{SessionId}
-use Rattle.rk_message.specs.declared.ask.Ask.{Ask}
+use Rattle.rk_message.specs.Ask.{Ask}
 use Rattle.rk_conf.specs.declared.line.Line.{Line}
 use Rattle.rk_machine.specs.World.{World}
 use Rattle.rk_machine.specs.Steps.{Beginning, Past, Step, Run}
@@ -14,7 +14,7 @@ use Rattle.rk_served.specs.declared.happening.StartResult.TheVariants.{Started, 
 use Rattle.rk_served.specs.declared.output.Output.{Output}
 use Rattle.rk_served.specs.Left.{Left, Part, nothing}
 use Rattle.rk_served.specs.Moves.{Answered, puts_reply, starts_one, fails_to_start, Move, collects, refuses, asks, shuts_client, shuts_handler, Moves}
-use Rattle.rk_machine.specs.declared.event.Event.{Event}
+use Rattle.rk_machine.specs.Event.{Event}
 use Rattle.rk_macro.specs.declared.subject.Subject.{Subject}
 use Rattle.rk_served.specs.OwnStep.{StepsBy, EndsBy, is_last, is_followed, is_not_followed, OwnStep}
 use Rattle.rk_served.specs.Served.{Turn, steps_of, ServesBy, Serves, ServedFrom, ServedIsRun}

@@ -3,10 +3,10 @@ use Rattle.std.proofs.Common.{◌≡◌, ℕ, zero, suc, ◌+◌, ◌<◌, ◌�
 use Rattle.std.specs.Prelude.{Some, None, is_some, slice_get, slice_set}
 use Rattle.rk_names.specs.declared.numbers.SessionId.{SessionId}
 use Rattle.rk_names.specs.declared.numbers.SessionId.TheVariants.{Client, Handler}
-use Rattle.rk_message.specs.declared.ask.Ask.{Ask}
+use Rattle.rk_message.specs.Ask.{Ask}
 use Rattle.rk_conf.specs.declared.line.Line.{Line}
 use Rattle.rk_frame.proofs.Lengths.{shows}
-use Rattle.rk_machine.specs.declared.event.Event.TheVariants.{Asked, Launched, Collect, Gone}
+use Rattle.rk_machine.specs.declared.event.EventOf.TheVariants.{Asked, Launched, Collect, Gone}
 use Rattle.rk_machine.specs.declared.event.Ran.TheVariants as ran
 use Rattle.rk_machine.specs.World.{World}
 use Rattle.rk_machine.specs.Views.{has_wait}

@@ -8,7 +8,7 @@ use Rattle.rk_message.specs.declared.reply.Reply.TheVariants as reply
 use Rattle.rk_message.specs.Wire.{spelling}
 use Rattle.rk_message.specs.Replies.{reply_message}
 use Rattle.rk_frame.specs.Framing.{frame}
-use Rattle.rk_machine.specs.declared.event.Event.{Event}
+use Rattle.rk_machine.specs.Event.{Event}
 use Rattle.rk_machine.specs.declared.event.Answer.{Answer}
 use Rattle.rk_machine.specs.declared.event.Answer.TheVariants.{Done, Start, Waiting, Refused, Negate}
 use Rattle.rk_machine.specs.World.{World, empty_world}

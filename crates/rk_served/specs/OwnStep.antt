@@ -8,8 +8,8 @@ use Rattle.rk_conf.specs.declared.line.Line.{Line}
 use Rattle.rk_macro.specs.declared.command.Command.{Command}
 use Rattle.rk_macro.specs.declared.subject.Subject.{Subject}
 use Rattle.rk_macro.specs.declared.subject.Op.TheVariants as op
-use Rattle.rk_machine.specs.declared.event.Event.{Event}
-use Rattle.rk_machine.specs.declared.event.Event.TheVariants.{Opened, Launched, Ended, Gone}
+use Rattle.rk_machine.specs.Event.{Event}
+use Rattle.rk_machine.specs.declared.event.EventOf.TheVariants.{Opened, Launched, Ended, Gone}
 use Rattle.rk_machine.specs.declared.event.Ran.TheVariants as ran
 use Rattle.rk_machine.specs.declared.event.How.{How}
 use Rattle.rk_machine.specs.declared.event.How.TheVariants.{Fault}

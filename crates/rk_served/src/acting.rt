@@ -1,7 +1,7 @@
 //! The own step of a happening, and the moves that follow it.
 ghost use Rattle.std.specs.Prelude.{◌≡◌, ℕ, true, false, List, [], IfOk, OnOk};
 ghost use Rattle.rk_names.specs.declared.numbers.SessionId.TheVariants.{Client, Handler};
-ghost use Rattle.rk_machine.specs.declared.event.Event.TheVariants.{Launched, Gone};
+ghost use Rattle.rk_machine.specs.declared.event.EventOf.TheVariants.{Launched, Gone};
 ghost use Rattle.rk_machine.specs.declared.event.Ran.TheVariants as ran;
 ghost use Rattle.rk_machine.specs.Allowed.{done};
 ghost use Rattle.rk_machine.specs.Steps.{Past};
@@ -27,7 +27,7 @@ use crate::server::Server;
 use crate::stream::Stream;
 use rk_auth::Stage;
 use rk_conf::Conf;
-use rk_core::{Answer, Event, How, Ran};
+use rk_core::{Answer, EventStep, How, Ran};
 use rk_macro::{Op, Subject};
 use rk_names::{Moment, Serial, SessionId};
 use std::alloc::{AllocError, Global};
@@ -95,7 +95,7 @@ impl Server {
     {
         let answer = self
             .book
-            .step(now, Event::Opened(SessionId::Client(client)));
+            .step(now, EventStep::Opened(SessionId::Client(client)));
         if is_refused(&answer) {
             out.push(Output::Shut(client))?;
             return Ok(());
@@ -113,7 +113,9 @@ impl Server {
         requires { has_client self.old.book client ≡ true }
         ensures { ClientGoes now client (left_of self.old) (one_step now (Gone (Client client)) done []) (left_of self.new) }
     {
-        let _ = self.book.step(now, Event::Gone(SessionId::Client(client)));
+        let _ = self
+            .book
+            .step(now, EventStep::Gone(SessionId::Client(client)));
         peers::remove(&mut self.peers, &SessionId::Client(client));
     }
 
@@ -124,7 +126,7 @@ impl Server {
         ensures { (conf : List Line) (put : List Output) →
             MakesOwnStep conf now (happening.StartResult key Started) (left_of self.old) put (left_of self.new) put }
     {
-        let _ = self.book.step(now, Event::Launched(key, Ran::Plain));
+        let _ = self.book.step(now, EventStep::Launched(key, Ran::Plain));
         self.peers[index].channel = Channel::Talks(Stream::new());
     }
 
@@ -142,7 +144,7 @@ impl Server {
         ensures { (conf : List Line) →
             OnOk result (MakesOwnStep conf now (happening.StartResult key Started) (left_of self.old) out.old.items (left_of self.new) out.new.items) }
     {
-        let _ = self.book.step(now, Event::Launched(key, Ran::Piped));
+        let _ = self.book.step(now, EventStep::Launched(key, Ran::Piped));
         self.peers[index].put_callout(alloc, key, out)?;
         self.peers[index].channel = Channel::Pipes(Bytes::new(Vec::new(alloc)));
         Ok(())
@@ -175,7 +177,7 @@ impl Server {
         requires { is_to_start self.old.book key ≡ true }
         ensures { FailsToRun now key (left_of self.old) (one_step now (Launched key ran.Failed) done []) (left_of self.new) }
     {
-        let _ = self.book.step(now, Event::Launched(key, Ran::Failed));
+        let _ = self.book.step(now, EventStep::Launched(key, Ran::Failed));
         peers::remove(&mut self.peers, &SessionId::Handler(key));
     }
 
@@ -209,12 +211,12 @@ impl Server {
         alloc: Global,
         conf: &Conf,
         now: Moment,
-        event: Event,
+        event: EventStep<'_>,
         subject: Option<Subject>,
         out: &mut Vec<Output>,
     ) -> Result<(), AllocError>
-        ensures { (k : ℕ) (peers : List Peer) → HasEnded k event subject peers (left_of self.old) →
-            OnOk result (EndsOne conf.now now k event subject (record { world = self.old.book; peers = peers })
+        ensures { (k : ℕ) (peers : List Peer) → HasEnded k event.entry subject peers (left_of self.old) →
+            OnOk result (EndsOne conf.now now k event.entry subject (record { world = self.old.book; peers = peers })
             out.old.items (left_of self.new) out.new.items) }
     {
         let Answer::Negate(key) = self.book.step(now, event) else {
@@ -247,7 +249,7 @@ impl Server {
                     subject,
                     ..
                 } = peer;
-                let event = Event::Ended(key, how, channel.into_payload());
+                let event = EventStep::Ended(key, how, channel.into_payload());
                 self.end(alloc, conf, now, event, subject, out)
             }
             None => Ok(()),
@@ -269,7 +271,7 @@ impl Server {
     {
         match peers::take(&mut self.peers, &SessionId::Handler(key)) {
             Some(peer) => {
-                let event = Event::Ended(key, How::Fault, None);
+                let event = EventStep::Ended(key, How::Fault, None);
                 self.end(alloc, conf, now, event, peer.subject, out)
             }
             None => Ok(()),

@@ -2,6 +2,8 @@
 ghost use Rattle.std.specs.Prelude.{◌≡◌, true, false, ◌<◌, List, IfOk, OnOk, IfSome, MatchBool, vec_len, slice_get};
 ghost use Rattle.rk_conf.specs.declared.line.Line.{Line};
 ghost use Rattle.rk_machine.specs.Views.{is_ready};
+ghost use Rattle.rk_machine.specs.Steps.{Step};
+ghost use Rattle.rk_machine.specs.declared.event.EventOf.TheVariants.{Asked};
 ghost use Rattle.rk_served.specs.Standing.{are_in_order};
 ghost use Rattle.rk_served.specs.Channels.{is_stream, HasFaultAt};
 ghost use Rattle.rk_served.specs.Moves.{IsAtRest};
@@ -15,7 +17,7 @@ use crate::queue::Queue;
 use crate::replies::put_reply;
 use crate::stream::Message;
 use rk_conf::Conf;
-use rk_core::{Answer, Book, Event, Ran};
+use rk_core::{Answer, Book, EventStep, Ran};
 use rk_macro::Subject;
 use rk_message::Ask;
 use rk_names::{Moment, Serial, SessionId};
@@ -59,7 +61,7 @@ impl Server {
                 Ok(())
             }
             None => {
-                let _ = self.book.step(now, Event::Launched(key, Ran::Failed));
+                let _ = self.book.step(now, EventStep::Launched(key, Ran::Failed));
                 Ok(())
             }
         }
@@ -77,8 +79,11 @@ impl Server {
     ) -> Result<(), AllocError>
         ensures { OnOk result (AnswersOne conf.now now (left_of self.old) who.now ask out.old.items (left_of self.new) out.new.items) }
     {
-        match self.book.step(now, Event::Asked(*who, ask)) {
-            Answer::Start(key, subject) => self.start(alloc, conf, now, key, subject, out),
+        let answer = step_of_ask(&mut self.book, alloc, now, who, ask)?;
+        match answer {
+            Answer::Start(key, subject) => {
+                self.start(alloc, conf, now, key, subject.into_subject(), out)
+            }
             answer => put_reply(alloc, who, answer, out),
         }
     }
@@ -96,7 +101,7 @@ impl Server {
         ensures { (conf : List Line) → OnOk result (MovesOne conf now index (left_of self.old) out.old.items (left_of self.new) out.new.items) }
     {
         let who = self.peers[index].who;
-        let answer = self.book.step(now, Event::Collect(who));
+        let answer = self.book.step(now, EventStep::Collect(who));
         put_reply(alloc, &self.peers[index].who, answer, out)
     }
 
@@ -114,7 +119,9 @@ impl Server {
     {
         match self.peers[index].who {
             SessionId::Client(client) => {
-                let _ = self.book.step(now, Event::Gone(SessionId::Client(client)));
+                let _ = self
+                    .book
+                    .step(now, EventStep::Gone(SessionId::Client(client)));
                 peers::remove(&mut self.peers, &SessionId::Client(client));
                 out.push(Output::Shut(client))?;
                 Ok(())
@@ -283,4 +290,18 @@ impl Server {
         while self.move_one(alloc, conf, now, queue, out)? {}
         Ok(())
     }
+}
+
+/// Takes an ask as a step. An `Err` is out of memory for the copy of its payload; then no step was taken.
+fn step_of_ask(
+    book: &mut Book,
+    alloc: Global,
+    now: Moment,
+    who: &SessionId,
+    ask: Ask,
+) -> Result<Answer, AllocError>
+    ensures { IfOk result (λ answer. Step book.old now (Asked who.now ask) answer book.new) }
+{
+    let ask = ask.view().to_step(alloc)?;
+    Ok(book.step(now, EventStep::Asked(*who, ask)))
 }

@@ -1,7 +1,7 @@
 -- A talk, message by message.
 use Rattle.std.proofs.Common.{◌≡◌, ◌≢◌, ℕ, suc, ◌<◌, ◌≤◌, ◌+◌, List, [], ◌∷◌, ◌++◌, length, refl, sym, ap, ◌∙◌, subst, arith}
 use Rattle.std.specs.Prelude.{Option, Some, Ok, Err, Bool, true, false, take, nat_lt, if◌then◌else◌}
-use Rattle.std.proofs.lemmas.Bool.{ltb-false}
+use Rattle.std.proofs.lemmas.Bool.Decides.{nat_tests}
 use Rattle.std.proofs.lemmas.List.{length-append, length-take-le}
 use Rattle.rk_names.specs.declared.numbers.SessionId.{SessionId}
 use Rattle.rk_frame.specs.Framing.{frame}
@@ -9,7 +9,7 @@ use Rattle.rk_frame.specs.Streams.{TakesBody, IsPartial, HasFault}
 use Rattle.rk_frame.specs.Unread.{Unread}
 use Rattle.rk_hall.specs.Seats.{SeatShown}
 use Rattle.rk_talk.specs.Replies.{reply_bytes}
-use Rattle.rk_devices.specs.Counts.{most, raised}
+use Rattle.rk_devices.specs.Counts.{most, raised, raised_by}
 use Rattle.rk_devices.specs.declared.device.DeviceFault.{DeviceFault}
 use Rattle.rk_session.specs.Wires.{Happened, Heard, WireShown, and_then, Reads}
 use Rattle.rk_session.specs.declared.serving.Served.{Served}
@@ -205,13 +205,16 @@ pub used_ends : (session : SessionId) (seat : SeatShown) (begun now : WireShown)
 used_ends session seat begun now held standing s none first is =
     let one = s first is in (one.0, one.1, (held, standing.place, one.2, none))
 
+-- no read so far
+pub raised_none : (n : ℕ) → n ≡ raised_by 0 n
+raised_none n = grind (arith, nat_tests)
+
+raised_more : (k n : ℕ) → raised (raised_by k n) ≡ raised_by (k + 1) n
+raised_more k n = grind (arith, nat_tests)
+
 -- one read more
-pub least_more : (k old mid new : ℕ) → k ≤ old → k < 1048576 → mid ≡ raised old → new ≡ mid → k + 1 ≤ new
-least_more k old mid new le lt is same = subst (λ n. k + 1 ≤ n) (sym (same ∙ is)) (at (nat_lt old most) refl)
-  where
-    at : (b : Bool) → nat_lt old most ≡ b → k + 1 ≤ (if b then old + 1 else old)
-    at true small = omega (arith, le)
-    at false large = omega (arith, lt, ltb-false old most large)
+pub reads_more : (k old mid new first : ℕ) → old ≡ raised_by k first → mid ≡ raised old → new ≡ mid → new ≡ raised_by (k + 1) first
+reads_more k old mid new first so is same = same ∙ is ∙ ap raised so ∙ raised_more k first
 
 pub most_more : (k old mid new first : ℕ) → old ≤ first + k → mid ≡ raised old → new ≡ mid → new ≤ first + (k + 1)
 most_more k old mid new first le is same = subst (λ n. n ≤ first + (k + 1)) (sym (same ∙ is)) (at (nat_lt old most))

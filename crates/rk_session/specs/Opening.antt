@@ -2,7 +2,7 @@
 use Rattle.std.specs.Prelude.{◌≡◌, ℕ, Option, Some, None}
 use Rattle.rk_names.specs.declared.numbers.SessionId.{SessionId}
 use Rattle.rk_message.specs.declared.reply.Reply.{Reply}
-use Rattle.rk_machine.specs.declared.event.Event.TheVariants.{Opened}
+use Rattle.rk_machine.specs.declared.event.EventOf.TheVariants.{Opened}
 use Rattle.rk_machine.specs.declared.event.Answer.{Answer}
 use Rattle.rk_machine.specs.declared.event.Answer.TheVariants as answer
 use Rattle.rk_record.specs.declared.hall_no.HallNo.{HallNo}

@@ -10,89 +10,60 @@ ghost use Rattle.rk_session.specs.Places.{IsHello, IsHelloOf, Says, says_done, s
 
 use crate::standing::{Place, moved};
 use rk_child::drive;
-use rk_conf::Conf;
-use rk_devices::{Clock, Gate, Launcher};
-use rk_hall::{Called, HallNo, Halls, Launch, Names, Seat};
+use rk_devices::Clock;
+use rk_hall::{Called, HallNo, Launch};
 use rk_machine::Answer;
-use rk_message::Ask;
+use rk_message::AskStep;
 use rk_names::SessionId;
-use rk_talk::{Saying, Shelf, ask_in, refused, settled};
-use std::alloc::Global;
-use std::sync::Wait;
+use rk_talk::{Crew, Message, Platform, Saying, Stage, ask_in, refused, settled};
 
 // What an ask has started is brought to its end.
-fn brought_to_end<N: Names, R: Wait, L: Launcher, C: Clock, G: Gate, S: Shelf>(
-    rt: &R,
-    alloc: Global,
-    halls: &Halls<N>,
-    seat: &mut Seat<N>,
-    launch: Option<Launch<N>>,
-    conf: &Conf,
-    launcher: &mut L,
-    clock: &mut C,
-    gate: &G,
-    shelf: &S,
+fn brought_to_end<P: Platform>(
+    stage: &Stage<'_, P>,
+    crew: &mut Crew<P>,
+    launch: Option<Launch<P::Names>>,
 )
-    requires bound { (L.shown launcher.old).count ≤ most }
-    ensures bound { (L.shown launcher.new).count ≤ most }
-    ensures stays { Stays seat.old seat.new }
+    requires bound { (P.Launcher.shown crew.old.launcher).count ≤ most }
+    ensures bound { (P.Launcher.shown crew.new.launcher).count ≤ most }
+    ensures stays { Stays crew.old.caller.seat crew.new.caller.seat }
 {
     if let Some(launch) = launch {
-        let _ = drive(
-            rt, alloc, halls, seat, launch, conf, launcher, clock, gate, shelf,
-        );
+        let _ = drive(stage, crew, launch);
     }
 }
 
 // The ask is made, and what it starts or waits for is brought to its end.
-fn asked<N: Names, R: Wait, L: Launcher, C: Clock, G: Gate, S: Shelf>(
-    rt: &R,
-    alloc: Global,
-    halls: &Halls<N>,
-    seat: &mut Seat<N>,
+fn asked<P: Platform>(
+    stage: &Stage<'_, P>,
+    crew: &mut Crew<P>,
     hall: HallNo,
     client: u32,
-    ask: Ask,
-    body: &[u8],
-    conf: &Conf,
-    launcher: &mut L,
-    clock: &mut C,
-    gate: &G,
-    shelf: &S,
+    message: Message<'_>,
 ) -> Saying
-    requires bound { (L.shown launcher.old).count ≤ most }
-    requires spells { Spells ask body.now }
-    ensures bound { (L.shown launcher.new).count ≤ most }
-    ensures says { IsAnswered (Client client) hall ask seat.old seat.new result }
-    ensures stays { Stays seat.old seat.new }
+    requires bound { (P.Launcher.shown crew.old.launcher).count ≤ most }
+    requires spells { Spells message.ask message.body.now }
+    ensures bound { (P.Launcher.shown crew.new.launcher).count ≤ most }
+    ensures says { IsAnswered (Client client) hall message.entry.ask crew.old.caller.seat crew.new.caller.seat result }
+    ensures stays { Stays crew.old.caller.seat crew.new.caller.seat }
 {
-    let now = clock.now();
+    let now = crew.caller.clock.now();
     let session = SessionId::Client(client);
-    match ask_in(rt, alloc, halls, seat, hall, now, session, ask, body, shelf) {
+    match ask_in(stage, &mut crew.caller.seat, hall, now, session, message) {
         Ok(Called { receipt, launch }) => {
-            brought_to_end(
-                rt, alloc, halls, seat, launch, conf, launcher, clock, gate, shelf,
-            );
-            settled(
-                rt,
-                halls,
-                seat,
-                hall,
-                SessionId::Client(client),
-                receipt,
-                clock,
-            )
+            brought_to_end(stage, crew, launch);
+            let session = SessionId::Client(client);
+            settled(stage, &mut crew.caller, hall, session, receipt)
         }
         Err(fault) => refused(fault),
     }
 }
 
 // The hall of the uid of a HELLO, where the client has no context.
-fn hall_of_hello(place: &Place, ask: &Ask) -> Option<HallNo>
+fn hall_of_hello(place: &Place, ask: &AskStep<'_>) -> Option<HallNo>
     ensures { MatchOption result (IsHello ask.now → place.now.greeted ≡ true) (λ hall. (place.now.greeted ≡ false) × IsHelloOf hall ask.now) }
 {
     match ask {
-        Ask::Hello(greeting) if !place.greeted => Some(HallNo::of_uid(greeting.uid)),
+        AskStep::Hello(greeting) if !place.greeted => Some(HallNo::of_uid(greeting.uid)),
         _ => None,
     }
 }
@@ -108,73 +79,51 @@ fn is_done(saying: &Saying) -> bool
 }
 
 // A HELLO of a client without a context: it may move first.
-fn greeted<N: Names, R: Wait, L: Launcher, C: Clock, G: Gate, S: Shelf>(
-    rt: &R,
-    alloc: Global,
-    halls: &Halls<N>,
-    seat: &mut Seat<N>,
+fn greeted<P: Platform>(
+    stage: &Stage<'_, P>,
+    crew: &mut Crew<P>,
     place: &mut Place,
     there: HallNo,
     client: u32,
-    ask: Ask,
-    body: &[u8],
-    conf: &Conf,
-    launcher: &mut L,
-    clock: &mut C,
-    gate: &G,
-    shelf: &S,
+    message: Message<'_>,
 ) -> Saying
-    requires bound { (L.shown launcher.old).count ≤ most }
-    requires spells { Spells ask body.now }
-    requires hello { IsHelloOf there ask }
+    requires bound { (P.Launcher.shown crew.old.launcher).count ≤ most }
+    requires spells { Spells message.ask message.body.now }
+    requires hello { IsHelloOf there message.ask }
     requires first { place.old.greeted ≡ false }
-    ensures bound { (L.shown launcher.new).count ≤ most }
-    ensures says { Says (Client client) (standing_of place.old seat.old) body.now result (standing_of place.new seat.new) }
-    ensures moves { Moves place.old.hall place.new.hall seat.old seat.new }
+    ensures bound { (P.Launcher.shown crew.new.launcher).count ≤ most }
+    ensures says { Says (Client client) (standing_of place.old crew.old.caller.seat) message.entry.body.now result
+        (standing_of place.new crew.new.caller.seat) }
+    ensures moves { Moves place.old.hall place.new.hall crew.old.caller.seat crew.new.caller.seat }
 {
-    match moved(rt, halls, seat, place.hall, there, client, clock, shelf) {
+    match moved(stage, &mut crew.caller, place.hall, there, client) {
         None => {}
         Some(saying) => return saying,
     }
     place.hall = there;
-    let saying = asked(
-        rt, alloc, halls, seat, there, client, ask, body, conf, launcher, clock, gate, shelf,
-    );
+    let saying = asked(stage, crew, there, client, message);
     place.greeted = is_done(&saying);
     saying
 }
 
 /// What is to be said of the message with this body: it is asked in the client's hall, and what it starts is brought to its end. It may wait.
-pub fn answered<N: Names, R: Wait, L: Launcher, C: Clock, G: Gate, S: Shelf>(
-    rt: &R,
-    alloc: Global,
-    halls: &Halls<N>,
-    seat: &mut Seat<N>,
+pub fn answered<P: Platform>(
+    stage: &Stage<'_, P>,
+    crew: &mut Crew<P>,
     place: &mut Place,
     client: u32,
     body: &[u8],
-    conf: &Conf,
-    launcher: &mut L,
-    clock: &mut C,
-    gate: &G,
-    shelf: &S,
 ) -> Saying
-    requires bound { (L.shown launcher.old).count ≤ most }
-    ensures bound { (L.shown launcher.new).count ≤ most }
-    ensures says { Says (Client client) (standing_of place.old seat.old) body.now result (standing_of place.new seat.new) }
-    ensures moves { Moves place.old.hall place.new.hall seat.old seat.new }
+    requires bound { (P.Launcher.shown crew.old.launcher).count ≤ most }
+    ensures bound { (P.Launcher.shown crew.new.launcher).count ≤ most }
+    ensures says { Says (Client client) (standing_of place.old crew.old.caller.seat) body.now result (standing_of place.new crew.new.caller.seat) }
+    ensures moves { Moves place.old.hall place.new.hall crew.old.caller.seat crew.new.caller.seat }
 {
-    match Ask::read(alloc, body) {
+    match AskStep::read(stage.alloc, body) {
         Err(error) => Saying::Short(error.errno()),
         Ok(ask) => match hall_of_hello(place, &ask) {
-            Some(there) => greeted(
-                rt, alloc, halls, seat, place, there, client, ask, body, conf, launcher, clock,
-                gate, shelf,
-            ),
-            None => asked(
-                rt, alloc, halls, seat, place.hall, client, ask, body, conf, launcher, clock, gate,
-                shelf,
-            ),
+            Some(there) => greeted(stage, crew, place, there, client, Message { ask, body }),
+            None => asked(stage, crew, place.hall, client, Message { ask, body }),
         },
     }
 }

@@ -36,5 +36,6 @@ mod standing;
 mod turns;
 mod wire;
 
+pub use rk_child::{Caller, Clock, Crew, Gate, Platform, Shelf, Stage};
 pub use serving::{Served, serve};
 pub use wire::Wire;

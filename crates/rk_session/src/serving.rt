@@ -1,7 +1,7 @@
 //! A session from its opening to its end.
 ghost use Rattle.std.specs.Prelude.{◌≡◌, ◌≤◌, ◌+◌, [], MatchBool};
 ghost use Rattle.rk_names.specs.declared.numbers.SessionId.TheVariants.{Client};
-ghost use Rattle.rk_devices.specs.Counts.{most};
+ghost use Rattle.rk_devices.specs.Counts.{most, raised_by};
 ghost use Rattle.rk_talk.specs.Stays.{Stays};
 ghost use Rattle.rk_session.specs.Moving.{Moves};
 ghost use Rattle.rk_session.specs.Parts.{Counts, TakesAll};
@@ -11,16 +11,10 @@ ghost use Rattle.rk_session.specs.Talk.{EndCounts, Serves, Talked};
 use crate::standing::{Place, leave, open};
 use crate::turns::next_turn;
 use crate::wire::Wire;
-use rk_conf::Conf;
-use rk_devices::{Clock, Gate, Launcher};
+use rk_devices::{MAX_READS, PIECE};
 use rk_frame::Frames;
-use rk_hall::{HallNo, Halls, Names, Seat};
-use rk_talk::Shelf;
-use std::alloc::Global;
-use std::sync::Wait;
-
-/// The most reads of one session.
-pub const MAX_READS: u32 = 1_048_576;
+use rk_hall::HallNo;
+use rk_talk::{Crew, Platform, Stage};
 
 /// How a session ended.
 #[derive(Clone, Copy, Debug, PartialEq, Eq)]
@@ -40,33 +34,24 @@ pub enum Served {
 }
 
 // Takes all messages that are there.
-fn take_all<N: Names, R: Wait, W: Wire, L: Launcher, C: Clock, G: Gate, S: Shelf>(
-    rt: &R,
-    alloc: Global,
-    halls: &Halls<N>,
-    seat: &mut Seat<N>,
-    place: &mut Place,
+fn take_all<P: Platform, W: Wire>(
+    stage: &Stage<'_, P>,
+    crew: &mut Crew<P>,
     client: u32,
+    place: &mut Place,
     frames: &mut Frames,
-    conf: &Conf,
     wire: &mut W,
-    launcher: &mut L,
-    clock: &mut C,
-    gate: &G,
-    shelf: &S,
 ) -> Result<(), Served>
-    requires bound { (L.shown launcher.old).count ≤ most }
-    ensures bound { (L.shown launcher.new).count ≤ most }
-    ensures takes { TakesAll (Client client) result (W.shown wire.old) frames.old (standing_of place.old seat.old)
-        (W.shown wire.new) frames.new (standing_of place.new seat.new) }
+    requires bound { (P.Launcher.shown crew.old.launcher).count ≤ most }
+    ensures bound { (P.Launcher.shown crew.new.launcher).count ≤ most }
+    ensures takes { TakesAll (Client client) result (W.shown wire.old) frames.old (standing_of place.old crew.old.caller.seat)
+        (W.shown wire.new) frames.new (standing_of place.new crew.new.caller.seat) }
     ensures count { Counts result (W.shown wire.old).count (W.shown wire.new).count }
     ensures reads { (W.shown wire.new).reads ≡ (W.shown wire.old).reads }
-    ensures moves { Moves place.old.hall place.new.hall seat.old seat.new }
+    ensures moves { Moves place.old.hall place.new.hall crew.old.caller.seat crew.new.caller.seat }
 {
     loop {
-        match next_turn(
-            rt, alloc, halls, seat, place, client, frames, conf, wire, launcher, clock, gate, shelf,
-        ) {
+        match next_turn(stage, crew, client, place, frames, wire) {
             Ok(true) => {}
             Ok(false) => return Ok(()),
             Err(served) => return Err(served),
@@ -75,33 +60,26 @@ fn take_all<N: Names, R: Wait, W: Wire, L: Launcher, C: Clock, G: Gate, S: Shelf
 }
 
 // The reads of a client that was just opened.
-fn talk<N: Names, R: Wait, W: Wire, L: Launcher, C: Clock, G: Gate, S: Shelf>(
-    rt: &R,
-    alloc: Global,
-    halls: &Halls<N>,
-    seat: &mut Seat<N>,
-    place: &mut Place,
+fn talk<P: Platform, W: Wire>(
+    stage: &Stage<'_, P>,
+    crew: &mut Crew<P>,
     client: u32,
+    place: &mut Place,
     frames: Frames,
-    conf: &Conf,
     wire: &mut W,
-    launcher: &mut L,
-    clock: &mut C,
-    gate: &G,
-    shelf: &S,
 ) -> Served
     requires frames { (frames.bytes ≡ []) × (4096 ≤ frames.room) }
     requires first { place.old ≡ at_first }
-    requires bound { (L.shown launcher.old).count ≤ most }
-    ensures bound { (L.shown launcher.new).count ≤ most }
-    ensures talked { Talked (Client client) result seat.old seat.new (W.shown wire.old) (W.shown wire.new) }
+    requires bound { (P.Launcher.shown crew.old.launcher).count ≤ most }
+    ensures bound { (P.Launcher.shown crew.new.launcher).count ≤ most }
+    ensures talked { Talked (Client client) result crew.old.caller.seat crew.new.caller.seat (W.shown wire.old) (W.shown wire.new) }
     ensures fault { EndCounts result (W.shown wire.old).count (W.shown wire.new).count }
-    ensures turns { result ≡ Served.TurnsUsed → 1048576 ≤ (W.shown wire.new).reads }
+    ensures turns { result ≡ Served.TurnsUsed → (W.shown wire.new).reads ≡ raised_by 1048576 (W.shown wire.old).reads }
     ensures reads { (W.shown wire.new).reads ≤ (W.shown wire.old).reads + 1048576 }
-    ensures moves { Moves place.old.hall place.new.hall seat.old seat.new }
+    ensures moves { Moves place.old.hall place.new.hall crew.old.caller.seat crew.new.caller.seat }
 {
     let mut frames = frames;
-    let mut piece = [0u8; 4096];
+    let mut piece = [0u8; PIECE];
     for _ in 0..MAX_READS {
         let count = match wire.read(&mut piece) {
             Ok(0) => return Served::Ended,
@@ -112,21 +90,7 @@ fn talk<N: Names, R: Wait, W: Wire, L: Launcher, C: Clock, G: Gate, S: Shelf>(
             Ok(()) => {}
             Err(_) => unreachable!(),
         }
-        match take_all(
-            rt,
-            alloc,
-            halls,
-            seat,
-            place,
-            client,
-            &mut frames,
-            conf,
-            wire,
-            launcher,
-            clock,
-            gate,
-            shelf,
-        ) {
+        match take_all(stage, crew, client, place, &mut frames, wire) {
             Ok(()) => {}
             Err(served) => return served,
         }
@@ -138,30 +102,23 @@ fn talk<N: Names, R: Wait, W: Wire, L: Launcher, C: Clock, G: Gate, S: Shelf>(
 ///
 /// The client's number must not be another's that is served; the frames are new, and take no memory for what a read brings. In every exit the client is
 /// reported gone. It may wait, for locks, for outcomes and for the handlers that it has started, and holds no lock while it reads or writes.
-pub fn serve<N: Names, R: Wait, W: Wire, L: Launcher, C: Clock, G: Gate, S: Shelf>(
-    rt: &R,
-    alloc: Global,
-    halls: &Halls<N>,
-    seat: &mut Seat<N>,
+pub fn serve<P: Platform, W: Wire>(
+    stage: &Stage<'_, P>,
+    crew: &mut Crew<P>,
     client: u32,
     frames: Frames,
-    conf: &Conf,
     wire: &mut W,
-    launcher: &mut L,
-    clock: &mut C,
-    gate: &G,
-    shelf: &S,
 ) -> Served
     requires frames { (frames.bytes ≡ []) × (4096 ≤ frames.room) }
-    requires bound { (L.shown launcher.old).count ≤ most }
-    ensures bound { (L.shown launcher.new).count ≤ most }
-    ensures stays { Stays seat.old seat.new }
-    ensures talked { Serves (Client client) result seat.old seat.new (W.shown wire.old) (W.shown wire.new) }
+    requires bound { (P.Launcher.shown crew.old.launcher).count ≤ most }
+    ensures bound { (P.Launcher.shown crew.new.launcher).count ≤ most }
+    ensures stays { Stays crew.old.caller.seat crew.new.caller.seat }
+    ensures talked { Serves (Client client) result crew.old.caller.seat crew.new.caller.seat (W.shown wire.old) (W.shown wire.new) }
     ensures fault { EndCounts result (W.shown wire.old).count (W.shown wire.new).count }
-    ensures turns { result ≡ Served.TurnsUsed → 1048576 ≤ (W.shown wire.new).reads }
+    ensures turns { result ≡ Served.TurnsUsed → (W.shown wire.new).reads ≡ raised_by 1048576 (W.shown wire.old).reads }
     ensures reads { (W.shown wire.new).reads ≤ (W.shown wire.old).reads + 1048576 }
 {
-    match open(rt, halls, seat, HallNo::Zero, client, clock, shelf) {
+    match open(stage, &mut crew.caller, HallNo::Zero, client) {
         None => {}
         Some(refusal) => {
             drop(refusal);
@@ -172,10 +129,7 @@ pub fn serve<N: Names, R: Wait, W: Wire, L: Launcher, C: Clock, G: Gate, S: Shel
         hall: HallNo::Zero,
         greeted: false,
     };
-    let served = talk(
-        rt, alloc, halls, seat, &mut place, client, frames, conf, wire, launcher, clock, gate,
-        shelf,
-    );
-    drop(leave(rt, halls, seat, place.hall, client, clock));
+    let served = talk(stage, crew, client, &mut place, frames, wire);
+    drop(leave(stage, &mut crew.caller, place.hall, client));
     served
 }

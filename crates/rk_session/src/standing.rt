@@ -8,11 +8,10 @@ ghost use Rattle.rk_session.specs.Moving.{HasMoved, HasOpened, Leaves};
 
 use rk_child::fail;
 use rk_devices::Clock;
-use rk_hall::{Called, HallNo, Halls, Lapse, Launch, Names, Owed, Receipt, Seat};
+use rk_hall::{Called, HallNo, Lapse, Launch, Owed, Receipt};
 use rk_machine::Answer;
 use rk_names::SessionId;
-use rk_talk::{Saying, Shelf, open_in, refused};
-use std::sync::Wait;
+use rk_talk::{Caller, Platform, Saying, Stage, open_in, refused};
 
 /// Where a client stands, and whether it has a context there.
 #[derive(Clone, Copy, Debug, PartialEq, Eq)]
@@ -24,17 +23,15 @@ pub struct Place {
 }
 
 // Ends a launch of which nothing is to come.
-fn spend<N: Names, R: Wait, C: Clock>(
-    rt: &R,
-    halls: &Halls<N>,
-    seat: &mut Seat<N>,
-    launch: Option<Launch<N>>,
-    clock: &mut C,
+fn spend<P: Platform>(
+    stage: &Stage<'_, P>,
+    caller: &mut Caller<P>,
+    launch: Option<Launch<P::Names>>,
 )
-    ensures { Stays seat.old seat.new }
+    ensures { Stays caller.old.seat caller.new.seat }
 {
     if let Some(launch) = launch {
-        fail(rt, halls, seat, launch, clock);
+        fail(stage, caller, launch);
     }
 }
 
@@ -51,22 +48,19 @@ fn refusal_of(receipt: Receipt) -> Option<Saying>
 }
 
 /// Opens the client in a hall. What is to be said where it can't be: the refusal of its receipt, or an errno, or nothing.
-pub fn open<N: Names, R: Wait, C: Clock, S: Shelf>(
-    rt: &R,
-    halls: &Halls<N>,
-    seat: &mut Seat<N>,
+pub fn open<P: Platform>(
+    stage: &Stage<'_, P>,
+    caller: &mut Caller<P>,
     hall: HallNo,
     client: u32,
-    clock: &mut C,
-    shelf: &S,
 ) -> Option<Saying>
-    ensures { HasOpened (Client client) hall seat.old seat.new result }
+    ensures { HasOpened (Client client) hall caller.old.seat caller.new.seat result }
 {
-    let now = clock.now();
+    let now = caller.clock.now();
     let session = SessionId::Client(client);
-    match open_in(rt, halls, seat, hall, now, session, shelf) {
+    match open_in(stage, &mut caller.seat, hall, now, session) {
         Ok(Called { receipt, launch }) => {
-            spend(rt, halls, seat, launch, clock);
+            spend(stage, caller, launch);
             refusal_of(receipt)
         }
         Err(fault) => Some(refused(fault)),
@@ -74,44 +68,43 @@ pub fn open<N: Names, R: Wait, C: Clock, S: Shelf>(
 }
 
 /// Reports that the client is gone, and gives the receipt of that step.
-pub fn leave<N: Names, R: Wait, C: Clock>(
-    rt: &R,
-    halls: &Halls<N>,
-    seat: &mut Seat<N>,
+pub fn leave<P: Platform>(
+    stage: &Stage<'_, P>,
+    caller: &mut Caller<P>,
     hall: HallNo,
     client: u32,
-    clock: &mut C,
 ) -> Result<Receipt, Lapse>
     ensures gone { IfOk result (λ r. (r.hall ≡ hall) × (r.told ≡ told.Gone (Client client))) }
-    ensures leaves { Leaves hall seat.old seat.new }
+    ensures leaves { Leaves hall caller.old.seat caller.new.seat }
 {
+    let now = caller.clock.now();
+    let session = SessionId::Client(client);
     let Owed {
         value: (),
         receipt: last,
-    } = halls.gone(rt, seat, hall, clock.now(), SessionId::Client(client));
+    } = stage
+        .halls
+        .gone(stage.rt, &mut caller.seat, hall, now, session);
     last
 }
 
 /// Takes a client from the hall where it stands to this one: it is opened there, and then gone here. What is to be said where it can't be opened; then it
 /// stays.
-pub fn moved<N: Names, R: Wait, C: Clock, S: Shelf>(
-    rt: &R,
-    halls: &Halls<N>,
-    seat: &mut Seat<N>,
+pub fn moved<P: Platform>(
+    stage: &Stage<'_, P>,
+    caller: &mut Caller<P>,
     here: HallNo,
     there: HallNo,
     client: u32,
-    clock: &mut C,
-    shelf: &S,
 ) -> Option<Saying>
-    ensures { HasMoved (Client client) here there seat.old seat.new result }
+    ensures { HasMoved (Client client) here there caller.old.seat caller.new.seat result }
 {
     if there == here {
         return None;
     }
-    match open(rt, halls, seat, there, client, clock, shelf) {
+    match open(stage, caller, there, client) {
         None => {
-            drop(leave(rt, halls, seat, here, client, clock));
+            drop(leave(stage, caller, here, client));
             None
         }
         Some(refusal) => Some(refusal),

@@ -12,14 +12,12 @@ use crate::answering::answered;
 use crate::serving::Served;
 use crate::standing::Place;
 use crate::wire::Wire;
-use rk_conf::Conf;
-use rk_devices::{Clock, DeviceFault, Gate, Launcher};
+use rk_devices::{DeviceFault, Gate};
 use rk_frame::{Frames, Next};
-use rk_hall::{Halls, Names, Receipt, Seat};
+use rk_hall::Receipt;
 use rk_names::{Errno, SessionId};
-use rk_talk::{Saying, Shelf, answer_frame, refusal_frame};
+use rk_talk::{Crew, Platform, Saying, Stage, answer_frame, refusal_frame};
 use std::alloc::Global;
-use std::sync::Wait;
 
 // Notes the receipt, and then writes the reply of its answer. Where there is no memory for the reply, it is want of memory, and nothing is noted.
 fn tell<W: Wire>(alloc: Global, wire: &mut W, receipt: Receipt) -> Result<(), DeviceFault>
@@ -45,17 +43,16 @@ fn refuse<W: Wire>(wire: &mut W, errno: Errno) -> Result<(), DeviceFault>
 }
 
 // Tells the gate of a reply that was written. A write that failed ends the session.
-fn written<R: Wait, G: Gate>(
-    rt: &R,
+fn written<P: Platform>(
+    stage: &Stage<'_, P>,
     client: u32,
     reply: Result<(), DeviceFault>,
-    gate: &G,
 ) -> Result<(), Served>
     ensures { result ≡ ended reply }
 {
     match reply {
         Ok(()) => {
-            gate.answered(rt, SessionId::Client(client));
+            stage.gate.answered(stage.rt, SessionId::Client(client));
             Ok(())
         }
         Err(_) => Err(Served::WriteFault),
@@ -63,13 +60,11 @@ fn written<R: Wait, G: Gate>(
 }
 
 // Says what is to be said.
-fn say<R: Wait, W: Wire, G: Gate>(
-    rt: &R,
-    alloc: Global,
+fn say<P: Platform, W: Wire>(
+    stage: &Stage<'_, P>,
     wire: &mut W,
     client: u32,
     saying: Saying,
-    gate: &G,
 ) -> Result<(), Served>
     requires { IsSettled saying }
     ensures speaks { Speaks saying result (W.shown wire.old) (W.shown wire.new) }
@@ -77,72 +72,53 @@ fn say<R: Wait, W: Wire, G: Gate>(
     ensures reads { (W.shown wire.new).reads ≡ (W.shown wire.old).reads }
 {
     match saying {
-        Saying::Noted(receipt) => written(rt, client, tell(alloc, wire, receipt), gate),
-        Saying::Short(errno) => written(rt, client, refuse(wire, errno), gate),
+        Saying::Noted(receipt) => written(stage, client, tell(stage.alloc, wire, receipt)),
+        Saying::Short(errno) => written(stage, client, refuse(wire, errno)),
         Saying::Behind => Err(Served::Behind),
     }
 }
 
 // One message: it is answered, and what is to be said is said.
-fn turn<N: Names, R: Wait, W: Wire, L: Launcher, C: Clock, G: Gate, S: Shelf>(
-    rt: &R,
-    alloc: Global,
-    halls: &Halls<N>,
-    seat: &mut Seat<N>,
-    place: &mut Place,
+fn turn<P: Platform, W: Wire>(
+    stage: &Stage<'_, P>,
+    crew: &mut Crew<P>,
     client: u32,
+    place: &mut Place,
     body: &[u8],
-    conf: &Conf,
     wire: &mut W,
-    launcher: &mut L,
-    clock: &mut C,
-    gate: &G,
-    shelf: &S,
 ) -> Result<(), Served>
-    requires bound { (L.shown launcher.old).count ≤ most }
-    ensures bound { (L.shown launcher.new).count ≤ most }
-    ensures ends { TurnEnds (Client client) (standing_of place.old seat.old) body.now (standing_of place.new seat.new) result
+    requires bound { (P.Launcher.shown crew.old.launcher).count ≤ most }
+    ensures bound { (P.Launcher.shown crew.new.launcher).count ≤ most }
+    ensures ends { TurnEnds (Client client) (standing_of place.old crew.old.caller.seat) body.now (standing_of place.new crew.new.caller.seat) result
         (W.shown wire.old) (W.shown wire.new) }
     ensures count { Counts result (W.shown wire.old).count (W.shown wire.new).count }
     ensures reads { (W.shown wire.new).reads ≡ (W.shown wire.old).reads }
-    ensures moves { Moves place.old.hall place.new.hall seat.old seat.new }
+    ensures moves { Moves place.old.hall place.new.hall crew.old.caller.seat crew.new.caller.seat }
 {
-    let saying = answered(
-        rt, alloc, halls, seat, place, client, body, conf, launcher, clock, gate, shelf,
-    );
-    say(rt, alloc, wire, client, saying, gate)
+    let saying = answered(stage, crew, place, client, body);
+    say(stage, wire, client, saying)
 }
 
 /// Takes the next message, if there is one, and says what is to be said of it. An `Err` is the session's end.
-pub fn next_turn<N: Names, R: Wait, W: Wire, L: Launcher, C: Clock, G: Gate, S: Shelf>(
-    rt: &R,
-    alloc: Global,
-    halls: &Halls<N>,
-    seat: &mut Seat<N>,
-    place: &mut Place,
+pub fn next_turn<P: Platform, W: Wire>(
+    stage: &Stage<'_, P>,
+    crew: &mut Crew<P>,
     client: u32,
+    place: &mut Place,
     frames: &mut Frames,
-    conf: &Conf,
     wire: &mut W,
-    launcher: &mut L,
-    clock: &mut C,
-    gate: &G,
-    shelf: &S,
 ) -> Result<bool, Served>
-    requires bound { (L.shown launcher.old).count ≤ most }
-    ensures bound { (L.shown launcher.new).count ≤ most }
-    ensures takes { TakesOne (Client client) result (W.shown wire.old) frames.old (standing_of place.old seat.old)
-        (W.shown wire.new) frames.new (standing_of place.new seat.new) }
+    requires bound { (P.Launcher.shown crew.old.launcher).count ≤ most }
+    ensures bound { (P.Launcher.shown crew.new.launcher).count ≤ most }
+    ensures takes { TakesOne (Client client) result (W.shown wire.old) frames.old (standing_of place.old crew.old.caller.seat)
+        (W.shown wire.new) frames.new (standing_of place.new crew.new.caller.seat) }
     ensures count { Counts result (W.shown wire.old).count (W.shown wire.new).count }
     ensures reads { (W.shown wire.new).reads ≡ (W.shown wire.old).reads }
-    ensures moves { Moves place.old.hall place.new.hall seat.old seat.new }
+    ensures moves { Moves place.old.hall place.new.hall crew.old.caller.seat crew.new.caller.seat }
 {
     match frames.next() {
         Next::Whole(body) => {
-            match turn(
-                rt, alloc, halls, seat, place, client, body, conf, wire, launcher, clock, gate,
-                shelf,
-            ) {
+            match turn(stage, crew, client, place, body, wire) {
                 Ok(()) => Ok(true),
                 Err(served) => Err(served),
             }

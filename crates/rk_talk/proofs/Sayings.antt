@@ -4,7 +4,7 @@ use Rattle.std.specs.Prelude.{Result, Err}
 use Rattle.rk_names.specs.declared.errors.Errno.{Errno}
 use Rattle.rk_names.specs.declared.errors.Errno.TheVariants.{Enomem}
 use Rattle.rk_names.specs.declared.numbers.SessionId.{SessionId}
-use Rattle.rk_message.specs.declared.ask.Ask.{Ask}
+use Rattle.rk_message.specs.Ask.{Ask}
 use Rattle.rk_message.specs.declared.fault.Fault.{Fault}
 use Rattle.rk_message.specs.declared.fault.ReadError.{ReadError}
 use Rattle.rk_message.specs.declared.fault.ReadError.TheVariants as unreadable
@@ -15,7 +15,7 @@ use Rattle.rk_message.specs.Table.{asks}
 use Rattle.rk_auth.specs.declared.session.Outcome.{Outcome}
 use Rattle.rk_auth.specs.declared.session.Outcome.TheVariants.{Found, Failed}
 use Rattle.rk_machine.specs.Steps.{told_as}
-use Rattle.rk_machine.specs.declared.event.Event.TheVariants.{Asked}
+use Rattle.rk_machine.specs.declared.event.EventOf.TheVariants.{Asked}
 use Rattle.rk_record.specs.declared.hall_no.HallNo.{HallNo}
 use Rattle.rk_record.specs.declared.told.Told.TheVariants as told
 use Rattle.rk_record.specs.Turns.{Noted}

@@ -3,9 +3,9 @@ use Rattle.std.specs.Prelude.{ℕ, ◌≡◌, ◌<◌, ◌⊎◌, List, Option, 
 use Rattle.rk_names.specs.declared.errors.Errno.{Errno}
 use Rattle.rk_names.specs.declared.errors.Errno.TheVariants.{Enomem, Edquot}
 use Rattle.rk_names.specs.declared.numbers.SessionId.{SessionId}
-use Rattle.rk_message.specs.declared.ask.Ask.{Ask}
+use Rattle.rk_message.specs.Ask.{Ask}
 use Rattle.rk_message.specs.Bodies.{Spells, IsRefusedAs}
-use Rattle.rk_machine.specs.declared.event.Event.TheVariants as event
+use Rattle.rk_machine.specs.declared.event.EventOf.TheVariants as event
 use Rattle.rk_machine.specs.declared.event.Answer.{Answer}
 use Rattle.rk_machine.specs.declared.event.Answer.TheVariants as answer
 use Rattle.rk_record.specs.declared.hall_no.HallNo.{HallNo}

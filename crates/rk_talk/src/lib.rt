@@ -16,18 +16,23 @@
 //!
 //! # How it is built
 //!
-//! `calls` has the calls with their second try, `saying` what is to be said, `replies` the bytes, `frame` where they lie, `shelf` where volumes go. In
-//! `specs/`, `Said` says why a reply is given, `Replies` how it is spelt and which want memory, and `Stays` what a seat keeps.
+//! `stage` has what is around a session, `message` an ask with its body, and `calls` the calls with their second try. `saying` has what is to be said,
+//! `replies` its bytes, `frame` where they lie, and `shelf` where volumes go. In `specs/`, `Said` says why a reply is given, `Replies` how it is spelt
+//! and which want memory, and `Stays` what a seat keeps.
 #![tactic(auto)]
 
 mod calls;
 mod frame;
+mod message;
 mod replies;
 mod saying;
 mod shelf;
+mod stage;
 
 pub use calls::{ask_in, open_in};
 pub use frame::Frame;
+pub use message::Message;
 pub use replies::{answer_frame, refusal_frame};
 pub use saying::{Saying, refused, settled};
 pub use shelf::Shelf;
+pub use stage::{Caller, Crew, Platform, Stage};

@@ -2,12 +2,12 @@
 ghost use Rattle.rk_talk.specs.Said.{IsCollected, Settles, IsRefusal};
 ghost use Rattle.rk_talk.specs.Stays.{Stays};
 
+use crate::stage::{Caller, Platform, Stage};
 use rk_devices::Clock;
-use rk_hall::{CallFault, HallNo, Halls, Names, Owed, Receipt, Seat};
+use rk_hall::{CallFault, HallNo, Owed, Receipt, Seat};
 use rk_machine::Answer;
 use rk_names::{Errno, Moment, SessionId};
 use rk_wait::await_outcome;
-use std::sync::Wait;
 
 /// What is to be said of a message.
 #[derive(Debug, Drop)]
@@ -21,10 +21,9 @@ pub enum Saying {
 }
 
 // The outcome of the session's wait.
-fn collected<N: Names, R: Wait>(
-    rt: &R,
-    halls: &Halls<N>,
-    seat: &mut Seat<N>,
+fn collected<P: Platform>(
+    stage: &Stage<'_, P>,
+    seat: &mut Seat<P::Names>,
     hall: HallNo,
     now: Moment,
     session: SessionId,
@@ -32,7 +31,7 @@ fn collected<N: Names, R: Wait>(
     ensures said { IsCollected hall now session seat.old seat.new result }
     ensures stays { Stays seat.old seat.new }
 {
-    let Owed { value, receipt } = await_outcome(rt, halls, seat, hall, session, now);
+    let Owed { value, receipt } = await_outcome(stage.rt, stage.halls, seat, hall, session, now);
     drop(value);
     match receipt {
         Ok(receipt) => Saying::Noted(receipt),
@@ -43,30 +42,29 @@ fn collected<N: Names, R: Wait>(
 /// What is to be said of an ask whose call gave this receipt: its answer, or where the session waits, the outcome of its wait, when it is there. The
 /// outcome is collected at the moment that the clock tells then, and not at that at which the wait began. Its start is to be brought to its end before.
 /// It may wait.
-pub fn settled<N: Names, R: Wait, C: Clock>(
-    rt: &R,
-    halls: &Halls<N>,
-    seat: &mut Seat<N>,
+pub fn settled<P: Platform>(
+    stage: &Stage<'_, P>,
+    caller: &mut Caller<P>,
     hall: HallNo,
     session: SessionId,
     receipt: Receipt,
-    clock: &mut C,
 ) -> Saying
-    ensures said { Settles hall session receipt seat.old seat.new result }
-    ensures stays { Stays seat.old seat.new }
+    ensures said { Settles hall session receipt caller.old.seat caller.new.seat result }
+    ensures stays { Stays caller.old.seat caller.new.seat }
 {
     match receipt.answer() {
         Answer::Done(_) | Answer::Refused(_) => Saying::Noted(receipt),
         Answer::Start(_, _) | Answer::Waiting(_) | Answer::Negate(_) => {
             // (copies: the toolchain's borrow checks don't cover a value that is passed on twice)
             let (place, waiting) = (hall, session);
-            halls.until_ready(rt, place, waiting);
-            collected(rt, halls, seat, hall, clock.now(), session)
+            stage.halls.until_ready(stage.rt, place, waiting);
+            let now = caller.clock.now();
+            collected(stage, &mut caller.seat, hall, now, session)
         }
     }
 }
 
-/// What is to be said of an ask whose call was refused: EDQUOT where the record is full, ENOMEM for want of memory, and nothing where the session's
+/// What is to be said of an ask whose call was refused: EDQUOT where the record is full, ENOMEM where memory ran out, and nothing where the session's
 /// seat has seen more than the hall has.
 pub fn refused(fault: CallFault) -> Saying
     ensures { IsRefusal fault result }

@@ -12,7 +12,7 @@
 //!
 //! # How it is built
 //!
-//! A module for each layer, and in it one for each library or subject: `values` (frames, messages, patterns, the configuration), `state` (tables, rings,
+//! A module for each layer, and in it one for each library or subject: `values` (numbers, frames, messages, patterns, the configuration), `state` (tables, rings,
 //! sessions, the laws of the machine), `book` (what happens to a Book, in plain lines), `replay` (happenings, scripts), `texts` (what faults print).
 //! `same` compares a value with the one that was worked out.
 #![tactic(auto)]

@@ -8,7 +8,7 @@ use Rattle.rk_names.specs.declared.numbers.SessionId.TheVariants.{Client, Handle
 use Rattle.rk_names.specs.declared.errors.Errno.TheVariants as errno
 use Rattle.rk_names.specs.Numbers.{errno_number, errno_named}
 use Rattle.rk_names.specs.Rules.{payload_fault}
-use Rattle.rk_message.specs.declared.ask.Ask.{Ask}
+use Rattle.rk_message.specs.Ask.{Ask}
 use Rattle.rk_message.specs.declared.reply.Reply.{Reply}
 use Rattle.rk_message.specs.Wire.{spelling}
 use Rattle.rk_message.specs.Asks.{IsAsk, ask_message}
@@ -22,8 +22,8 @@ use Rattle.rk_machine.specs.declared.event.Ran.{Ran}
 use Rattle.rk_machine.specs.declared.event.Ran.TheVariants.{Plain, Piped, Failed}
 use Rattle.rk_machine.specs.declared.event.How.{How}
 use Rattle.rk_machine.specs.declared.event.How.TheVariants.{Exit, Signal, Fault}
-use Rattle.rk_machine.specs.declared.event.Event.{Event}
-use Rattle.rk_machine.specs.declared.event.Event.TheVariants as event
+use Rattle.rk_machine.specs.Event.{Event}
+use Rattle.rk_machine.specs.declared.event.EventOf.TheVariants as event
 use Rattle.rk_machine.specs.declared.event.Answer.{Answer}
 use Rattle.rk_machine.specs.declared.event.Answer.TheVariants as answer
 use Rattle.rk_frame.specs.Framing.{frame}

@@ -4,8 +4,8 @@ use Rattle.std.proofs.Common.{length-append, arith}
 use Rattle.std.specs.Prelude.{pos}
 use Rattle.std.specs.Int.{w32, to_be_bytes}
 use Rattle.rk_names.specs.Numbers.{serial_of}
-use Rattle.rk_message.specs.declared.ask.Ask.{Ask}
-use Rattle.rk_message.specs.declared.ask.Ask.TheVariants as ask
+use Rattle.rk_message.specs.Ask.{Ask}
+use Rattle.rk_message.specs.declared.ask.AskOf.TheVariants as ask
 use Rattle.rk_message.specs.declared.fault.Fault.{Fault}
 use Rattle.rk_message.specs.declared.fault.ReadError.{ReadError}
 use Rattle.rk_message.specs.declared.fault.ReadError.TheVariants as error

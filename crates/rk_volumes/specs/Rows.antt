@@ -2,14 +2,14 @@
 use Rattle.std.specs.Prelude.{ℕ, List, [], ◌∷◌, ◌++◌, pos, Some}
 use Rattle.std.specs.Int.{w32, to_be_bytes}
 use Rattle.rk_names.specs.Numbers.{errno_number}
-use Rattle.rk_message.specs.declared.ask.Ask.{Ask}
-use Rattle.rk_message.specs.declared.ask.Ask.TheVariants as ask
+use Rattle.rk_message.specs.Ask.{Ask}
+use Rattle.rk_message.specs.declared.ask.AskOf.TheVariants as ask
 use Rattle.rk_message.specs.Wire.{spelling}
 use Rattle.rk_message.specs.Asks.{ask_message}
 use Rattle.rk_message.specs.Replies.{reply_message}
 use Rattle.rk_macro.specs.declared.subject.Subject.{Subject}
-use Rattle.rk_machine.specs.declared.event.Event.{Event}
-use Rattle.rk_machine.specs.declared.event.Event.TheVariants as event
+use Rattle.rk_machine.specs.Event.{Event}
+use Rattle.rk_machine.specs.declared.event.EventOf.TheVariants as event
 use Rattle.rk_machine.specs.declared.event.Answer.{Answer}
 use Rattle.rk_machine.specs.declared.event.Answer.TheVariants as answer
 use Rattle.rk_volumes.specs.Kinds.{session_kind, session_number, ran_kind, how_kind, status_of, put_out, op_kind}

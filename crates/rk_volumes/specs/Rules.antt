@@ -7,8 +7,8 @@ use Rattle.rk_message.specs.Asks.{IsAsk}
 use Rattle.rk_message.specs.Replies.{IsReply}
 use Rattle.rk_macro.specs.declared.subject.Subject.{Subject}
 use Rattle.rk_machine.specs.declared.event.How.{How}
-use Rattle.rk_machine.specs.declared.event.Event.{Event}
-use Rattle.rk_machine.specs.declared.event.Event.TheVariants as event
+use Rattle.rk_machine.specs.Event.{Event}
+use Rattle.rk_machine.specs.declared.event.EventOf.TheVariants as event
 use Rattle.rk_machine.specs.declared.event.Answer.{Answer}
 use Rattle.rk_machine.specs.declared.event.Answer.TheVariants as answer
 use Rattle.rk_record.specs.declared.recorded.Recorded.{Recorded}

@@ -9,7 +9,7 @@ use crate::fault::Unread;
 use crate::kinds::op;
 use crate::row::Row;
 use crate::subject::read_subject;
-use rk_machine::Answer;
+use rk_machine::{Answer, BoxedSubject};
 use rk_message::{ReadError, Reply};
 use rk_names::{Errno, Serial};
 use std::alloc::Global;
@@ -75,7 +75,10 @@ fn start(alloc: Global, row: &Row<'_>) -> Result<Answer, Unread>
         return Err(Unread::Bad);
     };
     let subject = read_subject(alloc, op, row.rest)?;
-    Ok(Answer::Start(key, subject))
+    match BoxedSubject::new(alloc, subject) {
+        Ok(subject) => Ok(Answer::Start(key, subject)),
+        Err(_) => Err(Unread::NoMemory),
+    }
 }
 
 /// The key that a row has with nothing beside it.

@@ -27,6 +27,7 @@ pub(crate) fn put_answer(
             put_row(out, 1, 0, 0, &body)
         }
         Answer::Start(key, subject) => {
+            let subject = subject.as_subject();
             let rest = subject_text(alloc, subject)?;
             put_row(out, 2, op_kind(subject.op), key.get(), &rest)
         }

@@ -4,7 +4,7 @@ ghost use Rattle.rk_message.specs.Wire.{spelling};
 ghost use Rattle.rk_message.specs.Asks.{ask_message};
 ghost use Rattle.rk_machine.specs.declared.event.How.{How as Hows};
 ghost use Rattle.rk_machine.specs.declared.event.Ran.{Ran as Rans};
-ghost use Rattle.rk_message.specs.declared.ask.Ask.{Ask as Asks};
+ghost use Rattle.rk_message.specs.Ask.{Ask as Asks};
 ghost use Rattle.rk_names.specs.declared.numbers.SessionId.{SessionId as Sessions};
 ghost use Rattle.rk_volumes.specs.Kinds.{session_kind, session_number, ran_kind, how_kind, status_of, put_out};
 ghost use Rattle.rk_volumes.specs.Rows.{event_row, row_bytes};

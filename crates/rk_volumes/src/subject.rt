@@ -1,7 +1,7 @@
 //! What is started, as bytes and back.
 ghost use Rattle.std.specs.Prelude.{◌≡◌, ◌≢◌, ◌<◌, ◌≤◌, ◌++◌, ℕ, List, length, pos, Some, Err, IfOk, IfSome, IfNone, OnOk, MatchOption};
 ghost use Rattle.std.specs.Int.{w32, to_be_bytes};
-ghost use Rattle.rk_message.specs.declared.ask.Ask.TheVariants.{Request as request};
+ghost use Rattle.rk_message.specs.declared.ask.AskOf.TheVariants.{Request as request};
 ghost use Rattle.rk_macro.specs.declared.subject.Subject.{Subject as Subjects};
 ghost use Rattle.rk_volumes.specs.Rows.{subject_bytes};
 ghost use Rattle.rk_volumes.specs.Rules.{IsWord, IsSubject};

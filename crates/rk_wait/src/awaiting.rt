@@ -3,7 +3,7 @@ ghost use Rattle.std.specs.Prelude.{◌≡◌, ◌≢◌, ℕ, IfOk, Err};
 ghost use Rattle.rk_hall.specs.Seats.{IsOutcomeOrNone, OwedSeen};
 
 use rk_hall::{HallNo, Halls, Lapse, Names, Owed, Seat};
-use rk_machine::{Answer, Event};
+use rk_machine::{Answer, EventOf};
 use rk_names::{Errno, Moment, SessionId};
 use std::sync::Wait;
 
@@ -18,7 +18,7 @@ pub fn await_outcome<N: Names, R: Wait>(
     session: SessionId,
     now: Moment,
 ) -> Owed<Answer>
-    ensures step { OwedSeen hall now (Event.Collect session) seat.old seat.new result.receipt }
+    ensures step { OwedSeen hall now (EventOf.Collect session) seat.old seat.new result.receipt }
     ensures value { IfOk result.receipt (λ r. r.answer ≡ result.value) }
     ensures outcome { IsOutcomeOrNone result.value }
     ensures stray { result.receipt ≡ Err Lapse.Stray → result.value ≡ Answer.Refused Errno.Einval }

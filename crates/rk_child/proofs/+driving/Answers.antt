@@ -20,8 +20,8 @@ asks::answered-returns-in-Ok-ask_in-clause-says g t c = (
   c.of_serial-hall.result,
   c.of_serial-hall.ensures,
   IsMade c.in-Ok.ask c.settled.result c.in-Ok.ensures.found
-      (receipt_answers (Handler c.args.key) c.of_serial-hall.result c.now.result c.in-Ok.ask c.args.seat.now c.ask_in.new.seat
-      c.brought_to_end.new.seat c.settled.new.seat c.in-Ok-ask_in.field-0.receipt c.settled.result c.in-Ok-ask_in.ensures.receipt
+      (receipt_answers (Handler c.args.key) c.of_serial-hall.result c.now-now.result c.in-Ok.ask c.args.crew.now.caller.seat c.ask_in.new.seat
+      c.brought_to_end.new.crew.caller.seat c.settled.new.caller.seat c.in-Ok-ask_in.field-0.receipt c.settled.result c.in-Ok-ask_in.ensures.receipt
       c.in-Ok-ask_in.ensures.seat c.brought_to_end.ensures.stays c.settled.ensures.said),
 )
 
@@ -36,13 +36,13 @@ asks::answered-returns-in-Err-ask_in-clause-says g t c = (
 
 pub driving::run-returns : goal.driving::run-returns
 driving::run-returns g t c =
-    let shown = g.L.Launcher.shown in
-    let a = shown c.args.launcher.now in
+    let shown = g.P.Launcher.Launcher.shown in
+    let a = shown c.args.crew.now.launcher in
     let s = shown c.start.new.self in
-    let b = shown c.attend-read.new.launcher in
+    let b = shown c.attend-read.new.crew.launcher in
     let depth = ap (λ (x : TokenShown). x.depth) c.in-Some.ensures.token in
-    let h = ran_with c.args.launch.depth a s b (shown c.back-2.new.self) (g.L.Started.Child.shown c.in-Ok-start.child)
-    (g.L.Started.Child.shown c.attend-read.new.child) (g.L.Started.Child.shown c.wait_for-ended.new.child) c.attend-read.result.0 c.wait_for-ended.result
+    let h = ran_with c.args.launch.depth a s b (shown c.back-2.new.self) (g.P.Launcher.Started.Child.shown c.in-Ok-start.child)
+    (g.P.Launcher.Started.Child.shown c.attend-read.new.child) (g.P.Launcher.Started.Child.shown c.wait_for-ended.new.child) c.attend-read.result.0 c.wait_for-ended.result
     c.with_output-driven.result.0 c.attend-read.result.1 c.requires.depth c.in-Ok-start.ensures.starts c.in-Ok-start.ensures.fresh
     (subst (λ n. Runs (n + 1) s b) depth c.attend-read.ensures.runs) c.attend-read.ensures.child c.attend-read.ensures.end c.attend-read.ensures.fault
     c.wait_for-ended.ensures c.back-2.ensures c.with_output-driven.ensures.told in
@@ -51,7 +51,7 @@ driving::run-returns g t c =
       runs = h.0;
       fault = h.1;
       end = h.2;
-      why = run_why c.args.conf.now c.args.launch.subject c.with_output-driven.result.0 h.3;
+      why = run_why c.args.stage.now.conf.now c.args.launch.subject c.with_output-driven.result.0 h.3;
       next = search rules;
       stays = search rules;
     }

@@ -30,9 +30,9 @@ decreases-driving::run g l = 8 * (256 - l.launch.depth) + 6
 
 abbrev pub invariant-asks::answer_all-loop : goal.invariant-asks::answer_all-loop
 invariant-asks::answer_all-loop g l = record {
-  runs : Runs (l.depth + 1) (g.L.Launcher.shown l.fn.launcher) (g.L.Launcher.shown l.launcher);
-  child : GoesOn (g.L.Started.Child.shown l.fn.child) (g.L.Started.Child.shown l.child);
-  stays : Stays l.fn.seat l.seat;
+  runs : Runs (l.depth + 1) (g.P.Launcher.Launcher.shown l.fn.crew.launcher) (g.P.Launcher.Launcher.shown l.crew.launcher);
+  child : GoesOn (g.P.Launcher.Started.Child.shown l.fn.child) (g.P.Launcher.Started.Child.shown l.child);
+  stays : Stays l.fn.crew.caller.seat l.crew.caller.seat;
 }
 
 abbrev pub decreases-asks::answer_all-loop : goal.decreases-asks::answer_all-loop
@@ -41,8 +41,8 @@ decreases-asks::answer_all-loop g l = length l.frames.bytes
 abbrev pub invariant-asks::serve_asks-loop-reads : goal.invariant-asks::serve_asks-loop-reads
 invariant-asks::serve_asks-loop-reads g l = record {
   room : 4096 ≤ l.frames.room;
-  reads : l.reads ≤ (g.L.Started.Child.shown l.child).reads;
-  runs : Runs (l.depth + 1) (g.L.Launcher.shown l.fn.launcher) (g.L.Launcher.shown l.launcher);
-  child : GoesOn (g.L.Started.Child.shown l.fn.child) (g.L.Started.Child.shown l.child);
-  stays : Stays l.fn.seat l.seat;
+  reads : l.reads ≤ (g.P.Launcher.Started.Child.shown l.child).reads;
+  runs : Runs (l.depth + 1) (g.P.Launcher.Launcher.shown l.fn.crew.launcher) (g.P.Launcher.Launcher.shown l.crew.launcher);
+  child : GoesOn (g.P.Launcher.Started.Child.shown l.fn.child) (g.P.Launcher.Started.Child.shown l.child);
+  stays : Stays l.fn.crew.caller.seat l.crew.caller.seat;
 }

@@ -6,9 +6,9 @@ use Rattle.rk_names.specs.declared.numbers.SessionId.{SessionId}
 use Rattle.rk_names.specs.declared.numbers.SessionId.TheVariants.{Client, Handler}
 use Rattle.rk_names.specs.declared.errors.Errno.{Errno}
 use Rattle.rk_names.specs.declared.errors.Errno.TheVariants as errno
-use Rattle.rk_message.specs.declared.ask.Ask.{Ask}
-use Rattle.rk_message.specs.declared.ask.Ask.TheVariants as ask
-use Rattle.rk_machine.specs.declared.event.Event.TheVariants.{Asked}
+use Rattle.rk_message.specs.Ask.{Ask}
+use Rattle.rk_message.specs.declared.ask.AskOf.TheVariants as ask
+use Rattle.rk_machine.specs.declared.event.EventOf.TheVariants.{Asked}
 use Rattle.rk_machine.specs.declared.event.Answer.{Answer}
 use Rattle.rk_machine.specs.declared.event.Answer.TheVariants.{Refused}
 use Rattle.rk_machine.specs.World.{World}

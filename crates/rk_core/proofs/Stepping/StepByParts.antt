@@ -8,7 +8,7 @@ use Rattle.rk_auth.specs.declared.construction.Stage.{Stage}
 use Rattle.rk_auth.specs.declared.construction.Stage.TheVariants.{Starting, Plain, Piped, Negating}
 use Rattle.rk_auth.specs.Sessions.{stage_of, unspent, is_running}
 use Rattle.rk_auth.specs.Changes as sessions
-use Rattle.rk_machine.specs.declared.event.Event.TheVariants.{Launched, Ended}
+use Rattle.rk_machine.specs.declared.event.EventOf.TheVariants.{Launched, Ended}
 use Rattle.rk_machine.specs.declared.event.Ran.{Ran}
 use Rattle.rk_machine.specs.declared.event.How.{How}
 use Rattle.rk_machine.specs.declared.event.Answer.{Answer}

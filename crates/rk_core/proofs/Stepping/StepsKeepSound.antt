@@ -15,7 +15,7 @@ use Rattle.rk_auth.specs.Changes.{with_context, launched}
 use Rattle.rk_machine.specs.Completion.{completed, ended, keys_ended}
 use Rattle.rk_auth.specs.Sessions.{Sessions, new_session}
 use Rattle.rk_rings.specs.Ring.{has_link}
-use Rattle.rk_machine.specs.declared.event.Event.{Event}
+use Rattle.rk_machine.specs.Event.{Event}
 use Rattle.rk_machine.specs.declared.event.Answer.{Answer}
 use Rattle.rk_machine.specs.World.{World, drawn, empty_world}
 use Rattle.rk_core.specs.Sound.{IsSound}

@@ -17,7 +17,7 @@ use Rattle.rk_auth.specs.declared.construction.Construction.{Construction}
 use Rattle.rk_auth.specs.declared.construction.Stage.TheVariants.{Plain, Piped, Negating}
 use Rattle.rk_auth.specs.Sessions.{Sessions, new_session, unspent}
 use Rattle.rk_auth.specs.Changes.{with_context, with_wait, new_wait, with_setting, with_assumed, with_construction}
-use Rattle.rk_machine.specs.declared.event.Event.{Event}
+use Rattle.rk_machine.specs.Event.{Event}
 use Rattle.rk_machine.specs.declared.event.Answer.{Answer}
 use Rattle.rk_machine.specs.World.{World, drawn}
 use Rattle.rk_machine.specs.Asker.{serial_named}

@@ -6,14 +6,14 @@ use crate::fakes::still::{Bin, NOW, Stopped};
 use crate::halls::calls::{calls, greets, requests};
 use crate::halls::paths::all;
 use crate::same::same;
-use rk_child::drive;
+use rk_child::{Caller, Crew, Driven, Gate, Platform, Stage, drive};
 use rk_conf::Conf;
-use rk_devices::{Driven, Gate};
 use rk_hall::{HallNo, Halls, Names, Seat, Volume, settle};
-use rk_machine::Event;
+use rk_machine::EventStep;
 use rk_names::{Serial, SessionId};
 use rk_wait::await_outcome;
 use std::alloc::Global;
+use std::marker::PhantomData;
 use std::process::Abort;
 use std::sync::Wait;
 
@@ -43,8 +43,8 @@ impl Adder {
                 1
             }
             Adder::Other => {
-                drop(calls(rt, halls, seat, Event::Opened(OTHER)));
-                drop(calls(rt, halls, seat, Event::Asked(OTHER, hello_of(1004))));
+                drop(calls(rt, halls, seat, EventStep::Opened(OTHER)));
+                drop(calls(rt, halls, seat, EventStep::Asked(OTHER, hello_of(1004))));
                 adds(rt, alloc, halls, seat, OTHER);
                 2
             }
@@ -61,7 +61,7 @@ fn adds<N: Names, R: Wait + Abort>(
     client: SessionId,
 ) {
     let ask = add(alloc, b"k").expect(rt, "an ask");
-    drop(calls(rt, halls, seat, Event::Asked(client, ask)));
+    drop(calls(rt, halls, seat, EventStep::Asked(client, ask)));
 }
 
 /// What is played, and what comes of it.
@@ -99,46 +99,87 @@ impl Handling {
         let mut seat = halls.seat(rt).expect(rt, "a seat");
         drop(greets(rt, &halls, &mut seat));
         let clients = self.adder.add(rt, alloc, &halls, &mut seat);
-        let came = self.comes(rt, alloc, &halls, &mut seat);
+        let (seat, came) = self.comes(rt, alloc, &halls, seat);
         same(rt, (came.fake.out, seat.clients()), (0, clients));
         seats.push(seat).expect(rt, "memory");
         let steps = settles(rt, alloc, halls, seats);
         is_as_wanted(rt, &came, &self, steps);
     }
 
-    /// The client, which has come, asks for its key, the launch is brought to its end, and the client is told what came of it.
-    pub fn comes<N: Names, R: Wait + Abort>(
+    /// The client, which has come, asks for its key, the launch is brought to its end, and the client is told what came of it. The seat comes back.
+    pub fn comes<'a, N: Names, R: Wait + Abort>(
         &self,
-        rt: &R,
+        rt: &'a R,
         alloc: Global,
-        halls: &Halls<N>,
-        seat: &mut Seat<N>,
-    ) -> Came {
+        halls: &'a Halls<N>,
+        seat: Seat<N>,
+    ) -> (Seat<N>, Came) {
         let conf = Conf::read(alloc, self.conf).expect(rt, "lines");
         let fake = Fake::new(alloc, self.programs, self.most, self.fuse);
-        let mut fake = fake.expect(rt, "memory");
-        let (receipt, launch) = requests(rt, alloc, halls, seat);
+        let launcher = fake.expect(rt, "memory");
+        let mut seat = seat;
+        let (receipt, launch) = requests(rt, halls, &mut seat);
         drop(receipt);
-        let bin = Bin::new();
-        let driven = drive(
-            rt,
-            alloc,
-            halls,
+        let (gate, shelf) = (Open, Bin::new());
+        let stage = stage_of(rt, alloc, halls, &conf, &gate, &shelf);
+        let caller = Caller {
             seat,
-            launch,
-            &conf,
-            &mut fake,
-            &mut Stopped,
-            &Open,
-            &bin,
-        );
-        let outcome = await_outcome(rt, halls, seat, HallNo::Zero, CLIENT, NOW);
-        Came {
+            clock: Stopped,
+        };
+        let mut crew: Crew<Alone<N, R>> = Crew { caller, launcher };
+        let driven = drive(&stage, &mut crew, launch);
+        let Crew {
+            caller,
+            launcher: fake,
+        } = crew;
+        let Caller {
+            mut seat,
+            clock: Stopped,
+        } = caller;
+        let outcome = await_outcome(rt, halls, &mut seat, HallNo::Zero, CLIENT, NOW);
+        let came = Came {
             driven,
             outcome: in_words(&outcome.value),
             fake,
-            volumes: bin.count(),
-        }
+            volumes: shelf.count(),
+        };
+        (seat, came)
+    }
+}
+
+/// What is around a launch whose requester does nothing beside it: time stands still.
+pub struct Alone<N: Names, R>(PhantomData<(N, R)>);
+
+impl<N: Names, R: Wait> Platform for Alone<N, R> {
+    type Names = N;
+
+    type Runtime = R;
+
+    type Launcher = Fake;
+
+    type Clock = Stopped;
+
+    type Gate = Open;
+
+    type Shelf = Bin;
+}
+
+/// A launch and its requester have all of this to themselves.
+fn stage_of<'a, N: Names, R: Wait>(
+    rt: &'a R,
+    alloc: Global,
+    halls: &'a Halls<N>,
+    conf: &'a Conf,
+    gate: &'a Open,
+    shelf: &'a Bin,
+) -> Stage<'a, Alone<N, R>> {
+    Stage {
+        rt,
+        alloc,
+        halls,
+        conf,
+        gate,
+        shelf,
     }
 }
 
@@ -185,7 +226,7 @@ fn is_as_wanted<R: Abort>(rt: &R, came: &Came, handling: &Handling, steps: u64) 
 
 /// Holds nobody.
 #[derive(Drop)]
-struct Open;
+pub struct Open;
 
 impl Gate for Open {
     fn started<R: Wait>(&self, rt: &R, key: Serial) {

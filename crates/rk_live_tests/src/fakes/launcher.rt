@@ -30,13 +30,42 @@ pub enum Call {
 #[derive(Clone, Copy)]
 pub struct Fuse(pub usize, pub Call, pub u64);
 
+/// A program as it is played.
+#[derive(Drop)]
+struct Played {
+    /// What it puts out.
+    bytes: Vec<u8>,
+    endless: bool,
+    ends: How,
+}
+
+impl Played {
+    /// The program, which puts out so many bytes at most. An `Err` is out of memory.
+    fn of(alloc: Global, program: &Program, most: usize) -> Result<Played, AllocError> {
+        let mut bytes = spelled(alloc, program.says)?;
+        bytes.truncate(most);
+        Ok(Played {
+            bytes,
+            endless: program.endless,
+            ends: program.ends,
+        })
+    }
+
+    /// The same once more. An `Err` is out of memory.
+    fn copy(&self) -> Result<Played, AllocError> {
+        Ok(Played {
+            bytes: self.bytes.clone()?,
+            endless: self.endless,
+            ends: self.ends,
+        })
+    }
+}
+
 /// Starts the programs, one after the other.
 #[derive(Drop)]
 pub struct Fake {
     alloc: Global,
-    programs: &'static [Program],
-    /// How many bytes each puts out at most.
-    most: usize,
+    programs: Vec<Played>,
     fuse: Option<Fuse>,
     /// How many were to be started.
     asked: usize,
@@ -54,10 +83,11 @@ pub struct Fake {
 }
 
 impl Fake {
-    /// An `Err` is want of memory. What is kept of a few programs wants no more of it.
+    /// It starts these programs, each of which puts out so many bytes at most. An `Err` is out of memory. What is kept of a few programs takes no more of
+    /// it.
     pub fn new(
         alloc: Global,
-        programs: &'static [Program],
+        programs: &[Program],
         most: usize,
         fuse: Option<Fuse>,
     ) -> Result<Fake, AllocError>
@@ -65,10 +95,13 @@ impl Fake {
     {
         let told = Vec::with_capacity(alloc, 256)?;
         let words = Vec::with_capacity(alloc, 64)?;
+        let mut played = Vec::with_capacity(alloc, programs.len())?;
+        for program in programs {
+            played.push(Played::of(alloc, program, most)?)?;
+        }
         Ok(Fake {
             alloc,
-            programs,
-            most,
+            programs: played,
             fuse,
             asked: 0,
             told,
@@ -82,23 +115,21 @@ impl Fake {
         })
     }
 
-    /// The program that is next, what it puts out, and room for what it is told; none where the start is to fail, or there is no memory.
-    fn next(&self) -> Option<(Program, Vec<u8>, Vec<u8>)> {
+    /// The program that is next, and room for what it is told; none where the start is to fail, or there is no memory.
+    fn next(&self) -> Option<(Played, Vec<u8>)> {
         if burns(self.fuse, self.asked, Call::Start, 1) {
             return None;
         }
-        let program = *self.programs.get(self.asked.checked_sub(1)?)?;
-        let mut bytes = spelled(self.alloc, program.says).ok()?;
-        bytes.truncate(self.most);
+        let program = self.programs.get(self.asked.checked_sub(1)?)?;
+        let program = program.copy().ok()?;
         let told = Vec::with_capacity(self.alloc, 64).ok()?;
-        Some((program, bytes, told))
+        Some((program, told))
     }
 }
 
 /// A program that runs.
 pub struct Running {
-    program: Program,
-    bytes: Vec<u8>,
+    program: Played,
     given: usize,
     fuse: Option<Fuse>,
     number: usize,
@@ -161,8 +192,8 @@ impl Child for Running {
             self.failed = self.failed.saturating_add(1);
             return Err(DeviceFault);
         }
-        let count = if self.given < self.bytes.len() {
-            give(&self.bytes[self.given..], buf)
+        let count = if self.given < self.program.bytes.len() {
+            give(&self.program.bytes[self.given..], buf)
         } else if self.program.endless {
             give(b"a", buf)
         } else {
@@ -195,17 +226,17 @@ impl Launcher for Fake {
 
     fn start(&mut self, command: &Command) -> Result<Running, DeviceFault> {
         self.asked = self.asked.saturating_add(1);
-        let (Some((program, bytes, told)), Some(out)) = (self.next(), self.out.checked_add(1))
-        else {
+        let (Some((program, told)), Some(out)) = (self.next(), self.out.checked_add(1)) else {
             self.failed = self.failed.saturating_add(1);
             return Err(DeviceFault);
         };
         let _ = put_words(&mut self.words, command);
+        // The call tells the prover that the count is a u64.
+        let _failed = self.failures();
         self.out = out;
         self.deepest = self.deepest.max(self.out);
         Ok(Running {
             program,
-            bytes,
             given: 0,
             fuse: self.fuse,
             number: self.asked,
@@ -221,7 +252,6 @@ impl Launcher for Fake {
     fn back(&mut self, child: Running) {
         let Running {
             program: _,
-            bytes: _,
             given: _,
             fuse: _,
             number: _,

@@ -2,6 +2,7 @@
 
 use crate::fakes::still::NOW;
 use rk_devices::{Driven, Gate};
+use rk_hall::{Halls, Names};
 use rk_names::{Moment, Serial, SessionId};
 use std::sync::Wait;
 use std::sync::atomic::AtomicU64;
@@ -68,14 +69,16 @@ pub fn later(seconds: u64) -> Moment {
 /// A start and a reply each begin a turn; a handler that was started is held until another turn has come, and takes so many seconds from then on, by the
 /// clock of the sessions.
 #[derive(Drop)]
-pub struct Held<'a, R> {
+pub struct Held<'a, N: Names, R> {
     pub rt: &'a R,
+    /// The halls of the sessions.
+    pub halls: &'a Halls<N>,
     pub turns: &'a Turns,
     pub until: u64,
     pub takes: u64,
 }
 
-impl<'a, R: Clock> Gate for Held<'a, R> {
+impl<'a, N: Names, R: Clock> Gate for Held<'a, N, R> {
     fn started<W: Wait>(&self, rt: &W, key: Serial) {
         let _ = rt;
         let _ = key;

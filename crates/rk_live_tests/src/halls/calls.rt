@@ -4,8 +4,7 @@ ghost use Rattle.rk_hall.specs.Seats.{IsCall};
 use crate::asks::{CLIENT, hello, request};
 use crate::fakes::still::NOW;
 use rk_hall::{Called, HallNo, Halls, Launch, Names, Owed, Receipt, Seat};
-use rk_machine::{Event, Ran};
-use std::alloc::Global;
+use rk_machine::{EventStep, Ran};
 use std::process::Abort;
 use std::sync::Wait;
 
@@ -42,7 +41,7 @@ pub fn calls<N: Names, R: Wait + Abort>(
     rt: &R,
     halls: &Halls<N>,
     seat: &mut Seat<N>,
-    event: Event,
+    event: EventStep<'_>,
 ) -> Receipt
     requires { IsCall event }
 {
@@ -58,20 +57,19 @@ pub fn greets<N: Names, R: Wait + Abort>(
     halls: &Halls<N>,
     seat: &mut Seat<N>,
 ) -> (Receipt, Receipt) {
-    let opened = calls(rt, halls, seat, Event::Opened(CLIENT));
-    let rings = calls(rt, halls, seat, Event::Asked(CLIENT, hello()));
+    let opened = calls(rt, halls, seat, EventStep::Opened(CLIENT));
+    let rings = calls(rt, halls, seat, EventStep::Asked(CLIENT, hello()));
     (opened, rings)
 }
 
 /// It requests the key `a`, whose construction begins.
 pub fn requests<N: Names, R: Wait + Abort>(
     rt: &R,
-    alloc: Global,
     halls: &Halls<N>,
     seat: &mut Seat<N>,
 ) -> (Receipt, Launch<N>) {
-    let ask = request(alloc, b"a").expect(rt, "an ask");
-    let called = halls.call(rt, seat, HallNo::Zero, NOW, Event::Asked(CLIENT, ask));
+    let ask = request(b"a").expect(rt, "an ask");
+    let called = halls.call(rt, seat, HallNo::Zero, NOW, EventStep::Asked(CLIENT, ask));
     let Called { receipt, launch } = called.expect(rt, "a receipt");
     let launch = launch.expect(rt, "a launch");
     (receipt, launch)

@@ -14,8 +14,8 @@ use crate::halls::paths::{all, collects, ends, goes, keep, negates, runs, say, s
 use crate::record::events::key;
 use crate::same::same;
 use rk_hall::{CallFault, Called, HallNo, Halls, Launch, Names, Receipt, Seat, Volume, settle};
-use rk_machine::{Event, How};
-use rk_message::Ask;
+use rk_machine::{EventStep, How};
+use rk_message::AskStep;
 use rk_names::{Errno, Payload};
 use std::alloc::{AllocError, Global};
 use std::process::Abort;
@@ -34,9 +34,9 @@ pub struct Growths {
 /// What wants memory on the path, beside the calls and the receipts.
 #[derive(Drop)]
 struct Needs {
-    request: Ask,
+    request: AskStep<'static>,
     /// That of the other client.
-    other: Ask,
+    other: AskStep<'static>,
     put_out: Payload,
 }
 
@@ -66,14 +66,14 @@ impl Growths {
         receipts: &mut Vec<Receipt>,
     ) {
         let needs = Needs {
-            request: request(alloc, b"a").expect(rt, "memory"),
-            other: request(alloc, b"a").expect(rt, "memory"),
+            request: request(b"a").expect(rt, "a request"),
+            other: request(b"a").expect(rt, "a request"),
             put_out: payload(alloc, b"v").expect(rt, "memory"),
         };
-        if !is_made(rt, halls, seat, receipts, Event::Opened(CLIENT)) {
+        if !is_made(rt, halls, seat, receipts, EventStep::Opened(CLIENT)) {
             return;
         }
-        if is_made(rt, halls, seat, receipts, Event::Asked(CLIENT, hello())) {
+        if is_made(rt, halls, seat, receipts, EventStep::Asked(CLIENT, hello())) {
             self.construct(rt, halls, seat, receipts, needs);
         }
         goes(rt, halls, seat, receipts, CLIENT);
@@ -93,7 +93,7 @@ impl Growths {
             other,
             put_out,
         } = needs;
-        let request = Event::Asked(CLIENT, request);
+        let request = EventStep::Asked(CLIENT, request);
         if let Ok(launch) = tries(rt, halls, seat, receipts, request) {
             let launch = launch.expect(rt, "a launch");
             let waits = self.two && joins(rt, halls, seat, receipts, other);
@@ -135,14 +135,14 @@ fn joins<N: Names, R: Wait + Abort>(
     halls: &Halls<N>,
     seat: &mut Seat<N>,
     receipts: &mut Vec<Receipt>,
-    request: Ask,
+    request: AskStep<'_>,
 ) -> bool {
-    if !is_made(rt, halls, seat, receipts, Event::Opened(OTHER)) {
+    if !is_made(rt, halls, seat, receipts, EventStep::Opened(OTHER)) {
         return false;
     }
-    let joining = Event::Asked(OTHER, joining(key(rt, 4)));
+    let joining = EventStep::Asked(OTHER, joining(key(rt, 4)));
     let waits = is_made(rt, halls, seat, receipts, joining)
-        && is_made(rt, halls, seat, receipts, Event::Asked(OTHER, request));
+        && is_made(rt, halls, seat, receipts, EventStep::Asked(OTHER, request));
     if !waits {
         goes(rt, halls, seat, receipts, OTHER);
     }
@@ -155,7 +155,7 @@ fn is_made<N: Names, R: Wait + Abort>(
     halls: &Halls<N>,
     seat: &mut Seat<N>,
     receipts: &mut Vec<Receipt>,
-    event: Event,
+    event: EventStep<'_>,
 ) -> bool
     requires { IsCall event }
 {
@@ -174,7 +174,7 @@ fn tries<N: Names, R: Wait + Abort>(
     halls: &Halls<N>,
     seat: &mut Seat<N>,
     receipts: &mut Vec<Receipt>,
-    event: Event,
+    event: EventStep<'_>,
 ) -> Result<Option<Launch<N>>, AllocError>
     requires { IsCall event }
 {

@@ -11,17 +11,17 @@ use rk_hall::{
     CallFault, Called, Hall, HallNo, Halls, Names, Receipt, Seat, SettleFault, Total, Volume,
     settle,
 };
-use rk_machine::Event;
+use rk_machine::EventStep;
 use rk_names::SessionId;
 use std::alloc::Global;
 use std::process::Abort;
 use std::sync::Wait;
 
 /// This client comes.
-fn comes(client: u32) -> Event
+fn comes(client: u32) -> EventStep<'static>
     ensures { IsCall result }
 {
-    Event::Opened(SessionId::Client(client))
+    EventStep::Opened(SessionId::Client(client))
 }
 
 /// Three clients come at each of two seats, in turn.
@@ -177,7 +177,7 @@ fn refused<N: Names, R: Wait + Abort>(
     rt: &R,
     halls: &Halls<N>,
     seat: &mut Seat<N>,
-    event: Event,
+    event: EventStep<'_>,
 ) -> Option<CallFault>
     requires { IsCall event }
 {
@@ -264,7 +264,7 @@ fn fills<N: Names, R: Wait + Abort>(
     receipts.push(rings).expect(rt, "memory");
     for name in [b"a", b"b", b"c"] {
         let ask = add(alloc, name).expect(rt, "an ask");
-        let added = calls(rt, halls, seat, Event::Asked(CLIENT, ask));
+        let added = calls(rt, halls, seat, EventStep::Asked(CLIENT, ask));
         receipts.push(added).expect(rt, "memory");
     }
     same(

@@ -5,7 +5,7 @@ use crate::answers::{Said, in_words};
 use crate::asks::{CLIENT, add, hello, payload, request};
 use crate::same::same;
 use rk_core::Limits;
-use rk_machine::{Event, How, Ran};
+use rk_machine::{EventStep, How, Ran};
 use rk_names::{Moment, Serial};
 use rk_record::{Hall, HallFault, HallNo, Receipt};
 use std::alloc::Global;
@@ -62,19 +62,19 @@ pub enum Happens {
 }
 
 /// The event of a table's line.
-fn event(rt: &impl Abort, alloc: Global, happens: Happens) -> Event {
+fn event(rt: &impl Abort, alloc: Global, happens: Happens) -> EventStep<'static> {
     match happens {
-        Happens::Opened => Event::Opened(CLIENT),
-        Happens::Hello => Event::Asked(CLIENT, hello()),
-        Happens::Add(name) => Event::Asked(CLIENT, add(alloc, name).expect(rt, "an ask")),
-        Happens::Request(name) => Event::Asked(CLIENT, request(alloc, name).expect(rt, "an ask")),
-        Happens::Launched(number, ran) => Event::Launched(key(rt, number), ran),
+        Happens::Opened => EventStep::Opened(CLIENT),
+        Happens::Hello => EventStep::Asked(CLIENT, hello()),
+        Happens::Add(name) => EventStep::Asked(CLIENT, add(alloc, name).expect(rt, "an ask")),
+        Happens::Request(name) => EventStep::Asked(CLIENT, request(name).expect(rt, "an ask")),
+        Happens::Launched(number, ran) => EventStep::Launched(key(rt, number), ran),
         Happens::Ended(number, how, bytes) => {
             let put_out = payload(alloc, bytes).expect(rt, "memory");
-            Event::Ended(key(rt, number), how, Some(put_out))
+            EventStep::Ended(key(rt, number), how, Some(put_out))
         }
-        Happens::Collect => Event::Collect(CLIENT),
-        Happens::Gone => Event::Gone(CLIENT),
+        Happens::Collect => EventStep::Collect(CLIENT),
+        Happens::Gone => EventStep::Gone(CLIENT),
     }
 }
 

@@ -3,7 +3,7 @@ use crate::answers::{Said, in_words};
 use crate::asks::{CLIENT, description, hello, user};
 use crate::record::events::{Happens, hall, key, play};
 use crate::same::same;
-use rk_machine::{Event, How, Ran};
+use rk_machine::{Event, EventStep, How, Ran};
 use rk_names::{Errno, Moment, Serial};
 use rk_record::{Hall, HallNo, Receipt};
 use std::alloc::Global;
@@ -61,8 +61,12 @@ fn tells_of_the_wait(rt: &impl Abort, hall: &Hall, key_12: Serial, key_16: Seria
         (hall.depth(key_16), hall.depth(key_12)),
         (Some(1), None),
     );
-    same(rt, hall.owes(&Event::Launched(key_16, Ran::Piped)), true);
-    same(rt, hall.owes(&Event::Collect(CLIENT)), false);
+    same(
+        rt,
+        hall.owes(&EventStep::Launched(key_16, Ran::Piped)),
+        true,
+    );
+    same(rt, hall.owes(&EventStep::Collect(CLIENT)), false);
 }
 
 /// What a handler of this key finds under the name `b`.
@@ -97,34 +101,32 @@ fn is_of(hall: &Hall, receipt: &Receipt, at: usize) -> bool {
 }
 
 /// What the receipt of a HELLO says, the second step of a hall.
-fn says_hello(rt: &impl Abort, receipt: &Receipt) {
+fn says_hello(rt: &impl Abort, alloc: Global, receipt: &Receipt) {
+    let said = EventStep::Asked(CLIENT, hello()).to_owned(alloc);
+    let said = said.expect(rt, "an event");
     same(
         rt,
         (receipt.hall(), receipt.volume(), receipt.number()),
         (HallNo::Zero, 1, 2),
     );
     same(rt, receipt.now(), Moment(101));
-    same(
-        rt,
-        receipt.told().is_of(&Event::Asked(CLIENT, hello())),
-        true,
-    );
+    same(rt, receipt.told().is_of(&said), true);
     same(rt, receipt.told().is_of(&Event::Opened(CLIENT)), false);
     same(rt, in_words(receipt.answer()), Said::Rings(4, 8));
 }
 
 /// The client comes; the receipt says that step.
 fn opens(rt: &impl Abort, hall: &mut Hall) {
-    let receipt = hall.turn(Moment(100), Event::Opened(CLIENT));
+    let receipt = hall.turn(Moment(100), EventStep::Opened(CLIENT));
     let receipt = receipt.expect(rt, "a receipt");
     same(rt, is_of(hall, &receipt, 0), true);
 }
 
 /// It says who it is; the receipt says that step, and no other.
-fn greets(rt: &impl Abort, hall: &mut Hall) {
-    let receipt = hall.turn(Moment(101), Event::Asked(CLIENT, hello()));
+fn greets(rt: &impl Abort, alloc: Global, hall: &mut Hall) {
+    let receipt = hall.turn(Moment(101), EventStep::Asked(CLIENT, hello()));
     let receipt = receipt.expect(rt, "a receipt");
-    says_hello(rt, &receipt);
+    says_hello(rt, alloc, &receipt);
     same(rt, is_of(hall, &receipt, 0), false);
     same(rt, is_of(hall, &receipt, 1), true);
 }
@@ -134,6 +136,6 @@ fn greets(rt: &impl Abort, hall: &mut Hall) {
 fn a_receipt_says_its_step(rt: HostRuntime) {
     let mut hall = hall(&rt, rt.alloc(), 64);
     opens(&rt, &mut hall);
-    greets(&rt, &mut hall);
+    greets(&rt, rt.alloc(), &mut hall);
     drop(hall);
 }

@@ -2,21 +2,21 @@
 ghost use Rattle.std.specs.Prelude.{◌≡◌};
 
 use crate::fakes::launcher::{Fake, Fuse, Program};
-use crate::fakes::still::{Bin, NOW, Stopped};
+use crate::fakes::still::{Bin, NOW};
 use crate::fakes::turns::{Held, Turns, Watched, later};
+use crate::halls::calls::refuse_launch;
 use crate::halls::paths::all;
 use crate::same::same;
 use crate::sessions::line::{Cut, Line};
-use rk_child::fail;
 use rk_conf::Conf;
 use rk_frame::Frames;
 use rk_hall::{Called, Fresh, HallNo, Halls, Names, Receipt, Seat, Told, Volume, settle};
-use rk_machine::Event;
+use rk_machine::{Event, EventStep};
 use rk_message::Ask;
 use rk_names::{Moment, SessionId};
-use rk_session::{Served, serve};
+use rk_session::{Caller, Crew, Platform, Served, Stage, serve};
 use std::alloc::Global;
-use std::marker::{Brand, Send, Sync};
+use std::marker::{Brand, PhantomData, Send, Sync};
 use std::process::Abort;
 use std::sync::Wait;
 use std::thread;
@@ -110,6 +110,23 @@ struct Came {
     out: u64,
 }
 
+/// What is around a session of a scene: its clock and its gate go by turns.
+pub struct Scenery<'a, N: Names, R>(PhantomData<(&'a R, N)>);
+
+impl<'a, N: Names + 'a, R: Wait + Clock + 'a> Platform for Scenery<'a, N, R> {
+    type Names = N;
+
+    type Runtime = R;
+
+    type Launcher = Fake;
+
+    type Clock = Watched<'a>;
+
+    type Gate = Held<'a, N, R>;
+
+    type Shelf = Bin;
+}
+
 /// Whether these bytes are the replies, so often.
 fn is_said(said: &[u8], replies: &[&[u8]], repeats: usize) -> bool {
     let mut rest = said;
@@ -124,43 +141,87 @@ fn is_said(said: &[u8], replies: &[&[u8]], repeats: usize) -> bool {
     rest.is_empty()
 }
 
-/// Serves a session to its end.
+/// What is around a session.
+#[derive(Drop)]
+struct Props<'a, N: Names, R> {
+    conf: Conf,
+    gate: Held<'a, N, R>,
+    shelf: Bin,
+    turns: &'a Turns,
+}
+
+/// What a session has for itself.
+struct Own<N: Names> {
+    seat: Seat<N>,
+    launcher: Fake,
+    client: u32,
+}
+
+/// Serves a session to its end with all of this. The seat and the launcher come back.
+fn serves_with<'a, N: Names, R: Wait + Abort + Clock>(
+    rt: &'a R,
+    alloc: Global,
+    props: &'a Props<'a, N, R>,
+    own: Own<N>,
+    line: &mut Line<'_, R>,
+) -> (Seat<N>, Fake, Served) {
+    let stage: Stage<'a, Scenery<'a, N, R>> = Stage {
+        rt,
+        alloc,
+        halls: props.gate.halls,
+        conf: &props.conf,
+        gate: &props.gate,
+        shelf: &props.shelf,
+    };
+    let Own {
+        seat,
+        launcher,
+        client,
+    } = own;
+    let caller = Caller {
+        seat,
+        clock: Watched { turns: props.turns },
+    };
+    let mut crew: Crew<Scenery<'a, N, R>> = Crew { caller, launcher };
+    let frames = Frames::new(alloc).expect(rt, "memory");
+    let served = serve(&stage, &mut crew, client, frames, line);
+    let Crew { caller, launcher } = crew;
+    let Caller { seat, clock } = caller;
+    drop(clock);
+    (seat, launcher, served)
+}
+
+/// Serves a session to its end. The seat comes back.
 fn serves<'a, N: Names, R: Wait + Abort + Clock>(
     rt: &'a R,
     alloc: Global,
-    halls: &Halls<N>,
-    seat: &mut Seat<N>,
+    halls: &'a Halls<N>,
+    seat: Seat<N>,
     client: u32,
     part: &Part<'a>,
     scene: &Scene,
     turns: &'a Turns,
-) -> Came {
-    let conf = Conf::read(alloc, scene.conf).expect(rt, "lines");
-    let frames = Frames::new(alloc).expect(rt, "memory");
+) -> (Seat<N>, Came) {
     let launcher = Fake::new(alloc, scene.programs, 1_000, scene.fuse);
-    let mut launcher = launcher.expect(rt, "memory");
-    let mut line = Line::new(rt, alloc, turns, part).expect(rt, "memory");
-    let mut clock = Watched { turns };
-    let gate = Held {
-        rt,
-        turns,
-        until: scene.until,
-        takes: scene.takes,
-    };
-    let served = serve(
-        rt,
-        alloc,
-        halls,
+    let own = Own {
         seat,
+        launcher: launcher.expect(rt, "memory"),
         client,
-        frames,
-        &conf,
-        &mut line,
-        &mut launcher,
-        &mut clock,
-        &gate,
-        &Bin::new(),
-    );
+    };
+    let props = Props {
+        conf: Conf::read(alloc, scene.conf).expect(rt, "lines"),
+        gate: Held {
+            rt,
+            halls,
+            turns,
+            until: scene.until,
+            takes: scene.takes,
+        },
+        shelf: Bin::new(),
+        turns,
+    };
+    let mut line = Line::new(rt, alloc, turns, part).expect(rt, "memory");
+    let (seat, launcher, served) = serves_with(rt, alloc, &props, own, &mut line);
     let Line {
         said,
         noted,
@@ -168,14 +229,15 @@ fn serves<'a, N: Names, R: Wait + Abort + Clock>(
         ..
     } = line;
     let Fake { words, out, .. } = launcher;
-    Came {
+    let came = Came {
         served,
         said,
         noted,
         story,
         words,
         out,
-    }
+    };
+    (seat, came)
 }
 
 /// What came of a session is what its part says.
@@ -201,8 +263,8 @@ fn may_serve<N: Names, R: Wait + Abort + Clock>(
     turns: &Turns,
 ) -> Option<Left<N>> {
     let part = part?;
-    let mut seat = halls.seat(rt)?;
-    let came = serves(rt, alloc, halls, &mut seat, client, &part, scene, turns);
+    let seat = halls.seat(rt)?;
+    let (seat, came) = serves(rt, alloc, halls, seat, client, &part, scene, turns);
     is_as_wanted(rt, &part, &came);
     let Came { noted, .. } = came;
     Some(Left {
@@ -305,12 +367,10 @@ fn gather<N: Names>(rt: &impl Abort, scene: &Scene, left: Option<Left<N>>, all: 
 fn crowd<N: Names, R: Wait + Abort>(rt: &R, halls: &Halls<N>, count: u32) -> Seat<N> {
     let mut seat = halls.seat(rt).expect(rt, "a seat");
     for client in 0..count {
-        let opened = Event::Opened(SessionId::Client(u32::MAX - client));
+        let opened = EventStep::Opened(SessionId::Client(u32::MAX - client));
         let called = halls.call(rt, &mut seat, HallNo::One, NOW, opened);
         let Called { receipt: _, launch } = called.expect(rt, "a receipt");
-        if let Some(launch) = launch {
-            fail(rt, halls, &mut seat, launch, &mut Stopped);
-        }
+        refuse_launch(rt, halls, &mut seat, launch);
     }
     seat
 }
@@ -396,8 +456,8 @@ fn lacks<N: Names, R: Wait + Abort + Clock>(
 ) {
     let part = scene.first;
     let mut seats = Vec::with_capacity(alloc, 1).expect(rt, "memory");
-    let mut seat = halls.seat(rt).expect(rt, "a seat");
-    let came = serves(rt, alloc, &halls, &mut seat, 1, &part, scene, turns);
+    let seat = halls.seat(rt).expect(rt, "a seat");
+    let (seat, came) = serves(rt, alloc, &halls, seat, 1, &part, scene, turns);
     same(rt, (came.out, seat.clients(), turns.late()), (0, 0, 0));
     seats.push(seat).expect(rt, "memory");
     let none: Vec<Volume<N>> = Vec::new(alloc);

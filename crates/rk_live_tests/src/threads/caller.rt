@@ -9,7 +9,7 @@ use crate::halls::paths::keep;
 use crate::same::same;
 use crate::threads::random::Numbers;
 use rk_hall::{Called, HallNo, Halls, Launch, Names, Owed, Receipt, Seat, Volume};
-use rk_machine::Event;
+use rk_machine::EventStep;
 use rk_names::SessionId;
 use std::alloc::Global;
 use std::process::Abort;
@@ -36,7 +36,7 @@ pub struct Caller<N: Names> {
 
 impl<N: Names> Caller<N> {
     /// A call, and what the client is answered in the end.
-    fn calls<R: Wait + Abort>(&mut self, rt: &R, halls: &Halls<N>, event: Event) -> Said
+    fn calls<R: Wait + Abort>(&mut self, rt: &R, halls: &Halls<N>, event: EventStep<'_>) -> Said
         requires { IsCall event }
     {
         let called = halls.call(rt, &mut self.seat, self.hall, NOW, event);
@@ -72,7 +72,7 @@ impl<N: Names> Caller<N> {
         let mut done: u32 = 0;
         for turn in 0..count {
             let ask = numbers.ask(alloc, newest).expect(rt, "an ask");
-            let asked = Event::Asked(self.client, ask);
+            let asked = EventStep::Asked(self.client, ask);
             match self.calls(rt, halls, asked) {
                 Said::Number(number) => {
                     newest = newest.max(number);
@@ -120,10 +120,10 @@ pub fn work<N: Names, R: Wait + Abort>(
         receipts: Vec::new(alloc),
         volumes: Vec::new(alloc),
     };
-    let opening = Event::Opened(caller.client);
+    let opening = EventStep::Opened(caller.client);
     let opened = caller.calls(rt, halls, opening);
     same(rt, opened, Said::Number(0));
-    let greeting = Event::Asked(caller.client, hello_of(uid));
+    let greeting = EventStep::Asked(caller.client, hello_of(uid));
     caller.calls(rt, halls, greeting);
     let numbers = Numbers(u64::from(uid));
     caller.asks(rt, alloc, halls, numbers, asks);

@@ -2,13 +2,11 @@
 ghost use Rattle.std.specs.Prelude.{◌<◌};
 
 use crate::asks::{add, find, request};
-use rk_message::Ask;
+use rk_message::AskStep;
 use std::alloc::{AllocError, Global};
 
-/// From this letter on so many names are asked for, fewer than a user may have keys.
-const FIRST_NAME: u8 = b'0';
-
-const NAMES: u8 = 64;
+/// The names that are asked for, one letter each, fewer than a user may have keys.
+const NAMES: &[u8; 64] = b"0123456789:;<=>?@ABCDEFGHIJKLMNOPQRSTUVWXYZ[\\]^_`abcdefghijklmno";
 
 /// A key is picked among about so many that were made last.
 const LAST: u8 = 32;
@@ -36,26 +34,28 @@ impl Numbers {
     }
 
     /// What is asked next, where this is the greatest serial that the client was told: some asks come more often than others.
-    pub fn ask(&mut self, alloc: Global, newest: u32) -> Result<Ask, AllocError> {
-        let name = [FIRST_NAME.wrapping_add(self.below(NAMES))];
+    pub fn ask(&mut self, alloc: Global, newest: u32) -> Result<AskStep<'static>, AllocError> {
+        let first = usize::from(self.below(64));
+        let names = &NAMES[..];
+        let name = names.get(first..first + 1).unwrap_or(b"0");
         let back = u32::from(self.below(LAST)) * STRIDE;
         let key = i32::try_from(newest.saturating_sub(back)).unwrap_or(0);
         match self.below(16) {
-            0..=4 => add(alloc, &name),
-            5 => request(alloc, &name),
-            6 => find(alloc, &name),
-            7 | 8 => Ok(Ask::Read { key }),
-            9 | 10 => Ok(Ask::Describe { key }),
-            11 | 12 => Ok(Ask::Link {
+            0..=4 => add(alloc, name),
+            5 => request(name).ok_or(AllocError),
+            6 => find(name).ok_or(AllocError),
+            7 | 8 => Ok(AskStep::Read { key }),
+            9 | 10 => Ok(AskStep::Describe { key }),
+            11 | 12 => Ok(AskStep::Link {
                 key,
                 ring: USER_RING,
             }),
-            13 => Ok(Ask::Unlink {
+            13 => Ok(AskStep::Unlink {
                 key,
                 ring: SESSION_RING,
             }),
-            14 => Ok(Ask::Revoke { key }),
-            _ => Ok(Ask::Clear { ring: USER_RING }),
+            14 => Ok(AskStep::Revoke { key }),
+            _ => Ok(AskStep::Clear { ring: USER_RING }),
         }
     }
 }

@@ -7,8 +7,8 @@ use crate::halls::calls::{calls, fails, greets, refuse_launch, requests};
 use crate::halls::opening::{Scene, in_new_halls};
 use crate::same::same;
 use rk_hall::{HallNo, Halls, Launch, Names, Owed, Seat};
-use rk_machine::{Event, How, Ran};
-use rk_message::Ask;
+use rk_machine::{EventStep, How, Ran};
+use rk_message::AskStep;
 use rk_names::{Errno, KeyError, Serial, SessionId};
 use rk_wait::await_outcome;
 use std::alloc::{AllocError, Global};
@@ -41,19 +41,19 @@ enum Step {
 
 impl Step {
     /// The ask by which its handler completes the key, where it does.
-    fn ask(self, alloc: Global, key: i32) -> Result<Option<Ask>, AllocError> {
+    fn ask(self, alloc: Global, key: i32) -> Result<Option<AskStep<'static>>, AllocError> {
         Ok(match self {
-            Step::Instantiate => Some(Ask::Instantiate {
+            Step::Instantiate => Some(AskStep::Instantiate {
                 key,
                 payload: payload(alloc, b"v")?,
                 ring: 0,
             }),
-            Step::Negate => Some(Ask::Negate {
+            Step::Negate => Some(AskStep::Negate {
                 key,
                 timeout: 30,
                 ring: 0,
             }),
-            Step::Reject => Some(Ask::Reject {
+            Step::Reject => Some(AskStep::Reject {
                 key,
                 timeout: 30,
                 error: KeyError::Rejected,
@@ -99,7 +99,7 @@ impl Waking {
     ) {
         let mut seat = halls.seat(rt).expect(rt, "a seat");
         drop(greets(rt, halls, &mut seat));
-        let (receipt, launch) = requests(rt, alloc, halls, &mut seat);
+        let (receipt, launch) = requests(rt, halls, &mut seat);
         drop(receipt);
         turns.next();
         if let Step::FailedStart = self.step {
@@ -128,7 +128,7 @@ impl Waking {
             rt,
             halls,
             seat,
-            Event::Asked(SessionId::Handler(key), Ask::Assume { key: 12 }),
+            EventStep::Asked(SessionId::Handler(key), AskStep::Assume { key: 12 }),
         ));
         is_waited_for(rt, turns);
         let ask = self.step.ask(alloc, 12).expect(rt, "memory");
@@ -148,9 +148,9 @@ fn completes<N: Names, R: Wait + Abort>(
     halls: &Halls<N>,
     seat: &mut Seat<N>,
     key: Serial,
-    ask: Ask,
+    ask: AskStep<'_>,
 ) {
-    let asked = Event::Asked(SessionId::Handler(key), ask);
+    let asked = EventStep::Asked(SessionId::Handler(key), ask);
     let done = calls(rt, halls, seat, asked);
     same(rt, in_words(done.answer()), Said::Number(0));
 }
@@ -170,11 +170,11 @@ fn waits<N: Names, R: Wait + Abort + Clock>(
 ) -> Said {
     let mut seat = halls.seat(rt).expect(rt, "a seat");
     turns.wait(rt, REQUESTED);
-    drop(calls(rt, halls, &mut seat, Event::Opened(OTHER)));
+    drop(calls(rt, halls, &mut seat, EventStep::Opened(OTHER)));
     let ring = Serial::new(4).expect(rt, "a serial");
-    drop(calls(rt, halls, &mut seat, Event::Asked(OTHER, joining(ring))));
-    let ask = request(alloc, b"a").expect(rt, "an ask");
-    let receipt = calls(rt, halls, &mut seat, Event::Asked(OTHER, ask));
+    drop(calls(rt, halls, &mut seat, EventStep::Asked(OTHER, joining(ring))));
+    let ask = request(b"a").expect(rt, "an ask");
+    let receipt = calls(rt, halls, &mut seat, EventStep::Asked(OTHER, ask));
     same(rt, in_words(receipt.answer()), Said::Waiting(12));
     turns.next();
     let outcome = await_outcome(rt, halls, &mut seat, HallNo::Zero, OTHER, NOW);

@@ -13,6 +13,7 @@ use crate::book::answers::shown;
 use crate::book::moves::{Line, Move};
 use crate::book::words::Fault;
 use crate::same::{same, same_text};
+use rk_core::{Event, EventStep};
 
 /// Reads a line, once more where memory was refused.
 fn read_surely(alloc: Global, line: &str) -> Result<Line, Fault> {
@@ -22,11 +23,19 @@ fn read_surely(alloc: Global, line: &str) -> Result<Line, Fault> {
     }
 }
 
+/// An event as a step takes it, once more where memory was refused.
+fn step_surely(alloc: Global, event: &Event) -> Result<EventStep<'_>, AllocError> {
+    match event.to_step(alloc) {
+        Err(AllocError) => event.to_step(alloc),
+        step => step,
+    }
+}
+
 /// Plays a line once, and prints the answer, once more where memory was refused for that.
 fn said(alloc: Global, book: &mut Book, now: Moment, line: &str) -> Result<String, Fail> {
     match read_surely(alloc, line)?.told {
         Move::Step(event) => {
-            let answer = book.step(now, event);
+            let answer = book.step(now, step_surely(alloc, &event)?);
             match shown(alloc, &answer) {
                 Ok(words) => Ok(words),
                 Err(AllocError) => Ok(shown(alloc, &answer)?),

@@ -3,6 +3,7 @@ use crate::same::same;
 use rk_names::{NameNo, Serial};
 use rk_rings::{NewRing, RingFault, RingKind, Rings};
 use std::alloc::Global;
+use std::process::Abort;
 
 /// The serial of this number, which is not 0.
 fn serial(number: u16) -> Serial {
@@ -47,4 +48,27 @@ fn a_ring_has_room_for_256_links(rt: HostRuntime) {
         Ok(()),
     );
     same(&rt, rings.holds(serial(1), serial(5_001)), true);
+}
+
+/// The serial of this number; none stops the test.
+fn of_number(rt: &impl Abort, number: u32) -> Serial {
+    Serial::new(number).expect(rt, "a serial")
+}
+
+/// In a full ring 100,000 keys of new names take the places of unlinked ones, and the last 256 are found by their names. The ring was given all its
+/// memory when it was made.
+#[test]
+fn a_full_ring_takes_new_names_for_good(rt: HostRuntime) {
+    let mut rings = full_ring(rt.alloc());
+    for turn in 0..100_000u32 {
+        let unlinked = rings.unlink(serial(1), of_number(&rt, 1_000 + turn));
+        same(&rt, unlinked, Ok(()));
+        let key = of_number(&rt, 1_256 + turn);
+        same(&rt, rings.link(serial(1), key, NameNo(256 + turn)), Ok(()));
+    }
+    for name in 100_000..100_256u32 {
+        let key = rings.find_in(serial(1), NameNo(name));
+        same(&rt, (name, key), (name, Serial::new(1_000 + name)));
+    }
+    same(&rt, rings.find_in(serial(1), NameNo(99_999)), None);
 }

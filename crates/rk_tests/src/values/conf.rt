@@ -37,6 +37,21 @@ fn the_first_line_that_fits_is_picked(rt: HostRuntime) -> Result<(), Fail> {
     Ok(())
 }
 
+/// A stock handler's line: white space before it, tabs between its fields, and four arguments, of which the last two are macros.
+#[test]
+fn reads_the_line_of_nfsidmap(rt: HostRuntime) -> Result<(), Fail> {
+    let text = b"\tcreate\tid_resolver\t*\t*\t/usr/sbin/nfsidmap -t 600\t%k %d\n";
+    let conf = Conf::read(rt.alloc(), text)?;
+    same(&rt, conf.lines().len(), 1);
+    for line in conf.lines() {
+        let args = line.args.as_slice();
+        same(&rt, line.typ.as_bytes(), b"id_resolver");
+        same(&rt, line.prog.as_bytes(), b"/usr/sbin/nfsidmap");
+        same(&rt, (line.number, line.piped, args.len()), (1, false, 4));
+    }
+    Ok(())
+}
+
 /// Run with each allocation refused in turn, it still passes: a sound text is read, or wants memory.
 #[test]
 fn wants_nothing_but_memory(rt: HostRuntime) {

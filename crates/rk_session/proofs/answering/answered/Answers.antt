@@ -8,4 +8,4 @@ returns-in-Err-clause-says g c =
 
 pub returns-in-None-clause-says : goal.returns-in-None-clause-says
 returns-in-None-clause-says g c =
-    AsksHere c.in-Ok.ask c.asked.result c.asked.new.seat c.in-Ok.ensures.found c.in-None.ensures c.asked.ensures.says
+    AsksHere c.in-Ok.ask c.asked.result c.asked.new.crew.caller.seat c.in-Ok.ensures.found c.in-None.ensures c.asked.ensures.says

@@ -8,9 +8,9 @@ returns-in-Some-clause-talked g c = inr (refl, c.in-Some.refusal, c.in-Some.ensu
 
 pub returns-clause-talked : goal.returns-clause-talked
 returns-clause-talked g c =
-    inl (c.open.new.seat, c.talk-served.new.seat, c.in-None.ensures.1, c.talk-served.ensures.talked, c.leave.ensures.leaves.1)
+    inl (c.open.new.caller.seat, c.talk-served.new.crew.caller.seat, c.in-None.ensures.1, c.talk-served.ensures.talked, c.leave.ensures.leaves.1)
 
 pub returns-clause-stays : goal.returns-clause-stays
 returns-clause-stays g c =
-    came_and_went Zero c.talk-served.new.place.hall c.args.seat.now c.open.new.seat c.talk-served.new.seat c.leave.new.seat c.in-None.ensures
+    came_and_went Zero c.talk-served.new.place.hall c.args.crew.now.caller.seat c.open.new.caller.seat c.talk-served.new.crew.caller.seat c.leave.new.caller.seat c.in-None.ensures
     c.talk-served.ensures.moves c.leave.ensures.leaves

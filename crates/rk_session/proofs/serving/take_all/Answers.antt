@@ -8,7 +8,7 @@ use Rattle.rk_session.proofs.serving.take_all.Goals as goal
 
 pub loop-served-init : goal.loop-served-init
 loop-served-init g c =
-    let here = standing_of c.args.place.now c.args.seat.now in
+    let here = standing_of c.args.place.now c.args.crew.now.caller.seat in
     record {
       bound = c.requires.bound;
       goes = goes_nowhere (Client c.args.client) (g.W.Wire.shown c.args.wire.now) (g.W.Wire.shown c.args.wire.now) c.args.frames.now.bytes
@@ -21,16 +21,16 @@ loop-served-init g c =
 pub loop-served-smaller : goal.loop-served-smaller
 loop-served-smaller g c =
     taken_fewer (Client c.args.client) (g.W.Wire.shown c.loop-served.wire) (g.W.Wire.shown c.next_turn.new.wire) c.loop-served.frames
-    c.next_turn.new.frames (standing_of c.loop-served.place c.loop-served.seat) (standing_of c.next_turn.new.place c.next_turn.new.seat)
+    c.next_turn.new.frames (standing_of c.loop-served.place c.loop-served.crew.caller.seat) (standing_of c.next_turn.new.place c.next_turn.new.crew.caller.seat)
     (rw c.in-Ok-true.field-0-test at c.in-Ok-true.ensures.takes)
 
 pub loop-served-preserved : goal.loop-served-preserved
 loop-served-preserved g c =
     let e = c.in-Ok-true.ensures in
     let i = c.loop-served.invariant in
-    let begun = standing_of c.args.place.now c.args.seat.now in
-    let here = standing_of c.loop-served.place c.loop-served.seat in
-    let there = standing_of c.next_turn.new.place c.next_turn.new.seat in
+    let begun = standing_of c.args.place.now c.args.crew.now.caller.seat in
+    let here = standing_of c.loop-served.place c.loop-served.crew.caller.seat in
+    let there = standing_of c.next_turn.new.place c.next_turn.new.crew.caller.seat in
     record {
       bound = e.bound;
       goes = goes_then (Client c.args.client) (g.W.Wire.shown c.args.wire.now) (g.W.Wire.shown c.loop-served.wire) (g.W.Wire.shown c.next_turn.new.wire)
@@ -45,8 +45,8 @@ loop-served-preserved g c =
 pub returns-in-Ok-false-clause-takes : goal.returns-in-Ok-false-clause-takes
 returns-in-Ok-false-clause-takes g c =
     all_taken (Client c.args.client) (g.W.Wire.shown c.args.wire.now) (g.W.Wire.shown c.loop-served.wire) (g.W.Wire.shown c.next_turn.new.wire)
-    c.args.frames.now c.loop-served.frames c.next_turn.new.frames (standing_of c.args.place.now c.args.seat.now)
-    (standing_of c.loop-served.place c.loop-served.seat) (standing_of c.next_turn.new.place c.next_turn.new.seat) c.loop-served.invariant.goes
+    c.args.frames.now c.loop-served.frames c.next_turn.new.frames (standing_of c.args.place.now c.args.crew.now.caller.seat)
+    (standing_of c.loop-served.place c.loop-served.crew.caller.seat) (standing_of c.next_turn.new.place c.next_turn.new.crew.caller.seat) c.loop-served.invariant.goes
     (rw c.in-Ok-false.field-0-test at c.in-Ok-false.ensures.takes)
 
 pub returns-in-Ok-false-clause-moves : goal.returns-in-Ok-false-clause-moves
@@ -56,8 +56,8 @@ pub returns-in-Err-clause-takes : goal.returns-in-Err-clause-takes
 returns-in-Err-clause-takes g c = (
   c.in-Err.ensures.takes.0,
   ends_then (Client c.args.client) c.in-Err.served (g.W.Wire.shown c.args.wire.now) (g.W.Wire.shown c.loop-served.wire)
-      (g.W.Wire.shown c.next_turn.new.wire) c.args.frames.now.bytes c.loop-served.frames.bytes (standing_of c.args.place.now c.args.seat.now)
-      (standing_of c.loop-served.place c.loop-served.seat) c.next_turn.new.seat c.loop-served.invariant.goes c.in-Err.ensures.takes.1,
+      (g.W.Wire.shown c.next_turn.new.wire) c.args.frames.now.bytes c.loop-served.frames.bytes (standing_of c.args.place.now c.args.crew.now.caller.seat)
+      (standing_of c.loop-served.place c.loop-served.crew.caller.seat) c.next_turn.new.crew.caller.seat c.loop-served.invariant.goes c.in-Err.ensures.takes.1,
 )
 
 pub returns-in-Err-clause-moves : goal.returns-in-Err-clause-moves

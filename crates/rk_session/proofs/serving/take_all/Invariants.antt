@@ -8,12 +8,12 @@ use Rattle.rk_session.proofs.serving.take_all.Given as goal
 
 abbrev pub invariant-loop-served : goal.invariant-loop-served
 invariant-loop-served g l = record {
-  bound : (g.L.Launcher.shown l.launcher).count ≤ most;
-  goes : GoesOn (Client l.client) (g.W.Wire.shown l.fn.wire) l.fn.frames.bytes (standing_of l.fn.place l.fn.seat) (g.W.Wire.shown l.wire)
-      l.frames.bytes (standing_of l.place l.seat);
+  bound : (g.P.Launcher.Launcher.shown l.crew.launcher).count ≤ most;
+  goes : GoesOn (Client l.client) (g.W.Wire.shown l.fn.wire) l.fn.frames.bytes (standing_of l.fn.place l.fn.crew.caller.seat) (g.W.Wire.shown l.wire)
+      l.frames.bytes (standing_of l.place l.crew.caller.seat);
   count : (g.W.Wire.shown l.wire).count ≡ (g.W.Wire.shown l.fn.wire).count;
   reads : (g.W.Wire.shown l.wire).reads ≡ (g.W.Wire.shown l.fn.wire).reads;
-  moves : Moves l.fn.place.hall l.place.hall l.fn.seat l.seat;
+  moves : Moves l.fn.place.hall l.place.hall l.fn.crew.caller.seat l.crew.caller.seat;
 }
 
 abbrev pub decreases-loop-served : goal.decreases-loop-served

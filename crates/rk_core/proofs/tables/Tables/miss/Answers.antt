@@ -27,7 +27,7 @@ returns-in-Ok c =
     let q : Query = record { context = c.args.asker.now.context; typ = c.args.typ; description = c.args.description; now = c.args.now } in
     let says = subst (λ (w : World). Says c.left-left.result (HasSerials w.serials 1)) c.self.view_is c.left-left.ensures in
     start_allowed c.args.self.now c.args.id.now c.args.asker.now q c.args.ring c.args.sought.now c.requires.sought c.args.callout c.in-Some.callout
-    c.left-left.result c.in-Ok.answer c.start.new.self c.in-Some.is says (c.in_ok-may_start.ensures.is c.args.now)
+    c.left-left.result c.in-Ok.answer c.begin.new.self c.in-Some.is says (c.in_ok-may_start.ensures.is c.args.now)
     (inr c.in-Ok.ensures.ok)
 
 pub returns-in-Err : goal.returns-in-Err
@@ -35,5 +35,5 @@ returns-in-Err c =
     let q : Query = record { context = c.args.asker.now.context; typ = c.args.typ; description = c.args.description; now = c.args.now } in
     let says = subst (λ (w : World). Says c.left-left.result (HasSerials w.serials 1)) c.self.view_is c.left-left.ensures in
     start_allowed c.args.self.now c.args.id.now c.args.asker.now q c.args.ring c.args.sought.now c.requires.sought c.args.callout c.in-Some.callout
-    c.left-left.result _ c.start.new.self c.in-Some.is says (c.in_ok-may_start.ensures.is c.args.now)
+    c.left-left.result _ c.begin.new.self c.in-Some.is says (c.in_ok-may_start.ensures.is c.args.now)
     (inl (refl, c.in-Err.ensures.err))

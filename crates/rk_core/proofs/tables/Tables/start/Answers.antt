@@ -4,6 +4,7 @@ use Rattle.rk_keys.specs.Known.{new_key}
 use Rattle.rk_auth.specs.Sessions.{Sessions}
 use Rattle.rk_auth.specs.Circles.{Leads}
 use Rattle.rk_auth.specs.declared.construction.Authority.{Authority}
+use Rattle.rk_macro.specs.declared.subject.Subject.{Subject}
 use Rattle.rk_machine.specs.World.{World, tidied}
 use Rattle.rk_machine.specs.Links.{linked_in}
 use Rattle.rk_machine.specs.Search.{Query}
@@ -45,8 +46,9 @@ returns-clause-ok c =
       c.in_ok-key.ensures.fresh,
       (
         λ i. Start k ((
-            c.subject-subject.ensures c.args.now
-            ∙ (λ j. subject_of (c.in_ok-key.ensures.ok j) k
+            c.of_key.ensures
+            ∙ ap (λ (s : Subject). record s { key = k }) (c.in_ok-subject.ensures ∙ c.subject-subject.ensures c.args.now)
+            ∙ (λ j. subject_of c.args.self.now k
             (record q { typ = c.in_ok-told_typ.ensures.cases j; description = c.in_ok-told_description.ensures.cases j })
             (c.in_ok-told_callout.ensures.cases j))) i),
         c.wait.ensures ∙ ap (waiting c.args.id.now k true) (c.link.ensures

@@ -1,5 +1,5 @@
 use Rattle.std.proofs.Common.{[]}
-use Rattle.rk_machine.specs.declared.event.Event.TheVariants.{Launched}
+use Rattle.rk_machine.specs.declared.event.EventOf.TheVariants.{Launched}
 use Rattle.rk_machine.specs.declared.event.Ran.TheVariants.{Failed}
 use Rattle.rk_machine.specs.Allowed.{done}
 use Rattle.rk_served.proofs.PeersFit.{launch_done}

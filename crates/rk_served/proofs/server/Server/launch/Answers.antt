@@ -1,5 +1,5 @@
 use Rattle.std.proofs.Common.{[], refl}
-use Rattle.rk_machine.specs.declared.event.Event.TheVariants.{Launched}
+use Rattle.rk_machine.specs.declared.event.EventOf.TheVariants.{Launched}
 use Rattle.rk_machine.specs.declared.event.Ran.TheVariants as ran
 use Rattle.rk_machine.specs.Allowed.{done}
 use Rattle.rk_served.specs.declared.happening.Happening.TheVariants as happening

@@ -1,7 +1,7 @@
 use Rattle.std.proofs.Common.{[], refl, inl, inr}
 use Rattle.std.proofs.lemmas.Result.{on_ok_weaker}
 use Rattle.rk_names.specs.declared.numbers.SessionId.TheVariants.{Client}
-use Rattle.rk_machine.specs.declared.event.Event.TheVariants.{Gone}
+use Rattle.rk_machine.specs.declared.event.EventOf.TheVariants.{Gone}
 use Rattle.rk_machine.specs.Allowed.{done}
 use Rattle.rk_served.specs.declared.happening.Happening.TheVariants as happening
 use Rattle.rk_served.specs.Left.{no_step, one_step}

@@ -1,0 +1,66 @@
+//! What is around a session: what a worker shares with others, and what is its own.
+//!
+//! Every function from a connection's first byte to a handler's last reply wants most of it, so it stands in three structs: [`Stage`] is shared and
+//! never changes, [`Caller`] is who makes the calls, and [`Crew`] is a caller with the launcher of its handlers. Which types they are of, a [`Platform`]
+//! says: the daemon has one, and each test its own.
+
+use crate::shelf::Shelf;
+use rk_conf::Conf;
+use rk_devices::{Clock, Gate, Launcher};
+use rk_hall::{Halls, Names, Seat};
+use std::alloc::Global;
+use std::sync::Wait;
+
+/// The types of what is around a session.
+pub trait Platform {
+    /// The names of the halls' ledgers.
+    type Names: Names;
+
+    /// What may wait.
+    type Runtime: Wait;
+
+    /// Starts handlers.
+    type Launcher: Launcher;
+
+    /// Tells the time.
+    type Clock: Clock;
+
+    /// Is told what happens.
+    type Gate: Gate;
+
+    /// Takes the volumes of full records.
+    type Shelf: Shelf;
+}
+
+/// What workers share.
+#[derive(Drop)]
+pub struct Stage<'a, P: Platform> {
+    /// What may wait.
+    pub rt: &'a P::Runtime,
+    /// Where memory comes from.
+    pub alloc: Global,
+    /// The halls.
+    pub halls: &'a Halls<P::Names>,
+    /// Which command makes which key.
+    pub conf: &'a Conf,
+    /// Is told what happens.
+    pub gate: &'a P::Gate,
+    /// Takes the volumes of full records.
+    pub shelf: &'a P::Shelf,
+}
+
+/// Who makes calls: its seat in the halls, and the clock by which it makes them.
+pub struct Caller<P: Platform> {
+    /// Its seat.
+    pub seat: Seat<P::Names>,
+    /// Its clock.
+    pub clock: P::Clock,
+}
+
+/// A caller that can start handlers. It can't be dropped, since a seat is to be given back: it is taken apart.
+pub struct Crew<P: Platform> {
+    /// Who makes its calls.
+    pub caller: Caller<P>,
+    /// Starts its handlers.
+    pub launcher: P::Launcher,
+}
