@@ -1,7 +1,7 @@
 """A daemon in a folder of its own, its clients, and handlers whose words and ends a test decides.
 
 The client is written from docs/PROTOCOL.md alone; the bodies of asks are those of protocol_peer. Nothing here waits for a time: each wait is for
-something to happen, and gives up after LIMIT seconds.
+something to happen, and gives up after LIMIT seconds (programs.py), when that is taken for a hang.
 """
 import array
 import collections
@@ -19,9 +19,8 @@ import threading
 import time
 
 import protocol_peer as ask
-from programs import client_of
+from programs import LIMIT, client_of
 
-LIMIT = 60
 PUPPET = pathlib.Path(__file__).resolve().parent / "serve" / "puppet.py"
 
 
@@ -89,7 +88,7 @@ class Speaker:
 
 
 class Client(Speaker):
-    """A connection. What it sends first, where it is told a uid, is HELLO, whose reply is `rings`."""
+    """A connection. What it sends first, if it gets a uid, is HELLO, whose reply is `rings`."""
 
     def __init__(self, path, uid=None, join=0, flags=0):
         self.socket = socket.socket(socket.AF_UNIX)

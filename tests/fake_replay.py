@@ -1,9 +1,9 @@
 #!/usr/bin/env python3
-"""Stands for `reqkeyd replay` with the script of a scenario: what comes of each line is what the scenario's words say.
+"""Stands for `reqkeyd replay` with the script of a scenario: the output of each line is what the scenario's words say.
 
 usage: fake_replay.py WORDS
 
-Blank lines and comments that the scenario lacks are passed over, and other such lines are told as lines that are none.
+Blank lines and comments that the scenario lacks are skipped, and other such lines are reported as invalid.
 """
 import pathlib
 import sys

@@ -9,6 +9,10 @@ import sys
 
 top = pathlib.Path(__file__).resolve().parent.parent
 
+# The seconds after which what has not come is taken for a hang, and ends its test. They decide nothing of what passes, so they are more than a loaded machine
+# needs; the variable LIMIT of the environment may say fewer.
+LIMIT = int(os.environ.get("LIMIT", 3600))
+
 
 def built(name):
     """Where a program is."""

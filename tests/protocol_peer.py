@@ -1,11 +1,11 @@
-"""The daemon's side of the protocol, written from docs/PROTOCOL.md: frames, asks as bodies, replies as bodies, and a daemon that answers what it is told."""
+"""The daemon's side of the protocol, written from docs/PROTOCOL.md: frames, asks as bodies, replies as bodies, and a daemon that answers what its test says."""
 import pathlib
 import socket
 import struct
 import tempfile
 import threading
 
-LIMIT = 60  # seconds in which a client has to have done what it does
+from programs import LIMIT
 
 
 def frame(body):

@@ -12,6 +12,8 @@ import random
 import subprocess
 import sys
 
+from programs import LIMIT
+
 top = pathlib.Path(__file__).resolve().parent.parent
 sys.path.insert(0, str(top / "tools"))
 from messages import bodies, frame, write_ask
@@ -37,7 +39,7 @@ BODIES = [body + "0" * (len(body) % 2) for body in BODIES]
 
 
 class Player:
-    """Makes up lines. What it believes of handlers and keys comes from what was put out."""
+    """Makes up lines. What it believes of handlers and keys comes from the output."""
 
     def __init__(self, seed):
         self.dice = random.Random(seed)
@@ -58,10 +60,10 @@ class Player:
     def say(self, line):
         self.lines.append(f"{self.now} {line}")
 
-    # ---- what was put out
+    # ---- the output
 
     def hear(self, output):
-        """Takes in what has come of the script so far. The start of a key that was answered before is told again, too."""
+        """Takes in what has come of the script so far. The start of a key that was answered before comes again, too."""
         self.keys, self.waits, told = [], {}, collections.Counter(self.begun)
         for line in output.decode().splitlines():
             word, number, *rest = line.split(" ")
@@ -245,7 +247,7 @@ def crowd(dice):
 
 
 def played(program, script):
-    ran = subprocess.run([program, "replay"], input=script, capture_output=True, timeout=60)
+    ran = subprocess.run([program, "replay"], input=script, capture_output=True, timeout=LIMIT)
     return ran.stdout, ran.returncode
 
 

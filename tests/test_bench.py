@@ -10,8 +10,9 @@ import subprocess
 import sys
 import tempfile
 
-from programs import PROGRAMS, top
+from programs import LIMIT, PROGRAMS, top
 from random_scripts import played, script_of
+from scenarios import scenarios
 
 SEEDS = range(100)
 
@@ -25,11 +26,6 @@ def tell(right, wrong):
     failed += not right
     if not right:
         print(wrong)
-
-
-def scenario(program, folder):
-    status = int((folder / "status").read_text()) if (folder / "status").exists() else 0
-    return played(program, (folder / "script").read_bytes()) == ((folder / "expected").read_bytes(), status)
 
 
 # A short run of each of the others; they end with a fault where an answer is not the one that is due.
@@ -48,7 +44,7 @@ def load_is_answered(folder):
     server = subprocess.Popen([folder / "echo", path, "8"], stderr=subprocess.PIPE)
     server.stderr.readline()
     try:
-        return subprocess.run([folder / "load", path, "8", "80"], capture_output=True, timeout=60).returncode == 0
+        return subprocess.run([folder / "load", path, "8", "80"], capture_output=True, timeout=LIMIT).returncode == 0
     finally:
         server.kill()
         server.communicate()
@@ -66,11 +62,11 @@ with tempfile.TemporaryDirectory() as folder:
     replay = folder / "replay"
     if made.returncode == 0:
         for program, *words in RUNS:
-            ran = subprocess.run([folder / program, *words], capture_output=True, timeout=60)
+            ran = subprocess.run([folder / program, *words], capture_output=True, timeout=LIMIT)
             tell(ran.returncode == 0, f"bench/c/{program}: status {ran.returncode}: {ran.stderr.decode(errors='replace')}")
         tell(load_is_answered(folder), "bench/c/load: it fails")
-        for case in sorted(path for path in (top / "tests" / "replay").iterdir() if path.is_dir()):
-            tell(scenario(replay, case), f"bench/c/replay {case.name}: it is played otherwise")
+        for case in scenarios():
+            tell(played(replay, case.script) == (case.expected, case.status), f"bench/c/replay {case.name}: it is played otherwise")
         there = [program for program in PROGRAMS if program.exists()]
         for program in PROGRAMS:
             tell(program in there, f"{program} is not built")

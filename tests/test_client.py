@@ -11,7 +11,7 @@ import subprocess
 import tempfile
 
 import protocol_peer as peer
-from programs import built, check_all, differs, version
+from programs import LIMIT, built, check_all, differs, version
 
 # what a subcommand is called with, and the body of its ask
 GOOD = [
@@ -49,7 +49,7 @@ GOOD = [
     (["callout"], peer.CALLOUT),
 ]
 
-# words that are no call, besides each subcommand with fewer arguments and with one more
+# usage errors, besides each subcommand with fewer arguments and with one more
 BAD = [
     [], ["nothing"], ["READ", "3"], ["read", "x"], ["read", ""], ["read", "-7"], ["read", "+3"], ["read", "-1"], ["read", "2147483648"], ["read", "none"],
     ["read", "3 "], ["read", "0x3"], ["request", ".x", "a", "none"], ["request", "", "a", "none"], ["request", "u" * 32, "a", "none"],
@@ -111,7 +111,7 @@ SOCKET, FILE, OUTPUT = b"reqkeyctl: socket\n", b"reqkeyctl: file\n", b"reqkeyctl
 
 
 def ran(program, words, stdin=b"", **more):
-    done = subprocess.run([program, *words], input=stdin, stdout=subprocess.PIPE, stderr=subprocess.PIPE, timeout=60, **more)
+    done = subprocess.run([program, *words], input=stdin, stdout=subprocess.PIPE, stderr=subprocess.PIPE, timeout=LIMIT, **more)
     return done.returncode, done.stdout, done.stderr
 
 
@@ -125,11 +125,11 @@ def asks(program, words, ask, options=(), greeting=peer.hello()):
 
 
 def handles(program, words, ask, options=()):
-    """As a handler: the ask is written, the reply is read, and not a byte more, and it is told on standard error."""
+    """As a handler: the ask is written, the reply is read, and not a byte more, and it is printed on standard error."""
     read, write = os.pipe()
     with open(read, "rb", buffering=0) as left, open(write, "wb", buffering=0) as given:
         given.write(peer.frame(peer.number(7)) + peer.frame(peer.number(8))[:7])
-        done = subprocess.run([program, *options, *words], stdin=left, stdout=subprocess.PIPE, stderr=subprocess.PIPE, timeout=60)
+        done = subprocess.run([program, *options, *words], stdin=left, stdout=subprocess.PIPE, stderr=subprocess.PIPE, timeout=LIMIT)
         given.close()
         return differs((done.returncode, done.stdout, done.stderr, left.read()), (0, peer.frame(ask), b"7\n", peer.frame(peer.number(8))[:7]))
 
@@ -139,7 +139,7 @@ def misuses(program, words):
     read, write = os.pipe()
     with open(read, "rb", buffering=0) as left, open(write, "wb", buffering=0) as given:
         given.write(b"unread")
-        done = subprocess.run([program, *words], stdin=left, stdout=subprocess.PIPE, stderr=subprocess.PIPE, timeout=60)
+        done = subprocess.run([program, *words], stdin=left, stdout=subprocess.PIPE, stderr=subprocess.PIPE, timeout=LIMIT)
         given.close()
         text = done.stderr.decode(errors="replace")
         return differs((done.returncode, done.stdout, left.read(), "usage" in text.lower() or "error: " in text), (2, b"", b"unread", True))
@@ -185,7 +185,7 @@ def refuses(program, errno):
 
 
 def fails(program, reply):
-    """Bytes that are no reply, to HELLO, to the ask, and to a handler."""
+    """Invalid replies, to HELLO, to the ask, and to a handler."""
     for replies in [[reply], [peer.frame(peer.rings(0, 0, 1, 2)), reply]]:
         with peer.Daemon([*replies[:-1], replies[-1] or None]) as daemon:
             got = ran(program, ["--socket", daemon.path, "read", "3"])
@@ -201,7 +201,7 @@ def no_daemon(program, path):
 def full_output(program):
     """A write that fails, of the reply, whose ask was done, and of a handler's ask."""
     with open("/dev/full", "wb") as full, peer.Daemon([peer.frame(peer.rings(0, 0, 1, 2)), peer.frame(peer.number(7))]) as daemon:
-        done = [subprocess.run([program, *words, "read", "3"], stdin=subprocess.DEVNULL, stdout=full, stderr=subprocess.PIPE, timeout=60) for words in
+        done = [subprocess.run([program, *words, "read", "3"], stdin=subprocess.DEVNULL, stdout=full, stderr=subprocess.PIPE, timeout=LIMIT) for words in
                 [["--socket", daemon.path], []]]
     return differs([(it.returncode, it.stderr) for it in done], [(1, OUTPUT), (1, SOCKET)])
 
@@ -209,7 +209,7 @@ def full_output(program):
 def closed_input(program):
     """A handler whose input ends at once, or can't be read."""
     with open("/dev/null", "wb") as none:
-        done = subprocess.run([program, "read", "3"], stdin=none, stdout=subprocess.PIPE, stderr=subprocess.PIPE, timeout=60)
+        done = subprocess.run([program, "read", "3"], stdin=none, stdout=subprocess.PIPE, stderr=subprocess.PIPE, timeout=LIMIT)
     return differs((done.returncode, done.stderr), (1, SOCKET))
 
 
@@ -245,21 +245,21 @@ def helps(program, words, *wanted):
 def two_in_a_script(program):
     """Two runs that share their pipes, as in a handler that is a shell script."""
     script = f"{program} assume 3 && {program} instantiate 3 hi none"
-    done = subprocess.run(["/bin/sh", "-c", script], input=peer.frame(peer.number(0)) * 2, stdout=subprocess.PIPE, stderr=subprocess.PIPE, timeout=60)
+    done = subprocess.run(["/bin/sh", "-c", script], input=peer.frame(peer.number(0)) * 2, stdout=subprocess.PIPE, stderr=subprocess.PIPE, timeout=LIMIT)
     want = peer.frame(peer.on_key(3, 3)) + peer.frame(peer.instantiate(3, b"hi", 0))
     return differs((done.returncode, done.stdout, done.stderr), (0, want, b"0\n0\n"))
 
 
 def lacks_memory(program, library, words, stdin, replies, want):
-    """Each growth refused in turn, until the run needs no more: status 1 and its line, and nothing printed."""
+    """Each allocation refused in turn, until the run needs no more: status 1 and its line, and nothing printed."""
     for count in range(1, 100_000):
         with peer.Daemon(replies) as daemon:
             socket = ["--socket", daemon.path] if replies else []
             got = ran(program, [*socket, *words], stdin, env={"LD_PRELOAD": library, "REFUSED": str(count)})
         if got == want:
-            return None if count > 5 else f"{count - 1} growths"
+            return None if count > 5 else f"{count - 1} allocations"
         if (got[0], got[2]) != (1, b"reqkeyctl: memory\n") or (replies and got[1]) or not want[1].startswith(got[1]):
-            return f"growth {count}: {got}"
+            return f"allocation {count}: {got}"
     return "it never ends"
 
 
@@ -270,9 +270,9 @@ def run_lacks_memory(program, library):
             words = ["run", "--socket", daemon.path, "--library", library, "--", "/bin/true"]
             got = ran(program, words, env={"LD_PRELOAD": library, "REFUSED": str(count)})
         if got == (0, b"", b""):
-            return None if count > 5 else f"{count - 1} growths"
+            return None if count > 5 else f"{count - 1} allocations"
         if got != (1, b"", b"reqkeyctl: memory\n"):
-            return f"growth {count}: {got}"
+            return f"allocation {count}: {got}"
     return "it never ends"
 
 
@@ -338,7 +338,7 @@ def cases(room):
     ask_key = ["request", "user", "a", "none"]
     yield "a callout from a file", from_file, ask_key, "--callout-from", b"c\n", peer.request(b"user", b"a", b"c\n", 0)
     yield "an empty callout from a file", from_file, ask_key, "--callout-from", b"", peer.request(b"user", b"a", b"", 0)
-    yield "a callout from a file that is no text", from_file, ask_key, "--callout-from", b"\xff", None, (1, b"", FILE)
+    yield "a callout from a file without text", from_file, ask_key, "--callout-from", b"\xff", None, (1, b"", FILE)
     if shutil.which("gcc"):
         library = str(room / "refusing_malloc.so")
         subprocess.run(["gcc", "-shared", "-fPIC", "-o", library, pathlib.Path(__file__).with_name("refusing_malloc.c")], check=True)
@@ -349,7 +349,7 @@ def cases(room):
         long, from_input = b"p" * 32767, ["--payload-from", "-", "instantiate", "3", "none"]
         yield "memory of long bytes", lacks_memory, library, from_input, long, [welcome, peer.frame(peer.data(long))], (0, long + b"\n", b"")
     else:
-        print("growths that are refused: not tried, there is no gcc")
+        print("allocations that are refused: not tried, there is no gcc")
     for word in ["--help", "-h"]:
         yield word, helps, [word], "Usage: reqkeyctl", *[f"  {name} " for name in FEWEST], *[f"{errno} {name}" for errno, name in ERRNOS.items()], "--payload-from", "Status:"
         yield f"run {word}", helps, ["run", word], "Usage: reqkeyctl run", "--library", "126"

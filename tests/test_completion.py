@@ -7,7 +7,7 @@ import sys
 import tempfile
 
 from counted import Counted
-from programs import PROGRAMS, client_of, top
+from programs import LIMIT, PROGRAMS, client_of, top
 
 sys.path.insert(0, str(top / "tools"))
 import completion
@@ -71,13 +71,25 @@ TYPED = [
     ("reqkeyd serve --record ", ["some.file"]),
 ]
 
+# The same for reqkey-trap.
+STARTED = [
+    ("reqkey-trap --so", ["--socket"]),
+    ("reqkey-trap --socket so", ["some.file"]),
+    ("reqkey-trap --key ", []),
+    ("reqkey-trap --listen so", ["some.file"]),
+    ("reqkey-trap --socket S bas", ["base32", "base64", "basename", "basenc", "bash", "bashbug"]),
+    ("reqkey-trap cat so", ["some.file"]),
+    ("reqkey-trap --socket S -- cat so", ["some.file"]),
+]
+
 # Asks for completions as readline does: bash divides a word also at its `=`.
 DRIVER = """\
 source {0}/reqkeyd.bash
 source {0}/reqkeyctl.bash
+source {0}/reqkey-trap.bash
 tried() {{
     COMP_WORDS=("$@") COMP_CWORD=$(($# - 1)) COMPREPLY=()
-    "_$1" "$1" "${{@: -1}}" "${{@: -2:1}}"
+    "_${{1//-/_}}" "$1" "${{@: -1}}" "${{@: -2:1}}"
     echo "${{COMPREPLY[*]}}"
 }}
 """
@@ -105,47 +117,66 @@ def run(shell, script):
     with tempfile.TemporaryDirectory() as home, tempfile.TemporaryDirectory() as room:
         (pathlib.Path(room) / "some.file").touch()
         home = {"HOME": home, "PATH": "/usr/bin:/bin"}
-        ran = subprocess.run([*shell, "-c", script], cwd=room, env=home, capture_output=True, text=True, timeout=60)
+        ran = subprocess.run([*shell, "-c", script], cwd=room, env=home, capture_output=True, text=True, timeout=LIMIT)
     count.same(f"errors of {shell[0]}", ran.stderr, "")
     return ran.stdout.split("\n")
+
+
+def found(words, wanted):
+    """Those of the words that were found: of commands, which a machine may have more of, those that are wanted."""
+    return set(words) & set(wanted) if "bash" in wanted else words
 
 
 def in_bash(calls):
     divided = [(f"reqkeyctl --payload-from{end}", ["some.file"]) for end in [" =", " = so"]]
     divided += [("reqkeyctl --uid = 1000 revo", ["revoke"]), ("reqkeyctl --payload-from = f add user d n", ["none"])]
-    rows = [*calls, *divided]
+    rows = [*calls, *divided, *STARTED]
     lines = [f"tried {' '.join(words if words else repr('') for words in typed.split(' '))}" for typed, _ in rows]
     got = run(["bash", "--noprofile", "--norc"], DRIVER.format(stored) + "\n".join(lines))
     for (typed, wanted), line in zip(rows, got):
-        count.same(f"bash: {typed!r}", sorted(line.split()), sorted(wanted))
+        count.same(f"bash: {typed!r}", sorted(found(line.split(), wanted)), sorted(wanted))
 
 
 def in_fish(calls):
     if not shutil.which("fish"):
         print("completion in fish: not tried, there is no fish")
         return
-    lines = [f"source {stored}/{name}.fish" for name in completion.PROGRAMS]
+    lines = [f"source {stored}/{name}.fish" for name in [*completion.PROGRAMS, completion.STARTER]]
+    calls = [*calls, *STARTED]
     lines += [f"complete -C '{typed}'; printf '%s\\n' ==" for typed, _ in calls]
     blocks = "\n".join(run(["fish", "--no-config"], "\n".join(lines))).split("==\n")
     for (typed, wanted), block in zip(calls, blocks):
-        count.same(f"fish: {typed!r}", sorted(line.split("\t")[0] for line in block.split("\n") if line), sorted(wanted))
+        words = [line.split("\t")[0] for line in block.split("\n") if line]
+        count.same(f"fish: {typed!r}", sorted(found(words, wanted)), sorted(wanted))
 
 
 def in_zsh():
     if not shutil.which("zsh"):
         print("completion in zsh: not tried, there is no zsh")
         return
-    for name in completion.PROGRAMS:
-        ran = subprocess.run(["zsh", "-f", "-n", stored / f"_{name}"], capture_output=True, text=True, timeout=60)
+    for name in [*completion.PROGRAMS, completion.STARTER]:
+        ran = subprocess.run(["zsh", "-f", "-n", stored / f"_{name}"], capture_output=True, text=True, timeout=LIMIT)
         count.same(f"zsh reads _{name}", (ran.returncode, ran.stderr), (0, ""))
 
 
+def starter():
+    """The files for reqkey-trap, which is built for that; those that are kept where there is no compiler."""
+    kept = {path.name: path.read_text() for path in stored.iterdir() if completion.STARTER in path.name}
+    if not shutil.which("gcc") or not shutil.which("make"):
+        print("completion of reqkey-trap: not tried, there is no gcc and make")
+        return kept
+    with tempfile.TemporaryDirectory() as room:
+        subprocess.run(["make", "-s", "-C", top / "clients" / "trap", f"OUT={room}"], check=True, timeout=LIMIT)
+        return completion.starter_of(pathlib.Path(room) / completion.STARTER)
+
+
+starters = starter()
 for daemon in PROGRAMS:
     client = client_of(daemon)
     count.same(f"{daemon} and {client} are built", (daemon.exists(), client.exists()), (True, True))
     if daemon.exists() and client.exists():
         made = {name: text for program in [daemon, client] for name, text in completion.made_of(completion.read_program(program)).items()}
-        count.same(f"files of {daemon.name}", {path.name: path.read_text() for path in stored.iterdir()}, made)
+        count.same(f"files of {daemon.name}", {path.name: path.read_text() for path in stored.iterdir()}, {**made, **starters})
         if daemon == PROGRAMS[0]:
             calls = typed_calls(daemon, client)
             in_bash(calls)

@@ -1,8 +1,9 @@
 #!/usr/bin/env python3
 """Tries examples/demo.py on scripts of every kind, with tests/fake_replay.py in place of the program, and on the built daemon examples/serve.py and the
-commands that README.md and docs/RECORD.md show."""
+commands that README.md, docs/RECORD.md and docs/TUTORIAL.md show."""
 import os
 import pathlib
+import shutil
 import signal
 import subprocess
 import sys
@@ -13,12 +14,14 @@ top = pathlib.Path(__file__).resolve().parent.parent
 sys.path.insert(0, str(top / "tools"))
 import script
 from counted import Counted
-from programs import PROGRAMS, client_of
+from programs import LIMIT, PROGRAMS, client_of
+from scenarios import scenarios
 
 count = Counted()
 demo = top / "examples" / "demo.py"
 fake = top / "tests" / "fake_replay.py"
-LIMIT = 60
+# The documents whose commands are run, those that compile something only where there is a compiler.
+DOCUMENTS = ["README.md", "docs/RECORD.md"] + (["docs/TUTORIAL.md"] if shutil.which("cc") else [])
 
 FIRST_PATH = """
 A client connects.
@@ -41,7 +44,7 @@ The handler assumes the authority over key 3. Done.
 It gives key 3 its payload, `hi`. Done.
   12  h3 INSTANTIATE 3 hi 0                           h3 <- 0
 
-It ends with status 0, and the client is told that its key is 3.
+It ends with status 0, and the client gets its key: 3.
   14  102 ended 3 exit 0                              c1 <- 3
 """
 
@@ -53,17 +56,17 @@ SHOWN = [
     (
         "# one\n# two\n\n\n100 accept 1\n# three\nline what\n  fault S1\naccept 1\n  fault S2\n",
         "\none\ntwo\n   5  100 accept 1\n\nthree\n"
-        "   7  what                                            fault 7 S1: this is no line of a script, and is passed over\n"
-        "   8  accept 1                                        fault 8 S2: this can't happen now, and is passed over\n",
+        "   7  what                                            fault 7 S1: this line is invalid, and is skipped\n"
+        "   8  accept 1                                        fault 8 S2: this can't happen now, and is skipped\n",
         0,
     ),
     (
         "conf # x\nline what\n  fault S1\nconf create user * * bin/h\nnegative 9\n100 accept 1\n  conf 2 C2\n101 accept 2",
         "   1  conf # x\n"
-        "   2  what                                            fault 2 S1: this is no line of a script, and is passed over\n"
+        "   2  what                                            fault 2 S1: this line is invalid, and is skipped\n"
         "   3  conf create user * * bin/h\n"
         "   4  negative 9\n"
-        "   5  100 accept 1                                    conf 2 C2: line 3 of the script is refused, its program is no absolute path."
+        "   5  100 accept 1                                    conf 2 C2: line 3 of the script is refused, its program is not an absolute path."
         " Here the run ends\n",
         1,
     ),
@@ -85,12 +88,12 @@ create  user  mail:*   *  ../examples/handler.py %k %d told
 A client connects, and says who it is: user 1000. Its session ring is 4, and the user's ring is 8.
    c1  HELLO 1000 1000 0 0                             c1 <- rings 0 0 4 8
 
-It requests a key with the callout `hello`. There is none, so /bin/cat makes it: it is handed
-the callout, and puts out the payload. The key is 12, linked in the user's ring (-4).
+It requests a key with the callout `hello`. There is none, so /bin/cat makes it: it reads
+the callout, and outputs the payload. The key is 12, linked in the user's ring (-4).
    c1  REQUEST user debug:a =hello -4                  c1 <- 12
    c1  READ 12                                         c1 <- bytes hello
 
-A key that is there is found, and nothing is started.
+An existing key is found, and nothing is started.
    c1  REQUEST user debug:a =again 0                   c1 <- 12
 
 This key is made by examples/handler.py, which speaks the protocol itself.
@@ -103,16 +106,16 @@ This key is made by examples/handler.py, which speaks the protocol itself.
 No line is for this key.
    c1  REQUEST user other =x 0                         c1 <- ENOKEY (126)
 
-The client has gone, and the daemon, which was told to serve one, ends.
+The client has disconnected. The daemon was started for one client, and ends.
 """
 
-# A command that is not as the program is, what is told of it, and the status.
+# A command that is not as the program is, what is said of it, and the status.
 FAULTS = [
     (["/nothing/there"], "No such file", 1),
     (["false"], "did not come to the end of the script, and its status was 1", 1),
     (["true"], "did not come to the end of the script, and its status was 0", 1),
     (["echo", "fault 2 S1"], "did not come to the end of the script, and its status was 0", 1),
-    (["echo", "fault 2 S1\nwhat"], "'what' comes of no script", 1),
+    (["echo", "fault 2 S1\nwhat"], "'what' is no output of a script", 1),
 ]
 
 
@@ -123,7 +126,7 @@ def shown(path, command):
 
 
 def check(name, words, want, status):
-    """Shows the script of these words, where the fake says what comes of it."""
+    """Shows the script of these words, where the fake says what is output."""
     with tempfile.TemporaryDirectory() as room:
         told, path = pathlib.Path(room) / "words", pathlib.Path(room) / "script"
         told.write_text(words)
@@ -144,14 +147,16 @@ def at_the_end():
     count.same("refused at the end", (f"\nx\n{rows}, it has fewer than five fields. Here the run ends\n" in output, status), (True, 1))
 
 
-def scenarios():
+def each_scenario():
     """Every scenario: each line beside what its words say, by the numbers of its own script."""
-    for folder in sorted((top / "tests" / "replay").iterdir()):
-        output, status, errors = shown(folder / "script", [sys.executable, fake, folder / "words"])
-        wanted = int((folder / "status").read_text()) if (folder / "status").exists() else 0
-        rows = [row.strip() for row in output.split("\n")]
-        lacking = [line for line in script.lines_of((folder / "expected").read_bytes()) if not beside(rows, script.read_answer(line))]
-        count.same(folder.name, (lacking, status, errors), ([], wanted, ""))
+    with tempfile.TemporaryDirectory() as room:
+        path = pathlib.Path(room) / "script"
+        for case in scenarios():
+            path.write_bytes(case.script)
+            output, status, errors = shown(path, [sys.executable, fake, case.path])
+            rows = [row.strip() for row in output.split("\n")]
+            lacking = [line for line in script.lines_of(case.expected) if not beside(rows, script.read_answer(line))]
+            count.same(case.name, (lacking, status, errors), ([], case.status, ""))
 
 
 def beside(rows, words):
@@ -164,28 +169,37 @@ def beside(rows, words):
 
 
 def by_make(program):
-    """`make demo` shows the script, and then the daemon; and what README shows of it."""
-    ran = subprocess.run(["make", "--no-print-directory", "-C", top, "demo", f"REQKEYD={program}"], capture_output=True, text=True, timeout=120)
+    """`make demo` shows the script, and then the daemon."""
+    ran = subprocess.run(["make", "--no-print-directory", "-C", top, "demo", f"REQKEYD={program}"], capture_output=True, text=True, timeout=LIMIT)
     count.same(f"make demo, {program.name}", (ran.returncode, FIRST_PATH in ran.stdout, ran.stdout.endswith(SERVED)), (0, True, True))
-    excerpt = next(it for it in (top / "README.md").read_text().split("```\n")[1::2] if "\n..\n" in it)
-    count.same(f"README of make demo, {program.name}", [it for it in excerpt.split("..\n") if it not in ran.stdout], [])
 
 
 def shown_runs(document):
-    """The commands of the blocks of a document that show runs, each with the lines that it prints there."""
-    blocks = [it for it in document.read_text().split("```\n")[1::2] if it.startswith("$ ")]
-    runs = [it.splitlines() for block in blocks for it in block.removeprefix("$ ").split("\n$ ")]
-    return [(command, lines) for command, *lines in runs]
+    """The commands of the blocks of a document that show runs, each with the lines that it prints there. One with `<<'END'` goes on to the line `END`."""
+    runs = []
+    for block in [it for it in document.read_text().split("```\n")[1::2] if it.startswith("$ ")]:
+        inside = False
+        for line in block.splitlines():
+            if inside:
+                runs[-1][0] += f"\n{line}"
+                inside = line != "END"
+            elif line.startswith("$ "):
+                runs.append([line.removeprefix("$ "), []])
+                inside = line.endswith("<<'END'")
+            else:
+                runs[-1][1].append(line)
+    return runs
 
 
 class Shell:
-    """A shell in a folder of its own, which has build/ and in the place of /tmp. It is ended where a command takes LIMIT seconds."""
+    """A shell in a folder of its own, which has build/ and clients/, and stands in the place of /tmp. It is ended where its commands take LIMIT seconds."""
 
     def __init__(self, room, program):
         self.room = room
         (room / "build").mkdir()
         (room / "build" / "reqkeyd").symlink_to(program)
         (room / "build" / "reqkeyctl").symlink_to(client_of(program))
+        (room / "clients").symlink_to(top / "clients")
         streams = {"stdin": subprocess.PIPE, "stdout": subprocess.PIPE, "stderr": subprocess.STDOUT}
         self.process = subprocess.Popen(["bash", "--norc"], cwd=room, text=True, start_new_session=True, **streams)
         self.guard = threading.Timer(LIMIT, os.killpg, (self.process.pid, signal.SIGKILL))
@@ -209,7 +223,7 @@ class Shell:
             if not (line := self.process.stdout.readline()):
                 return [*lines, "(the shell has ended)"]
             ended |= line == "END\n"
-            lines += [line.rstrip("\n")] if line != "END\n" else []
+            lines += [line.rstrip("\n").replace(f"{self.room}/", "/tmp/")] if line != "END\n" else []
         return lines
 
 
@@ -222,25 +236,27 @@ def by_hand(program, name):
         count.same(f"the end of {name} by hand, {program.name}", shell.run("wait $!; echo $?"), ["0"])
 
 
+if not shutil.which("cc"):
+    print("docs/TUTORIAL.md: not tried, there is no cc")
 for words, want, status in SHOWN:
     check(words, words, want, status)
 example = top / "examples" / "first-path.script"
 output, status, errors = shown(example, [sys.executable, fake, top / "tests" / "replay" / "first_path" / "words"])
 count.same("the example", (output.split("before a reply.\n")[1], status, errors), (FIRST_PATH, 0, ""))
 at_the_end()
-scenarios()
+each_scenario()
 for command, told, status in FAULTS:
     output, ended, errors = shown(example, command)
     count.same(command, (output, ended, told in errors), ("", status, True))
 serve = top / "examples" / "serve.py"
 for program in PROGRAMS:
-    ran = subprocess.run([serve, program], capture_output=True, text=True, timeout=60)
+    ran = subprocess.run([serve, program], capture_output=True, text=True, timeout=LIMIT)
     count.same(f"{serve.name} {program.name}", (ran.stdout, ran.returncode, ran.stderr), (SERVED, 0, ""))
     by_make(program)
-    for name in ["README.md", "docs/RECORD.md"]:
+    for name in DOCUMENTS:
         by_hand(program, name)
 for command, told in [(["/nothing/there"], "No such file"), (["false"], "did not start"), (["echo"], "did not start"), ([], "usage: serve.py COMMAND ..")]:
-    ran = subprocess.run([serve, *command], capture_output=True, text=True, timeout=60)
+    ran = subprocess.run([serve, *command], capture_output=True, text=True, timeout=LIMIT)
     count.same(f"serve.py {command}", ("HELLO" in ran.stdout, ran.returncode, told in ran.stderr), (False, 1 if command else 2, True))
 ran = subprocess.run([demo, "x"], capture_output=True, text=True)
 count.same("too few words", (ran.returncode, ran.stderr), (2, "usage: demo.py SCRIPT COMMAND ..\n"))

@@ -1,10 +1,10 @@
 #!/usr/bin/env python3
-"""Refuses growths to a client on its path through a hall, to a handler over fakes and to a session over fakes, in the test program that `rt ci` or
+"""Refuses allocations to a client on its path through a hall, to a handler over fakes and to a session over fakes, in the test program that `rt ci` or
 `rt test` has built.
 
-A run has one growth refused, or all from that one on. A call that is refused makes no step, and none of what is owed wants memory. Each test itself
+A run has one allocation refused, or all from that one on. A call that is refused makes no step, and none of what is owed wants memory. Each test itself
 compares the records with the seats and receipts; last it fails where it was not the whole one, and tells what came of it: how many steps there were, and
-of handlers and sessions also how they ended, what was told and which commands were started. Growths are refused one later each time, until a run meets
+of handlers and sessions also how they ended, what was told and which commands were started. Allocations are refused one later each time, until a run meets
 none.
 """
 import itertools
@@ -14,10 +14,10 @@ import subprocess
 import sys
 
 sys.path.insert(0, str(pathlib.Path(__file__).resolve().parent / "serve"))
-from programs import check_all, differs, top
+from programs import LIMIT, check_all, differs, top
 from scenes import library
 
-# Each path through a hall, and its steps, where memory ends it one growth later each time. Before it comes the client makes no step; it goes after having
+# Each path through a hall, and its steps, where memory ends it one allocation later each time. Before it comes the client makes no step; it goes after having
 # come, after its HELLO, or at the end. Of two requesters the second one may not come, and goes after having come, after its HELLO, or at the end.
 BEFORE = [0, 2, 3]
 PATHS = [
@@ -28,8 +28,8 @@ PATHS = [
 
 PLAIN, ANOTHER, PIPED, NEGATE = "/bin/h 12 ", "/bin/h 16 ", "/bin/p ", "/bin/n negate 12 "
 
-# Each handler: the commands that it is in the end, with what is told of each as the last one that was started, and whether the key is made. Then the steps
-# of a session, where memory ends one growth later each time: from 6 on the key is requested, and each further step is one that there was memory for. With
+# Each handler: the commands that it is in the end, with what is reported of each as the last one that was started, and whether the key is made. Then the steps
+# of a session, where memory ends one allocation later each time: from 6 on the key is requested, and each further step is one that there was memory for. With
 # 8, say, a plain handler's first ask was done, and its second one could not be read. Without a session the client doesn't go, which is one step less.
 HANDLERS = [
     ("plain_handler", [(PLAIN, "Exit(0)")], True, [6, 8, 9]),
@@ -42,40 +42,41 @@ RINGS = bytes.fromhex("00000011 02 00000000 00000000 00000004 00000008")
 TWELVE = bytes.fromhex("00000005 00 0000000c")
 NO_MEMORY, NO_KEY, NO_ACCESS = (bytes([0, 0, 0, 2, 3, errno]) for errno in (12, 126, 13))
 
-# What is refused before the first call that is looked at.
-EARLY = (b"memory", b"lines", b"an ask", b"a receipt")
+# What a test dies of where an allocation is refused before the first call that is looked at. A turn that is owed is never refused for lack of memory, so that a
+# receipt which it does not give, `a receipt: Stray`, is none of these.
+EARLY = re.compile(rb"(memory|an ask): AllocError\n|lines: ConfFault { line: [0-9]+, kind: NoMemory }\n|a receipt: NoMemory\n")
 
 
 class Odd(Exception):
-    """A run that is none of those that there may be."""
+    """A run that is not one of those that there may be."""
 
 
-def told(program, test, growth, more):
+def told(program, test, allocation, more):
     """What the test told of a run that was not the whole one: the words of a list, of which bytes are one. None of the whole one, and an empty list where
     memory was lacking before the first call."""
-    environment = {"LD_PRELOAD": library("refusing_malloc"), "REFUSED": str(growth), **more}
-    ran = subprocess.run([program, test], env=environment, stdin=subprocess.DEVNULL, stdout=subprocess.PIPE, stderr=subprocess.PIPE, timeout=60)
+    environment = {"LD_PRELOAD": library("refusing_malloc"), "REFUSED": str(allocation), **more}
+    ran = subprocess.run([program, test], env=environment, stdin=subprocess.DEVNULL, stdout=subprocess.PIPE, stderr=subprocess.PIPE, timeout=LIMIT)
     if ran.returncode == 0:
         return None
     left = re.search(rb"left: \(?(.*?)\)?\n right: ", ran.stderr)
     if ran.returncode < 0 and left:
         return re.findall(r"\[[^]]*\]|[^, ]+", left[1].decode())
-    if ran.returncode < 0 and ran.stderr.startswith(EARLY):
+    if ran.returncode < 0 and EARLY.fullmatch(ran.stderr):
         return []
     raise Odd(f"status {ran.returncode} {ran.stderr[-200:]}")
 
 
 def in_turn(program, test, more, whole, judged):
-    """The steps of each run, where growths are refused one later each time, up to the first run that is the whole one; None where there was no call."""
-    for growth in itertools.count(1):
-        words = told(program, test, growth, more)
+    """The steps of each run, where allocations are refused one later each time, up to the first run that is the whole one; None where there was no call."""
+    for allocation in itertools.count(1):
+        words = told(program, test, allocation, more)
         if words is None:
             yield whole
             return
         try:
             yield judged(words) if words else None
         except Odd as odd:
-            raise Odd(f"growth {growth} {more}: {odd}: {words}") from None
+            raise Odd(f"allocation {allocation} {more}: {odd}: {words}") from None
 
 
 def bytes_of(word):
@@ -96,7 +97,7 @@ def started(word, commands):
 
 
 def judged_handler(words, commands, is_made):
-    """The steps of a run of a handler: how it ended is told of the last one that was started, and its client is told the key or ENOKEY."""
+    """The steps of a run of a handler: how it ended is reported of the last one that was started, and its client gets the key or ENOKEY."""
     steps, driven, outcome, text = words
     count = started(text, commands)
     ends = {f"Ended({commands[count - 1][1]})"} if count else {"NotMade(NoMemory)", "NoMemory", "StartFailed"}
@@ -115,14 +116,14 @@ def replies(word):
 
 
 def judged_session(words, commands, is_made, goes_on):
-    """The steps of a run of a session: it ends as its input does, and each reply is the whole one's up to the growth that is refused. Numbers and refusals take
-    no memory, so that what became of a handler which lacked it is still told."""
+    """The steps of a run of a session: it ends as its input does, and each reply is the whole one's up to the allocation that is refused. Numbers and refusals
+    take no memory, so that the end of a handler which lacked it is still reported."""
     steps, served, said, text = words
     said, steps, count = list(replies(said)), int(steps), started(text, commands)
     last = TWELVE if is_made else NO_KEY
     holds(served == "Ended", "another end")
     if not said:
-        holds(steps == 0 and count == 0, "a session that is told nothing")
+        holds(steps == 0 and count == 0, "a session that gets nothing")
         return steps
     holds(len(said) == 2, "not a reply to each ask")
     if said[0] == NO_MEMORY:
@@ -143,13 +144,14 @@ def wrong_path(program, test, steps, more):
 
 
 def wrong(program, test, judge, last):
-    """What went wrong where all growths from one on are refused, and where one alone is, as many times; or None."""
+    """What went wrong where all allocations from one on are refused, and where one alone is, as many times; or None."""
     try:
         seen = list(in_turn(program, test, {"AND_ON": "1"}, last[-1], lambda words: judge(words, True)))
-        for growth in range(1, len(seen)):
-            words = told(program, test, growth, {})
+        for allocation in range(1, len(seen)):
+            words = told(program, test, allocation, {})
+            holds(words != [] or allocation <= seen.count(None), f"allocation {allocation}: nothing is reported, though the calls had begun")
             if words:
-                holds(judge(words, False) <= last[-1], f"growth {growth}: {words}")
+                holds(judge(words, False) <= last[-1], f"allocation {allocation}: {words}")
     except Odd as odd:
         return f"{test}: {odd}"
     return differs([it for it, _ in itertools.groupby(seen)], [None, *last])

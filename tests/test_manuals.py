@@ -1,19 +1,21 @@
 #!/usr/bin/env python3
-"""Compares the manual pages of man/ with what the programs say of themselves and with docs/, and has groff look for faults in them."""
+"""Compares the manual pages of man/ with what the programs say of themselves and with the code, and has groff look for faults in them."""
+import pathlib
 import re
 import shlex
 import shutil
 import subprocess
 import sys
+import tempfile
 
 from counted import Counted
-from programs import built, top
+from programs import LIMIT, built, top
 
 sys.path.insert(0, str(top / "tools"))
 from program_help import option, part, said, subcommands
 
 count = Counted()
-PAGES = ["reqkeyd.8", "reqkeyctl.1", "reqkeyd.conf.5"]
+PAGES = ["reqkeyd.8", "reqkeyctl.1", "reqkey-trap.1", "reqkeyd.conf.5"]
 
 
 def plain(words):
@@ -120,14 +122,34 @@ def of_client(program):
     count.same("errors", tagged(page["ERRORS"]), part(text, "Errors"))
 
 
+def of_trap():
+    """reqkey-trap.1: its options, and that each stands in the synopsis; and what it says on standard error, by its sources."""
+    page = sections("reqkey-trap.1")
+    if not shutil.which("gcc") or not shutil.which("make"):
+        print("reqkey-trap.1: not tried, there is no gcc and make")
+        return
+    with tempfile.TemporaryDirectory() as room:
+        subprocess.run(["make", "-s", "-C", top / "clients" / "trap", f"OUT={room}"], check=True, timeout=LIMIT)
+        text = said(pathlib.Path(room) / "reqkey-trap", "--help")
+    listed = sorted(option(tag) for tag in tagged(page["OPTIONS"]))
+    count.same("options of reqkey-trap", listed, options(text))
+    synopsis = " ".join(spoken(line) for line in page["SYNOPSIS"])
+    count.same("synopsis of reqkey-trap", [it for it in listed if not it.startswith("-h") and it.split()[1 if it[1] != "-" else 0] not in synopsis], [])
+    sources = "".join(path.read_text() for path in (top / "clients" / "trap").glob("*.c"))
+    texts = re.findall(r'fputs\("reqkey-trap: (.*?)\\n"', sources)
+    count.same("what reqkey-trap says", sorted(it for it in texts if it not in tagged(page["DIAGNOSTICS"])), [])
+    count.same("how much it says", len(texts), 3)
+
+
 def of_configuration():
-    """reqkeyd.conf.5: the macros and the codes of docs/CONFIGURATION.md."""
-    page, document = sections("reqkeyd.conf.5"), (top / "docs" / "CONFIGURATION.md").read_text()
-    macros = re.findall(r"%.", " ".join(tag for tag in tagged(page["DESCRIPTION"]) if tag.startswith("%")))
-    told = re.findall(r"^\| (`%.*?) \|", document, re.MULTILINE)
-    count.same("macros", macros, re.findall(r"%.", " ".join(told)))
-    codes = re.findall(r"^\| (C\d) \|", document, re.MULTILINE)
-    count.same("codes", tagged(page["DIAGNOSTICS"]), [code for code in codes if code != "C5"])
+    """reqkeyd.conf.5: the macros of rk_conf, the codes of its faults in the order in which they are tried, and those of rk_macro."""
+    page = sections("reqkeyd.conf.5")
+    tags = tagged(page["DESCRIPTION"])
+    macros = re.findall(r"%.", " ".join(tag for tag in tags if tag.startswith("%")))
+    letters = re.findall(r"^        b'(\w)' => Some", (top / "crates" / "rk_conf" / "src" / "borrowed_argument.rt").read_text(), re.MULTILINE)
+    count.same("macros", macros, [*(f"%{letter}" for letter in letters), "%{", "%%"])
+    count.same("codes", tagged(page["DIAGNOSTICS"]), [code for code in shown("rk_conf/src/fault.rt", "ConfKind") if code != "C5"])
+    count.same("codes of words", [tag for tag in tags if tag.startswith("X")], re.findall(r'"(X\d)"\)\]', (top / "crates" / "rk_macro" / "src" / "fault.rt").read_text()))
 
 
 def alike(page):
@@ -142,7 +164,7 @@ def alike(page):
     count.same(f"see also of {page}", [it for it, its in others if f"{it}({its})" not in also], [])
     count.same(f"columns of {page}", [line for line in text.split("\n") if len(line) > 160], [])
     if shutil.which("groff"):
-        ran = subprocess.run(["groff", "-ww", "-man", "-Tutf8", "-b", top / "man" / page], capture_output=True, text=True, timeout=60)
+        ran = subprocess.run(["groff", "-ww", "-man", "-Tutf8", "-b", top / "man" / page], capture_output=True, text=True, timeout=LIMIT)
         count.same(f"faults in {page}", (ran.returncode, ran.stderr), (0, ""))
 
 
@@ -151,6 +173,7 @@ if not shutil.which("groff"):
 for page in PAGES:
     alike(page)
 of_configuration()
+of_trap()
 of_warnings()
 for name, compare in [("reqkeyd", of_daemon), ("reqkeyctl", of_client)]:
     program = built(name)[0]

@@ -13,7 +13,7 @@ import sys
 import tempfile
 
 from counted import Counted
-from programs import PROGRAMS, top
+from programs import LIMIT, PROGRAMS, top
 
 sys.path.insert(0, str(top / "tools"))
 from messages import bodies, frame, unword, word, write_ask
@@ -21,7 +21,7 @@ from messages import bodies, frame, unword, word, write_ask
 count = Counted()
 CASES = 150
 
-# The example of docs/CONFIGURATION.md.
+# The example of reqkeyd.conf(5), and a line of keyutils.
 EXAMPLE = b"""\
 # op    type   description    callout  program         arguments
 create  user   debug:loop:*   *        |/bin/cat
@@ -29,7 +29,7 @@ create  user   debug:*        *        /bin/debug.sh   %k %%k %d
 negate  *      *              *        /bin/keyctl     negate %k 30 %S
 """
 
-# Words behind `pick --conf PATH`, and what is told: the output with status 0, or the fault with status 1.
+# Words behind `pick --conf PATH`, and what is printed: the output with status 0, or the fault with status 1.
 EXAMPLES = [
     (["user", "debug:loop:1", "hi"], 0, "line 2 piped\n/bin/cat\n"),
     (["user", "debug:loop:1", ""], 0, "line 2 piped\n/bin/cat\n"),
@@ -40,7 +40,7 @@ EXAMPLES = [
     (["--session=7", "--negate", "--key=3", "user", "debug:loop:1", ""], 0, "line 4 plain\n/bin/keyctl\nnegate\n3\n30\n7\n"),
 ]
 
-# A line, a description and a callout, and the words that are told, or the fault.
+# A line, a description and a callout, and the words that are printed, or the fault.
 LINES = [
     ("create * * * /p %o %t %d %c", "d", "c", ["create", "user", "d", "c"]),
     ("create * * * /p %u %g %T %P %S %k", "d", "", ["0", "0", "0", "0", "0", "1"]),
@@ -58,7 +58,7 @@ LINES = [
     ("create * * * /p " + "%c " * 17 + "%{user:a}", "d", "c" * 4095, "reqkeyd: line 1: X3: the words are more than 65536 bytes\n"),
 ]
 
-# A pattern, what it fits and what it doesn't, as docs/CONFIGURATION.md has them.
+# A pattern, what it fits and what it doesn't, as reqkeyd.conf(5) has them.
 PATTERNS = [
     ("user", ["user"], ["users"]),
     ("*", ["x", "*"], []),
@@ -93,7 +93,7 @@ TEXTS = [
 REQUEST = ["user", "debug:x", ""]
 USAGE = "usage: reqkeyd"
 
-# Words behind the program that are no call, and what standard error tells of them.
+# Usage errors, and what standard error tells of them.
 NO_CALLS = [
     (["check"], "--conf <PATH>"),
     (["check", "--conf"], "--conf"),
@@ -129,7 +129,7 @@ NO_NUMBERS = ["", " 1", "1 ", "+1", "-1", "0x1", "1.", "one", "\u0661", "9999999
 
 def ran(program, *words):
     """What a call prints on standard output and standard error, and its status."""
-    got = subprocess.run([program, *words], stdin=subprocess.DEVNULL, capture_output=True, timeout=60)
+    got = subprocess.run([program, *words], stdin=subprocess.DEVNULL, capture_output=True, timeout=LIMIT)
     return got.returncode, got.stdout, got.stderr
 
 
@@ -191,7 +191,7 @@ def calls(program, room):
         count.same(f"{program.name} {words}", got, (0, "\n".join(["line 1 plain", "/p", *words, ""]).encode(), b""))
     with open("/dev/full", "wb") as full:
         for words in [["check", "--conf", room / "conf"], ["pick", "--conf", room / "conf", "user", "d", ""]]:
-            got = subprocess.run([program, *words], stdin=subprocess.DEVNULL, stdout=full, stderr=subprocess.PIPE, timeout=60)
+            got = subprocess.run([program, *words], stdin=subprocess.DEVNULL, stdout=full, stderr=subprocess.PIPE, timeout=LIMIT)
             count.same(f"{program.name} {words[0]} on a full device", (got.returncode, got.stderr), (1, b"reqkeyd: output\n"))
 
 
@@ -247,8 +247,8 @@ def conf_of(dice, request):
 
 
 def played(program, lines):
-    """What replay puts out for a script, a list of lines."""
-    return subprocess.run([program, "replay"], input=b"\n".join(lines), capture_output=True, timeout=60).stdout.decode().splitlines()
+    """What replay outputs for a script, a list of lines."""
+    return subprocess.run([program, "replay"], input=b"\n".join(lines), capture_output=True, timeout=LIMIT).stdout.decode().splitlines()
 
 
 def ask_line(moment, kind, who, *words):
@@ -317,7 +317,7 @@ def in_a_shell(program, room):
     (room / "conf").write_bytes(b"create * * * /p %d %c")
     script = f'"{program}" pick --conf "{room}/conf" user "$1" "$2" | sed -n 4p | {{ IFS= read -r it; printf "%b" "$it"; }}'
     for callout in ["plain", "a\nb", " \\0012 \\\\ %d \t", "\u00e9\x1b"]:
-        got = subprocess.run(["sh", "-c", script, "sh", "d", callout], stdin=subprocess.DEVNULL, capture_output=True, timeout=60)
+        got = subprocess.run(["sh", "-c", script, "sh", "d", callout], stdin=subprocess.DEVNULL, capture_output=True, timeout=LIMIT)
         count.same(f"{program.name} {callout!r} by printf", (got.stdout.decode(), got.stderr), (callout, b""))
 
 

@@ -137,11 +137,26 @@ def many(program):
         names = [f.name for f in files]
         if "hall-0-volume-000002" not in names:
             return f"{names}"
-        status, lines, fault = rejoin(program, files)
-        if status or lines[0].split(",")[0] != "hall 0: 2 volumes":
-            return f"{status} {lines} {fault}"
+        for order in (files, files[::-1]):
+            status, lines, fault = rejoin(program, order)
+            if status or lines[0].split(",")[0] != "hall 0: 2 volumes":
+                return f"{status} {lines} {fault}"
         status, lines, fault = rejoin(program, files[1:])
         return None if status == 1 and fault == "reqkeyd: hall 0, volume 1: it is missing" else f"{status} {fault}"
+
+
+def negative(program):
+    """With another negative time, which the record tells: a key that was not made is started again at once, and the machine answers the same."""
+    with tempfile.TemporaryDirectory() as folder:
+        with Daemon(program, CONF, "--record", folder, "--negative", "0", "--clients", "4") as daemon:
+            for uid in range(1000, 1004):
+                with Client(daemon.path, uid) as client:
+                    client.ask(*[ask.request(b"user", b"lone:1", b"x", -4)] * 3)
+            daemon.end()
+        status, lines, fault = rejoin(program, volumes(folder))
+        # a client comes, says HELLO and goes; each request is a start, a launch, an end and a collect. Those of other halls come to hall 0 first, and go
+        wanted = [f"hall {hall}: 1 volumes, {15 + 6 * (hall == 0)} steps" for hall in range(4)] + ["ok, 4 halls, 66 steps: a run of the machine"]
+        return None if (status, lines) == (0, wanted) else f"{status} {lines} {fault}"
 
 
 def starts(program):
@@ -199,7 +214,7 @@ def full(program):
 
 
 def replaces_none(program):
-    """Files under the names of a volume have come to stand there: they stay as they are, the volume is told of, and the others are written."""
+    """Files under the names of a volume have come to stand there: they stay as they are, the volume is reported, and the others are written."""
     with tempfile.TemporaryDirectory() as folder:
         room = pathlib.Path(folder)
         others = [room / "hall-0-volume-000001", room / ".hall-2-volume-000001.part"]
@@ -218,7 +233,7 @@ def replaces_none(program):
 
 
 CASES = [("a whole record is a run", whole), ("changed, cut, longer and doubled files are refused", changed), ("the example of the format", one_step),
-         ("a second volume", many), ("folders that are none or have volumes", starts), ("a signal leaves whole volumes", killed),
+         ("a second volume", many), ("another negative time", negative), ("folders that are missing or have volumes", starts), ("a signal leaves whole volumes", killed),
          ("a full disk costs its volume alone", full), ("no file is replaced", replaces_none)]
 
 if __name__ == "__main__":

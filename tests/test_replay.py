@@ -1,56 +1,46 @@
 #!/usr/bin/env python3
-"""Runs each scenario of tests/replay through `reqkeyd replay`.
-
-A scenario is a folder: `words` says line by line what happens and what has to come of it (docs/SCRIPTS.md), `purpose` what it is for. Of the
-words `tools/script.py scenario` makes the `script` and what is `expected`, byte by byte. `status` is there where it is not 0.
-"""
+"""Runs each scenario of tests/replay through `reqkeyd replay` (tests/scenarios.py): the output, byte by byte, and which line it is the output of."""
 import subprocess
 import sys
 
-from programs import check_all, top
+from programs import LIMIT, check_all, top
+from scenarios import scenario, scenarios
 
 sys.path[:0] = [str(top / "examples"), str(top / "tools")]
 import demo
-from script import lines_of, steps_of
+from script import lines_of
 
 
-def fault(program, script, folder):
-    """What went wrong with this script, whose output is that of the folder, or None."""
-    with open(script, "rb") as file:
-        ran = subprocess.run([program, "replay"], stdin=file, capture_output=True, timeout=60)
-    wanted = (folder / "expected").read_bytes()
-    if ran.stdout != wanted:
+def fault(program, script, case):
+    """What went wrong with this script, whose output is that of the scenario, or None."""
+    ran = subprocess.run([program, "replay"], input=script, capture_output=True, timeout=LIMIT)
+    if ran.stdout != case.expected:
         got = ran.stdout.decode(errors="replace").splitlines()
-        want = wanted.decode().splitlines()
+        want = case.expected.decode().splitlines()
         for number, pair in enumerate(zip(got + [""] * len(want), want + [""] * len(got)), 1):
             if pair[0] != pair[1]:
                 return f"line {number} is {pair[0]!r}, not {pair[1]!r}"
-    status = int((folder / "status").read_text()) if (folder / "status").exists() else 0
-    if ran.returncode != status:
+    if ran.returncode != case.status:
         return f"status {ran.returncode}"
-    errors = b"reqkeyd: script\n" if status == 1 else b""
+    errors = b"reqkeyd: script\n" if case.status == 1 else b""
     if ran.stderr != errors:
         return f"on standard error: {ran.stderr!r}"
-    return misplaced(program, folder)
+    return misplaced(program, case)
 
 
-def misplaced(program, folder):
-    """The first line of which other lines come than those under it in the words, or None."""
-    if not (folder / "words").exists():
-        return "it has no words"
-    steps = steps_of((folder / "words").read_bytes())[1:]
-    came, _ = demo.run([program, "replay"], lines_of((folder / "script").read_bytes()), subprocess.DEVNULL)
-    came += [[]] * (len(steps) + 1 - len(came))
-    # what comes at the end stands under the last line
+def misplaced(program, case):
+    """The first line that outputs other lines than those under it in the words, or None."""
+    came, _ = demo.run([program, "replay"], lines_of(case.script), subprocess.DEVNULL)
+    came += [[]] * (len(case.steps) + 1 - len(came))
+    # what is output at the end stands under the last line
     came[-2:] = [came[-2] + came[-1]]
-    for number, ((line, want), got) in enumerate(zip(steps, came), 1):
+    for number, ((line, want), got) in enumerate(zip(case.steps, came), 1):
         if got != want:
-            return f"of line {number}, {line[:80]!r}, comes {got}, not {want}"
+            return f"line {number}, {line[:80]!r}, outputs {got}, not {want}"
     return None
 
 
-folders = sorted(path for path in (top / "tests" / "replay").iterdir() if path.is_dir())
-cases = [(folder.name, folder / "script", folder) for folder in folders]
+cases = [(case.name, case.script, case) for case in scenarios()]
 # the example is the first path, with comments
-cases.append(("examples/first-path.script", top / "examples" / "first-path.script", top / "tests" / "replay" / "first_path"))
+cases.append(("examples/first-path.script", (top / "examples" / "first-path.script").read_bytes(), scenario("first_path")))
 check_all(cases, fault)

@@ -1,7 +1,7 @@
 #!/usr/bin/env python3
 """Tries tools/script.py: that its tables are those of docs/PROTOCOL.md, and that words and lines of a script say the same, both ways.
 
-Also holds each scenario of tests/replay together: its script and what has to come of it are what its words say.
+Also looks at the scenarios of tests/replay: ten of them keep the script and the expected output byte by byte, and both are what the words say.
 """
 import pathlib
 import random
@@ -15,6 +15,7 @@ sys.path.insert(0, str(tool.parent))
 import messages
 import script
 from counted import Counted
+from scenarios import scenarios
 
 count = Counted()
 
@@ -72,7 +73,7 @@ LINES = [
     ("line %FF", "\xff"),
 ]
 
-# A line that comes of a script, and its words.
+# A line of a script, and its words.
 ANSWERS = [
     ("c1 <- rings 0 0 1 2", "to 1 000000110200000000000000000000000100000002"),
     ("h3 <- 0", "tohandler 3 000000050000000000"),
@@ -100,7 +101,7 @@ OTHER_SPELLINGS = [
     ("  conf create * * * /bin/h", "conf create * * * /bin/h"),
 ]
 
-# Words that say nothing, and what is told of them; each stands in line 2.
+# Words that say nothing, and what is said of them; each stands in line 2.
 WRONG = [
     ("READ 3", "READ"),
     ("c1 FROB 3", "no ask FROB"),
@@ -136,10 +137,19 @@ WRONG = [
     ("negative", "seconds"),
     ("conf", "conf"),
     ("line a%0Ab", "newline"),
+    ("repeat N 1", "first and the last"),
+    ("repeat M 1 2", "first and the last"),
+    ("repeat N 2 1", "less than the first"),
+    ("repeat N 1 1000001", "from 0 to 1000000"),
+    ("repeat N 0 1\ngone {N-1}\nend", "less than 0"),
+    ("repeat N 0 1\nrepeat N 0 1\nend\nend", "within another"),
+    ("repeat N 0 1\ngone {N}", "without its end"),
+    ("gone {N}", "no number"),
+    ("end", "nothing is called end"),
     ("  c1 <- E5", "no reply"),
     ("  c1 <- rings 1 2", "no reply"),
     ("  x1 <- 0", "no session"),
-    ("  c1 0", "comes of no script"),
+    ("  c1 0", "is no output of a script"),
 ]
 
 
@@ -174,7 +184,8 @@ def one_by_one():
             got = script.write(f"100 accept 1\n{words}\n".encode())
         except script.Fault as fault:
             got = str(fault)
-        count.same(words, (str(got).startswith("line 2: "), told in str(got)), (True, True))
+        # (a repeat has lines within)
+        count.same(words, (bool(re.match("line 2: " if "\n" not in words else "line [2-5]: ", str(got))), told in str(got)), (True, True))
 
 
 def whole_texts():
@@ -186,6 +197,9 @@ def whole_texts():
     came = b"fault 4 S1\nto 1 00000002030d\nto 1 00000002030d\n"
     count.same("what has to come", script.answers(words), came)
     count.same("nothing", (script.write(b""), script.read(b""), script.answers(b"")), (b"", b"", b""))
+    repeated = b"100 accept 0\nrepeat N 0 2\nc0 READ {N}\n  c0 <- {2*N+1}\nend\ngone 0\n"
+    unrolled = b"100 accept 0\nc0 READ 0\n  c0 <- 1\nc0 READ 1\n  c0 <- 3\nc0 READ 2\n  c0 <- 5\ngone 0\n"
+    count.same("a repeat", (script.write(repeated), script.answers(repeated)), (script.write(unrolled), script.answers(unrolled)))
 
 
 def any_bytes():
@@ -207,19 +221,20 @@ def meaning(line):
     return [re.sub(b"^0+(?=[0-9]+$)", b"", text) for text in fields[:numbers]] + fields[numbers:]
 
 
-def scenarios():
-    """What a scenario's words say is what is beside them, and what is beside them has words that say the same."""
-    for folder in sorted((top / "tests" / "replay").iterdir()):
-        if not (folder / "words").exists():
-            count.same(f"{folder.name} has words", False, True)
-            continue
-        words, lines, came = ((folder / name).read_bytes() for name in ["words", "script", "expected"])
-        made = f"what its words say (tools/script.py scenario tests/replay/{folder.name})"
-        count.same(f"{folder.name}: the script is {made}", script.write(words), lines)
-        count.same(f"{folder.name}: what is expected is {made}", script.answers(words), came)
-        again = script.write(script.read(lines))
-        count.same(f"{folder.name}: read and written", [*map(meaning, again.split(b"\n"))], [*map(meaning, lines.split(b"\n"))])
-        count.same(f"{folder.name}: read and written again", script.answers(script.read(came)), came)
+def of_words():
+    """What is made of a scenario's words has words that say the same; and what ten folders keep of it is what their words say."""
+    kept = []
+    for case in scenarios():
+        again = script.write(script.read(case.script))
+        count.same(f"{case.name}: read and written", [*map(meaning, again.split(b"\n"))], [*map(meaning, case.script.split(b"\n"))])
+        count.same(f"{case.name}: read and written again", script.answers(script.read(case.expected)), case.expected)
+        count.same(f"{case.name}: purpose", (case.path.parent / "purpose").read_text().count("\n"), 1)
+        beside = sorted(path.name for path in case.path.parent.iterdir() if path.name in ["script", "expected"])
+        kept += beside
+        for name in beside:
+            told = f"{case.name}: the {name} is what its words say (tools/script.py scenario tests/replay/{case.name})"
+            count.same(told, getattr(case, name), (case.path.parent / name).read_bytes())
+    count.same("scenarios that keep what is made of their words", (kept.count("script"), kept.count("expected")), (10, 10))
 
 
 def calls():
@@ -252,11 +267,11 @@ def examples():
     count.same("examples/first-path.script", lines, script.lines_of((first / "script").read_bytes()))
     page = (top / "docs" / "SCRIPTS.md").read_text()
     count.same("the example's words stand in docs/SCRIPTS.md", f"```\n{(first / 'words').read_text()}```\n" in page, True)
-    played = [path.read_text() for path in (top / "tests" / "replay").glob("*/words")]
+    played = [case.words.decode("latin-1") for case in scenarios()]
     shown = (top / "docs" / "MACHINE.md").read_text().split("```\n")[1::2]
     count.same("docs/MACHINE.md shows scenarios", ([it for it in shown if it not in played], len(shown)), ([], 2))
 
 
-for test in [tables, one_by_one, whole_texts, any_bytes, scenarios, calls, examples]:
+for test in [tables, one_by_one, whole_texts, any_bytes, of_words, calls, examples]:
     test()
 count.end()

@@ -6,7 +6,7 @@ The test itself compares records, seats and receipts. In the crate it asks less 
 import os
 import subprocess
 
-from programs import check_all, top
+from programs import LIMIT, check_all, top
 
 TESTS = ["threads_side_by_side_settle"]
 ASKS = 10_000
@@ -15,7 +15,7 @@ ASKS = 10_000
 def wrong(program, test):
     """What went wrong, or None."""
     words = [program, f"threads::together::{test}"]
-    ran = subprocess.run(words, env={**os.environ, "ASKS": str(ASKS)}, stdin=subprocess.DEVNULL, capture_output=True, timeout=600)
+    ran = subprocess.run(words, env={**os.environ, "ASKS": str(ASKS)}, stdin=subprocess.DEVNULL, capture_output=True, timeout=LIMIT)
     return f"status {ran.returncode} {(ran.stdout + ran.stderr)[-400:]}" if ran.returncode else None
 
 

@@ -2,7 +2,7 @@
 """Calls `reqkeyd` with words: which status, and what is said on which stream."""
 import subprocess
 
-from programs import check_all, version
+from programs import LIMIT, check_all, version
 
 # a configuration without a line, and a place where no socket can be
 PATHS = ["--conf", "/dev/null", "--socket", "/dev/null/none"]
@@ -54,7 +54,7 @@ CALLS = [
 
 def fault(program, words, status, output, errors, target=subprocess.PIPE, script=b""):
     """What went wrong, or None."""
-    ran = subprocess.run([program, *words], input=script, stdout=target, stderr=subprocess.PIPE, timeout=60)
+    ran = subprocess.run([program, *words], input=script, stdout=target, stderr=subprocess.PIPE, timeout=LIMIT)
     if ran.returncode != status:
         return f"status {ran.returncode}, not {status}"
     for name, got, want in [("output", ran.stdout or b"", output), ("error", ran.stderr, errors)]:

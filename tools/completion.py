@@ -1,5 +1,5 @@
 #!/usr/bin/env python3
-"""Makes what completes the words of reqkeyd and reqkeyctl in bash, zsh and fish, of what the programs say of themselves.
+"""Makes what completes the words of reqkeyd, reqkeyctl and reqkey-trap in bash, zsh and fish, of what the programs say of themselves.
 
 Use: completion.py FOLDER OUT, with the folder of the programs and the one to write to; `make completion` calls it. The programs make their help of the
 table by which they read their words, so a command, an option or a name that is new there is completed once this has run.
@@ -13,6 +13,7 @@ from typing import NamedTuple
 from program_help import option, part, said, subcommands
 
 PROGRAMS = ["reqkeyd", "reqkeyctl"]
+STARTER = "reqkey-trap"  # has no commands: options, and then another program with its words
 FILES = {"PATH", "FILE", "FOLDER"}  # the values that are files or folders
 REST = "files"  # the argument that stands for any number of files
 
@@ -315,6 +316,78 @@ def fish(program):
     )
 
 
+STARTER_BASH = """\
+# Completes the words of @NAME@ in bash. Made by tools/completion.py of what the program says of itself.
+_@FUNCTION@()
+{
+    local -A values=(@VALUES@)
+    local current=${COMP_WORDS[COMP_CWORD]} value= at word
+    COMPREPLY=()
+    for ((at = 1; at < COMP_CWORD; at++)); do
+        word=${COMP_WORDS[at]}
+        if [[ $value ]]; then
+            [[ $word == = ]] || value=
+        elif [[ $word == -* && $word != -- ]]; then
+            value=${values[$word]}
+        else
+            [[ $word != -- ]] || ((at++))
+            break
+        fi
+    done
+    [[ $current != = ]] || current=
+    if [[ $value == PATH ]] || ((at < COMP_CWORD)); then
+        compopt -o filenames 2> /dev/null
+        mapfile -t COMPREPLY < <(compgen -f -- "$current")
+    elif [[ ! $value && $current == -* && ${COMP_WORDS[COMP_CWORD - 1]} != -- ]]; then
+        mapfile -t COMPREPLY < <(compgen -W "@OPTIONS@" -- "$current")
+    elif [[ ! $value ]]; then
+        mapfile -t COMPREPLY < <(compgen -c -- "$current")
+    fi
+}
+complete -F _@FUNCTION@ @NAME@
+"""
+
+STARTER_ZSH = """\
+#compdef @NAME@
+# Completes the words of @NAME@ in zsh. Made by tools/completion.py of what the program says of itself.
+_arguments -S -A '-*' \\
+@OPTIONS@
+    '(-)1:program: _command_names -e' '*::words: _normal'
+"""
+
+STARTER_FISH = """\
+# Completes the words of @NAME@ in fish. Made by tools/completion.py of what the program says of itself.
+@OPTIONS@
+complete -c @NAME@ -x -a '(__fish_complete_subcommand - @VALUES@)'
+"""
+
+
+def starter_of(path):
+    """The files for the program that starts others."""
+    options = read_options(said(path, "--help"))
+    program = Program(STARTER, Call("", options, []), {}, {})
+    with_value = {word: it.value for it in options if it.value for word in it.spellings}
+
+    def zsh_option(it):
+        words = it.spellings[0] if len(it.spellings) == 1 else "{" + ",".join(it.spellings) + "}"
+        if it.value:
+            return f"    '{words}=[{it.about}]:{it.value}:{'_files' if it.value in FILES else ' '}' \\"
+        return f"    '({' '.join(it.spellings)})'{words}'[{it.about}]' \\"
+
+    def fish_option(it):
+        names = " ".join(f"-l {word[2:]}" if word.startswith("--") else f"-s {word[1:]}" for word in it.spellings)
+        return f"complete -c {STARTER} {names}{' -r -F' if it.value in FILES else ' -x' if it.value else ''} -d '{it.about}'"
+
+    # (with a word other than an option before them, fish takes none for its own)
+    return {
+        f"{STARTER}.bash": filled(STARTER_BASH, program, function=STARTER.replace("-", "_"), options=spellings(options),
+                                  values=" ".join(f"[{word}]={value}" for word, value in with_value.items())),
+        f"_{STARTER}": filled(STARTER_ZSH, program, options="\n".join(map(zsh_option, options))),
+        f"{STARTER}.fish": filled(STARTER_FISH, program, options="\n".join(map(fish_option, options)),
+                                  values=" ".join(with_value)),
+    }
+
+
 SHELLS = {"{}.bash": bash, "_{}": zsh, "{}.fish": fish}
 
 
@@ -329,3 +402,5 @@ if __name__ == "__main__":
     for name in PROGRAMS:
         for file, text in made_of(read_program(pathlib.Path(sys.argv[1]) / name)).items():
             (pathlib.Path(sys.argv[2]) / file).write_text(text)
+    for file, text in starter_of(pathlib.Path(sys.argv[1]) / STARTER).items():
+        (pathlib.Path(sys.argv[2]) / file).write_text(text)

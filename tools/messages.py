@@ -50,7 +50,7 @@ ERRNOS = {
 
 BODY = 65_536  # the bytes of a frame's body at most
 LONGEST = 262_144  # as many bytes a word may stand for
-RUN = 16  # so many equal bytes are told by their number
+RUN = 16  # so many equal bytes are written by their number
 
 
 class Fault(Exception):
@@ -105,7 +105,7 @@ def unfield(text):
 
 
 def raw(data, text=False):
-    """Bytes that are no message: in hexadecimal; but as `=` and a word where that has runs, or where they may be a text that can be seen."""
+    """Bytes without a message: in hexadecimal; but as `=` and a word where that has runs, or where they may be a text that can be seen."""
     told = word(data)
     return f"={told}" if len(told) < len(data) or (text and told.encode() == data) else data.hex()
 

@@ -96,7 +96,7 @@ KEY = States(
     [
         ("M110 36V186", (122, 34, ["REQUEST, where none is found"])),
         ("M385 36V106", (397, 34, ["ADD"])),
-        ("M166 197C230 165 260 125 328 125", (172, 94, ["INSTANTIATE, or what", "a piped handler put out"])),
+        ("M166 197C230 165 260 125 328 125", (172, 94, ["INSTANTIATE, or what", "a piped handler wrote"])),
         ("M166 213C230 245 260 285 328 285", (138, 304, ["NEGATE, REJECT, or an end", "without a payload"])),
         ("M441 125C500 125 520 160 560 186", (500, 122, ["its expiry comes"])),
         ("M166 205H553", (300, 198, ["its expiry comes"])),

@@ -5,7 +5,7 @@ import subprocess
 
 def said(program, *words):
     """What a program prints when it is called with these words."""
-    ran = subprocess.run([program, *words], stdin=subprocess.DEVNULL, capture_output=True, text=True, timeout=60)
+    ran = subprocess.run([program, *words], stdin=subprocess.DEVNULL, capture_output=True, text=True)
     return ran.stdout if ran.returncode == 0 else f"status {ran.returncode}: {ran.stderr}"
 
 

@@ -1,13 +1,13 @@
 #!/usr/bin/env python3
-"""Scripts of `reqkeyd replay`, and what comes of them, in words.
+"""Scripts of `reqkeyd replay`, and their output, in words.
 
 usage: script.py write [FILE]       words in; the script that they say out
-       script.py answers [FILE]     words in; what has to come of that script out
-       script.py read [FILE]        a script, or what came of one, in; words out
+       script.py answers [FILE]     words in; the expected output of that script out
+       script.py read [FILE]        a script, or the output of one, in; words out
        script.py scenario FOLDER..  write `script` and `expected` of each folder from its `words`
 
-Without FILE standard input is read. docs/SCRIPTS.md tells what the words are. The status is 0; 1 where something can't be read or written, and
-the number of the line at fault is told; 2 for a wrong command line.
+Without FILE standard input is read. docs/SCRIPTS.md says what the words are. The status is 0; 1 if something can't be read or written, with
+the number of the invalid line; 2 for a usage error.
 """
 import pathlib
 import re
@@ -17,10 +17,12 @@ import sys
 from messages import Fault, NoReading, bodies, field, frame, raw, read_ask, read_reply, unfield, unraw, unword, word, write_ask, write_reply
 
 LINE = 262_144  # the bytes of a script's line at most
-WIDTH = 160  # a line of the configuration that is longer is told with runs
+WIDTH = 160  # a line of the configuration that is longer is written with runs
 CLIENTS = 2**32 - 1
 KEYS = 2**31 - 1
 MOMENTS = 2**64 - 1
+ROUNDS = 1_000_000
+PLACE = re.compile(r"\{(?:([0-9]+)\*)?N([+-][0-9]+)?\}")
 
 
 def split(text):
@@ -153,7 +155,7 @@ def read_happening(words):
 
 
 def read_line(text, moment=None):
-    """The words of a line, and the moment from then on. A line that is none is `line` and its bytes."""
+    """The words of a line, and the moment from then on. An invalid line is `line` and its bytes."""
     words = split(text)
     try:
         if len(text) > LINE:
@@ -187,7 +189,7 @@ def as_line(text):
     return "line " + re.sub("^ +|  +| +$", lambda spaces: "%20" * len(spaces[0]), told)
 
 
-# What comes of a script.
+# The output of a script.
 
 ANSWER = re.compile(
     r"(to|tohandler) [0-9]+ ([0-9a-f]{2})+|start [0-9]+ (plain|piped)( =[!-~]*)+|(shut|shuthandler) [0-9]+|fault [0-9]+ S[12]|conf [0-9]+ C[1-6]"
@@ -195,9 +197,9 @@ ANSWER = re.compile(
 
 
 def read_answer(line):
-    """The words of a line that came of a script."""
+    """The words of a line of output."""
     if not ANSWER.fullmatch(line):
-        raise Fault(f"{line[:80]} comes of no script")
+        raise Fault(f"{line[:80]} is no output of a script")
     verb, whom, *rest = line.split(" ")
     if verb in ("to", "tohandler"):
         return read_told(verb, whom, bytes.fromhex(rest[0]))
@@ -207,7 +209,7 @@ def read_answer(line):
 
 
 def read_told(verb, whom, data):
-    """What a session is told: a reply; or a piped handler its callout, which is never a frame, since a text has no zero byte."""
+    """What a session gets: a reply; or a piped handler its callout, which is never a frame, since a text has no zero byte."""
     try:
         (body,) = bodies(data)
         return f"{'c' if verb == 'to' else 'h'}{whom} <- {read_reply(body)}"
@@ -234,7 +236,7 @@ def write_answer(text, above):
         words[3:] = ["=" + percent(unword(text[1:])) if text.startswith("=") else text for text in words[3:]]
     line = " ".join(words)
     if not ANSWER.fullmatch(line):
-        raise Fault(f"{line[:80]} comes of no script")
+        raise Fault(f"{line[:80]} is no output of a script")
     return line
 
 
@@ -260,10 +262,59 @@ def text_of(lines, data):
     return ("\n".join(lines) + ("\n" if lines and data.endswith(b"\n") else "")).encode("latin-1")
 
 
+def rounds(text):
+    """How often `repeat N FIRST LAST` repeats the lines behind it: the numbers of the rounds, or None for another line."""
+    words = split(text)
+    if words[:1] != ["repeat"]:
+        return None
+    if len(words) != 4 or words[1] != "N":
+        raise Fault("repeat N, the first and the last number")
+    first, last = int(number(words[2], ROUNDS)), int(number(words[3], ROUNDS))
+    if first > last:
+        raise Fault("the last number is less than the first")
+    return range(first, last + 1)
+
+
+def in_round(text, at):
+    """A line in one round: the number of the round, or a sum of it, in the place of `{N}`, `{N+999}`, `{2*N-1}`."""
+
+    def value(found):
+        total = int(found[1] or 1) * at + int(found[2] or 0)
+        if total < 0:
+            raise Fault(f"{found[0]} is less than 0 where N is {at}")
+        return str(total)
+
+    return PLACE.sub(value, text)
+
+
+def unrolled(data):
+    """The lines of words with their numbers; the lines between `repeat` and `end` come once for each round."""
+    lines, begun, block = list(enumerate(lines_of(data), 1)), None, []
+    for at, text in lines:
+        try:
+            numbers = rounds(text)
+            if numbers is not None and begun is not None:
+                raise Fault("a repeat within another one")
+            if numbers is not None:
+                begun, block = numbers, []
+            elif begun is not None and split(text) == ["end"]:
+                for now in begun:
+                    yield from ((line, in_round(inner, now)) for line, inner in block)
+                begun = None
+            elif begun is not None:
+                block.append((at, text))
+            else:
+                yield at, text
+        except Fault as fault:
+            raise Fault(f"line {at}: {fault}") from None
+    if begun is not None:
+        raise Fault(f"line {len(lines)}: a repeat without its end")
+
+
 def steps_of(data):
-    """What words say: the script's lines, each with the lines that have to come of it. What comes before any line stands first, with None."""
+    """What words say: the script's lines, each with the lines that it has to output. What is output before any line stands first, with None."""
     steps, moment = [(None, [])], None
-    for at, text in enumerate(lines_of(data), 1):
+    for at, text in unrolled(data):
         try:
             if text.startswith((" ", "\t")):
                 if split(text):
@@ -282,12 +333,12 @@ def write(data):
 
 
 def answers(data):
-    """What has to come of the script that words say."""
+    """The output that the script has to have that words say."""
     return text_of([line for _, came in steps_of(data) for line in came], b"\n")
 
 
 def read(data):
-    """The words of a script, or of what came of one."""
+    """The words of a script, or of the output of one."""
     lines, moment, words = lines_of(data), None, []
     if all(map(ANSWER.fullmatch, lines)):
         return text_of(["  " + read_answer(line) for line in lines], data)
@@ -298,7 +349,7 @@ def read(data):
 
 
 def scenario(folder):
-    """Writes what comes of a folder's words beside them."""
+    """Writes the script and the expected output that a folder's words say beside them."""
     data = (folder / "words").read_bytes()
     (folder / "script").write_bytes(write(data))
     (folder / "expected").write_bytes(answers(data))

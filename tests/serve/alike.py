@@ -39,7 +39,7 @@ class Made:
         return typ, kind + b"%d" % self.dice.randrange(6) if self.dice.random() < 0.98 else self.dice.choice([b"", b"\xff", b"d" * 4095, b"d" * 4096])
 
     def body(self):
-        """A body, and what a program puts out for it, where it may start one."""
+        """A body, and what a program outputs for it, where it may start one."""
         dice, key = self.dice, self.key()
         kind = dice.choice(["request"] * 6 + ["add"] * 5 + ["key"] * 5 + ["link", "link", "unlink", "unlink", "timeout", "clear", "default", "handler", "odd"])
         if kind == "request":

@@ -1,13 +1,14 @@
-"""Calls of the system that fail, one in each run of the daemon: at the start they are told, and later they end what they are of, and nothing else."""
+"""Calls of the system that fail, one in each run of the daemon: at the start they are reported, and later they end what they are of, and nothing else."""
 import errno
 import os
 import shutil
 
 import protocol_peer as ask
-from daemon import until
-from scenes import CONF, Gated, greeted, library, negated, nested, played_twice, said
+from daemon import Daemon, until
+from programs import differs
+from scenes import CONF, Gated, answered, greeted, library, negated, nested, played_twice, said
 
-# what is told where the daemon does not start
+# what is printed if the daemon does not start
 LINES = ["reqkeyd: conf", "reqkeyd: random", "reqkeyd: socket", "reqkeyd: memory"]
 
 AT_START = ["open", "read", "getentropy", "socket", "bind", "listen", "chmod"]
@@ -87,6 +88,42 @@ def later(program, call, code, may):
     return None
 
 
+def unread(program):
+    """A read of a handler's output fails, and the handler goes on: its pipes are closed all the same, and it is let go of once it has ended."""
+    for count in range(1, 100):
+        daemon = Daemon(program, "create user h:* * %puppet %k\n", "--sessions", "1", "--negative", "4000000", ready=False)
+        daemon.environment = {"LD_PRELOAD": library("refusing_calls"), "CALL": "read", "REFUSED": str(count), "TOLD": str(daemon.room / "told")}
+        with daemon:
+            if begun(daemon) and (wrong := goes_on_unread(daemon)) is not None:
+                return wrong or daemon.lives()
+    return "no read of a handler's output has failed"
+
+
+def goes_on_unread(daemon):
+    """None where the daemon reads what its handler says; else what is wrong with the result of a read that fails, or nothing."""
+    before = until(lambda: (now := daemon.descriptors()) and now["socket"] == 1 and now, "one socket")
+    client = daemon.client()
+    client.send(ask.request(b"user", b"h:1", b"x", -4))
+    handler = daemon.handler()
+    if answered(handler, ask.on_key(3, handler.key)) is not None:
+        handler.ask(ask.instantiate(handler.key, b"v", 0))
+        handler.ends()
+        client.reply()
+        return None
+    outcome = client.reply()
+    client.socket.close()
+    until(lambda: daemon.descriptors() == before, f"the descriptors {before}, and not {daemon.descriptors()}")
+    runs = daemon.children().get(handler.pid, "Z") != "Z"
+    handler.ends()
+    until(lambda: daemon.children().get(handler.pid) == "Z", "the exit of the handler")
+    with daemon.client() as other:
+        other.send(ask.request(b"user", b"h:2", b"x", -4))
+        another = daemon.handler()
+        left = [*daemon.children()]
+        another.ends()
+        return differs((outcome, runs, left, other.reply()), ("E126", True, [another.pid], "E126")) or ""
+
+
 def cases():
     if shutil.which("gcc"):
         for call in AT_START:
@@ -94,6 +131,7 @@ def cases():
         yield "a call of open at the start that fails, without standard input", at_start, "open", errno.EIO, [0]
         for call, may in LATER.items():
             yield f"a call of {call} that fails", later, call, errno.EIO, may
+        yield "a handler that goes on when a read of its output has failed", unread
         for call in ["send", "write", "accept4", "waitpid"]:
             yield f"a call of {call} that is interrupted is made again", later, call, errno.EINTR, []
     else:

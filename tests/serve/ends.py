@@ -5,7 +5,7 @@ import signal
 import subprocess
 
 import protocol_peer as ask
-from daemon import Daemon, until
+from daemon import LIMIT, Daemon, until
 from programs import differs
 
 HELD = "create user h:* * %puppet %k\n"
@@ -29,7 +29,7 @@ def quiet(client):
     except BlockingIOError:
         return True
     finally:
-        client.socket.settimeout(60)
+        client.socket.settimeout(LIMIT)
 
 
 def client_killed(program):
@@ -306,7 +306,7 @@ def waits_and_dies(program):
 
 
 def inner_fails(program, how):
-    """A handler asks for another key, of which nothing comes: it is told so, goes on, and makes its own key."""
+    """A handler asks for another key, of which nothing comes: it gets ENOKEY, goes on, and makes its own key."""
     conf = HELD + "create user w:2 * /no/such\ncreate user w:* * %puppet %k\n"
     with Daemon(program, conf, "--negative", "4000000") as daemon, daemon.client() as client:
         client.send(want())
@@ -380,7 +380,7 @@ def not_followed(program):
 
 
 def warned(program):
-    """A session that ends otherwise than by the end of its input is told in a line of its own, and no other is."""
+    """A session that ends otherwise than by the end of its input is reported in a line of its own, and no other is."""
     with Daemon(program, HELD, "--sessions", "4", "--clients", "5") as daemon:
         with daemon.client(None) as malformed:
             malformed.put(b"\0\1\0\1")
@@ -409,7 +409,7 @@ def warnings(lines):
 
 
 def piped(program, name, script, want_payload, callout=b"x", warning=None):
-    """What a piped program puts out: the payload of its key; or None, and a warning where it has ended with 0."""
+    """What a piped program outputs: the payload of its key; or None, and a warning where it has ended with 0."""
     with Daemon(program, f"create user p:* * |%room/program {name}\n", "--negative", "0", "--clients", "1") as daemon:
         daemon.script("program", f"#!/bin/sh\n{script}\n")
         with daemon.client() as client:
@@ -438,7 +438,7 @@ def not_made(program):
 
 
 def missing(program, line):
-    """A program that can't be started: whoever asks is told that there is no key, and a warning says why, once each time."""
+    """A program that can't be started: whoever asks gets ENOKEY, and a warning says why, once each time."""
     with Daemon(program, f"create user p:* * {line}\n", "--negative", "0", "--clients", "1") as daemon:
         daemon.script("no_script", "")
         (daemon.room / "no_program").write_text("x")
@@ -493,8 +493,36 @@ def many_wait(program):
         return differs(([clients[0].reply(), *others], len(daemon.children())), (["E129"] * 20, 0))
 
 
+def many_wait_in_vain(program, how):
+    """Many who wait for a key whose handler ends without having completed it: each gets ENOKEY, and nothing is started again."""
+    with Daemon(program, HELD, "--negative", "4000000") as daemon:
+        clients = [daemon.client() for _ in range(21)]
+        clients[0].send(want())
+        handler = daemon.handler()
+        for client in clients[1:]:
+            client.send(want(callout=b"another"))
+        handler.ask(ask.on_key(3, handler.key))
+        # (each has asked before this one)
+        state = daemon.client().ask(ask.on_key(8, handler.key))
+        held = all(map(quiet, clients))
+        handler.is_killed() if how == "is killed" else handler.ends(3)
+        replies = [client.reply() for client in clients]
+        later = daemon.client().ask(want())
+        want_all = b"user;1000;building;h:1", True, ["E126"] * 21, "E126", {}
+        return differs((state, held, replies, later, daemon.children()), want_all) or daemon.lives()
+
+
+def reads_to_the_end(program):
+    """A plain handler closes its output and reads its input to the end, which is there for it: only then does it exit."""
+    conf = "create user s:* * %room/handler %k\n"
+    with Daemon(program, conf) as daemon, daemon.client() as client:
+        daemon.script("handler", '#!/bin/sh\n%ctl assume "$1" 2> /dev/null && %ctl instantiate "$1" made none 2> /dev/null\nexec >&-\ncat > %room/rest\nexit 5\n')
+        reply = client.ask(want(b"s:1"))
+        return differs((reply, (daemon.room / "rest").read_bytes(), daemon.children()), (12, b"", {})) or daemon.lives()
+
+
 def each_outcome_wakes(program):
-    """Who waits for the key of another one is told its outcome by the step that gives it: by each ask that completes a key while its handler goes on, or by the
+    """Who waits for the key of another one gets its outcome by the step that gives it: by each ask that completes a key while its handler goes on, or by the
     end of a handler that has not completed it."""
     asks = [lambda key: ask.instantiate(key, b"made", 0), lambda key: ask.negate(key, 4000, 0), lambda key: ask.reject(key, 4000, 129, 0), None]
     told = []
@@ -516,7 +544,7 @@ def each_outcome_wakes(program):
 
 
 def second_start_fails(program):
-    """Who waits for the key of another one is told its outcome, too, where a piped program has failed and the one that is to follow can't be started."""
+    """Who waits for the key of another one gets its outcome, too, where a piped program has failed and the one that is to follow can't be started."""
     conf = "create user p:* * |%room/fails\nnegate user p:* * /no/such\n"
     with Daemon(program, conf) as daemon, daemon.client() as first, daemon.client() as waiter:
         daemon.script("fails", "#!/bin/sh\nread line < %room/gate\nexit 1\n")
@@ -550,9 +578,11 @@ def nothing_left(program):
 
 def cases():
     for try_it in [client_killed, all_clients_killed, again_after, completed_and_killed, daemon_killed, terminated, no_asks, child_goes_on, replies_unread,
-                   handler_leaves, stopped, signalled, waits_and_dies, not_followed, not_made, warned, ends_unknown, chain, many_wait, each_outcome_wakes,
-                   second_start_fails, nothing_left]:
+                   handler_leaves, stopped, signalled, waits_and_dies, not_followed, not_made, warned, ends_unknown, chain, many_wait, reads_to_the_end,
+                   each_outcome_wakes, second_start_fails, nothing_left]:
         yield try_it.__name__.replace("_", " "), try_it
+    for how in ["is killed", "ends"]:
+        yield f"many wait for a handler that {how} without completing", many_wait_in_vain, how
     for how in ["is killed", "ends", "rejects", "writes no frame", "closes its output", "is not started"]:
         yield f"a handler that is asked for by another one and {how}", inner_fails, how
     for how in ["is killed", "ends", "closes its input", "writes no frame"]:
@@ -575,20 +605,20 @@ def cases():
         ("closes its input", "exec < /dev/null; echo made", b"made\n", b"c" * 4095),
         ("has all of its input", "cat", b"c" * 4095, b"c" * 4095),
         ("has an empty callout", "wc -c", b"0\n", b""),
-        ("puts out 32,767 bytes", big(32767), b"p" * 32767),
-        ("puts out 32,768 bytes", big(32768), None, b"x", too_much),
-        ("puts out ten million bytes", big(10_000_000), None, b"x", too_much),
-        ("puts out one byte", "printf x", b"x"),
-        ("puts out nothing", ":", None, b"x", nothing),
-        ("puts out nothing and fails", "exit 1", None),
-        ("puts out any bytes", "printf '\\000\\377\\n'", b"\0\xff\n"),
+        ("outputs 32,767 bytes", big(32767), b"p" * 32767),
+        ("outputs 32,768 bytes", big(32768), None, b"x", too_much),
+        ("outputs ten million bytes", big(10_000_000), None, b"x", too_much),
+        ("outputs one byte", "printf x", b"x"),
+        ("outputs nothing", ":", None, b"x", nothing),
+        ("outputs nothing and fails", "exit 1", None),
+        ("outputs any bytes", "printf '\\000\\377\\n'", b"\0\xff\n"),
         ("exits with 1", "echo made; exit 1", None),
         ("exits with 255", "echo made; exit 255", None),
         ("is killed", "echo made; kill -9 $$", None),
         ("closes its output and exits", "echo made; exec >&-; exit 0", b"made\n"),
         ("closes its output and fails", "echo made; exec >&-; exit 7", None),
         ("has no other descriptor", "ls /proc/self/fd | tr '\\n' ' '", b"0 1 2 3 "),
-        ("puts out in pieces", "for at in 1 2 3 4 5 6 7 8; do printf $at; done", b"12345678"),
+        ("outputs in pieces", "for at in 1 2 3 4 5 6 7 8; do printf $at; done", b"12345678"),
     ]:
         yield f"a piped program that {name}", piped, name.split()[0], script, payload, *more
     for line in ["/no/such", "|/no/such", "/", "|/tmp", "%room/no_program", "|%room/no_program", "%room/no_script/x"]:

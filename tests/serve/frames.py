@@ -12,7 +12,8 @@ import termios
 import alike
 import protocol_peer as ask
 from daemon import LIMIT, Client, Daemon, GaveUp, told, until
-from programs import differs, top
+from programs import differs
+from scenarios import scenarios
 
 HELLO = ask.frame(ask.hello(1000, 1000))
 KEY = ask.frame(ask.request(b"user", b"a", b"x", -4))
@@ -129,10 +130,9 @@ def of_one(body, uid=1000):
 
 
 @functools.cache
-def scenarios():
+def bodies_of_scenarios():
     """For each scenario the bodies that each of its clients sends, all for one uid."""
-    scripts = sorted((top / "tests" / "replay").glob("*/script"))
-    return [[tuple(map(of_one, whole(data))) for data in said_in(path.read_bytes().decode("latin-1"))] for path in scripts]
+    return [[tuple(map(of_one, whole(data))) for data in said_in(case.script.decode("latin-1"))] for case in scenarios()]
 
 
 NO_PROGRAM = "# no program is started\n"
@@ -197,7 +197,7 @@ def cut_scenarios(program):
     """Each frame of a client of each scenario is cut, and then the input ends: the replies before it are those of replay, and there is no other."""
     dice, done = random.Random(3), set()
     with Relocated(program) as many:
-        for streams in scenarios():
+        for streams in bodies_of_scenarios():
             tried = set()
             for bodies in streams:
                 replies = replayed(program, bodies) if bodies not in done else []
@@ -257,7 +257,7 @@ def pieces_of_handler(program):
         return differs(client.reply(), handler.key)
 
 
-# ---- bodies that are none
+# ---- invalid bodies
 
 
 def each_byte(callout):
@@ -314,7 +314,7 @@ def odd_bytes(dice):
 
 def odd_clients(program):
     """Random bytes, and frames of the scenarios with changes: each whole frame has a reply, and another client is answered meanwhile."""
-    dice, streams = random.Random(7), [it for streams in scenarios() for it in streams if 0 < sum(map(len, it)) < 5000]
+    dice, streams = random.Random(7), [it for streams in bodies_of_scenarios() for it in streams if 0 < sum(map(len, it)) < 5000]
     with Daemon(program, "create user a* * |/bin/cat\n", "--negative", "0") as daemon, daemon.client() as other:
         key = other.ask(ask.add(b"user", b"mine", b"v", -3))
         for at in range(600):

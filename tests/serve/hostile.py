@@ -271,7 +271,7 @@ def few_descriptors(program):
 
 
 def all_busy(program, workers):
-    """Clients that find all workers busy wait, and the first of them is told of; and again when another one has found a worker free meanwhile."""
+    """Clients that find all workers busy wait, and the first of them is reported; and again when another one has found a worker free meanwhile."""
     with Daemon(program, "", "--sessions", str(workers), "--clients", str(2 * workers + 6)) as daemon:
         for count in [1, 2]:
             served = [daemon.client() for _ in range(workers)]
@@ -292,9 +292,9 @@ def served_again(daemon):
         return False
 
 
-def full_record(program):
-    """More steps in one hall than a volume of its record has: it is told and dropped, and nobody notices. A few places of it are kept for what is owed."""
-    with Daemon(program) as daemon, daemon.client() as client:
+def full_record(program, hall):
+    """More steps in one hall than a volume of its record has: it is reported and dropped, and nobody notices. A few places of it are kept for what is owed."""
+    with Daemon(program) as daemon, daemon.client(1000 + hall) as client:
         key = client.ask(ask.add(b"user", b"k", b"v", -4))
         asks, reply = ask.frame(ask.default(-1)) * 4096, ask.frame(ask.number(0)) * 4096
         for sent in range(0, VOLUME + 4096, 4096):
@@ -304,22 +304,24 @@ def full_record(program):
                 return f"a reply among the asks from {sent} on"
             ended(sender, "the asks")
         told = until(lambda: [line for line in daemon.lines if line.startswith("volume ")], "the line of the volume")
-        steps = int(told[0].removeprefix("volume 0 1 "))
+        steps = int(told[0].removeprefix(f"volume {hall} 1 "))
         return differs((client.ask(ask.on_key(7, key)), len(told), VOLUME - 64 <= steps <= VOLUME), (b"v", 1, True)) or daemon.lives()
 
 
-def long_payloads(program):
+def long_payloads(program, hall):
     """Long payloads in one hall: the volume of its record is handed out long before it has all its steps, and what the daemon holds stays bounded."""
-    with Daemon(program) as daemon, daemon.client() as client:
-        add = ask.add(b"user", b"k", b"v" * 32000, -4)
-        before = memory(daemon, "VmRSS")
-        for sent in range(0, 2500, 10):
-            keys = client.ask(*[add] * 10)
-            if not all(isinstance(key, int) for key in keys):
-                return f"a reply among the asks from {sent} on: {keys}"
-        lines = until(lambda: len(told := [line for line in daemon.lines if line.startswith("volume ")]) > 3 and told, "the lines of the volumes")
-        steps = [int(line.split(" ")[3]) for line in lines]
-        return differs((len(steps), min(steps) > 400, max(steps) < 800, memory(daemon, "VmRSS") - before < 100 << 10), (4, True, True, True)) or daemon.lives()
+    with Daemon(program, "", "--clients", "1") as daemon:
+        with daemon.client(1000 + hall) as client:
+            add = ask.add(b"user", b"k", b"v" * 32000, -4)
+            before = memory(daemon, "VmRSS")
+            for sent in range(0, 2500, 10):
+                keys = client.ask(*[add] * 10)
+                if not all(isinstance(key, int) for key in keys):
+                    return f"a reply among the asks from {sent} on: {keys}"
+            held = memory(daemon, "VmRSS") - before
+        status, lines = daemon.end()
+        steps = [int(line.removeprefix(f"volume {hall} ").split(" ")[1]) for line in lines]
+        return differs((status, len(steps), min(steps, default=0) > 400, max(steps, default=0) < 800, held < 100 << 10), (0, 4, True, True, True))
 
 
 def many_made_keys(program):
@@ -359,8 +361,11 @@ def four_halls(program):
 
 def cases():
     for try_it in [never_reads, closes_unread, client_leaves, silent, come_and_go, rings_of_many,
-                   all_at_once, short_beside_long, same_key, crowd, no_descriptors, few_descriptors, full_record, long_payloads, many_made_keys, four_halls]:
+                   all_at_once, short_beside_long, same_key, crowd, no_descriptors, few_descriptors, many_made_keys, four_halls]:
         yield try_it.__name__.replace("_", " "), try_it
+    for hall in range(4):
+        yield f"a full record of hall {hall}", full_record, hall
+        yield f"long payloads in hall {hall}", long_payloads, hall
     for count in [20, 200]:
         yield f"{count} clients and one worker", one_worker, count
     for workers in [1, 3]:

@@ -180,6 +180,17 @@ def of_the_daemon(program):
         return differs((key, lines, is_ignored), (12, ["a word", os.path.realpath("."), "y"], 0))
 
 
+def expires_for_all(program):
+    """A key expires by one clock for all: once one client gets that, another one that has come before it was added or that comes then gets it too."""
+    with Daemon(program) as daemon, daemon.client() as early, daemon.client() as client:
+        lasting, key = client.ask(*[ask.add(b"user", name, b"v", -4) for name in (b"lasting", b"k")])
+        client.ask(ask.timeout(lasting, 4_000_000), ask.timeout(key, 1))
+        until(lambda: client.ask(ask.on_key(7, key)) == "E127", "the end of the key")
+        read = ask.on_key(7, key), ask.on_key(7, lasting)
+        replies = [it.ask(*read) for it in (early, daemon.client(), daemon.client(1000, client.rings[2]))]
+        return differs(replies, [["E127", b"v"]] * 3) or daemon.lives()
+
+
 def document(program):
     """The example of docs/PROTOCOL.md, byte by byte."""
     page = (top / "docs" / "PROTOCOL.md").read_text().partition("## An example")[2]
@@ -204,6 +215,6 @@ def document(program):
 def cases():
     for name, try_it in [("two runs and the end", first), ("a script as a handler", scripted), ("a nested request", nested), ("a line for negate", negated),
                          ("keys that are decided otherwise", decided), ("what a handler has of the daemon", of_the_daemon), ("macros", macros),
-                         ("a macro of a key that has expired", expired), ("each subcommand", as_client), ("a session ring that is joined", joined),
+                         ("a macro of a key that has expired", expired), ("a key that expires for all", expires_for_all), ("each subcommand", as_client), ("a session ring that is joined", joined),
                          ("each subcommand in a handler", as_handler), ("the example of the protocol", document)]:
         yield name, try_it

@@ -1,4 +1,4 @@
-"""A handler that a test plays: it gives its pipes to whoever listens at the socket that its first word names, and ends as it is told."""
+"""A handler that a test plays: it gives its pipes to whoever listens at the socket that its first word names, and ends as its test says."""
 import array
 import os
 import socket

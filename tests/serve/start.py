@@ -96,7 +96,7 @@ def faults(program, conf, want):
 
 
 def in_order(program):
-    """Of several faults the first is told: of the words, of the file, of its lines, of the library, of the socket."""
+    """Of several faults the first is reported: of the words, of the file, of its lines, of the library, of the socket."""
     with Stopped(program, "create") as daemon:
         daemon.path.write_text("plain")
         got = [ended(words_of(daemon, "--sessions", "0"))[0], ended(words_of(daemon))]
@@ -109,7 +109,7 @@ def in_order(program):
 
 
 def stands(program, what):
-    """Something stands at the path that is no socket without a daemon: it is told, and is not touched."""
+    """Something else than a socket without a daemon stands at the path: it is reported, and is not touched."""
     with Stopped(program) as daemon:
         listener = None
         if what == "folder":
