@@ -7,6 +7,8 @@ top = pathlib.Path(__file__).resolve().parent.parent
 
 # The folders of a crate that its proof reads.
 PARTS = ["src", "specs", "proofs"]
+# How a line begins that is a comment.
+COMMENTS = {".rt": b"//", ".antt": b"--"}
 
 
 def listed():
@@ -39,13 +41,20 @@ def below(used, name):
     return {it for dep in used[name] for it in {dep} | below(used, dep)}
 
 
-def digest(folder, parts=PARTS, but=()):
+def digest(folder, parts=PARTS, but=(), read=pathlib.Path.read_bytes):
     """What the files of these folders are, but those of some names, in one number."""
     files = sorted(path for part in parts for path in (folder / part).rglob("*") if path.is_file() and path.name not in but)
     said = hashlib.sha256()
     for path in files:
-        said.update(f"{path.relative_to(folder)} {hashlib.sha256(path.read_bytes()).hexdigest()}\n".encode())
+        said.update(f"{path.relative_to(folder)} {hashlib.sha256(read(path)).hexdigest()}\n".encode())
     return said.hexdigest()
+
+
+def without_comments(path):
+    """A file of a crate without the lines that are comments."""
+    mark = COMMENTS.get(path.suffix)
+    lines = path.read_bytes().splitlines(keepends=True)
+    return b"".join(it for it in lines if mark is None or not it.lstrip().startswith(mark))
 
 
 def jobs():

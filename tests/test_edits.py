@@ -19,6 +19,7 @@ import sys
 import tempfile
 
 import crates
+from edits import BadEdit, Edit
 from trial import Trial, edits_of, ran
 from verdicts import Verdicts
 
@@ -61,7 +62,9 @@ def main(words):
         built, first = (top / "crates", 0) if are_built(below) else brought_up_to_date(below | {*asked}, room)
         verdicts = Verdicts(asked, used, built)
         taken = verdicts.taken(for_lock=writes)
-        passed, failed, spent = sum(len(edits_of(it)) for it in taken), 0, 0
+        unfit = [fault for it in taken for fault in unfit_in(it)]
+        passed, failed, spent = sum(len(edits_of(it)) for it in taken) - len(unfit), len(unfit), 0
+        print("".join(f"{it}\n" for it in unfit), end="")
         for why in sorted({*taken.values()}):
             print(f"taken: the edits of {' '.join(it for it in taken if taken[it] == why)}, since {why}")
         for name in taken if writes else []:
@@ -78,6 +81,15 @@ def main(words):
     print(f"processor seconds: {first:.0f} for the crates without an edit, {spent:.0f} for the edits")
     print(f"{passed} passed, {failed} failed")
     return 1 if failed else 0
+
+
+def unfit_in(name):
+    """What is to be said of the edits of a crate that can't be made any more, as where a comment has the text that they change."""
+    for path in edits_of(name):
+        try:
+            Edit(path, top / "crates" / name)
+        except BadEdit as why:
+            yield f"{name}/{path.name}: {why}"
 
 
 def tried(trials):

@@ -28,11 +28,11 @@ def locked():
     return verdicts().locked() == [TRIED]
 
 
-def changed(file, asked=kept):
+def changed(file, asked=kept, line=b""):
     """Whether they do while this file has one more line, which is taken away again."""
     path = crates.top / file
     before = path.read_bytes()
-    path.write_bytes(before + b"\n")
+    path.write_bytes(before + line + b"\n")
     said = asked()
     path.write_bytes(before)
     return said
@@ -82,6 +82,13 @@ with tempfile.TemporaryDirectory() as name:
         ("HANDLES", "HANDLES", False),
     ]:
         count.same(f"another line in {what}", changed(file), want)
+    for what, file, line in [
+        ("a source", some(TRIED, "src"), b"    // why"),
+        ("a definition", some(TRIED, "specs"), b"-- why"),
+        ("a definition below", some(BELOW, "specs"), b"-- why"),
+    ]:
+        count.same(f"another comment in {what}", changed(file, line=line), True)
+    count.same("another line in a source that would be a comment in a definition", changed(some(TRIED, "src"), line=b"-- why"), False)
     lines = (room / "crates.txt").read_text()
     (room / "crates.txt").write_text(lines.replace(f"{TRIED}: ", f"{TRIED}: {APART} "))
     count.same("one more library", kept(), False)

@@ -2,7 +2,7 @@
 
 The verdict on a crate's edits rests on its files, the toolchain, the programs that try them, and what it can cite of the crates below it: their specs, their
 lemmas, and the interfaces of their built libraries. The sum of all these is the verdict's name, so it never goes stale. A body that is changed below is in
-none of them, so it costs the edits of its own crate and not those above.
+none of them, so it costs the edits of its own crate and not those above; and comments are in none.
 
 A run on this machine keeps its verdicts in the user's cache. `edits.lock`, at the top, has the sums of all crates, one in a line; `make edits` writes it. It
 says what others can't see, so a run tries a twelfth of the crates that it lists once more, drawn by lot. A line with another sum counts for nothing. If ANEW
@@ -44,7 +44,8 @@ class Verdicts:
         lines = crates.listed()
         below = {name: sorted(crates.below(self.used, name)) for name in names}
         cited = {it: f"{lines[it]} {self.cited(it)}" for it in {it for some in below.values() for it in some}}
-        own = {name: f"{lines[name]} {crates.digest(self.built / name)} {crates.digest(crates.top / 'crates' / name, ['edits'])}" for name in names}
+        edits = {name: crates.digest(crates.top / "crates" / name, ["edits"]) for name in names}
+        own = {name: f"{lines[name]} {code_of(self.built / name)} {edits[name]}" for name in names}
         return {name: sum_of([own[name], *(cited[it] for it in below[name]), *tried_by]) for name in names}
 
     def cited(self, name):
@@ -52,7 +53,7 @@ class Verdicts:
         library = self.built / name / "out" / "rlib" / f"{name}.rlib"
         if not (library / "interface").is_dir():
             raise SystemExit(f"{library} is not built\n0 passed, 1 failed")
-        return f"{crates.digest(self.built / name, ['specs', 'proofs'], but=OF_FUNCTIONS)} {crates.digest(library, ['interface'])}"
+        return f"{code_of(self.built / name, ['specs', 'proofs'], but=OF_FUNCTIONS)} {crates.digest(library, ['interface'])}"
 
     def taken(self, for_lock):
         """The crates whose edits count as refused, each with the reason: kept on this machine, or listed in edits.lock and not drawn. For a line of the lock
@@ -92,6 +93,11 @@ class Verdicts:
                 self.folder.mkdir(mode=0o700, parents=True, exist_ok=True)
                 for has_control in {False, in_lock}:
                     (self.folder / f"{self.sums[name]}{CONTROL * has_control}").write_text(f"{name}\n")
+
+
+def code_of(folder, parts=crates.PARTS, but=()):
+    """What a crate is but for its comments, in one number."""
+    return crates.digest(folder, parts, but, read=crates.without_comments)
 
 
 def lock_file():
