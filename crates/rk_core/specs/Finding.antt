@@ -36,14 +36,13 @@ Finds refusal found result = MatchResult result (λ one. found one × (refusal �
 
 -- ---- who asks
 
--- who acts when the session asks; EACCES where nobody does
-abbrev pub FindsAsker : World → SessionId → Result Asker Errno → Type 0
-FindsAsker w s result =
-    MatchResult result (λ asker. asker_of w s ≡ Some asker) (λ error. (asker_of w s ≡ None) × (error ≡ errno.Eacces))
-
 -- EINVAL for a session that is not there, EBUSY for one that waits
 abbrev pub session_refusal : World → SessionId → Option Errno
 session_refusal w s = first_of (refused_if (is_none (session_of w.sessions s)) errno.Einval ∷ refused_if (is_some (wait_of w.sessions s)) errno.Ebusy ∷ [])
+
+-- who acts when the session asks, if anybody does
+abbrev pub FindsAsker : World → SessionId → Result (Option Asker) Errno → Type 0
+FindsAsker w s result = Finds (session_refusal w s) (λ asker. asker ≡ asker_of w s) result
 
 -- the ask is HELLO
 abbrev pub is_hello : Ask → Bool

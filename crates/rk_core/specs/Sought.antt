@@ -29,7 +29,7 @@ pub record IsSought (w : World) (q : Query) (s : Sought) : Type 0 where
 abbrev pub in_order : Sought → List (Option Match)
 in_order s = s.thread ∷ s.process ∷ s.session ∷ s.user ∷ []
 
--- ---- what comes of it
+-- ---- what results from it
 
 -- there is a key, and its standing passes the test
 abbrev pub stands : (Standing → Bool) → Option Match → Bool

@@ -6,7 +6,7 @@ ghost use Rattle.rk_machine.specs.Allowed.{Tells};
 ghost use Rattle.rk_machine.specs.Asker.{asker_of};
 ghost use Rattle.rk_machine.specs.Asks.{Asking};
 ghost use Rattle.rk_machine.specs.Steps.{Step};
-ghost use Rattle.rk_core.specs.Finding.{answer_of, Passes, session_refusal, is_hello, is_first};
+ghost use Rattle.rk_core.specs.Finding.{answer_of, is_hello, is_first};
 ghost use Rattle.rk_core.specs.Sound.{IsSound};
 
 use crate::tables::Tables;
@@ -31,23 +31,10 @@ impl Tables {
         requires sound { IsSound self.old }
         ensures { Step self.old now (EventOf.Asked id.now ask.entry) (answer_of result) self.new }
     {
-        self.may_ask(id)?;
         match self.asker(id) {
-            Ok(asker) => self.act(now, id, &asker, ask),
-            Err(_) => self.first_ask(now, id, &ask),
-        }
-    }
-
-    /// EINVAL for a session that is not there, EBUSY for one that waits.
-    fn may_ask(&self, id: &SessionId) -> Result<(), Errno>
-        ensures { Passes (session_refusal self.now id.now) result }
-    {
-        if self.auths.session(id).is_none() {
-            Err(Errno::Einval)
-        } else if self.auths.wait_of(id).is_some() {
-            Err(Errno::Ebusy)
-        } else {
-            Ok(())
+            Ok(Some(asker)) => self.act(now, id, &asker, ask),
+            Ok(None) => self.first_ask(now, id, &ask),
+            Err(error) => Err(error),
         }
     }
 

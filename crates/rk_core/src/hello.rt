@@ -50,7 +50,7 @@ impl Tables {
         Ok(())
     }
 
-    /// Makes the rings of a context, and gives it to the session. All growths come before the first change.
+    /// Makes the rings of a context, and gives it to the session. All allocations come before the first change.
     #[tactic(auto, unfolding(rk_machine::specs::Hello::Hellos))]
     pub fn hello(&mut self, id: &SessionId, greeting: &Greeting) -> Result<Answer, Errno>
         requires sound { IsSound self.old }
@@ -108,7 +108,7 @@ impl Tables {
         NewRings::new(self.alloc, self.keys.serials())
     }
 
-    /// Makes the rings under the serials that are drawn for them. A refused growth changes nothing.
+    /// Makes the rings under the serials that are drawn for them. A failed allocation changes nothing.
     fn make_rings(&mut self, rings: NewRings) -> Result<(), AllocError>
         requires new { AreNewRings rings.serials rings.made.items self.old.rings }
         requires extends { Extends self.old.serials rings.serials }

@@ -26,7 +26,7 @@ fn bytes_answer(bytes: Vec<u8>) -> Answer
     Answer::Done(Reply::Bytes(ReplyBytes::from_checked(bytes)))
 }
 
-/// A copy of the bytes as a reply, or want of memory.
+/// A copy of the bytes as a reply, or out of memory.
 fn copied(alloc: Global, bytes: &[u8]) -> Result<Answer, Errno>
     requires { length bytes.now ≤ 65533 }
     ensures { (result ≡ Err Errno.Enomem) ⊎ (result ≡ Ok (Answer.Done (Reply.Bytes bytes.now))) }
@@ -37,7 +37,7 @@ fn copied(alloc: Global, bytes: &[u8]) -> Result<Answer, Errno>
     }
 }
 
-// ---- what is told of a key
+// ---- what is returned about a key
 
 fn state_word(standing: Standing) -> &'static str
     ensures { result.now ≡ state_word standing }

@@ -8,12 +8,12 @@
 //!
 //! # What it promises
 //!
-//! [`Book::step`] is one step of the machine, whatever happens and in whatever state the book is: its answer is one that the machine allows, and the
-//! book is then the world that the machine leaves. And whatever run led to the book, that run with this step is a run, and obeys the laws of
-//! every run, which [`every_run`] tells. All other calls only look: they answer what `Views` of rk_machine defines, and take no memory.
+//! [`Book::step`] is one step of the machine, whatever happens and in whatever state the book is. Its answer is one that the machine allows, and the
+//! book is then the world that the machine leaves. And whatever run led to the book, that run with this step is a run, and obeys the laws of every
+//! run, which [`every_run`] states. All other calls only look: they answer what `Views` of rk_machine defines, and take no memory.
 //!
-//! A refused step changes nothing. Want of memory is answered only where the machine allows it, and every growth of a step comes before its first
-//! change.
+//! A refused step changes nothing. Out of memory is answered only where the machine allows it, and every allocation of a step comes
+//! before its first change.
 //!
 //! # The definitions
 //!
@@ -23,11 +23,11 @@
 //! # How it is built
 //!
 //! The `Book` is the `Tables` (`tables`) with what holds of every world that a run leads to (`specs/Sound.antt`). `Tables` joins rk_keys, rk_rings
-//! and rk_auth into one world; each of its methods does what one definition says. `links` has the changes of rings, and takes away the keys
-//! that lose their last link, each by itself: no step goes through all keys. `search` looks up a name once, and then one key
-//! in each ring of a context. `completion`, `making`, `sessions` and `new_rings` are what the asks are made of; `named` tells who asks, and which keys
-//! and rings an ask names; `hello`, `request`, `completion_asks`, `key_asks`, `ring_asks`, `add` and `session_asks` are the asks; `asks` is the gate and
-//! the dispatch, `steps` the six events, `views` what is told without a step.
+//! and rk_auth into one world; each of its methods does what one definition says. `links` has the changes of rings, and takes away the keys that lose
+//! their last link, each by itself: no step goes through all keys. `search` looks up a name once, and then one key in each ring of a context.
+//! `completion`, `making`, `sessions` and `new_rings` are what the asks are made of; `named` says who asks, and which keys and rings an ask names.
+//! `hello`, `request`, `completion_asks`, `key_asks`, `ring_asks`, `add` and `session_asks` are the asks. `asks` is the gate and the dispatch,
+//! `steps` the six events, `views` what is returned without a step.
 //!
 //! A call that may refuse answers a `Result`: what it found, or the error (`specs/Finding.antt`). `asked` makes a reply of it, once.
 //!

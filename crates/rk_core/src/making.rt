@@ -14,7 +14,7 @@ use rk_names::{Description, Payload, Serial, TypeName};
 use std::alloc::AllocError;
 
 impl Tables {
-    /// Makes a key that has its payload, with no link yet. A refused growth changes nothing, and draws no serial.
+    /// Makes a key that has its payload, with no link yet. A failed allocation changes nothing, and draws no serial.
     pub fn make_key(
         &mut self,
         typ: TypeName,
@@ -36,7 +36,7 @@ impl Tables {
         Ok(key)
     }
 
-    /// Makes a key under construction with its authority, and with no link yet. A refused growth changes nothing, and draws no serial.
+    /// Makes a key under construction with its authority, and with no link yet. A failed allocation changes nothing, and draws no serial.
     pub fn make_construction(
         &mut self,
         typ: TypeName,

@@ -1,12 +1,14 @@
 //! Who acts in an ask, and the keys and rings that it names.
 ghost use Rattle.std.specs.Prelude.{◌≡◌, None, Some, unwrap_or};
 ghost use Rattle.rk_rings.specs.Places.{default_ring};
+ghost use Rattle.rk_auth.specs.Sessions.{session_of};
 ghost use Rattle.rk_machine.specs.declared.asker.Asker.{Asker};
 ghost use Rattle.rk_machine.specs.Asker.{asker_of, serial_named, is_possessed};
 ghost use Rattle.rk_machine.specs.KeyAsks.{use_refusal};
 ghost use Rattle.rk_core.specs.Finding.{Passes, FindsAsker, FindsRing, FindsRingOrNone, FindsKey, FindsPossessed};
 
 use crate::tables::Tables;
+use rk_auth::Session;
 use rk_keys::Standing;
 use rk_machine::Asker;
 use rk_names::{Errno, Moment, Serial, SessionId};
@@ -22,23 +24,26 @@ pub fn serial_named(number: i32) -> Option<Serial>
 // ---- who acts
 
 impl Tables {
-    /// Who acts when the session asks. EACCES where nobody does: a client that has no context, a handler that has assumed no
-    /// authority (request-key.rst).
-    pub fn asker(&self, id: &SessionId) -> Result<Asker, Errno>
+    /// Who acts when the session asks; `None` where nobody does: a client that has no context, a handler that has assumed no
+    /// authority (request-key.rst). EINVAL for a session that is not there, EBUSY for one that waits.
+    pub fn asker(&self, id: &SessionId) -> Result<Option<Asker>, Errno>
         ensures { FindsAsker self.now id.now result }
     {
-        match self.asker_of(id) {
-            Some(asker) => Ok(asker),
-            None => Err(Errno::Eacces),
+        let Some(session) = self.auths.session(id) else {
+            return Err(Errno::Einval);
+        };
+        if session.wait.is_some() {
+            return Err(Errno::Ebusy);
         }
+        Ok(self.asker_of(id, session))
     }
 
-    fn asker_of(&self, id: &SessionId) -> Option<Asker>
+    fn asker_of(&self, id: &SessionId, session: &Session) -> Option<Asker>
+        requires { session_of self.now.sessions id.now ≡ Some session.now }
         ensures { result ≡ asker_of self.now id.now }
     {
         match id {
             SessionId::Client(_) => {
-                let session = self.auths.session(id)?;
                 let assumed: Option<Serial> = None;
                 let requestor: Option<Serial> = None;
                 Some(Asker {
@@ -50,9 +55,8 @@ impl Tables {
                 })
             }
             SessionId::Handler(_) => {
-                let session = self.auths.session(id)?;
                 let key = session.assumed?;
-                let authority = self.auths.assumed_authority(id)?;
+                let authority = self.auths.unspent(key)?;
                 Some(Asker {
                     context: authority.context,
                     assumed: Some(key),
@@ -68,8 +72,8 @@ impl Tables {
 // ---- rings
 
 impl Tables {
-    /// The ring of a number, which has to be there: EINVAL for a number that names no ring, EACCES for a live ring that is not one
-    /// of the context, else ENOKEY.
+    /// The ring of a number, which has to be there. EINVAL for a number that names no ring, EACCES for a live ring that is not one
+    /// of the context; else ENOKEY.
     pub fn ring(&self, asker: &Asker, number: i32) -> Result<Serial, Errno>
         ensures { FindsRing self.now asker.now number result }
     {

@@ -37,7 +37,7 @@ fn setting_asked(number: i32, before: Setting) -> Option<Setting>
 }
 
 impl Tables {
-    /// Sets where new keys go, and tells the setting before (keyctl_set_reqkey_keyring(3)). EINVAL for a number that is none.
+    /// Sets where new keys go, and returns the setting before (keyctl_set_reqkey_keyring(3)). EINVAL for an invalid number.
     pub fn set_default(
         &mut self,
         id: &SessionId,

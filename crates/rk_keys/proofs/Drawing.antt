@@ -120,6 +120,7 @@ next_by_number first stride count (Some k) f s h = (
   omega (arith, mul-le-mul_left count s, h.1, f),
 )
 
+-- the number after all that were drawn is the next serial, or there is none
 pub next_in_order : (first stride count : ℕ) (o : Option ℕ) → 1 ≤ first → 1 ≤ stride → o ≡ serial_of (first + stride * count) →
     IsNextOrNone first stride count o
 next_in_order first stride count o f s e = subst (IsNextOrNone first stride count) (sym e)

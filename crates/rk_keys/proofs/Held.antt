@@ -132,6 +132,7 @@ held_made known k key n new used held = record {
   ];
 }
 
+-- what is known of the keys holds together after a new key is put in with its number
 pub held_made_so : (known : Known) (k : ℕ) (key : Key) (n : ℕ) (keys : map.FinMap nat_cmp Key) (numbers : map.FinMap nat_cmp ℕ) (serials : Drawn)
     → keys ≡ map.insert known.keys k key → numbers ≡ map.insert known.numbers k n → serials ≡ with_drawn k known.serials
     → SharesNumber known.keys known.numbers key n × (set.contains (set.insert known.serials.used k) n ≡ true) → IsHeld known
@@ -141,12 +142,15 @@ held_made_so known k key n keys numbers serials is_keys is_numbers is_serials nu
 
 -- ---- the changes keep a key's name
 
+-- concluding a key leaves its name
 pub concluded_keeps : (condition : Condition) (expiry : Option ℕ) → KeepsName (concluded condition expiry)
 concluded_keeps condition None = λ a. (refl, refl)
 concluded_keeps condition (Some end) = λ a. (refl, refl)
 
+-- revoking a key leaves its name
 pub marked_keeps : KeepsName marked
 marked_keeps = λ a. (refl, refl)
 
+-- setting a key's expiry leaves its name
 pub timed_keeps : (now seconds : ℕ) → KeepsName (timed now seconds)
 timed_keeps now seconds = λ a. (refl, refl)

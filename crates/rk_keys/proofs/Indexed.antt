@@ -123,15 +123,17 @@ some_named keys typ description some = first (map.entries kept) refl where
   first [] is = let none = map.len-entries kept ∙ ap length is in absurd (omega (arith, some, none))
   first (e ∷ es) is = (e.0, is_there e.0 e.1 (map.get keys e.0) (sym (get_kept_where p keys e.0) ∙ at_first kept e es is))
 
--- ---- what is told of a name
+-- ---- what is known of a name
 
 module _ (seed : ℕ) (keys : Keys) (numbers : Numbers) (buckets : Buckets) (index : IsIndex seed keys numbers buckets) (typ description : List ℕ) where
+  -- where no number is kept for a name, no key has it
   pub none_of : number_in (kept_of seed buckets typ description) ≡ None → (k : ℕ) → has_name keys k typ description ≡ false
   none_of none = none_named keys typ description (sym (index.counted typ description) ∙ not_kept (kept_of seed buckets typ description) none) where
     not_kept : (o : Option Named) → number_in o ≡ None → count_of o ≡ 0
     not_kept None e = refl
     not_kept (Some n) e = absurd (none-some n.number (sym e))
 
+  -- where a number is kept for a name, some key has that name and that number
   pub some_of : IfSome (number_in (kept_of seed buckets typ description)) (λ n. (k : ℕ) × (has_name keys k typ description ≡ true) ×
       (map.get numbers k ≡ Some n))
   some_of = by_name (kept_of seed buckets typ description) refl where
@@ -146,6 +148,7 @@ module _ (seed : ℕ) (keys : Keys) (numbers : Numbers) (buckets : Buckets) (ind
 
 -- ---- what keeps it
 
+-- where there are no keys, the index is empty
 pub index_empty : (seed : ℕ) → IsIndex seed map.empty map.empty map.empty
 index_empty seed = record {
   counted = λ t d. ap count_of (nothing t d) ∙ sym (kept_len-empty (of_name t d));
@@ -156,6 +159,7 @@ index_empty seed = record {
   nothing t d = ap (λ o. list_find (is_of t d) (unwrap_or o [])) (map.get-empty nat_cmp (name_hash seed t d))
 
 module _ (seed : ℕ) (keys : Keys) (numbers : Numbers) (buckets : Buckets) (index : IsIndex seed keys numbers buckets) where
+  -- an index that keeps the same of each name is one too
   pub index_same : (new : Buckets) → ((t d : List ℕ) → kept_of seed new t d ≡ kept_of seed buckets t d) → IsIndex seed keys numbers new
   index_same new is = record {
     counted = λ t d. ap count_of (is t d) ∙ index.counted t d;
@@ -204,6 +208,7 @@ module _ (seed : ℕ) (keys : Keys) (numbers : Numbers) (buckets : Buckets) (ind
         index.numbered t d x q at named ∙ ap (λ (y : Named). Some y.number) (same_Some (record x { keys = x.keys + 1 }) m e)
     numbered_more t d q named false (Some x) at m e = index.numbered t d x q at named ∙ ap (λ (y : Named). Some y.number) (same_Some x m e)
 
+    -- the index is one after a new key is put in with its number
     pub index_with : IsIndex seed (map.insert keys k key) (map.insert numbers k n) new
     index_with = record {
       counted = λ t d.

@@ -107,6 +107,7 @@ names_gone m k empty h =
 
 -- ---- one name and another
 
+-- names that pass the test have equal types and descriptions
 pub same_names : (typ description t d : List ℕ) → is_same typ description t d ≡ true → (typ ≡ t) × (description ≡ d)
 same_names typ description t d is =
     let both = and_parts (bytes_eq typ t) (bytes_eq description d) is in ((bytes_eq-Decides typ t).0 both.0, (bytes_eq-Decides description d).0 both.1)
@@ -218,6 +219,7 @@ module _ (seed : ℕ) (old new : Buckets) (typ description : List ℕ) where
 
 -- ---- a key fewer
 
+-- a name with more than one key is kept, with how many it has
 pub has_count : (o : Option Named) → 1 < count_of o → (n : Named) × (o ≡ Some n) × (count_of o ≡ n.keys)
 has_count None more = absurd (omega arith)
 has_count (Some n) more = (n, refl, refl)

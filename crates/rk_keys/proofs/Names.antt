@@ -22,11 +22,13 @@ bytes_eq-sym xs ys =
     (λ e. (bytes_eq-Decides ys xs).1 (sym ((bytes_eq-Decides xs ys).0 e)))
     (λ e. (bytes_eq-Decides xs ys).1 (sym ((bytes_eq-Decides ys xs).0 e)))
 
+-- whether two keys have one name does not depend on their order
 pub have_one_name-sym : (a b : Key) → have_one_name a b ≡ have_one_name b a
 have_one_name-sym a b =
     ap (λ t. t && bytes_eq a.description b.description) (bytes_eq-sym a.typ b.typ)
     ∙ ap (λ t. bytes_eq b.typ a.typ && t) (bytes_eq-sym a.description b.description)
 
+-- a key has one name with itself
 pub have_one_name-refl : (a : Key) → have_one_name a a ≡ true
 have_one_name-refl a = and_from _ _ ((bytes_eq-Decides a.typ a.typ).1 refl) ((bytes_eq-Decides a.description a.description).1 refl)
 
@@ -67,6 +69,7 @@ number_of_new_name known key k held unused none = record {
 
 -- ---- what a draw leaves drawn
 
+-- a serial that was drawn stays so where another is drawn
 pub stays_drawn : (d : Drawn) (k q : ℕ) → set.contains d.used q ≡ true → set.contains (set.insert d.used k) q ≡ true
 stays_drawn d k q e = set.contains-insert nat_cmp_total d.used k q ∙ ap (λ b. eq_by_cmp nat_cmp q k || b) e ∙ or-true _
 
@@ -86,6 +89,7 @@ number_of_new known key k (Some n) held unused none some = (
   stays_drawn known.serials k n (held.numbered some.0 n some.2),
 )
 
+-- a new key gets the number of the keys of its name, or its own serial where there are none
 pub number_for_new : (known : Known) (typ description : List ℕ) (k : ℕ) (o : Option ℕ) → (o ≡ None → (q : ℕ) → has_name known.keys q typ description ≡ false)
     → IfSome o (λ n. (q : ℕ) × (has_name known.keys q typ description ≡ true) × (map.get known.numbers q ≡ Some n))
     → IsNumberFor known typ description k (Some (unwrap_or o k))

@@ -42,31 +42,37 @@ few keys counts uid is not_all = let same = is.each uid in let below : keys_of k
 
 -- ---- the counts hold through each change
 
+-- where there are no keys, there are no counts
 pub counts_empty : AreCounts map.empty map.empty
 counts_empty = record { each = λ uid. ap (λ o. unwrap_or o 0) (map.get-empty nat_cmp uid) ∙ sym (kept_len-empty (owned_by uid)) }
 
+-- counts are those of the keys after one is put in and its owner's count is one more
 pub counts_with : (keys : map.FinMap nat_cmp Key) (old new : map.FinMap nat_cmp ℕ) (k : ℕ) (key : Key) → AreCounts keys old → map.get keys k ≡ None
     → ((uid : ℕ) → count_at new uid ≡ cond (nat_eq key.owner uid) (count_at old uid + 1) (count_at old uid)) → AreCounts (map.insert keys k key) new
 counts_with keys old new k key counts none more = record {
   each = λ uid. more uid ∙ ap (λ n. cond (nat_eq key.owner uid) (n + 1) n) (counts.each uid) ∙ sym (kept_len-insert (owned_by uid) keys k key none);
 }
 
+-- counts are those of the keys after one is removed and its owner's count is one less
 pub counts_without : (keys : map.FinMap nat_cmp Key) (old new : map.FinMap nat_cmp ℕ) (k : ℕ) (key : Key) → AreCounts keys old → map.get keys k ≡ Some key
     → ((uid : ℕ) → count_at new uid ≡ cond (nat_eq key.owner uid) (count_at old uid - 1) (count_at old uid)) → AreCounts (map.remove keys k) new
 counts_without keys old new k key counts is less = record {
   each = λ uid. less uid ∙ ap (λ n. cond (nat_eq key.owner uid) (n - 1) n) (counts.each uid) ∙ sym (kept_len-remove (owned_by uid) keys k key is);
 }
 
+-- removing a key that is not there leaves the counts
 pub counts_without_none : (keys : map.FinMap nat_cmp Key) (counts : map.FinMap nat_cmp ℕ) (k : ℕ) → AreCounts keys counts → map.get keys k ≡ None →
     AreCounts (map.remove keys k) counts
 counts_without_none keys counts k is none = record { each = λ uid. is.each uid ∙ sym (kept_len-remove_none (owned_by uid) keys k none) }
 
+-- a change of a key that leaves its owner leaves the counts
 pub counts_changed : (keys : map.FinMap nat_cmp Key) (counts : map.FinMap nat_cmp ℕ) (k : ℕ) (f : Key → Key) → KeepsOwner f → AreCounts keys counts →
     AreCounts (changed_at k f keys) counts
 counts_changed keys counts k f keeps is = record { each = λ uid. is.each uid ∙ sym (keys_of-changed keys k f keeps uid) }
 
 -- ---- the changes keep a key's owner
 
+-- concluding a key leaves its owner
 pub concluded_keeps_owner : (condition : Condition) (expiry : Option ℕ) → KeepsOwner (concluded condition expiry)
 concluded_keeps_owner condition None = λ a. refl
 concluded_keeps_owner condition (Some end) = λ a. refl

@@ -1,11 +1,12 @@
 -- What is kept of names, by their hashes.
-use Rattle.std.specs.Prelude.{◌≡◌, ◌<◌, ℕ, ◌+◌, ◌-◌, Bool, true, ◌&&◌, List, [], bytes_eq, nat_le, if◌then◌else◌, Option, Some, None, option_map, unwrap_or, bit_and}
+use Rattle.std.specs.Prelude.{◌≡◌, ◌<◌, ℕ, zero, suc, ◌+◌, ◌-◌, ◌*◌, ◌/◌, take, drop, length, min, Bool, true, ◌&&◌, List, [], bytes_eq, nat_le, if◌then◌else◌, Option, Some, None, option_map, unwrap_or, bit_and}
 use Rattle.std.specs.Prelude.{find as list_find}
 use Rattle.std.specs.List.{fold}
 use Rattle.std.specs.Ordering.{nat_cmp}
 use Rattle.std.specs.FinMap as map
 use Rattle.std.specs.Hash as fed
-use Rattle.std.specs.Hash.DefaultHasher as sip
+use Rattle.std.specs.Hash.FoldHasher as folding
+use Rattle.std.specs.declared.hash.FoldHasher.{FoldHasher}
 use Rattle.rk_table.specs.Maps.{kept_where}
 use Rattle.rk_keys.specs.declared.key.Key.{Key}
 use Rattle.rk_keys.specs.declared.named.Named.{Named}
@@ -13,10 +14,19 @@ use Rattle.rk_keys.specs.Key.{has_name, is_named}
 
 -- ---- names under their hashes
 
--- the low 32 bits of the hash of the seed, the type, a byte that neither has, and the description
+-- a hasher that was fed so many words of eight bytes, of which the last may be short
+unfoldable pub fed_words : List ℕ → FoldHasher → ℕ → FoldHasher
+fed_words bytes h zero = h
+fed_words bytes h (suc n) = folding.write (fed_words bytes h n) (take (min (length bytes) (8 * n + 8) - 8 * n) (drop (8 * n) bytes))
+
+-- a hasher that was fed with the bytes
+abbrev pub fed_with : List ℕ → FoldHasher → FoldHasher
+fed_with bytes h = fed_words bytes h ((length bytes + 7) / 8)
+
+-- the low 32 bits of the hash of the seed, the type and the description
 unfoldable pub name_hash : ℕ → List ℕ → List ℕ → ℕ
 name_hash seed typ description =
-    bit_and (sip.finish (sip.write (fold sip.write (sip.write (fold sip.write sip.initial (fed.u64 seed)) typ) (fed.u8 0)) description)) 4294967295
+    bit_and (folding.finish (fed_with description (fed_with typ (fold folding.write folding.initial (fed.u64 seed))))) 4294967295
 
 -- both names are one
 abbrev pub is_same : List ℕ → List ℕ → List ℕ → List ℕ → Bool

@@ -60,7 +60,7 @@ is_building key = builds key.condition
 abbrev pub is_revoked : Key → Bool
 is_revoked key = key.revoked
 
--- ---- name: a key is told from others by its type and description, add_key(2)
+-- ---- name: a key differs from others by its type and description, add_key(2)
 
 -- the key has this type and description
 abbrev pub is_named : List ℕ → List ℕ → Key → Bool

@@ -41,7 +41,7 @@ pub enum Standing {
     Building,
     /// Complete, with a payload that may be read.
     Positive,
-    /// Negated or rejected: who asks for it is told this error.
+    /// Negated or rejected: who asks for it gets this error.
     Negative(KeyError),
 }
 

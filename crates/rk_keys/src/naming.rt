@@ -4,7 +4,7 @@ ghost use Rattle.std.specs.Prelude.{find as list_find, map as list_map};
 ghost use Rattle.std.specs.Option.{option_copied};
 ghost use Rattle.std.specs.Ordering.{nat_cmp};
 ghost use Rattle.std.specs.FinMap as map;
-ghost use Rattle.rk_keys.specs.Buckets.{IsIndex, name_hash, is_of, is_same, names_at, kept_of, recounted, count_of, number_in, counted_in, counted_out};
+ghost use Rattle.rk_keys.specs.Buckets.{IsIndex, name_hash, fed_with, is_of, is_same, names_at, kept_of, recounted, count_of, number_in, counted_in, counted_out};
 
 use crate::by_name::{Bucket, Lose, Recount};
 use crate::key::Key;
@@ -12,19 +12,30 @@ use crate::named::Named;
 use rk_names::{Description, DescriptionView, NameNo, TypeName, TypeView};
 use rk_table::HashTable;
 use std::alloc::{AllocError, Global};
-use std::hash::{DefaultHasher, Hasher};
+use std::hash::{FoldHasher, Hasher};
 
 /// The hash of a name. Who does not know the seed can't choose names whose hashes are equal.
 #[tactic(auto, unfolding(crate::specs::Buckets::name_hash))]
 fn hash_of(seed: u64, typ: &[u8], description: &[u8]) -> u32
     ensures { result ≡ name_hash seed typ.now description.now }
 {
-    let mut hasher = DefaultHasher::new();
+    let mut hasher = FoldHasher::default();
     hasher.write_u64(seed);
-    hasher.write(typ);
-    hasher.write_u8(0);
-    hasher.write(description);
+    feed(&mut hasher, typ);
+    feed(&mut hasher, description);
     (hasher.finish() & 0xFFFF_FFFF) as u32
+}
+
+/// Feeds a hasher with bytes, eight at a time: more would be multiplied with one another, and a client that chooses both factors could wipe the seed out.
+#[tactic(auto, unfolding(crate::specs::Buckets::fed_words))]
+fn feed(hasher: &mut FoldHasher, bytes: &[u8])
+    ensures { hasher.new ≡ fed_with bytes.now hasher.old }
+{
+    for word in 0..bytes.len().div_ceil(8) {
+        let start = 8 * word;
+        let end = bytes.len().min(start + 8);
+        hasher.write(&bytes[start..end]);
+    }
 }
 
 /// The number that the live keys of this name share; `None` where none is kept.

@@ -55,7 +55,7 @@ module _ (conf : List Line) (from : Beginning) (first number : ℕ) (all rest : 
         ∙ (ap (λ (bs : List ℕ). text ++ bs) (same later) ∙ ap (λ (bs : List ℕ). bs ++ text_from (number + 1) (map said_late rest) later) (sym t));
   }
 
-  -- a line that is none
+  -- an invalid line
   refused : (r : ScriptLine) → (happenings_of (map said_late (r ∷ rest)) ≡ happenings_of (map said_late rest))
       → ((told : List (Option (List Output))) → text_from number (map said_late (r ∷ rest)) told ≡ fault_line number NotALine
       ++ text_from (number + 1) (map said_late rest) told)
@@ -72,6 +72,7 @@ module _ (conf : List Line) (from : Beginning) (first number : ℕ) (all rest : 
         ∙ ap (λ (bs : List ℕ). bs ++ text_from (number + 1) (map said_late rest) later) (sym t)));
   }
 
+  -- a script that was played up to a line, and that line, are played up to the next
   pub played_line : (r : ScriptLine) → Played conf from first number all (r ∷ rest) begun text left → Plays conf number r left text new text'
       → Played conf from first (number + 1) all rest begun text' new
   played_line Blank p h = passed Blank refl (λ told. refl) p h.0 h.1
@@ -102,6 +103,7 @@ played_first conf from number text text' left new head first is begins plays =
     played_line conf from number number all (readings_left first.rest) text text text' left new (Happens first.now first.happening)
     (subst (λ (rs : List ScriptLine). Played conf from number number all rs text text left) (ap readings_from is) none) plays
 
+-- a script without lines left is played
 pub played_all : (conf : List Line) (from : Beginning) (first number : ℕ) (all : List ScriptLine) (begun text : List ℕ) (left : Left)
     → Played conf from first number all [] begun text left → PlaysAll conf from first all begun text
 played_all conf from first number all begun text left p = record {

@@ -25,6 +25,7 @@ abbrev happens_first : List ScriptLine → Bool
 happens_first [] = true
 happens_first (r ∷ rs) = happens r
 
+-- what is behind the head is nothing, or begins with a happening
 pub from_first : (first : Option First) → happens_first (readings_from first) ≡ true
 from_first None = refl
 from_first (Some first) = refl
@@ -47,6 +48,7 @@ said_rest (Negative n ∷ rs) e = absurd (cc)
 said_rest (Wrong ∷ rs) e = absurd (cc)
 said_rest (Happens now h ∷ rs) e = refl
 
+-- a script says its quiet lines first, and those from its first happening on as said late
 pub said_parts : (lines rest : List ScriptLine) → Quiet lines → happens_first rest ≡ true → said_by (lines ++ rest) ≡ lines ++ map said_late rest
 said_parts lines rest q e = said_head lines rest q ∙ ap (λ (xs : List ScriptLine). lines ++ xs) (said_rest rest e)
 
@@ -71,10 +73,12 @@ no_seconds (Happens now h ∷ rs) = no_seconds rs
 abbrev pub parts : List ScriptLine → List ScriptLine → List ScriptLine
 parts lines rest = lines ++ map said_late rest
 
+-- the configuration of a script is that of its head
 pub conf_parts : (lines rest : List ScriptLine) → filter_map conf_in (parts lines rest) ≡ filter_map conf_in lines
 conf_parts lines rest = filter_map-append conf_in lines (map said_late rest)
     ∙ (ap (λ (ts : List (List ℕ)). filter_map conf_in lines ++ ts) (no_conf rest) ∙ append-nil _)
 
+-- the negative time of a script is that of its head
 pub seconds_parts : (lines rest : List ScriptLine) → filter_map seconds_in (parts lines rest) ≡ filter_map seconds_in lines
 seconds_parts lines rest = filter_map-append seconds_in lines (map said_late rest)
     ∙ (ap (λ (ns : List ℕ). filter_map seconds_in lines ++ ns) (no_seconds rest) ∙ append-nil _)
@@ -95,10 +99,12 @@ quiet_happenings (Negative n ∷ rs) q = quiet_happenings rs q
 quiet_happenings (Wrong ∷ rs) q = quiet_happenings rs q
 quiet_happenings (Happens now h ∷ rs) q = absurd (cc)
 
+-- the happenings of a script are those behind its head
 pub happenings_parts : (lines rest : List ScriptLine) → Quiet lines → happenings_of (parts lines rest) ≡ happenings_of (map said_late rest)
 happenings_parts lines rest q = filter_map-append happening_in lines (map said_late rest)
     ∙ ap (λ (hs : List (ℕ × Happening)). hs ++ happenings_of (map said_late rest)) (quiet_happenings lines q)
 
+-- the text of a script is that of its head and then that of what is behind it
 pub text_parts : (number : ℕ) (lines rest : List ScriptLine) (told : List (Option (List Output))) → Quiet lines
     → text_from number (lines ++ rest) told ≡ text_from number lines [] ++ text_from (number + length lines) rest told
 text_parts number [] rest told q = ap (λ (n : ℕ). text_from n rest told) (omega arith)
@@ -149,5 +155,6 @@ before_head (Negative n ∷ rs) rest q e = before_next (Negative n) (rs ++ rest)
 before_head (Wrong ∷ rs) rest q e = before_next Wrong (rs ++ rest) refl ∙ ap (λ (xs : List ScriptLine). Wrong ∷ xs) (before_head rs rest q e)
 before_head (Happens now h ∷ rs) rest q e = absurd (cc)
 
+-- the lines before the first happening are the head
 pub before_parts : (lines rest : List ScriptLine) → Quiet lines → happens_first rest ≡ true → before_all (parts lines rest) ≡ lines
 before_parts lines rest q e = before_head lines (map said_late rest) q (late_first rest e)

@@ -87,6 +87,7 @@ module _ (all rest : List ScriptLine) (number : ℕ) (old new : Settings) (text 
   same : (bs cs : List ℕ) → cs ≡ bs → cs ≡ bs ++ []
   same bs cs e = e ∙ sym (append-nil bs)
 
+  -- a line of the head that sets something, or nothing, leaves the rest of the head
   pub heard_line : (r : ScriptLine) → happens r ≡ false → Sets r number old text new text' → Heard all (r ∷ rest) old number text
       → Heard all rest new (number + 1) text'
   heard_line Blank e s h =
@@ -108,6 +109,7 @@ is_happening (Negative n) first e = absurd (cc)
 is_happening Wrong first e = absurd (cc)
 is_happening (Happens now happening) first e = (let same : first ≡ (now, happening) = cc in rw (same) refl)
 
+-- a line without a happening makes nothing happen
 pub happens_not : (r : ScriptLine) → None ≡ happening_in r → happens r ≡ false
 happens_not Blank e = refl
 happens_not (Conf line) e = refl
@@ -147,6 +149,7 @@ module _ (input : List ℕ) (head : Head) (text : List ℕ) (h : IsHead input he
       ap (λ (n : ℕ). beginning n) (h.negative ∙ ap (last_of 60) (sym (seconds_parts h.lines rest)))
       ∙ ap beginning_of (sym said_is)
 
+  -- where the configuration has no fault, what the body plays is written
   pub written : (conf : List Line) (text' : List ℕ) → faults_in (configured head.settings.conf) ≡ [] → conf ≡ lines_in (configured head.settings.conf)
       → PlaysBody conf head text text' → IsWritten input text'
   written conf text' sound lines p =
@@ -177,6 +180,7 @@ module _ (input : List ℕ) (head : Head) (text : List ℕ) (h : IsHead input he
   first_of fault [] f n = absurd (n f)
   first_of fault (first ∷ others) f n = (others, ap (λ (x : ConfFault). x ∷ others) (sym f))
 
+  -- where the configuration has a fault, it is the last line that is written
   pub refused : (fault : ConfFault) (text' : List ℕ) → IsFaultFor fault (faults_in (configured head.settings.conf)) → fault.kind ≢ NoMemory → text' ≡ text
       ++ conf_line fault → IsRefused input text'
   refused fault text' f n t =

@@ -32,7 +32,7 @@ both read read' make fields = do
   y ← first_as read' x.1
   alone (make x.0 y.0) y.1
 
--- what a function returned, seen by view, is what the fields say; want of memory says nothing of them
+-- what a function returned, seen by view, is what the fields say; out of memory says nothing of them
 abbrev pub Gives : {X Y : Type 0} → (X → Y) → Result X Misread → Option Y → Type 0
 Gives view (Ok x) told = told ≡ Some (view x)
 Gives view (Err NotALine) told = told ≡ None

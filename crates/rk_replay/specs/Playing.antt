@@ -41,7 +41,7 @@ abbrev pub bytes_from : Option First → ℕ
 bytes_from None = 0
 bytes_from (Some first) = suc (bytes_left first.rest)
 
--- these lines are the head, and the text says which of them are none
+-- these lines are the head, and the text says which of them are invalid
 pub record IsHead (input : List ℕ) (head : Head) (text : List ℕ) : Type 0 where
   pub lines : List ScriptLine
   pub all : map reading_of (lines_of input) ≡ lines ++ readings_from head.first

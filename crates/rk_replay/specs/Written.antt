@@ -35,7 +35,7 @@ text_from number (Happens now h ∷ rs) (outputs ∷ told) = turn_text number ou
 abbrev pub moment_of : Turn → ℕ × Happening
 moment_of turn = (turn.now, turn.happening)
 
--- what was put out for a turn; None where its happening was out of place
+-- what was output for a turn; None where its happening was out of place
 abbrev pub outputs_in : Turn → Option (List Output)
 outputs_in turn = turn.outputs
 
@@ -52,7 +52,7 @@ pub record IsWritten (input text : List ℕ) : Type 0 where
   pub happenings : map moment_of turns ≡ happenings_of (said_in input)
   pub text_is : text ≡ text_from 1 (said_in input) (map outputs_in turns)
 
--- The configuration has a fault: the text tells the lines before the first happening that are none, and last the fault.
+-- The configuration has a fault: the text has the invalid lines before the first happening, and last the fault.
 pub record IsRefused (input text : List ℕ) : Type 0 where
   pub fault : ConfFault
   pub others : List ConfFault

@@ -10,7 +10,7 @@ pub enum ScriptFault {
     /// What came of it could not be written.
     #[error("the output could not be written")]
     Write,
-    /// The configuration is refused. The last line that was written tells where and why.
+    /// The configuration is refused. The last line that was written says where and why.
     #[error("the configuration is refused")]
     Conf,
     /// Memory was refused.

@@ -16,7 +16,7 @@ use std::alloc::{AllocError, Global};
 pub enum Misread {
     /// They are not those of a line of a script.
     NotALine,
-    /// A growth was refused.
+    /// An allocation failed.
     NoMemory,
 }
 

@@ -2,14 +2,15 @@
 //!
 //! # What is promised
 //!
-//! [`run_script`] reads a script, plays its lines and writes what comes of them: the lines of a served list for the happenings of what it
-//! read, with one line for each line of the script that changed nothing, and nothing else (`specs/Written.antt`). Lines before the first
-//! happening may set the configuration and the negative time (`specs/Script.antt`); where the configuration is refused, its fault
-//! is the last line. The list is served in the order of work, and its steps are a run of the machine, with the laws of every run, on
-//! the contract of the call itself: it is what `rk_served` says of each happening. Where the script can't be read, is too long or memory
-//! is wanting, the writer is left as it was; a script of fewer than 1,048,576 bytes is never too long.
+//! [`run_script`] reads a script, plays its lines and writes what results from them. These are the lines of a served list for the
+//! happenings of what it read, with one line for each line of the script that changed nothing (`specs/Written.antt`). It writes nothing
+//! else. Lines before the first happening may set the configuration and the negative time (`specs/Script.antt`); where the
+//! configuration is refused, its fault is the last line. The list is served in the order of work, and its steps are a run of the
+//! machine, with the laws of every run. The contract of the call itself says so: it is what `rk_served` says of each happening. Where
+//! the script can't be read, is too long or out of memory, the writer is left as it was. A script of fewer than 1,048,576 bytes is
+//! never too long.
 //!
-//! [`ScriptLine::read`] says what a line of a script says, and a [`Transcript`] holds what is put out as lines of text
+//! [`ScriptLine::read`] says what a line of a script says, and a [`Transcript`] holds what is output as lines of text
 //! (`specs/Reading.antt`, `specs/Writing.antt`). Numbers are decimal, those of seconds with 1 to 20 digits; bytes are hexadecimal; and
 //! a line has at most 262,144 bytes.
 //!

@@ -40,7 +40,7 @@ pub struct First<'a> {
     rest: Option<&'a [u8]>,
 }
 
-/// Plays a whole script, and writes what comes of it.
+/// Plays a whole script, and writes the lines that result.
 ///
 /// Its configuration is read at the first happening, or at the end. After `Conf` the last line that is written tells its fault.
 pub fn play(alloc: Global, text: &[u8], transcript: &mut Transcript) -> Result<(), ScriptFault>
@@ -61,7 +61,7 @@ pub fn play(alloc: Global, text: &[u8], transcript: &mut Transcript) -> Result<(
     }
 }
 
-/// Writes the fault of a configuration. The answer is `NoMemory` where that fault is want of memory, or where it could not be written.
+/// Writes the fault of a configuration. The result is `NoMemory` where that fault is out of memory, or where it could not be written.
 fn refuse(fault: ConfFault, transcript: &mut Transcript) -> ScriptFault
     ensures memory { fault.kind ≡ ConfKind.NoMemory → result ≡ ScriptFault.NoMemory }
     ensures conf { result ≡ ScriptFault.Conf → transcript.new ≡ transcript.old ++ conf_line fault }

@@ -15,19 +15,19 @@ pub const MAX_READS: u32 = 1_048_576;
 /// How much one read asks for.
 const PIECE: usize = 4096;
 
-/// Reads a script to its end, plays it, and writes what comes of it: one line for each output, and one for each line that
-/// changed nothing.
+/// Reads a script to its end, plays it, and writes what results from it: one line for each output, and one for each line
+/// that changed nothing.
 ///
 /// Refusals: `Read` where the reader fails; `TurnsUsed` where it was not at its end after 1,048,576 reads, which takes at least as
 /// many bytes; `NoMemory`. After these the writer is as it was. `Conf` where the configuration is refused: the bad lines before the
-/// first happening are written, and the last line tells the line and the rule. `Write` where the writer fails, also as it is
+/// first happening are written, and the last line names the line and the rule. `Write` where the writer fails, also as it is
 /// flushed; after it nothing is said of what was written.
 pub fn run_script<R: Read, W: Write>(
     alloc: Global,
     reader: &mut R,
     writer: &mut W,
 ) -> Result<(), ScriptFault>
-    // It has written the lines of a served list for the happenings of what it read, and nothing else; that list is served in the order
+    // It has written the lines of a served list for the happenings of what it read, and nothing else. That list is served in the order
     // of work, and its steps are a run of the machine that obeys the laws of every run.
     ensures written { OnOk result (IfSome (R.remaining reader.old) (λ input. (text : List ℕ) × IsWritten input text
         × Appends (W.contents writer.old) (W.contents writer.new) text)) }

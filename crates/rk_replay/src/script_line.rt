@@ -30,7 +30,7 @@ pub enum ScriptLine {
 }
 
 impl ScriptLine {
-    /// What the line says, without its newline. The only refusal is want of memory.
+    /// What the line says, without its newline. The only refusal is out of memory.
     ///
     /// It takes time in proportion to the length of the line.
     pub fn read(alloc: Global, line: &[u8]) -> Result<ScriptLine, AllocError>

@@ -40,7 +40,7 @@ impl Settings {
         }
     }
 
-    /// Takes in what a line says, and writes it where it is none. What happens on it is handed back. The only refusal is want of memory.
+    /// Takes in what a line says, and writes the line where it is invalid. What happens on it is handed back. The only refusal is out of memory.
     pub fn hear(
         &mut self,
         number: u64,

@@ -5,6 +5,7 @@ ghost use Rattle.hex.specs.Hex.{upper_digits};
 ghost use Rattle.rk_replay.specs.Writing.{byte_text, word_text, command_text, frame_text, start_text, shut_text, line_text, output_line};
 ghost use Rattle.rk_replay.specs.Writing.{fault_line, conf_line, fault_code, kind_text, is_plain};
 
+use itoa::Buffer;
 use rk_conf::{ConfFault, Word};
 use rk_macro::Command;
 use rk_served::Output;
@@ -35,6 +36,7 @@ impl LineFault {
 /// The lines that a run of a script has written so far. In a clause they are their bytes.
 #[derive(Debug, Drop)]
 pub struct Transcript {
+    /// The lines, each with its newline.
     text: String,
 }
 
@@ -112,8 +114,14 @@ fn put_frame(
 ) -> Result<(), AllocError>
     ensures { OnOk result (string_bytes text.new ≡ string_bytes text.old ++ line_text (frame_text word.now number bytes.now)) }
 {
+    let mut buffer = Buffer::new();
     let digits = hex::encode(alloc, bytes)?;
-    writeln!(text, "{word} {number} {digits}")
+    text.push_str(word)?;
+    text.push(' ')?;
+    text.push_str(buffer.format(number))?;
+    text.push(' ')?;
+    text.push_str(&digits)?;
+    text.push('\n')
 }
 
 /// The start of a command.

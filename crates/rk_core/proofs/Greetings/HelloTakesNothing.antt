@@ -58,6 +58,7 @@ user_made : (uid : ℕ) (old new : World) (ring : ℕ) → HasUserRing uid old n
 user_made uid old new ring (inl h) free keeps = grows_not old new h.3 free
 user_made uid old new ring (inr h) free keeps = made kind.User uid old new ring h.1 free keeps
 
+-- making the rings of HELLO keeps each link, and draws each ring's serial
 pub rings_grow : (g : Greeting) (old new : World) (thread process : Option ℕ) (session user : ℕ) → MakesRings g old new thread process session user
     → RingsFree old → Grows old new
 rings_grow g old new thread process session user h free =

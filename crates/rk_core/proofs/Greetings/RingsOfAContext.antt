@@ -47,6 +47,7 @@ all_new (one ∷ more) m h = (
   all_new more (map.insert m one.serial (new_ring one)) (subst (AreAllNew more) (sym (one_seen m one)) h.1),
 )
 
+-- rings that are made are seen as made
 pub with_all_seen : (made : List NewRing) (m : Rings) → rings_seen (with_rings made m) ≡ with_all made (rings_seen m)
 with_all_seen [] m = refl
 with_all_seen (one ∷ more) m = with_all_seen more (map.insert m one.serial (new_ring one)) ∙ ap (with_all more) (one_seen m one)
@@ -74,6 +75,7 @@ not_used d k q h =
 pub still_none : (rings : map.FinMap nat_cmp Ring) (k q : ℕ) (r : Ring) → nat_eq k q ≡ false → map.get rings q ≡ None → map.get (map.insert rings k r) q ≡ None
 still_none rings k q r other none = get_inserted rings k r q ∙ ap (λ b. cond b (Some r) (map.get rings q)) other ∙ none
 
+-- one more ring under a fresh serial leaves rings to be made, beside those that are there
 pub one_more_new : (old new : Drawn) (made more : List NewRing) (rings : map.FinMap nat_cmp Ring) (one : NewRing) → IsFresh old one.serial
     → new ≡ with_drawn one.serial old → more ≡ made ++ one ∷ []
     → AreNewRings old made rings → AreNewRings new more rings
@@ -87,6 +89,7 @@ one_more_new old new made more rings one fresh n m f =
     } in
     subst (λ (s : Drawn). AreNewRings s more rings) (sym n) (subst (λ es. AreNewRings (with_drawn one.serial old) es rings) (sym m) added)
 
+-- one more ring under a fresh serial is one that the machine makes
 pub makes_one : (old new : Drawn) (made more : List NewRing) (one : NewRing) → IsFresh old one.serial → new ≡ with_drawn one.serial old
     → more ≡ made ++ one ∷ []
     → (w : World) → Makes one.kind one.uid (with_new_rings old made w) (with_new_rings new more w) one.serial
@@ -97,6 +100,7 @@ makes_one old new made more one fresh n m w =
 
 -- ---- none
 
+-- at first no ring is to be made, and no undrawn serial has a ring
 pub new_at_first : (serials : Drawn) (made : List NewRing) (w : World) → serials ≡ w.serials → made ≡ []
     → ((k : ℕ) → set.contains w.serials.used k ≡ false → map.get w.rings k ≡ None)
     → AreNewRings serials made w.rings

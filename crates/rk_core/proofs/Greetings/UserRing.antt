@@ -59,6 +59,7 @@ made_or_there : (w : World) (uid : ℕ) (o : Option ℕ) → IsUserRing w uid o 
 made_or_there w uid None none = ap (λ b. cond b 0 1) (sym none)
 made_or_there w uid (Some k) found = ap (λ b. cond b 0 1) (sym (user_there w uid k found.0 found.1 found.2))
 
+-- the rings that are made one by one are as many as the machine counts
 pub count_made : (w : World) (g : Greeting) (o : Option ℕ) → IsUserRing w g.uid o
     → cond g.thread 1 0 + cond g.process 1 0 + cond (is_none g.join) 1 0 + cond (is_none o) 1 0 ≡ rings_made w g
 count_made w g o is = ap (λ n. cond g.thread 1 0 + cond g.process 1 0 + cond (is_none g.join) 1 0 + n) (made_or_there w g.uid o is)
@@ -71,6 +72,7 @@ pub record KeepsUsers (uid : ℕ) (old new : World) : Type 0 where
   pub users : (k : ℕ) (r : Ring) → map.get new.rings k ≡ Some r → is_users r.kind r.uid uid ≡ true → map.get old.rings k ≡ Some r
   pub unused : (k : ℕ) → set.contains new.serials.used k ≡ false → map.get new.rings k ≡ None
 
+-- a world in which rings have drawn serials keeps its user rings
 pub keeps_all : (uid : ℕ) (w : World) → ((k : ℕ) → set.contains w.serials.used k ≡ false → map.get w.rings k ≡ None) → KeepsUsers uid w w
 keeps_all uid w unused = record { there = λ k r h. h; users = λ k r h is. h; unused = unused }
 
@@ -100,12 +102,14 @@ made kind uid other old mid new ring m h = same_world uid old _ new m.1 (record 
         absurd (both_ways _ other (ap (λ (r : Ring). is_users r.kind r.uid uid) same ∙ is))
     by_key k r false e is = h.users k r e is
 
+-- making a ring of another kind, where it is wanted, keeps the user rings
 pub keeps_if : (b : Bool) (kind : RingKind) (uid : ℕ) → is_users kind uid uid ≡ false → (old mid new : World) (ring : Option ℕ)
     → MakesIf b kind uid mid new ring → KeepsUsers uid old mid
     → KeepsUsers uid old new
 keeps_if false kind uid other old mid new ring m h = same_world uid old mid new m.1 h
 keeps_if true kind uid other old mid new ring m h = made kind uid other old mid new m.0 m.2 h
 
+-- making or joining a session ring keeps the user rings
 pub keeps_session : (join : Option ℕ) (uid : ℕ) (old mid new : World) (ring : ℕ) → HasSessionRing join uid mid new ring → KeepsUsers uid old mid
     → KeepsUsers uid old new
 keeps_session None uid old mid new ring m h = made kind.Session uid refl old mid new ring m h
@@ -113,6 +117,7 @@ keeps_session (Some join) uid old mid new ring m h = same_world uid old mid new 
 
 -- ---- what is with_new_rings, as HELLO says it
 
+-- a session ring that is named or made is one that is joined or made
 pub joined_or_made : (join : Option ℕ) (uid : ℕ) (old new : World) (ring : ℕ) → MakesOr join kind.Session uid old new ring
     → HasSessionRing join uid old new ring
 joined_or_made None uid old new ring h = h

@@ -70,6 +70,7 @@ one_of p (j ∷ ks) h =
       | false ↦ λ t h. let f = one_of p ks h in (f.0, ap (λ b. eq_by_cmp nat_cmp f.0 j || b) f.1 ∙ or_true (eq_by_cmp nat_cmp f.0 j), f.2)
     ] refl h
 
+-- where some item of a set passes a test, there is one in the set that passes
 pub passing_item : (p : ℕ → Bool) (s : set.FinSet nat_cmp) → list_any p (set.items s) ≡ true → (k : ℕ) × (set.contains s k ≡ true) × (p k ≡ true)
 passing_item p s h = let f = one_of p (set.items s) h in (f.0, set.contains-items s f.0 ∙ f.1, f.2)
 
@@ -141,11 +142,13 @@ link_seen known rings new ring k n key (Err f) naming kept there number room ok 
 
 -- ---- the key that gives way
 
+-- a key is seen as linked in a ring exactly where the ring has its number
 pub linked_is : (rings : Rings) (ring k : ℕ) (r : Numbered) (o : Option ℕ) → map.get rings ring ≡ Some r → map.get r.links k ≡ o
     → is_linked (rings_seen rings) ring k ≡ is_some o
 linked_is rings ring k r o there is =
     is_linked-rings_seen rings ring k ∙ ap (λ x. option_map_or (λ (r : Numbered). map.contains_key r.links k) x false) there ∙ ap is_some is
 
+-- no key is linked in a ring that is not there
 pub not_linked : (rings : Rings) (ring k : ℕ) → map.get rings ring ≡ None → is_linked (rings_seen rings) ring k ≡ false
 not_linked rings ring k none = is_linked-rings_seen rings ring k ∙ ap (λ x. option_map_or (λ (r : Numbered). map.contains_key r.links k) x false) none
 
@@ -153,6 +156,7 @@ both_false : (a b c : Bool) → b ≡ false → ((a && b) && c) ≡ false
 both_false true b c h = ap (λ x. x && c) h
 both_false false b c h = refl
 
+-- a conjunction with a false last part is false
 pub last_false : (a b : Bool) → b ≡ false → (a && b) ≡ false
 last_false true b h = h
 last_false false b h = refl
@@ -224,6 +228,7 @@ module _ (known : Known) (rings : Rings) (ring k n : ℕ) (naming : IsNaming kno
 
 -- ---- the calls that take links out
 
+-- unlinking a linked key is seen as taking the link away
 pub unlink_seen : (rings new : Rings) (ring k : ℕ) (r : Result ⊤ RingFault) → is_linked (rings_seen rings) ring k ≡ true
     → OnOk r (new ≡ changed_at ring (unlinked k) rings) → ((r ≡ Err fault.NoRing) ↔ (map.contains_key rings ring ≡ false))
     → ((r ≡ Err fault.NotLinked) ↔ ((map.contains_key rings ring ≡ true) × (holds rings ring k ≡ false)))
@@ -241,6 +246,7 @@ unlink_seen rings new ring k (Err f) there ok none missing others = absurd (by_f
     by_fault (inl e) = linked_there (map.get rings ring) (sym (is_linked-rings_seen rings ring k) ∙ there) (none.0 (ap (λ (x : RingFault). Err x) e))
     by_fault (inr e) = both_ways _ (missing.0 (ap (λ (x : RingFault). Err x) e)).1 (sym (is_linked-rings_seen rings ring k) ∙ there)
 
+-- dropping a ring is seen as removing it
 pub drop_seen : (rings new : Rings) (ring : ℕ) (r : Result ⊤ RingFault) → OnOk r (new ≡ map.remove rings ring) → OnErr r (new ≡ rings)
     → ((r ≡ Err fault.NoRing) ↔ (map.contains_key rings ring ≡ false))
     → IfErr r (λ f. f ≡ fault.NoRing) → rings_seen new ≡ map.remove (rings_seen rings) ring

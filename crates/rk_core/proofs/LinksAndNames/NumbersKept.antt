@@ -61,11 +61,13 @@ fair_link known k n is = record {
 fair_unlink : (known : Known) (k : ℕ) → IsFair known (unlinked k)
 fair_unlink known k = record { numbers = λ r j m e. inl (left_there r.links k j m e) }
 
+-- keys and rings agree on names after a key is linked by its number
 pub kept_link : (known : Known) (rings new : Rings) (ring k n : ℕ) → map.get known.numbers k ≡ Some n
     → (new ≡ changed_at ring (linked k n) rings) ⊎ (new ≡ rings) → NumbersAgree known rings → NumbersAgree known new
 kept_link known rings new ring k n is (inl e) h = subst (NumbersAgree known) (sym e) (kept_changed known rings ring (linked k n) (fair_link known k n is) h)
 kept_link known rings new ring k n is (inr e) h = subst (NumbersAgree known) (sym e) h
 
+-- keys and rings agree on names after a key is unlinked
 pub kept_unlink : (known : Known) (rings new : Rings) (ring k : ℕ) → (new ≡ changed_at ring (unlinked k) rings) ⊎ (new ≡ rings) → NumbersAgree known rings
     → NumbersAgree known new
 kept_unlink known rings new ring k (inl e) h = subst (NumbersAgree known) (sym e) (kept_changed known rings ring (unlinked k) (fair_unlink known k) h)
@@ -73,6 +75,7 @@ kept_unlink known rings new ring k (inr e) h = subst (NumbersAgree known) (sym e
 
 -- ---- a ring is dropped, rings are made
 
+-- keys and rings agree on names after a ring is dropped
 pub kept_drop : (known : Known) (rings new : Rings) (ring : ℕ) → (new ≡ map.remove rings ring) ⊎ (new ≡ rings) → NumbersAgree known rings
     → NumbersAgree known new
 kept_drop known rings new ring (inl e) h =
@@ -91,12 +94,14 @@ kept_one known rings wanted h = record {
     by_key q true r new same e = let is : new_ring wanted ≡ r = cc in new is
     by_key q false r new same e = same e
 
+-- keys and rings agree on names after empty rings are made
 pub kept_rings : (known : Known) (wanted : List NewRing) (rings : Rings) → NumbersAgree known rings → NumbersAgree known (with_rings wanted rings)
 kept_rings known [] rings h = h
 kept_rings known (one ∷ more) rings h = kept_rings known more (map.insert rings one.serial (new_ring one)) (kept_one known rings one h)
 
 -- ---- keys change
 
+-- keys and rings agree on names where the numbers stay
 pub kept_numbers : (known new : Known) (rings : Rings) → new.numbers ≡ known.numbers → NumbersAgree known rings → NumbersAgree new rings
 kept_numbers known new rings e h = record {
   numbered = λ q k n r there link. ap (λ (m : map.FinMap nat_cmp ℕ). map.get m k) e ∙ h.numbered q k n r there link;
@@ -108,6 +113,7 @@ held_by rings ring k n r there link =
     any_value (λ (r : Numbered). map.contains_key r.links k) rings ∙ some_entry (λ (e : ℕ × Numbered). map.contains_key e.1.links k) rings ring r there
     (ap is_some link)
 
+-- keys and rings agree on names after a key without a link is forgotten
 pub kept_forget : (known : Known) (rings : Rings) (k : ℕ) → is_held rings k ≡ false → NumbersAgree known rings → NumbersAgree (without_key k known) rings
 kept_forget known rings k free h = record {
   numbered = λ q j n r there link. get_removed known.numbers k j ∙ by_key q j n r there link (nat_eq k j) refl;
@@ -140,6 +146,7 @@ no_number known k naming none = empty (map.get known.numbers k) (naming.each k �
     empty None h = refl
     empty (Some n) h = absurd (both_ways _ h refl)
 
+-- a key without a number has no link
 pub not_held : (known : Known) (rings : Rings) (k : ℕ) → NumbersAgree known rings → map.get known.numbers k ≡ None → is_held rings k ≡ false
 not_held known rings k h none = by_test (is_held rings k) refl
   where

@@ -38,6 +38,7 @@ module _ (old new : World) (k : ℕ) (one : Key) (keys : new.keys ≡ map.insert
       ap (λ (m : map.FinMap nat_cmp Key). map.get m j) keys ∙ get_inserted old.keys k one j
       ∙ ap (λ b. cond b (Some one) (map.get old.keys j)) (nat_eq_equiv.symm k j ∙ other)
 
+  -- a new key is there
   pub new_known : map.contains_key new.keys k ≡ true
   new_known = ap is_some new_there
 
@@ -74,6 +75,7 @@ module _ (old new : World) (k : ℕ) (one : Key) (keys : new.keys ≡ map.insert
         by_ring None is = refl
         by_ring (Some r) is = ap (λ b. nat_le 256 (set.len r.keys) && not b) (held_alike typ description ring r is)
 
+    -- a ring that was not full for the name is not full for the new key
     pub has_room : (ring : ℕ) → is_full_at old ring one.typ one.description ≡ false → refused_if (is_full_for new ring k) errno.Edquot ≡ None
     has_room ring room =
         ap (λ b. refused_if b errno.Edquot) (ap (λ o. unwrap_or (option_map (λ (key : Key). is_full_at new ring key.typ key.description) o) false) new_there
@@ -87,6 +89,7 @@ no_handler a k authority =
     (get_inserted a.constructions k (record { stage = Starting; authority = Some authority }) k
     ∙ ap (λ b. cond b (Some (record { stage = Starting; authority = Some authority })) (map.get a.constructions k)) (tied_itself k))
 
+-- a new construction leads to no session that was there
 pub leads_nowhere : (a : Sessions) (k : ℕ) (authority : Authority) (s : SessionId) → map.get a.constructions k ≡ None → is_some (session_of a s) ≡ true
     → ¬ (Leads (with_construction k authority a) k s)
 leads_nowhere a k authority s none there (its_own j) = both_ways _ (ap (λ o. is_some (option_and_then (λ (c : Construction). handler_in c.stage) o)) none) there

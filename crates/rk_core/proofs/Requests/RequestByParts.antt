@@ -53,6 +53,7 @@ module _ (old : World) (s : SessionId) (asker : Asker) (q : Query) (ring : ℕ) 
 
 -- ---- what the search found
 
+-- a request without a bad ring is answered as the machine answers it: by a key that it hits, or as a miss
 pub requested : (old : World) (now : ℕ) (s : SessionId) (asker : Asker) (typ description : List ℕ) (callout : Option (List ℕ)) (r : ℤ) (a : Answer)
     (new : World) (found : Option ℕ)
     → ring_or_none_refusal old asker r ≡ None

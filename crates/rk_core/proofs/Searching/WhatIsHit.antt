@@ -50,6 +50,7 @@ module _ (w : World) (q : Query) where
   maybe_ring None rings (Some one) rest sole h = absurd (let no : Some one ≡ None = sole in cc)
   maybe_ring (Some ring) rings m rest sole h = one_ring ring rings m rest sole h
 
+  -- the search hits what is found so in the four rings
   pub hits_of : (s : Sought) → IsSought w q s → Hits w q (rings_of q.context) (hit_in s)
   hits_of s h =
       maybe_ring q.context.thread (option_to_list q.context.process ++ (q.context.session ∷ q.context.user ∷ [])) s.thread
@@ -88,6 +89,7 @@ module _ (w : World) (q : Query) where
   either_of None b k e = inr e
   either_of (Some j) b k e = inl e
 
+  -- a key that is hit is there
   pub hit_known : (s : Sought) (k : ℕ) → IsSought w q s → hit_in s ≡ Some k → map.contains_key w.keys k ≡ true
   hit_known s k h e = by_thread (either_of (live_key s.thread) (or_else (live_key s.process) (or_else (live_key s.session) (live_key s.user))) k e)
     where
@@ -146,8 +148,10 @@ module _ (w : World) (q : Query) where
       ∙ ap (λ b. stands p s.thread || b) (maybe_matches p q.context.process (q.context.session ∷ q.context.user ∷ []) s.process h.process
       ∙ ap (λ b. stands p s.process || b) (λ i. matches_as p q.context.session s.session h.session i || (matches_as p q.context.user s.user h.user i || false)))
 
+  -- what blocks a request is what is found to block in the four rings
   pub block_as : (s : Sought) → IsSought w q s → block_of w q ≡ block_in s
   block_as s h = λ i. find (λ e. some_match_as s h (blocks e) i) errors
 
+  -- the error of a search is what is found in the four rings, or ENOKEY
   pub stale_as : (s : Sought) → IsSought w q s → stale_of w q ≡ unwrap_or (stale_in s) error.NoKey
   stale_as s h = λ i. unwrap_or (find (λ e. some_match_as s h (is_stale e) i) errors) error.NoKey

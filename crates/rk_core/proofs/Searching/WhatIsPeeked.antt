@@ -12,6 +12,7 @@ use Rattle.rk_machine.specs.Views.{positive, Peeks}
 use Rattle.rk_core.specs.declared.search.Sought.{Sought}
 use Rattle.rk_core.proofs.Searching.WhatIsHit.{hits_of}
 
+-- the payload of the Positive key that a search in the authority's context hits is what its handler may see
 pub peeks : (w : World) (k : ℕ) (typ description : List ℕ) (now : ℕ) (a : Authority) (s : Sought) (seen : Option (List ℕ)) → unspent w.sessions k ≡ Some a
     → IsSought w (record { context = a.context; typ = typ; description = description; now = now }) s
     → seen ≡ option_and_then (λ j. option_and_then (λ key. positive key.condition) (map.get w.keys j)) (hit_in s) → Peeks w k typ description now seen

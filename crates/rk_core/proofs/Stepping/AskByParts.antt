@@ -130,11 +130,13 @@ unless_else : (b : Bool) (error : Errno) (old : World) (a : Answer) (new : World
 unless_else true error old a new P h = h
 unless_else false error old a new P h = h
 
+-- an ask of a session that may not ask is refused with that error, and changes nothing
 pub session_refused : (old : World) (now : ℕ) (s : SessionId) (x : Ask) (error : Errno) → session_refusal old s ≡ Some error
     → Step old now (Asked s x) (Refused error) old
 unfolding Step
 session_refused old now s x error is = unless_some (ask_refusal old s x) error old _ (refused_before _ _ (gate old s x) error is)
 
+-- an ask of one who acts is a step, but HELLO, which is refused with EINVAL
 pub acts_so : (old : World) (now : ℕ) (s : SessionId) (x : Ask) (asker : Asker) (a : Answer) (new : World) → session_refusal old s ≡ None
     → asker_of old s ≡ Some asker → MatchBool (is_hello x) (Tells (Refused errno.Einval) old a new) (Asking old now s x a new)
     → Step old now (Asked s x) a new
@@ -143,6 +145,7 @@ acts_so old now s x asker a new free acts h =
     subst (λ (o : Option Errno). Unless o old a new (Asking old now s x a new)) (sym (the_gate old s x free ∙ gate_of_acting old s x asker acts))
     (unless_so (is_hello x) errno.Einval old a new (Asking old now s x a new) h)
 
+-- where nobody acts, a client's HELLO and a handler's ASSUME are steps, and any other ask is refused with EACCES
 pub asks_first : (old : World) (now : ℕ) (s : SessionId) (x : Ask) (a : Answer) (new : World) → session_refusal old s ≡ None
     → asker_of old s ≡ None → MatchBool (is_first s x) (Asking old now s x a new) (Tells (Refused errno.Eacces) old a new)
     → Step old now (Asked s x) a new

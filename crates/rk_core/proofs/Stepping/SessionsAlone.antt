@@ -6,6 +6,7 @@ use Rattle.rk_auth.specs.Sessions.{Sessions}
 use Rattle.rk_machine.specs.World.{World}
 use Rattle.rk_core.specs.Numbering.{world_of}
 
+-- a change of the sessions alone is that change of the world
 pub in_sessions : (negative : ℕ) (known : Known) (rings : Rings) (before after : Sessions) (w : World) (f : Sessions → Sessions)
     → world_of negative known rings before ≡ w → after ≡ f before
     → world_of negative known rings after ≡ record w { sessions = f w.sessions }

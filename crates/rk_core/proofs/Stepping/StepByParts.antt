@@ -24,6 +24,7 @@ use Rattle.rk_core.proofs.Vanishing.OneByOne.{all_stay}
 
 -- ---- a handler starts, and ends
 
+-- a launch that fits its construction is a step, and is answered as done
 pub launches : (old : World) (now k : ℕ) (r : Ran) (a : Answer) (new : World) → may_launch r (stage_of old.sessions k) ≡ true → a ≡ done
     → new ≡ tidied (launched now k r old) → Step old now (Launched k r) a new
 unfolding Step
@@ -60,6 +61,7 @@ ends_followed old now k how payload Negating a new more ra left = absurd (both_w
 ends_followed old now k how payload (Plain s) a new more ra left = absurd (both_ways false refl more)
 ends_followed old now k how payload Piped a new more ra left = chosen_on _ _ (would_negate old k how payload) more (ra, left)
 
+-- an end that fits its construction is a step
 pub ends : (old : World) (now k : ℕ) (how : How) (payload : Option (List ℕ)) (st : Stage) (a : Answer) (new : World) → stage_of old.sessions k ≡ Some st
     → Ends old now k how payload (Some st) a new → Step old now (Ended k how payload) a new
 unfolding Step

@@ -184,6 +184,7 @@ tidy_after old now e a new (finished k how payload st condition ev is runs final
 
 -- ---- every step, and the empty world
 
+-- every step keeps what holds of the world of every book
 pub step_sound : (old : World) (now : ℕ) (e : Event) (a : Answer) (new : World) → Step old now e a new → IsSound old → IsSound new
 step_sound old now e a new step h =
     let is = effect old now e a new step in
@@ -197,6 +198,7 @@ step_sound old now e a new step h =
       tidy = tidy_after old now e a new is h;
     }
 
+-- what holds of the world of every book holds of the empty one
 pub empty_sound : (negative first stride : ℕ) (w : World) → w ≡ empty_world negative first stride → IsSound w
 empty_sound negative first stride w e = subst IsSound (sym e) (record {
   keys = λ q n. map.get-empty nat_cmp q;

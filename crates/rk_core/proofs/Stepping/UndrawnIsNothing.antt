@@ -24,6 +24,7 @@ use Rattle.rk_machine.proofs.Effects.DrawnSerials.{is_drawn, drawn_is}
 -- ---- maps
 
 module _ {V : Type 0} where
+  -- a change at one key puts nothing where nothing was
   pub none_changed : (k : ℕ) (f : V → V) (m : map.FinMap nat_cmp V) (q : ℕ) → map.get m q ≡ None → map.get (changed_at k f m) q ≡ None
   none_changed k f m q none =
       get_changed_at k f m q ∙ ap (λ o. cond (nat_eq k q) (option_map f o) o) none
@@ -32,6 +33,7 @@ module _ {V : Type 0} where
   pub none_changed_all : (f : V → V) (m : map.FinMap nat_cmp V) (q : ℕ) → map.get m q ≡ None → map.get (changed_all f m) q ≡ None
   none_changed_all f m q none = get_changed_all f m q ∙ ap (option_map f) none
 
+  -- dropping entries puts nothing where nothing was
   pub none_kept : (p : ℕ → V → Bool) (m : map.FinMap nat_cmp V) (q : ℕ) → map.get m q ≡ None → map.get (kept_where p m) q ≡ None
   none_kept p m q none = get_kept_where p m q ∙ ap (λ o. cond (option_map_or (p q) o false) o None) none
 
@@ -40,6 +42,7 @@ module _ {V : Type 0} where
       get_removed m k q ∙ ap (cond (nat_eq k q) None) none ∙ elim (nat_eq k q) as
       (λ b. ◌≡◌ {A = Option V} (cond b None None) None) [ true ↦ refl | false ↦ refl ]
 
+  -- an entry at one key puts nothing at another
   pub none_inserted : (m : map.FinMap nat_cmp V) (k : ℕ) (v : V) (q : ℕ) → nat_eq k q ≡ false → map.get m q ≡ None → map.get (map.insert m k v) q ≡ None
   none_inserted m k v q other none = get_inserted m k v q ∙ (λ i. cond (other i) (Some v) (none i))
 
@@ -48,10 +51,12 @@ module _ {V : Type 0} where
 abbrev pub IsFree : Sessions → ℕ → Type 0
 IsFree a q = map.get a.constructions q ≡ None
 
+-- a change of a session leaves a serial without a construction
 pub free_changed : (s : SessionId) (f : Session → Session) (a : Sessions) (q : ℕ) → IsFree a q → IsFree (session_changed s f a) q
 free_changed (Client n) f a q none = none
 free_changed (Handler k) f a q none = none_changed k (in_handler f) a.constructions q none
 
+-- a launch leaves a serial without a construction
 pub free_launched : (k : ℕ) (st : Stage) (a : Sessions) (q : ℕ) → IsFree a q → IsFree (launched k st a) q
 free_launched k st a q none = none_changed k (in_new_stage st) a.constructions q none
 
@@ -65,9 +70,11 @@ free_announced now k keys a q none =
       | Some key ↦ none_changed_all (in_handler (told k (outcome_of k key now))) a.constructions q none
     ]
 
+-- concluding a key leaves a serial without a construction
 pub free_concluded : (now k : ℕ) (keys : map.FinMap nat_cmp Key) (a : Sessions) (q : ℕ) → IsFree a q → IsFree (announced now k keys (spent k a)) q
 free_concluded now k keys a q none = free_announced now k keys (spent k a) q (free_spent k a q none)
 
+-- a handler's end leaves a serial without a construction
 pub free_ended : (now k : ℕ) (condition : Condition) (w : World) (q : ℕ) → IsFree w.sessions q
     → IsFree (without_construction k (sessions_ended now k condition w)) q
 free_ended now k condition w q none =
@@ -77,6 +84,7 @@ free_ended now k condition w q none =
       | false ↦ none
     ])
 
+-- a handler's end leaves a serial without a key
 pub none_ended : (now k : ℕ) (condition : Condition) (w : World) (q : ℕ) → map.get w.keys q ≡ None → map.get (keys_ended now k condition w) q ≡ None
 none_ended now k condition w q none =
     elim (is_some (unspent w.sessions k)) as (λ b. map.get (cond b (changed_at k (concluded condition (expiry_after condition now w.negative)) w.keys) w.keys) q
@@ -87,6 +95,7 @@ none_ended now k condition w q none =
 
 -- ---- rings
 
+-- a change of one ring leaves a serial without a ring
 pub none_linked : (ring : Option ℕ) (f : Ring → Ring) (rings : map.FinMap nat_cmp Ring) (q : ℕ) → map.get rings q ≡ None
     → map.get (rings_changed ring f rings) q ≡ None
 none_linked None f rings q none = none

@@ -66,6 +66,7 @@ in_world old new mid q e h = subst (λ (w : World). is_some (unspent w.sessions 
 by_frames : (q : ℕ) (a b : Option Authority) (x y : Bool) → a ≡ b → x ≡ y → (is_some b ≡ true → y ≡ true) → is_some a ≡ true → x ≡ true
 by_frames q a b x y e f h s = f ∙ h (ap is_some (sym e) ∙ s)
 
+-- after every step an unspent authority is that of a key under construction
 pub building_after : (old : World) (now : ℕ) (e : Event) (a : Answer) (new : World) → Effect old now e a new → IsSound old → (q : ℕ)
     → is_some (unspent new.sessions q) ≡ true → built_at new.keys q ≡ true
 building_after old now e a new (refused error ra w free) h q = in_world old new old q w (h.building q)

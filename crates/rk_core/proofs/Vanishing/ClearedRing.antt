@@ -91,6 +91,7 @@ cleared_unlinked w ring k = λ i. record w {
     by_ring true (Some r) = refl
     by_ring false o = refl
 
+-- unlinking one key leaves the world to which clearing the ring leads
 pub still_to_clear : (w new : World) (ring k : ℕ) → new ≡ tidied (unlinked_in (Some ring) k w)
     → tidied (cleared_in (Some ring) new) ≡ tidied (cleared_in (Some ring) w)
 still_to_clear w new ring k e =
@@ -105,6 +106,7 @@ not_empty : (s : set.FinSet nat_cmp) (k n : ℕ) → set.contains s k ≡ true �
 not_empty s k zero h e = absurd (both_ways _ (ap (λ t. set.contains t k) (set.empty_of_len s e) ∙ set.contains-empty nat_cmp k) h)
 not_empty s k (suc n) h e = omega arith
 
+-- unlinking a linked key leaves fewer links in the ring
 pub fewer_links : (w new : World) (ring k : ℕ) → is_linked w.rings ring k ≡ true → new ≡ tidied (unlinked_in (Some ring) k w)
     → links_of new ring < links_of w ring
 fewer_links w new ring k h e = by_ring (map.get w.rings ring) refl h
@@ -139,6 +141,7 @@ cleared_now w ring none = λ i. record w {
         ap (λ s. Some (record r { keys = s })) (set.same_set nat_cmp_total set.nat_cmp-IsAntisymmetric set.empty r.keys
         (λ k. set.contains-empty nat_cmp k ∙ sym (sym (ap (has_key k) here) ∙ none k)))
 
+-- a ring without any link is cleared
 pub all_cleared : (w first : World) (ring : ℕ) → StayBut (λ j. false) w → ((k : ℕ) → is_linked w.rings ring k ≡ false)
     → tidied (cleared_in (Some ring) w) ≡ tidied (cleared_in (Some ring) first)
     → w ≡ tidied (cleared_in (Some ring) first)

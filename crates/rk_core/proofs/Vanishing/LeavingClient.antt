@@ -120,6 +120,7 @@ none_go w n none = same_rings _ _ (λ q.
 
 -- ---- the client goes
 
+-- a client without a context takes nothing with it
 pub leaves_alone : (w : World) (n : ℕ) → context_of w n ≡ None → StayBut (λ k. false) w
     → ◌≡◌ {A = World} (record w { sessions = without_client n w.sessions }) (tidied (gone n w))
 leaves_alone w n none tidy =
@@ -131,6 +132,7 @@ leaves_alone w n none tidy =
       sessions = without_client n w.sessions;
     })
 
+-- a client with a context takes its thread and process rings with it, and a session ring that it shares with none
 pub leaves_with : (w w1 w2 w3 : World) (n : ℕ) (c : Context) (session : Option ℕ) → context_of w n ≡ Some c → w1 ≡ tidied (without_if c.thread w)
     → w2 ≡ tidied (without_if c.process w1) → w3 ≡ tidied (without_if session w2)
     → session ≡ session_goes (is_shared w.sessions n c.session) c.session

@@ -14,6 +14,7 @@ use Rattle.rk_machine.specs.World.{World, tidied}
 use Rattle.rk_core.specs.Vanishing.{stays, StayBut, vanished_at}
 use Rattle.rk_machine.proofs.Found.InMaps.{get_kept_where, get_removed}
 
+-- two worlds that have the same at each serial have the same keys
 pub same_keys : (m n : map.FinMap nat_cmp Key) → ((q : ℕ) → map.get m q ≡ map.get n q) → m ≡ n
 same_keys m n h = map.same_map nat_cmp_total map.nat_cmp-IsAntisymmetric m n h
 
@@ -25,6 +26,7 @@ tidied_at true None = refl
 tidied_at false None = refl
 tidied_at a (Some key) = refl
 
+-- a tidied world has a key exactly where it stays
 pub get_tidied : (w : World) (q : ℕ) → map.get (tidied w).keys q ≡ cond (stays w q) (map.get w.keys q) None
 get_tidied w q = get_kept_where (λ k one. has_link w.rings k || is_building one) w.keys q ∙ tidied_at (has_link w.rings q) (map.get w.keys q)
 
@@ -126,5 +128,6 @@ left_stay w r k h j key is other = by_key (nat_eq r j && not (stays w r)) refl
         let same : map.get (vanished_at r w).keys j ≡ map.get w.keys j = get_settled r w j ∙ ap (λ b. cond b None (map.get w.keys j)) t in
         stays_by (vanished_at r w) w j refl same ∙ by_first (nat_eq j r) refl (found same)
 
+-- where all keys but two stay, taking away these two tidies the world
 pub two_settle : (w : World) (r k : ℕ) → StayBut (λ j. nat_eq j r || nat_eq j k) w → vanished_at k (vanished_at r w) ≡ tidied w
 two_settle w r k h = one_settles (vanished_at r w) k (left_stay w r k h) ∙ settles_first w r

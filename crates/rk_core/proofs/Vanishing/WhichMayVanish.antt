@@ -75,6 +75,7 @@ unlink_stay w ring k h = λ j key there other.
     (links_kept w.rings (unlinked_in (Some ring) k w).rings j (λ q. stays_unlinked w.rings ring k q j (nat_eq_equiv.symm k j ∙ other))) refl
     (h j key there refl)
 
+-- after a key is unlinked, only that key may vanish
 pub unlink_tidies : (w : World) (ring k : ℕ) → StayBut (λ j. false) w → vanished_at k (unlinked_in (Some ring) k w) ≡ tidied (unlinked_in (Some ring) k w)
 unlink_tidies w ring k h = one_settles (unlinked_in (Some ring) k w) k (unlink_stay w ring k h)
 
@@ -91,6 +92,7 @@ other_key w now k condition j other = by_unspent (is_some (unspent w.sessions k)
         (nat_eq_equiv.symm k j ∙ other)
     by_unspent false = refl
 
+-- after a key's handler ends, only that key may vanish
 pub end_tidies : (w : World) (now k : ℕ) (condition : Condition) → StayBut (λ j. false) w
     → vanished_at k (ended now k condition w) ≡ tidied (ended now k condition w)
 end_tidies w now k condition h =
@@ -113,6 +115,7 @@ completed_stay w now k condition end some h = λ j key there other.
 
 -- ---- a ring is dropped
 
+-- a ring may be cleared and tidied before it is dropped
 pub drop_tidies : (w : World) (ring : ℕ) → without_ring ring (tidied (cleared_in (Some ring) w)) ≡ tidied (without_ring ring w)
 drop_tidies w ring = λ i. record w { keys = keys i; rings = rings i }
   where

@@ -18,7 +18,7 @@ use Rattle.rk_machine.proofs.Found.InMaps.{get_changed_at}
 use Rattle.rk_core.proofs.LinksAndNames.LinksAfter.{tied_itself}
 use Rattle.rk_core.proofs.tables.Tables.complete.Goals as goal
 
--- a key that is there is completed, and its waits are told
+-- a key that is there is completed, and its waits get the outcome
 done_as : (w : World) (now k : ℕ) (condition : Condition) (end : Option ℕ) (keys : map.FinMap nat_cmp Key) (sessions : Sessions) (key : Key) (outcome : Outcome)
     → keys ≡ changed_at k (concluded condition end) w.keys → map.get keys k ≡ Some key → outcome ≡ outcome_of k key now
     → sessions ≡ all_told k outcome (spent k w.sessions)

@@ -1,0 +1,6 @@
+use Rattle.std.proofs.Common.{◌≡◌}
+use Rattle.rk_keys.specs.Buckets.{fed_words}
+use Rattle.rk_keys.proofs.naming.feed.Given as goal
+
+abbrev pub invariant-loop-word : goal.invariant-loop-word
+invariant-loop-word l = l.hasher ≡ fed_words l.fn.bytes l.fn.hasher l.word
