@@ -26,9 +26,11 @@ part : {X : Type 0} (P : Option Slot → X) (b : Bool) (o w : Option Slot) → P
 part P true o w = refl
 part P false o w = refl
 
+-- after a change of the slot at k, what is read at k is read of the changed slot, and at every other place as before
 pub changed : {X : Type 0} (P : Option Slot → X) (k : ℕ) (f : Slot → Slot) (m : Slots) (q : ℕ) → P (get (changed_at k f m) q) ≡ cond (nat_eq k q) (P (option_map f (get m q))) (P (get m q))
 changed P k f m q = ap P (get_changed_at k f m q) ∙ part P (nat_eq k q) (option_map f (get m q)) (get m q)
 
+-- a change of one slot leaves what P reads at every place, where it leaves what P reads of a slot
 pub untouched : {X : Type 0} (P : Option Slot → X) (k : ℕ) (f : Slot → Slot) → ((o : Option Slot) → P (option_map f o) ≡ P o) → (m : Slots) (q : ℕ) → P (get (changed_at k f m) q) ≡ P (get m q)
 untouched P k f same m q = changed P k f m q ∙ ap (λ x. cond (nat_eq k q) x (P (get m q))) (same (get m q)) ∙ same_cond (nat_eq k q) (P (get m q))
 
@@ -154,6 +156,7 @@ module _ (m : Slots) (chained : AreChained m) where
   pub none_before : (j h : ℕ) → home_at m j ≡ Some h → before_at m j ≡ None → first_at m h ≡ Some j
   none_before j h home e = first_is (next_at m) (before_at m) j None (first_at m h) (chained h).0 (chained h).1.linked (in_chain j h home) e
 
+  -- the first of a chain is in the chain that h heads, and none stands before it
   pub heads : (j h : ℕ) → first_at m h ≡ Some j → (home_at m j ≡ Some h) × (before_at m j ≡ None)
   heads j h e =
       let head = head_is (next_at m) (before_at m) j None (first_at m h) (chained h).0 (chained h).1.linked e in
@@ -182,6 +185,7 @@ pub record IsTaken (m n : Slots) (j : ℕ) : Type 0 where
   pub firsts : (q : ℕ) → first_at n q ≡ over (next_at m) j (first_at m q)
   pub homes : (q : ℕ) → home_at n q ≡ cond (nat_eq j q) None (home_at m q)
 
+-- slots stay chained where one is taken out of its chain
 pub chained_taken : (m n : Slots) (j : ℕ) → AreChained m → IsTaken m n j → AreChained n
 chained_taken m n j chained taken h =
     let xs : List ℕ = (chained h).0 in (
@@ -242,6 +246,7 @@ module _ (m n : Slots) (j h : ℕ) (chained : AreChained m) (idle : home_at m j 
     ];
   }
 
+  -- slots stay chained where one is put in front of a chain
   pub chained_put : AreChained n
   chained_put g = elim (cases_eq h g) [
     | inl e ↦ subst (λ x. (xs : List ℕ) × IsChainOf n x xs) e (j ∷ (chained h).0, put_here)
@@ -309,6 +314,7 @@ module _ (m : Slots) (j h : ℕ) (chained : AreChained m) (idle : home_at m j �
             ∙ sym (at_apart h q (Some j) (first_at m q) ne)
       ]
 
+  -- the three changes put j in front of the chain that h heads
   pub is_put : (n : Option ℕ) → n ≡ first_at m h → IsPut m (put_3 n) j h
   is_put n is = record {
     next = last_left next_in (before_next (Some j)) n j ∙ next_2 j ∙ touched next_in j (with_link (Some put_link)) m j refl ∙ next_linked put_link (get m j) there;
@@ -328,6 +334,7 @@ module _ (m : Slots) (j h : ℕ) (chained : AreChained m) (idle : home_at m j �
     ];
   }
 
+  -- putting a slot in front of a chain leaves who stands at each place
   pub put_standing : (n : Option ℕ) (q : ℕ) → standing_at (put_3 n) q ≡ standing_at m q
   put_standing n q =
       last_left standing_in (before_standing (Some j)) n q ∙ untouched standing_in h (with_first (Some j)) (first_standing (Some j)) put_1 q
@@ -412,6 +419,7 @@ module _ (m : Slots) (j : ℕ) (l : Link) (chained : AreChained m) (at : link_in
         ∙ sym (over_other (before_at m) j (before_at m q) (λ e. ne (same_Some y q (is ∙ sym next_is ∙ on m chained j q e))))
   ]
 
+  -- the three changes take j out of its chain
   pub is_taken : (b n : Option ℕ) → b ≡ l.before → n ≡ l.next → IsTaken m (out_3 b n) j
   is_taken b n b_is n_is = record {
     nexts = λ q ne. passed next_in j (with_link None) (out_2 b n) q (λ e. ne (sym e)) ∙ left_2 next_in (before_next l.before) b n q ∙ nexts_1 b b_is q;
@@ -425,6 +433,7 @@ module _ (m : Slots) (j : ℕ) (l : Link) (chained : AreChained m) (at : link_in
     ];
   }
 
+  -- taking a slot out of its chain leaves who stands at each place
   pub out_standing : (b n : Option ℕ) (q : ℕ) → standing_at (out_3 b n) q ≡ standing_at m q
   out_standing b n q =
       untouched standing_in j (with_link None) (link_standing None) (out_2 b n) q ∙ left_2 standing_in (before_standing l.before) b n q

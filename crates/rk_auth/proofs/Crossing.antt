@@ -60,5 +60,6 @@ places_send V v = let g = global_send in search (sendable, crosses) depth 40 fit
 seats_send : IsSend seats.the_row
 seats_send = let s = places_send slot.the_row slot_send in search (sendable, crosses) depth 120 fits 20000
 
+-- sessions and constructions may go to another thread
 pub auths_send : IsSend auths.the_row
 auths_send = let s = seats_send in search (sendable, crosses) depth 40 fits 20000

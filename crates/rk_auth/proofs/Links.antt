@@ -8,19 +8,24 @@ use Rattle.rk_auth.proofs.Lists.{without, at_head, in_tail, not_head, none_head}
 
 -- ---- choices by number
 
+-- the choice by two equal places is the first
 pub at_same : {X : Type 0} (k q : ℕ) (x y : X) → k ≡ q → cond (nat_eq k q) x y ≡ x
 at_same k q x y e = ap (λ b. cond b x y) (eq-eqb k q e)
 
+-- the choice by two different places is the second
 pub at_apart : {X : Type 0} (k q : ℕ) (x y : X) → (k ≡ q → ⊥) → cond (nat_eq k q) x y ≡ y
 at_apart k q x y ne = ap (λ b. cond b x y) (ne_eqb k q ne)
 
+-- an option that names j is j
 pub named_is : (o : Option ℕ) (j : ℕ) → names o j ≡ true → o ≡ Some j
 named_is None j t = absurd (both_ways _ refl t)
 named_is (Some x) j t = ap (λ n. Some n) (eqb-true x j t)
 
+-- an option that is j names j
 pub is_named : (o : Option ℕ) (j : ℕ) → o ≡ Some j → names o j ≡ true
 is_named o j e = ap (λ x. names x j) e ∙ eq-eqb j j refl
 
+-- an option that is not j does not name j
 pub not_named : (o : Option ℕ) (j : ℕ) → (o ≡ Some j → ⊥) → names o j ≡ false
 not_named None j ne = refl
 not_named (Some x) j ne = ne_eqb x j (λ e. ne (ap (λ n. Some n) e))
@@ -29,9 +34,11 @@ not_named (Some x) j ne = ne_eqb x j (λ e. ne (ap (λ n. Some n) e))
 abbrev pub over : (ℕ → Option ℕ) → ℕ → Option ℕ → Option ℕ
 over f j o = cond (names o j) (f j) o
 
+-- where j stood, what stands for it is taken
 pub over_named : (f : ℕ → Option ℕ) (j : ℕ) (o : Option ℕ) → o ≡ Some j → over f j o ≡ f j
 over_named f j o e = ap (λ b. cond b (f j) o) (is_named o j e)
 
+-- where j did not stand, nothing changes
 pub over_other : (f : ℕ → Option ℕ) (j : ℕ) (o : Option ℕ) → (o ≡ Some j → ⊥) → over f j o ≡ o
 over_other f j o ne = ap (λ b. cond b (f j) o) (not_named o j ne)
 
@@ -40,6 +47,7 @@ over_stays f j o e = elim (names o j) as (λ b. cond b (f j) o ≡ f j) [ true �
 
 -- ---- a chain that nothing touches
 
+-- a chain is still one where next and before are as they were at its places
 pub frame : (nx bf nx' bf' : ℕ → Option ℕ) (from at : Option ℕ) (xs : List ℕ) → ((q : ℕ) → has xs q ≡ true → nx' q ≡ nx q)
     → ((q : ℕ) → has xs q ≡ true → bf' q ≡ bf q) → IsChain nx bf from at xs → IsChain nx' bf' from at xs
 frame nx bf nx' bf' from at [] sn sb h = h
@@ -52,6 +60,7 @@ frame nx bf nx' bf' from at (x ∷ xs) sn sb h = (
 
 -- ---- one in front
 
+-- a place put in front of a chain makes a chain, where the old first has it before it and nothing else changes
 pub in_front : (nx bf nx' bf' : ℕ → Option ℕ) (j : ℕ) (at : Option ℕ) (xs : List ℕ) → EachOnce xs → nx' j ≡ at → bf' j ≡ None
     → ((q : ℕ) → has xs q ≡ true → nx' q ≡ nx q) → ((q : ℕ) → has xs q ≡ true → bf' q ≡ cond (names at q) (Some j) (bf q))
     → IsChain nx bf None at xs → IsChain nx' bf' None (Some j) (j ∷ xs)
@@ -74,6 +83,7 @@ not_first : (nx bf : ℕ → Option ℕ) (j : ℕ) (from at : Option ℕ) (xs : 
 not_first nx bf j from at [] h absent e = none-some j (sym h ∙ e)
 not_first nx bf j from at (x ∷ xs) h absent e = none_head x xs j absent (same_Some x j (sym h.0 ∙ e))
 
+-- a chain without one of its places is a chain, where its neighbours are joined
 pub taken_from : (nx bf nx' bf' : ℕ → Option ℕ) (j : ℕ) (from at : Option ℕ) (xs : List ℕ) → EachOnce xs
     → ((q : ℕ) → (q ≡ j → ⊥) → nx' q ≡ over nx j (nx q)) → ((q : ℕ) → (q ≡ j → ⊥) → bf' q ≡ over bf j (bf q))
     → IsChain nx bf from at xs → IsChain nx' bf' (over bf j from) (over nx j at) (without j xs)
@@ -101,6 +111,7 @@ taken_from nx bf nx' bf' j from at (x ∷ xs) once sn sb h =
 
 -- ---- next and before say the same
 
+-- the first place is in the chain, and has before it what the chain has
 pub head_is : (nx bf : ℕ → Option ℕ) (y : ℕ) (from at : Option ℕ) (xs : List ℕ) → IsChain nx bf from at xs → at ≡ Some y → (bf y ≡ from) × (has xs y ≡ true)
 head_is nx bf y from at [] h e = absurd (none-some y (sym h ∙ e))
 head_is nx bf y from at (x ∷ xs) h e =
@@ -110,6 +121,7 @@ head_is nx bf y from at (x ∷ xs) h e =
 in_rest : (x : ℕ) (xs : List ℕ) (q : ℕ) → (x ≡ q → ⊥) → has (x ∷ xs) q ≡ true → has xs q ≡ true
 in_rest x xs q ne t = sym (ap (λ b. b || has xs q) (ne_eqb x q ne)) ∙ t
 
+-- the place that follows one of the chain has that one before it, and is in the chain
 pub next_back : (nx bf : ℕ → Option ℕ) (x y : ℕ) (from at : Option ℕ) (xs : List ℕ) → IsChain nx bf from at xs → has xs x ≡ true → nx x ≡ Some y
     → (bf y ≡ Some x) × (has xs y ≡ true)
 next_back nx bf x y from at [] h t e = absurd (both_ways _ refl t)
@@ -122,6 +134,7 @@ next_back nx bf x y from at (z ∷ xs) h t e = elim (cases_eq z x) [
       (rest.0, in_tail z xs y rest.1)
 ]
 
+-- what stands before a place of the chain is followed by it, or stands before the whole chain
 pub before_on : (nx bf : ℕ → Option ℕ) (x y : ℕ) (from at : Option ℕ) (xs : List ℕ) → IsChain nx bf from at xs → has xs y ≡ true → bf y ≡ Some x
     → ((from ≡ Some x) × (at ≡ Some y)) ⊎ (nx x ≡ Some y)
 before_on nx bf x y from at [] h t e = absurd (both_ways _ refl t)
@@ -140,6 +153,7 @@ has_before nx bf w y at (z ∷ xs) h t e = elim (cases_eq z y) [
   | inr ne ↦ has_before nx bf z y (nx z) xs h.2 (in_rest z xs y ne t) e
 ]
 
+-- a place of the chain with none before it is the first
 pub first_is : (nx bf : ℕ → Option ℕ) (y : ℕ) (from at : Option ℕ) (xs : List ℕ) → IsChain nx bf from at xs → has xs y ≡ true → bf y ≡ None → at ≡ Some y
 first_is nx bf y from at [] h t e = absurd (both_ways _ refl t)
 first_is nx bf y from at (z ∷ xs) h t e = elim (cases_eq z y) [

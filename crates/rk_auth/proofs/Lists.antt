@@ -13,6 +13,7 @@ no_more : (b : Bool) → cond b false false ≡ false
 no_more true = refl
 no_more false = refl
 
+-- a list without j has every place that it had, but not j
 pub has_without : (j : ℕ) (xs : List ℕ) (q : ℕ) → has (without j xs) q ≡ cond (nat_eq j q) false (has xs q)
 has_without j [] q = sym (no_more (nat_eq j q))
 has_without j (x ∷ xs) q = elim (cases_eq x j) [
@@ -37,6 +38,7 @@ has_without j (x ∷ xs) q = elim (cases_eq x j) [
           ∙ sym (ap (λ b. cond b false (nat_eq x q || has xs q)) (ne_eqb j q other))
     ]
 
+-- a list in which none stands twice keeps that without j
 pub once_without : (j : ℕ) (xs : List ℕ) → EachOnce xs → EachOnce (without j xs)
 once_without j [] h = tt
 once_without j (x ∷ xs) h = elim (cases_eq x j) [
@@ -48,6 +50,7 @@ once_without j (x ∷ xs) h = elim (cases_eq x j) [
 pub at_head : (x : ℕ) (xs : List ℕ) → has (x ∷ xs) x ≡ true
 at_head x xs = ap (λ b. b || has xs x) (eq-eqb x x refl)
 
+-- a place of the rest is a place of the list
 pub in_tail : (x : ℕ) (xs : List ℕ) (q : ℕ) → has xs q ≡ true → has (x ∷ xs) q ≡ true
 in_tail x xs q t = ap (λ b. nat_eq x q || b) t ∙ either (nat_eq x q)
   where

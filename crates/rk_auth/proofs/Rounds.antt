@@ -60,6 +60,7 @@ pub record IsRound (f : Slot → Slot) (old now : Slots) (h : ℕ) (at : Option 
   pub leads : (xs : List ℕ) → IsChainOf old h xs → changed_each_at f left now ≡ changed_each_at f xs old
   pub short : length left + step ≤ end
 
+-- a round begins at the first of a chain, with as many steps as there may be places
 pub round_begins : (f : Slot → Slot) (m : Slots) (h : ℕ) (at : Option ℕ) (n : ℕ) → AreChained m → at ≡ first_at m h
     → ((ps : List ℕ) → EachOnce ps → ((p : ℕ) → has ps p ≡ true → is_some (get m p) ≡ true) → length ps ≤ n)
     → IsRound f m m h at 0 n
@@ -73,6 +74,7 @@ round_begins f m h at n chained is most =
       short = omega (arith, few);
     }
 
+-- a round that changes the place at which it is, and goes on to the next, is still that round
 pub round_goes_on : (f : Standing → Standing) (old now new : Slots) (h : ℕ) (at : Option ℕ) (p : ℕ) (then : Option ℕ) (step end : ℕ) → IsRound (in_standing f) old now h at step end
     → at ≡ Some p → new ≡ changed_at p (in_standing f) now → then ≡ next_at new p → IsRound (in_standing f) old new h then (step + 1) end
 round_goes_on f old now new h at p then step end round is by next = by_left round.left round.way round.leads round.short
@@ -108,11 +110,13 @@ no_length : (left : List ℕ) → length left ≤ 0 → left ≡ []
 no_length [] le = refl
 no_length (x ∷ xs) le = absurd (omega (arith, le))
 
+-- a round that is at no place has changed each of the chain
 pub round_ends : (f : Slot → Slot) (old now : Slots) (h : ℕ) (at : Option ℕ) (step end : ℕ) → IsRound f old now h at step end → at ≡ None
     → (xs : List ℕ) → IsChainOf old h xs → now ≡ changed_each_at f xs old
 round_ends f old now h at step end round is =
     none_left f old now h round.left (at_end (next_at now) round.left (subst (λ o. IsWay (next_at now) o round.left) is round.way)) round.leads
 
+-- a round that has used its steps has changed each of the chain
 pub round_is_over : (f : Slot → Slot) (old now : Slots) (h : ℕ) (at : Option ℕ) (step end : ℕ) → IsRound f old now h at step end → end ≤ step
     → (xs : List ℕ) → IsChainOf old h xs → now ≡ changed_each_at f xs old
 round_is_over f old now h at step end round le =
@@ -126,6 +130,7 @@ pub record IsLoosened (old now : Slots) (h other step end : ℕ) : Type 0 where
   pub homes : (q : ℕ) → rehomed h other (home_at now q) ≡ rehomed h other (home_at old q)
   pub short : (xs : List ℕ) → IsChainOf now h xs → length xs + step ≤ end
 
+-- taking a chain over to another begins with no step made, and with as many steps as there may be places
 pub loosening_begins : (m : Slots) (h other n : ℕ) → AreChained m
     → ((ps : List ℕ) → EachOnce ps → ((p : ℕ) → has ps p ≡ true → is_some (get m p) ≡ true) → length ps ≤ n) → IsLoosened m m h other 0 n
 loosening_begins m h other n chained most = record {
@@ -140,12 +145,15 @@ is_standing : (o : Option Slot) → is_some (standing_in o) ≡ is_some o
 is_standing None = refl
 is_standing (Some s) = refl
 
+-- where the same one stands at a place, its slot is still there
 pub there_still : (m n : Slots) (q : ℕ) → standing_at n q ≡ standing_at m q → is_some (get m q) ≡ true → is_some (get n q) ≡ true
 there_still m n q same t = sym (is_standing (get n q)) ∙ ap is_some same ∙ is_standing (get m q) ∙ t
 
+-- the first place of a chain has a slot
 pub there_first : (m : Slots) (h p : ℕ) → AreChained m → first_at m h ≡ Some p → is_some (get m p) ≡ true
 there_first m h p chained e = is_there (get m p) h (heads m chained p h e).0
 
+-- taking the first place out of its chain and putting it into the other is one step
 pub loosening_goes_on : (old now mid new : Slots) (h other p step end : ℕ) → IsLoosened old now h other step end → (other ≡ h → ⊥) → first_at now h ≡ Some p
     → ((q : ℕ) → standing_at mid q ≡ standing_at now q) → ((q : ℕ) → home_at mid q ≡ cond (nat_eq p q) None (home_at now q))
     → AreChained new → ((q : ℕ) → standing_at new q ≡ standing_at mid q) → ((q : ℕ) → home_at new q ≡ cond (nat_eq p q) (Some other) (home_at mid q))
@@ -185,12 +193,14 @@ nobody_left : (old now : Slots) (h other step end : ℕ) → IsLoosened old now 
 nobody_left old now h other step end was nobody q =
     sym (ap (λ b. cond b (Some other) (home_at now q)) (not_named (home_at now q) h (nobody q))) ∙ was.homes q
 
+-- where the chain has no first place any more, all that were in it are in the other
 pub loosened : (old now : Slots) (h other step end : ℕ) → IsLoosened old now h other step end → None ≡ first_at now h → (q : ℕ) → home_at now q ≡ rehomed h other (home_at old q)
 loosened old now h other step end was none =
     let all = was.chained h in
     nobody_left old now h other step end was (empty_chain now h all.0 all.1 (at_end (next_at now) all.0
     (subst (λ o. IsWay (next_at now) o all.0) (sym none) (way_of (next_at now) (before_at now) None (first_at now h) all.0 all.1.linked))))
 
+-- where the steps are used, all that were in the chain are in the other
 pub loosened_at_last : (old now : Slots) (h other step end : ℕ) → IsLoosened old now h other step end → end ≤ step → (q : ℕ) → home_at now q ≡ rehomed h other (home_at old q)
 loosened_at_last old now h other step end was le =
     let all = was.chained h in

@@ -58,17 +58,20 @@ some_name a b e = same_Some a b (same_Some (Some a) (Some b) e)
 apart_places : (m : Slots) (i j : ℕ) (a b : SessionId) → who_at m i ≡ Some (Some a) → who_at m j ≡ Some (Some b) → (a ≡ b → ⊥) → i ≡ j → ⊥
 apart_places m i j a b at too ne e = ne (some_name a b (sym at ∙ ap (who_at m) e ∙ too))
 
+-- the slot of a session is not the slot of nobody
 pub not_nobody : (m : Slots) (i j : ℕ) (a : SessionId) → who_at m i ≡ Some (Some a) → who_at m j ≡ Some None → i ≡ j → ⊥
 not_nobody m i j a at nobody e = none-some a (same_Some None (Some a) (sym nobody ∙ sym (ap (who_at m) e) ∙ at))
 
 -- ---- what is read
 
+-- a slot in which client n stands is read as that client
 pub client_read : (o : Option Standing) (n : ℕ) → option_map who_of o ≡ Some (Some (id.Client n)) → client_named n o ≡ Some (client_of o)
 client_read None n e = absurd (none-some (Some (id.Client n)) e)
 client_read (Some standing.Nobody) n e = absurd (none-some (id.Client n) (same_Some None (Some (id.Client n)) e))
 client_read (Some (standing.Client own s)) n e = ap (λ b. cond b (Some s) None) (eq-eqb own n (same_client own n (some_name (id.Client own) (id.Client n) e)))
 client_read (Some (standing.Construction k c)) n e = absurd (not_both n k (sym (some_name (id.Handler k) (id.Client n) e)))
 
+-- a slot in which the construction of k stands is read as that construction
 pub construction_read : (o : Option Standing) (k : ℕ) → option_map who_of o ≡ Some (Some (id.Handler k)) → construction_named k o ≡ Some (construction_of o)
 construction_read None k e = absurd (none-some (Some (id.Handler k)) e)
 construction_read (Some standing.Nobody) k e = absurd (none-some (id.Handler k) (same_Some None (Some (id.Handler k)) e))
@@ -77,12 +80,14 @@ construction_read (Some (standing.Construction own c)) k e = ap (λ b. cond b (S
 
 -- ---- what a change makes
 
+-- a change of who stands in a client's slot changes that client's session
 pub made_client : (g : Session → Session) (o : Option Standing) (n : ℕ) → option_map who_of o ≡ Some (Some (id.Client n)) → client_of (option_map (in_session g) o) ≡ g (client_of o)
 made_client g None n e = absurd (none-some (Some (id.Client n)) e)
 made_client g (Some standing.Nobody) n e = absurd (none-some (id.Client n) (same_Some None (Some (id.Client n)) e))
 made_client g (Some (standing.Client own s)) n e = refl
 made_client g (Some (standing.Construction k c)) n e = absurd (not_both n k (sym (some_name (id.Handler k) (id.Client n) e)))
 
+-- a change of the session in a construction's slot changes its handler's session
 pub made_handler : (g : Session → Session) (o : Option Standing) (k : ℕ) → option_map who_of o ≡ Some (Some (id.Handler k))
     → construction_of (option_map (in_session g) o) ≡ in_handler g (construction_of o)
 made_handler g None k e = absurd (none-some (Some (id.Handler k)) e)
@@ -97,11 +102,13 @@ made_construction h (Some standing.Nobody) k e = absurd (none-some (id.Handler k
 made_construction h (Some (standing.Client n s)) k e = absurd (not_both n k (some_name (id.Client n) (id.Handler k) e))
 made_construction h (Some (standing.Construction own c)) k e = refl
 
+-- a change of a session leaves whose it is
 pub session_who : (g : Session → Session) (s : Standing) → who_of (in_session g s) ≡ who_of s
 session_who g standing.Nobody = refl
 session_who g (standing.Client n s) = refl
 session_who g (standing.Construction k c) = refl
 
+-- a change of a construction leaves whose it is
 pub construction_who : (h : Construction → Construction) (s : Standing) → who_of (in_construction h s) ≡ who_of s
 construction_who h standing.Nobody = refl
 construction_who h (standing.Client n s) = refl
@@ -112,6 +119,7 @@ construction_who h (standing.Construction k c) = refl
 abbrev pub View : Slots → Index → Index → Sessions
 View m clients constructions = record { constructions = seen construction_of m constructions; clients = seen client_of m clients }
 
+-- equal constructions and equal clients make equal sessions
 pub views : (a b : FinMap nat_cmp Construction) (c d : FinMap nat_cmp Session) → a ≡ b → c ≡ d
     → ◌≡◌ {A = Sessions} (record { constructions = a; clients = c }) (record { constructions = b; clients = d })
 views a b c d e f i = record { constructions = e i; clients = f i }
@@ -126,6 +134,7 @@ module _ (m n : Slots) (clients constructions : Index) (nobody : ℕ) (tied : Is
     elsewhere : (q : ℕ) → (p ≡ q → ⊥) → standing_at n q ≡ standing_at m q
     elsewhere q ne = stands q ∙ at_apart p q (option_map f (standing_at m q)) (standing_at m q) ne
 
+  -- a session that is changed in its slot is changed in the view, and no other is
   pub changed_view : (g : Session → Session) (s : SessionId) (p : ℕ) → place_of clients constructions s ≡ Some p
       → ((q : ℕ) → standing_at n q ≡ cond (nat_eq p q) (option_map (in_session g) (standing_at m q)) (standing_at m q))
       → View n clients constructions ≡ session_changed s g (View m clients constructions)
@@ -145,6 +154,7 @@ module _ (m n : Slots) (clients constructions : Index) (nobody : ℕ) (tied : Is
       (seen_same client_of m n clients (λ q j at. ap client_of (elsewhere (in_session g) p stands j
       (apart_places m p j (id.Handler k) (id.Client q) (tied.heads k p is) (named q j at) (λ e. not_both q k (sym e))))))
 
+  -- a construction that is changed in its slot is changed in the view, and no other is
   pub construction_view : (h : Construction → Construction) (k p : ℕ) → get constructions k ≡ Some p
       → ((q : ℕ) → standing_at n q ≡ cond (nat_eq p q) (option_map (in_construction h) (standing_at m q)) (standing_at m q))
       → View n clients constructions ≡ record { constructions = changed_at k h (seen construction_of m constructions); clients = seen client_of m clients }
@@ -157,6 +167,7 @@ module _ (m n : Slots) (clients constructions : Index) (nobody : ℕ) (tied : Is
       (seen_same client_of m n clients (λ q j at. ap client_of (elsewhere (in_construction h) p stands j
       (apart_places m p j (id.Handler k) (id.Client q) (tied.heads k p is) (named q j at) (λ e. not_both q k (sym e))))))
 
+-- a change of a session that has no slot leaves the view
 pub unchanged_view : (m : Slots) (clients constructions : Index) (g : Session → Session) (s : SessionId) → place_of clients constructions s ≡ None
     → View m clients constructions ≡ session_changed s g (View m clients constructions)
 unchanged_view m clients constructions g (id.Client k) none =
@@ -166,6 +177,7 @@ unchanged_view m clients constructions g (id.Handler k) none =
     views (seen construction_of m constructions) (changed_at k (in_handler g) (seen construction_of m constructions)) (seen client_of m clients) (seen client_of m clients)
     (seen_unchanged construction_of m constructions k (in_handler g) none) refl
 
+-- a change of a construction that has no slot leaves the view
 pub unchanged_construction : (m : Slots) (clients constructions : Index) (h : Construction → Construction) (k : ℕ) → get constructions k ≡ None
     → View m clients constructions ≡ record { constructions = changed_at k h (seen construction_of m constructions); clients = seen client_of m clients }
 unchanged_construction m clients constructions h k none =
@@ -193,6 +205,7 @@ standing_there : (m : Slots) (q : ℕ) (w : Option SessionId) → who_at m q ≡
 standing_there m q w e none = none-some w (sym (ap (option_map who_of) none) ∙ e)
 
 module _ (m n : Slots) (st : Standing) (p : ℕ) (new : standing_at m p ≡ None) (stands : (q : ℕ) → standing_at n q ≡ cond (nat_eq p q) (Some st) (standing_at m q)) where
+  -- who is put at a place stands there
   pub put_at : standing_at n p ≡ Some st
   put_at = stands p ∙ at_same p p (Some st) (standing_at m p) refl
 
@@ -205,6 +218,7 @@ module _ (m n : Slots) (st : Standing) (p : ℕ) (new : standing_at m p ≡ None
   put_who : (q : ℕ) (w : Option SessionId) → who_at m q ≡ Some w → who_at n q ≡ Some w
   put_who q w e = ap (option_map who_of) (put_elsewhere q (put_not q w e)) ∙ e
 
+  -- one who waits for nothing may take a place, and the slots stay tied
   pub tied_put : (index : Index) (nobody : ℕ) → IsTied m index nobody → waited_of st ≡ None → AreChained n → ((q : ℕ) → home_at n q ≡ home_at m q) → IsTied n index nobody
   tied_put index nobody tied idle chained homes = record {
     chained = chained;
@@ -250,6 +264,7 @@ key_of : (index : Index) (o : Option ℕ) (p : ℕ) → option_and_then (get ind
 key_of index None p e = absurd (none-some p e)
 key_of index (Some k) p e = (k, e)
 
+-- no chain is headed by a client's slot
 pub nobody_homes : (m : Slots) (index : Index) (nobody n p : ℕ) → IsTied m index nobody → who_at m p ≡ Some (Some (id.Client n)) → (q : ℕ) → home_at m q ≡ Some p → ⊥
 nobody_homes m index nobody n p tied who q e = elim (tied.homes q p e) [
   | inl same ↦ not_nobody m p nobody (id.Client n) who tied.nobody_there same
@@ -258,6 +273,7 @@ nobody_homes m index nobody n p tied who q e = elim (tied.homes q p e) [
       apart_places m p p (id.Client n) (id.Handler key.0) who (tied.heads key.0 p key.1) (not_both n key.0) refl
 ]
 
+-- who is named at a place stands there
 pub is_standing_there : (m : Slots) (q : ℕ) (w : Option SessionId) → who_at m q ≡ Some w → is_some (standing_at m q) ≡ true
 is_standing_there m q w e = elim (standing_at m q) as (λ o. option_map who_of o ≡ Some w → is_some o ≡ true) [ None ↦ λ e. absurd (none-some w e) | Some s ↦ λ e. refl ] e
 
@@ -268,6 +284,7 @@ module _ (m n : Slots) (p : ℕ) (stands : (q : ℕ) → standing_at n q ≡ con
   out_here : (q : ℕ) → p ≡ q → standing_at n q ≡ None
   out_here q e = stands q ∙ at_same p q None (standing_at m q) e
 
+  -- a client may give its slot back, and the slots stay tied
   pub tied_out : (index : Index) (nobody k : ℕ) → IsTied m index nobody → who_at m p ≡ Some (Some (id.Client k)) → AreChained n
       → ((q : ℕ) → home_at n q ≡ cond (nat_eq p q) None (home_at m q)) → IsTied n index nobody
   tied_out index nobody k tied who chained homes = record {
@@ -287,6 +304,7 @@ module _ (m n : Slots) (p : ℕ) (stands : (q : ℕ) → standing_at n q ≡ con
     nobody_there = ap (option_map who_of) (out_elsewhere nobody (not_nobody m p nobody (id.Client k) who tied.nobody_there)) ∙ tied.nobody_there;
   }
 
+-- where a chain was taken over from p, none is in the chain of p
 pub not_homed : (p nobody : ℕ) (o : Option ℕ) → (nobody ≡ p → ⊥) → rehomed p nobody o ≡ Some p → ⊥
 not_homed p nobody o ne e = elim (names o p) as (λ b. names o p ≡ b → cond b (Some nobody) o ≡ Some p → ⊥) [
   | true ↦ λ t e. ne (same_Some nobody p e)
@@ -307,6 +325,7 @@ key_left : (index : Index) (k p h : ℕ) (o : Option ℕ) → get index k ≡ So
 key_left index k p h None is ne e = e
 key_left index k p h (Some q) is ne e = left_in index k q (λ same. ne (same_Some h p (sym e ∙ ap (get index) same ∙ is))) ∙ e
 
+-- the slots stay tied where a construction ends: its chain is taken over by nobody's, and its slot is given back
 pub tied_ended : (m l n : Slots) (index : Index) (nobody k p : ℕ) → IsTied m index nobody → get index k ≡ Some p
     → ((q : ℕ) → standing_at l q ≡ standing_at m q) → ((q : ℕ) → home_at l q ≡ rehomed p nobody (home_at m q)) → AreChained n
     → ((q : ℕ) → standing_at n q ≡ cond (nat_eq p q) None (standing_at l q)) → ((q : ℕ) → home_at n q ≡ cond (nat_eq p q) None (home_at l q))
@@ -345,6 +364,7 @@ tied_ended m l n index nobody k p tied is standing_l homes_l chained standing_n 
 
 module _ (m n : Slots) (clients constructions : Index) (nobody p : ℕ) (tied : IsTied m constructions nobody)
     (named : (q i : ℕ) → get clients q ≡ Some i → who_at m i ≡ Some (Some (id.Client q))) where
+  -- a client that takes a place is in the view, and all others are as they were
   pub client_put_view : (k : ℕ) (s : Session) → standing_at m p ≡ None → ((q : ℕ) → standing_at n q ≡ cond (nat_eq p q) (Some (standing.Client k s)) (standing_at m q))
       → View n (insert clients k p) constructions ≡ record { constructions = seen construction_of m constructions; clients = insert (seen client_of m clients) k s }
   client_put_view k s new stands =
@@ -354,6 +374,7 @@ module _ (m n : Slots) (clients constructions : Index) (nobody p : ℕ) (tied : 
       (seen_put client_of m n clients k p s (ap client_of (put_at m n st p new stands))
       (λ q j at. ap client_of (put_elsewhere m n st p new stands j (put_not m n st p new stands j (Some (id.Client q)) (named q j at)))))
 
+  -- a construction that takes a place is in the view, and all others are as they were
   pub construction_put_view : (k : ℕ) (c : Construction) → standing_at m p ≡ None
       → ((q : ℕ) → standing_at n q ≡ cond (nat_eq p q) (Some (standing.Construction k c)) (standing_at m q))
       → View n clients (insert constructions k p) ≡ record { constructions = insert (seen construction_of m constructions) k c; clients = seen client_of m clients }
@@ -364,6 +385,7 @@ module _ (m n : Slots) (clients constructions : Index) (nobody p : ℕ) (tied : 
       (λ q j at. ap construction_of (put_elsewhere m n st p new stands j (put_not m n st p new stands j (Some (id.Handler q)) (tied.heads q j at)))))
       (seen_same client_of m n clients (λ q j at. ap client_of (put_elsewhere m n st p new stands j (put_not m n st p new stands j (Some (id.Client q)) (named q j at)))))
 
+  -- a client that gives its place back is no more in the view, and all others are as they were
   pub client_out_view : (k : ℕ) → get clients k ≡ Some p → ((q : ℕ) → standing_at n q ≡ cond (nat_eq p q) None (standing_at m q))
       → View n (remove clients k) constructions ≡ record { constructions = seen construction_of m constructions; clients = remove (seen client_of m clients) k }
   client_out_view k is stands =
@@ -373,6 +395,7 @@ module _ (m n : Slots) (clients constructions : Index) (nobody p : ℕ) (tied : 
       (seen_out client_of m n clients k (λ q j ne at. ap client_of (out_elsewhere m n p stands j
       (apart_places m p j (id.Client k) (id.Client q) (named k p is) (named q j at) (λ e. ne (same_client k q e))))))
 
+  -- a construction that gives its place back is no more in the view, and all others are as they were
   pub construction_out_view : (k : ℕ) → get constructions k ≡ Some p → ((q : ℕ) → standing_at n q ≡ cond (nat_eq p q) None (standing_at m q))
       → View n clients (remove constructions k) ≡ record { constructions = remove (seen construction_of m constructions) k; clients = seen client_of m clients }
   construction_out_view k is stands =
@@ -387,6 +410,7 @@ module _ (m n : Slots) (clients constructions : Index) (nobody p : ℕ) (tied : 
       → (q i : ℕ) → get clients q ≡ Some i → who_at n i ≡ Some (Some (id.Client q))
   named_put st new stands q i at = put_who m n st p new stands i (Some (id.Client q)) (named q i at)
 
+  -- each client's number names its slot where a client takes a place
   pub named_new : (k : ℕ) (s : Session) → standing_at m p ≡ None → ((q : ℕ) → standing_at n q ≡ cond (nat_eq p q) (Some (standing.Client k s)) (standing_at m q))
       → (q i : ℕ) → get (insert clients k p) q ≡ Some i → who_at n i ≡ Some (Some (id.Client q))
   named_new k s new stands q i is = elim (cases_eq q k) [
@@ -396,12 +420,14 @@ module _ (m n : Slots) (clients constructions : Index) (nobody p : ℕ) (tied : 
     | inr ne ↦ named_put (standing.Client k s) new stands q i (sym (at_other clients k p q ne) ∙ is)
   ]
 
+  -- each client's number names its slot where a construction gives its place back
   pub named_left : (k : ℕ) → get constructions k ≡ Some p → ((q : ℕ) → standing_at n q ≡ cond (nat_eq p q) None (standing_at m q))
       → (q i : ℕ) → get clients q ≡ Some i → who_at n i ≡ Some (Some (id.Client q))
   named_left k is stands q i at =
       ap (option_map who_of) (out_elsewhere m n p stands i (apart_places m p i (id.Handler k) (id.Client q) (tied.heads k p is) (named q i at) (λ e. not_both q k (sym e))))
       ∙ named q i at
 
+  -- each client's number names its slot where another client gives its place back
   pub named_others : (k : ℕ) → get clients k ≡ Some p → ((q : ℕ) → standing_at n q ≡ cond (nat_eq p q) None (standing_at m q))
       → (q i : ℕ) → get (remove clients k) q ≡ Some i → who_at n i ≡ Some (Some (id.Client q))
   named_others k is stands q i e =
@@ -410,12 +436,14 @@ module _ (m n : Slots) (clients constructions : Index) (nobody p : ℕ) (tied : 
       ap (option_map who_of) (out_elsewhere m n p stands i (apart_places m p i (id.Client k) (id.Client q) (named k p is) (named q i at) (λ s. other (same_client k q s))))
       ∙ named q i at
 
+-- removing a client that has no place leaves the view
 pub not_there_view : (m : Slots) (clients constructions : Index) (k : ℕ) → get clients k ≡ None
     → View m clients constructions ≡ record { constructions = seen construction_of m constructions; clients = remove (seen client_of m clients) k }
 not_there_view m clients constructions k none =
     views (seen construction_of m constructions) (seen construction_of m constructions) (seen client_of m clients) (remove (seen client_of m clients) k) refl
     (seen_not_out client_of m clients k none)
 
+-- removing a construction that has no place leaves the view
 pub not_made_view : (m : Slots) (clients constructions : Index) (k : ℕ) → get constructions k ≡ None
     → View m clients constructions ≡ record { constructions = remove (seen construction_of m constructions) k; clients = seen client_of m clients }
 not_made_view m clients constructions k none =
@@ -426,6 +454,7 @@ not_made_view m clients constructions k none =
 pub one_less : (index : Index) (k p : ℕ) → get index k ≡ Some p → len (remove index k) ≡ len index - 1
 one_less index k p is = len-remove nat_cmp_total index k ∙ ap (λ o. cond (is_some o) (len index - 1) (len index)) is
 
+-- an index with a name is not empty
 pub one_at_least : (index : Index) (k p : ℕ) → get index k ≡ Some p → 0 < len index
 one_at_least index k p is = elim (len index) as (λ n. len index ≡ n → 0 < len index) [
   | zero ↦ λ none. absurd (none-some p (sym (ap (λ x. get x k) (empty_of_len index none) ∙ get-empty nat_cmp k) ∙ is))
@@ -447,6 +476,7 @@ no_chains m none h = (
   },
 )
 
+-- slots of which nobody has the only one are tied
 pub tied_first : (m : Slots) (index : Index) (p : ℕ) → m ≡ empty → index ≡ empty → IsTied (insert m p (new_slot standing.Nobody)) index p
 tied_first m index p none unnamed =
     let new : get m p ≡ None = nothing_there m none p in
@@ -465,5 +495,6 @@ tied_first m index p none unnamed =
     by_test true o e = refl
     by_test false o e = ap (λ x. is_some (waited_in x)) e
 
+-- an empty index shows nothing
 pub nothing_seen : {V : Type 0} (pick : Option Standing → V) (m : Slots) (index : Index) → index ≡ empty → seen pick m index ≡ empty
 nothing_seen pick m index none = empty_of_len (seen pick m index) (seen_len pick m index ∙ ap len none ∙ len-empty nat_cmp ℕ)

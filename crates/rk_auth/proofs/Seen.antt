@@ -87,9 +87,11 @@ module _ {V : Type 0} where
         get_in (list_map (λ (e : ℕ × ℕ). (e.0, pick (standing_at m e.1))) (entries index)) q ∙ find_named (λ i. pick (standing_at m i)) q (entries index)
         ∙ ap (option_map (λ i. pick (standing_at m i))) (sym (get-entries index q))
 
+    -- what is seen by a name is what stands in its slot
     pub seen_at : (m : Slots) (index : Index) (q i : ℕ) → get index q ≡ Some i → get (seen pick m index) q ≡ Some (pick (standing_at m i))
     seen_at m index q i is = seen_get m index q ∙ ap (option_map (λ i. pick (standing_at m i))) is
 
+    -- nothing is seen by a name that the index does not have
     pub seen_none : (m : Slots) (index : Index) (q : ℕ) → get index q ≡ None → get (seen pick m index) q ≡ None
     seen_none m index q is = seen_get m index q ∙ ap (option_map (λ i. pick (standing_at m i))) is
 
@@ -97,15 +99,18 @@ module _ {V : Type 0} where
     none_unseen None a e = refl
     none_unseen (Some i) a e = absurd (none-some (a i) (sym e))
 
+    -- the index does not have a name by which nothing is seen
     pub unseen : (m : Slots) (index : Index) (q : ℕ) → get (seen pick m index) q ≡ None → get index q ≡ None
     unseen m index q none = none_unseen (get index q) (λ i. pick (standing_at m i)) (sym (seen_get m index q) ∙ none)
 
+    -- as much is seen as the index has names
     pub seen_len : (m : Slots) (index : Index) → len (seen pick m index) ≡ len index
     seen_len m index =
         len_once (list_map (λ (e : ℕ × ℕ). (e.0, pick (standing_at m e.1))) (entries index))
         (once_named (λ i. pick (standing_at m i)) (entries index) (once_sorted (entries index) (entries_sorted index)))
         ∙ length_named (λ i. pick (standing_at m i)) (entries index) ∙ sym (len-entries index)
 
+    -- a test passes one of what is seen exactly where it passes what stands in one of the index's slots
     pub seen_any : (p : ℕ × V → Bool) (m : Slots) (index : Index)
         → list_any p (entries (seen pick m index)) ≡ list_any (λ (e : ℕ × ℕ). p (e.0, pick (standing_at m e.1))) (entries index)
     seen_any p m index =
@@ -123,6 +128,7 @@ module _ {V : Type 0} where
     other_seen m n index q same =
         seen_get n index q ∙ same_seen (λ i. pick (standing_at n i)) (λ i. pick (standing_at m i)) (get index q) same ∙ sym (seen_get m index q)
 
+    -- what is seen by k changes as its slot does, where the others stay
     pub seen_changed : (m n : Slots) (index : Index) (k i : ℕ) (g : V → V) → get index k ≡ Some i → pick (standing_at n i) ≡ g (pick (standing_at m i))
         → ((q j : ℕ) → (k ≡ q → ⊥) → get index q ≡ Some j → pick (standing_at n j) ≡ pick (standing_at m j))
         → seen pick n index ≡ changed_at k g (seen pick m index)
@@ -134,9 +140,11 @@ module _ {V : Type 0} where
       | inr ne ↦ other_seen m n index q (λ j. others q j ne) ∙ sym (get_changed_at k g (seen pick m index) q ∙ at_apart k q _ _ ne)
     ])
 
+    -- a change by a name that the index does not have leaves what is seen
     pub seen_unchanged : (m : Slots) (index : Index) (k : ℕ) (g : V → V) → get index k ≡ None → seen pick m index ≡ changed_at k g (seen pick m index)
     seen_unchanged m index k g none = sym (ap (λ o. option_map_or (λ v. insert (seen pick m index) k (g v)) o (seen pick m index)) (seen_none m index k none))
 
+    -- a name that is added shows what stands in its slot, where the others stay
     pub seen_put : (m n : Slots) (index : Index) (k p : ℕ) (v : V) → pick (standing_at n p) ≡ v
         → ((q j : ℕ) → get index q ≡ Some j → pick (standing_at n j) ≡ pick (standing_at m j))
         → seen pick n (insert index k p) ≡ insert (seen pick m index) k v
@@ -148,6 +156,7 @@ module _ {V : Type 0} where
           ∙ sym (at_other (seen pick m index) k v q ne)
     ])
 
+    -- a name that is removed is not seen any more, where the others stay
     pub seen_out : (m n : Slots) (index : Index) (k : ℕ) → ((q j : ℕ) → (k ≡ q → ⊥) → get index q ≡ Some j → pick (standing_at n j) ≡ pick (standing_at m j))
         → seen pick n (remove index k) ≡ remove (seen pick m index) k
     seen_out m n index k others = same_map nat_cmp_total nat_cmp-IsAntisymmetric _ _ (λ q. elim (cases_eq q k) [
@@ -158,12 +167,14 @@ module _ {V : Type 0} where
           ∙ sym (left_in (seen pick m index) k q ne)
     ])
 
+    -- removing a name that the index does not have leaves what is seen
     pub seen_not_out : (m : Slots) (index : Index) (k : ℕ) → get index k ≡ None → seen pick m index ≡ remove (seen pick m index) k
     seen_not_out m index k none = same_map nat_cmp_total nat_cmp-IsAntisymmetric _ _ (λ q. elim (cases_eq q k) [
       | inl e ↦ ap (get (seen pick m index)) e ∙ seen_none m index k none ∙ sym (taken_out (seen pick m index) k q e)
       | inr ne ↦ sym (left_in (seen pick m index) k q ne)
     ])
 
+    -- where each slot of the index changes, all that is seen changes
     pub seen_all : (m n : Slots) (index : Index) (g : V → V) → ((q i : ℕ) → get index q ≡ Some i → pick (standing_at n i) ≡ g (pick (standing_at m i)))
         → seen pick n index ≡ changed_all g (seen pick m index)
     seen_all m n index g to = same_map nat_cmp_total nat_cmp-IsAntisymmetric _ _ (λ q.

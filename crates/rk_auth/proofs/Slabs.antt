@@ -45,27 +45,32 @@ module _ {T : Type 0} where
   abbrev pub facts_of : Slab T → map.FinMap nat_cmp T
   facts_of s = from_entries {R = nat_cmp} (entries s)
 
+  -- the map of a slab has at each place what the slab has
   pub get_place : (s : Slab T) (i : ℕ) → map.get (facts_of s) i ≡ get s i
   get_place s i = get_in (entries s) i ∙ ap (λ q. find nat_cmp q (entries s)) (sym (zero-add i)) ∙ find_from 0 s.slots i
 
+  -- a value that is put at a place of the slab is inserted in its map
   pub put_place : (old new : Slab T) (k : ℕ) (v : T) → Updates old new k (Some v) → facts_of new ≡ map.insert (facts_of old) k v
   put_place old new k v u = same_map nat_cmp_total nat_cmp-IsAntisymmetric _ _ (λ q. elim (cases_eq q k) [
     | inl e ↦ get_place new q ∙ ap (get new) e ∙ u.changed ∙ sym (at_new (facts_of old) k v q e)
     | inr ne ↦ get_place new q ∙ u.others q ne ∙ sym (get_place old q) ∙ sym (at_other (facts_of old) k v q ne)
   ])
 
+  -- a place of the slab that is given back is removed from its map
   pub out_place : (old new : Slab T) (k : ℕ) → Updates old new k None → facts_of new ≡ map.remove (facts_of old) k
   out_place old new k u = same_map nat_cmp_total nat_cmp-IsAntisymmetric _ _ (λ q. elim (cases_eq q k) [
     | inl e ↦ get_place new q ∙ ap (get new) e ∙ u.changed ∙ sym (taken_out (facts_of old) k q e)
     | inr ne ↦ get_place new q ∙ u.others q ne ∙ sym (get_place old q) ∙ sym (left_in (facts_of old) k q ne)
   ])
 
+  -- a value that is changed at a place of the slab is changed in its map
   pub change_place : (s : Slab T) (k : ℕ) (f : T → T) (v w : T) → get s k ≡ Some v → w ≡ f v → facts_of (with_value s k w) ≡ changed_at k f (facts_of s)
   change_place s k f v w is by =
       put_place s (with_value s k w) k w (Updates-with_value s k w (subst IsSome (sym is) refl))
       ∙ ap (map.insert (facts_of s) k) by
       ∙ sym (ap (λ o. option_map_or (λ x. map.insert (facts_of s) k (f x)) o (facts_of s)) (get_place s k ∙ is))
 
+  -- a change at a place where there is nothing leaves the map of the slab
   pub leave_place : (s : Slab T) (k : ℕ) (f : T → T) → get s k ≡ None → facts_of s ≡ changed_at k f (facts_of s)
   leave_place s k f none = sym (ap (λ o. option_map_or (λ x. map.insert (facts_of s) k (f x)) o (facts_of s)) (get_place s k ∙ none))
 
@@ -89,6 +94,7 @@ module _ {T : Type 0} where
       let within : length ps ≤ length (keys (entries s)) = not_more ps (keys (entries s)) once (λ q t. has_key q (entries s) ∙ ap is_some (sym (get_in (entries s) q)) ∙ there q t) in
       omega (arith, within, length_keys (entries s), length-entries s, is)
 
+  -- taking a value out gives one place back, where there was one
   pub room_again : (s t : Slab T) (k : ℕ) (o : Option T) → o ≡ get s k → (t.capacity ≡ s.capacity) → OnSome o (slab_len t + 1 ≡ slab_len s) → OnSome o (slab_len t + 1 ≤ t.capacity)
       → IfNone o (t ≡ s)
       → t.capacity - slab_len t ≡ cond (is_some (map.get (facts_of s) k)) (s.capacity - slab_len s + 1) (s.capacity - slab_len s)

@@ -42,13 +42,16 @@ module _ (m : Slots) (p : ℕ) (st : Standing) (none : get m p ≡ None) where
     | inr ne ↦ ap P (at_other m p (new_slot st) q (λ e. ne (sym e)))
   ]
 
+  -- a new slot leaves the slots chained
   pub put_chained : AreChained m → AreChained (insert m p (new_slot st))
   put_chained chained =
       chained_same m (insert m p (new_slot st)) chained (put_part next_in refl) (put_part before_in refl) (put_part first_in refl) (put_part home_in refl)
 
+  -- a new slot leaves the chain of each place
   pub put_homes : (q : ℕ) → home_at (insert m p (new_slot st)) q ≡ home_at m q
   put_homes = put_part home_in refl
 
+  -- who is put into a new slot stands there, and all others as before
   pub put_stands : (q : ℕ) → standing_at (insert m p (new_slot st)) q ≡ cond (nat_eq p q) (Some st) (standing_at m q)
   put_stands q = elim (cases_eq p q) [
     | inl e ↦ ap standing_in (at_new m p (new_slot st) q (sym e)) ∙ sym (at_same p q (Some st) (standing_at m q) e)
@@ -72,20 +75,24 @@ module _ (m : Slots) (p : ℕ) (idle : home_at m p ≡ None) (chained : AreChain
     | inr ne ↦ ap P (left_in m p q (λ e. ne (sym e)))
   ]
 
+  -- removing a slot that is in no chain and heads none leaves the slots chained
   pub out_chained : AreChained (remove m p)
   out_chained =
       chained_same m (remove m p) chained (out_part next_in (no_next (get m p) idle)) (out_part before_in (no_before (get m p) idle))
       (out_part first_in (none_of (first_at m p) (λ j e. alone j (heads m chained j p e).0))) (out_part home_in idle)
 
+  -- removing a slot that is in no chain leaves the chain of each place
   pub out_homes : (q : ℕ) → home_at (remove m p) q ≡ home_at m q
   out_homes = out_part home_in idle
 
+-- after a slot is removed nobody stands there, and all others as before
 pub out_stands : (m : Slots) (p q : ℕ) → standing_at (remove m p) q ≡ cond (nat_eq p q) None (standing_at m q)
 out_stands m p q = elim (cases_eq p q) [
   | inl e ↦ ap standing_in (taken_out m p q (sym e)) ∙ sym (at_same p q None (standing_at m q) e)
   | inr ne ↦ ap standing_in (left_in m p q (λ e. ne (sym e))) ∙ sym (at_apart p q None (standing_at m q) ne)
 ]
 
+-- where nobody was in the chain of p, nobody is in it once the place p is taken out of its own
 pub still_alone : (p q : ℕ) (o : Option ℕ) → (o ≡ Some p → ⊥) → cond (nat_eq p q) None o ≡ Some p → ⊥
 still_alone p q o h e = elim (cases_eq p q) [
   | inl same ↦ none-some p (sym (at_same p q None o same) ∙ e)
@@ -133,11 +140,13 @@ module _ (f : Standing → Standing) where
   each_part P same [] m q = refl
   each_part P same (x ∷ xs) m q = each_part P same xs (changed_at x (in_standing f) m) q ∙ untouched P x (in_standing f) same m q
 
+  -- a change of who stands at some places leaves the slots chained
   pub each_chained : (xs : List ℕ) (m : Slots) → AreChained m → AreChained (changed_each_at (in_standing f) xs m)
   each_chained xs m chained =
       chained_same m (changed_each_at (in_standing f) xs m) chained (each_part next_in kept_next xs m) (each_part before_in kept_before xs m)
       (each_part first_in kept_first xs m) (each_part home_in kept_home xs m)
 
+  -- a change of who stands at some places leaves the chain of each
   pub each_homes : (xs : List ℕ) (m : Slots) (q : ℕ) → home_at (changed_each_at (in_standing f) xs m) q ≡ home_at m q
   each_homes xs m q = each_part home_in kept_home xs m q
 
@@ -158,12 +167,14 @@ module _ (f : Standing → Standing) where
         ∙ ap (λ o. cond (has xs q) (option_map f o) o) (changed_stands m x q)
         ∙ once_more (nat_eq x q) (has xs q) (standing_at m q)
 
+    -- a change of who stands at each place of a chain changes exactly those whose chain it is
     pub chain_stands : (h : ℕ) (xs : List ℕ) (m : Slots) → IsChainOf m h xs → (q : ℕ)
         → standing_at (changed_each_at (in_standing f) xs m) q ≡ cond (same_home (Some h) (home_at m q)) (option_map f (standing_at m q)) (standing_at m q)
     chain_stands h xs m is q = each_stands xs m q ∙ ap (λ b. cond b (option_map f (standing_at m q)) (standing_at m q)) (is.exact q)
 
 -- ---- who waits stands in a chain
 
+-- a change that leaves who somebody is does so also where it is made by a condition
 pub who_kept : (f : Standing → Standing) → ((s : Standing) → who_of (f s) ≡ who_of s) → (b : Bool) (o : Option Standing) → option_map who_of (cond b (option_map f o) o) ≡ option_map who_of o
 who_kept f same true None = refl
 who_kept f same true (Some s) = ap (λ x. Some x) (same s)
@@ -207,6 +218,7 @@ pub record IsRestood (f : Standing → Standing) (m n : Slots) (p : ℕ) : Type 
   pub stands : (q : ℕ) → standing_at n q ≡ cond (nat_eq p q) (option_map f (standing_at m q)) (standing_at m q)
   pub homes : (q : ℕ) → home_at n q ≡ cond (nat_eq p q) None (home_at m q)
 
+-- a place that is taken out of its chain, and then changed, is restood
 pub restood : (f : Standing → Standing) (m l n : Slots) (p : ℕ) → AreChained l → ((q : ℕ) → standing_at l q ≡ standing_at m q)
     → ((q : ℕ) → home_at l q ≡ cond (nat_eq p q) None (home_at m q)) → n ≡ changed_at p (in_standing f) l → IsRestood f m n p
 restood f m l n p chained standing homes by = record {
@@ -222,18 +234,22 @@ module _ (f : Standing → Standing) (m n : Slots) (index : FinMap nat_cmp ℕ) 
   restood_other : (q : ℕ) → (p ≡ q → ⊥) → standing_at n q ≡ standing_at m q
   restood_other q ne = re.stands q ∙ at_apart p q (option_map f (standing_at m q)) (standing_at m q) ne
 
+  -- the slot that heads the chain of a key is there
   pub home_there : (k h : ℕ) → h ≡ home_for index nobody k → is_some (get n h) ≡ true
   home_there k h e = elim (home_chosen index nobody k h (sym e)) [
     | inl here ↦ who_there n h None (restood_who h ∙ ap (who_at m) here ∙ tied.nobody_there)
     | inr is ↦ who_there n h (Some (id.Handler k)) (restood_who h ∙ tied.heads k h is)
   ]
 
+  -- a restood place is in no chain
   pub restood_idle : home_at n p ≡ None
   restood_idle = re.homes p ∙ at_same p p None (home_at m p) refl
 
+  -- the slots are tied where the restood session waits for nothing
   pub tied_idle : waited_in (standing_at n p) ≡ None → IsTied n index nobody
   tied_idle idle = tied_again m n index nobody p None tied re.chained restood_who restood_other re.homes (ap is_some (sym idle)) (λ h e. absurd (none-some h e))
 
+  -- the slots are tied where the restood session waits for a key and is put into its chain
   pub tied_waiting : (l : Slots) (k h : ℕ) → waited_in (standing_at n p) ≡ Some k → h ≡ home_for index nobody k → AreChained l
       → ((q : ℕ) → standing_at l q ≡ standing_at n q) → ((q : ℕ) → home_at l q ≡ cond (nat_eq p q) (Some h) (home_at n q)) → IsTied l index nobody
   tied_waiting l k h waits home chained standing homes =

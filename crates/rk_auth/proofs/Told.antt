@@ -1,4 +1,4 @@
--- All who wait for a key are told its outcome, where those of two chains are.
+-- All who wait for a key get its outcome, where those of two chains do.
 use Rattle.std.proofs.Common.{◌≡◌, ◌∙◌, ap, sym, subst, refl, ℕ, ◌⊎◌, Bool, true, false, cond, ◌||◌, inl, inr}
 use Rattle.std.specs.Prelude.{Option, Some, None, is_some, nat_eq, option_map, option_and_then}
 use Rattle.std.specs.Ordering.{nat_cmp}
@@ -31,7 +31,7 @@ abbrev Index : Type 0
 Index = FinMap nat_cmp ℕ
 
 module _ (k : ℕ) (outcome : Outcome) where
-  -- ---- one is told
+  -- ---- one gets the outcome
 
   wait_same : (w : Wait) → (w.key ≡ k → ⊥) → told_wait k outcome w ≡ w
   wait_same w ne = ap (λ b. record w { outcome = cond b (Some outcome) w.outcome }) (ne_eqb w.key k ne)
@@ -58,7 +58,7 @@ module _ (k : ℕ) (outcome : Outcome) where
   all_same None ne = refl
   all_same (Some s) ne = ap (λ x. Some x) (standing_same s ne)
 
-  -- ---- to be told twice is to be told once
+  -- ---- getting an outcome twice is as getting it once
 
   shadow : (b : Bool) (x y : Option Outcome) → cond b x (cond b x y) ≡ cond b x y
   shadow true x y = refl
@@ -77,12 +77,13 @@ module _ (k : ℕ) (outcome : Outcome) where
   stage_twice Piped = refl
   stage_twice Negating = refl
 
+  -- getting the outcome of a key twice is as getting it once
   pub standing_twice : (s : Standing) → in_session (told k outcome) (in_session (told k outcome) s) ≡ in_session (told k outcome) s
   standing_twice standing.Nobody = refl
   standing_twice (standing.Client n s) = ap (standing.Client n) (session_twice s)
   standing_twice (standing.Construction q c) = ap {B = Standing} (λ x. standing.Construction q (record c { stage = x })) (stage_twice c.stage)
 
-  -- ---- who is told waits as before
+  -- ---- who gets the outcome waits as before
 
   waits_kept : (o : Option Wait) → option_map (λ (w : Wait). w.key) (option_map (told_wait k outcome) o) ≡ option_map (λ (w : Wait). w.key) o
   waits_kept None = refl
@@ -103,7 +104,7 @@ module _ (k : ℕ) (outcome : Outcome) where
   kept None = refl
   kept (Some s) = standing_kept s
 
-  -- ---- two chains are told
+  -- ---- two chains get the outcome
 
   twice : (o : Option Standing) → option_map (in_session (told k outcome)) (option_map (in_session (told k outcome)) o) ≡ option_map (in_session (told k outcome)) o
   twice None = refl
@@ -133,6 +134,7 @@ module _ (k : ℕ) (outcome : Outcome) where
   some_home None p v e same = absurd (both_ways _ refl (same ∙ ap is_some e))
   some_home (Some h) p v e same = (h, refl)
 
+  -- a round through the chain of the key, and one through nobody's, give the outcome to both
   pub told_twice : (m l n : Slots) (home : Option ℕ) (nobody : ℕ)
       → ((q : ℕ) → standing_at l q ≡ cond (same_home home (home_at m q)) (option_map (in_session (told k outcome)) (standing_at m q)) (standing_at m q))
       → ((q : ℕ) → home_at l q ≡ home_at m q)
@@ -159,7 +161,7 @@ module _ (k : ℕ) (outcome : Outcome) where
               ap (λ b. b || same_home (Some nobody) (home_at m q)) (ap (λ h. same_home h (home_at m q)) place ∙ is_named (home_at m q) home.0 home.1)
         ]
 
-    -- each is told who waits for the key
+    -- each who waits for the key gets the outcome
     stands : (q : ℕ) → standing_at n q ≡ option_map (in_session (told k outcome)) (standing_at m q)
     stands q = is_told.standing q ∙ by_wait (waited_in (standing_at m q)) refl
       where
@@ -181,6 +183,7 @@ module _ (k : ℕ) (outcome : Outcome) where
     who_told : (q : ℕ) → who_at n q ≡ who_at m q
     who_told q = ap (option_map who_of) (stands q) ∙ who_kept (in_session (told k outcome)) (session_who (told k outcome)) true (standing_at m q)
 
+    -- the slots stay tied where both chains get the outcome
     pub tied_told : IsTied n index nobody
     tied_told = record {
       chained = is_told.chained;
@@ -193,9 +196,11 @@ module _ (k : ℕ) (outcome : Outcome) where
     }
 
     module _ (clients : Index) (named : (q i : ℕ) → get clients q ≡ Some i → who_at m i ≡ Some (Some (id.Client q))) where
+      -- each client's number names its slot where both chains get the outcome
       pub named_told : (q i : ℕ) → get clients q ≡ Some i → who_at n i ≡ Some (Some (id.Client q))
       named_told q i is = who_told i ∙ named q i is
 
+      -- where both chains get the outcome, every session that waits for the key has it
       pub told_view : View n clients index ≡ all_told k outcome (View m clients index)
       told_view =
           views (seen construction_of n index) (changed_all (in_handler (told k outcome)) (seen construction_of m index)) (seen client_of n clients)

@@ -140,7 +140,7 @@ to_own : (a : Sessions) (k own : ℕ) → LeadsIn a.constructions k own → Lead
 to_own a k own (at_own j) = its_own j
 to_own a k own (by_next k' j is rest) = further k' j (next_is a k' ∙ is) (to_own a j own rest)
 
--- what a session is told from
+-- what distinguishes a session
 own_of : SessionId → ℕ
 own_of (Client n) = 0
 own_of (Handler k) = k
@@ -154,10 +154,12 @@ unfolding IsHandler own_of
 from_own a k s (its_own j) = (tt, at_own j)
 from_own a k s (further k' j is rest) = let more = from_own a j s rest in (more.0, by_next k' j (sym (next_is a k') ∙ is) more.1)
 
+-- no walk leads to a client
 pub no_client : (a : Sessions) (k n : ℕ) → ¬ (Leads a k (Client n))
 unfolding IsHandler
 no_client a k n h = (from_own a k (Client n) h).0
 
+-- a walk of as many steps as there are constructions says whether k leads to the handler of own
 pub walk_tells : (a : Sessions) (k own : ℕ) (b : Bool) → b ≡ leads_within a.constructions (len a.constructions) k own → Says b (Leads a k (Handler own))
 unfolding own_of
 walk_tells a k own true is = to_own a k own (walk_says a.constructions k own true is)

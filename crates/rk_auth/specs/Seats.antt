@@ -71,7 +71,7 @@ in_construction f standing.Nobody = standing.Nobody
 in_construction f (standing.Client n s) = standing.Client n s
 in_construction f (standing.Construction k c) = standing.Construction k (f c)
 
--- who stands there is told the outcome of the key, if he is meant
+-- who stands there gets the outcome of the key, if meant
 abbrev pub option_told : ℕ → Outcome → Bool → Option Standing → Option Standing
 option_told k outcome meant o = if meant then option_map (in_session (told k outcome)) o else o
 
@@ -113,7 +113,7 @@ pub record AreSeated (slots : Stored Slot) (clients constructions : Stored ℕ) 
   pub in_constructions : reserved ≤ places constructions
   pub in_slots : 64 + reserved ≤ slots.room + map.len clients.facts + map.len constructions.facts
 
--- those in the chain of home, and then those in the chain of nobody, were told the outcome of the key
+-- those in the chain of home, and then those in the chain of nobody, got the outcome of the key
 pub record AreBothTold (m n : map.FinMap nat_cmp Slot) (home : Option ℕ) (nobody k : ℕ) (outcome : Outcome) : Type 0 where
   pub chained : AreChained n
   pub homes : (q : ℕ) → home_at n q ≡ home_at m q

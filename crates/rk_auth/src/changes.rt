@@ -169,7 +169,7 @@ impl ChangeOnce<Construction> for Spend {
 pub struct Tell {
     /// The key on which the wait is.
     pub key: Serial,
-    /// What it is told.
+    /// The outcome that it gets.
     pub outcome: Outcome,
 }
 

@@ -22,7 +22,7 @@ pub enum AuthFault {
     /// There are 64 clients, or the chain of authorities has 8 links.
     #[error("a limit is reached")]
     Quota,
-    /// A growth was refused.
+    /// An allocation failed.
     #[error("out of memory")]
     NoMemory,
 }

@@ -12,9 +12,10 @@ use std::alloc::{AllocError, Global};
 use std::marker::Model;
 
 /// Values, each at a place that the slab picks when it is put in. A place that is given back is picked again: who keeps the number of a place
-/// keeps also by what he knows its value.
+/// also keeps what identifies its value.
 #[derive(Drop)]
 pub struct Places<V> {
+    /// The values by their places.
     slab: Slab<V>,
 }
 
@@ -58,7 +59,7 @@ impl<V> Places<V> {
         self.slab.get(place)
     }
 
-    /// How many values there are: so many places of them, or fewer, can be told apart.
+    /// How many values there are. No more different places than these have one.
     pub fn len(&self) -> usize
         ensures { (ps : List ℕ) → EachOnce ps → ((p : ℕ) → has ps p ≡ true → is_some (map.get self.now.facts p) ≡ true) → length ps ≤ result }
     {

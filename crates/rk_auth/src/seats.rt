@@ -57,7 +57,7 @@ impl Model for Seats {
     ghost invariant = { λ a. AreSeated a.slots a.clients a.constructions a.nobody a.reserved };
 }
 
-/// The session of the client, if it is he who stands at the place: a slot that is used again is another's.
+/// The session of the client, if that client stands at the place: a slot that is used again is another's.
 fn client_at(slots: &Places<Slot>, place: usize, number: u32) -> Option<&Session>
     ensures { option_copied result ≡ client_named number (standing_at slots.now.facts place) }
 {

@@ -1,7 +1,7 @@
 //! Sessions, and what they wait for.
 use rk_names::{Context, KeyError, Serial, Setting};
 
-/// What those who waited for a key are told.
+/// The outcome of a wait for a key: its serial, or the key's error.
 #[derive(Clone, Copy, Debug, PartialEq, Eq)]
 pub enum Outcome {
     /// The key, which may be used.

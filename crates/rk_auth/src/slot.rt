@@ -41,7 +41,7 @@ pub struct Link {
     pub next: Option<usize>,
 }
 
-/// A slot: who stands there, the first of those who wait for him, and his own place among the waiters of another.
+/// A slot: who stands there, the first of those who wait for it, and its own place among the waiters of another.
 #[derive(Debug, Drop)]
 pub struct Slot {
     /// Who stands there.

@@ -27,7 +27,7 @@ fn home_of(constructions: &Table<usize>, nobody: usize, key: Serial) -> usize
     }
 }
 
-/// Changes who stands at a place, and takes him to the chain of what he waits for then. It takes no memory.
+/// Changes who stands at a place, and moves it to the chain of what it waits for then. It takes no memory.
 pub fn change_at<C: ChangeOnce<Standing> + Copy>(
     slots: &mut Places<Slot>,
     constructions: &Table<usize>,
@@ -48,7 +48,7 @@ pub fn change_at<C: ChangeOnce<Standing> + Copy>(
     }
 }
 
-/// One stands in a slot of his own from now on, who does not wait. It takes no memory.
+/// One that does not wait stands in a slot of its own from now on. It takes no memory.
 pub fn put_in(slots: &mut Places<Slot>, standing: Standing) -> usize
     requires chained { AreChained slots.old.facts }
     requires room { 0 < slots.old.room }
@@ -65,7 +65,7 @@ pub fn put_in(slots: &mut Places<Slot>, standing: Standing) -> usize
     })
 }
 
-/// Who stands at the place is gone, and his wait with him. It takes no memory, and gives the place back.
+/// Who stands at the place is gone, and its wait too. It takes no memory, and gives the place back.
 pub fn take_out(slots: &mut Places<Slot>, place: usize)
     requires chained { AreChained slots.old.facts }
     requires there { is_some (standing_at slots.old.facts place) ≡ true }

@@ -38,5 +38,6 @@ module _ (op typ desc callout : List ℕ) where
   one_choice lines (Some x) None a b = absurd (not_within a.0 a.1 x (subst Others a.2 (others lines b)) a.3)
   one_choice lines (Some x) (Some y) a b = ap Some (same_first a.0 a.1 b.0 b.1 x y (sym a.2 ∙ b.2) a.3 b.3 (others a.0 a.4) (others b.0 b.4))
 
+-- a request picks one line of a configuration, or none
 pub picks_one_line : PicksOne
 picks_one_line lines op typ desc callout one other a b = one_choice op typ desc callout lines one other a b

@@ -37,10 +37,12 @@ choice : Bool → List ℕ → List ℕ → Option Wanted
 choice b typ desc = if b then Some (record { typ = typ; desc = desc }) else None
 
 module _ (name : List ℕ) (n : ℕ) (le : n ≤ length name) (before : (k : ℕ) → k < n → get_or name k 0 ≢ 58) (at : n < length name → get_or name n 0 ≡ 58) where
+  -- a macro with a good type and description names that key
   pub some_wanted : (is_none (type_fault (take n name)) && is_none (description_fault (drop (n + 1) name))) ≡ true → wanted_of name ≡ Some (record { typ = take n name; desc = drop (n + 1) name })
   unfolding made choice
   some_wanted t = cut_is name n le before at ∙ ap (λ (b : Bool). choice b (take n name) (drop (n + 1) name)) t
 
+  -- a macro with a bad type or description names no key
   pub bad_names : (is_none (type_fault (take n name)) && is_none (description_fault (drop (n + 1) name))) ≡ false → wanted_of name ≡ None
   unfolding made choice
   bad_names t = cut_is name n le before at ∙ ap (λ (b : Bool). choice b (take n name) (drop (n + 1) name)) t
@@ -50,6 +52,7 @@ pub argument-macro : (field : List ℕ) → begins_with 37 field ≡ true → ar
 unfolding argument_of
 argument-macro field e = rw e
 
+-- a field that does not begin with `%` is a literal
 pub argument-literal : (field : List ℕ) → begins_with 37 field ≡ false → argument_of field ≡ Some (argument.Literal field)
 unfolding argument_of
 argument-literal field e = rw e

@@ -120,7 +120,7 @@ fn is_comment(line: &[u8]) -> bool
     }
 }
 
-/// The first rule that a line breaks, if it is none to be ignored. It takes no memory.
+/// The first rule that a line breaks, unless the line is ignored. It takes no memory.
 fn broken_rule(line: &[u8]) -> Option<ConfKind>
     ensures { result ≡ (if is_comment (fields_of line.now) then None else refusal_of line.now) }
 {

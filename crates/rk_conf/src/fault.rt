@@ -3,7 +3,7 @@ ghost use Rattle.std.specs.Prelude.{◌≡◌};
 
 use thiserror::Error;
 
-/// Which rule of a line is broken, in the order in which the rules are tried; want of memory is last.
+/// Which rule of a line is broken, in the order in which the rules are tried; out of memory is last.
 ///
 /// It is shown as its code, `C1` to `C6`.
 #[derive(Clone, Copy, Debug, PartialEq, Eq, Error)]
@@ -23,7 +23,7 @@ pub enum ConfKind {
     /// An argument begins with `%` and is no macro.
     #[error("C3")]
     BadMacro,
-    /// A growth was refused. No line of the text breaks a rule.
+    /// An allocation failed. No line of the text breaks a rule.
     #[error("C5")]
     NoMemory,
 }
@@ -52,7 +52,7 @@ impl ConfKind {
 #[derive(Clone, Copy, Debug, PartialEq, Eq, Error)]
 #[error("line {line}: {kind}")]
 pub struct ConfFault {
-    /// The number of the line from 1, ignored lines counted; of want of memory the line at which it came.
+    /// The number of the line from 1, ignored lines counted; for out of memory the line at which it happened.
     pub line: usize,
     /// The first rule that the line breaks.
     pub kind: ConfKind,

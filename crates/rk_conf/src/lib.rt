@@ -9,19 +9,19 @@
 //!
 //! # What it promises
 //!
-//! `Conf::read` gives exactly the lines of the text (`lines_in` of `specs/Reading.antt`): those that are neither
-//! blank nor a comment, each with its number and its fields. Where a line breaks a rule it answers the first such line
-//! and the first rule that it breaks (`faults_in`); want of memory is answered only for a text in which no line breaks
-//! one. `pick` answers the chosen line (`IsChosen` of `specs/Choice.antt`), of which there is never more than one, and takes
-//! no memory. Every field and argument is a [`Word`]: UTF-8 without a zero byte, so that a program can be handed it.
+//! `Conf::read` gives exactly the lines of the text (`lines_in` of `specs/Reading.antt`): those that are neither blank nor a
+//! comment, each with its number and its fields. Where a line breaks a rule it answers the first such line and the first
+//! rule that it breaks (`faults_in`). Out of memory is answered only for a text in which no line breaks one. `pick` answers
+//! the chosen line (`IsChosen` of `specs/Choice.antt`), of which there is never more than one, and takes no memory. Every
+//! field and argument is a [`Word`]: UTF-8 without a zero byte, so that a program can be handed it.
 //!
 //! Macros are read with their line, into [`Argument`]s: who expands a line meets no bad macro.
 //!
 //! # How it is built
 //!
 //! `rk_text` cuts a text into lines and a line into fields. `borrowed_argument` reads one argument and `fields` one line on
-//! the borrowed bytes; both take no memory. `argument`, `arguments`, `line` and `word` are the values that are kept, and
-//! `conf` reads the text twice: once for its first fault, and then, if it has none, for its lines.
+//! the borrowed bytes; both take no memory. `argument`, `arguments`, `line` and `word` are the values that are kept. `conf`
+//! reads the text twice: once for its first fault, and then, if it has none, for its lines.
 #![tactic(auto)]
 
 mod argument;

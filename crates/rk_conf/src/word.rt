@@ -27,7 +27,7 @@ impl Model for Word {
 }
 
 impl Word {
-    /// A copy of the bytes, which are text. The only refusal is want of memory.
+    /// A copy of the bytes, which are text. The only refusal is out of memory.
     pub fn new(alloc: Global, bytes: &[u8]) -> Result<Word, AllocError>
         requires { is_text bytes.now ≡ true }
         ensures { IfOk result (λ w. w ≡ bytes.now) }

@@ -22,6 +22,7 @@ pub record Shows (bytes body more : List ℕ) : Type 0 where
   pub after : drop 4 bytes ≡ body ++ more
   pub room : length bytes ≡ 4 + (length body + length more)
 
+-- bytes that begin with a frame show its body and what follows
 pub shows : (bytes body more : List ℕ) → IsBody body → bytes ≡ frame body ++ more → Shows bytes body more
 shows bytes body more fits e =
     let grouped : bytes ≡ to_be_bytes w32 (length body) ++ (body ++ more) = e ∙ append_assoc (to_be_bytes w32 (length body)) body more in
@@ -33,21 +34,26 @@ shows bytes body more fits e =
       room = ap length grouped ∙ length-append (to_be_bytes w32 (length body)) (body ++ more) ∙ ap (λ (k : ℕ). 4 + k) (length-append body more);
     }
 
+-- fewer than four bytes hold no frame
 pub none_short : (bytes : List ℕ) → length bytes < 4 → HasNoFrame bytes
 none_short bytes lt body more fits e = let s = shows bytes body more fits e in omega (arith, s.room)
 
+-- a length of 0 is that of no frame
 pub none_empty : (bytes : List ℕ) → front_len bytes ≡ 0 → HasNoFrame bytes
 none_empty bytes z body more fits e = let s = shows bytes body more fits e in omega (arith, s.len, z, fits.0)
 
+-- a length above 65,536 is that of no frame
 pub none_long : (bytes : List ℕ) → 65536 < front_len bytes → HasNoFrame bytes
 none_long bytes gt body more fits e = let s = shows bytes body more fits e in omega (arith, s.len, gt, fits.1)
 
+-- bytes that end before their length does hold no frame at the front
 pub none_cut : (bytes : List ℕ) → length (drop 4 bytes) < front_len bytes → HasNoFrame bytes
 none_cut bytes lt body more fits e =
     let s = shows bytes body more fits e in
     let n : length (drop 4 bytes) ≡ length body + length more = ap length s.after ∙ length-append body more in
     omega (arith, s.len, lt, n)
 
+-- bytes with their whole length there are a frame and what follows
 pub is_frame : (bytes : List ℕ) (n : ℕ) → IsBytes bytes → front_len bytes ≡ n → 4 ≤ length bytes → n ≤ length (drop 4 bytes) → bytes ≡ frame (take n (drop 4 bytes)) ++ drop (4 + n) bytes
 is_frame bytes n fits e long enough =
     let len : length (take n (drop 4 bytes)) ≡ n = omega (arith, length-take n (drop 4 bytes)) in

@@ -33,6 +33,7 @@ one_reading (b ∷ bs) (c ∷ cs) rest rest' fa fb na nb e =
     let more = one_reading bs cs rest rest' fa.1 fb.1 na nb one.1 in
     (cc, more.1)
 
+-- a stream has at most one list of bodies, and one rest
 pub has_one_reading : HasOneReading
 has_one_reading stream bodies others rest rest' a b = one_reading bodies others rest rest' a.each b.each a.ended b.ended (sym a.whole ∙ b.whole)
 
@@ -63,11 +64,13 @@ later_of (b ∷ bs) (c ∷ cs) held rest ff fb n e =
     let same : c ∷ cs ≡ (b ∷ bs) ++ more.0 = let h = more.1 in let g = one.0 in cc in
     (more.0, same, more.2)
 
+-- the bodies are handed out in order, however the stream was cut
 pub hands_out_in_order : HandsOutInOrder
 hands_out_in_order calls held m bodies rest s =
     let k = keeps calls [] held m in
     later_of (bodies_of calls) bodies held rest k.1 s.each s.ended (sym k.0 ∙ s.whole)
 
+-- where More or a fault is answered, all bodies of the stream so far were handed out
 pub has_handed_out_all : HasHandedOutAll
 has_handed_out_all calls held m n =
     let k = keeps calls [] held m in
@@ -104,6 +107,7 @@ reading_within (suc k) stream le fits =
       ]
     ]
 
+-- every stream has a list of bodies and a rest
 pub has_a_reading : HasAReading
 has_a_reading stream fits = reading_within (length stream) stream (omega arith) fits
 
@@ -130,5 +134,6 @@ fault_stays f (Failed g ∷ cs) held new e m =
     let n = sym m.1.2 ∙ e in
     (cc, fault_stays f cs m.0 new (ap fault_of m.1.0 ∙ e) m.2)
 
+-- a fault is answered from then on for good
 pub keeps_its_fault : KeepsItsFault
 keeps_its_fault f calls old held new failed m = fault_stays f calls held new (ap fault_of failed.0 ∙ failed.2) m

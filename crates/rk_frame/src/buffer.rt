@@ -16,8 +16,8 @@ pub fn drop_front(bytes: &mut Vec<u8>, count: usize)
     }
 }
 
-/// Whether `more` bytes find no room behind the others, find it once the first `taken` are away, and
-/// those are at least half of all: so each byte that moves is paid by one that was handed out.
+/// Whether `more` bytes find no room behind the others, but do once the first `taken` are away, and
+/// those are at least half of all. So each byte that moves is paid by one that was handed out.
 pub fn is_worth_moving(bytes: &Vec<u8>, taken: usize, more: usize) -> bool
     requires { taken ≤ vec_len bytes.now }
     ensures { IsTrue result ↔ IsWorthMoving (vec_len bytes.now) (vec_capacity bytes.now) taken more }

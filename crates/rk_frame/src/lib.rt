@@ -12,25 +12,25 @@
 //! However the stream was cut into pieces, and whenever the bodies were asked for, `next` hands out
 //! the bodies of that list and nothing else. It answers [`Next::More`] or a fault exactly where no
 //! body of the stream so far is left. A length of 0 or above 65,536 is a fault once its four bytes
-//! are there, in the place of a message: after all bodies in front of it, and from then on for good.
+//! are there. It is answered after all bodies in front of it, and from then on for good.
 //!
 //! `next` takes no memory. After `More` less than one frame is held, at most 65,539 bytes, and a
-//! piece of at most 4,096 bytes finds its room made before. A growth that is refused changes nothing.
+//! piece of at most 4,096 bytes finds its room made before. A failed allocation changes nothing.
 //!
 //! # Use
 //!
 //! Make a `Frames`, and ask for `next` until it answers `More`: each `Whole(body)` lends a body until
-//! the next call. Then read a piece and `feed` it, and ask again. Where it answers `Fault`, what
-//! follows can't be told apart any more, so the stream is at its end. Fed the bytes
-//! `00 00 00 02 68 69 00`, it answers `Whole(b"hi")` and then `More`, and `held` says 1.
+//! the next call. Then read a piece and `feed` it, and ask again. Where it answers `Fault`, no frame
+//! can be found behind it any more, so the stream is at its end. Fed the bytes `00 00 00 02 68 69
+//! 00`, it answers `Whole(b"hi")` and then `More`, and `held` says 1.
 //!
 //! # How it is built
 //!
 //! `stream` has [`Frames`]: one buffer, and how many of its bytes have been handed out. Handing out a
 //! body moves no byte. What is left moves to the front of the buffer at `More`, which is once at most
-//! for each byte, or where `feed` would have to grow the buffer though at least half of it has been
-//! handed out. So the work is in proportion to the bytes, for pieces of one byte too. `buffer` has
-//! that move, `front` reads the length at the front, `answer` and `fault` have what `next` answers.
+//! for each byte. It also moves where `feed` would have to grow the buffer though at least half of it
+//! has been handed out. So the work is in proportion to the bytes, for pieces of one byte too. `buffer`
+//! has that move, `front` reads the length at the front, `answer` and `fault` have what `next` answers.
 //!
 //! `specs/Framing.antt` says what a frame is and what the bodies of a stream are, `specs/Calls.antt`
 //! what one call does. The contracts of `feed` and `next` cite one relation, and [`any_cutting`]

@@ -16,7 +16,9 @@ use std::marker::Model;
 /// Its room grows with what is held at one time, and is not given back before the value is dropped.
 #[derive(Drop)]
 pub struct Frames {
+    /// The bytes that were fed, from some frame's front on.
     buffer: Vec<u8>,
+    /// How many bytes at the buffer's front were handed out.
     taken: usize,
 }
 
@@ -58,7 +60,7 @@ impl Frames {
 
     /// Takes the next piece of the stream, of any length.
     ///
-    /// It is refused only where a growth was refused, and then nothing has changed. Pieces that
+    /// It is refused only where an allocation failed, and then nothing has changed. Pieces that
     /// together have no more bytes than the room that is left are never refused; after `More`, and at
     /// first, that is [`MAX_PIECE`](crate::MAX_PIECE) bytes or more.
     pub fn feed(&mut self, piece: &[u8]) -> Result<(), AllocError>

@@ -21,13 +21,16 @@ pub Consumes-front : (a p t : List ℕ) → NoStar a → Consumes p t → Consum
 Consumes-front [] p t n h = h
 Consumes-front (c ∷ a) p t n h = (a ++ t, inr (n.0, refl), Consumes-front a p t n.1 h)
 
+-- a pattern without `*` takes off itself
 pub Consumes-plain : (a : List ℕ) → NoStar a → Consumes a a
 Consumes-plain [] n = refl
 Consumes-plain (c ∷ a) n = (a, inr (n.0, refl), Consumes-plain a n.1)
 
+-- a `*` takes off any bytes at the front
 pub Consumes-star : (p u v : List ℕ) → Consumes p v → Consumes (star ∷ p) (u ++ v)
 Consumes-star p u v h = (v, inl (refl, (u, refl)), h)
 
+-- a pattern that fits a text takes it off byte by byte
 pub Consumes-from_Fits : (p t : List ℕ) → Fits p t → Consumes p t
 Consumes-from_Fits p t (plain a n) = Consumes-plain a (recursion_from_All _ a n)
 Consumes-from_Fits p t (starred a b u v n h) =
@@ -35,11 +38,12 @@ Consumes-from_Fits p t (starred a b u v n h) =
     let P : List ℕ → Type 0 = λ x. Consumes (a ++ star ∷ b) x in
     subst P (sym (append_assoc a u v)) within
 
--- a byte that is no `*`, put before both
+-- a byte other than `*`, put before both
 pub Fits-byte : (c : ℕ) (p t : List ℕ) → c ≢ star → Fits p t → Fits (c ∷ p) (c ∷ t)
 Fits-byte c p t n (plain a pl) = plain (c ∷ a) (All-cons (λ x. x ≢ star) c a n pl)
 Fits-byte c p t n (starred a b u v pl h) = starred (c ∷ a) b u v (All-cons (λ x. x ≢ star) c a n pl) h
 
+-- a pattern that takes a text off byte by byte fits it
 pub Fits-from_Consumes : (p t : List ℕ) → Consumes p t → Fits p t
 Fits-from_Consumes [] t h = let P : List ℕ → Type 0 = λ x. Fits [] x in subst P (sym h) (plain [] (All-nil _))
 Fits-from_Consumes (c ∷ p) t h =

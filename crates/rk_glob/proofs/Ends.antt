@@ -22,6 +22,7 @@ end_of p tail text n h =
     let same : tail ≡ s.1 = (plain_fits_itself_alone tail s.1 n).0 s.4 in
     (s.0, s.2 ∙ ap (λ (x : List ℕ). s.0 ++ x) (sym same), s.3)
 
+-- a plain head of the pattern that stands at the front of the text may be taken off both
 pub head_is_read : (pattern text head p rest : List ℕ) → pattern ≡ head ++ p → IsPlain head → text ≡ head ++ rest → Fits pattern text ↔ Fits p rest
 head_is_read pattern text head p rest e n f =
     let P : List ℕ → Type 0 = λ x. Fits x text in
@@ -31,6 +32,7 @@ head_is_read pattern text head p rest e n f =
       λ h. subst P (sym e) (subst R (sym f) ((joined_fit_joined head p (head ++ rest)).1 (head, rest, refl, itself head n, h))),
     )
 
+-- a plain tail of the pattern that stands at the end of the text may be taken off both
 pub tail_is_read : (pattern text p tail front : List ℕ) → pattern ≡ p ++ tail → IsPlain tail → text ≡ front ++ tail → Fits pattern text ↔ Fits p front
 tail_is_read pattern text p tail front e n f =
     let P : List ℕ → Type 0 = λ x. Fits x text in
@@ -40,9 +42,11 @@ tail_is_read pattern text p tail front e n f =
       λ h. subst P (sym e) (subst R (sym f) ((joined_fit_joined p tail (front ++ tail)).1 (front, tail, refl, h, itself tail n))),
     )
 
+-- a pattern fits no text that lacks its plain head at the front
 pub no_head : (pattern text head p : List ℕ) → pattern ≡ head ++ p → IsPlain head → ((rest : List ℕ) → text ≢ head ++ rest) → Fits pattern text → ⊥
 no_head pattern text head p e n f h = let P : List ℕ → Type 0 = λ x. Fits x text in let s = front_of head p text n (subst P e h) in f s.0 s.1
 
+-- a pattern fits no text that lacks its plain tail at the end
 pub no_tail : (pattern text p tail : List ℕ) → pattern ≡ p ++ tail → IsPlain tail → ((front : List ℕ) → text ≢ front ++ tail) → Fits pattern text → ⊥
 no_tail pattern text p tail e n f h = let P : List ℕ → Type 0 = λ x. Fits x text in let s = end_of p tail text n (subst P e h) in f s.0 s.1
 

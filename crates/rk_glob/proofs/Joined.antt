@@ -24,6 +24,7 @@ Split-before c p q t r (inl s) h =
     (s.1.0 ++ h.0, h.1, s.1.1 ∙ ap (λ (x : List ℕ). s.1.0 ++ x) h.2 ∙ sym (append_assoc s.1.0 h.0 h.1), (h.0, inl (s.0, (s.1.0, refl)), h.3), h.4)
 Split-before c p q t r (inr s) h = (c ∷ h.0, h.1, s.1 ∙ ap (λ (x : List ℕ). c ∷ x) h.2, (h.0, inr (s.0, refl), h.3), h.4)
 
+-- a text that two joined patterns take off is split between them
 pub Split-from_Consumes : (p q t : List ℕ) → Consumes (p ++ q) t → Split p q t
 Split-from_Consumes [] q t h = ([], t, refl, refl, h)
 Split-from_Consumes (c ∷ p) q t h = Split-before c p q t h.0 h.1 (Split-from_Consumes p q h.0 h.2)
@@ -33,16 +34,19 @@ pub only_itself : (p t : List ℕ) → NoStar p → Consumes p t → t ≡ p
 only_itself [] t n h = h
 only_itself (c ∷ p) t n h = elim h.1 [ inl s ↦ absurd (n.0 s.0) | inr s ↦ s.1 ∙ ap (λ (x : List ℕ). c ∷ x) (only_itself p h.0 n.1 h.2) ]
 
+-- a pattern without `*` fits itself and nothing else
 pub plain_fits_itself_alone : PlainFitsItselfAlone
 plain_fits_itself_alone p t n =
     let apart = recursion_from_All (λ b. b ≢ star) p n in
     (λ h. sym (only_itself p t apart (Consumes-from_Fits p t h)), λ e. let P : List ℕ → Type 0 = λ x. Fits p x in subst P e (Fits-from_Consumes p p (Consumes-plain p apart)))
 
+-- `*` fits every text
 pub star_fits_everything : StarFitsEverything
 star_fits_everything t =
     let P : List ℕ → Type 0 = λ x. Fits (star ∷ []) x in
     subst P (append-nil t) (Fits-from_Consumes (star ∷ []) (t ++ []) (Consumes-star [] t [] refl))
 
+-- joined patterns fit exactly the texts that are joined of what each fits
 pub joined_fit_joined : JoinedFitJoined
 joined_fit_joined p q t = (
   λ h. let s = Split-from_Consumes p q t (Consumes-from_Fits (p ++ q) t h) in (s.0, s.1, s.2, Fits-from_Consumes p s.0 s.3, Fits-from_Consumes q s.1 s.4),

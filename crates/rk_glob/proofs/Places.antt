@@ -15,6 +15,7 @@ pub record Scans (middle text : List ℕ) (after from at reached : ℕ) : Type 0
   pub whole : Fits (star ∷ middle ++ star ∷ []) text ↔ Consumes (star ∷ left_at middle after) (drop from text)
   pub track : Track (left_at middle after) (drop from text) (left_at middle at) (drop reached text)
 
+-- the scan begins at the front of both
 pub scans_first : (middle text : List ℕ) → Scans middle text 0 0 0 0
 scans_first middle text = record {
   whole = (λ h. Consumes-from_Fits (star ∷ middle ++ star ∷ []) text h, λ h. Fits-from_Consumes (star ∷ middle ++ star ∷ []) text h);
@@ -39,6 +40,7 @@ at_both middle text after from at reached h k s =
     let P : List ℕ → Type 0 = λ x. Track (left_at middle after) (drop from text) (get_or middle at 0 ∷ left_at middle (at + 1)) x in
     subst P (drop_next text reached k) (at_byte middle text after from at reached (get_or middle at 0) h refl s)
 
+-- a `*` in the middle is passed, and its place is kept
 pub scans_star : (middle text : List ℕ) (after from at reached : ℕ) → at < length middle → get_or middle at 0 ≡ star → Scans middle text after from at reached
     → Scans middle text (at + 1) reached (at + 1) reached
 scans_star middle text after from at reached h e s =
@@ -48,6 +50,7 @@ scans_star middle text after from at reached h e s =
       track = Track-here (left_at middle (at + 1)) (drop reached text);
     }
 
+-- an equal byte is passed in both
 pub scans_next : (middle text : List ℕ) (after from at reached : ℕ) → at < length middle → reached < length text → get_or middle at 0 ≢ star → get_or middle at 0 ≡ get_or text reached 0
     → Scans middle text after from at reached → Scans middle text after from (at + 1) (reached + 1)
 scans_next middle text after from at reached h k n e s =
@@ -57,6 +60,7 @@ scans_next middle text after from at reached h k n e s =
       track = Track-next (left_at middle after) (drop from text) (get_or middle at 0) (left_at middle (at + 1)) (drop (reached + 1) text) n (subst P (sym e) (at_both middle text after from at reached h k s));
     }
 
+-- after a different byte the scan goes on behind the last `*`, one place later in the text
 pub scans_retry : (middle text : List ℕ) (after from at reached : ℕ) → at < length middle → reached < length text → from ≤ reached → get_or middle at 0 ≢ star → (get_or middle at 0 ≡ get_or text reached 0 → ⊥)
     → Scans middle text after from at reached → Scans middle text after (from + 1) after (from + 1)
 scans_retry middle text after from at reached h k le n apart s =

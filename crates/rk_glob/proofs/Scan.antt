@@ -12,6 +12,7 @@ pub record Track (pattern text left rest : List ℕ) : Type 0 where
   pub pattern_is : pattern ≡ since ++ left
   pub text_is : text ≡ since ++ rest
 
+-- a scan that has passed nothing is on its way
 pub Track-here : (pattern text : List ℕ) → Track pattern text pattern text
 Track-here pattern text = record { since = []; apart = tt; pattern_is = refl; text_is = refl }
 
@@ -19,6 +20,7 @@ NoStar-push : (a : List ℕ) (c : ℕ) → NoStar a → c ≢ star → NoStar (a
 NoStar-push [] c n h = (h, tt)
 NoStar-push (d ∷ a) c n h = (n.0, NoStar-push a c n.1 h)
 
+-- a scan that passes an equal byte in both is on its way
 pub Track-next : (pattern text : List ℕ) (c : ℕ) (left rest : List ℕ) → c ≢ star → Track pattern text (c ∷ left) (c ∷ rest) → Track pattern text left rest
 Track-next pattern text c left rest n t = record {
   since = t.since ++ c ∷ [];

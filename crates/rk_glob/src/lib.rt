@@ -7,7 +7,7 @@
 //! `specs/Wildcard.antt`. It takes no memory and refuses nothing. So `matches(b"a*b*", b"axb")` is true,
 //! `matches(b"a*b*", b"ba")` is not, and `*` fits the empty text.
 //!
-//! The part before the first `*` and the part after the last one are compared at the two ends of the text; what is
+//! The part before the first `*` and the part after the last one are compared at the two ends of the text. What is
 //! between them is looked for from left to right by two places, one in the pattern and one in the text. Where a byte
 //! differs, only the last `*` takes one byte more: that an earlier `*` need never be tried again is what the proof of
 //! the scan shows. With no `*` or one the time is in proportion to the lengths, with more at most to their product.
@@ -64,8 +64,8 @@ fn cut_at_last(pattern: &[u8]) -> Option<(&[u8], &[u8])>
 
 /// Whether `middle` between two `*` fits the text.
 ///
-/// `after` is the place in `middle` behind the last `*` read, and `from` where that `*` leaves the text for now;
-/// from there on the bytes of the text were found equal up to `at` and `reached`.
+/// `after` is the place in `middle` behind the last `*` read, and `from` where that `*` leaves the text for now.
+/// From there on the bytes of the text were found equal up to `at` and `reached`.
 fn fits_within(middle: &[u8], text: &[u8]) -> bool
     ensures { IsTrue result ↔ Fits (star ∷ middle.now ++ star ∷ []) text.now }
 {

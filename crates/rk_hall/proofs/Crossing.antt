@@ -39,6 +39,7 @@ use Rattle.rk_hall.specs.contracts.locked.Locked as locked
 use Rattle.rk_hall.specs.contracts.lock.Lock as lock
 use Rattle.rk_hall.specs.contracts.halls.Halls as halls
 
+-- an allocator may go to another thread
 pub global_send : IsSend global.the_row
 global_send = search (sendable, crosses) depth 40 fits 20000
 
@@ -86,24 +87,29 @@ rings_send = let w = row_send in let r = table_send row.the_row row_send in let 
 
 -- ---- the book and the record of its steps
 
+-- a book may go to another thread
 pub book_send : IsSend book.the_row
 book_send = let k = keys_send in let r = rings_send in let a = auths_send in search (sendable, crosses) depth 40
 
 abbrev asks : RattleType
 asks = ask.the_row type_name.the_row description.the_row callout.the_row payload.the_row
 
+-- an ask may go to another thread
 pub ask_send : IsSend asks
 ask_send = search (sendable, crosses) depth 40 fits 20000
 
+-- a reply may go to another thread
 pub reply_send : IsSend reply.the_row
 reply_send = search (sendable, crosses) depth 40 fits 20000
 
+-- a subject may go to another thread
 pub subject_send : IsSend subject.the_row
 subject_send = search (sendable, crosses) depth 40 fits 20000
 
 pub event_send : IsSend (event.the_row asks)
 event_send = let a = ask_send in search (sendable, crosses) depth 40 fits 20000
 
+-- an answer may go to another thread
 pub answer_send : IsSend answer.the_row
 answer_send = let r = reply_send in let s = subject_send in search (sendable, crosses) depth 40 fits 20000
 
@@ -126,9 +132,11 @@ module _ (N : RattleType) (g : names.Ghosts N.Denot) where
     pub locked_send : IsSend N → IsSend (locked.the_row N (number h) g)
     locked_send n = let b = hall_send in search (sendable, crosses, accounts.the_send, shares.the_send) depth 40 fits 20000
 
+    -- a hall under its lock may go to another thread
     pub lock_send : IsSend N → IsSend (lock.the_field N (number h) g).row
     lock_send n = let l = locked_send n in search (sendable, crosses) depth 40 fits 20000
 
+    -- a hall under its lock may be shared by threads
     pub lock_sync : IsSend N → IsSync (lock.the_field N (number h) g).row
     lock_sync n = let l = locked_send n in search (sendable, crosses) depth 40 fits 20000
 
@@ -140,6 +148,7 @@ module _ (N : RattleType) (g : names.Ghosts N.Denot) where
       let d = lock_send 3 n in
       search (sendable, crosses) depth 40 fits 20000
 
+  -- halls may be shared by threads
   pub halls_sync : IsSend N → IsSync (halls.the_row N g)
   halls_sync n =
       let a = lock_sync 0 n in

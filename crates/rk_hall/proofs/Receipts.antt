@@ -37,6 +37,7 @@ pub record AreHeard (h : HallShown) (volumes : List VolumeShown) (receipts : Lis
   pub above : (k : ℕ) (s : Noted) → k < place → slice_get receipts k ≡ Some s → s.hall ≡ h.no → s.number ≤ last
   pub reached : 0 < last → (k : ℕ) × (s : Noted) × (k < place) × (slice_get receipts k ≡ Some s) × (s.hall ≡ h.no) × (s.number ≡ last)
 
+-- before any receipt is looked at, none is at fault, and no number was heard
 pub heard_none : (h : HallShown) (volumes : List VolumeShown) (receipts : List Noted) → AreHeard h volumes receipts 0 0
 heard_none h volumes receipts = record {
   genuine = λ k s lt at hall. absurd (omega (arith, lt));
@@ -111,9 +112,11 @@ genuine_end h volumes receipts i last heard le k s lt found hall = heard.genuine
 
 -- ---- hall by hall
 
+-- below hall 0 there is no hall whose receipts could be at fault
 pub below_none : (k : FourShown) (volumes : List VolumeShown) (receipts : List Noted) → AreGenuineBelow k volumes receipts 0
 below_none k volumes receipts hall lt = absurd (omega (arith, lt))
 
+-- the receipts below hall 1 are genuine where those of hall 0 are
 pub below_one : (k : FourShown) (volumes : List VolumeShown) (receipts : List Noted) → AreGenuine k.zero.hall volumes receipts (length receipts)
     → AreGenuineBelow k volumes receipts 1
 below_one k volumes receipts in_zero Zero lt = in_zero
@@ -121,6 +124,7 @@ below_one k volumes receipts in_zero One lt = absurd (omega (arith, lt))
 below_one k volumes receipts in_zero Two lt = absurd (omega (arith, lt))
 below_one k volumes receipts in_zero Three lt = absurd (omega (arith, lt))
 
+-- the receipts below hall 2 are genuine where those of halls 0 and 1 are
 pub below_two : (k : FourShown) (volumes : List VolumeShown) (receipts : List Noted) → AreGenuine k.zero.hall volumes receipts (length receipts)
     → AreGenuine k.one.hall volumes receipts (length receipts) → AreGenuineBelow k volumes receipts 2
 below_two k volumes receipts in_zero in_one Zero lt = in_zero
@@ -156,10 +160,12 @@ pub genuine_there : (h h' : HallShown) (volumes : List VolumeShown) (receipts : 
     → AreGenuine h' volumes receipts (length receipts)
 genuine_there h h' volumes receipts is all = subst (λ (x : HallShown). AreGenuine x volumes receipts (length receipts)) is all
 
+-- a receipt's fault in a hall is one in an equal hall
 pub fault_there : (h h' : HallShown) (volumes : List VolumeShown) (receipts : List Noted) (fault : SettleFault) → h ≡ h'
     → HasFault h volumes receipts fault → HasFault h' volumes receipts fault
 fault_there h h' volumes receipts fault is has = subst (λ (x : HallShown). HasFault x volumes receipts fault) is has
 
+-- what was found of the receipts of a hall holds of an equal hall
 pub found_there : (h h' : HallShown) (volumes : List VolumeShown) (receipts : List Noted) (found : Option SettleFault) → h ≡ h'
     → MatchOption found (AreGenuine h volumes receipts (length receipts)) (λ fault. HasFault h volumes receipts fault)
     → MatchOption found (AreGenuine h' volumes receipts (length receipts)) (λ fault. HasFault h' volumes receipts fault)
@@ -190,6 +196,7 @@ turns_in k k' seats is none Three = let e = ap (λ (x : FourShown). x.three.live
 abbrev pub NoneNamed : List VolumeShown → Noted → ℕ → Type 0
 NoneNamed volumes r i = (v : VolumeShown) (m : IsHandedIn volumes r v) → m.place < i → ⊥
 
+-- a volume of the receipt's hall and index is handed in for it
 pub one_named : (volumes : List VolumeShown) (r : Noted) (i : ℕ) (v : VolumeShown) → slice_get volumes i ≡ Some v
     → (v.hall ≡ r.hall) × (v.index ≡ r.volume) → IsHandedIn volumes r v
 one_named volumes r i v at named = record { place = i; found = at; hall = named.0; index = named.1 }
@@ -205,11 +212,13 @@ handed_in_before P volumes r i v at other u m lt holds =
     absurd (other (subst (λ (x : VolumeShown). (x.hall ≡ r.hall) × (x.index ≡ r.volume)) same (m.hall, m.index)) (subst P same holds)))
     (here_or_before m.place i lt)
 
+-- where no volume so far is the receipt's, nor the next, none up to that one is
 pub none_named_more : (volumes : List VolumeShown) (r : Noted) (i : ℕ) (v : VolumeShown) → NoneNamed volumes r i → slice_get volumes i ≡ Some v
     → ((v.hall ≡ r.hall) × (v.index ≡ r.volume) → ⊥) → NoneNamed volumes r (i + 1)
 none_named_more volumes r i v none at other u m lt =
     none u m (handed_in_before (λ x. Unit {0}) volumes r i v at (λ n t. other n) u m lt tt)
 
+-- where none of all volumes is the receipt's, none is handed in for it
 pub none_named_end : (volumes : List VolumeShown) (r : Noted) (i : ℕ) → NoneNamed volumes r i → length volumes ≤ i
     → (v : VolumeShown) × IsHandedIn volumes r v → ⊥
 none_named_end volumes r i none le w = let lt = slice_get_within volumes w.1.place w.0 w.1.found in none w.0 w.1 (omega (arith, lt, le))
@@ -218,11 +227,13 @@ none_named_end volumes r i none le w = let lt = slice_get_within volumes w.1.pla
 abbrev pub StandsInNone : List VolumeShown → Noted → ℕ → Type 0
 StandsInNone volumes r i = (v : VolumeShown) (m : IsHandedIn volumes r v) → m.place < i → StandsIn v.before v.steps r → ⊥
 
+-- where the receipt stands in none of the volumes so far, nor in the next, it stands in none up to that one
 pub stands_in_none_more : (volumes : List VolumeShown) (r : Noted) (i : ℕ) (v : VolumeShown) → StandsInNone volumes r i → slice_get volumes i ≡ Some v
     → (((v.hall ≡ r.hall) × (v.index ≡ r.volume)) × StandsIn v.before v.steps r → ⊥) → StandsInNone volumes r (i + 1)
 stands_in_none_more volumes r i v none at other u m lt stands =
     none u m (handed_in_before (λ x. StandsIn x.before x.steps r) volumes r i v at (λ n t. other (n, t)) u m lt stands) stands
 
+-- where the receipt stands in none of all volumes, it stands in none that is handed in
 pub stands_in_none_end : (volumes : List VolumeShown) (r : Noted) (i : ℕ) → StandsInNone volumes r i → length volumes ≤ i
     → (v : VolumeShown) × IsHandedIn volumes r v × StandsIn v.before v.steps r → ⊥
 stands_in_none_end volumes r i none le w =

@@ -104,6 +104,7 @@ depth_of_start old new now (Asked t x) k s call step = by_move (move old now (As
       (subst (λ d. 1 ≤ d) (sym depth) (least_depth old u asker is), subst (λ d. d ≤ 8) (sym depth) (le-pred_of_lt (leb-false 9 asker.depth short))),
     )
 
+-- a construction that a call starts stands in the world, 1 to 8 starts deep
 pub has_depth : (old new : World) (now : ℕ) (e : Event) (a : Answer) → IsCall e → Step old now e a new → HasDepth a new
 has_depth old new now e (Start k s) call step = depth_of_start old new now e k s call step
 has_depth old new now e (Done reply) call step = tt

@@ -61,8 +61,8 @@ abbrev pub HasDepth : Answer → World → Type 0
 HasDepth (Start k subject) w = (depth : ℕ) × (depth_of w k ≡ Some depth) × IsDepth depth
 HasDepth _ w = Unit {0}
 
--- why a call was refused, and exactly then: its step would have a number that the part has seen; or there are not as many places as it may need; or
--- a growth was refused
+-- why a call was refused, and exactly then. Its step would have a number that the part has seen; or there are not as many places as it may need; or
+-- an allocation failed
 abbrev pub RefusedUnder : HallShown → Event → PartShown → CallFault → Type 0
 RefusedUnder h e p (fault.Behind seen found) = (seen ≡ p.seen) × (found ≡ taken h + 1) × (found ≤ seen)
 RefusedUnder h e p fault.Full = (p.seen ≤ taken h) × IsFull h e

@@ -86,7 +86,7 @@ without_client p = record p { clients = p.clients - 1 }
 abbrev pub IsDepth : ℕ → Type 0
 IsDepth depth = (1 ≤ depth) × (depth ≤ 8)
 
--- a construction whose handler is to be started, or runs: where, and what its handler is told
+-- a construction whose handler is to be started, or runs: where, and what its handler gets
 pub record TokenShown : Type 0 where
   pub hall : HallNo
   pub key : ℕ
@@ -112,14 +112,14 @@ IsCall (Opened s) = Unit {0}
 IsCall (Asked s a) = Unit {0}
 IsCall _ = ⊥
 
--- why a call may be refused: its step would have a number that the seat has seen already; or for want of places, or of memory
+-- why a call may be refused: its step would have a number that the seat has seen already; or places or memory are lacking
 abbrev pub CallRefused : PartShown → CallFault → Type 0
 CallRefused p (fault.Behind seen found) = (seen ≡ p.seen) × (1 ≤ found) × (found ≤ seen)
 CallRefused p fault.Full = Unit {0}
 CallRefused p fault.NoMemory = Unit {0}
 
--- what the caller of a turn that was owed knows, of its part in that hall: one step is its own, and the receipt says it; or the step was taken all the
--- same, and its number is one that the part has seen already; or the event was not owed, and there was no step
+-- what the caller of a turn that was owed knows, of its part in that hall. One step is its own, and the receipt says it; or the event was not owed,
+-- and there was no step. Or the step was taken all the same, and its number is one that the part has seen already
 abbrev pub OwedPart : HallNo → ℕ → Event → PartShown → PartShown → Result Noted Lapse → Type 0
 OwedPart hall now e p p' (Ok r) =
     (r.hall ≡ hall) × (r.moment ≡ now) × (r.told ≡ told_of e) × IsOwedAnswer e r.answer × (p.seen < r.number)

@@ -17,6 +17,7 @@ use std::sync::ledger::{Book, Share};
 /// Hall `H` out of its lock. Its share of the record is the turns of the seats that were given back and of those that were handed in.
 #[derive(Drop)]
 pub(crate) struct Closed<N: Names, const H: u64> {
+    /// The hall.
     pub(crate) hall: Hall,
     /// The turns of the seats that were handed in.
     pub(crate) live: u64,
@@ -24,7 +25,9 @@ pub(crate) struct Closed<N: Names, const H: u64> {
     pub(crate) retired: u64,
     /// The tickets that were spent though nothing was owed.
     pub(crate) strays: u64,
+    /// The book of the ledger of turns.
     pub(crate) calls: Book<Calls<N, H>>,
+    /// What the hall kept of the ledger of turns, and then what seats gave back.
     pub(crate) pool: Share<Calls<N, H>>,
 }
 
@@ -106,9 +109,13 @@ impl<N: Names, const H: u64> Closed<N, H> {
 /// All four halls.
 #[derive(Drop)]
 pub(crate) struct AllClosed<N: Names> {
+    /// Hall 0.
     pub(crate) zero: Closed<N, 0>,
+    /// Hall 1.
     pub(crate) one: Closed<N, 1>,
+    /// Hall 2.
     pub(crate) two: Closed<N, 2>,
+    /// Hall 3.
     pub(crate) three: Closed<N, 3>,
 }
 

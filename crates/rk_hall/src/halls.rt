@@ -25,9 +25,13 @@ use std::sync::Wait;
 /// Four halls that threads share, each under a lock of its own. Every call is one turn of one hall under its lock, or none.
 #[derive(Drop)]
 pub struct Halls<N: Names> {
+    /// Hall 0 under its lock.
     pub(crate) zero: Lock<N, 0>,
+    /// Hall 1 under its lock.
     pub(crate) one: Lock<N, 1>,
+    /// Hall 2 under its lock.
     pub(crate) two: Lock<N, 2>,
+    /// Hall 3 under its lock.
     pub(crate) three: Lock<N, 3>,
 }
 
@@ -87,7 +91,7 @@ macro_rules! goes_on {
 impl<N: Names> Halls<N> {
     /// Four halls without a step, with these ledgers. Each draws every fourth serial: hall 0 from 4 on, any other from its number on. For so many
     /// seconds a key is negative whose handler did not complete it. With the seed names are hashed: who does not know it can't choose names that make
-    /// a search slow. An `Err` is want of memory.
+    /// a search slow. An `Err` is out of memory.
     pub fn new(
         alloc: Global,
         fresh: Fresh,
@@ -175,9 +179,9 @@ impl<N: Names> Halls<N> {
     /// One call in one hall: a client that comes (`Opened`), or an ask.
     ///
     /// The receipt is that of one step, with the moment and event that were handed in, and a number greater than all that the seat had seen in that
-    /// hall; a `Launch` comes with it exactly where its answer is a start. Refused, in this order, with nothing changed: `Behind`, only where the
-    /// number that the step would have is not above what the seat has seen; `Full`, where an event may need more places than are free;
-    /// `NoMemory`, where a growth was refused. It may wait.
+    /// hall. A `Launch` comes with it exactly where its answer is a start. The refusals, in this order, change nothing. `Behind` comes only where
+    /// the number that the step would have is not above what the seat has seen. `Full` comes where an event may need more places than are free,
+    /// `NoMemory` where an allocation failed. It may wait.
     pub fn call<R: Wait>(
         &self,
         rt: &R,
@@ -205,7 +209,7 @@ impl<N: Names> Halls<N> {
 
     /// Says that the handler of a construction runs, or could not be started. It may wait, and takes no memory.
     ///
-    /// Where the start is owed, the step is taken; the value is a `Running` where the handler runs, and `None` for `Failed` and where nothing is owed
+    /// Where the start is owed, the step is taken. The value is a `Running` where the handler runs, and `None` for `Failed` and where nothing is owed
     /// (`Stray`, which spends the `Launch` all the same).
     pub fn launched<R: Wait>(
         &self,
@@ -262,7 +266,7 @@ impl<N: Names> Halls<N> {
         }
     }
 
-    /// Says how a handler has ended, and what a piped one has put out. It may wait, and takes no memory.
+    /// Says how a handler has ended, and what a piped one has output. It may wait, and takes no memory.
     ///
     /// Where the end is owed, the step is taken. The value is a `Launch` exactly where the answer is `Negate`: of the same construction, for the
     /// handler that says that the key can't be made. It is `None` where nothing is owed (`Stray`, which spends the `Running` all the same).
@@ -380,7 +384,7 @@ impl<N: Names> Halls<N> {
     }
 
     /// The payload of the key that a search in the context of a construction's unspent authority hits, where it is Positive. It makes no step. An
-    /// `Err` is want of memory for the copy. It may wait.
+    /// `Err` is out of memory for the copy. It may wait.
     pub fn peek<R: Wait>(
         &self,
         rt: &R,

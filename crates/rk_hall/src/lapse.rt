@@ -23,7 +23,7 @@ pub enum CallFault {
     /// The volume has not as many free places as the event may need.
     #[error("the record's volume is full")]
     Full,
-    /// A growth was refused.
+    /// An allocation failed.
     #[error("out of memory")]
     NoMemory,
 }

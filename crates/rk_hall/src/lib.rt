@@ -8,19 +8,19 @@
 //!
 //! # What it promises
 //!
-//! A receipt is that of one step, with the moment and the event that were handed in, and a number greater than all that the seat had seen in that hall,
-//! in its own receipts or by [`Seat::hear`]; the seat's turns are one more. A call that is refused changes nothing. What is owed is never refused: its step is
-//! taken wherever the locked hall owes it, also where the seat has seen a greater number (`Behind`); where it owes nothing there is no step, the
-//! answer is `Stray`, and the token is spent and counted. `Behind` never comes to a seat that has seen nothing.
+//! A receipt is that of one step, with the moment and the event that were handed in. Its number is greater than all that the seat had seen in that
+//! hall, in its own receipts or by [`Seat::hear`]. The seat's turns are one more. A call that is refused changes nothing. What is owed is never
+//! refused: its step is taken wherever the locked hall owes it, also where the seat has seen a greater number (`Behind`). Where the hall owes nothing
+//! there is no step, the answer is `Stray`, and the token is spent and counted. `Behind` never comes to a seat that has seen nothing.
 //!
-//! *No orphan.* A `Launch` comes only from a call that is answered by a start, or from the end of a piped handler that another handler follows; it is spent
-//! only by [`Halls::launched`], and a `Running` only by [`Halls::ended`]. Under each lock there are as many constructions as tokens that are out and strays,
-//! and the steps are as many as the turns of all seats, those that were given back counted too.
+//! *No orphan.* A `Launch` comes only from a call that is answered by a start, or from the end of a piped handler that another handler follows. It is
+//! spent only by [`Halls::launched`], and a `Running` only by [`Halls::ended`]. Under each lock there are as many constructions as tokens that are
+//! out and strays. The steps are as many as the turns of all seats, those that were given back counted too.
 //!
-//! *Receipts.* When all is over, [`settle`] compares the records with the seats and with the receipts that came of them: it answers `Ok` exactly where the
-//! turns of the seats are all steps, and every receipt stands in the record of its hall, by rising number. Else it names what is missed, or the first
-//! receipt at fault. The records are those that stand under the locks then: no contract sees what a lock keeps, so that they are the records of the calls
-//! before is the lock's to keep, and tests of threads compare it.
+//! *Receipts.* When all is over, [`settle`] compares the records with the seats and with the receipts that their calls returned. It answers `Ok`
+//! exactly where the turns of the seats are all steps, and every receipt stands in the record of its hall, by rising number. Else it names what is
+//! missed, or the first receipt at fault. The records are those that stand under the locks then. No contract sees what a lock keeps, so no proof says
+//! that they are the records of the calls before. Tests of threads compare it.
 //!
 //! A seat, a token or a volume works only with the `Halls` that made it, by its type. Not promised: that a lock is ever got, that a waiter wakes, and
 //! any order between threads beyond the numbers. That each step which gives an outcome wakes those who wait for it is tried by tests.
@@ -36,8 +36,8 @@
 //! call, `lock` takes the lock, and `halls` chooses the hall. `seat` and `token` have what callers hold, `volume` a volume that was handed out, `lapse`
 //! why there is no receipt. `closed` is a hall that was taken out of its lock, `genuine` looks for receipts in it, and `settling` puts the four together.
 //!
-//! In `specs/`, `Seats` says what a call does to a seat, `Locked` what the lock keeps and what a call does under it, `Tickets` of which hall a ticket is,
-//! `Closed` what is known of a hall without its lock, `Settle` what a settlement answers.
+//! In `specs/`, `Seats` says what a call does to a seat, and `Locked` what the lock keeps and what a call does under it. `Tickets` says of which hall
+//! a ticket is, `Closed` what is known of a hall without its lock, `Settle` what a settlement answers.
 #![tactic(auto)]
 
 mod closed;

@@ -27,7 +27,9 @@ use std::sync::{Condvar, Mutex, Wait};
 /// Hall `H` under its lock, and who waits there for an outcome.
 #[derive(Drop)]
 pub(crate) struct Lock<N: Names, const H: u64> {
+    /// What the lock keeps.
     pub(crate) locked: Mutex<Locked<N, H>>,
+    /// Wakes those who wait for an outcome.
     pub(crate) told: Condvar,
     /// Where memory comes from.
     pub(crate) alloc: Global,

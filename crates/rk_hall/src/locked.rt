@@ -28,6 +28,7 @@ use std::sync::ledger::{Blank, Book, Share};
 /// other its constructions by the tickets that are out.
 #[derive(Drop)]
 pub(crate) struct Locked<N: Names, const H: u64> {
+    /// The hall.
     pub(crate) hall: Hall,
     /// How many seats may still be made.
     pub(crate) left: u64,
@@ -35,9 +36,13 @@ pub(crate) struct Locked<N: Names, const H: u64> {
     pub(crate) retired: u64,
     /// The tickets that were spent though nothing was owed.
     pub(crate) strays: u64,
+    /// The book of the ledger of turns.
     pub(crate) calls: Book<Calls<N, H>>,
+    /// What the lock keeps of the ledger of turns: those of seats that were given back.
     pub(crate) pool: Share<Calls<N, H>>,
+    /// The book of the ledger of tickets.
     pub(crate) out: Book<Out<N, H>>,
+    /// What the lock keeps of the ledger of tickets: one for each stray.
     pub(crate) home: Share<Out<N, H>>,
 }
 
@@ -55,9 +60,13 @@ impl<N: Names, const H: u64> Model for Locked<N, H> {
 
 /// A construction that a call has begun.
 pub(crate) struct Begun<N: Names, const H: u64> {
+    /// The key to be made.
     pub(crate) key: Serial,
+    /// What the handler gets.
     pub(crate) subject: BoxedSubject,
+    /// How many starts lead to it, 1 to 8.
     pub(crate) depth: u8,
+    /// The right to say what becomes of it.
     pub(crate) ticket: Ticket<N, H>,
     ghost deep: { IsDepth depth },
 }

@@ -1,4 +1,4 @@
-//! The ledgers of one `Halls`, told apart by their types.
+//! The ledgers of one `Halls`, which differ by their types.
 ghost use Rattle.std.specs.Prelude.{ℕ, ◌+◌, ◌*◌};
 
 use std::marker::{Brand, PhantomData};

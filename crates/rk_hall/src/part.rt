@@ -12,9 +12,13 @@ use std::sync::ledger::Share;
 /// A seat's part in hall `H`: its share of the record is the turns that it made.
 #[derive(Drop)]
 pub(crate) struct Part<N: Names, const H: u64> {
+    /// How many turns it made, at most 2^61.
     pub(crate) calls: u64,
+    /// The greatest number of a step that it has seen, 0 for none.
     pub(crate) seen: u64,
+    /// How many clients it opened that were not reported gone, at most `calls`.
     pub(crate) clients: u64,
+    /// Its share of the ledger of turns: `calls`.
     pub(crate) share: Share<Calls<N, H>>,
 }
 

@@ -12,9 +12,13 @@ use std::marker::Model;
 /// A seat works only with the `Halls` that made it. One that is neither given back nor handed to `settle` is missed there.
 #[derive(Drop)]
 pub struct Seat<N: Names> {
+    /// The part in hall 0.
     pub(crate) zero: Part<N, 0>,
+    /// The part in hall 1.
     pub(crate) one: Part<N, 1>,
+    /// The part in hall 2.
     pub(crate) two: Part<N, 2>,
+    /// The part in hall 3.
     pub(crate) three: Part<N, 3>,
 }
 

@@ -33,21 +33,22 @@ pub enum SettleFault {
     /// The first receipt at fault is of a volume that is neither the one that its hall records nor handed in.
     #[error("hall {}: volume {volume} is missing", .hall.number())]
     Missing { hall: HallNo, volume: u64 },
-    /// The first receipt at fault has this number: it is not above those of its hall that come before it, or no step of its volume has its number,
+    /// The first receipt at fault has this number. It is not above those of its hall that come before it, or no step of its volume has its number,
     /// moment, event and answer.
     #[error("hall {}: receipt {number} does not stand in the record", .hall.number())]
     Forged { hall: HallNo, number: u64 },
 }
 
-/// Compares the records of four halls with the seats that made them and with the receipts that came of them. It takes no memory, and ends the
-/// halls either way.
+/// Compares the records of four halls with the seats that made them and with the receipts that their calls returned. It takes no memory, and
+/// ends the halls either way.
 ///
-/// [`SettleFault::Uneven`] comes exactly where the turns of the seats that are handed in, and of those that were given back, are not all steps of the
-/// four halls. Else hall by hall, from hall 0 on, the first receipt is sought that is not numbered above those of its hall before it, or that does
-/// not stand in its volume with its moment, event and answer: [`SettleFault::Missing`] where its volume is neither the one that the hall records nor
-/// among those that are handed in, or else [`SettleFault::Forged`]. Receipts of several halls may come in any order among one another.
+/// [`SettleFault::Uneven`] is returned exactly where the turns of the seats that are handed in, and of those that were given back, are not all
+/// steps of the four halls. Else hall by hall, from hall 0 on, the first receipt at fault is sought. It is not numbered above those of its hall
+/// before it, or does not stand in its volume with its moment, event and answer. [`SettleFault::Missing`] is returned where its volume is neither
+/// the one that the hall records nor among those that are handed in; else [`SettleFault::Forged`]. Receipts of several halls may come in any
+/// order among one another.
 ///
-/// The records are those that stand under the locks in the end. No contract sees what a lock keeps: that the calls before made them is the lock's to keep.
+/// The records are those that stand under the locks in the end. No contract sees what a lock keeps, so no proof says that the calls before made them.
 pub fn settle<N: Names>(
     halls: Halls<N>,
     volumes: &[Volume<N>],

@@ -5,8 +5,9 @@ use crate::names::{Names, Out};
 use std::sync::ledger::Share;
 
 /// The right to say what becomes of one construction of hall `H`. There is one for each construction, and it can't be dropped: it is spent where the
-/// hall is told.
+/// hall takes the event.
 pub(crate) struct Ticket<N: Names, const H: u64> {
+    /// One part of the hall's ledger of tickets, with the amount 1.
     pub(crate) share: Share<Out<N, H>>,
     ghost part: { share.parts ≡ 1 },
     ghost one: { share.amount ≡ 1 },

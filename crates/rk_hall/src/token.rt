@@ -11,9 +11,13 @@ use std::marker::Model;
 
 /// A construction whose handler is to be started. It can't be dropped: `Halls::launched` takes it.
 pub struct Launch<N: Names> {
+    /// The key to be made.
     pub(crate) key: Serial,
+    /// What its handler gets.
     pub(crate) subject: BoxedSubject,
+    /// How many starts lead to it, 1 to 8.
     pub(crate) depth: u8,
+    /// The right to say what becomes of it.
     pub(crate) ticket: AnyTicket<N>,
     ghost deep: { IsDepth depth },
 }
@@ -29,9 +33,13 @@ impl<N: Names> Model for Launch<N> {
 
 /// A construction whose handler runs. It can't be dropped: `Halls::ended` takes it.
 pub struct Running<N: Names> {
+    /// The key to be made.
     pub(crate) key: Serial,
+    /// What its handler gets.
     pub(crate) subject: BoxedSubject,
+    /// How many starts lead to it, 1 to 8.
     pub(crate) depth: u8,
+    /// The right to say what becomes of it.
     pub(crate) ticket: AnyTicket<N>,
     ghost deep: { IsDepth depth },
 }
@@ -53,7 +61,7 @@ impl<N: Names> Launch<N> {
         self.key
     }
 
-    /// What its handler is told.
+    /// What its handler gets.
     pub fn subject(&self) -> &Subject
         ensures { result.now ≡ self.now.subject }
     {
@@ -76,7 +84,7 @@ impl<N: Names> Running<N> {
         self.key
     }
 
-    /// What its handler was told.
+    /// What its handler got.
     pub fn subject(&self) -> &Subject
         ensures { result.now ≡ self.now.subject }
     {

@@ -9,7 +9,9 @@ use std::marker::{Model, PhantomData};
 /// A volume of a hall's record, handed out. It works only with the `Halls` that made it.
 #[derive(Drop)]
 pub struct Volume<N: Names> {
+    /// The volume of the record.
     pub(crate) volume: rk_record::Volume,
+    /// The `Halls` that made it, by their type.
     pub(crate) names: PhantomData<N>,
 }
 

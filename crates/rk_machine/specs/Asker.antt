@@ -97,7 +97,7 @@ is_reached w c k = list_any (λ ring. is_linked w.rings ring k) (rings_of c)
 abbrev pub is_possessed : World → Asker → ℕ → Bool
 is_possessed w asker k = is_reached w asker.context k || has_assumed asker k
 
--- the key has to be there: EINVAL for a number that is no serial, ENOKEY for a key that is not there
+-- the key has to be there: EINVAL for an invalid serial, ENOKEY for a key that is not there
 abbrev pub known_refusal : World → Option ℕ → Option Errno
 known_refusal w None = Some errno.Einval
 known_refusal w (Some k) = refused_if (not (map.contains_key w.keys k)) errno.Enokey

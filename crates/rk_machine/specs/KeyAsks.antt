@@ -60,7 +60,7 @@ use Rattle.rk_machine.specs.Request.{with_key}
 abbrev pub serial_in : ℤ → ℕ
 serial_in key = unwrap_or (serial_named key) 0
 
--- ---- what is told of a key
+-- ---- what is returned about a key
 
 -- the error of the key where it stands Revoked, Expired or Negative
 abbrev pub use_refusal : World → ℕ → ℕ → Option Errno
@@ -188,7 +188,7 @@ Clears old asker r answer new =
 
 -- ---- DEFAULT: keyctl_set_reqkey_keyring(3)
 
--- the setting that DEFAULT asks for: -1 keeps the one before, and any number but that of a setting is none
+-- the setting that DEFAULT asks for: -1 keeps the one before, and any number but that of a setting is invalid
 abbrev pub setting_asked : ℤ → Setting → Option Setting
 setting_asked (pos n) before = setting_named n
 setting_asked (negsuc n) before = if n == 0 then Some before else None

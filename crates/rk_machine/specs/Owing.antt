@@ -76,8 +76,8 @@ abbrev pub is_request : Ask → Bool
 is_request (ask.Request typ description callout ring) = true
 is_request _ = false
 
--- the event's own step, and all that may be owed after it: the end of a client that comes; two launches and two ends of a construction that starts,
--- and the collect of its starter
+-- the event's own step, and all that may be owed after it. That is the end of a client that comes; two launches and two ends of a construction that
+-- starts, and the collect of its starter
 abbrev pub need : Event → ℕ
 need (Opened s) = 2
 need (Asked s a) = cond (is_request a) 6 1

@@ -14,6 +14,7 @@ use std::marker::Model;
 /// A subject on the heap. Contracts see it as the subject itself, and two of equal subjects as equal.
 #[derive(Debug, Drop)]
 pub struct BoxedSubject {
+    /// The subject, on the heap.
     subject: Box<Subject>,
 }
 

@@ -12,15 +12,14 @@ ghost use Rattle.rk_machine.specs.Laws.{EachOnce, EachOutcome, EachOwn, EachRoot
 
 /// The laws of every run, from the empty world on, whatever its steps are; running it does nothing.
 ///
-/// *One construction*: each key has at most one start, one launch, one completion and one ending, and they come in this order; but after a piped
-/// handler failed, which happens at most once and only before completion, one more launch may come. *One outcome*: all collects that end a wait on
-/// a key have one answer, its serial or the error of a key, and a collect is put off only before the key's ending, that of a session that did not
-/// start it only before its completion. *Own authority*: a completion of a key is an ask of the handler that makes it, and the latest ASSUME of
-/// that handler that was answered 0 named that key. *First requester*: a handler is told the uid, the gid and the rings of the last HELLO before
-/// the client's ask that led to its start, over however many handlers, and 0 for a ring that no client has any more. *No circle*: at no point does
-/// a session wait, over the handlers of the keys on which others wait, for itself. *No deep chain*: at no point do more than 8 starts lead to a
-/// handler. A launch, an end or a client's end counts where it is effective; any other is answered as misuse, but for an end that another handler
-/// follows.
+/// *One construction*: each key has at most one start, one launch, one completion and one ending, in this order. But after a piped handler failed,
+/// which happens at most once and only before completion, one more launch may come. *One outcome*: all collects that end a wait on a key have one
+/// answer, its serial or the error of a key. A collect is put off only before the key's ending; that of a session that did not start it, only
+/// before its completion. *Own authority*: a completion of a key is an ask of the handler that makes it, and the latest ASSUME of that handler
+/// that was answered 0 named that key. *First requester*: a handler gets the uid, the gid and the rings of the last HELLO before the client's ask
+/// that led to its start, over however many handlers. It gets 0 for a ring that no client has any more. *No circle*: at no point does a session
+/// wait, over the handlers of the keys on which others wait, for itself. *No deep chain*: at no point do more than 8 starts lead to a handler. A
+/// launch, an end or a client's end counts where it is effective; any other is answered as misuse, but for an end that another handler follows.
 pub fn every_run()
     ensures one_construction { (from : Beginning) (past : List Past) (w : World) → Run from past w → EachOnce past }
     ensures one_outcome { (from : Beginning) (past : List Past) (w : World) → Run from past w → EachOutcome past }
@@ -34,8 +33,8 @@ pub fn every_run()
 /// What is owed in every run, for which whoever records its steps keeps places; running it does nothing.
 ///
 /// In the beginning nothing is owed. Each step changes what is owed only by what is owed to the client or construction that its event is about,
-/// and by a construction that starts; a step that is owed takes no place more than it had, and is answered neither by want of memory
-/// nor by bytes. Nobody is owed more than all together, and there are no more constructions than places owed.
+/// and by a construction that starts. A step that is owed takes no place more than it had, and is answered neither by out of memory nor by
+/// bytes. Nobody is owed more than all together, and there are no more constructions than places owed.
 pub fn every_step_owed()
     ensures beginning { (negative first stride : ℕ) → let w = empty_world negative first stride in (owed w ≡ 0) × (ends_owed w ≡ 0) × (constructions w ≡ 0) }
     ensures steps { (old : World) (now : ℕ) (event : Event) (answer : Answer) (new : World) → Reached old

@@ -19,6 +19,7 @@ fails_with look s a word used NotText st h = absurd h
 fails_with look s a word used TooLong st h = (word, st, h)
 fails_with look s a word used NoMemory st h = inr (word, st, h)
 
+-- an argument fails where its word has no room or no memory
 pub word_fails : (look : Lookup) (s : Subject) (a : Argument) (word : List ℕ) (used : ℕ) (r : Result (List ℕ) ExpandFault) → StandsFor look s a word → IfErr r (WordFails word used) → IfErr r (Fails look s a used)
 word_fails look s a word used (Ok w) st h = tt
 word_fails look s a word used (Err f) st h = fails_with look s a word used f st h
@@ -64,5 +65,6 @@ made_more look s arguments words i a word lt e made st =
     let Q : Argument → Type 0 = λ x. AreWords look s (take i arguments ++ x ∷ []) (words ++ word ∷ []) in
     subst P (sym (take_more arguments i a lt)) (subst Q e (zip_push (StandsFor look s) (take i arguments) words a word made st))
 
+-- a word more is its length and one byte more
 pub size_more : (words : List (List ℕ)) (word : List ℕ) → size_of (words ++ word ∷ []) ≡ size_of words + (length word + 1)
 size_more words word = omega (arith, sum_by-append (λ (w : List ℕ). length w + 1) words (word ∷ []))

@@ -71,12 +71,14 @@ module _ (look other : Lookup) (on : (wanted : Wanted) (r : Result (Option (List
 
 -- the same of what calls return
 module _ (returns : Wanted → Result (Option (Vec ℕ)) AllocError → Type 0) (other : Lookup) (s : Subject) where
+  -- words that were made by the calls of a lookup are those of any lookup that answers as much
   pub words_of_calls : (arguments : List Argument) (words : List (List ℕ)) → AreWords (answers_of returns) s arguments words
       → ((wanted : Wanted) (r : Result (Option (Vec ℕ)) AllocError) → returns wanted r → other wanted (payload_shown r)) → AreWords other s arguments words
   words_of_calls arguments words h on =
       are_words (answers_of returns) other (λ wanted answer g. (let P : Result (Option (List ℕ)) AllocError → Type 0 = other wanted in
       subst P g.2 (on wanted g.0 g.1))) s arguments words h
 
+  -- an expansion that failed by the calls of a lookup fails by any lookup that answers as much
   pub fails_of_calls : (arguments : List Argument) (fault : ExpandFault) → FailsAt (answers_of returns) s arguments fault
       → ((wanted : Wanted) (r : Result (Option (Vec ℕ)) AllocError) → returns wanted r → other wanted (payload_shown r)) → FailsAt other s arguments fault
   fails_of_calls arguments fault h on =

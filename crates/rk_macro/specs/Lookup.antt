@@ -4,7 +4,7 @@ use Rattle.std.specs.declared.alloc.AllocError.{AllocError}
 use Rattle.std.specs.Global.{Vec}
 use Rattle.rk_conf.specs.declared.argument.Wanted.{Wanted}
 
--- the payload, no key, or want of memory, without the room of the vector
+-- the payload, no key, or out of memory, without the room of the vector
 abbrev pub payload_shown : Result (Option (Vec ℕ)) AllocError → Result (Option (List ℕ)) AllocError
 payload_shown (Ok payload) = Ok (option_map (λ v. v.items) payload)
 payload_shown (Err e) = Err e

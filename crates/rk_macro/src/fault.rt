@@ -17,7 +17,7 @@ pub enum ExpandFault {
     /// The words so far, each with one byte more, pass 65,536 bytes.
     #[error("X3")]
     TooLong,
-    /// A growth was refused, or the lookup wanted memory.
+    /// An allocation failed, or the lookup was out of memory.
     #[error("X4")]
     NoMemory,
 }

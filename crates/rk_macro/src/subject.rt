@@ -42,7 +42,7 @@ pub struct Subject {
     pub typ: TypeName,
     /// Its description.
     pub desc: Description,
-    /// What the requester told.
+    /// What the requester passed to the handler.
     pub callout: Callout,
     /// The requester's uid.
     pub uid: u32,

@@ -51,6 +51,7 @@ checked_again rule text rest fits = rw (block_again text rest fits.0, fits.1) re
 abbrev Taken : Kind → List ℕ → Value × List ℕ → Type 0
 Taken k bytes x = Takes bytes (spelled x.0) x.1 × IsValue k x.0
 
+-- a value that is read was spelled by the bytes that it takes, and is of its kind
 pub value_takes : (k : Kind) (bytes : List ℕ) (x : Value × List ℕ) → IsBytes bytes → value_at k bytes ≡ Ok x → Takes bytes (spelled x.0) x.1 × IsValue k x.0
 unfolding value_at spelled
 value_takes (Byte passes) [] x fits e = absurd cc
@@ -84,6 +85,7 @@ value_takes (Optional rule) (suc zero ∷ rest) x fits e =
     subst (Taken (Optional rule) (1 ∷ rest)) (ok_is made x b.2) (record { parts = ap (λ (w : List ℕ). 1 ∷ w) t.0.parts; rest_fits = t.0.rest_fits }, t.1)
 value_takes (Optional rule) (suc (suc b) ∷ rest) x fits e = absurd cc
 
+-- a value that was spelled is read again, up to where it ends
 pub value_again : (k : Kind) (v : Value) (rest : List ℕ) → IsValue k v → value_at k (spelled v ++ rest) ≡ Ok (v, rest)
 unfolding value_at spelled
 value_again (Byte passes) (U8 n) rest fits = rw fits.1 refl

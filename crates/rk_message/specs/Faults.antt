@@ -13,7 +13,7 @@ fault_answer Short = Einval
 fault_answer Trailing = Einval
 fault_answer (Bad e) = e
 
--- a fault's errno, and ENOMEM for want of memory
+-- a fault's errno, and ENOMEM when out of memory
 abbrev pub error_answer : ReadError → Errno
 error_answer (error.Fault f) = fault_answer f
 error_answer error.NoMemory = Enomem

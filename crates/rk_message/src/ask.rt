@@ -18,15 +18,15 @@ pub type AskView<'a> = AskOf<TypeView<'a>, DescriptionView<'a>, CalloutView<'a>,
 /// What a session asks, with borrowed names and a payload of its own: what a step takes, where the payload becomes a key's.
 pub type AskStep<'a> = AskOf<TypeView<'a>, DescriptionView<'a>, CalloutView<'a>, Payload>;
 
-/// What a session asks, with a type `T`, a description `D`, a callout `C` and a payload `P`. Rings and keys are numbers as on the wire: positive ones are serials, others
-/// name a ring or a key by its role, as -3 the session ring (keyctl(2), "Special key IDs"). What a
-/// number means, and whether it is refused, is for whoever carries the ask out.
+/// What a session asks, with a type `T`, a description `D`, a callout `C` and a payload `P`. Rings and keys are numbers as on the wire. Positive ones
+/// are serials, others name a ring or a key by its role, as -3 the session ring (keyctl(2), "Special key IDs"). What a number means, and whether it
+/// is refused, is for whoever carries the ask out.
 #[derive(Debug, Drop, PartialEq, Eq)]
 pub enum AskOf<T, D, C, P> {
     /// Makes the session's context: who asks, which of its own rings it has, and the session ring
     /// that it joins (keyctl_join_session_keyring(3)).
     Hello(Greeting),
-    /// Finds a key, or has it made by a handler that is told the callout, and links it into the
+    /// Finds a key, or has it made by a handler that gets the callout, and links it into the
     /// destination. For 0 a key that is found is linked nowhere, and one that is made into the
     /// session's default ring (request_key(2)).
     Request {
@@ -89,7 +89,7 @@ pub enum AskOf<T, D, C, P> {
     Clear {
         ring: i32,
     },
-    /// Sets which ring a made key is linked into by default; -1 only tells the setting
+    /// Sets which ring a made key is linked into by default; -1 only returns the setting
     /// (keyctl_set_reqkey_keyring(3)).
     Default {
         setting: i32,
@@ -101,7 +101,7 @@ pub enum AskOf<T, D, C, P> {
         payload: P,
         ring: i32,
     },
-    /// What the requester told the handler whose authority is assumed (request_key(2), `callout_info`).
+    /// The callout for the handler whose authority is assumed (request_key(2), `callout_info`).
     Callout,
 }
 

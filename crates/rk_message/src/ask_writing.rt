@@ -21,7 +21,7 @@ impl Ask {
         spelling::len(self.view().spelled())
     }
 
-    /// The one spelling of the ask. Only want of memory refuses it.
+    /// The one spelling of the ask. The only refusal is out of memory.
     pub fn write(&self, alloc: Global) -> Result<Vec<u8>, AllocError>
         ensures ok { IfOk result (λ v. v.items ≡ spelling (ask_message self.now)) }
         // The fields keep what their types promise, so that the bytes read back as this ask alone.

@@ -1,4 +1,4 @@
-//! Whether two asks, or two replies, are equal: as their derived `==` tells, which compares kind and fields.
+//! Whether two asks, or two replies, are equal: by their derived `==`, which compares kind and fields.
 
 ghost use Rattle.std.specs.Prelude.{◌≡◌, ◌↔◌, ◌==◌, IsTrue};
 ghost use Rattle.std.proofs.Common.{rules};

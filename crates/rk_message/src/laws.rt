@@ -3,7 +3,7 @@
 ghost use Rattle.rk_message.specs.Table.{asks, replies};
 ghost use Rattle.rk_message.specs.Laws.{AsksAreTold, AsksReadBack, RepliesAreTold, RepliesReadBack, SpellsAsk, SpellsReply, ReadsOrFails};
 
-/// Two asks with the same spelling are the same ask, the spelling of an ask reads back as it, and each
+/// Two asks with the same spelling are the same ask, and the spelling of an ask reads back as it. Each
 /// body either spells an ask and has no fault, or spells none and has exactly one. It does nothing
 /// when it runs: a proof calls it for what it ensures.
 pub fn asks_have_one_reading()

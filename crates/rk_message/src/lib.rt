@@ -3,18 +3,18 @@
 //! # Purpose
 //!
 //! A session sends an [`Ask`] as the body of a frame and gets a [`Reply`] as the body of another. A
-//! body is a first byte, which says what the message is, and then fields: numbers of one or four
-//! bytes with the highest first, `i32` in two's complement, texts and payloads behind their length
-//! of two bytes, a callout behind a byte 0 (none) or 1. Each ask and each reply has one spelling, and
-//! each body has at most one reading.
+//! body is a first byte, which says what the message is, and then fields. A number has one or four
+//! bytes with the highest first, `i32` in two's complement. Texts and payloads stand behind their
+//! length of two bytes, a callout behind a byte 0 (none) or 1. Each ask and each reply has one
+//! spelling, and each body has at most one reading.
 //!
 //! # Reading and writing
 //!
-//! `Ask::read(alloc, body)` on the bytes `03 00000003` is `Ask::Assume { key: 3 }`, and
-//! `Ask::Assume { key: 3 }.write(alloc)` is those bytes again. A body that spells nothing has one
-//! [`Fault`], its leftmost: `03 0000` is short, `03 00000003 00` has trailing bytes, `ff` is an unknown
-//! op, and a field that breaks its rule is bad and carries its errno. `Fault::errno` says what
-//! the session is answered. Want of memory comes only for a body that has a reading.
+//! `Ask::read(alloc, body)` on the bytes `03 00000003` is `Ask::Assume { key: 3 }`, and `Ask::Assume {
+//! key: 3 }.write(alloc)` is those bytes again. A body that spells nothing has one [`Fault`], its
+//! leftmost. `03 0000` is short, `03 00000003 00` has trailing bytes, and `ff` is an unknown op. A
+//! field that breaks its rule is bad and carries its errno. `Fault::errno` says what the session is
+//! answered. Want of memory comes only for a body that has a reading.
 //!
 //! All asks are one enum, [`AskOf`], over the types of their parts. An [`Ask`] owns its names and its payload. An [`AskView`] borrows them from the body,
 //! and takes no memory. An [`AskStep`] borrows its names and owns its payload: that is what a step takes, since the payload becomes a key's.
@@ -27,13 +27,13 @@
 //! # The table of asks
 //!
 //! [`AskShape::all`] is the table: for each [`Op`] its byte, its name and its fields, as [`FieldKind`]s with names of
-//! their own. Whatever else speaks of asks, as a command line that tells its usage, can go by it.
+//! their own. Whatever else speaks of asks, as a command line that prints its usage, can go by it.
 //!
 //! # How it is built
 //!
 //! The format stands once, as a table of first bytes and kinds of fields, in `specs/Table.antt`; the code's table of asks, in
 //! `shape`, is proved to be that one. Asks are read and written field by field, and each is proved to go along its line of the
-//! table: `ask_reading` reads a view of the body, `ask_writing` writes a view of the ask. `field` reads one field from the front
+//! table. `ask_reading` reads a view of the body, `ask_writing` writes a view of the ask. `field` reads one field from the front
 //! of the bytes, `spelling` writes a message. `reply_reading` and `reply_writing` have the four replies. What the table says of
 //! every body stands as laws in `laws`. `equality` compares messages, `copying` leads from each instance of an ask to the others.
 #![tactic(auto)]

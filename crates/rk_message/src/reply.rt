@@ -10,6 +10,7 @@ use std::marker::Model;
 /// 65,536 bytes of a frame's body.
 #[derive(Debug, Drop)]
 pub struct ReplyBytes {
+    /// The bytes, at most 65,533.
     bytes: Vec<u8>,
 }
 
@@ -75,7 +76,7 @@ impl Clone for ReplyBytes {
 /// What a session is answered.
 #[derive(Clone, Debug, Drop, PartialEq, Eq)]
 pub enum Reply {
-    /// The serial of a key, the setting before, or 0 where there is nothing to tell.
+    /// The serial of a key, the setting before, or 0 where there is nothing to return.
     Number(u32),
     /// A payload, a description or a callout.
     Bytes(ReplyBytes),

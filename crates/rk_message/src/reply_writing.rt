@@ -28,7 +28,7 @@ impl Reply {
         spelling::len(self.spelled())
     }
 
-    /// The one spelling of the reply. Only want of memory refuses it.
+    /// The one spelling of the reply. The only refusal is out of memory.
     pub fn write(&self, alloc: Global) -> Result<Vec<u8>, AllocError>
         ensures ok { IfOk result (λ v. v.items ≡ spelling (reply_message self.now)) }
         // The fields keep what their types promise, so that the bytes read back as this reply alone.

@@ -26,7 +26,7 @@ pub enum Op {
     Callout,
 }
 
-/// What a field tells, and so how it is spelled and which rule it keeps.
+/// What a field means, and so how it is spelled and which rule it keeps.
 #[derive(Clone, Copy, Debug, PartialEq, Eq)]
 pub enum FieldKind {
     /// The user who asks: a `u32`.
@@ -41,7 +41,7 @@ pub enum FieldKind {
     Type,
     /// A description: a text of 1 to 4,095 bytes behind its length.
     Description,
-    /// What the handler is told: a byte 0 for nothing, or a byte 1 and a text of at most 4,095 bytes behind its length.
+    /// The callout for the handler: a byte 0 for none, or a byte 1 and a text of at most 4,095 bytes behind its length.
     Callout,
     /// A key, by its serial or its role: an `i32`.
     Key,

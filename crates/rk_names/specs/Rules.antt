@@ -4,7 +4,7 @@ use Rattle.rk_text.specs.Text.{is_text}
 use Rattle.rk_names.specs.declared.errors.NameFault.{NameFault}
 use Rattle.rk_names.specs.declared.errors.NameFault.TheVariants.{Empty, TooLong, Dot, Byte, NoMemory}
 
--- bytes that are no text (UTF-8 without a zero byte) are refused for a byte
+-- bytes that are invalid text (text is UTF-8 without a zero byte) are refused for a byte
 abbrev pub text_fault : List ℕ → Option NameFault
 text_fault bytes = if is_text bytes then None else Some Byte
 
@@ -29,7 +29,7 @@ callout_fault bytes = if nat_lt 4095 (length bytes) then Some TooLong else text_
 abbrev pub payload_fault : List ℕ → Option NameFault
 payload_fault bytes = if length bytes == 0 then Some Empty else (if nat_lt 32767 (length bytes) then Some TooLong else None)
 
--- the refusal is the rule's fault; want of memory comes only where there is none
+-- the refusal is the rule's fault; out of memory is answered only where there is none
 abbrev pub IsRefusedFor : NameFault → Option NameFault → Type 0
 IsRefusedFor NoMemory fault = fault ≡ None
 IsRefusedFor Empty fault = fault ≡ Some Empty

@@ -1,4 +1,4 @@
-//! What a handler is told.
+//! The callout: what a handler gets to make its key from.
 ghost use Rattle.std.specs.Prelude.{◌≡◌, IfOk, IfErr, None, MatchResult, Some};
 ghost use Rattle.rk_names.specs.Rules.{callout_fault, IsRefusedFor};
 
@@ -8,10 +8,11 @@ use std::alloc::{AllocError, Global};
 use std::marker::Model;
 use std::sync::Arc;
 
-/// What the requester tells the handler: 0 to 4,095 bytes of UTF-8 without a zero byte
+/// What the requester passes to the handler: 0 to 4,095 bytes of UTF-8 without a zero byte
 /// (request_key(2), `callout_info`). Its copies share the bytes.
 #[derive(Debug, Drop)]
 pub struct Callout {
+    /// The text, 0 to 4,095 bytes.
     bytes: Arc<Vec<u8>>,
 }
 
@@ -52,8 +53,8 @@ impl Callout {
         Callout::from_checked(alloc, bytes).map_err(|_| NameFault::NoMemory)
     }
 
-    /// A copy of bytes in which `fault` finds none, without another look at them. Only want of
-    /// memory refuses it.
+    /// A copy of bytes in which `fault` finds none, without another look at them. The only refusal
+    /// is out of memory.
     pub fn from_checked(alloc: Global, bytes: &[u8]) -> Result<Callout, AllocError>
         requires { callout_fault bytes.now ≡ None }
         ensures { IfOk result (λ n. n ≡ bytes.now) }
@@ -93,6 +94,7 @@ impl Clone for Callout {
 /// A callout that is still borrowed: the bytes keep the rule of a [`Callout`].
 #[derive(Debug, Drop)]
 pub struct CalloutView<'a> {
+    /// The text, 0 to 4,095 bytes.
     bytes: &'a [u8],
 }
 
@@ -126,7 +128,7 @@ impl<'a> CalloutView<'a> {
         self.bytes
     }
 
-    /// A copy. Only want of memory refuses it.
+    /// A copy. The only refusal is out of memory.
     pub fn to_owned(&self, alloc: Global) -> Result<Callout, AllocError>
         ensures { IfOk result (λ n. n ≡ self.now) }
     {

@@ -3,9 +3,9 @@ ghost use Rattle.std.specs.Prelude.{◌≡◌};
 
 use crate::numbers::Serial;
 
-/// Who acts: the user and group that a session stated, and the rings that are searched for it, in the
-/// order in which they stand here (request_key(2), "DESCRIPTION"; keyrings(7), "Anchoring keys"). The
-/// thread and the process ring may be absent. A ring that was dropped since counts as absent.
+/// Who acts: the user and group that a session stated, and the rings that are searched for it. They
+/// stand in the order of the search (request_key(2), "DESCRIPTION"; keyrings(7), "Anchoring keys").
+/// The thread and the process ring may be absent. A ring that was dropped since counts as absent.
 #[derive(Clone, Copy, Debug, PartialEq, Eq)]
 pub struct Context {
     /// The user's number.
@@ -22,8 +22,8 @@ pub struct Context {
     pub user: Serial,
 }
 
-/// Where a new key goes when a request names no ring: the first ring that there is from this one on,
-/// in the order requestor, thread, process, session, user (keyctl(2), `KEYCTL_SET_REQKEY_KEYRING`).
+/// Where a new key goes when a request names no ring. It is the first ring that there is from this one
+/// on, in the order requestor, thread, process, session, user (keyctl(2), `KEYCTL_SET_REQKEY_KEYRING`).
 #[derive(Clone, Copy, Debug, PartialEq, Eq)]
 pub enum Setting {
     /// As it begins. The search starts at the requestor's ring.

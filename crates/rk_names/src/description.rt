@@ -12,6 +12,7 @@ use std::sync::Arc;
 /// (request_key(2), "DESCRIPTION"). Its copies share the bytes.
 #[derive(Debug, Drop)]
 pub struct Description {
+    /// The text, 1 to 4,095 bytes.
     bytes: Arc<Vec<u8>>,
 }
 
@@ -56,8 +57,8 @@ impl Description {
         Description::from_checked(alloc, bytes).map_err(|_| NameFault::NoMemory)
     }
 
-    /// A copy of bytes in which `fault` finds none, without another look at them. Only want of
-    /// memory refuses it.
+    /// A copy of bytes in which `fault` finds none, without another look at them. The only refusal
+    /// is out of memory.
     pub fn from_checked(alloc: Global, bytes: &[u8]) -> Result<Description, AllocError>
         requires { description_fault bytes.now ≡ None }
         ensures { IfOk result (λ n. n ≡ bytes.now) }
@@ -97,6 +98,7 @@ impl Clone for Description {
 /// A description that is still borrowed: the bytes keep the rule of a [`Description`].
 #[derive(Debug, Drop)]
 pub struct DescriptionView<'a> {
+    /// The text, 1 to 4,095 bytes.
     bytes: &'a [u8],
 }
 
@@ -130,7 +132,7 @@ impl<'a> DescriptionView<'a> {
         self.bytes
     }
 
-    /// A copy. Only want of memory refuses it.
+    /// A copy. The only refusal is out of memory.
     pub fn to_owned(&self, alloc: Global) -> Result<Description, AllocError>
         ensures { IfOk result (λ n. n ≡ self.now) }
     {

@@ -106,7 +106,7 @@ impl fmt::Display for Errno {
     }
 }
 
-/// Why a key can't be used. Where several keys match, the first in this order is told
+/// Why a key can't be used. Where several keys match, the first in this order is returned
 /// (request-key.rst, "The search algorithm").
 #[derive(Clone, Copy, Debug, PartialEq, Eq)]
 pub enum KeyError {
@@ -170,7 +170,7 @@ impl NameFault {
     ghost use Rattle.std.specs.Prelude.{◌≡◌};
     ghost use Rattle.rk_names.specs.Numbers.{fault_errno};
 
-    /// What it is answered as: EPERM for a dot, ENOMEM for want of memory, else EINVAL.
+    /// What it is answered as: EPERM for a dot, ENOMEM when out of memory, else EINVAL.
     pub fn errno(self) -> Errno
         ensures { result ≡ fault_errno self }
     {

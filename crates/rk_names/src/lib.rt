@@ -2,20 +2,17 @@
 //!
 //! # Purpose
 //!
-//! A key has a [`TypeName`] and a [`Description`], a handler is told a [`Callout`], a key holds a
-//! [`Payload`]. Keys and rings are numbered by a [`Serial`], a step happens at a [`Moment`], a
-//! refusal is an [`Errno`]; who acts, and in whose rings, is a [`Context`]. Whoever holds one of these values holds its rule with it: a `TypeName`
-//! has 1 to 31 bytes of text and no leading dot, wherever it came from.
+//! A key has a [`TypeName`] and a [`Description`], a handler gets a [`Callout`], a key holds a [`Payload`]. Keys and rings are numbered by a
+//! [`Serial`], a step happens at a [`Moment`], a refusal is an [`Errno`]; who acts, and in whose rings, is a [`Context`]. Whoever holds one of
+//! these values holds its rule with it: a `TypeName` has 1 to 31 bytes of text and no leading dot, wherever it came from.
 //!
 //! # Making them
 //!
-//! A maker tests its rule and refuses by name, in one order: `Empty`, `TooLong`, `Dot`, `Byte`, and
-//! want of memory last. So `TypeName::new(b"user")` is made, `TypeName::new(b".x")` is
-//! refused with `Dot`. Where bytes are still borrowed, as in a message that is being read,
-//! a [`TypeView`] keeps the same rule and takes no memory, and `to_owned` copies it without
-//! another look; [`DescriptionView`], [`CalloutView`] and [`PayloadView`] likewise. A type lies in its value and takes no memory. The bytes of a description and of a
-//! callout are shared by its copies, so that a step, its record and its receipt have one text in memory. [`Payload::new`] moves the
-//! bytes that it is handed and takes no memory either.
+//! A maker tests its rule and refuses by name, in one order: `Empty`, `TooLong`, `Dot`, `Byte`, and out of memory last. So `TypeName::new(b"user")`
+//! is made, `TypeName::new(b".x")` is refused with `Dot`. Where bytes are still borrowed, as in a message that is being read, a [`TypeView`] keeps
+//! the same rule and takes no memory, and `to_owned` copies it without another look. [`DescriptionView`], [`CalloutView`] and [`PayloadView`] do
+//! likewise. A type lies in its value and takes no memory. The bytes of a description and of a callout are shared by its copies, so that a step, its
+//! record and its receipt have one text in memory. [`Payload::new`] moves the bytes that it is handed and takes no memory either.
 //!
 //! # How it is built
 //!

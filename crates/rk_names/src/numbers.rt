@@ -6,6 +6,7 @@ use std::marker::Model;
 /// A serial of a key or a ring: 1 to 2,147,483,647 (keyrings(7), "Key serial number").
 #[derive(Clone, Copy, Debug, PartialEq, Eq, PartialOrd, Ord, Hash)]
 pub struct Serial {
+    /// The number, 1 to 2,147,483,647.
     number: u32,
 }
 
@@ -45,8 +46,8 @@ impl Serial {
     }
 }
 
-/// A time in seconds, as the caller's clock tells it. Nothing is assumed of a clock: a later step
-/// may have an earlier moment.
+/// A time in seconds, by the caller's clock. Nothing is assumed of a clock: a later step may have
+/// an earlier moment.
 #[derive(Clone, Copy, Debug, PartialEq, Eq, PartialOrd, Ord, Hash)]
 pub struct Moment(pub u64);
 
@@ -73,7 +74,7 @@ impl Moment {
 }
 
 /// The number of a name. Live keys share one exactly where their type and description are equal, so
-/// that a ring can tell names apart without reading them.
+/// that a ring can compare names without reading them.
 #[derive(Clone, Copy, Debug, PartialEq, Eq, PartialOrd, Ord, Hash)]
 pub struct NameNo(pub u32);
 

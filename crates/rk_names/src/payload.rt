@@ -9,6 +9,7 @@ use std::marker::Model;
 /// What a key holds: 1 to 32,767 bytes, any bytes (add_key(2), the type `user`).
 #[derive(Debug, Drop)]
 pub struct Payload {
+    /// The bytes, 1 to 32,767 of them.
     bytes: Vec<u8>,
 }
 
@@ -89,6 +90,7 @@ impl Clone for Payload {
 /// A payload that is still borrowed: the bytes keep the rule of a [`Payload`].
 #[derive(Debug, Drop)]
 pub struct PayloadView<'a> {
+    /// The bytes, 1 to 32,767 of them.
     bytes: &'a [u8],
 }
 
@@ -122,7 +124,7 @@ impl<'a> PayloadView<'a> {
         self.bytes
     }
 
-    /// A copy. Only want of memory refuses it.
+    /// A copy. The only refusal is out of memory.
     pub fn to_owned(&self, alloc: Global) -> Result<Payload, AllocError>
         ensures { IfOk result (λ n. n ≡ self.now) }
     {

@@ -12,6 +12,7 @@ use std::marker::Model;
 /// (add_key(2), "DESCRIPTION" and "ERRORS"). It lies in the value, and takes no memory.
 #[derive(Debug, Drop)]
 pub struct TypeName {
+    /// The text, 1 to 31 bytes.
     bytes: ArrayVec<u8, 31>,
 }
 
@@ -98,6 +99,7 @@ impl Clone for TypeName {
 /// A type that is still borrowed: the bytes keep the rule of a [`TypeName`].
 #[derive(Debug, Drop)]
 pub struct TypeView<'a> {
+    /// The text, 1 to 31 bytes.
     bytes: &'a [u8],
 }
 

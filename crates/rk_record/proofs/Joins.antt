@@ -41,6 +41,7 @@ more f xs i x lt at =
     ap (flat_map f) (take_more xs i x lt) ∙ flat_map-append f (take i xs) (get_or xs i x ∷ []) ∙ ap (λ l. flat_map f (take i xs) ++ l) (append-nil (f (get_or xs i x)))
     ∙ ap (λ y. flat_map f (take i xs) ++ f y) (sym at)
 
+-- a run through some lists of steps, and one through the next list, are a run through all of them
 pub run_more : {X : Type 0} (f : X → List Recorded) (w v u : World) (xs : List X) (i : ℕ) (x : X) → i < length xs → x ≡ get_or xs i x
     → Runs w (flat_map f (take i xs)) v → Runs v (f x) u → Runs w (flat_map f (take (i + 1) xs)) u
 run_more f w v u xs i x lt at r s = subst (λ l. Runs w l u) (sym (more f xs i x lt at)) (runs-append w v u (flat_map f (take i xs)) (f x) r s)
@@ -49,12 +50,14 @@ run_more f w v u xs i x lt at r s = subst (λ l. Runs w l u) (sym (more f xs i x
 counted_on : (a b : ℕ) → counted (counted a + b) ≡ counted (a + b)
 counted_on a b = omega arith
 
+-- the count of the steps of some lists, and those of the next one, are the count of all
 pub count_more : {X : Type 0} (f : X → List Recorded) (xs : List X) (i : ℕ) (x : X) (n : ℕ) → i < length xs → x ≡ get_or xs i x
     → n ≡ counted (length (flat_map f (take i xs))) → counted (n + length (f x)) ≡ counted (length (flat_map f (take (i + 1) xs)))
 count_more f xs i x n lt at is =
     ap (λ m. counted (m + length (f x))) is ∙ counted_on (length (flat_map f (take i xs))) (length (f x))
     ∙ ap counted (sym (ap length (more f xs i x lt at) ∙ length-append (flat_map f (take i xs)) (f x)))
 
+-- the count goes on by one
 pub count_one : (before i n : ℕ) → n ≡ counted (before + i) → counted (n + 1) ≡ counted (before + (i + 1))
 count_one before i n is = omega (arith, is)
 
@@ -100,6 +103,7 @@ breaks_joined f w v xs i x n (Broken number) lt at run is b = (
 )
 breaks_joined f w v xs i x n NoMemory lt at run is b = tt
 
+-- taking at least as many as there are takes all
 pub take_whole : {X : Type 0} (xs : List X) (i : ℕ) → length xs ≤ i → take i xs ≡ xs
 take_whole [] zero h = refl
 take_whole [] (suc i) h = refl
@@ -108,10 +112,12 @@ take_whole (x ∷ xs) (suc i) h = ap (λ l. x ∷ l) (take_whole xs i (omega ari
 
 -- ---- one step of a list
 
+-- a run up to a step, and that step with its answer, are a run up to the next
 pub run_item : (w v u : World) (ss : List Recorded) (i : ℕ) (x : Recorded) (a : Answer) → i < length ss → x ≡ get_or ss i x → Runs w (take i ss) v
     → Step v x.now x.event a u → a ≡ x.answer → Runs w (take (i + 1) ss) u
 run_item w v u ss i x a lt at run step is = run_take w v u ss i x a lt run (subst (λ (y : Recorded). Step v y.now y.event a u) at step) (is ∙ ap (λ (y : Recorded). y.answer) at)
 
+-- a step that is answered otherwise, and not by out of memory, breaks the run at its place
 pub broken_item : (w v u : World) (ss : List Recorded) (i : ℕ) (x : Recorded) (a : Answer) → i < length ss → x ≡ get_or ss i x → Runs w (take i ss) v
     → Step v x.now x.event a u → (a ≡ x.answer → ⊥) → (a ≡ Refused errno.Enomem → ⊥) → IsBrokenAt w ss i
 broken_item w v u ss i x a lt at run step other memory = record {

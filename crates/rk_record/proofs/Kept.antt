@@ -80,7 +80,7 @@ ends_within w = omega (arith, no_heavier construction_ends construction_owes (λ
 
 -- ---- after a step
 
--- a start comes of what was asked for, and two ends are owed to it
+-- a start results from what was asked for, and two ends are owed to it
 start_made : (w v : World) (now : ℕ) (e : Event) (a : Answer) → Reached w → Step w now e a v → start_ends a ≤ rooms_made e
 start_made w v now e (Start k subject) r step =
     let is : asked_of e ≡ Some (names_in subject) = (reached_recording w now e _ v r step).asked k subject refl in
@@ -104,6 +104,7 @@ pub record IsPrepared (w v : World) (e : Event) (a : Answer) (j k : JournalShown
   pub reserved : j.reserved + owed_to v (whose e) + start_owes a - owed_to w (whose e) ≤ k.reserved - 1
   pub ends : j.ends + ends_owed_to v (whose e) + start_ends a - ends_owed_to w (whose e) ≤ k.ends
 
+-- a journal that keeps what was owed before a step is prepared for what is owed after it
 pub is_prepared : (w v : World) (now : ℕ) (e : Event) (a : Answer) (j : JournalShown) → Reached w → Step w now e a v
     → j.reserved ≡ owed w → j.ends ≡ ends_owed w → IsPrepared w v e a j (prepared (is_owed w e) e j)
 is_prepared w v now e a j reached step owes owes_ends = by_owed (is_owed w e) refl

@@ -13,11 +13,13 @@ use Rattle.rk_machine.proofs.OwedSteps.EachRecorded.{reached_empty, reached_next
 use Rattle.rk_record.specs.declared.recorded.Recorded.{Recorded}
 use Rattle.rk_record.specs.Record.{IsRecord, HallShown, Runs, past_of, past_step, IsSound, places_after}
 
+-- a run and one more step are a run
 pub runs-snoc : (w v u : World) (ss : List Recorded) (s : Recorded) → Runs w ss v → Step v s.now s.event s.answer u → Runs w (ss ++ s ∷ []) u
 unfolding Runs
 runs-snoc w v u [] s run step = (u, subst (λ x. Step x s.now s.event s.answer u) (sym run) step, refl)
 runs-snoc w v u (x ∷ xs) s run step = (run.0, run.1, runs-snoc run.0 v u xs s run.2 step)
 
+-- a run without steps leads from a world to itself
 pub runs-none : (w : World) → Runs w [] w
 unfolding Runs
 runs-none w = refl
@@ -30,6 +32,7 @@ runs_on from past w v (s ∷ ss) run on = runs_on from (past_step s ∷ past) on
 
 -- ---- what a hall keeps
 
+-- an empty record of at most 1,048,576 places is sound
 pub sound_none : (negative first stride places : ℕ) → places ≤ 1048576
     → IsSound (empty_world negative first stride) 0 places places (empty_world negative first stride) [] 0 0
 sound_none negative first stride places most = record {
@@ -67,6 +70,7 @@ sound_next o before limit places w v steps reserved ends room now e a s step le 
       most = s.most;
     }
 
+-- a sound record is sound of an equal world
 pub sound_same : (o : World) (before limit places : ℕ) (w v : World) (steps : List Recorded) (reserved ends : ℕ) → v ≡ w
     → IsSound o before limit places w steps reserved ends → IsSound o before limit places v steps reserved ends
 sound_same o before limit places w v steps reserved ends is s = subst (λ x. IsSound o before limit places x steps reserved ends) (sym is) s
@@ -82,6 +86,7 @@ sound_shown h reserved ends s = record {
   most = s.most;
 }
 
+-- one more recorded step is counted as one
 pub count_next : (before : ℕ) (steps : List Recorded) (s : Recorded) → before + length (steps ++ s ∷ []) ≡ before + length steps + 1
 count_next before steps s = omega (arith, length-append steps (s ∷ []))
 
@@ -95,6 +100,7 @@ places_fit limit before le = by_test (nat_le limit (2 ^ 61 - before)) refl
     by_test true is = let fits : limit ≤ 2 ^ 61 - before = grind (arith, nat_tests) in (omega arith, omega arith)
     by_test false is = let past : 2 ^ 61 - before < limit = grind (arith, nat_tests) in (omega arith, omega arith)
 
+-- the next volume is sound where it has places for what is owed
 pub sound_rolled : (o : World) (before limit places : ℕ) (w : World) (steps : List Recorded) (reserved ends : ℕ) → IsSound o before limit places w steps reserved ends
     → reserved ≤ places_after limit (before + length steps)
     → IsSound w (before + length steps) limit (places_after limit (before + length steps)) w [] reserved ends

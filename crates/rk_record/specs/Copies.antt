@@ -31,12 +31,12 @@ abbrev pub FitsStart : Option (List ℕ × (List ℕ × List ℕ)) → Answer �
 FitsStart asked (Start k subject) = asked ≡ Some (names_in subject)
 FitsStart asked _ = Unit {0}
 
--- an event that is no ask, and so is copied without memory but for its payload
+-- an event other than an ask, and so copied without memory but for its payload
 abbrev pub IsNoAsk : Event → Type 0
 IsNoAsk (event.Asked s a) = ⊥
 IsNoAsk _ = Unit {0}
 
--- an answer that changes nothing: bytes that are told, or want of memory
+-- an answer that changes nothing: bytes, or out of memory
 abbrev pub IsIdleAnswer : Answer → Type 0
 IsIdleAnswer a = ((b : List ℕ) × (a ≡ Done (Bytes b))) ⊎ (a ≡ Refused errno.Enomem)
 

@@ -38,7 +38,7 @@ rooms_taken _ = 0
 abbrev pub rooms_made : Event → ℕ
 rooms_made e = cond (is_some (asked_of e)) 2 0
 
--- what is kept once an event is prepared: for what is owed that was done before, and its payload has its room; for any other there are the places
+-- what is kept once an event is prepared. For what is owed that was done before, and its payload has its room. For any other there are the places
 -- that it may need, and room for the ends of what it may start
 abbrev pub prepared : Bool → Event → JournalShown → JournalShown
 prepared owes e j = record j {

@@ -44,7 +44,7 @@ pub record Turned (old : HallShown) (now : ℕ) (event : Event) (r : Noted) (new
   -- whatever run led to the old world goes on with this step, and obeys the laws
   pub laws : (from : Beginning) (past : List Past) → Run from past old.world
       → ContinuesTo from (record { now = now; event = event; answer = r.answer } ∷ past) new.world
-  -- want of memory is no step
+  -- out of memory is no step
   pub memory : r.answer ≢ Refused errno.Enomem
   -- what is owed is answered so
   pub answer : is_owed old.world event ≡ true → IsOwedAnswer event r.answer

@@ -59,7 +59,7 @@ CannotRoll h = (places_after h.limit (h.before + length h.steps) ≤ owed h.worl
 abbrev pub counted : ℕ → ℕ
 counted n = min n 18446744073709551615
 
--- the machine, led by the steps before it, answers the step at this place otherwise, and not for want of memory
+-- the machine, led by the steps before it, answers the step at this place otherwise, and not by out of memory
 pub record IsBrokenAt (from : World) (steps : List Recorded) (place : ℕ) : Type 0 where
   pub mid : World
   pub run : Runs from (take place steps) mid

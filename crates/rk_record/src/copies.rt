@@ -10,7 +10,7 @@ use rk_message::{Ask, Reply};
 use rk_names::Errno;
 use std::alloc::{AllocError, Global};
 
-/// The names that an event asks for, where it may start a construction, in a place for the subject that a start tells.
+/// The names that an event asks for, where it may start a construction, in a place for the subject of a start.
 pub(crate) fn place_for_subject(
     alloc: Global,
     event: &Event,
@@ -92,7 +92,7 @@ pub(crate) fn started_subject(answer: &Answer, place: Option<BoxedSubject>) -> O
     }
 }
 
-/// A copy of an event that is no ask, with the payload of an end in room that was kept for it. It takes no memory.
+/// A copy of an event other than an ask, with the payload of an end in room that was kept for it. It takes no memory.
 pub(crate) fn copy_without_memory(event: &EventStep<'_>, journal: &mut Journal) -> Event
     requires ask { IsNoAsk event.now }
     requires room { rooms_taken event.now ≤ journal.old.ends }

@@ -8,7 +8,7 @@ pub enum HallFault {
     /// There are not as many free places as are needed: those of a volume, less its steps and the places that are kept for what is owed.
     #[error("the record's volume is full")]
     Full,
-    /// A growth was refused.
+    /// An allocation failed.
     #[error("out of memory")]
     NoMemory,
 }

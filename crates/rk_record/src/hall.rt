@@ -19,8 +19,8 @@ pub const MAX_STEPS: usize = 1_048_576;
 
 /// A book, and the record of its steps: the volume that is being recorded, where volumes before it were handed out.
 ///
-/// Whatever the book owes is recorded without memory: a place in the volume, and room for the payload of an end, are kept from the moment on at
-/// which it is owed.
+/// Whatever the book owes is recorded without memory. From the moment on at which it is owed, a place in the volume and room for the payload of
+/// an end are kept.
 #[derive(Drop)]
 pub struct Hall {
     /// Which hall it is.
@@ -61,7 +61,7 @@ impl Model for Hall {
 }
 
 impl Hall {
-    /// A hall with an empty book, whose volumes may have so many steps, at least 1 and at most 1,048,576. An `Err` is want of memory.
+    /// A hall with an empty book, whose volumes may have so many steps, at least 1 and at most 1,048,576. An `Err` is out of memory.
     pub fn new(alloc: Global, limits: Limits, no: HallNo, steps: usize) -> Result<Hall, AllocError>
         requires limits { 1 ≤ limits.stride }
         requires steps { (1 ≤ steps) × (steps ≤ 1048576) }

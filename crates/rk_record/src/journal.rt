@@ -21,6 +21,7 @@ pub(crate) struct Journal {
     ends: usize,
     /// The room, of which there may be more than is kept.
     rooms: Vec<Room>,
+    /// The steps that were recorded, oldest first.
     steps: Vec<Recorded>,
 }
 
@@ -154,7 +155,7 @@ impl Journal {
     }
 }
 
-/// Makes rooms until there are so many; where a growth is refused, there are as many as before or more.
+/// Makes rooms until there are so many; where an allocation fails, there are as many as before or more.
 fn make_rooms(alloc: Global, rooms: &mut Vec<Room>, count: usize) -> Result<(), AllocError>
     ensures more { vec_len rooms.old ≤ vec_len rooms.new }
     ensures made { OnOk result (count ≤ vec_len rooms.new) }

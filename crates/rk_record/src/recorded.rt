@@ -9,6 +9,6 @@ pub struct Recorded {
     pub now: Moment,
     /// What happened.
     pub event: Event,
-    /// What was answered; never want of memory.
+    /// What was answered; never out of memory.
     pub answer: Answer,
 }

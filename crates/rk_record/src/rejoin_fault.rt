@@ -8,7 +8,7 @@ pub enum Rejoin {
     /// The step of this number, counted from 1 over all lists, is answered otherwise.
     #[error("step {number}: the machine answers otherwise")]
     Broken { number: u64 },
-    /// A growth was refused.
+    /// An allocation failed.
     #[error("out of memory")]
     NoMemory,
 }

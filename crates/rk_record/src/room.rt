@@ -7,6 +7,7 @@ use std::alloc::{AllocError, Global};
 /// Room for the payload that the end of a handler may bring, made before anything is owed.
 #[derive(Drop)]
 pub(crate) struct Room {
+    /// An empty buffer with room for 32,767 bytes.
     bytes: Vec<u8>,
     ghost empty: { bytes.items ≡ [] },
     ghost large: { 32767 ≤ vec_capacity bytes },

@@ -16,7 +16,7 @@ pub enum Told {
     Asked(SessionId, Ask),
     /// The handler of a key was started, or could not be.
     Launched(Serial, Ran),
-    /// The handler of a key has ended; a piped one may have put out a payload of this length.
+    /// The handler of a key has ended; a piped one may have output a payload of this length.
     Ended(Serial, How, Option<usize>),
     /// A session that waits asks for the outcome.
     Collect(SessionId),
@@ -25,7 +25,7 @@ pub enum Told {
 }
 
 impl Told {
-    /// What is told of an event. An `Err` is want of memory, and comes of an ask alone.
+    /// The summary of an event. An `Err` is out of memory, and results from an ask alone.
     pub(crate) fn of(event: &Event) -> Result<Told, AllocError>
         ensures { IfOk result (λ t. t ≡ told_of event.now) }
     {
@@ -39,7 +39,7 @@ impl Told {
         })
     }
 
-    /// What is told of an event that is no ask. It takes no memory.
+    /// The summary of an event other than an ask. It takes no memory.
     pub(crate) fn of_no_ask(event: &EventStep<'_>) -> Told
         requires { IsNoAsk event.now }
         ensures { result ≡ told_of event.now }
@@ -54,7 +54,7 @@ impl Told {
         }
     }
 
-    /// Whether this is told of the event.
+    /// Whether this is the summary of the event.
     pub fn is_of(&self, event: &Event) -> bool
         ensures { IsTrue result ↔ (told_of event.now ≡ self.now) }
     {

@@ -22,9 +22,9 @@ use std::alloc::{AllocError, Global};
 impl Hall {
     /// Takes one step of the book at this moment, and records it. The receipt says the step.
     ///
-    /// [`HallFault::Full`] comes exactly where an event that is not owed has not as many free places as it may need: 2 for `Opened`, 6 for REQUEST,
-    /// 1 for any other. [`HallFault::NoMemory`] comes where a growth was refused. Neither takes a step or changes anything, and neither comes for what
-    /// is owed, which takes no memory.
+    /// [`HallFault::Full`] is returned exactly where an event that is not owed may need more places than are free: 2 for `Opened`, 6 for REQUEST, 1
+    /// for any other. [`HallFault::NoMemory`] is returned where an allocation failed. Neither takes a step or changes anything, and neither is
+    /// returned for what is owed, which takes no memory.
     pub fn turn(&mut self, now: Moment, event: EventStep<'_>) -> Result<Receipt, HallFault>
         ensures ok { IfOk result (λ r. Turned self.old now event.entry r self.new) }
         ensures err { OnErr result (self.new ≡ self.old) }
@@ -44,7 +44,7 @@ impl Hall {
     }
 
     /// The same, with the subject of a start once more, for whoever starts the handler. The copies are of this event, so that they can be made before
-    /// the hall is locked; where there are none, and the event is not owed, it is as if a growth was refused.
+    /// the hall is locked. Where there are none, and the event is not owed, it is as if an allocation failed.
     pub fn turn_to_start(
         &mut self,
         now: Moment,
@@ -96,7 +96,9 @@ impl Hall {
 /// Places of a volume, and payloads for which there is room: those that are kept, or those that are owed to one session.
 #[derive(Clone, Copy)]
 struct Kept {
+    /// How many places of the volume, each for one step.
     places: usize,
+    /// How many payloads there is room for.
     ends: usize,
 }
 
@@ -134,7 +136,7 @@ pub struct Copies {
 }
 
 impl Copies {
-    /// The copies of an event. An `Err` is want of memory.
+    /// The copies of an event. An `Err` is out of memory.
     pub fn of(alloc: Global, event: &EventStep<'_>) -> Result<Copies, AllocError>
         ensures { IfOk result (λ c. AreCopies event.now c) }
     {
@@ -148,7 +150,7 @@ impl Copies {
     }
 }
 
-/// Keeps the places that the steps of an event may need and room for the ends of what it may start; for what is owed both are kept already, and it is
+/// Keeps the places that the steps of an event may need and room for the ends of what it may start. For what is owed both are kept already, and it is
 /// copied here, without memory. A refusal changes nothing.
 fn prepare(
     book: &Book,

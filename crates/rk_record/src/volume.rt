@@ -21,6 +21,7 @@ pub struct Volume {
     pub(crate) opening: Snapshot<Book>,
     /// The state in which it closed.
     pub(crate) closing: Snapshot<Book>,
+    /// The steps, oldest first.
     pub(crate) steps: Vec<Recorded>,
 }
 

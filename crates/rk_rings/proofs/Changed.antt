@@ -13,6 +13,7 @@ use Rattle.rk_rings.proofs.Finds.{no_entry}
 use Rattle.rk_rings.proofs.Links.{serials_within, serials-remove, serials-empty}
 
 module _ {X : Type 0} where
+  -- a change at one key leaves how many there are
   pub len-changed_at : (k : ℕ) (f : X → X) (m : FinMap nat_cmp X) → len (changed_at k f m) ≡ len m
   len-changed_at k f m =
       elim (get m k) as (λ o. get m k ≡ o → len (option_map_or (λ v. insert m k (f v)) o m) ≡ len m) [
@@ -45,6 +46,7 @@ once-changed_at k f m fair once q r there = by_ring (nat_eq k q) (get m q) refl 
         let same : f old ≡ r = cc in
         subst (λ (x : Numbered). HasEachNameOnce x.links) same (fair old (once q old is))
 
+-- rings stay in form where one is changed and keeps each name once
 pub rows-changed_at : (k : ℕ) (f : Numbered → Numbered) (m n : Rings) → n ≡ changed_at k f m → KeepsOnce f → AreRows m → AreRows n
 rows-changed_at k f m n is fair h =
     subst AreRows (sym is) (
@@ -65,11 +67,13 @@ ring_there m k q r e = by_key (eq_by_cmp nat_cmp q k) (sym (get-remove nat_cmp_t
     by_key true e = absurd (cc)
     by_key false e = e
 
+-- rings stay in form where one is removed
 pub rows-remove : (k : ℕ) (m n : Rings) → n ≡ remove m k → AreRows m → AreRows n
 rows-remove k m n is h =
     let le : len (remove m k) ≤ len m = subst (λ x. x ≤ len m) (sym (len-remove nat_cmp_total m k)) (fewer_or_same (contains_key m k) (len m)) in
     subst AreRows (sym is) (omega (arith, le, h.0), serials-remove m k h.1, λ q r there. h.2 q r (ring_there m k q r there))
 
+-- an empty map of rings is in form
 pub rows-empty : (m : Rings) → m ≡ empty → AreRows m
 rows-empty m is =
     subst AreRows (sym is) (
@@ -78,6 +82,7 @@ rows-empty m is =
       λ q r there. let none : None ≡ Some r = sym (get-empty nat_cmp q) ∙ there in absurd (cc),
     )
 
+-- what a search of a ring's links finds by the number of a name is the one key of that name
 pub match_found : (rings : Rings) (ring n : ℕ) (row : Numbered) (o : Option ℕ) → get rings ring ≡ Some row → HasEachNameOnce row.links
     → MatchOption o ((k : ℕ) → ¬ (get row.links k ≡ Some n)) (λ k. get row.links k ≡ Some n) → IsMatch rings n (Some ring) o
 match_found rings ring n row None is once h = λ r there k. let same : r ≡ row = cc in subst (λ x. ¬ (get x.links k ≡ Some n)) (sym same) (h k)

@@ -271,6 +271,7 @@ changed_by_nothing m ring f same = elim (get m ring) as (λ o. get m ring ≡ o 
 
 -- ---- a new link
 
+-- linking a key that is linked leaves the rings
 pub linked_there : (m : Rings) (ring k n : ℕ) → holds m ring k ≡ true → m ≡ changed_at ring (linked k n) m
 linked_there m ring k n h = changed_by_nothing m ring (linked k n) (λ r is.
     let there : contains_key r.links k ≡ true = sym (ap (λ o. option_map_or (λ (r : Numbered). contains_key r.links k) o false) is) ∙ h in
@@ -397,6 +398,7 @@ few_unlinked m ring k few =
 
 -- ---- all links taken out, one by one
 
+-- unlinking a key before a ring is cleared leaves what clearing makes
 pub still_to_clear : (m : Rings) (ring k : ℕ) → changed_at ring cleared (changed_at ring (unlinked k) m) ≡ changed_at ring cleared m
 still_to_clear m ring k = same_map nat_cmp_total nat_cmp-IsAntisymmetric _ _ (λ q.
     get_changed_at ring cleared (changed_at ring (unlinked k) m) q
@@ -413,6 +415,7 @@ still_to_clear m ring k = same_map nat_cmp_total nat_cmp-IsAntisymmetric _ _ (λ
 abbrev pub links_in : Rings → ℕ → ℕ
 links_in m ring = option_map_or (λ r. len r.links) (get m ring) 0
 
+-- unlinking a linked key leaves fewer links in the ring
 pub fewer_left : (m : Rings) (ring k : ℕ) → holds m ring k ≡ true → links_in (changed_at ring (unlinked k) m) ring < links_in m ring
 fewer_left m ring k h = by_ring (get m ring) refl h
   where
@@ -442,6 +445,7 @@ all_cleared m ring none = changed_by_nothing m ring cleared (λ r is i. record r
 
 -- ---- a ring without links dropped
 
+-- clearing a ring before it is removed leaves what removing makes
 pub dropped : (m : Rings) (ring : ℕ) → remove (changed_at ring cleared m) ring ≡ remove m ring
 dropped m ring = same_map nat_cmp_total nat_cmp-IsAntisymmetric _ _ (λ q.
     get_removed (changed_at ring cleared m) ring q ∙ ap (cond (nat_eq ring q) None) (get_changed_at ring cleared m q) ∙ by_ring (nat_eq ring q) (get m q) ∙
@@ -496,6 +500,7 @@ few_made (w ∷ ws) m few = few_made ws (insert m w.serial (new_ring w)) (λ q r
 
 -- ---- no ring
 
+-- where there are no rings, there are no counts
 pub counted_empty : (m : Rings) (c : Stored ℕ) → m ≡ empty → c.facts ≡ empty → AreCounted m c
 counted_empty m c is none = record {
   few = λ ring r there. absurd (none-some r (sym (ap (λ n. get n ring) is ∙ get-empty nat_cmp ring) ∙ there));
@@ -511,9 +516,11 @@ counted_empty m c is none = record {
 at_most_rings : (m : Rings) (q : ℕ) → links_of m q ≤ len m
 at_most_rings m q = no_more (kept_where (has q) m) m (kept_within (has q) m)
 
+-- at most 1,024 rings link a key less than 2^32 - 1 times
 pub few_enough : (m : Rings) (c : Stored ℕ) (q n : ℕ) → AreCounted m c → len m ≤ 1024 → n ≤ count_at c.facts q → n < 4294967295
 few_enough m c q n counted most le = omega (arith, counted.each q, at_most_rings m q, most, le)
 
+-- counts are those of the rings after a key is unlinked and its count is one less
 pub counted_unlinked : (m : Rings) (old new : Stored ℕ) (ring k : ℕ) → AreCounted m old → holds m ring k ≡ true
     → ((q : ℕ) → count_at new.facts q ≡ cond (nat_eq k q) (count_at old.facts q - 1) (count_at old.facts q)) → ArePositive new.facts → places new ≡ places old
     → AreCounted (changed_at ring (unlinked k) m) new
@@ -548,6 +555,7 @@ links_after m old mid ring k n o counted t match each q =
     links_linked m ring k n t.0 o t.1 t.2 t.3 match q ∙ ap (λ x. (x - bit (is_rival o q)) + bit (nat_eq k q)) (sym (counted.each q)) ∙
     ap (λ x. x + bit (nat_eq k q)) (sym (each q))
 
+-- where a new key is to be counted there is room for its count
 pub room_linked : (m : Rings) (old mid : Stored ℕ) (ring k n : ℕ) (o : Option ℕ) → AreCounted m old → Takes m ring k n → IsMatch m n (Some ring) o
     → ((q : ℕ) → count_at mid.facts q ≡ count_at old.facts q - bit (is_rival o q)) → ArePositive mid.facts → places mid ≡ places old →
     count_at mid.facts k ≡ 0 → 0 < mid.room
@@ -560,6 +568,7 @@ one_more_bit : (b : Bool) (n : ℕ) → cond b (n + 1) n ≡ n + bit b
 one_more_bit true n = refl
 one_more_bit false n = omega arith
 
+-- counts are those of the rings after a key is linked: one more for it, one less for a rival of its name
 pub counted_linked : (m : Rings) (old mid new : Stored ℕ) (ring k n : ℕ) (o : Option ℕ) → AreCounted m old → Takes m ring k n → IsMatch m n (Some ring) o
     → ((q : ℕ) → count_at mid.facts q ≡ count_at old.facts q - bit (is_rival o q)) → places mid ≡ places old
     → ((q : ℕ) → count_at new.facts q ≡ cond (nat_eq k q) (count_at mid.facts q + 1) (count_at mid.facts q)) → ArePositive new.facts → places new ≡ places mid
@@ -571,6 +580,7 @@ counted_linked m old mid new ring k n o counted t match each same more positive 
   room = omega (arith, counted.room, same, again, len-changed_at ring (linked_in_room k n) m);
 }
 
+-- counts of the rings with one cleared are those of the rings without it
 pub counted_dropped : (m n : Rings) (c : Stored ℕ) (ring : ℕ) → n ≡ changed_at ring cleared m → AreCounted n c → AreCounted (remove n ring) c
 counted_dropped m n c ring is counted = record {
   few = few_dropped n ring counted.few;
@@ -579,6 +589,7 @@ counted_dropped m n c ring is counted = record {
   room = omega (arith, counted.room, no_more_rings n ring);
 }
 
+-- the same counts are those of the rings after empty ones are made, where there are places for their links
 pub counted_made : (wanted : List NewRing) (m n : Rings) (old new : Stored ℕ) → n ≡ with_rings wanted m → AreNew wanted m → AreCounted m old →
     new.facts ≡ old.facts
     → 256 * (len m + length wanted) ≤ places new → AreCounted n new

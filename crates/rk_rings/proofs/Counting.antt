@@ -23,6 +23,7 @@ same_count (Some (suc n)) = ap (λ b. unwrap_or (cond b (Some (suc n)) None) 0) 
 pub count_counting : (m : FinMap nat_cmp ℕ) (k : ℕ) → count_at (counting m) k ≡ count_at m k
 count_counting m k = ap (λ o. unwrap_or o 0) (get_kept_where (λ _ n. ltb 0 n) m k) ∙ same_count (get m k)
 
+-- no count among those that are not 0 is 0
 pub positive_counting : (m : FinMap nat_cmp ℕ) → ArePositive (counting m)
 positive_counting m k n is = by_count (get m k) (sym (get_kept_where (λ _ n. ltb 0 n) m k) ∙ is)
   where
@@ -33,6 +34,7 @@ positive_counting m k n is = by_count (get m k) (sym (get_kept_where (λ _ n. lt
         let same : suc x ≡ n = same_Some (suc x) n (sym (ap (λ b. cond b (Some (suc x)) None) (lt-ltb 0 (suc x) (omega arith))) ∙ e) in
         omega (arith, same)
 
+-- the empty map has no count that is not 0
 pub counting_empty : (m : FinMap nat_cmp ℕ) → m ≡ empty → counting m ≡ empty
 counting_empty m is = same_map nat_cmp_total nat_cmp-IsAntisymmetric _ _ (λ q.
     none_kept (λ _ n. ltb 0 n) m q (ap (λ x. get x q) is ∙ get-empty nat_cmp q) ∙ sym (get-empty nat_cmp q))
@@ -45,6 +47,7 @@ twice t (Some x) = elim (t x) as (λ b. t x ≡ b → cond (option_map_or t (con
   | false ↦ λ _. refl
 ] refl
 
+-- dropping counts of 0 twice is as dropping them once
 pub counting_again : (m : FinMap nat_cmp ℕ) → counting (counting m) ≡ counting m
 counting_again m = same_map nat_cmp_total nat_cmp-IsAntisymmetric _ _ (λ q.
     get_kept_where (λ _ n. ltb 0 n) (counting m) q
@@ -57,6 +60,7 @@ no_more_count m = no_more (counting m) m (kept_within (λ _ n. ltb 0 n) m)
 pub places_seen : (m : FinMap nat_cmp ℕ) (p : ℕ) → len m ≤ p → places (seen_counts m p) ≡ p
 places_seen m p few = omega (arith, no_more_count m, few)
 
+-- maps of counts that fit the places have the same places
 pub same_places : (m n : FinMap nat_cmp ℕ) (p : ℕ) → len m ≤ p → len n ≤ p → places (seen_counts n p) ≡ places (seen_counts m p)
 same_places m n p few too = places_seen n p too ∙ sym (places_seen m p few)
 

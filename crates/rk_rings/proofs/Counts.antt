@@ -27,6 +27,7 @@ module _ {X : Type 0} where
   pub has_some : (m : FinMap nat_cmp X) (q : ℕ) → contains_key m q ≡ true → 0 < len m
   has_some m q h = map_not_empty m q (len m) h refl
 
+  -- removing a key that is there leaves one entry less
   pub one_less : (m : FinMap nat_cmp X) (q : ℕ) → contains_key m q ≡ true → len (remove m q) + 1 ≡ len m
   one_less m q h =
       let e : len (remove m q) ≡ len m - 1 = len-remove nat_cmp_total m q ∙ ap (λ b. cond b (len m - 1) (len m)) h in
@@ -36,6 +37,7 @@ module _ {X : Type 0} where
   some_unless true o = refl
   some_unless false o = refl
 
+  -- after a key is removed every other is there as before
   pub contains_key-remove : (m : FinMap nat_cmp X) (k q : ℕ) → contains_key (remove m k) q ≡ (not (eq_by_cmp nat_cmp q k) && contains_key m q)
   contains_key-remove m k q = ap is_some (get-remove nat_cmp_total m k q) ∙ some_unless (eq_by_cmp nat_cmp q k) (get m q)
 

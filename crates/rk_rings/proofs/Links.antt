@@ -27,6 +27,7 @@ second_true true b h = absurd (both_ways false refl h)
 second_true false b h = h
 
 module _ {X : Type 0} where
+  -- the entries that pass a test are within the map
   pub kept_within : (p : ℕ → X → Bool) (m : FinMap nat_cmp X) → IsWithin (kept_where p m) m
   kept_within p m q h = if_some (p q) (get m q) (ap is_some (sym (get_kept_where p m q)) ∙ h)
 
@@ -40,12 +41,15 @@ module _ {X : Type 0} where
 
   -- ---- numbers that are serials
 
+  -- a map within one of serials is one of serials
   pub serials_within : (a b : FinMap nat_cmp X) → IsWithin a b → AreSerials b → AreSerials a
   serials_within a b h all k is = all k (h k is)
 
+  -- keys are serials after one is removed
   pub serials-remove : (m : FinMap nat_cmp X) (k : ℕ) → AreSerials m → AreSerials (remove m k)
   serials-remove m k all = serials_within (remove m k) m (rest_within m k) all
 
+  -- keys are serials after a serial is inserted
   pub serials-insert : (m : FinMap nat_cmp X) (k : ℕ) (v : X) → AreSerials m → serial_of k ≡ Some k → AreSerials (insert m k v)
   serials-insert m k v all here q h =
       elim (eq_by_cmp nat_cmp q k) as (λ b. eq_by_cmp nat_cmp q k ≡ b → is_some (cond b (Some v) (get m q)) ≡ true → serial_of q ≡ Some q) [
@@ -53,9 +57,11 @@ module _ {X : Type 0} where
         | false ↦ λ t h. all q h
       ] refl (ap is_some (sym (get-insert nat_cmp_total m k v q)) ∙ h)
 
+-- all keys of the empty map are serials
 pub serials-empty : (X : Type 0) → AreSerials (empty {X = X} {R = nat_cmp})
 serials-empty X k h = absurd (both_ways _ (ap is_some (get-empty nat_cmp k)) h)
 
+-- numbers from 1 to 2,147,483,647 are serials
 pub is_serial : (k : ℕ) → 1 ≤ k → k ≤ 2147483647 → serial_of k ≡ Some k
 is_serial k low high =
     ap (λ b. cond b None (cond (ltb 2147483647 k) None (Some k))) (ne_eqb k 0 (λ e. absurd (omega (arith, e, low))))
@@ -63,6 +69,7 @@ is_serial k low high =
 
 -- ---- what is found by the number of its name
 
+-- a search that passes any entry finds a key, or there is none
 pub any_key : (m : FinMap nat_cmp ℕ) (o : Option ℕ) → FindsEntry (λ k v. true) m o →
     MatchOption o ((k : ℕ) → contains_key m k ≡ false) (λ k. contains_key m k ≡ true)
 any_key m None h = λ k.

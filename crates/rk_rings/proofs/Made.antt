@@ -13,20 +13,24 @@ use Rattle.rk_rings.proofs.Changed.{AreRows}
 
 -- ---- the entries that are left to put in
 
+-- where the first ring is put in, those that are left lead to the same rings
 pub left_facts : (items rest : List (ℕ × Numbered)) (k : ℕ) (v : Numbered) (m n w : Rings) → items ≡ (k, v) ∷ rest → n ≡ insert m k v →
     with_entries items m ≡ w → with_entries rest n ≡ w
 left_facts items rest k v m n w e is h = ap (with_entries rest) is ∙ sym (ap (λ es. with_entries es m) e) ∙ h
 
+-- where the first ring is put in, each that is left is still new
 pub left_new : (items rest : List (ℕ × Numbered)) (k : ℕ) (v : Numbered) (m n : Rings) → items ≡ (k, v) ∷ rest → n ≡ insert m k v → HasEachNew items m →
     HasEachNew rest n
 left_new items rest k v m n e is h =
     let now : HasEachNew ((k, v) ∷ rest) m = subst (λ es. HasEachNew es m) e h in
     subst (HasEachNew rest) (sym is) now.1
 
+-- the serial of the first ring that is left has no ring
 pub next_new : (items rest : List (ℕ × Numbered)) (k : ℕ) (v : Numbered) (m : Rings) → items ≡ (k, v) ∷ rest → HasEachNew items m → get m k ≡ None
 next_new items rest k v m e h =
     let now : HasEachNew ((k, v) ∷ rest) m = subst (λ es. HasEachNew es m) e h in now.0
 
+-- where no ring is left, all are made
 pub none_left : (items : List (ℕ × Numbered)) (m w : Rings) → length items ≡ 0 → with_entries items m ≡ w → m ≡ w
 none_left [] m w e h = h
 none_left (x ∷ xs) m w e h = absurd (omega arith)
@@ -51,10 +55,12 @@ len-with_rings (w ∷ ws) m h =
 
 -- ---- what has been put in
 
+-- rings that are new are so one after the other
 pub put_new : (wanted : List NewRing) (items : List (ℕ × Numbered)) (m n : Rings) → items ≡ list_map (λ w. (w.serial, new_ring w)) wanted → n ≡ m →
     AreNew wanted m → HasEachNew items n
 put_new wanted items m n e same h = subst (HasEachNew items) (sym same) (subst (λ es. HasEachNew es m) (sym e) (entries_new wanted m h))
 
+-- putting the entries of wanted rings in makes these rings
 pub put_made : (wanted : List NewRing) (items : List (ℕ × Numbered)) (m n w : Rings) → items ≡ list_map (λ w. (w.serial, new_ring w)) wanted → n ≡ m →
     w ≡ with_entries items n → w ≡ with_rings wanted m
 put_made wanted items m n w e same is = is ∙ ap (with_entries items) same ∙ ap (λ es. with_entries es m) e ∙ entries_made wanted m
@@ -70,6 +76,7 @@ once-with_rings : (wanted : List NewRing) (m : Rings) → HaveEachNameOnce m →
 once-with_rings [] m once = once
 once-with_rings (w ∷ ws) m once = once-with_rings ws (insert m w.serial (new_ring w)) (once-insert m w once)
 
+-- rings stay in form where new ones are made, at serials and at most 1,024 in all
 pub rows_made : (wanted : List NewRing) (m w : Rings) → w ≡ with_rings wanted m → AreNew wanted m → len m + length wanted ≤ 1024 → AreSerials w
     → HaveEachNameOnce m → AreRows w
 rows_made wanted m w is new room all once = (

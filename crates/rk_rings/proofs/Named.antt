@@ -64,6 +64,7 @@ once_with links k n once =
       | false ↦ once_put links k n once
     ]
 
+-- each name stands once in a ring after a key is linked
 pub once_linked : (k n : ℕ) (r : Numbered) → HasEachNameOnce r.links → HasEachNameOnce (linked_in_room k n r).links
 once_linked k n r once =
     elim (map.contains_key r.links k || not (is_full (Some n) r)) as (λ b. HasEachNameOnce (cond b (record r { links = links_with k n r.links }) r).links) [
@@ -81,11 +82,14 @@ left_there links k j m e = by_key (eq_by_cmp nat_cmp j k) (sym (map.get-remove n
     by_key true e = absurd (cc)
     by_key false e = e
 
+-- each name stands once in a ring after a key is unlinked
 pub once_unlinked : (k : ℕ) (r : Numbered) → HasEachNameOnce r.links → HasEachNameOnce (unlinked k r).links
 once_unlinked k r once i j n a b = once i j n (left_there r.links k i n a) (left_there r.links k j n b)
 
+-- nothing is linked in an empty ring
 pub no_link : (j n : ℕ) → map.get (map.empty {X = ℕ} {R = nat_cmp}) j ≡ Some n → ⊥
 no_link j n e = let h : None ≡ Some n = sym (map.get-empty nat_cmp j) ∙ e in absurd (cc)
 
+-- each name stands once in an empty ring
 pub once_empty : HasEachNameOnce map.empty
 once_empty i j n a b = absurd (no_link i n a)

@@ -33,6 +33,7 @@ get_with_name : (m : FinMap nat_cmp ℕ) (n : ℕ) (o : Option ℕ) (q : ℕ) �
 get_with_name m n None q = get_removed m n q
 get_with_name m n (Some k) q = get_inserted m n k q
 
+-- the key of a name is the one in the first place of that name, if it holds any
 pub get_named : (es : List (ℕ × Option ℕ)) (q : ℕ) → get (named es) q ≡ held (lookup (nat_eq q) es)
 get_named [] q = get-empty nat_cmp q
 get_named (e ∷ es) q =
@@ -66,6 +67,7 @@ len_with_name : (m : FinMap nat_cmp ℕ) (n : ℕ) (o : Option ℕ) → len (wit
 len_with_name m n None = rw (len-remove nat_cmp_total m n) (fewer_or_same (is_some (get m n)) (len m))
 len_with_name m n (Some k) = rw (len-insert nat_cmp_total m n k) (more_by_one (is_some (get m n)) (len m))
 
+-- there are at most as many named keys as places
 pub len_named : (es : List (ℕ × Option ℕ)) → len (named es) ≤ length es
 len_named [] = omega (arith, len-empty nat_cmp ℕ)
 len_named (e ∷ es) = omega (arith, len_with_name (named es) e.0 e.1, len_named es)

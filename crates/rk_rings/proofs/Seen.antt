@@ -43,20 +43,24 @@ module _ {A B : Type 0} (f : A → B) where
 
 -- ---- the rings by their serials
 
+-- each ring is seen as it is without the numbers
 pub get-rings_seen : (m : Rings) (q : ℕ) → map.get (rings_seen m) q ≡ option_map ring_seen (map.get m q)
 get-rings_seen m q =
     get_in (list_map (λ e. (e.0, ring_seen e.1)) (map.entries m)) q ∙ found_alike ring_seen q (map.entries m) ∙
     ap (option_map ring_seen) (sym (map.get-entries m q))
 
+-- the rings that are seen are those that are there
 pub contains_key-rings_seen : (m : Rings) (q : ℕ) → map.contains_key (rings_seen m) q ≡ map.contains_key m q
 contains_key-rings_seen m q = ap is_some (get-rings_seen m q) ∙ is_some-option_map ring_seen (map.get m q)
 
 same_rings : (m n : map.FinMap nat_cmp Ring) → ((q : ℕ) → map.get m q ≡ map.get n q) → m ≡ n
 same_rings m n h = map.same_map nat_cmp_total map.nat_cmp-IsAntisymmetric m n h
 
+-- where there are no rings, none is seen
 pub rings_seen-empty : rings_seen map.empty ≡ map.empty
 rings_seen-empty = same_rings _ _ (λ q. get-rings_seen map.empty q ∙ ap (option_map ring_seen) (map.get-empty nat_cmp q) ∙ sym (map.get-empty nat_cmp q))
 
+-- a ring that is put in is seen as put in
 pub rings_seen-insert : (m : Rings) (k : ℕ) (r : Numbered) → rings_seen (map.insert m k r) ≡ map.insert (rings_seen m) k (ring_seen r)
 rings_seen-insert m k r = same_rings _ _ (λ q.
     get-rings_seen (map.insert m k r) q
@@ -65,6 +69,7 @@ rings_seen-insert m k r = same_rings _ _ (λ q.
     ∙ ap (cond (eq_by_cmp nat_cmp q k) (Some (ring_seen r))) (sym (get-rings_seen m q))
     ∙ sym (map.get-insert nat_cmp_total (rings_seen m) k (ring_seen r) q))
 
+-- a ring that is removed is seen as removed
 pub rings_seen-remove : (m : Rings) (k : ℕ) → rings_seen (map.remove m k) ≡ map.remove (rings_seen m) k
 rings_seen-remove m k = same_rings _ _ (λ q.
     get-rings_seen (map.remove m k) q
@@ -88,9 +93,11 @@ rings_seen-changed_at k f g m h =
 
 -- ---- what is linked
 
+-- a key is seen in a ring exactly where it has a link
 pub contains-ring_seen : (r : Numbered) (k : ℕ) → set.contains (ring_seen r).keys k ≡ map.contains_key r.links k
 contains-ring_seen r k = set.contains-from_list nat_cmp_total (map.keys r.links) k ∙ sym (map.contains_key-keys r.links k)
 
+-- a key is seen as linked in a ring exactly where the ring holds it
 pub is_linked-rings_seen : (m : Rings) (ring k : ℕ) → is_linked (rings_seen m) ring k ≡ holds m ring k
 is_linked-rings_seen m ring k =
     ap (λ o. option_map_or (λ (r : Ring). set.contains r.keys k) o false) (get-rings_seen m ring)
@@ -111,6 +118,7 @@ any-rings_seen p t alike m =
     some_entry (λ (e : ℕ × Ring). p e.1) (rings_seen m) f.0 (ring_seen f.1) (get-rings_seen m f.0 ∙ ap (option_map ring_seen) f.2) (alike f.1 ∙ f.3))
     ∙ sym (any_value t m)
 
+-- a key is seen as linked somewhere exactly where some ring holds it
 pub has_link-rings_seen : (m : Rings) (k : ℕ) → has_link (rings_seen m) k ≡ is_held m k
 has_link-rings_seen m k = any-rings_seen (λ (r : Ring). set.contains r.keys k) (λ (r : Numbered). map.contains_key r.links k) (λ r. contains-ring_seen r k) m
 
@@ -119,6 +127,7 @@ has_link-rings_seen m k = any-rings_seen (λ (r : Ring). set.contains r.keys k) 
 same_keys : (s t : set.FinSet nat_cmp) → ((q : ℕ) → set.contains s q ≡ set.contains t q) → s ≡ t
 same_keys s t h = set.same_set nat_cmp_total set.nat_cmp-IsAntisymmetric s t h
 
+-- unlinking a key is seen as taking its link away
 pub ring_seen-unlinked : (k : ℕ) (r : Numbered) → ring_seen (unlinked k r) ≡ without_link k (ring_seen r)
 ring_seen-unlinked k r =
     ap (λ s. record { kind = r.kind; uid = r.uid; keys = s }) (same_keys (ring_seen (unlinked k r)).keys (set.remove (ring_seen r).keys k) (λ q.
@@ -131,6 +140,7 @@ no_keys : (r : Numbered) → r.links ≡ map.empty → (ring_seen r).keys ≡ se
 no_keys r e = same_keys _ _ (λ q. contains-ring_seen r q ∙ ap (λ m. map.contains_key m q) e ∙ ap is_some (map.get-empty nat_cmp q) ∙
     sym (set.contains-empty nat_cmp q))
 
+-- a new ring is seen as an empty one of its kind and user
 pub ring_seen-new_ring : (w : NewRing) → ring_seen (new_ring w) ≡ empty_ring w.kind w.uid
 ring_seen-new_ring w = ap (λ s. record { kind = w.kind; uid = w.uid; keys = s }) (no_keys (new_ring w) refl)
 
@@ -162,6 +172,7 @@ new_links gives_way k n r h q =
           ∙ stays (λ m. nat_eq m n) (map.get r.links q) (gives_way q) (λ m there. h.1 q m there (λ same. both_ways _ t (tie q k ∙ eq-eqb k q (sym same))))
     ] refl
 
+-- linking a key is seen as putting its link in the place of those that give way
 pub ring_seen-linked : (gives_way : ℕ → Bool) (k n : ℕ) (r : Numbered) → GivesWay gives_way k n r →
     ring_seen (linked k n r) ≡ with_link gives_way k (ring_seen r)
 ring_seen-linked gives_way k n r h =

@@ -14,6 +14,7 @@ pub live-rings_seen : (m : Rings) (o : Option ℕ) → live (rings_seen m) o ≡
 live-rings_seen m None = refl
 live-rings_seen m (Some ring) = ap (λ b. cond b (Some ring) None) (contains_key-rings_seen m ring)
 
+-- the ring at a place is the same without the numbers of names
 pub ring_at-rings_seen : (m : Rings) (c : Context) (requestor : Option ℕ) (p : Place) → ring_at (rings_seen m) c requestor p ≡ ring_at m c requestor p
 ring_at-rings_seen m c requestor Nowhere = refl
 ring_at-rings_seen m c requestor Thread = live-rings_seen m c.thread
@@ -23,6 +24,7 @@ ring_at-rings_seen m c requestor User = live-rings_seen m (Some c.user)
 ring_at-rings_seen m c requestor Requestor = live-rings_seen m requestor
 ring_at-rings_seen m c requestor (Numbered ring) = ap (λ o. cond (is_one_of ring (rings_of c)) o None) (live-rings_seen m (Some ring))
 
+-- whether a numbered ring is there is the same without the numbers of names
 pub is_numbered_live-rings_seen : (m : Rings) (p : Place) → is_numbered_live (rings_seen m) p ≡ is_numbered_live m p
 is_numbered_live-rings_seen m Nowhere = refl
 is_numbered_live-rings_seen m Thread = refl
@@ -39,6 +41,7 @@ first_ring-rings_seen m c requestor (p ∷ ps) =
     ap (λ o. option_map_or (λ ring. Some ring) o (first_ring (rings_seen m) c requestor ps)) (ring_at-rings_seen m c requestor p)
     ∙ ap (option_map_or (λ ring. Some ring) (ring_at m c requestor p)) (first_ring-rings_seen m c requestor ps)
 
+-- the ring for new keys is the same without the numbers of names
 pub default_ring-rings_seen : (m : Rings) (c : Context) (requestor : Option ℕ) (s : Setting) →
     default_ring (rings_seen m) c requestor s ≡ default_ring m c requestor s
 default_ring-rings_seen m c requestor s = ap (λ o. unwrap_or o c.user) (first_ring-rings_seen m c requestor (default_places s))

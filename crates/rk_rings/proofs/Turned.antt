@@ -16,6 +16,7 @@ use Rattle.rk_rings.proofs.Finds.{entry_found, some_entry, any_value}
 
 -- ---- what the index tells
 
+-- where nothing is linked, there are no names
 pub by_name_empty : (a b : FinMap nat_cmp ℕ) → a ≡ empty → b ≡ empty → AreByName a b
 by_name_empty a b is too = record {
   found = λ k n there. absurd (none-some n (sym (ap (λ m. get m k) is ∙ get-empty nat_cmp k) ∙ there));
@@ -76,6 +77,7 @@ by_name_put a b k n h new free = record {
   as_many = one_more b n k free ∙ ap (λ x. x + 1) h.as_many ∙ sym (one_more a k n new);
 }
 
+-- the names are those of the links after a key and its name are removed
 pub by_name_out : (a b : FinMap nat_cmp ℕ) (k n : ℕ) → AreByName a b → get a k ≡ Some n → AreByName (remove a k) (remove b n)
 by_name_out a b k n h is = record {
   found = turned_out a b k n h.found (h.found k n is);
@@ -125,6 +127,7 @@ none_of : (b : Bool) (o : Option ℕ) → is_some o ≡ false → o ≡ None
 none_of b None h = refl
 none_of b (Some x) h = absurd (cc)
 
+-- the names are those of the links after a new key takes the place of the one of its name
 pub by_name_given : (a b : FinMap nat_cmp ℕ) (r k n : ℕ) → AreByName a b → get b n ≡ Some r → contains_key a k ≡ false →
     AreByName (insert (remove a r) k n) (insert b n k)
 by_name_given a b r k n h is lacks =
@@ -134,9 +137,11 @@ by_name_given a b r k n h is lacks =
     (elim (cases_eq k r) [ inl e ↦ taken_out a r k e | inr ne ↦ left_in a r k ne ∙ none ])
     (taken_out b n n refl))
 
+-- the names are those of the links after a key with a new name is linked
 pub by_name_new : (a b : FinMap nat_cmp ℕ) (k n : ℕ) → AreByName a b → get b n ≡ None → contains_key a k ≡ false → AreByName (insert a k n) (insert b n k)
 by_name_new a b k n h free lacks = by_name_put a b k n h (none_of true (get a k) lacks) free
 
+-- removing a key that is not there leaves the map
 pub nothing_out : (m : FinMap nat_cmp ℕ) (k : ℕ) → get m k ≡ None → m ≡ remove m k
 nothing_out m k none = same_map nat_cmp_total nat_cmp-IsAntisymmetric _ _ (λ q. elim (cases_eq q k) [
   | inl e ↦ ap (get m) e ∙ none ∙ sym (taken_out m k q e)

@@ -117,6 +117,7 @@ not_of m s whose uid his ne = by_ring (get m s) his
       | false ↦ λ _. refl
     ] refl
 
+-- where a user's ring is removed, and the places stay, one is free
 pub place_left : (u : FinMap nat_cmp ℕ) (uid room left : ℕ) → contains_key u uid ≡ true → len (remove u uid) + left ≡ len u + room → 0 < left
 place_left u uid room left there sum =
     let fewer : len (remove u uid) ≡ len u - 1 = len-remove nat_cmp_total u uid ∙ ap (λ b. cond b (len u - 1) (len u)) there in
@@ -134,6 +135,7 @@ users_same m u s r None of there new all = users_beside m u s r new (λ uid his.
 users_same m u s r (Some whose) of there new all =
     users_beside m u s r new (λ uid his. ap (contains_key u) (one_user r.kind r.uid whose uid of his) ∙ there whose refl) all
 
+-- a user has no ring where none is of its uid
 pub none_his : (m : Rings) (uid : ℕ) → ((k : ℕ) (r : Numbered) → get m k ≡ Some r → is_user_ring uid r ≡ false) → IsHis m uid None
 none_his m uid h ring = by_ring (get m ring) refl
   where

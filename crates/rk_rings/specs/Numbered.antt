@@ -1,4 +1,4 @@
--- What the library keeps of a ring: beside each key the number of its name, so that names are told apart without reading them.
+-- What the library keeps of a ring: beside each key the number of its name, so that names are compared without reading them.
 use Rattle.std.specs.Prelude.{◌≡◌, ℕ, Bool, true, false, ◌&&◌, ◌||◌, not, nat_le, ◌==◌, List, [], ◌∷◌, Option, Some, None, refl, if◌then◌else◌}
 use Rattle.std.specs.Prelude.{map as list_map}
 use Rattle.std.specs.Option.{option_map_or}

@@ -22,6 +22,7 @@ const PLACES: usize = 288;
 /// its places, and puts the links back: at most once for 32 keys that were unlinked.
 #[derive(Drop)]
 pub struct ByName {
+    /// By the number of each name its key, or `None` where that is unlinked.
     keys: IndexMap<NameNo, Option<Serial>, DrawnNumbers>,
 }
 

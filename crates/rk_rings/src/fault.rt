@@ -19,7 +19,7 @@ pub enum RingFault {
     /// The ring is not one of the context.
     #[error("the ring is not one of the context")]
     Elsewhere,
-    /// A growth was refused.
+    /// An allocation failed.
     #[error("out of memory")]
     NoMemory,
 }

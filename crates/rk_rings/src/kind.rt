@@ -10,7 +10,7 @@ pub enum RingKind {
     Process,
     /// One that sessions of a user may share (session-keyring(7)).
     Session,
-    /// The one of a user, in all his contexts (user-keyring(7)).
+    /// The one of a user, in all contexts of that user (user-keyring(7)).
     User,
 }
 

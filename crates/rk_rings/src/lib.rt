@@ -2,10 +2,9 @@
 //!
 //! # Purpose
 //!
-//! [`Rings`] holds the live rings by their serials: whose each is (keyrings(7), "Anchoring keys"), and the keys that are linked in it. It knows a
-//! key by its serial and by the number of its name, which live keys share exactly where their type and description are equal, so it tells names
-//! apart without reading them. It answers where a key of a name is found in the rings of a context, which ring an ask means, and where a new key
-//! goes.
+//! [`Rings`] holds the live rings by their serials: whose each is (keyrings(7), "Anchoring keys"), and the keys that are linked in it. It knows a key
+//! by its serial and by the number of its name. Live keys share that number exactly where their type and description are equal, so names are compared
+//! without reading them. It answers where a key of a name is found in the rings of a context, which ring an ask means, and where a new key goes.
 //!
 //! # What it promises
 //!
@@ -17,17 +16,17 @@
 //!
 //! # An example
 //!
-//! `make` of the ring 3, a session ring of the user 1000; `link` of the key 7 with the name 1 in it, and of the key 8 with the name 1: `holds(3,
-//! 7)` is now false, `holds(3, 8)` true. `at` with the place `Session` answers 3 for a context whose session ring is 3, and `NoRing` after
-//! `drop_ring(3)`; `choose` then answers the context's user ring.
+//! `make` makes the ring 3, a session ring of the user 1000. `link` puts the key 7 with the name 1 in it, and then the key 8 with the name 1.
+//! `holds(3, 7)` is now false, `holds(3, 8)` true. `at` with the place `Session` answers 3 for a context whose session ring is 3, and `NoRing`
+//! after `drop_ring(3)`; `choose` then answers the context's user ring.
 //!
 //! # How it is built
 //!
-//! `kind` says what a ring is for, `place` how an ask names one, `fault` why a call is refused. `row` is one
-//! ring, a table of its links by their keys; `by_name` has the same links in an `indexmap` by the numbers of their names; `changes` has the changes
-//! of a ring as the table of rings takes them; `link_counts` counts the links of each key; `rings` is all of them, with a user ring of each user;
-//! `reach` goes over the rings of a context. A look-up of a ring halves the rings, and of a key the links of its ring, as `rk_table` finds; a name is
-//! found by its hash, or by a walk where there are few links. No clause says how they lie.
+//! `kind` says what a ring is for, `place` how an ask names one, `fault` why a call is refused. `row` is one ring, a table of its links by their
+//! keys; `by_name` has the same links in an `indexmap` by the numbers of their names. `changes` has the changes of a ring as the table of rings takes
+//! them; `link_counts` counts the links of each key. `rings` is all of them, with a user ring of each user; `reach` goes over the rings of a context.
+//! A look-up of a ring halves the rings, and of a key the links of its ring, as `rk_table` finds. A name is found by its hash, or by a walk where
+//! there are few links. No clause says how they lie.
 //!
 //! For libraries above, which see a ring as the set of its keys, `proofs/Seen.antt` and `proofs/SeenPlaces.antt`
 //! say what each change and each look-up is without the numbers.

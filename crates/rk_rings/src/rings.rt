@@ -33,7 +33,7 @@ pub const MAX_RINGS: usize = 1_024;
 pub struct Rings {
     /// Each ring by its serial.
     rows: Table<Row>,
-    /// A user ring of each user who has one, by his uid.
+    /// A user ring of each user who has one, by uid.
     users: Table<Serial>,
     /// In how many rings each key is linked.
     counts: LinkCounts,
@@ -367,7 +367,7 @@ fn insert_rows(table: &mut Table<Row>, users: &mut Table<Serial>, rows: Vec<(Ser
     }
 }
 
-/// Notes the user of a new ring, where it is a user ring and he had none.
+/// Notes the user of a new ring, where it is a user ring and the user had none.
 fn note_user(users: &mut Table<Serial>, serial: Serial, row: &Row)
     requires room { 0 < users.old.room }
     ensures users { (m : Rings) → map.get m serial ≡ None → AreUserRings m users.old.facts → AreUserRings (map.insert m serial row.now) users.new.facts }

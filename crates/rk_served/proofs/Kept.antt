@@ -48,6 +48,7 @@ move_fits conf now old index part new (shuts_client m) f =
 move_fits conf now old index part new (shuts_handler m) f =
     replaced old new index (Handler m.key) (Talks m.stream) _ m.made_for m.free.at m.peers refl m.world f
 
+-- a move leaves the peers to those who are there
 pub move_keeps_peers : (conf : List Line) (now : ℕ) (old : Left) (index : ℕ) (part : Part) (new : Left) → Move conf now old index part new → HasItsPeers old
     → HasItsPeers new
 move_keeps_peers conf now old index part new m s = has_its_peers new (move_fits conf now old index part new m (fits old s))
@@ -108,15 +109,18 @@ begins_fits conf now (happening.WaitFault k) old part new placed h f = end_fits 
 
 -- ---- what is served
 
+-- an own step that is not misplaced leaves the peers to those who are there
 pub begins_keeps_peers : (conf : List Line) (now : ℕ) (h : Happening) (old : Left) (part : Part) (new : Left) → is_misplaced old.world h ≡ false
     → OwnStep conf now h old part new → HasItsPeers old → HasItsPeers new
 begins_keeps_peers conf now h old part new placed b s = has_its_peers new (begins_fits conf now h old part new placed b (fits old s))
 
+-- a happening, with all its moves, leaves the peers to those who are there
 pub acts_keeps_peers : (conf : List Line) (old : Left) (now : ℕ) (h : Happening) (outputs : List Output) (steps : List Past) (new : Left)
     → Acts conf old now h outputs steps new → HasItsPeers old → HasItsPeers new
 acts_keeps_peers conf old now h outputs steps new a s =
     moves_keep_peers conf now a.begun a.parts new a.moves (begins_keeps_peers conf now h old a.own a.begun a.in_place a.own_step s)
 
+-- before anything happens, nobody is there and there is no peer
 pub nothing_has_peers : (from : Beginning) → HasItsPeers (nothing from)
 nothing_has_peers from =
     has_its_peers (nothing from)

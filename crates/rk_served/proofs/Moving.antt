@@ -32,6 +32,7 @@ use Rattle.rk_served.proofs.PeerLists.{not_false, some_peer}
 
 -- ---- one ask
 
+-- an answer that starts no key is no start
 pub no_start : (a : Answer) → ((k : ℕ) (subject : Subject) → a ≡ Start k subject → ⊥) → is_start a ≡ false
 no_start (Start k subject) h = absurd (h k subject refl)
 no_start (Done r) h = refl
@@ -40,6 +41,7 @@ no_start (Negate k) h = refl
 no_start (Refused e) h = refl
 
 module _ (conf : List Line) (now : ℕ) (old new : Left) (put put' : List Output) (who : SessionId) (ask : Ask) where
+  -- an ask that starts nothing is answered by its step and its reply
   pub tells_one : (answer : Answer) → is_start answer ≡ false → Step old.world now (Asked who ask) answer new.world → new.peers ≡ old.peers → put' ≡ put
       ++ replies_to who answer → AnswersOne conf now old who ask put new put'
   tells_one answer none step peers puts = record {
@@ -48,6 +50,7 @@ module _ (conf : List Line) (now : ℕ) (old new : Left) (put put' : List Output
     outputs = puts;
   }
 
+  -- an ask that starts a construction is answered by its step and the start of the handler
   pub start_one : (k : ℕ) (subject : Subject) (mid : World) → Step old.world now (Asked who ask) (Start k subject) mid
       → StartsNow conf now k subject (record { world = mid; peers = old.peers }) put new put' → AnswersOne conf now old who ask put new put'
   start_one k subject mid first (inl h) = record {
@@ -105,6 +108,7 @@ not_ready w s none = by_test (is_ready w s) refl
 -- ---- one move
 
 module _ (conf : List Line) (now : ℕ) (old new : Left) (put put' : List Output) (i : ℕ) (who : SessionId) (made_for : Option Subject) where
+  -- a session that is ready collects its outcome, and is sent it
   pub collects_one : (p : Channel) → slice_get old.peers i ≡ Some (peer who p made_for) → is_stream p ≡ true → is_ready old.world who ≡ true → (answer : Answer)
       → Step old.world now (Collect who) answer new.world → new.peers ≡ old.peers → put' ≡ put ++ replies_to who answer → MovesOne conf now i old put new put'
   collects_one (Talks stream) at is ready answer step peers puts = record {
@@ -125,6 +129,7 @@ module _ (conf : List Line) (now : ℕ) (old new : Left) (put put' : List Output
   collects_one (Starts piped) at is ready answer step peers puts = absurd (cc)
   collects_one (Pipes bytes) at is ready answer step peers puts = absurd (cc)
 
+  -- an invalid body is answered by its error, and leaves the world
   pub refuses_one : (p p' : Channel) (e : Errno) → slice_get old.peers i ≡ Some (peer who p made_for) → (has_wait old.world who ≡ false) × (is_open p ≡ true)
       → IsNextAt (message.Refused e) p p' → new.world ≡ old.world → new.peers ≡ slice_set old.peers i (peer who p' made_for) → put' ≡ put
       ++ replies_to who (Refused e) → MovesOne conf now i old put new put'
@@ -149,6 +154,7 @@ module _ (conf : List Line) (now : ℕ) (old new : Left) (put put' : List Output
   refuses_one (Starts piped) p' e at free next world peers puts = absurd (let h = free.1 in cc)
   refuses_one (Pipes bytes) p' e at free next world peers puts = absurd (let h = free.1 in cc)
 
+  -- a session whose next message is an ask makes a move by what the ask is answered
   pub asks_one : (p p' : Channel) (ask : Ask) → slice_get old.peers i ≡ Some (peer who p made_for) → (has_wait old.world who ≡ false) × (is_open p ≡ true)
       → IsNextAt (message.Asks ask) p p'
       → AnswersOne conf now (record { world = old.world; peers = slice_set old.peers i (peer who p' made_for) }) who ask put new put'
@@ -174,6 +180,7 @@ module _ (conf : List Line) (now : ℕ) (old new : Left) (put put' : List Output
   asks_one (Pipes bytes) p' ask at free next done = absurd (let h = free.1 in cc)
 
 module _ (conf : List Line) (now : ℕ) (old new : Left) (put put' : List Output) (i : ℕ) (made_for : Option Subject) where
+  -- a client with a bad length is shut, and is gone
   pub shuts_client_one : (client : ℕ) (p : Channel) → slice_get old.peers i ≡ Some (peer (Client client) p made_for) → HasFaultAt p
       → (has_wait old.world (Client client) ≡ false) × (is_open p ≡ true) → (answer : Answer) → Step old.world now (Gone (Client client)) answer new.world
       → new.peers ≡ without (Client client) old.peers → put' ≡ put ++ output.Shut client ∷ [] → MovesOne conf now i old put new put'
@@ -195,6 +202,7 @@ module _ (conf : List Line) (now : ℕ) (old new : Left) (put put' : List Output
   shuts_client_one client (Starts piped) at fault free answer step peers puts = absurd fault
   shuts_client_one client (Pipes bytes) at fault free answer step peers puts = absurd fault
 
+  -- a handler with a bad length is shut, and leaves the world
   pub shuts_handler_one : (key : ℕ) (p : Channel) → slice_get old.peers i ≡ Some (peer (Handler key) p made_for) → HasFaultAt p
       → (has_wait old.world (Handler key) ≡ false) × (is_open p ≡ true) → new.world ≡ old.world
       → new.peers ≡ slice_set old.peers i (peer (Handler key) (shut_channel p) made_for) → put' ≡ put ++ output.ShutHandler key ∷ []
@@ -226,6 +234,7 @@ next_same (Starts piped) p' (inr h) = h.1
 next_same (Pipes bytes) p' (inl h) = h.1
 next_same (Pipes bytes) p' (inr h) = h.1
 
+-- looking for a message where none is whole leaves everything
 pub next_left : (left : Left) (i : ℕ) (who : SessionId) (made_for : Option Subject) (p p' : Channel) → slice_get left.peers i ≡ Some (peer who p made_for)
     → IsNextAt message.More p p' ⊎ IsNextAt message.Fault p p' → record { world = left.world; peers = slice_set left.peers i (peer who p' made_for) } ≡ left
 next_left left i who made_for p p' at next =
@@ -237,6 +246,7 @@ has_fault (Talks stream) p' h = h.2.1
 has_fault (Starts piped) p' h = absurd (let e = h.0 in cc)
 has_fault (Pipes bytes) p' h = absurd (let e = h.0 in cc)
 
+-- a session that waits for nothing and has no whole message can't move
 pub rests_more : (left : Left) (i : ℕ) (who : SessionId) (made_for : Option Subject) (p p' : Channel) → slice_get left.peers i ≡ Some (peer who p made_for)
     → has_wait left.world who ≡ false → IsNextAt message.More p p' → RestsAt left i
 rests_more left i who made_for p p' at none next = rests left i (peer who p made_for) at (by_channel p next)

@@ -23,6 +23,7 @@ moves_push : (conf : List Line) (now : ℕ) (parts : List Part) (old mid new : L
 moves_push conf now [] old mid new part same move = (new, subst (λ (l : Left). MovesFirst conf now l part new) same move, refl)
 moves_push conf now (p ∷ ps) old mid new part h move = (h.0, h.1, moves_push conf now ps h.0 mid new part h.2 move)
 
+-- some moves and one more are some moves
 pub moves_more : (conf : List Line) (now : ℕ) (old mid new : Left) (put put' put'' : List Output) → MovesSome conf now old put mid put'
     → MovesNext conf now mid put' new put'' → MovesSome conf now old put new put''
 moves_more conf now old mid new put put' put'' some one = record {
@@ -34,6 +35,7 @@ moves_more conf now old mid new put put' put'' some one = record {
 
 -- ---- what is served in order is served
 
+-- moves in order are moves
 pub moves_of : (conf : List Line) (now : ℕ) (old : Left) (parts : List Part) (new : Left) → MovesInOrder conf now old parts new → Moves conf now old parts new
 moves_of conf now old [] new same = same
 moves_of conf now old (p ∷ ps) new m = (m.1.index, m.0, m.1.move, moves_of conf now m.0 ps new m.2)
@@ -43,6 +45,7 @@ pub serves_of : (conf : List Line) (old : Left) (now : ℕ) (h : Happening) (out
 serves_of conf old now h None steps new s = s
 serves_of conf old now h (Some outputs) steps new s = s.acts
 
+-- a list that is served in order is served
 pub served_of : (conf : List Line) (turns : List Turn) (run : List Past) (old new : Left) → ServedInOrderFrom conf old turns run new
     → ServedFrom conf old turns run new
 served_of conf [] run old new h = h
@@ -50,6 +53,7 @@ served_of conf (t ∷ ts) run old new h = (h.0, h.1, h.2, h.3, serves_of conf ol
 
 -- ---- one turn more
 
+-- a list that is served in order, and one more turn in order, are served in order
 pub in_order_push : (conf : List Line) (turns : List Turn) (run steps : List Past) (old mid new : Left) (turn : Turn) → ServedInOrderFrom conf old turns run mid
     → ServesInOrder conf mid turn.now turn.happening turn.outputs steps new
     → ServedInOrderFrom conf old (turns ++ turn ∷ []) (run ++ steps) new

@@ -68,6 +68,7 @@ ended_answered w now k how payload a v h step = by_stage (sessions.stage_of w.se
 
 -- ---- parts
 
+-- an own step without outputs is made without any
 pub begins_quiet : (conf : List Line) (now : ℕ) (h : Happening) (old new : Left) (put : List Output) (part : Part) → part.outputs ≡ []
     → OwnStep conf now h old part new → MakesOwnStep conf now h old put new put
 begins_quiet conf now h old new put part quiet b = record {
@@ -76,6 +77,7 @@ begins_quiet conf now h old new put part quiet b = record {
   outputs = sym (append-nil put) ∙ ap (λ (xs : List Output). put ++ xs) (sym quiet);
 }
 
+-- a step of the machine with these outputs is a part with that one step
 pub steps_by : (now : ℕ) (event : Event) (old new : Left) (a b : Answer) (outputs : List Output) → a ≡ b → Step old.world now event a new.world
     → StepsBy now event b outputs old (one_step now event b outputs) new
 steps_by now event old new a b outputs e step = record {
@@ -86,6 +88,7 @@ steps_by now event old new a b outputs e step = record {
 -- ---- clients
 
 module _ (conf : List Line) (now n : ℕ) (old new : Left) (put : List Output) (a : Answer) (step : Step old.world now (Opened (Client n)) a new.world) where
+  -- a client that is not refused gets a stream
   pub accepted_one : is_refused a ≡ false → Adds (peer (Client n) (Talks no_bytes) None) old.peers new.peers
       → MakesOwnStep conf now (happening.Accept n) old put new put
   accepted_one told adds = elim (opened_cases old.world now n a new.world step) [
@@ -94,6 +97,7 @@ module _ (conf : List Line) (now n : ℕ) (old new : Left) (put : List Output) (
     | inr e ↦ absurd (let t : is_refused a ≡ true = ap is_refused e.1 in cc)
   ]
 
+  -- a client that is refused is shut
   pub refused_one : is_refused a ≡ true → new.peers ≡ old.peers → (put' : List Output) → put' ≡ put ++ output.Shut n ∷ []
       → MakesOwnStep conf now (happening.Accept n) old put new put'
   refused_one other same put' puts = elim (opened_cases old.world now n a new.world step) [
@@ -108,6 +112,7 @@ module _ (conf : List Line) (now n : ℕ) (old new : Left) (put : List Output) (
 -- ---- starts
 
 module _ (conf : List Line) (now k : ℕ) (old new : Left) (put put' : List Output) (i : ℕ) where
+  -- a plain handler that has started gets a stream
   pub plain_one : (s : IsStartAt old.peers i k false) (a : Answer) → is_owed old.world (Launched k ran.Plain) ≡ true
       → Step old.world now (Launched k ran.Plain) a new.world → new.peers ≡ slice_set old.peers i (peer (Handler k) (Talks no_bytes) (Some s.0))
       → MakesOwnStep conf now (happening.StartResult k Started) old put new put
@@ -120,6 +125,7 @@ module _ (conf : List Line) (now k : ℕ) (old new : Left) (put put' : List Outp
         replaces = record { index = i; at = s.1; peers = peers };
       })
 
+  -- a piped handler that has started is sent its callout, and its output begins empty
   pub piped_one : (s : IsStartAt old.peers i k true) (a : Answer) → is_owed old.world (Launched k ran.Piped) ≡ true
       → Step old.world now (Launched k ran.Piped) a new.world → new.peers ≡ slice_set old.peers i (peer (Handler k) (Pipes []) (Some s.0)) → put' ≡ put
       ++ callout_to k s.0.callout → MakesOwnStep conf now (happening.StartResult k Started) old put new put'
@@ -144,6 +150,7 @@ module _ (conf : List Line) (now k : ℕ) (event : Event) (subject : Option Subj
   answered : (a ≡ done) ⊎ (a ≡ Negate k)
   answered = ended_answered left.world now k ended.how ended.payload a mid ended.ran ends_step
 
+  -- an end that no other handler follows is the last
   pub ends_last : ((j : ℕ) → a ≡ Negate j → ⊥) → (put : List Output)
       → EndsOne conf now k event subject (record { world = left.world; peers = peers }) put (record { world = mid; peers = left.peers }) put
   ends_last other put = elim answered [
@@ -164,9 +171,11 @@ module _ (conf : List Line) (now k : ℕ) (event : Event) (subject : Option Subj
       same : {i j : ℕ} → ◌≡◌ {A = Answer} (Negate i) (Negate j) → i ≡ j
       same e = cc
 
+  -- a construction that another handler follows was made for something
   pub ends_unmade : (j : ℕ) → a ≡ Negate j → subject ≡ None → ⊥
   ends_unmade j is none = (let e : is_some subject ≡ false = ap is_some none in let made = ended.made in cc)
 
+  -- an end that another handler follows starts that one at once
   pub ends_followed : (j : ℕ) → a ≡ Negate j → (s : Subject) → subject ≡ Some s → (put : List Output) (new : Left) (put' : List Output)
       → StartsNow conf now j (negated s) (record { world = mid; peers = left.peers }) put new put'
       → EndsOne conf now k event subject (record { world = left.world; peers = peers }) put new put'
@@ -219,6 +228,7 @@ made_for_some None x fits = absurd (cc)
 made_for_some (Some st) x fits = (both (has_channel st x.channel) (is_some x.subject) fits).1
 
 module _ (conf : List Line) (now k : ℕ) (old : Left) (x : Peer) (sits : Sits (Handler k) x old.peers) where
+  -- a handler that ran has ended where its peer was taken away and the world is as it was
   pub has_ended : (how : How) (payload : Option (List ℕ)) (left : Left) → HasItsPeers old → is_running old.world k ≡ true → left.world ≡ old.world
       → left.peers ≡ without (Handler k) old.peers → HasEnded k (Ended k how payload) x.subject old.peers left
   has_ended how payload left s runs world taken = record {
@@ -234,6 +244,7 @@ module _ (conf : List Line) (now k : ℕ) (old : Left) (x : Peer) (sits : Sits (
   there : slice_get old.peers sits.index ≡ Some (peer (Handler k) x.channel x.subject)
   there = sits.at ∙ ap (λ (w : SessionId). Some (peer w x.channel x.subject)) sits.who_is
 
+  -- a handler that ends gives what it has output as its payload
   pub finish_one : (how : How) (payload : Option (List ℕ)) → payload ≡ payload_in x.channel → (put : List Output) (new : Left) (put' : List Output)
       → EndsOne conf now k (Ended k how payload) x.subject old put new put' → MakesOwnStep conf now (happening.HandlerEnded k how) old put new put'
   finish_one how payload paid put new put' h = record {
@@ -248,6 +259,7 @@ module _ (conf : List Line) (now k : ℕ) (old : Left) (x : Peer) (sits : Sits (
     outputs = h.outputs;
   }
 
+  -- a handler whose wait fails ends without a payload
   pub break_one : (put : List Output) (new : Left) (put' : List Output) → EndsOne conf now k (Ended k Fault None) x.subject old put new put'
       → MakesOwnStep conf now (happening.WaitFault k) old put new put'
   break_one put new put' h = record {

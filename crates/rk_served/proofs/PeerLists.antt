@@ -18,17 +18,21 @@ pub either_way : (b : Bool) → (b ≡ true) ⊎ (b ≡ false)
 either_way true = inl refl
 either_way false = inr refl
 
+-- both parts of a true conjunction are true
 pub both : (a b : Bool) → (a && b) ≡ true → (a ≡ true) × (b ≡ true)
 both true b e = (refl, e)
 both false b e = absurd (cc)
 
+-- the conjunction of two true parts is true
 pub both_of : (a b : Bool) → a ≡ true → b ≡ true → (a && b) ≡ true
 both_of a b e f = (λ i. e i && f i)
 
+-- where a negation is true, what it negates is false
 pub not_false : (b : Bool) → not b ≡ true → b ≡ false
 not_false true e = absurd (cc)
 not_false false e = refl
 
+-- an option that is not Some is None
 pub some_none : {A : Type 0} (o : Option A) → is_some o ≡ false → o ≡ None
 some_none None e = refl
 some_none (Some x) e = absurd (cc)
@@ -58,6 +62,7 @@ sort_cond : (b : Bool) (x : Peer) (o : Option Peer) → option_map sort (cond b 
 sort_cond true x o = refl
 sort_cond false x o = refl
 
+-- the sort of a session's peer is the sort at that session
 pub sort_at_is : (xs : List Peer) (s : SessionId) → option_map sort (peer_of xs s) ≡ sort_at xs s
 sort_at_is [] s = refl
 sort_at_is (x ∷ xs) s = sort_cond (same_session x.who s) x (peer_of xs s) ∙ ap (cond (same_session x.who s) (Some (sort x))) (sort_at_is xs s)
@@ -66,6 +71,7 @@ has_sort : (o : Option Peer) → is_some o ≡ is_some (option_map sort o)
 has_sort None = refl
 has_sort (Some x) = refl
 
+-- a session has a peer exactly where there is a sort at it
 pub has_peer_is : (xs : List Peer) (s : SessionId) → has_peer xs s ≡ is_some (sort_at xs s)
 has_peer_is xs s = has_sort (peer_of xs s) ∙ ap is_some (sort_at_is xs s)
 
@@ -84,6 +90,7 @@ apart_from x xs s h = by_test (same_session x.who s) refl h
     by_test true e h = absurd (cc)
     by_test false e h = (e, h)
 
+-- a peer that is added has its sort, and every other session's sort stays
 pub sort_added : (before after : List Peer) (s : SessionId) (p : Channel) (m : Option Subject) → sort_at (before ++ after) s ≡ None → (t : SessionId)
     → sort_at (before ++ peer s p m ∷ after) t ≡ cond (same_session s t) (Some (sort (peer s p m))) (sort_at (before ++ after) t)
 sort_added [] after s p m none t = refl
@@ -110,6 +117,7 @@ under_same : (c d : Bool) (x o : Option Sort) → d ≡ c → cond c None o ≡ 
 under_same true d x o e = refl
 under_same false d x o e = sym (ap (λ (b : Bool). cond b x o) e)
 
+-- a peer that is taken out leaves no sort at its session, and every other stays
 pub sort_without : (s : SessionId) (xs : List Peer) (t : SessionId) → sort_at (without s xs) t ≡ cond (same_session s t) None (sort_at xs t)
 sort_without s [] t = sym (none_left (same_session s t))
 sort_without s (x ∷ xs) t = filtered (not (same_session x.who s)) x (without s xs) t ∙ by_test (sort_without s xs t) (same_session x.who s) refl
@@ -126,6 +134,7 @@ sort_without s (x ∷ xs) t = filtered (not (same_session x.who s)) x (without s
 
 -- ---- a peer is changed
 
+-- equal options have equal peers
 pub some_peer : {x y : Peer} → Some x ≡ Some y → x ≡ y
 some_peer {x} {y} e = ap (λ (o : Option Peer). or_else o) e
   where
@@ -185,6 +194,7 @@ sort_set (z ∷ zs) (suc i) s p q m apart e t =
 has_cons : (x : Peer) (xs : List Peer) (s : SessionId) → has_peer (x ∷ xs) s ≡ is_some (sort_at (x ∷ xs) s)
 has_cons x xs s = has_peer_is (x ∷ xs) s
 
+-- no two peers are of one session after one is added whose session had none
 pub apart_added : (before after : List Peer) (s : SessionId) (p : Channel) (m : Option Subject) → sort_at (before ++ after) s ≡ None
     → are_apart (before ++ after) ≡ true → are_apart (before ++ peer s p m ∷ after) ≡ true
 apart_added [] after s p m none apart = both_of (not (has_peer after s)) (are_apart after) (ap not (has_peer_is after s ∙ ap is_some none)) apart
@@ -204,6 +214,7 @@ apart_added (b ∷ bs) after s p m none apart =
         by_test true e = absurd (let g : same_session b.who s ≡ true = ap (λ v. same_session v s) (sym (same-true s b.who e)) ∙ same-self s in cc)
         by_test false e = none
 
+-- no two peers are of one session after one is taken out
 pub apart_without : (s : SessionId) (xs : List Peer) → are_apart xs ≡ true → are_apart (without s xs) ≡ true
 apart_without s [] apart = refl
 apart_without s (x ∷ xs) apart =
@@ -217,6 +228,7 @@ apart_without s (x ∷ xs) apart =
         ∙ ap is_some (sort_without s xs x.who ∙ ap (cond (same_session s x.who) None) (no_peer xs x.who none) ∙ none_left (same_session s x.who)))) rest
     by_test rest none false = rest
 
+-- no two peers are of one session after the channel of one is changed
 pub apart_set : (xs : List Peer) (i : ℕ) (s : SessionId) (p q : Channel) (m : Option Subject) → slice_get xs i ≡ Some (peer s p m) → are_apart xs ≡ true
     → are_apart (slice_set xs i (peer s q m)) ≡ true
 apart_set [] i s p q m e apart = apart
@@ -262,6 +274,7 @@ without_removed (x ∷ xs) zero s y at is =
 without_removed (x ∷ xs) (suc i) s y at is =
     ap (λ (ys : List Peer). cond (not (same_session x.who s)) (x ∷ ys) ys) (without_removed xs i s y at is)
 
+-- removing the place of a session's peer takes that peer out
 pub removed_at : (xs : List Peer) (i : ℕ) (s : SessionId) (y : Peer) → are_apart xs ≡ true → slice_get xs i ≡ Some y → y.who ≡ s → remove xs i ≡ without s xs
 removed_at [] i s y apart at is = absurd (cc)
 removed_at (x ∷ xs) zero s y apart at is =

@@ -137,6 +137,7 @@ none_stage : (o : Option Construction) → kind_in o ≡ None → option_map (λ
 none_stage None e = refl
 none_stage (Some c) e = absurd (cc)
 
+-- peers of those who are there fit the world
 pub fits : (left : Left) → HasItsPeers left → Fits left
 fits left s = record {
   clients = λ n. sym (has_peer_is left.peers (Client n)) ∙ s.clients n;
@@ -145,6 +146,7 @@ fits left s = record {
   idle = λ k h. stage_none (map.get left.world.sessions.constructions k) (s.idle k h);
 }
 
+-- peers that fit the world are of those who are there
 pub has_its_peers : (left : Left) → Fits left → HasItsPeers left
 has_its_peers left f = record {
   clients = λ n. has_peer_is left.peers (Client n) ∙ f.clients n;
@@ -171,6 +173,7 @@ same_world old new w peers apart f =
     stays old new (λ n. ap (λ (v : World). is_client v.sessions n) w) (λ k. ap (λ (v : World). kind_of v.sessions k) w) peers apart
     (subst IsIdle (sym w) f.idle) f
 
+-- the same peers fit after a step that leaves who is there and how far each construction is
 pub same_peers : (old new : Left) (now : ℕ) (e : Event) (a : Answer) → Step old.world now e a new.world → ((n : ℕ) (b : Bool) → client_after n e a b ≡ b)
     → ((k : ℕ) (o : Option Kind) → kind_after k e a o ≡ o) → new.peers ≡ old.peers → Fits old → Fits new
 same_peers old new now e a h cs ks same f =
@@ -222,6 +225,7 @@ replaced_at s p m old new adds t =
 
 -- ---- clients come and go
 
+-- the peers fit after a client comes and gets one
 pub opened_fits : (old new : Left) (now n : ℕ) (p : Channel) → has_client old.world n ≡ false → Step old.world now (Opened (Client n)) done new.world
     → Adds (peer (Client n) p None) old.peers new.peers → Fits old → Fits new
 opened_fits old new now n p absent h adds f =
@@ -241,6 +245,7 @@ opened_fits old new now n p absent h adds f =
     some_or true x o = refl
     some_or false x o = refl
 
+-- the peers fit after a client goes and its peer is taken out
 pub gone_fits : (old new : Left) (now n : ℕ) → Step old.world now (Gone (Client n)) done new.world → new.peers ≡ without (Client n) old.peers → Fits old
     → Fits new
 gone_fits old new now n h peers f =
@@ -294,7 +299,7 @@ runs_fits old new now k r i p q subject agreed h at peers f =
       idle = idle_step old.world now (Launched k r) done new.world h f.idle;
     }
 
--- a command that is put out for a construction that begins
+-- a command that is output for a construction that begins
 starts_agree : (piped : Bool) → agree (Some to_start) (Some (cond piped starts_piped starts_plain)) ≡ true
 starts_agree true = refl
 starts_agree false = refl
@@ -317,7 +322,7 @@ starts_fits old new now k s x subject piped h adds f =
       idle = idle_step old.world now (Asked s x) (Start k subject) new.world h f.idle;
     }
 
--- a plain command that is put out where a piped handler has failed
+-- a plain command that is output where a piped handler has failed
 pub follows_fits : (old new : Left) (now k : ℕ) (how : How) (payload : Option (List ℕ)) (subject : Subject)
     → Step old.world now (Ended k how payload) (Negate k) new.world
     → Adds (peer (Handler k) (Starts false) (Some subject)) (without (Handler k) old.peers) new.peers → Fits old → Fits new
@@ -362,6 +367,7 @@ follows_none_fits old new mid now k how payload first second peers f =
 
 -- ---- a construction that waits for its start is launched
 
+-- a launch that is owed is answered as done
 pub launch_done : (w : World) (now k : ℕ) (r : Ran) (a : Answer) (v : World) → is_owed w (Launched k r) ≡ true → Step w now (Launched k r) a v → a ≡ done
 unfolding Step
 launch_done w now k r a v h step = answered (may_launch r (stage_of w.sessions k)) h step
@@ -376,6 +382,7 @@ launch_done w now k r a v h step = answered (may_launch r (stage_of w.sessions k
 failed_owed : (w : World) (k : ℕ) (x : Kind) → kind_of w.sessions k ≡ Some x → is_due (Some x) ≡ true → is_owed w (Launched k ran.Failed) ≡ true
 failed_owed w k x is due = launch_kind w k ran.Failed ∙ ap is_due is ∙ due
 
+-- after an end that another handler follows, a failed launch of that one is owed
 pub follow_owed : (old : World) (now k : ℕ) (how : How) (payload : Option (List ℕ)) (mid : World) → Step old now (Ended k how payload) (Negate k) mid
     → is_owed mid (Launched k ran.Failed) ≡ true
 follow_owed old now k how payload mid h =
@@ -416,6 +423,7 @@ quiet_ask q s x (Waiting k) o h = refl
 quiet_ask q s x (Negate k) o h = refl
 quiet_ask q s x (Refused e) o h = refl
 
+-- the peers fit after an ask is answered
 pub answered_fits : (conf : List Line) (now : ℕ) (old : Left) (who : SessionId) (ask : Ask) (part : Part) (new : Left) → Answered conf now old who ask part new
     → Fits old → Fits new
 answered_fits conf now old who ask part new (puts_reply h) f =

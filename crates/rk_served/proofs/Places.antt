@@ -58,6 +58,7 @@ cuts (Handler i) (Client m) u e f = absurd (cc)
 cuts (Handler i) (Handler j) (Client n) e f = absurd (cc)
 cuts (Handler i) (Handler j) (Handler k) e f = grind (arith, nat_tests)
 
+-- peers in order are split by any session into those before it and the rest
 pub before_splits : (who : SessionId) (xs : List Peer) → are_in_order xs ≡ true → IsPartitionedBy (λ x. comes_before x.who who) xs
 before_splits who [] order = λ i j d le within pass. absurd (omega arith)
 before_splits who (x ∷ xs) order =

@@ -21,6 +21,7 @@ use Rattle.rk_served.specs.Served.{Turn, steps_of, ServesBy, Serves, ServedFrom,
 
 -- ---- one turn more
 
+-- a served list and one more turn are served
 pub served_push : (conf : List Line) (turns : List Turn) (run steps : List Past) (old mid new : Left) (turn : Turn) → ServedFrom conf old turns run mid
     → Serves conf mid turn steps new → ServedFrom conf old (turns ++ turn ∷ []) (run ++ steps) new
 served_push conf [] run steps old mid new turn h s =
@@ -117,6 +118,7 @@ served_chain conf (t ∷ ts) run old new h =
     subst (λ (es : List Past). Chain old.world es new.world) (sym h.3)
     (chain_append h.0 h.1 old.world h.2.world new.world (serves_chain conf old t.now t.happening t.outputs h.0 h.2 h.4) (served_chain conf ts h.1 h.2 new h.5))
 
+-- the steps of every served list are a run of the machine
 pub served_is_run : ServedIsRun
 served_is_run conf from turns run left h =
     let is_run : Run from (reverse run) left.world =

@@ -103,11 +103,13 @@ order_inserted (z ∷ zs) y order = by_test (order_inserted zs y) (comes_before 
         (both_of (list_all (λ x. not (comes_before x.who z.who)) (insert zs i y)) (are_in_order (insert zs i y))
         (all_inserted (λ x. not (comes_before x.who z.who)) zs i y parts.0 (ap not e)) (rest parts.1))
 
+-- the place of the first that passes is at most the length
 pub position_within : (p : Peer → Bool) (xs : List Peer) → position_or_len p xs ≤ length xs
 position_within p xs = prefix_len-le-length (λ x. not (p x)) xs
 
 -- ---- one peer less
 
+-- peers stay in order where one session's is taken out
 pub order_without : (s : SessionId) (xs : List Peer) → are_in_order xs ≡ true → are_in_order (without s xs) ≡ true
 order_without s [] order = refl
 order_without s (x ∷ xs) order =
@@ -126,6 +128,7 @@ all_removed p (x ∷ xs) zero all = (both (p x) (list_all p xs) all).1
 all_removed p (x ∷ xs) (suc i) all = (let parts = both (p x) (list_all p xs) all in
     both_of (p x) (list_all p (remove xs i)) parts.0 (all_removed p xs i parts.1))
 
+-- peers stay in order where one place is removed
 pub order_removed : (xs : List Peer) (i : ℕ) → are_in_order xs ≡ true → are_in_order (remove xs i) ≡ true
 order_removed [] zero order = refl
 order_removed [] (suc i) order = refl

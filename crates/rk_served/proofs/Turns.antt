@@ -15,6 +15,7 @@ serves_next conf old turn steps new s from turns run served =
     let more = served_push conf turns run steps (nothing from) old new turn served s in
     (steps, more, served_is_run conf from (turns ++ turn ∷ []) (run ++ steps) new more)
 
+-- a happening that acts adds its turn, with its outputs, to every served list
 pub acts_next : (conf : List Line) (old : Left) (now : ℕ) (h : Happening) (outputs : List Output) (steps : List Past) (new : Left)
     → Acts conf old now h outputs steps new → ServesNext conf old (record { now = now; happening = h; outputs = Some outputs }) new
 acts_next conf old now h outputs steps new a = serves_next conf old (record { now = now; happening = h; outputs = Some outputs }) steps new a
@@ -24,6 +25,7 @@ pub passed_in_order : (conf : List Line) (old : Left) (now : ℕ) (h : Happening
     × ServesInOrder conf old now h None steps old
 passed_in_order conf old now h misplaced = ([], record { misplaced = misplaced; no_steps = refl; same = refl })
 
+-- a misplaced happening adds its turn without outputs, and changes nothing
 pub passed_next : (conf : List Line) (old : Left) (now : ℕ) (h : Happening) → is_misplaced old.world h ≡ true
     → ServesNext conf old (record { now = now; happening = h; outputs = None }) old
 passed_next conf old now h misplaced =

@@ -429,9 +429,11 @@ Known M w x = M x.who ⊎ CannotMove w x.who x.channel
 abbrev IsMoverOr : SessionId → Queue → SessionId → Type 0
 IsMoverOr who q s = (s ≡ who) ⊎ IsMover q s
 
+-- equal handlers are of one key
 pub same_handler : {i j : ℕ} → ◌≡◌ {A = SessionId} (Handler i) (Handler j) → i ≡ j
 same_handler e = cc
 
+-- equal options have equal keys
 pub some_key : {i j : ℕ} → ◌≡◌ {A = Option ℕ} (Some i) (Some j) → i ≡ j
 some_key e = cc
 
@@ -570,6 +572,7 @@ all_both P Q (x ∷ xs) p q =
 abbrev Rests : World → Peer → Type 0
 Rests w x = CannotMove w x.who x.channel
 
+-- where the one who was taken out can't move, and is put among those who wait, the queue knows all
 pub watched_parked : (who : SessionId) (q q' : Queue) (left : Left) → are_apart left.peers ≡ true → IsWatchedBut who q left
     → MatchOption (peer_of left.peers who) (Unit {0}) (λ x. CannotMove left.world x.who x.channel) → Parks left.world who q q' → IsWatched q' left
 watched_parked who q q' left apart w rests parks = record {
@@ -590,6 +593,7 @@ watched_parked who q q' left apart w rests parks = record {
 
 -- ---- at rest, and who is first
 
+-- where the queue knows all who may move, and has none, no session can move
 pub at_rest : (q : Queue) (left : Left) → IsWatched q left → ((s : SessionId) → IsMover q s → ⊥) → IsAtRest left
 at_rest q left w none =
     All-weaker (Known (IsMover q) left.world) (Rests left.world) (λ x h. elim h [ inl e ↦ absurd (none x.who e) | inr e ↦ e ]) left.peers w.movers
@@ -653,6 +657,7 @@ pub record WakesFor (w : World) (Keys : ℕ → Type 0) (old new : Queue) : Type
   pub known : KeepsKnown old new
   pub woken : (k : ℕ) → Keys k → unspent w.sessions k ≡ None → (s : SessionId) → IsWaiter old k s → IsMover new s
 
+-- waking those who wait for the one key is waking for all keys in question
 pub wakes_one : (w : World) (Keys : ℕ → Type 0) (key : ℕ) (old new : Queue) → ((k : ℕ) → Keys k → key ≡ k) → Wakes w key old new → WakesFor w Keys old new
 wakes_one w Keys key old new only h = record {
   movers = h.movers;
@@ -660,6 +665,7 @@ wakes_one w Keys key old new only h = record {
   woken = λ k is spent s waits. h.woken (ap (unspent w.sessions) (only k is) ∙ spent) s (subst (λ j. IsWaiter old j s) (sym (only k is)) waits);
 }
 
+-- where no key is in question, nobody has to be woken
 pub wakes_none : (w : World) (Keys : ℕ → Type 0) (q : Queue) → ((k : ℕ) → Keys k → ⊥) → WakesFor w Keys q q
 wakes_none w Keys q none = record {
   movers = λ s h. h;
@@ -667,6 +673,7 @@ wakes_none w Keys q none = record {
   woken = λ k is spent s waits. absurd (none k is);
 }
 
+-- one that may move, and those who wait for its own key or for the key on which it waits, are stirred
 pub stirred : (w : World) (who : SessionId) (q0 q1 q2 q3 : Queue) → IsMover q1 who → KeepsMovers q0 q1 → q1.waiting ≡ q0.waiting
     → WakesFor w (λ k. who ≡ Handler k) q1 q2 → WakesFor w (λ k. awaited w who ≡ Some k) q2 q3 → Stirs w who q0 q3
 stirred w who q0 q1 q2 q3 itself movers waiting own other = record {
@@ -694,6 +701,7 @@ none_awaited from (Handler k) =
     ap (λ (o : Option Construction). option_map (λ (v : Wait). v.key) (option_and_then (λ (one : Session). one.wait)
     (option_and_then (λ (c : Construction). handler_in c.stage) o))) (get-empty nat_cmp k)
 
+-- before anything happens nobody may move
 pub nothing_still : (from : Beginning) (q : Queue) → ((s : SessionId) → IsMover q s → ⊥) → IsStill q (nothing from)
 nothing_still from q none = record {
   watched = record {

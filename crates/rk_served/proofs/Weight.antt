@@ -193,6 +193,7 @@ asked_weight conf now old who ask part new (starts_one h) f none = ap (total f) 
     ∙ total_added f h.before h.after _ (none h.key h.command.piped h.subject) ∙ ap (total f) (sym h.others)
 asked_weight conf now old who ask part new (fails_to_start h) f none = ap (total f) h.peers
 
+-- every move makes what is left to do less
 pub lighter : (conf : List Line) (now : ℕ) (old : Left) (index : ℕ) (part : Part) (new : Left) → Move conf now old index part new → HasItsPeers old
     → weight new < weight old
 lighter conf now old index part new (collects m) s =

@@ -34,7 +34,7 @@ use Rattle.rk_served.specs.WhoIsThere.{peer_of}
 abbrev pub left_of : Server → Left
 left_of b = record { world = b.book; peers = b.peers.items }
 
--- one move of the session at a place, whose outputs go to the end of what was put out
+-- one move of the session at a place, whose outputs go to the end of what was output
 pub record MovesOne (conf : List Line) (now index : ℕ) (old : Left) (put : List Output) (new : Left) (put' : List Output) : Type 0 where
   pub part : Part
   pub move : Move conf now old index part new
@@ -65,7 +65,7 @@ pub record MakesOwnStep (conf : List Line) (now : ℕ) (h : Happening) (old : Le
   pub own_step : OwnStep conf now h old part new
   pub outputs : put' ≡ put ++ part.outputs
 
--- the command of a construction that has begun is put out
+-- the command of a construction that has begun is output
 pub record PutsCommand (conf : List Line) (now k : ℕ) (subject : Subject) (old : Left) (put : List Output) (new : Left) (put' : List Output) : Type 0 where
   pub command : Command
   pub is_command : IsCommand conf old.world now k subject command
@@ -81,7 +81,7 @@ pub record FailsAtOnce (conf : List Line) (now k : ℕ) (subject : Subject) (old
   pub peers : new.peers ≡ old.peers
   pub outputs : put' ≡ put
 
--- one of the two: the command for k is put out, or there is none and its start fails at once
+-- one of the two: the command for k is output, or there is none and its start fails at once
 abbrev pub StartsNow : List Line → ℕ → ℕ → Subject → Left → List Output → Left → List Output → Type 0
 StartsNow conf now k subject old put new put' = PutsCommand conf now k subject old put new put' ⊎ FailsAtOnce conf now k subject old put new put'
 
@@ -109,7 +109,7 @@ TriesAt conf now i moved old put new put' = MatchBool moved (MovesOne conf now i
 abbrev pub IsFreeAt : Left → ℕ → Type 0
 IsFreeAt left i = IfSome (slice_get left.peers i) (λ x. (has_wait left.world x.who ≡ false) × (is_open x.channel ≡ true))
 
--- the construction of k is there, and its command was put out
+-- the construction of k is there, and its command was output
 abbrev pub IsStartAt : List Peer → ℕ → ℕ → Bool → Type 0
 IsStartAt peers i k piped = (subject : Subject) × (slice_get peers i ≡ Some (peer (Handler k) (Starts piped) (Some subject)))
 

@@ -19,8 +19,8 @@ use Rattle.rk_served.specs.declared.output.Output.TheVariants as output
 use Rattle.rk_served.specs.declared.peer.Channel.{Channel}
 use Rattle.rk_served.specs.declared.peer.Peer.{Peer}
 
--- the world; each client and each construction with what it has: the unused bytes of its stream, its start, or what it has put out; and what a
--- construction was made for
+-- the world; each client and each construction with what it has; and what a construction was made for. It has the unused bytes of its stream,
+-- its start, or what it has output
 pub record Left : Type 0 where
   pub world : World
   pub peers : List Peer
@@ -41,7 +41,7 @@ without s peers = filter (λ x. not (same_session x.who s)) peers
 
 -- ---- parts of a run
 
--- some steps, and what they put out
+-- some steps, and what they output
 pub record Part : Type 0 where
   pub steps : List Past
   pub outputs : List Output
@@ -65,7 +65,7 @@ abbrev pub reply_to : SessionId → Reply → Output
 reply_to (Client s) r = output.ToClient s (frame (spelling (reply_message r)))
 reply_to (Handler k) r = output.ToHandler k (frame (spelling (reply_message r)))
 
--- the reply that an answer is told by, if there is one
+-- the reply that returns an answer, if there is one
 abbrev pub reply_of : Answer → Option Reply
 reply_of (Done r) = Some r
 reply_of (Refused e) = Some (reply.Refused e)
@@ -78,6 +78,6 @@ abbrev pub told_to : SessionId → Option Reply → List Output
 told_to who None = []
 told_to who (Some r) = reply_to who r ∷ []
 
--- what is put out for an answer
+-- what is output for an answer
 abbrev pub replies_to : SessionId → Answer → List Output
 replies_to who a = told_to who (reply_of a)

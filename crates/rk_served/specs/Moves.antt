@@ -37,7 +37,7 @@ is_start (Waiting k) = false
 is_start (Negate k) = false
 is_start (Refused e) = false
 
--- an ask that starts nothing: what its answer replies is put out, and an answer that ends no ask replies nothing
+-- an ask that starts nothing: what its answer replies is output, and an answer that ends no ask replies nothing
 pub record PutsReply (now : ℕ) (old : Left) (who : SessionId) (ask : Ask) (part : Part) (new : Left) : Type 0 where
   pub answer : Answer
   pub step : Step old.world now (Asked who ask) answer new.world
@@ -87,7 +87,7 @@ pub record IsFree (old : Left) (index : ℕ) (who : SessionId) (stream : Unused)
   pub no_wait : has_wait old.world who ≡ false
   pub not_shut : stream.is_shut ≡ false
 
--- it collects its outcome, which is put out as a reply
+-- it collects its outcome, which is output as a reply
 pub record CollectsAt (now : ℕ) (old : Left) (index : ℕ) (part : Part) (new : Left) : Type 0 where
   pub who : SessionId
   pub stream : Unused
@@ -99,7 +99,7 @@ pub record CollectsAt (now : ℕ) (old : Left) (index : ℕ) (part : Part) (new 
   pub part_is : part ≡ one_step now (Collect who) answer (replies_to who answer)
   pub peers : new.peers ≡ old.peers
 
--- a body that is no ask is answered by its error, and makes no step
+-- an invalid body is answered by its error, and makes no step
 pub record RefusesAt (now : ℕ) (old : Left) (index : ℕ) (part : Part) (new : Left) : Type 0 where
   pub who : SessionId
   pub stream : Unused

@@ -82,20 +82,20 @@ pub record Adds (x : Peer) (old new : List Peer) : Type 0 where
   pub others : old ≡ before ++ after
   pub peers : new ≡ before ++ x ∷ after
 
--- one step, and what it puts out
+-- one step, and what it outputs
 pub record StepsBy (now : ℕ) (event : Event) (answer : Answer) (outputs : List Output) (old : Left) (part : Part) (new : Left) : Type 0 where
   pub step : Step old.world now event answer new.world
   pub part_is : part ≡ one_step now event answer outputs
 
 -- ---- bytes
 
--- bytes only lengthen a stream, or what a piped handler has put out
+-- bytes only lengthen a stream, or what a piped handler has output
 abbrev pub channel_with : List ℕ → Channel → Channel
 channel_with more (Talks stream) = Talks (lengthened more stream)
 channel_with more (Pipes bytes) = Pipes (bytes ++ more)
 channel_with more (Starts piped) = Starts piped
 
--- the peer of s takes these bytes on its channel, as above; the world stays, no step is made, and nothing is put out
+-- the peer of s takes these bytes on its channel, as above; the world stays, no step is made, and nothing is output
 pub record Lengthens (s : SessionId) (more : List ℕ) (old : Left) (part : Part) (new : Left) : Type 0 where
   pub channel : Channel
   pub made_for : Option Subject
@@ -122,7 +122,7 @@ abbrev pub callout_to : ℕ → List ℕ → List Output
 callout_to k [] = []
 callout_to k (b ∷ bytes) = output.ToHandler k (b ∷ bytes) ∷ []
 
--- the handler runs as its command was put out: with a stream, or piped
+-- the handler runs as its command was output: with a stream, or piped
 pub record Runs (now k : ℕ) (old : Left) (part : Part) (new : Left) : Type 0 where
   pub piped : Bool
   pub subject : Subject
@@ -135,7 +135,7 @@ FailsToRun now k old part new = StepsBy now (Launched k ran.Failed) done [] old 
 
 -- ---- ends
 
--- what a piped handler has put out, where it can be a payload
+-- what a piped handler has output, where it can be a payload
 abbrev pub payload_in : Channel → Option (List ℕ)
 payload_in (Pipes bytes) = if is_none (payload_fault bytes) then Some bytes else None
 payload_in (Talks stream) = None
@@ -145,7 +145,7 @@ payload_in (Starts piped) = None
 abbrev pub negated : Subject → Subject
 negated s = record s { op = op.Negate }
 
--- a handler has ended, and another follows: the command of its line is put out
+-- a handler has ended, and another follows: the command of its line is output
 pub record Follows (conf : List Line) (now k : ℕ) (event : Event) (made_for : Option Subject) (old : Left) (part : Part) (new : Left) : Type 0 where
   pub subject : Subject
   pub made : made_for ≡ Some subject
@@ -172,7 +172,7 @@ pub data EndsBy (conf : List Line) (now k : ℕ) (event : Event) (made_for : Opt
   is_followed : Follows conf now k event made_for old part new → EndsBy conf now k event made_for old part new
   is_not_followed : FollowsNone conf now k event made_for old part new → EndsBy conf now k event made_for old part new
 
--- the handler has ended, with the payload of what it put out
+-- the handler has ended, with the payload of what it output
 pub record Finishes (conf : List Line) (now k : ℕ) (how : How) (old : Left) (part : Part) (new : Left) : Type 0 where
   pub index : ℕ
   pub channel : Channel

@@ -1,4 +1,4 @@
--- Served lists: happenings, what was put out for each, and the run of the machine that they are.
+-- Served lists: happenings, what was output for each, and the run of the machine that they are.
 use Rattle.std.specs.Prelude.{◌≡◌, ℕ, List, [], ◌∷◌, ◌++◌, reverse, Option, Some, None, true, false}
 use Rattle.std.specs.List.{flat_map}
 use Rattle.rk_conf.specs.declared.line.Line.{Line}
@@ -10,7 +10,7 @@ use Rattle.rk_served.specs.Left.{Left, Part, nothing}
 use Rattle.rk_served.specs.Moves.{Moves, IsAtRest}
 use Rattle.rk_served.specs.OwnStep.{is_misplaced, OwnStep}
 
--- a happening at a moment, and what was put out for it; None where it was out of place
+-- a happening at a moment, and what was output for it; None where it was out of place
 pub record Turn : Type 0 where
   pub now : ℕ
   pub happening : Happening
@@ -20,7 +20,7 @@ pub record Turn : Type 0 where
 abbrev pub steps_of : List Part → List Past
 steps_of parts = flat_map (λ p. p.steps) parts
 
--- what all parts put out, that of one part behind that of the other
+-- what all parts output, that of one part behind that of the other
 abbrev pub outputs_of : List Part → List Output
 outputs_of parts = flat_map (λ p. p.outputs) parts
 

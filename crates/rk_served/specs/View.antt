@@ -26,7 +26,7 @@ view_code =
     (λ p. record { conf = p.0; left = record { world = p.1.0; peers = p.1.1.0 }; broken = p.1.1.1 })
     (λ _. refl)
 
--- what a call told: the outputs, or that the happening was out of place. Nothing, where memory was refused
+-- what a call returned: the outputs, or that the happening was out of place. Nothing, when out of memory
 abbrev pub told : Result (List Output) TakeFault → Option (Option (List Output))
 told (Ok outputs) = Some (Some outputs)
 told (Err Unknown) = Some None

@@ -150,7 +150,7 @@ impl Server {
         Ok(())
     }
 
-    /// A handler runs as its command was put out.
+    /// A handler runs as its command was output.
     fn run(
         &mut self,
         alloc: Global,
@@ -204,7 +204,7 @@ impl Server {
         }
     }
 
-    /// A handler has ended, whose peer was taken away. Where another is to follow it, the command of that one is put out,
+    /// A handler has ended, whose peer was taken away. Where another is to follow it, the command of that one is output,
     /// for what the first was made for.
     fn end(
         &mut self,
@@ -228,7 +228,7 @@ impl Server {
         }
     }
 
-    /// A handler has ended, and what a piped one has put out is its payload.
+    /// A handler has ended, and what a piped one has output is its payload.
     fn finish(
         &mut self,
         alloc: Global,

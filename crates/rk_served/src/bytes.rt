@@ -7,6 +7,7 @@ use std::marker::Model;
 /// Some bytes, as a piece of a stream or the frame of a reply. In a clause they are the list of them.
 #[derive(Debug, Drop)]
 pub struct Bytes {
+    /// The bytes, any number of them.
     held: Vec<u8>,
 }
 
@@ -26,7 +27,7 @@ impl Bytes {
         Bytes { held }
     }
 
-    /// A copy of the bytes. The only refusal is want of memory.
+    /// A copy of the bytes. The only refusal is out of memory.
     pub fn from_slice(alloc: Global, bytes: &[u8]) -> Result<Bytes, AllocError>
         ensures { IfOk result (λ b. b ≡ bytes.now) }
     {
@@ -41,7 +42,7 @@ impl Bytes {
         &self.held
     }
 
-    /// Puts more bytes behind them. The only refusal is want of memory, after which they are as they were.
+    /// Puts more bytes behind them. The only refusal is out of memory, after which they are as they were.
     pub fn extend(&mut self, more: &[u8]) -> Result<(), AllocError>
         ensures ok { OnOk result (self.new ≡ self.old ++ more.now) }
         ensures err { OnErr result (self.new ≡ self.old) }

@@ -25,8 +25,8 @@ fn look_up(
     }
 }
 
-/// The command of the chosen line. There is none where no line is chosen, or where its words can't be made, also for
-/// want of memory.
+/// The command of the chosen line. There is none where no line is chosen, or where its words can't be made, also
+/// when out of memory.
 pub fn command_for(
     alloc: Global,
     conf: &Conf,

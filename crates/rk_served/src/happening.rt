@@ -26,7 +26,7 @@ pub enum Happening {
     Gone(u32),
     /// The command for a key was started, or could not be.
     StartResult(Serial, StartResult),
-    /// The next bytes that a handler put out, cut anywhere.
+    /// The next bytes that a handler output, cut anywhere.
     HandlerBytes(Serial, Bytes),
     /// The output of a handler could not be read.
     HandlerReadFault(Serial),

@@ -1,17 +1,17 @@
 //! The machine of `rk_core` with a stream of frames for each client and each plain handler.
 //!
-//! Nothing is started, no clock is read and no socket is there: what happens is told to a [`Replay`], and what it would do is put
-//! out. `rk_replay` tells it the lines of a script.
+//! Nothing is started, no clock is read and no socket is there: what happens is passed to a [`Replay`], and what it would do is
+//! output. `rk_replay` passes it the lines of a script.
 //!
 //! # What is promised
 //!
 //! [`Replay::take`] takes one [`Happening`] at its moment. Whatever list of happenings was served before, that list with this one
-//! and with these outputs is served, too (`specs/Served.antt`): the own step of the happening, and then moves of sessions until
-//! none can move. A session that waits moves no more until it can collect. Of those that can, the first one moves: clients by
-//! rising number, and then handlers by rising key (`specs/Order.antt`); so the peers stand in that order, whatever
-//! the order of arrival. The steps of that list and of this happening are a run of the machine that obeys the laws of every run:
-//! this stands on the contract of the call itself, and for any served list on that of [`served_is_run`]. A happening whose client
-//! or handler is not at that point is refused, and changes nothing. After want of memory a replay answers that for good.
+//! and with these outputs is served, too (`specs/Served.antt`). It makes the own step of the happening, and then moves of
+//! sessions until none can move. A session that waits moves no more until it can collect. Of those that can, the first one moves:
+//! clients by rising number, and then handlers by rising key (`specs/Order.antt`). So the peers stand in that order, whatever the
+//! order of arrival. The steps of that list and of this happening are a run of the machine that obeys the laws of every run. This
+//! stands on the contract of the call itself, and for any served list on that of [`served_is_run`]. A happening whose client or
+//! handler is not at that point is refused, and changes nothing. Once out of memory, a replay answers that for good.
 //!
 //! # How it is built
 //!

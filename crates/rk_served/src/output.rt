@@ -1,4 +1,4 @@
-//! What a replay puts out.
+//! What a replay outputs.
 ghost use Rattle.std.specs.Prelude.{◌≡◌};
 
 use crate::bytes::Bytes;
@@ -6,7 +6,7 @@ use rk_macro::Command;
 use rk_names::Serial;
 use std::marker::Model;
 
-/// What is put out, to a client by its number or to the handler of a key.
+/// An output, to a client by its number or to the handler of a key.
 #[derive(Debug, Drop)]
 pub enum Output {
     /// A frame to a client: the reply to one of its asks.
@@ -21,9 +21,10 @@ pub enum Output {
     ShutHandler(Serial),
 }
 
-/// What is put out for one happening, in order. In a clause it is the list of them.
+/// The outputs for one happening, in order. In a clause it is the list of them.
 #[derive(Debug, Drop)]
 pub struct Outputs {
+    /// The outputs, first to last.
     items: Vec<Output>,
 }
 

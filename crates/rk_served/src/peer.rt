@@ -14,9 +14,9 @@ use std::alloc::{AllocError, Global};
 pub enum Channel {
     /// A client, or a plain handler that runs: its stream.
     Talks(Stream),
-    /// A construction whose command was put out and not started yet: whether it is piped.
+    /// A construction whose command was output and not started yet: whether it is piped.
     Starts(bool),
-    /// A piped handler that runs: what it has put out.
+    /// A piped handler that runs: what it has output.
     Pipes(Bytes),
 }
 
@@ -41,7 +41,7 @@ impl Channel {
         }
     }
 
-    /// Takes the next bytes. The only refusal is want of memory.
+    /// Takes the next bytes. The only refusal is out of memory.
     pub fn feed(&mut self, alloc: Global, bytes: &[u8]) -> Result<(), AllocError>
         ensures { OnOk result (self.new ≡ channel_with bytes.now self.old) }
     {
@@ -71,7 +71,7 @@ impl Channel {
         }
     }
 
-    /// What a piped handler has put out, where it can be a payload. It takes no memory.
+    /// What a piped handler has output, where it can be a payload. It takes no memory.
     pub fn into_payload(self) -> Option<Payload>
         ensures { result ≡ payload_in self }
     {
@@ -81,7 +81,7 @@ impl Channel {
         }
     }
 
-    /// The next message of a stream. The only refusal is want of memory for an ask.
+    /// The next message of a stream. The only refusal is out of memory for an ask.
     pub fn next(&mut self, alloc: Global) -> Result<Message, AllocError>
         ensures { IfOk result (λ m. IsNextAt m self.old self.new) }
     {
@@ -95,7 +95,9 @@ impl Channel {
 /// A client, or the handler of a construction, and what it has.
 #[derive(Drop)]
 pub struct Peer {
+    /// The client or handler.
     pub who: SessionId,
+    /// Its stream, its start, or its output.
     pub channel: Channel,
     /// What a construction was made for. A client has none.
     pub subject: Option<Subject>,
@@ -104,7 +106,7 @@ pub struct Peer {
 impl Peer {
     ghost use Rattle.rk_served.specs.Channels.{callout_of};
 
-    /// Puts out what the handler of a key is handed as it starts. The only refusal is want of memory.
+    /// Outputs what the handler of a key is handed as it starts. The only refusal is out of memory.
     pub fn put_callout(
         &self,
         alloc: Global,

@@ -16,7 +16,9 @@ use std::collections::BinaryHeap;
 /// no more, may stand here too: it is taken out when it is looked at.
 #[derive(Drop)]
 pub struct Queue {
+    /// The sessions that may move, the first of them at the top.
     movers: BinaryHeap<Reverse<SessionId>>,
+    /// By the serial of a key the sessions that wait for it.
     waiting: HashTable<Vec<Reverse<SessionId>>>,
     ghost in_order: { IsHeap first_is_greatest (heap_items movers) } by { Prim.hlevel props },
 }
@@ -34,7 +36,7 @@ impl Queue {
         }
     }
 
-    /// This one may move. The only refusal is want of memory.
+    /// This one may move. The only refusal is out of memory.
     pub fn push(&mut self, who: SessionId) -> Result<(), AllocError>
         ensures who { OnOk result (IsMover self.new who) }
         ensures movers { OnOk result (KeepsMovers self.old self.new) }
@@ -71,7 +73,7 @@ impl Queue {
         }
     }
 
-    /// This one waits for the key. The only refusal is want of memory.
+    /// This one waits for the key. The only refusal is out of memory.
     pub fn park(&mut self, alloc: Global, key: Serial, who: SessionId) -> Result<(), AllocError>
         ensures who { OnOk result (IsWaiter self.new key who) }
         ensures movers { self.new.movers ≡ self.old.movers }
@@ -84,7 +86,7 @@ impl Queue {
         Ok(())
     }
 
-    /// All who wait for the key may move. The only refusal is want of memory.
+    /// All who wait for the key may move. The only refusal is out of memory.
     pub fn wake(&mut self, alloc: Global, key: Serial) -> Result<(), AllocError>
         ensures woken { OnOk result ((s : SessionId) → IsWaiter self.old key s → IsMover self.new s) }
         ensures movers { OnOk result (KeepsMovers self.old self.new) }

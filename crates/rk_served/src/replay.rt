@@ -22,9 +22,13 @@ use std::marker::Model;
 /// A machine that is driven by happenings.
 #[derive(Drop)]
 pub struct Replay {
+    /// The configuration, which chooses the commands.
     conf: Conf,
+    /// The machine and its peers.
     server: Server,
+    /// The sessions that may move or wait.
     queue: Queue,
+    /// Whether it was once out of memory.
     broken: bool,
 }
 
@@ -45,7 +49,7 @@ impl Model for Replay {
 }
 
 impl Replay {
-    /// A replay that nothing has happened to. An `Err` is want of memory.
+    /// A replay that nothing has happened to. An `Err` is out of memory.
     pub fn new(alloc: Global, conf: Conf, limits: Limits) -> Result<Replay, AllocError>
         requires { 1 ≤ limits.stride }
         ensures left { IfOk result (λ r. r.left ≡ nothing (record { negative = limits.negative; first = limits.first; stride = limits.stride })) }
@@ -63,12 +67,12 @@ impl Replay {
         })
     }
 
-    /// Takes a happening in, at its moment, and returns what is put out for it.
+    /// Takes a happening in, at its moment, and returns what is output for it.
     ///
     /// Its steps go on with the run of the machine that led to the replay, and obey the laws of every run. Of the sessions that can
     /// move, the first one moves: clients by rising number, and then handlers by rising key.
     ///
-    /// A misplaced happening is `Unknown`, and changes nothing. After want of memory it answers `NoMemory` for good, also to a
+    /// A misplaced happening is `Unknown`, and changes nothing. Once out of memory it answers `NoMemory` for good, also to a
     /// misplaced happening.
     pub fn take(
         &mut self,
@@ -76,7 +80,7 @@ impl Replay {
         now: Moment,
         happening: &Happening,
     ) -> Result<Outputs, TakeFault>
-        // Whatever served list left the replay, that list with this happening and these outputs is served, and leaves it so; the steps of
+        // Whatever served list left the replay, that list with this happening and these outputs is served, and leaves it so. The steps of
         // that list and of this happening are a run of the machine that obeys the laws of every run.
         ensures served { IfSome (told result) (λ outputs. ServesNext self.old.conf self.old.left
             (record { now = now; happening = happening.now; outputs = outputs }) self.new.left) }
@@ -90,7 +94,7 @@ impl Replay {
         ensures unknown { self.old.broken ≡ false → (result ≡ Err TakeFault.Unknown) ↔ (is_misplaced self.old.left.world happening.now ≡ true) }
         ensures unchanged { result ≡ Err TakeFault.Unknown → self.new ≡ self.old }
 
-        // after want of memory it answers that for good
+        // once out of memory it answers that for good
         ensures memory { (result ≡ Err TakeFault.NoMemory) ↔ (self.new.broken ≡ true) }
         ensures for_good { self.old.broken ≡ true → result ≡ Err TakeFault.NoMemory }
     {

@@ -27,7 +27,9 @@ use std::alloc::{AllocError, Global};
 /// rising key.
 #[derive(Drop)]
 pub struct Server {
+    /// The machine's state.
     pub book: Book,
+    /// The peers, clients by number and then handlers by key.
     pub peers: Vec<Peer>,
     ghost in_order: { are_in_order peers.items ≡ true },
 }
@@ -67,7 +69,7 @@ impl Server {
         }
     }
 
-    /// Makes one ask, and puts out what comes of it.
+    /// Makes one ask, and outputs what results from it.
     fn ask(
         &mut self,
         alloc: Global,

@@ -13,7 +13,7 @@ use std::marker::Model;
 pub enum Message {
     /// An ask.
     Asks(Ask),
-    /// A body that is no ask, by what it is answered.
+    /// An invalid body, by the error that it is answered.
     Refused(Errno),
     /// Nothing before more bytes come.
     More,
@@ -24,7 +24,9 @@ pub enum Message {
 /// The bytes that came from a session and were not used yet. A stream that is shut takes none any more. Before bytes come it has no room for any.
 #[derive(Drop)]
 pub struct Stream {
+    /// The frames that came, or `None` before any bytes.
     frames: Option<Frames>,
+    /// Whether it takes no more bytes.
     is_shut: bool,
 }
 
@@ -52,7 +54,7 @@ impl Stream {
         }
     }
 
-    /// Takes the next bytes, or passes them over where it is shut. The only refusal is want of memory.
+    /// Takes the next bytes, or passes them over where it is shut. The only refusal is out of memory.
     pub fn feed(&mut self, alloc: Global, bytes: &[u8]) -> Result<(), AllocError>
         ensures { OnOk result (self.new ≡ lengthened bytes.now self.old) }
     {
@@ -68,7 +70,7 @@ impl Stream {
         }
     }
 
-    /// The next message, after which the stream goes on behind it. The only refusal is want of memory for an ask.
+    /// The next message, after which the stream goes on behind it. The only refusal is out of memory for an ask.
     pub fn next(&mut self, alloc: Global) -> Result<Message, AllocError>
         ensures { IfOk result (λ m. IsNext m self.old self.new) }
     {
@@ -93,7 +95,7 @@ impl Stream {
     }
 }
 
-/// Frames of which these bytes are the first. The only refusal is want of memory.
+/// Frames of which these bytes are the first. The only refusal is out of memory.
 fn fed(alloc: Global, bytes: &[u8]) -> Result<Frames, AllocError>
     ensures { IfOk result (λ f. f.bytes ≡ bytes.now) }
 {
@@ -102,7 +104,7 @@ fn fed(alloc: Global, bytes: &[u8]) -> Result<Frames, AllocError>
     Ok(frames)
 }
 
-/// The next message of some frames, which go on behind it. The only refusal is want of memory for an ask.
+/// The next message of some frames, which go on behind it. The only refusal is out of memory for an ask.
 fn next_in(alloc: Global, frames: &mut Frames) -> Result<Message, AllocError>
     ensures { (is_shut : Bool) → IfOk result (λ m. IsNext m (record { bytes = frames.old.bytes; is_shut = is_shut })
         (record { bytes = frames.new.bytes; is_shut = is_shut })) }

@@ -9,16 +9,19 @@ use Rattle.rk_table.specs.Maps.{changed_at}
 use Rattle.rk_table.specs.Counts.{count_at, ArePositive}
 use Rattle.rk_table.proofs.Gets.{get_changed_at, get_inserted, get_removed}
 
+-- a count that is put at k is the count there, and every other stays
 pub count_put : (m : map.FinMap nat_cmp ℕ) (k n q : ℕ) → count_at (map.insert m k n) q ≡ cond (nat_eq k q) n (count_at m q)
 count_put m k n q =
     ap (λ o. unwrap_or o 0) (get_inserted m k n q)
     ∙ elim (nat_eq k q) as (λ b. unwrap_or (cond b (Some n) (map.get m q)) 0 ≡ cond b n (count_at m q)) [ true ↦ refl | false ↦ refl ]
 
+-- a count that is removed is 0, and every other stays
 pub count_out : (m : map.FinMap nat_cmp ℕ) (k q : ℕ) → count_at (map.remove m k) q ≡ cond (nat_eq k q) 0 (count_at m q)
 count_out m k q =
     ap (λ o. unwrap_or o 0) (get_removed m k q)
     ∙ elim (nat_eq k q) as (λ b. unwrap_or (cond b None (map.get m q)) 0 ≡ cond b 0 (count_at m q)) [ true ↦ refl | false ↦ refl ]
 
+-- a count above 0 is held
 pub has_count : (o : Option ℕ) → 0 < unwrap_or o 0 → is_some o ≡ true
 has_count None h = absurd (omega arith)
 has_count (Some m) h = refl
@@ -49,15 +52,18 @@ count_by m f k n q is = elim (cases_eq k q) [
 
 -- ---- counts that are held are positive
 
+-- no count of the empty map is 0
 pub positive_empty : ArePositive map.empty
 positive_empty k n is = absurd (none-some n (sym (map.get-empty nat_cmp k) ∙ is))
 
+-- no count is 0 after one above 0 is put
 pub positive_put : (m : map.FinMap nat_cmp ℕ) (k n : ℕ) → 0 < n → ArePositive m → ArePositive (map.insert m k n)
 positive_put m k n some all q x is = elim (nat_eq k q) as (λ b. cond b (Some n) (map.get m q) ≡ Some x → 0 < x) [
   | true ↦ λ e. let same : n ≡ x = same_Some n x e in omega (arith, same, some)
   | false ↦ λ e. all q x e
 ] (sym (get_inserted m k n q) ∙ is)
 
+-- no count is 0 after one is removed
 pub positive_out : (m : map.FinMap nat_cmp ℕ) (k : ℕ) → ArePositive m → ArePositive (map.remove m k)
 positive_out m k all q x is = elim (nat_eq k q) as (λ b. cond b None (map.get m q) ≡ Some x → 0 < x) [
   | true ↦ λ e. absurd (none-some x e)
@@ -68,6 +74,7 @@ become : (n x : ℕ) (o : Option ℕ) → 0 < n → option_map (λ (_ : ℕ). n)
 become n x None some e = absurd (none-some x e)
 become n x (Some y) some e = let same : n ≡ x = same_Some n x e in omega (arith, same, some)
 
+-- no count is 0 after one becomes another above 0
 pub positive_become : (m : map.FinMap nat_cmp ℕ) (k n : ℕ) → 0 < n → ArePositive m → ArePositive (changed_at k (λ _. n) m)
 positive_become m k n some all q x is = elim (nat_eq k q) as (λ b. cond b (option_map (λ (_ : ℕ). n) (map.get m q)) (map.get m q) ≡ Some x → 0 < x) [
   | true ↦ λ e. become n x (map.get m q) some e

@@ -10,6 +10,7 @@ use Rattle.rk_table.specs.Maps.{changed_all}
 use Rattle.std.specs.Option.{option_map}
 use Rattle.std.specs.FinMap.Entries.{find-where_key}
 
+-- keys tie in the order of a map exactly where they are equal
 pub tie : (q k : ℕ) → eq_by_cmp nat_cmp q k ≡ nat_eq k q
 tie q k = unsigned_tied q k ∙ nat_eq_equiv.symm q k
 
@@ -23,6 +24,7 @@ module _ {X : Type 0} where
       find_drop q es i e h ∙ ap (λ (x : ℕ × X). cond (eq_by_cmp nat_cmp q x.0) (Some x.1) (find nat_cmp q (drop (i + 1) es))) (sym is)
       ∙ ap (λ b. cond b (Some e.1) (find nat_cmp q (drop (i + 1) es))) (tie q e.0 ∙ ne_eqb _ _ other)
 
+  -- the map of some entries has at a key the first entry of that key
   pub get_in : (es : List (ℕ × X)) (q : ℕ) → get (from_entries {R = nat_cmp} es) q ≡ find nat_cmp q es
   get_in es q = get-from_entries nat_cmp_total es q
 
@@ -43,6 +45,7 @@ module _ {X : Type 0} where
       ∙ ap (λ o. cond (p q) o None) (sym (get_in es q))
       ∙ sym (get-retain_keys (from_entries es) p q (λ x e. ap p (sym (nat_cmp-IsAntisymmetric q x e)))))
 
+  -- entries without those of a key make the map without that key
   pub removed : (es : List (ℕ × X)) (k : ℕ) → from_entries {R = nat_cmp} (filter (λ e. not (nat_eq e.0 k)) es) ≡ remove (from_entries es) k
   removed es k = same_map nat_cmp_total nat_cmp-IsAntisymmetric _ _ (λ q.
       get_in (filter (λ e. not (nat_eq e.0 k)) es) q ∙ find_where (λ x. not (nat_eq x k)) q es
@@ -51,10 +54,12 @@ module _ {X : Type 0} where
       ∙ ap (λ o. cond (eq_by_cmp nat_cmp q k) None o) (sym (get_in es q))
       ∙ sym (get-remove nat_cmp_total (from_entries es) k q))
 
+  -- a choice within the other half of the same choice takes its other half
   pub shadow : (b : Bool) (x y z : Option X) → cond b x (cond b y z) ≡ cond b x z
   shadow true x y z = refl
   shadow false x y z = refl
 
+  -- two choices that exclude one another may be made in either order
   pub swap_tests : (a b : Bool) (x y z : Option X) → (a ≡ true → b ≡ true → ⊥) → cond a x (cond b y z) ≡ cond b y (cond a x z)
   swap_tests true true x y z apart = absurd (apart refl refl)
   swap_tests true false x y z apart = refl
@@ -68,6 +73,7 @@ module _ {X : Type 0} where
   find_changed f q [] = refl
   find_changed f q (e ∷ es) = ap (cond (eq_by_cmp nat_cmp q e.0) (Some (f e.1))) (find_changed f q es) ∙ mapped f (eq_by_cmp nat_cmp q e.0) e.1 (find nat_cmp q es)
 
+  -- where all values of a map are changed, the one at each key is
   pub get_changed_all : (f : X → X) (m : FinMap nat_cmp X) (q : ℕ) → get (changed_all f m) q ≡ option_map f (get m q)
   get_changed_all f m q =
       get_in (list_map (λ e. (e.0, f e.1)) (entries m)) q ∙ find_changed f q (entries m) ∙ ap (option_map f) (sym (get-entries m q))

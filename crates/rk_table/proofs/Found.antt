@@ -31,6 +31,7 @@ module _ {X : Type 0} where
   find_later : (q : ℕ) (x : ℕ × X) (es : List (ℕ × X)) → x.0 ≢ q → find nat_cmp q (x ∷ es) ≡ find nat_cmp q es
   find_later q x es other = ap (λ b. cond b (Some x.1) (find nat_cmp q es)) (tie q x.0 ∙ ne_eqb _ _ other)
 
+  -- a key that no entry has is not found
   pub find_none : (k : ℕ) (es : List (ℕ × X)) → NoKeyBefore es k (length es) → find nat_cmp k es ≡ None
   find_none k [] absent = refl
   find_none k (x ∷ es) absent = find_later k x es (absent 0 x (omega arith)) ∙ find_none k es (not_later x es k _ absent)
@@ -73,9 +74,11 @@ module _ {X : Type 0} where
   pub found_at : (es : List (ℕ × X)) (k i : ℕ) (d : ℕ × X) → KeysRise es → IsAt es k i → get (from_entries {R = nat_cmp} es) k ≡ Some (get_or es i d).1
   found_at es k i d h at = get_in es k ∙ find_first k es i d at (none_before_at es k i h at)
 
+  -- a key that fits into a gap of the entries is not found
   pub not_found : (es : List (ℕ × X)) (k i : ℕ) → IsGapFor es k i → get (from_entries {R = nat_cmp} es) k ≡ None
   not_found es k i gap = get_in es k ∙ find_none k es (none_in_gap es k i gap)
 
+  -- a key that is not found is at no place
   pub nowhere : (es : List (ℕ × X)) (k i : ℕ) → KeysRise es → get (from_entries {R = nat_cmp} es) k ≡ None → IsAt es k i → ⊥
   nowhere [] k i h new at = omega (arith, at.in_range)
   nowhere (x ∷ es) k i h new at = none-some (get_or (x ∷ es) i x).1 (sym new ∙ found_at (x ∷ es) k i x h at)
@@ -86,6 +89,7 @@ module _ {X : Type 0} where
       let keys_rise : (get_or es i d).0 ≤ (get_or es j d).0 = grind (arith, rising_at es h i j d, λ (same : i ≡ j). ap (λ n. (get_or es n d).0) same) in
       grind (arith, nat_tests)
 
+  -- a search by halves gives the place of the key, or the gap into which it fits
   pub searched : (es : List (ℕ × X)) (k : ℕ) → KeysRise es → (r : Result ℕ ℕ) → IsSearchInRange r (length es) → IsBinarySearchResult (λ e. nat_cmp e.0 k) es r → IfOk r (IsAt es k) × IfErr r (IsGapFor es k)
   searched es k h (Ok i) within equal = (record { in_range = within; has_key = λ d. ranked _ k _ (sym (equal d)) }, tt)
   searched es k h (Err i) within parted = (
@@ -105,6 +109,7 @@ module _ {X : Type 0} where
       ∙ ap (cond (eq_by_cmp nat_cmp q k) (Some v)) (sym (get_in es q))
       ∙ sym (get-insert nat_cmp_total (from_entries es) k v q))
 
+  -- an entry that is inserted at the gap of its key is inserted in the map
   pub put_in : (es : List (ℕ × X)) (i k : ℕ) (v : X) → IsGapFor es k i → from_entries {R = nat_cmp} (insert_at es i (k, v)) ≡ insert (from_entries es) k v
   put_in es i k v gap = same_map nat_cmp_total nat_cmp-IsAntisymmetric _ _ (λ q.
       get_in (insert_at es i (k, v)) q ∙ find_inserted q k v es i (none_before_gap es k i gap)
@@ -121,6 +126,7 @@ module _ {X : Type 0} where
       ∙ (λ j. insert (view j) k (new j))
       ∙ sym (ap (λ o. option_map_or (λ w. insert m k (f w)) o m) there)
 
+  -- a change at a key that fits into a gap leaves the map
   pub not_changed : (es : List (ℕ × X)) (m : FinMap nat_cmp X) (k i : ℕ) (f : X → X) → from_entries es ≡ m → IsGapFor es k i → m ≡ changed_at k f m
   not_changed es m k i f view gap =
       sym (ap (λ o. option_map_or (λ v. insert m k (f v)) o m) (ap (λ n. get n k) (sym view) ∙ not_found es k i gap))
@@ -132,6 +138,7 @@ module _ {X : Type 0} where
       ap (λ b. cond (not b) (x ∷ filter (λ e. not (nat_eq e.0 k)) es) (filter (λ e. not (nat_eq e.0 k)) es)) (ne_eqb _ _ (absent 0 x (omega arith)))
       ∙ ap (λ l. x ∷ l) (all_stay k es (not_later x es k _ absent))
 
+  -- removing the place of a key leaves the entries of all other keys
   pub without_at : (es : List (ℕ × X)) (k i : ℕ) → KeysRise es → IsAt es k i → remove_at es i ≡ filter (λ e. not (nat_eq e.0 k)) es
   without_at [] k i h at = absurd (omega (arith, at.in_range))
   without_at (x ∷ es) k zero h at =
@@ -143,8 +150,10 @@ module _ {X : Type 0} where
       ap (λ l. x ∷ l) (without_at es k i h.1 (at_later x es k i at))
       ∙ sym (ap (λ b. cond (not b) (x ∷ filter (λ e. not (nat_eq e.0 k)) es) (filter (λ e. not (nat_eq e.0 k)) es)) (ne_eqb _ _ other))
 
+  -- removing the place of a key removes it from the map
   pub taken_out : (es : List (ℕ × X)) (k i : ℕ) → KeysRise es → IsAt es k i → from_entries {R = nat_cmp} (remove_at es i) ≡ remove (from_entries es) k
   taken_out es k i h at = ap (λ l. from_entries {R = nat_cmp} l) (without_at es k i h at) ∙ removed es k
 
+  -- removing a key that fits into a gap leaves the map
   pub nothing_to_take : (es : List (ℕ × X)) (k i : ℕ) → IsGapFor es k i → from_entries {R = nat_cmp} es ≡ remove (from_entries es) k
   nothing_to_take es k i gap = ap (λ l. from_entries {R = nat_cmp} l) (sym (all_stay k es (none_in_gap es k i gap))) ∙ removed es k

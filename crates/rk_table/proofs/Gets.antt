@@ -18,15 +18,19 @@ module _ {V : Type 0} where
   pub get_removed : (m : FinMap nat_cmp V) (k q : ℕ) → get (remove m k) q ≡ cond (nat_eq k q) None (get m q)
   get_removed m k q = get-remove nat_cmp_total m k q ∙ ap (λ b. cond b None (get m q)) (tie q k)
 
+  -- what is inserted is found at its key
   pub at_new : (m : FinMap nat_cmp V) (k : ℕ) (v : V) (q : ℕ) → q ≡ k → get (insert m k v) q ≡ Some v
   at_new m k v q e = get_inserted m k v q ∙ ap (λ b. cond b (Some v) (get m q)) (eq-eqb k q (sym e))
 
+  -- what is inserted at one key leaves what is found at another
   pub at_other : (m : FinMap nat_cmp V) (k : ℕ) (v : V) (q : ℕ) → (q ≡ k → ⊥) → get (insert m k v) q ≡ get m q
   at_other m k v q ne = get_inserted m k v q ∙ ap (λ b. cond b (Some v) (get m q)) (ne_eqb k q (λ e. ne (sym e)))
 
+  -- removing one key leaves what is found at another
   pub left_in : (m : FinMap nat_cmp V) (k q : ℕ) → (q ≡ k → ⊥) → get (remove m k) q ≡ get m q
   left_in m k q ne = get_removed m k q ∙ ap (λ b. cond b None (get m q)) (ne_eqb k q (λ e. ne (sym e)))
 
+  -- nothing is found at a key that was removed
   pub taken_out : (m : FinMap nat_cmp V) (k q : ℕ) → q ≡ k → get (remove m k) q ≡ None
   taken_out m k q e = get_removed m k q ∙ ap (λ b. cond b None (get m q)) (eq-eqb k q (sym e))
 

@@ -17,6 +17,7 @@ module _ {V : Type 0} where
     | inr ne ↦ at_other m k v q ne ∙ sym (at_other (map.remove m k) k v q ne ∙ left_in m k q ne)
   ])
 
+  -- inserting what is there leaves the map
   pub was_there : (m : map.FinMap nat_cmp V) (k : ℕ) (v : V) → map.get m k ≡ Some v → m ≡ map.insert m k v
   was_there m k v is = map.same_map nat_cmp_total map.nat_cmp-IsAntisymmetric _ _ (λ q. elim (cases_eq q k) [
     | inl e ↦ ap (map.get m) e ∙ is ∙ sym (at_new m k v q e)
@@ -58,6 +59,7 @@ module _ {V : Type 0} where
     abbrev pub kept_len : map.FinMap nat_cmp V → ℕ
     kept_len m = map.len (kept_where p m)
 
+    -- no entry of the empty map passes
     pub kept_len-empty : kept_len map.empty ≡ 0
     kept_len-empty =
         ap map.len (map.same_map nat_cmp_total map.nat_cmp-IsAntisymmetric (kept_where p map.empty) map.empty (λ q. none_kept p map.empty q (map.get-empty nat_cmp q) ∙ sym (map.get-empty nat_cmp q)))
@@ -79,6 +81,7 @@ module _ {V : Type 0} where
     pub kept_len-remove : (m : map.FinMap nat_cmp V) (k : ℕ) (v : V) → map.get m k ≡ Some v → kept_len (map.remove m k) ≡ cond (p k v) (kept_len m - 1) (kept_len m)
     kept_len-remove m k v is = one_fewer (p k v) (kept_len m) _ (ap kept_len (was_there m k v is) ∙ kept_len-put m k v)
 
+    -- removing a key that is not there leaves how many entries pass
     pub kept_len-remove_none : (m : map.FinMap nat_cmp V) (k : ℕ) → map.get m k ≡ None → kept_len (map.remove m k) ≡ kept_len m
     kept_len-remove_none m k none = ap kept_len (not_there m k none)
 

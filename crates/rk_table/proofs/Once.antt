@@ -32,6 +32,7 @@ module _ {X : Type 0} where
   no_entries : entries (from_entries {X = X} {R = nat_cmp} []) ≡ []
   no_entries = no_length _ (sym (len-entries (empty {X = X} {R = nat_cmp})) ∙ len-empty nat_cmp X)
 
+  -- the map of entries of which no key stands twice has as many as they are
   pub len_once : (es : List (ℕ × X)) → HasEachOnce es → len (from_entries {R = nat_cmp} es) ≡ length es
   len_once [] h = len-empty nat_cmp X
   len_once (e ∷ es) h =
@@ -49,6 +50,7 @@ module _ {X : Type 0} where
         | Greater ↦ λ r. ap (λ b. p e || b) (any_put p k v es (sym (ap (λ o. cond (is_eq o) (Some e.1) (find nat_cmp k es)) r) ∙ h)) ∙ or_swap (p e) (p (k, v)) _
       ] refl
 
+  -- a test passes an entry of the map exactly where it passes one of the list
   pub any_once : (p : ℕ × X → Bool) (es : List (ℕ × X)) → HasEachOnce es → list_any p (entries (from_entries {R = nat_cmp} es)) ≡ list_any p es
   any_once p [] h = ap (list_any p) (no_entries)
   any_once p (e ∷ es) h =
@@ -59,6 +61,7 @@ module _ {X : Type 0} where
   none_above : (k : ℕ) (es : List (ℕ × X)) → AreAbove k es → find nat_cmp k es ≡ None
   none_above k es h = find_none k es (not_in_above k es h)
 
+  -- where keys rise, none stands twice
   pub once_rising : (es : List (ℕ × X)) → KeysRise es → HasEachOnce es
   once_rising [] h = tt
   once_rising (e ∷ es) h = (none_above e.0 es h.0, once_rising es h.1)
@@ -68,6 +71,7 @@ module _ {X : Type 0} where
   put_first k v [] h = refl
   put_first k v (e ∷ es) h = ap (λ r. by_order r ((k, v) ∷ e ∷ es) ((e.0, v) ∷ es) (e ∷ put nat_cmp k v es)) (sym (nat_cmp_is k e.0 Less h.0))
 
+  -- entries whose keys rise are those of their map, in its order
   pub entries_rising : (es : List (ℕ × X)) → KeysRise es → entries (from_entries {R = nat_cmp} es) ≡ es
   entries_rising [] h = no_entries
   entries_rising (e ∷ es) h =
@@ -91,6 +95,7 @@ module _ {X : Type 0} where
   once_filtered p (e ∷ es) h =
       elim (p e) as (λ b. HasEachOnce (cond b (e ∷ filter p es) (filter p es))) [ true ↦ (none_left p e.0 es h.0, once_filtered p es h.1) | false ↦ once_filtered p es h.1 ]
 
+  -- writing a value at a place leaves the keys
   pub keys_written : (es : List (ℕ × X)) (i : ℕ) (e : ℕ × X) (v : X) → e ≡ get_or es i e → list_map (λ e. e.0) es ≡ list_map (λ e. e.0) (set es i (e.0, v))
   keys_written [] i e v at = refl
   keys_written (x ∷ es) zero e v at = ap (λ (y : ℕ × X). y.0 ∷ list_map (λ (z : ℕ × X). z.0) es) (sym at)
@@ -115,6 +120,7 @@ module _ {X : Type 0} where
             ] ∙ find_kept p q es h.1
       ] refl
 
+  -- the entries that pass a test make the map of those that pass
   pub kept_once : (p : ℕ → X → Bool) (es : List (ℕ × X)) → HasEachOnce es → from_entries {R = nat_cmp} (filter (λ e. p e.0 e.1) es) ≡ kept_where p (from_entries es)
   kept_once p es h = same_map nat_cmp_total nat_cmp-IsAntisymmetric _ _ (λ q.
       let m : FinMap nat_cmp X = from_entries es in
@@ -163,6 +169,7 @@ module _ {X : Type 0} where
   turned p es None h f = any_once (λ e. p e.0 e.1) es h ∙ f
   turned p es (Some k) h f = (ap (λ o. option_map_or (p k) o false) (get_in es k) ∙ f.0, any_once (λ e. p e.0 e.1) es h ∙ f.1)
 
+  -- the first entry of the list that passes is one that a search of the map may find
   pub finds_entry : (p : ℕ → X → Bool) (es : List (ℕ × X)) (m : FinMap nat_cmp X) (o : Option ℕ) → HasEachOnce es → from_entries es ≡ m
       → o ≡ option_map (λ (e : ℕ × X). e.0) (list_find (λ (e : ℕ × X). p e.0 e.1) es) → FindsEntry p m o
   finds_entry p es m o h view is =

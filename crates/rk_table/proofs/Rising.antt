@@ -16,12 +16,14 @@ module _ {X : Type 0} where
   above_from k [] h = tt
   above_from k (e ∷ es) h = (h 0 e (omega arith), above_from k es (λ j d lt. h (suc j) d (omega arith)))
 
+  -- where keys rise, the key at an earlier place is less than that at a later one
   pub rising_at : (es : List (ℕ × X)) → KeysRise es → (i j : ℕ) (d : ℕ × X) → i < j → j < length es → (get_or es i d).0 < (get_or es j d).0
   rising_at [] h i j d lt within = absurd (omega arith)
   rising_at (e ∷ es) h i zero d lt within = absurd (omega arith)
   rising_at (e ∷ es) h zero (suc j) d lt within = above_at e.0 es h.0 j d (omega arith)
   rising_at (e ∷ es) h (suc i) (suc j) d lt within = rising_at es h.1 i j d (omega arith) (omega arith)
 
+  -- a key is at no place of entries whose keys are above it
   pub not_in_above : (k : ℕ) (es : List (ℕ × X)) → AreAbove k es → (j : ℕ) (d : ℕ × X) → j < length es → (get_or es j d).0 ≢ k
   not_in_above k es h j d lt same = omega (arith, same, above_at k es h j d lt)
 
@@ -31,6 +33,7 @@ module _ {X : Type 0} where
   above_filtered p k (e ∷ es) h =
       elim (p e) as (λ b. AreAbove k (cond b (e ∷ filter p es) (filter p es))) [ true ↦ (h.0, above_filtered p k es h.1) | false ↦ above_filtered p k es h.1 ]
 
+  -- keys that rise still rise where entries are dropped
   pub rising_filtered : (p : ℕ × X → Bool) (es : List (ℕ × X)) → KeysRise es → KeysRise (filter p es)
   rising_filtered p [] h = tt
   rising_filtered p (e ∷ es) h =
@@ -45,6 +48,7 @@ module _ {X : Type 0} where
       let rest : list_map (λ (x : ℕ × X). x.0) es ≡ list_map (λ (x : ℕ × X). x.0) fs = cc in
       (subst (λ n. k < n) one h.0, above_by_keys k es fs rest h.1)
 
+  -- whether keys rise results from the keys alone
   pub rising_by_keys : (es fs : List (ℕ × X)) → list_map (λ e. e.0) es ≡ list_map (λ e. e.0) fs → KeysRise es → KeysRise fs
   rising_by_keys es [] same h = tt
   rising_by_keys [] (f ∷ fs) same h = absurd (cc)
@@ -66,6 +70,7 @@ module _ {X : Type 0} where
     from = λ j d le lt. gap.from (suc j) d (omega arith) (omega arith);
   }
 
+  -- keys still rise where an entry is inserted at its gap
   pub rising_inserted : (es : List (ℕ × X)) (i k : ℕ) (v : X) → KeysRise es → IsGapFor es k i → KeysRise (insert es i (k, v))
   rising_inserted es zero k v h gap = (above_from k es (λ j d lt. gap.from j d (omega arith) lt), h)
   rising_inserted [] (suc i) k v h gap = (tt, tt)

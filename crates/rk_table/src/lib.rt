@@ -3,8 +3,8 @@
 //! # Purpose
 //!
 //! The libraries that hold the machine's state keep facts by their numbers: keys and rings by their serials, clients by the numbers of
-//! their connections. Each of them needs the same of its map: that a caller can reserve places first and put in what was decided later,
-//! with no refusal in between; and that a contract can say which facts there are, and nothing of how they lie.
+//! their connections. Each of them needs the same of its map. A caller must be able to reserve places first and put in what was decided
+//! later, with no refusal in between. A contract must be able to say which facts there are, and nothing of how they lie.
 //!
 //! # What it promises
 //!
@@ -16,17 +16,17 @@
 //! # Use
 //!
 //! Reserve, and then insert: `table.reserve(1)?; table.insert(3, fact);`. A value is changed in its place by a small struct that implements
-//! [`ChangeOnce`] and says in its ghost member what it makes of the value; a [`Test`] picks entries in the same way.
+//! [`ChangeOnce`] and says in its ghost member what it makes of the value. A [`Test`] picks entries in the same way.
 //!
 //! A `Table` is for what has a bound, as the links of a ring, and a `HashTable` for what has none, as the keys. [`Counts`] is a `Table` of counts.
 //!
 //! # How it is built
 //!
 //! `table` has the table, `places` the search. A plain vector of entries in the order of their keys, each key once, so that a search halves
-//! it: `get`, `contains` and `change` look at 8 entries where 256 are held. `insert` and `remove` search alike, and then the entries
-//! of greater keys move by one place, in one piece; keys that come rising, as serials do, are put at the end. `any`, `find`
-//! and `retain` walk over all entries. `hashed` has the other, over an `indexmap`, whose entries are found by the hashes of their keys, which
-//! `hashing` makes. `counts` counts numbers in a `Table`. No contract says how entries lie, so that another index can take its place.
+//! it. `get`, `contains` and `change` look at 8 entries where 256 are held. `insert` and `remove` search alike, and then the entries of
+//! greater keys move by one place, in one piece. Keys that come rising, as serials do, are put at the end. `any`, `find` and `retain` walk
+//! over all entries. `hashed` has the other, over an `indexmap`, whose entries are found by the hashes of their keys, which `hashing` makes.
+//! `counts` counts numbers in a `Table`. No contract says how entries lie, so that another index can take its place.
 #![tactic(auto)]
 
 mod counts;

@@ -1,14 +1,14 @@
-//! What happens to a Book, in plain lines, where no script of `reqkeyd replay` can tell it.
+//! What happens to a Book, in plain lines, where no script of `reqkeyd replay` can play it.
 //!
 //! A test is a table of lines, each with its answer: what happens to a request_key daemon, and what it says. Every answer was worked out by
-//! hand from docs/MACHINE.md and the manuals, and none was taken from a run. Scenarios of the machine are scripts, in tests/replay.
-//! Here is what those can't play: growths that are refused one by one (`rt try --test --fail-alloc N`), events out of turn, what a book tells
-//! without a step, and other serials than those from 1 on.
+//! hand from docs/MACHINE.md and the manuals, and none was taken from a run. Scenarios of the machine are scripts, in tests/replay. Here is
+//! what those can't play: allocations that fail one by one (`rt try --test --fail-alloc N`), and events out of turn. So are what a book
+//! returns without a step, and other serials than those from 1 on.
 //!
 //! # Lines
 //!
 //! A session is `c1`, the client 1, or `h3`, the handler that makes key 3. A line may begin with its moment in seconds, which stays
-//! until a line tells another.
+//! until a line has another.
 //!
 //! | Line | What happens |
 //! |---|---|
@@ -16,7 +16,7 @@
 //! | `c1 hello 1000 1000 3 0` | client 1 says who it is: uid, gid, its own rings (1 a thread ring, 2 a process ring, 3 both), the session ring to join, or 0 |
 //! | `c1 request user a none x` | client 1 asks, in the words of `reqkeyctl` (docs/CLIENT.md) |
 //! | `launched 3 plain` | the handler of key 3 runs; or `piped`, `failed` |
-//! | `ended 3 exit 0 hi` | it ended, with what it put out, if anything; or `signal`, `fault` |
+//! | `ended 3 exit 0 hi` | it ended, with what it output, if anything; or `signal`, `fault` |
 //! | `collect c1` | client 1 takes the outcome of its wait |
 //! | `gone c1` | client 1 is gone |
 //! | `ready c1`, `waits c1`, `there 1`, `stage 3`, `depth 3`, `peek 3 user a`, `owes gone c1`, `owed c1` | nothing happens: the book is only asked |
@@ -36,8 +36,8 @@
 //!
 //! # How it is built
 //!
-//! `words` takes a line apart, `moves` reads it, `answers` prints what is answered, and here the tables are played: `growths` those of `scenes`, on
-//! two books of which one is a step behind; `misuse`, `views` and `limits` their own.
+//! `words` takes a line apart, `moves` reads it, `answers` prints what is answered, and here the tables are played. Those of `scenes` are played
+//! with failed allocations, on two books of which one is a step behind. `misuse`, `views` and `limits` play their own.
 use crate::book::answers::play;
 use crate::book::moves::read;
 use crate::same::same_text;
@@ -94,7 +94,7 @@ fn new_book(rt: &impl Abort, alloc: Global, first: u32) -> Result<Book, AllocErr
     )
 }
 
-/// Plays a line at this moment, or the one that it tells, and gives the moment back.
+/// Plays a line at this moment, or the one that it has, and gives the moment back.
 fn play_line(
     rt: &impl Abort,
     alloc: Global,

@@ -1,3 +1,3 @@
-//! The replay: `take` plays happenings while growths are refused, `script` runs scripts from a reader that fails, or to a writer that does.
+//! The replay: `take` plays happenings while allocations fail, `script` runs scripts from a reader that fails, or to a writer that does.
 mod script;
 mod take;

@@ -25,12 +25,14 @@ at_place xs n h =
     let rest : drop n xs ≡ get_or xs n 0 ∷ drop (n + 1) xs = rw (add-one, drop-cons xs n 0) in
     sym (take-append-drop n xs) ∙ ap (λ (t : List ℕ). take n xs ++ t) rest
 
+-- a text without a newline is one line
 pub last_line : (text : List ℕ) (n : ℕ) → n ≡ length text → ((k : ℕ) → k < n → get_or text k 0 ≢ 10) → lines_of text ≡ text ∷ []
 last_line text n e h =
     let whole : take n text ≡ text = take_all n text (omega arith) in
     let P : List ℕ → Type 0 = λ t. All (λ b. nat_eq b 10 ≡ false) t in
     slice_split_none (λ b. nat_eq b 10) text (subst P whole (front_all (λ b. nat_eq b 10 ≡ false) text n (λ k lt. ne_eqb (get_or text k 0) 10 (h k lt))))
 
+-- a text up to its first newline is its first line, and the rest are the lines behind it
 pub first_line : (text : List ℕ) (n : ℕ) → n < length text → ((k : ℕ) → k < n → get_or text k 0 ≢ 10) → get_or text n 0 ≡ 10 → lines_of text ≡ take n text ∷ lines_of (drop (n + 1) text)
 first_line text n lt h e =
     let apart = front_all (λ b. nat_eq b 10 ≡ false) text n (λ k lt. ne_eqb (get_or text k 0) 10 (h k lt)) in
@@ -41,6 +43,7 @@ first_line text n lt h e =
 pub none_left : (n : ℕ) (b : Bool) → b ≡ nat_eq n 0 → b ≡ true → n ≡ 0
 none_left n b e t = eqb-true n 0 (sym e ∙ t)
 
+-- a number that is not 0 is above 0
 pub some_left : (n : ℕ) (b : Bool) → b ≡ nat_eq n 0 → b ≡ false → 0 < n
 some_left zero b e f = absurd (cc)
 some_left (suc n) b e f = omega arith
@@ -62,6 +65,7 @@ module _ (s : Space) where
   skip_all [] t h = refl
   skip_all (c ∷ space) t h = ap (filter has_bytes) (slice_split-cons_yes (is_space s) c (space ++ t) h.0) ∙ skip_all space t h.1
 
+  -- spaces at the front are no part of a field
   pub skipped : (text : List ℕ) (n : ℕ) → ((k : ℕ) → k < n → is_space s (get_or text k 0) ≡ true) → fields_of s (drop n text) ≡ fields_of s text
   skipped text n h =
       let space = recursion_from_All (λ b. is_space s b ≡ true) (take n text) (front_all (λ b. is_space s b ≡ true) text n h) in
@@ -85,6 +89,7 @@ module _ (s : Space) where
       let keep = filter has_bytes in
       ap keep (slice_split_at (is_space s) field b more apart e) ∙ kept field (slice_split (is_space s) more) h ∙ ap (λ (t : List (List ℕ)). field ∷ t) (sym (ap keep (slice_split-cons_yes (is_space s) b more e)))
 
+  -- a text up to its first space is its first field, and the rest are the fields behind it
   pub first_field : (text : List ℕ) (n : ℕ) → n ≤ length text → 0 < n → ((k : ℕ) → k < n → is_space s (get_or text k 0) ≡ false) → (n < length text → is_space s (get_or text n 0) ≡ true)
       → fields_of s text ≡ take n text ∷ fields_of s (drop n text)
   first_field text n le pos before at =
@@ -118,6 +123,7 @@ module _ (s : Space) where
   pub skipped_text : (text : List ℕ) (n : ℕ) → n ≤ length text → ((k : ℕ) → k < n → is_space s (get_or text k 0) ≡ true) → is_text text ≡ true → is_text (drop n text) ≡ true
   skipped_text text n le h t = (is_text-parts text n (λ utf8. skipped_boundary text n le h utf8) t).1
 
+  -- a text that is cut at a space is text on both sides
   pub field_text : (text : List ℕ) (n : ℕ) → n ≤ length text → (n < length text → is_space s (get_or text n 0) ≡ true) → is_text text ≡ true → (is_text (take n text) ≡ true) × (is_text (drop n text) ≡ true)
   field_text text n le at t = is_text-parts text n (λ utf8. field_boundary text n le at) t
 

@@ -1,7 +1,7 @@
 //! White space within a line.
 ghost use Rattle.std.specs.Prelude.{◌≡◌};
 
-/// Which bytes are white space within a line. A newline is none: it ends the line.
+/// Which bytes are white space within a line. A newline is not white space: it ends the line.
 #[derive(Clone, Copy, Debug, PartialEq, Eq)]
 pub enum Space {
     /// Space and tab, as isblank(3) has them.

@@ -5,7 +5,7 @@ ghost use Rattle.rk_variables.specs.Starts.{Sets, start_of};
 use std::alloc::AllocError;
 use std::process::Command;
 
-/// The command, with this variable set. The only refusal is want of memory, and then there is none.
+/// The command, with this variable set. The only refusal is out of memory, and then there is none.
 pub fn with(command: Command, name: &str, value: &str) -> Result<Command, AllocError>
     ensures { IfOk result (λ c. Sets name.now (Some value.now) (start_of command) (start_of c)) }
 {
@@ -14,7 +14,7 @@ pub fn with(command: Command, name: &str, value: &str) -> Result<Command, AllocE
     Ok(command)
 }
 
-/// The command, with this variable removed from the environment that it keeps. The only refusal is want of memory, and then there is none.
+/// The command, with this variable removed from the environment that it keeps. The only refusal is out of memory, and then there is none.
 pub fn without(command: Command, name: &str) -> Result<Command, AllocError>
     ensures { IfOk result (λ c. (start_of command).clears ≡ false → Sets name.now None (start_of command) (start_of c)) }
 {

@@ -45,6 +45,7 @@ kept f h true None = refl
 kept f h true (Some c) = h c
 kept f h false o = refl
 
+-- a change of a session leaves every unspent authority
 pub unspent_changed : (id : SessionId) (f : Session → Session) (a : Sessions) (q : ℕ) → unspent (session_changed id f a) q ≡ unspent a q
 unspent_changed (Client n) f a q = refl
 unspent_changed (Handler k) f a q =
@@ -61,6 +62,7 @@ unspent_announced now k keys a q = told_or_not (map.get keys k)
     told_or_not None = refl
     told_or_not (Some key) = unspent_told k (outcome_of k key now) a q
 
+-- a launch leaves every unspent authority
 pub unspent_launched : (k : ℕ) (st : Stage) (a : Sessions) (q : ℕ) → unspent (launched k st a) q ≡ unspent a q
 unspent_launched k st a q =
     ap authority_in (get_changed_at k (in_new_stage st) a.constructions q) ∙ kept (in_new_stage st) (λ c. refl) (nat_eq k q) (map.get a.constructions q)
@@ -75,6 +77,7 @@ spent_in false o = refl
 pub unspent_spent : (k : ℕ) (a : Sessions) (q : ℕ) → unspent (spent k a) q ≡ cond (nat_eq k q) None (unspent a q)
 unspent_spent k a q = ap authority_in (get_changed_at k without_authority a.constructions q) ∙ spent_in (nat_eq k q) (map.get a.constructions q)
 
+-- where k is concluded its authority is spent, and every other stays
 pub unspent_concluded : (now k : ℕ) (keys : map.FinMap nat_cmp Key) (a : Sessions) (q : ℕ)
     → unspent (announced now k keys (spent k a)) q ≡ cond (nat_eq k q) None (unspent a q)
 unspent_concluded now k keys a q = unspent_announced now k keys (spent k a) q ∙ unspent_spent k a q
@@ -90,6 +93,7 @@ twice : {A : Type 0} (b : Bool) (o : Option A) → cond b None (cond b None o) �
 twice true o = refl
 twice false o = refl
 
+-- where the handler of k ends its authority is spent, and every other stays
 pub unspent_ended : (now k : ℕ) (condition : Condition) (w : World) (q : ℕ)
     → unspent (ended now k condition w).sessions q ≡ cond (nat_eq k q) None (unspent w.sessions q)
 unspent_ended now k condition w q = unspent_removed k (sessions_ended now k condition w) q ∙ spent_or_not (is_some (unspent w.sessions k))
@@ -105,6 +109,7 @@ issued_in : (b : Bool) (authority : Authority) (o : Option Construction)
 issued_in true authority o = refl
 issued_in false authority o = refl
 
+-- a new construction of k has an unspent authority, and every other stays
 pub unspent_issued : (k : ℕ) (authority : Authority) (a : Sessions) (q : ℕ)
     → unspent (with_construction k authority a) q ≡ cond (nat_eq k q) (Some authority) (unspent a q)
 unspent_issued k authority a q = ap authority_in (get_inserted a.constructions k _ q) ∙ issued_in (nat_eq k q) authority (map.get a.constructions q)

@@ -42,6 +42,7 @@ kept_in : (linked : Bool) (o : Option Key) → built_in (cond (option_map_or (λ
 kept_in linked None = refl
 kept_in linked (Some key) = kept_key linked key (is_building key) refl
 
+-- keys without a link that are dropped leave which keys are under construction
 pub built_tidied : (rings : map.FinMap nat_cmp Ring) (keys : map.FinMap nat_cmp Key) (k : ℕ)
     → built_at (kept_where (λ k key. has_link rings k || is_building key) keys) k ≡ built_at keys k
 built_tidied rings keys k = ap built_in (get_kept_where (λ k key. has_link rings k || is_building key) keys k) ∙ kept_in (has_link rings k) (map.get keys k)
@@ -61,6 +62,7 @@ mild_in true f None mild = refl
 mild_in true f (Some key) mild = ap builds (mild.condition key)
 mild_in false f o mild = refl
 
+-- a change that leaves a key's condition leaves which keys are under construction
 pub built_marked : (k : ℕ) (f : Key → Key) → IsMild f → (keys : map.FinMap nat_cmp Key) (j : ℕ) → built_at (changed_at k f keys) j ≡ built_at keys j
 built_marked k f mild keys j = ap built_in (get_changed_at k f keys j) ∙ mild_in (nat_eq k j) f (map.get keys j) mild
 
@@ -78,6 +80,7 @@ final_in true condition end None h = refl
 final_in true condition end (Some key) h = final_key condition end key h
 final_in false condition end o h = refl
 
+-- a key with a final condition is not under construction any more, and every other key is as before
 pub built_concluded : (k : ℕ) (condition : Condition) (end : Option ℕ) → is_final condition ≡ true → (keys : map.FinMap nat_cmp Key) (j : ℕ)
     → built_at (changed_at k (concluded condition end) keys) j ≡ cond (nat_eq k j) false (built_at keys j)
 built_concluded k condition end final keys j =

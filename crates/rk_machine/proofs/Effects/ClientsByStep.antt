@@ -127,6 +127,7 @@ unlinked_client : (old new : World) (ring : Option ℕ) (k n : ℕ) → (new ≡
 unlinked_client old new ring k n (inl h) = at_world new _ n _ h refl
 unlinked_client old new ring k n (inr h) = at_world new _ n _ h refl
 
+-- which clients are there after a step results from the event, its answer and which were there
 pub clients : (old : World) (now : ℕ) (e : Event) (a : Answer) (new : World) → Effect old now e a new → (n : ℕ)
     → is_client new.sessions n ≡ client_after n e a (is_client old.sessions n)
 clients old now e a new (refused error ra w free) n =

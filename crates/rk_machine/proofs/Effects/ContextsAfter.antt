@@ -31,11 +31,13 @@ kept f h true None = refl
 kept f h true (Some s) = h s
 kept f h false o = refl
 
+-- a change of a session that leaves its context leaves every client's context
 pub context_kept : (id : SessionId) (f : Session → Session) → ((s : Session) → (f s).context ≡ s.context) → (a : Sessions) (n : ℕ)
     → context_at (session_changed id f a) n ≡ context_at a n
 context_kept (Client m) f h a n = ap context_in (get_changed_at m f a.clients n) ∙ kept f h (nat_eq m n) (map.get a.clients n)
 context_kept (Handler k) f h a n = refl
 
+-- an outcome leaves every client's context
 pub context_announced : (now k : ℕ) (keys : map.FinMap nat_cmp Key) (a : Sessions) (n : ℕ) → context_at (announced now k keys a) n ≡ context_at a n
 context_announced now k keys a n = told_or_not (map.get keys k)
   where
@@ -45,6 +47,7 @@ context_announced now k keys a n = told_or_not (map.get keys k)
         ap context_in (get_changed_all (told k (outcome_of k key now)) a.clients n)
         ∙ kept (told k (outcome_of k key now)) (λ s. refl) true (map.get a.clients n)
 
+-- a handler's end leaves every client's context
 pub context_ended : (now k : ℕ) (condition : Condition) (w : World) (n : ℕ) → context_at (sessions_ended now k condition w) n ≡ context_at w.sessions n
 context_ended now k condition w n = spent_or_not (is_some (unspent w.sessions k))
   where
@@ -73,6 +76,7 @@ given_in c true None there = absurd (none_there (there refl))
 given_in c true (Some s) there = refl
 given_in c false o there = refl
 
+-- a client that gets a context has it, and every other client's stays
 pub context_given : (m : ℕ) (c : Context) (a : Sessions) (n : ℕ) → is_none (map.get a.clients m) ≡ false
     → context_at (session_changed (Client m) (with_context c) a) n ≡ cond (nat_eq m n) (Some c) (context_at a n)
 context_given m c a n there =
@@ -83,5 +87,6 @@ gone_in : (b : Bool) (o : Option Session) → context_in (cond b None o) ≡ con
 gone_in true o = refl
 gone_in false o = refl
 
+-- a client that is gone has no context, and every other client's stays
 pub context_gone : (m : ℕ) (a : Sessions) (n : ℕ) → context_at (without_client m a) n ≡ cond (nat_eq m n) None (context_at a n)
 context_gone m a n = ap context_in (get_removed a.clients m n) ∙ gone_in (nat_eq m n) (map.get a.clients n)

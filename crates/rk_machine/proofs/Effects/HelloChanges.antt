@@ -41,10 +41,12 @@ sessions_in w = w.sessions
 abbrev keys_in : World → map.FinMap nat_cmp Key
 keys_in w = w.keys
 
+-- making the rings of HELLO leaves the sessions
 pub greeted_sessions : (g : Greeting) (old new : World) (thread process : Option ℕ) (session user : ℕ) → MakesRings g old new thread process session user
     → new.sessions ≡ old.sessions
 greeted_sessions g old new thread process session user h = greeted sessions_in (λ ring rings w. refl) g old new thread process session user h
 
+-- making the rings of HELLO leaves the keys
 pub greeted_keys : (g : Greeting) (old new : World) (thread process : Option ℕ) (session user : ℕ) → MakesRings g old new thread process session user
     → new.keys ≡ old.keys
 greeted_keys g old new thread process session user h = greeted keys_in (λ ring rings w. refl) g old new thread process session user h

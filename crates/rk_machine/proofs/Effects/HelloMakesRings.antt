@@ -162,6 +162,7 @@ module _ (c : Context) where
 abbrev pub greeted_as : Greeting → Option ℕ → Option ℕ → ℕ → ℕ → Context
 greeted_as g thread process session user = record { uid = g.uid; gid = g.gid; thread = thread; process = process; session = session; user = user }
 
+-- in a sound world, a HELLO that is not refused makes all that its context needs
 pub made_all : (g : Greeting) (old new : World) (thread process : Option ℕ) (session user : ℕ) → MakesRings g old new thread process session user → Sound old
     → join_refusal old g ≡ None
     → Made (greeted_as g thread process session user) old new

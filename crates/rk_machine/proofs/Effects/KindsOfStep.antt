@@ -143,7 +143,7 @@ pub data Effect (old : World) (now : ℕ) (e : Event) (a : Answer) (new : World)
   -- a key is marked, or gets another expiry
   marks : (s : SessionId) (x : Ask) (k : ℕ) (f : Key → Key) → e ≡ Asked s x → ((j : ℕ) → completes x j ≡ false) → ((key : ℤ) → ¬ (x ≡ ask.Assume key))
       → IsMild f → a ≡ done → new ≡ with_key_changed k f old → Effect old now e a new
-  -- bytes are told
+  -- bytes are returned
   tells : (s : SessionId) (x : Ask) (bytes : List ℕ) → e ≡ Asked s x → a ≡ Done (Bytes bytes) → new ≡ old → Effect old now e a new
   -- a setting is set
   sets : (s : SessionId) (x : Ask) (setting : Setting) (n : ℕ) → e ≡ Asked s x → ((j : ℕ) → completes x j ≡ false) → ((key : ℤ) → ¬ (x ≡ ask.Assume key))

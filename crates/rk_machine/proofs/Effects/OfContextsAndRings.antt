@@ -192,6 +192,7 @@ unlinked : (old new : World) (e : Event) (a : Answer) (ring : Option ℕ) (k : �
 unlinked old new e a ring k quiet none (inl w) = in_rings old new _ w e a quiet none (kind_linked ring (without_link k) (λ r. refl) old.rings) refl
 unlinked old new e a ring k quiet none (inr w) = in_rings old new _ w e a quiet none (kind_linked ring without_links (λ r. refl) old.rings) refl
 
+-- every step is one of the moves of contexts, rings and authorities
 pub move : (old : World) (now : ℕ) (e : Event) (a : Answer) (new : World) → Effect old now e a new → Move old e a new
 move old now e a new (refused error ra w free) =
     in_rings old new old w e a (calm e e a _ refl ra (λ n. no_hello n e (Refused error) refl) (λ n. refl))

@@ -392,6 +392,7 @@ launch_turn old new e a k q st t found runs firsts moved =
     found.2 runs firsts (moved true is ∙ ap (option_map (as_staged st)) here))
     (λ is. quiet (t ∙ (λ i. record { start = false; negate = false; launch = is i; ending = false; completion = false; assumed = None })) (moved false is))
 
+-- every step is one of the turns of each construction
 pub turns : (old : World) (now : ℕ) (e : Event) (a : Answer) (new : World) → Effect old now e a new → Goods old.sessions → (q : ℕ)
     → Turn q (is_drawn old q) (is_drawn new q) (IsOwnAsk q e) (tests q e a) (at old q) (at new q)
 turns old now e a new (refused error ra w free) g q = quiet (undone_as q e a (Refused error) ra refl refl refl) (ap (λ v. at v q) w)

@@ -48,6 +48,7 @@ made_in : (b : Bool) (r : Ring) (o : Option Ring) → kind_in (cond b (Some r) o
 made_in true r o = refl
 made_in false r o = refl
 
+-- a ring that is made has its kind, and every other ring is of the kind that it was
 pub kind_made : (ring : ℕ) (r : Ring) (rings : map.FinMap nat_cmp Ring) (q : ℕ)
     → kind_of (map.insert rings ring r) q ≡ cond (nat_eq ring q) (Some r.kind) (kind_of rings q)
 kind_made ring r rings q = ap kind_in (get_inserted rings ring r q) ∙ made_in (nat_eq ring q) r (map.get rings q)

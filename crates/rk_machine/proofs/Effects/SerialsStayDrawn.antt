@@ -52,10 +52,12 @@ same_world old mid new e h q n = h q (ap (λ (w : World). is_drawn w q) (sym e) 
 made : (kind : RingKind) (uid : ℕ) (old new : World) (ring : ℕ) → Makes kind uid old new ring → KeepsDrawn old new
 made kind uid old new ring h = same_world old _ new h.1 (draws ring old)
 
+-- making a ring, where it is wanted, leaves all drawn serials drawn
 pub if_drawn : (b : Bool) (kind : RingKind) (uid : ℕ) (old new : World) (ring : Option ℕ) → MakesIf b kind uid old new ring → KeepsDrawn old new
 if_drawn false kind uid old new ring h = same_world old old new h.1 (λ q n. n)
 if_drawn true kind uid old new ring h = made kind uid old new h.0 h.2
 
+-- making or joining a session ring leaves all drawn serials drawn
 pub session_drawn : (join : Option ℕ) (uid : ℕ) (old new : World) (ring : ℕ) → HasSessionRing join uid old new ring → KeepsDrawn old new
 session_drawn None uid old new ring h = made kind.Session uid old new ring h
 session_drawn (Some join) uid old new ring h = same_world old old new h.1 (λ q n. n)
@@ -71,6 +73,7 @@ greeted g old new thread process session user h q n =
     (if_drawn g.process kind.Process g.uid h.w1 h.w2 process h.process_made q
     (session_drawn g.join g.uid h.w2 h.w3 session h.session_made q (user_drawn g.uid h.w3 new user h.user_made q n)))
 
+-- every step leaves all drawn serials drawn
 pub keeps_drawn : (old : World) (now : ℕ) (e : Event) (a : Answer) (new : World) → Effect old now e a new → KeepsDrawn old new
 keeps_drawn old now e a new (refused error ra w free) = same_world old old new w (λ q n. n)
 keeps_drawn old now e a new (still s wait ev is ready ra w) = same_world old old new w (λ q n. n)

@@ -28,7 +28,7 @@ use Rattle.rk_auth.specs.Changes.{
 }
 use Rattle.rk_machine.proofs.Found.InMaps.{get_inserted, get_removed, get_changed_at, get_changed_all}
 
--- whether a handler is to be started, whether its first one is not past or may be followed by another, whether its authority is unspent, and what its
+-- whether a handler is to be started; whether its first one is not past or may be followed by another; whether its authority is unspent; what its
 -- handler has assumed
 pub record Shape : Type 0 where
   pub starting : Bool
@@ -95,7 +95,7 @@ shape_session (Client n) f h a q = refl
 shape_session (Handler k) f h a q =
     ap (option_map shape) (get_changed_at k (in_handler f) a.constructions q) ∙ kept_at f h (nat_eq k q) (map.get a.constructions q)
 
--- every wait on a key is told
+-- every wait on a key gets its outcome
 pub shape_told : (k : ℕ) (outcome : Outcome) (a : Sessions) (q : ℕ) → shape_of (all_told k outcome a) q ≡ shape_of a q
 shape_told k outcome a q =
     ap (option_map shape) (get_changed_all (in_handler (told k outcome)) a.constructions q) ∙ kept_all (told k outcome) (λ s. refl) (map.get a.constructions q)
@@ -169,6 +169,7 @@ spent_at true None = refl
 spent_at true (Some c) = ap (λ (s : Shape). Some s) (spent_shape c)
 spent_at false o = refl
 
+-- a construction whose authority is spent is shaped so, and every other is as it was
 pub shape_spent : (k : ℕ) (a : Sessions) (q : ℕ) → shape_of (spent k a) q ≡ cond (nat_eq k q) (option_map as_spent (shape_of a q)) (shape_of a q)
 shape_spent k a q = ap (option_map shape) (get_changed_at k without_authority a.constructions q) ∙ spent_at (nat_eq k q) (map.get a.constructions q)
 
@@ -179,6 +180,7 @@ launched_at st free true (Some c) =
     ap (λ (s : Shape). Some s) (λ i. record { starting = is_to_launch (Some st); first = is_first st; unspent = is_some c.authority; assumed = free i })
 launched_at st free false o = refl
 
+-- a construction whose handler is launched is in its stage, and every other is as it was
 pub shape_launched : (k : ℕ) (st : Stage) (a : Sessions) (q : ℕ) → assumed_in st ≡ None
     → shape_of (launched k st a) q ≡ cond (nat_eq k q) (option_map (as_staged st) (shape_of a q)) (shape_of a q)
 shape_launched k st a q free =
@@ -188,6 +190,7 @@ removed_at : (b : Bool) (o : Option Construction) → option_map shape (cond b N
 removed_at true o = refl
 removed_at false o = refl
 
+-- a construction that is removed has no shape, and every other is as it was
 pub shape_removed : (k : ℕ) (a : Sessions) (q : ℕ) → shape_of (without_construction k a) q ≡ cond (nat_eq k q) None (shape_of a q)
 shape_removed k a q = ap (option_map shape) (get_removed a.constructions k q) ∙ removed_at (nat_eq k q) (map.get a.constructions q)
 
@@ -200,6 +203,7 @@ issued_at : (b : Bool) (authority : Authority) (o : Option Construction)
 issued_at true authority o = refl
 issued_at false authority o = refl
 
+-- a construction that begins has the first shape, and every other is as it was
 pub shape_issued : (k : ℕ) (authority : Authority) (a : Sessions) (q : ℕ)
     → shape_of (with_construction k authority a) q ≡ cond (nat_eq k q) (Some first_shape) (shape_of a q)
 shape_issued k authority a q = ap (option_map shape) (get_inserted a.constructions k _ q) ∙ issued_at (nat_eq k q) authority (map.get a.constructions q)

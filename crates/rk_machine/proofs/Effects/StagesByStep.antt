@@ -191,6 +191,7 @@ stage_there a k st h = found (map.get a.constructions k) h
     found None e = absurd (cc)
     found (Some c) e = refl
 
+-- the stage of a construction gives its kind
 pub stage_kind : (a : Sessions) (k : ℕ) (st : Stage) → stage_of a k ≡ Some st → kind_of a k ≡ Some (kind st)
 stage_kind a k st h = found (map.get a.constructions k) h
   where
@@ -240,6 +241,7 @@ unlinked_kind : (old new : World) (ring : Option ℕ) (k q : ℕ) → (new ≡ t
 unlinked_kind old new ring k q (inl h) = at_world new _ q _ h refl
 unlinked_kind old new ring k q (inr h) = at_world new _ q _ h refl
 
+-- how far each construction is after a step results from the event, its answer and how far it was
 pub kinds : (old : World) (now : ℕ) (e : Event) (a : Answer) (new : World) → Effect old now e a new → (q : ℕ)
     → kind_of new.sessions q ≡ kind_after q e a (kind_of old.sessions q)
 kinds old now e a new (refused error ra w free) q =

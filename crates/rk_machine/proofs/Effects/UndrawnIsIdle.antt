@@ -73,6 +73,7 @@ use Rattle.rk_machine.proofs.Effects.StagesByStep.{
 abbrev pub IsIdle : World → Type 0
 IsIdle w = (k : ℕ) → is_drawn w k ≡ false → kind_of w.sessions k ≡ None
 
+-- where serials that were never drawn are idle, none of them has a construction
 pub idle_fresh : (w : World) → IsIdle w → IdleFresh w
 idle_fresh w idle k h = none (map.get w.sessions.constructions k) (idle k h)
   where
@@ -86,9 +87,11 @@ told_no_start : (o : Outcome) (k : ℕ) (subject : Subject) → told_as o ≡ St
 told_no_start (Found j) k subject e = cc
 told_no_start (Failed x) k subject e = cc
 
+-- equal starts are of one key
 pub start_key : {j k : ℕ} {s t : Subject} → ◌≡◌ {A = Answer} (Start j s) (Start k t) → j ≡ k
 start_key e = cc
 
+-- a start draws the serial of its key
 pub start_draws : (old : World) (now : ℕ) (e : Event) (a : Answer) (new : World) → Effect old now e a new → (k : ℕ) (subject : Subject) → a ≡ Start k subject
     → (is_drawn old k ≡ false) × (is_drawn new k ≡ true)
 start_draws old now e a new (refused error ra w free) k subject h = absurd (cc)
@@ -152,12 +155,14 @@ launch_kind w k r = by_ran r
     by_ran ran.Piped = first (map.get w.sessions.constructions k)
     by_ran ran.Failed = due (map.get w.sessions.constructions k)
 
+-- a launch that finds its construction finds one that is there
 pub found_some : (r : Ran) (o : Option Kind) → may_find r o ≡ true → is_some o ≡ true
 found_some r (Some x) h = refl
 found_some ran.Plain None h = absurd (true_false (sym h))
 found_some ran.Piped None h = absurd (true_false (sym h))
 found_some ran.Failed None h = absurd (true_false (sym h))
 
+-- a launch that is done found its construction in a stage that allows it
 pub launch_finds : (old : World) (now k : ℕ) (r : Ran) (a : Answer) (new : World) → Step old now (Launched k r) a new → is_done a ≡ true
     → may_find r (kind_of old.sessions k) ≡ true
 unfolding Step
@@ -174,6 +179,7 @@ follow_stage old now k how payload (Some Negating) a new is h f = absurd (true_f
 follow_stage old now k how payload (Some (Plain s)) a new is h f = absurd (true_false (sym f ∙ ap is_followed h.0))
 follow_stage old now k how payload (Some Piped) a new is h f = is
 
+-- an end that another handler follows is that of a piped handler
 pub follow_finds : (old : World) (now k : ℕ) (how : How) (payload : Option (List ℕ)) (a : Answer) (new : World) → Step old now (Ended k how payload) a new
     → is_followed a ≡ true → kind_of old.sessions k ≡ Some pipes
 unfolding Step
@@ -186,6 +192,7 @@ none_chosen true true o h = absurd (h refl refl)
 none_chosen true false o h = refl
 none_chosen false c o h = refl
 
+-- every step leaves the serials that were never drawn idle
 pub idle_step : (old : World) (now : ℕ) (e : Event) (a : Answer) (new : World) → Step old now e a new → IsIdle old → IsIdle new
 idle_step old now e a new h idle k undrawn =
     let is = effect old now e a new h in

@@ -35,12 +35,14 @@ use Rattle.rk_auth.specs.Changes.{
 use Rattle.rk_machine.specs.Laws.{same_session}
 use Rattle.rk_machine.proofs.Found.InMaps.{get_inserted, get_removed, get_changed_at, get_changed_all}
 
+-- sessions that pass the test are the same
 pub same-true : (s t : SessionId) → same_session s t ≡ true → s ≡ t
 same-true (Client n) (Client m) h = ap Client (eqb-true n m h)
 same-true (Handler n) (Handler m) h = ap Handler (eqb-true n m h)
 same-true (Client n) (Handler m) h = absurd (cc)
 same-true (Handler n) (Client m) h = absurd (cc)
 
+-- a session is the same as itself
 pub same-self : (s : SessionId) → same_session s s ≡ true
 same-self (Client n) = eq-eqb n n refl
 same-self (Handler n) = eq-eqb n n refl
@@ -75,6 +77,7 @@ handled f true None = refl
 handled f true (Some c) = staged f c.stage
 handled f false o = refl
 
+-- a change of one session changes that one alone
 pub session_of_changed : (id : SessionId) (f : Session → Session) (a : Sessions) (s : SessionId)
     → session_of (session_changed id f a) s ≡ cond (same_session id s) (option_map f (session_of a s)) (session_of a s)
 session_of_changed (Client n) f a (Client m) = get_changed_at n f a.clients m
@@ -92,6 +95,7 @@ kept f h true None = refl
 kept f h true (Some s) = h s
 kept f h false o = refl
 
+-- a change that leaves a session's wait leaves every wait
 pub wait_kept : (id : SessionId) (f : Session → Session) → KeepsWait f → (a : Sessions) (s : SessionId) → wait_of (session_changed id f a) s ≡ wait_of a s
 wait_kept id f h a s = ap wait_in (session_of_changed id f a s) ∙ kept f h (same_session id s) (session_of a s)
 
@@ -100,6 +104,7 @@ waitless true None = refl
 waitless true (Some s) = refl
 waitless false o = refl
 
+-- a session that collects waits no more, and every other wait stays
 pub wait_collected : (id : SessionId) (a : Sessions) (s : SessionId)
     → wait_of (session_changed id (with_wait None) a) s ≡ cond (same_session id s) None (wait_of a s)
 wait_collected id a s = ap wait_in (session_of_changed id (with_wait None) a s) ∙ waitless (same_session id s) (session_of a s)
@@ -108,6 +113,7 @@ begun_in : (w : Wait) (o : Option Session) → is_none o ≡ false → wait_in (
 begun_in w None h = absurd (cc)
 begun_in w (Some s) h = refl
 
+-- a session that begins a wait has it, and every other wait stays
 pub wait_begun : (id : SessionId) (w : Wait) (a : Sessions) (s : SessionId) → is_none (session_of a id) ≡ false
     → wait_of (session_changed id (with_wait (Some w)) a) s ≡ cond (same_session id s) (Some w) (wait_of a s)
 wait_begun id w a s there =
@@ -129,6 +135,7 @@ told_handler : (k : ℕ) (o : Outcome) (x : Option Construction)
 told_handler k o None = refl
 told_handler k o (Some c) = ap wait_in (staged (told k o) c.stage) ∙ told_in k o (handler_in c.stage)
 
+-- an outcome of k is given to every wait on k
 pub wait_told : (k : ℕ) (o : Outcome) (a : Sessions) (s : SessionId) → wait_of (all_told k o a) s ≡ option_map (told_wait k o) (wait_of a s)
 wait_told k o a (Client n) = ap wait_in (get_changed_all (told k o) a.clients n) ∙ told_in k o (map.get a.clients n)
 wait_told k o a (Handler j) =
@@ -143,6 +150,7 @@ spent_in true None = refl
 spent_in true (Some c) = ap wait_in (staged (with_assumed None) c.stage) ∙ unassumed (handler_in c.stage)
 spent_in false o = refl
 
+-- spending an authority leaves every wait
 pub wait_spent : (k : ℕ) (a : Sessions) (s : SessionId) → wait_of (spent k a) s ≡ wait_of a s
 wait_spent k a (Client n) = refl
 wait_spent k a (Handler j) =
@@ -156,6 +164,7 @@ launched_in st h true None = refl
 launched_in st h true (Some c) = h
 launched_in st h false o = refl
 
+-- where the handler of k is launched it waits for nothing, and every other wait stays
 pub wait_launched : (k : ℕ) (st : Stage) → wait_in (handler_in st) ≡ None → (a : Sessions) (s : SessionId)
     → wait_of (launched k st a) s ≡ cond (same_session (Handler k) s) None (wait_of a s)
 wait_launched k st h a (Client n) = refl
@@ -166,6 +175,7 @@ removed_in : (b : Bool) (o : Option Construction) → wait_in (in_construction (
 removed_in true o = refl
 removed_in false o = refl
 
+-- a construction that is removed takes its handler's wait with it, and every other wait stays
 pub wait_removed : (k : ℕ) (a : Sessions) (s : SessionId) → wait_of (without_construction k a) s ≡ cond (same_session (Handler k) s) None (wait_of a s)
 wait_removed k a (Client n) = refl
 wait_removed k a (Handler j) = ap (λ x. wait_in (in_construction x)) (get_removed a.constructions k j) ∙ removed_in (nat_eq k j) (map.get a.constructions j)
@@ -175,6 +185,7 @@ issued_in : (b : Bool) (authority : Authority) (o : Option Construction) → (b 
 issued_in true authority o new = sym (ap (λ x. wait_in (in_construction x)) (new refl))
 issued_in false authority o new = refl
 
+-- a construction that begins leaves every wait
 pub wait_issued : (k : ℕ) (authority : Authority) (a : Sessions) (s : SessionId) → map.get a.constructions k ≡ None
     → wait_of (with_construction k authority a) s ≡ wait_of a s
 wait_issued k authority a (Client n) new = refl
@@ -188,6 +199,7 @@ came_in : (b : Bool) (o : Option Session) → (b ≡ true → o ≡ None) → wa
 came_in true o new = sym (ap wait_in (new refl))
 came_in false o new = refl
 
+-- a client that comes leaves every wait
 pub wait_came : (n : ℕ) (a : Sessions) (s : SessionId) → map.get a.clients n ≡ None → wait_of (with_client n a) s ≡ wait_of a s
 wait_came n a (Handler j) new = refl
 wait_came n a (Client m) new =
@@ -198,6 +210,7 @@ went_in : (b : Bool) (o : Option Session) → wait_in (cond b None o) ≡ cond b
 went_in true o = refl
 went_in false o = refl
 
+-- a client that goes takes its wait with it, and every other wait stays
 pub wait_went : (n : ℕ) (a : Sessions) (s : SessionId) → wait_of (without_client n a) s ≡ cond (same_session (Client n) s) None (wait_of a s)
 wait_went n a (Handler j) = refl
 wait_went n a (Client m) = ap wait_in (get_removed a.clients n m) ∙ went_in (nat_eq n m) (map.get a.clients m)
@@ -216,20 +229,25 @@ told_flag : (k : ℕ) (o : Outcome) (w : Option Wait) → option_map flag (optio
 told_flag k o None = refl
 told_flag k o (Some w) = refl
 
+-- a change that leaves a session's wait leaves for which key each session waits, and whether as starter
 pub flag_kept : (id : SessionId) (f : Session → Session) → KeepsWait f → (a : Sessions) (s : SessionId) → flag_of (session_changed id f a) s ≡ flag_of a s
 flag_kept id f h a s = ap (option_map flag) (wait_kept id f h a s)
 
+-- a session that collects waits for no key, and every other as before
 pub flag_collected : (id : SessionId) (a : Sessions) (s : SessionId)
     → flag_of (session_changed id (with_wait None) a) s ≡ cond (same_session id s) None (flag_of a s)
 flag_collected id a s = ap (option_map flag) (wait_collected id a s) ∙ cleared (same_session id s) (wait_of a s)
 
+-- a session that begins a wait waits for that key, and every other as before
 pub flag_begun : (id : SessionId) (k : ℕ) (b : Bool) (a : Sessions) (s : SessionId) → is_none (session_of a id) ≡ false
     → flag_of (session_changed id (with_wait (Some (new_wait k b))) a) s ≡ cond (same_session id s) (Some (k, b)) (flag_of a s)
 flag_begun id k b a s there = ap (option_map flag) (wait_begun id (new_wait k b) a s there) ∙ chosen (same_session id s) (new_wait k b) (wait_of a s)
 
+-- an outcome leaves for which key each session waits
 pub flag_told : (k : ℕ) (o : Outcome) (a : Sessions) (s : SessionId) → flag_of (all_told k o a) s ≡ flag_of a s
 flag_told k o a s = ap (option_map flag) (wait_told k o a s) ∙ told_flag k o (wait_of a s)
 
+-- spending an authority leaves for which key each session waits
 pub flag_spent : (k : ℕ) (a : Sessions) (s : SessionId) → flag_of (spent k a) s ≡ flag_of a s
 flag_spent k a s = ap (option_map flag) (wait_spent k a s)
 
@@ -240,19 +258,24 @@ no_wait_in st h = none_flag (wait_in (handler_in st)) h
     none_flag None h = refl
     none_flag (Some w) h = absurd (cc)
 
+-- after a launch the handler of k waits for no key, and every other session as before
 pub flag_launched : (k : ℕ) (st : Stage) → flag_in (handler_in st) ≡ None → (a : Sessions) (s : SessionId)
     → flag_of (launched k st a) s ≡ cond (same_session (Handler k) s) None (flag_of a s)
 flag_launched k st h a s = ap (option_map flag) (wait_launched k st (no_wait_in st h) a s) ∙ cleared (same_session (Handler k) s) (wait_of a s)
 
+-- where a construction is removed its handler waits for no key, and every other session as before
 pub flag_removed : (k : ℕ) (a : Sessions) (s : SessionId) → flag_of (without_construction k a) s ≡ cond (same_session (Handler k) s) None (flag_of a s)
 flag_removed k a s = ap (option_map flag) (wait_removed k a s) ∙ cleared (same_session (Handler k) s) (wait_of a s)
 
+-- a construction that begins leaves for which key each session waits
 pub flag_issued : (k : ℕ) (authority : Authority) (a : Sessions) (s : SessionId) → map.get a.constructions k ≡ None
     → flag_of (with_construction k authority a) s ≡ flag_of a s
 flag_issued k authority a s new = ap (option_map flag) (wait_issued k authority a s new)
 
+-- a client that comes leaves for which key each session waits
 pub flag_came : (n : ℕ) (a : Sessions) (s : SessionId) → map.get a.clients n ≡ None → flag_of (with_client n a) s ≡ flag_of a s
 flag_came n a s new = ap (option_map flag) (wait_came n a s new)
 
+-- a client that went waits for no key, and every other session as before
 pub flag_went : (n : ℕ) (a : Sessions) (s : SessionId) → flag_of (without_client n a) s ≡ cond (same_session (Client n) s) None (flag_of a s)
 flag_went n a s = ap (option_map flag) (wait_went n a s) ∙ cleared (same_session (Client n) s) (wait_of a s)

@@ -105,6 +105,7 @@ chosen : (b : Bool) (v : ℕ × Bool) (r : Option (ℕ × Bool)) → option_map_
 chosen true v r = refl
 chosen false v r = refl
 
+-- no wait begins where the event is refused
 pub begun_refused : (s : SessionId) (e : Event) (error : Errno) → wait_begun s e (Refused error) ≡ None
 begun_refused s (Asked t x) error = refl
 begun_refused s _ error = refl
@@ -285,6 +286,7 @@ there_issued k authority a (Handler j) new h =
         (sym (eqb-true k j same)) ∙ ap (option_and_then (λ (c : Construction). handler_in c.stage)) new in ap is_none (sym none) ∙ h
     kept false other = h
 
+-- for which key a session waits after a step results from the event, its answer and for which it waited
 pub tied : (old : World) (now : ℕ) (e : Event) (a : Answer) (new : World) → Effect old now e a new → IdleFresh old → (s : SessionId)
     → flag_of new.sessions s ≡ after now s e a (flag_of old.sessions s)
 tied old now e a new (refused error ra w free) idle s =

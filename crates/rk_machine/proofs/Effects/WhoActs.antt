@@ -20,6 +20,7 @@ use Rattle.rk_machine.proofs.Found.Options.{none_some, some_none, some_same}
 abbrev as_client : Session → Context → Asker
 as_client s c = record { context = c; assumed = None; requestor = None; depth = 1; setting = s.setting }
 
+-- a client acts in its own context, at depth 1
 pub client_acts : (w : World) (n : ℕ) (asker : Asker) → asker_of w (Client n) ≡ Some asker → (context_at w.sessions n ≡ Some asker.context) × (asker.depth ≡ 1)
 client_acts w n asker is = by_session (map.get w.sessions.clients n) is
   where

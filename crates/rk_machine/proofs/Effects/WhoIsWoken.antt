@@ -92,7 +92,7 @@ module _ (old : World) (e : Event) (new : World) (s : SessionId) where
       let other : same_session t s ≡ false = ap (λ x. same_session x s) (sym is ∙ ap whose (sym ev)) ∙ apart in
       wait_at mid w (h ∙ ap (λ b. cond b o (wait_of old.sessions s)) other)
 
-  -- every wait on k is told, where there is such a key
+  -- every wait on k gets the outcome, where there is such a key
   announces : (now k : ℕ) (keys : map.FinMap nat_cmp Key) (a : Sessions) → whose e ≡ Handler k → unspent new.sessions k ≡ None
       → wait_of new.sessions s ≡ wait_of (announced now k keys a) s → wait_of a s ≡ wait_of old.sessions s → Others old e new s
   announces now k keys a by none is same = told_or_not (map.get keys k) is
@@ -176,6 +176,7 @@ by_effect old now e a new (failed k st ev is launches ra w) idle good s apart =
 by_effect old now e a new (finished k how payload st condition ev is running final ra w) idle good s apart =
     ends old e new s now k condition (ap whose ev) apart w
 
+-- a step leaves the waits of other sessions, or gives them the outcome of their key
 pub others : (old : World) (now : ℕ) (e : Event) (a : Answer) (new : World) → Step old now e a new → IdleFresh old → Goods old.sessions → (s : SessionId)
     → same_session (whose e) s ≡ false → Others old e new s
 others old now e a new step idle good s apart = by_effect old now e a new (effect old now e a new step) idle good s apart
@@ -275,6 +276,7 @@ module _ (old : World) (now : ℕ) (e : Event) (a : Answer) (new : World) (step 
   not_waiting : (w : World) → wait_of w.sessions s ≡ None → is_ready w s ≡ false
   not_waiting w none = ap (λ (o : Option Wait). is_some (option_and_then (ready_outcome w.sessions) o)) none
 
+  -- another session that may collect after a step could do so before, or the step is about the handler of its key
   pub woken : Others old e new s → is_ready new s ≡ true → (is_ready old s ≡ true) ⊎ IsWoken old e new s
   woken (left same) ready = by_wait (wait_of old.sessions s) refl
     where

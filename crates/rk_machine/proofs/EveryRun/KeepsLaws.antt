@@ -11,6 +11,7 @@ use Rattle.rk_machine.proofs.NoCircle.NeverCircle.{never_circle}
 use Rattle.rk_machine.proofs.NoCircle.NeverDeep.{never_deep}
 use Rattle.rk_machine.proofs.EveryRun.EachEffectiveOrMisuse.{each_effective}
 
+-- every run from the empty world on obeys the laws
 pub lawful : (from : Beginning) (past : List Past) (w : World) → Run from past w → Lawful past
 lawful from [] w run = tt
 lawful from (s ∷ before) w run = (

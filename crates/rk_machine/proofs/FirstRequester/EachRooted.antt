@@ -111,7 +111,7 @@ module _ (old : World) (s : Past) (new : World) (before : List Past) (good : Goo
   begun_rooted t q x asker subject authority ev ra is same fewer k one false at own =
       still_rooted k one ((λ i. starter_in k (ev i) (ra i)) ∙ ap (λ b. cond b (Some t) None) at) fewer own
 
-  -- the client that said HELLO has the root that it was told, and the others theirs
+  -- the client that said HELLO has the root that it got, and the others theirs
   clients_come : (n : ℕ) (c : Context) → ((m : ℕ) → hello_in m s.event s.answer ≡ cond (nat_eq n m) (Some (root_in c)) None)
       → (m : ℕ) (d : Context) (b : Bool) → nat_eq n m ≡ b → cond b (Some c) (context_at old.sessions m) ≡ Some d
       → root_of (s ∷ before) (Client m) ≡ Some (root_in d)

@@ -128,6 +128,7 @@ module _ (past : List Past) (w : World) (h : Held w) (holders : (n ring : ℕ) �
           inl ((one.0, holders one.0 0 ∙ ap (λ o. holds_in (option_and_then (λ (s : Session). s.context) o) 0) one.2 ∙ one.3), refl)
       by_test false is = inr (none_has_none is, refl)
 
+  -- a ring that was drawn and is no user ring is shown by its number while a client holds it, and as 0 after that
   pub shows_ring : (r : ℕ) → IsPast w r → Shows past r (unwrap_or (live w.rings (Some r)) 0)
   shows_ring r fits = by_ring (map.get w.rings r) refl
     where

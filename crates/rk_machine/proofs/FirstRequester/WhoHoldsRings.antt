@@ -42,6 +42,7 @@ false_true e = cc
 
 -- ---- nothing comes or goes
 
+-- a step that leaves rings and contexts leaves who holds which ring
 pub held_same : (old new : World) → SameRings old new → SameContexts old new → KeepsDrawn old new → Held old → Held new
 held_same old new rings contexts keeps h = record {
   sound = record { zero = rings 0 ∙ h.sound.zero; drawn = λ r is. rings r ∙ h.sound.drawn r (keeps r is) };
@@ -101,6 +102,7 @@ module _ (old new : World) (n : ℕ) (c : Context) (none : context_at old.sessio
   holding r k stays (inl was) = let by = h.kept r k was stays in (by.0, by.1, still_there by.0 by.1 by.2, by.3)
   holding r k stays (inr comes) = its_own r k stays comes.1
 
+  -- what holds of rings and their holders holds after a client's HELLO
   pub held_comes : Held new
   held_comes = record {
     sound = made.grown.sound;
@@ -271,6 +273,7 @@ module _ (old new : World) (n : ℕ) (contexts : (m : ℕ) → context_at new.se
       by_test true goes e = absurd (none_some e)
       by_test false goes e = (goes, e)
 
+  -- what holds of rings and their holders holds after a client is gone
   pub held_goes : Held new
   held_goes = record {
     sound =

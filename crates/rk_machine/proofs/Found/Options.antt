@@ -2,12 +2,15 @@
 use Rattle.std.proofs.Common.{◌≡◌, Bool, true, false, cond}
 use Rattle.std.specs.Prelude.{Option, Some, None}
 
+-- None is not Some
 pub none_some : {A : Type 0} {x : A} → None ≡ Some x → ⊥
 none_some e = cc
 
+-- Some is not None
 pub some_none : {A : Type 0} {x : A} → Some x ≡ None → ⊥
 some_none e = cc
 
+-- equal options have equal values
 pub some_same : {A : Type 0} {x y : A} → Some x ≡ Some y → x ≡ y
 some_same e = cc
 

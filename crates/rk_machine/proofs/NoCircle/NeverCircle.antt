@@ -213,6 +213,7 @@ begun_by old now e a new (finished k how payload st condition ev is running fina
 
 -- ---- every run
 
+-- in every run, serials that were never drawn have no construction
 pub idle_known : (from : Beginning) (past : List Past) (w : World) → Run from past w → IdleFresh w
 idle_known from past w run k fresh = no_construction (map.get w.sessions.constructions k) (((knows from past w run).1 k).idle fresh)
   where
@@ -229,6 +230,7 @@ knows_no_wait : (from : Beginning) (s : SessionId) → flag_of (empty_world from
 knows_no_wait from (Client n) = ap flag_in (map.get-empty nat_cmp n)
 knows_no_wait from (Handler k) = ap (λ o. flag_in (option_and_then (λ (c : Construction). handler_in c.stage) o)) (map.get-empty nat_cmp k)
 
+-- in every run, the waits of the world are those of the list, and free of circles
 pub waits_known : (from : Beginning) (past : List Past) (w : World) → Run from past w → KnowsWaits past w
 waits_known from [] w run = subst (λ v. KnowsWaits [] v) (sym run) (record {
   same = knows_no_wait from;

@@ -35,6 +35,7 @@ use Rattle.rk_machine.proofs.Effects.SerialsStayDrawn.{keeps_drawn}
 
 -- ---- lists
 
+-- what never happened before, and is not this step, never happened
 pub never_more : (p : Past → Bool) (s : Past) (before : List Past) → p s ≡ false → never p before → never p (s ∷ before)
 never_more p s before h n = (λ i. h i || n i)
 
@@ -48,6 +49,7 @@ or_true false = refl
 happened_more : (p : Past → Bool) (s : Past) (before : List Past) → happened p before → happened p (s ∷ before)
 happened_more p s before h = ap (λ b. p s || b) h ∙ or_true (p s)
 
+-- nothing is both false and true
 pub clash : (b : Bool) → b ≡ false → b ≡ true → ⊥
 clash true f t = cc
 clash false f t = cc
@@ -98,6 +100,7 @@ pub record Tied (q : ℕ) (past : List Past) (o : Option Shape) (drawn : Bool) :
   pub first : (x : Shape) → o ≡ Some x → x.first ≡ true → never (is_negate q) past
   pub unspent : (x : Shape) → o ≡ Some x → x.unspent ≡ true → never (is_completion q) past
 
+-- equal options have equal shapes
 pub some_shape : {x y : Shape} → Some x ≡ Some y → x ≡ y
 some_shape {x} {y} e = ap (λ (o : Option Shape). shape_or x o) e
   where
@@ -160,7 +163,7 @@ module _ (q : ℕ) (s : Past) (before : List Past) where
   started_before : (d : Bool) (o : Option Shape) → Tied q before o d → happened (is_start q) before → d ≡ false → ⊥
   started_before d o h started e = clash _ (h.fresh e).0 started
 
-  -- a construction that is no longer there
+  -- a construction that has ended
   left_tied : (o n : Option Shape) (d dn : Bool) → (dn ≡ false → d ≡ false) → Tied q before o d → happened (is_start q) before → n ≡ None
       → Tied q (s ∷ before) n dn
   left_tied o n d dn less h started new = record {

@@ -1,4 +1,4 @@
--- In every run each key has one outcome, and all who wait on it are told that one.
+-- In every run each key has one outcome, and all who wait on it get that one.
 use Rattle.std.proofs.Common.{◌≡◌, ◌⊎◌, ℕ, Bool, true, false, cond, List, [], ◌∷◌, refl, sym, ap, ◌∙◌, subst, inl, inr}
 use Rattle.std.specs.Prelude.{Option, Some, None, nat_eq, is_some, option_map, option_and_then}
 use Rattle.std.specs.Option.{option_map_or}

@@ -43,6 +43,7 @@ pub record Judged (past : List Past) (w : World) (k : ℕ) (verdict : Option Out
   pub silent : verdict ≡ None → never (is_completion k) past × never (is_ending k) past
   pub told : (a : Answer) → ((o : Outcome) → verdict ≡ Some o → a ≡ told_as o) → EachToldOf k a past
 
+-- a key's authority is unspent where its construction's shape says so
 pub unspent_is : (w : World) (k : ℕ) → is_unspent w k ≡ option_map_or (λ (x : Shape). x.unspent) (shape_of w.sessions k) false
 unspent_is w k = found (map.get w.sessions.constructions k)
   where
@@ -150,6 +151,7 @@ module _ (old : World) (s : Past) (new : World) (before : List Past) (k : ℕ) (
   builds_still (stays b u) free = b ∙ j.builds (sym u ∙ free)
   builds_still (is_new fresh b) free = b free
 
+  -- what is so of a key and its outcome is so after a step too
   pub judged_on : (u : Option Outcome) → Ruled old new k v u → Judged (s ∷ before) new k u
   judged_on u (as_it_was same is) = record {
     builds = builds_still is;

@@ -24,6 +24,7 @@ pub data Collected (w : World) (t : SessionId) (a : Answer) : Type 0 where
   now_told : (wait : Wait) (outcome : Outcome) → wait_of w.sessions t ≡ Some wait → ready_outcome w.sessions wait ≡ Some outcome → a ≡ told_as outcome
       → Collected w t a
 
+-- a collect finds what the session's wait has
 pub at_collect : (old : World) (now : ℕ) (e : Event) (t : SessionId) (a : Answer) (new : World) → e ≡ Collect t → Step old now e a new → Collected old t a
 unfolding Step
 at_collect old now e t a new ev step =

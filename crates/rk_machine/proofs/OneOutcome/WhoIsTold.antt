@@ -93,7 +93,7 @@ IsOpen w k = (is_drawn w k ≡ false) ⊎ (is_built w k ≡ true)
 abbrev pub WaitsStay : World → World → Type 0
 WaitsStay old new = (s : SessionId) (v : Wait) → wait_of new.sessions s ≡ Some v → (wait_of old.sessions s ≡ Some v) ⊎ ((v.outcome ≡ None) × IsOpen old v.key)
 
--- each wait was there, and is told the outcome if it is on k
+-- each wait was there, and gets the outcome if it is on k
 abbrev pub WaitsTold : ℕ → Outcome → World → World → Type 0
 WaitsTold k o old new = (s : SessionId) (v : Wait) → wait_of new.sessions s ≡ Some v → option_map (told_wait k o) (wait_of old.sessions s) ≡ Some v
 
@@ -200,7 +200,7 @@ some_in : {A : Type 0} (b : Bool) (o : Option A) → is_some (cond b None o) ≡
 some_in true o = refl
 some_in false o = refl
 
--- k gets its condition, loses its authority, and every wait on it is told
+-- k gets its condition, loses its authority, and every wait on it gets the outcome
 concluding : (old new : World) (now k : ℕ) (condition : Condition) (end : Option ℕ) → Builds old → is_unspent old k ≡ true
     → ((j : ℕ) → is_built new j ≡ cond (nat_eq k j) false (is_built old j)) → ((j : ℕ) → is_unspent new j ≡ cond (nat_eq k j) false (is_unspent old j))
     → ((key : Key) → map.get old.keys k ≡ Some key → WaitsTold k (told_now now k condition end key) old new) → Telling old new
@@ -257,6 +257,7 @@ unlinked : (old new : World) (ring : Option ℕ) (k : ℕ) → (new ≡ tidied (
 unlinked old new ring k (inl w) = same_sessions old new _ w refl (built_tidied _ _)
 unlinked old new ring k (inr w) = same_sessions old new _ w refl (built_tidied _ _)
 
+-- every step gives no wait an outcome, or every wait on one key the same
 pub telling : (old : World) (now : ℕ) (e : Event) (a : Answer) (new : World) → Effect old now e a new → Goods old.sessions → IdleFresh old → Builds old
     → Telling old new
 telling old now e a new (refused error ra w free) good idle builds = same_sessions old new old w refl (λ k. refl)

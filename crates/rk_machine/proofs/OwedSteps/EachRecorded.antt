@@ -135,7 +135,7 @@ not_owed old now (Collect s) a new h x r free = ap (λ (o : Option Wait). is_som
 not_owed old now (Gone (Client n)) a new h x r free = by_test (map.contains_key old.sessions.clients n) old (gone n old) new a x h r
 not_owed old now (Gone (Handler k)) a new h x r free = refl
 
--- ---- want of memory
+-- ---- out of memory
 
 told_no_lack : (o : Outcome) → told_as o ≡ Refused errno.Enomem → ⊥
 told_no_lack (Found k) e = cc
@@ -169,7 +169,7 @@ lacks old now e a new h (negates k how payload ev is fails ra w) r = absurd (cc)
 lacks old now e a new h (failed k st ev is launches ra w) r = absurd (cc)
 lacks old now e a new h (finished k how payload st condition ev runs some final ra w) r = absurd (cc)
 
--- ---- bytes are told, and nothing changes
+-- ---- bytes are returned, and nothing changes
 
 told_no_bytes : (o : Outcome) (b : List ℕ) → told_as o ≡ Done (Bytes b) → ⊥
 told_no_bytes (Found k) b e = cc
@@ -778,21 +778,27 @@ idle_run : (from : Beginning) (past : List Past) (w : World) → Run from past w
 idle_run from [] w run = λ k undrawn. ap (λ (v : World). kind_of v.sessions k) run ∙ ap kind_in (map.get-empty nat_cmp k)
 idle_run from (s ∷ before) w run = idle_step run.0 s.now s.event s.answer w run.2 (idle_run from before run.0 run.1)
 
+-- a run leads to the empty world
 pub reached_empty : (negative first stride : ℕ) → Reached (empty_world negative first stride)
 reached_empty negative first stride = (record { negative = negative; first = first; stride = stride }, [], refl)
 
+-- where a run leads to a world, one leads to every world that a step leaves
 pub reached_next : (old : World) (now : ℕ) (e : Event) (a : Answer) (new : World) → Reached old → Step old now e a new → Reached new
 reached_next old now e a new r h = (r.0, record { now = now; event = e; answer = a } ∷ r.1, (old, r.2, h))
 
+-- every step of a run changes what is owed as Recording says
 pub reached_recording : (old : World) (now : ℕ) (e : Event) (a : Answer) (new : World) → Reached old → Step old now e a new → Recording old e a new
 reached_recording old now e a new r h = recording old now e a new h (idle_run r.0 r.1 old r.2)
 
+-- the empty world owes nothing
 pub empty_owes : (negative first stride : ℕ) → owed (empty_world negative first stride) ≡ 0
 empty_owes negative first stride = omega (arith, no_weight client_owes, no_weight construction_owes)
 
+-- the empty world owes no end
 pub no_ends : (negative first stride : ℕ) → ends_owed (empty_world negative first stride) ≡ 0
 no_ends negative first stride = no_weight construction_ends
 
+-- the empty world has no construction
 pub no_constructions : (negative first stride : ℕ) → constructions (empty_world negative first stride) ≡ 0
 no_constructions negative first stride = map.len-empty nat_cmp Construction
 

@@ -71,6 +71,7 @@ handler_kept f h false o = refl
 
 -- ---- one session is changed
 
+-- a change of a session that leaves whether it waits leaves what is owed to each session
 pub places_kept : (id : SessionId) (f : Session → Session) → KeepsPlaces f → (a : Sessions) (s : SessionId) → places (session_changed id f a) s ≡ places a s
 places_kept (Client n) f h a (Client m) = ap at_client (get_changed_at n f a.clients m) ∙ client_kept f h (nat_eq n m) (map.get a.clients m)
 places_kept (Client n) f h a (Handler k) = refl
@@ -78,6 +79,7 @@ places_kept (Handler j) f h a (Client m) = refl
 places_kept (Handler j) f h a (Handler k) =
     ap at_construction (get_changed_at j (in_handler f) a.constructions k) ∙ handler_kept f h (nat_eq j k) (map.get a.constructions k)
 
+-- a change of a session leaves what is owed to every other
 pub places_other : (id : SessionId) (f : Session → Session) (a : Sessions) (s : SessionId) → same_session id s ≡ false
     → places (session_changed id f a) s ≡ places a s
 places_other (Client n) f a (Client m) other =
@@ -130,10 +132,12 @@ spent_in true None = refl
 spent_in true (Some c) = stage_kept (with_assumed None) (λ s. refl) c.stage
 spent_in false o = refl
 
+-- spending an authority leaves what is owed to each session
 pub places_spent : (k : ℕ) (a : Sessions) (s : SessionId) → places (spent k a) s ≡ places a s
 places_spent k a (Client n) = refl
 places_spent k a (Handler j) = ap at_construction (get_changed_at k without_authority a.constructions j) ∙ spent_in (nat_eq k j) (map.get a.constructions j)
 
+-- an outcome leaves what is owed to each session
 pub places_announced : (now k : ℕ) (keys : map.FinMap nat_cmp Key) (a : Sessions) (s : SessionId) → places (announced now k keys a) s ≡ places a s
 places_announced now k keys a s = told_or_not (map.get keys k)
   where
@@ -158,6 +162,7 @@ pub places_removed : (k : ℕ) (a : Sessions) (s : SessionId) → places (withou
 places_removed k a (Client n) = refl
 places_removed k a (Handler j) = ap at_construction (get_removed a.constructions k j) ∙ removed_in (nat_eq k j) (map.get a.constructions j)
 
+-- nothing is owed to a construction that has ended, and to every other session what was
 pub places_ended : (now k : ℕ) (condition : Condition) (w : World) (s : SessionId)
     → places (ended now k condition w).sessions s ≡ cond (same_session (Handler k) s) 0 (places w.sessions s)
 places_ended now k condition w s =
@@ -168,6 +173,7 @@ issued_in : (authority : Authority) (b : Bool) (o : Option Construction)
 issued_in authority true o = refl
 issued_in authority false o = refl
 
+-- 4 places are owed to a construction that begins, and to every other session what was
 pub places_issued : (k : ℕ) (authority : Authority) (a : Sessions) (s : SessionId)
     → places (with_construction k authority a) s ≡ cond (same_session (Handler k) s) 4 (places a s)
 places_issued k authority a (Client n) = refl
@@ -179,6 +185,7 @@ launched_in st true None there = absurd (let e = there refl in cc)
 launched_in st true (Some c) there = refl
 launched_in st false o there = refl
 
+-- a construction in a stage is there, and is owed what its stage says
 pub stage_there : (a : Sessions) (k : ℕ) (st : Stage) → stage_of a k ≡ Some st
     → (is_some (map.get a.constructions k) ≡ true) × (places a (Handler k) ≡ stage_owes st)
 stage_there a k st h = found (map.get a.constructions k) h
@@ -187,6 +194,7 @@ stage_there a k st h = found (map.get a.constructions k) h
     found None e = absurd (cc)
     found (Some c) e = (refl, (let same : c.stage ≡ st = cc in ap stage_owes same))
 
+-- a construction whose handler is launched is owed what its stage says, and every other session what it was
 pub places_launched : (k : ℕ) (st : Stage) (a : Sessions) (s : SessionId) → is_some (map.get a.constructions k) ≡ true
     → places (launched k st a) s ≡ cond (same_session (Handler k) s) (stage_owes st) (places a s)
 places_launched k st a (Client n) there = refl
@@ -200,6 +208,7 @@ came_in : (b : Bool) (o : Option Session) → at_client (cond b (Some new_sessio
 came_in true o = refl
 came_in false o = refl
 
+-- 1 place is owed to a client that comes, and to every other session what was
 pub places_came : (n : ℕ) (a : Sessions) (s : SessionId) → places (with_client n a) s ≡ cond (same_session (Client n) s) 1 (places a s)
 places_came n a (Client m) = ap at_client (get_inserted a.clients n new_session m) ∙ came_in (nat_eq n m) (map.get a.clients m)
 places_came n a (Handler k) = refl
@@ -208,10 +217,12 @@ went_in : (b : Bool) (o : Option Session) → at_client (cond b None o) ≡ cond
 went_in true o = refl
 went_in false o = refl
 
+-- nothing is owed to a client that is gone, and to every other session what was
 pub places_went : (n : ℕ) (a : Sessions) (s : SessionId) → places (without_client n a) s ≡ cond (same_session (Client n) s) 0 (places a s)
 places_went n a (Client m) = ap at_client (get_removed a.clients n m) ∙ went_in (nat_eq n m) (map.get a.clients m)
 places_went n a (Handler k) = refl
 
+-- a client that is there has a session
 pub client_there : (a : Sessions) (n : ℕ) → map.contains_key a.clients n ≡ true → (x : Session) × (session_of a (Client n) ≡ Some x)
 client_there a n h = found (map.get a.clients n) h
   where

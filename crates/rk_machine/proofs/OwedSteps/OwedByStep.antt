@@ -191,6 +191,7 @@ changed_there a s f x is =
 
 -- ---- each step
 
+-- a session that is there is not the handler of a key without a construction
 pub other_key : (old : World) (s : SessionId) (k : ℕ) → map.get old.sessions.constructions k ≡ None → is_none (session_of old.sessions s) ≡ false
     → same_session s (Handler k) ≡ false
 other_key old s k none there = decided (same_session s (Handler k)) refl
@@ -292,6 +293,7 @@ ready_is w s wait is none = ap (λ (o : Option Wait). is_some (option_and_then (
 abbrev in_sessions : Sessions → World → World
 in_sessions a w = record w { sessions = a }
 
+-- every step changes only what is owed to the session of its event, and by a construction that starts
 pub moves : (old : World) (now : ℕ) (e : Event) (a : Answer) (new : World) → Effect old now e a new → IdleFresh old
     → ((x : Errno) → a ≡ Refused x → ((s : SessionId) → e ≡ Collect s → wait_of old.sessions s ≡ None) → is_owed old e ≡ false) → Moves old e a new
 moves old now e a new (refused x ra w free) idle not_owed =

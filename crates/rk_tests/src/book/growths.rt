@@ -1,7 +1,7 @@
-//! A refused growth leaves everything as it was, and the same step is made when it is tried again.
+//! A failed allocation leaves everything as it was, and the same step is made when it is tried again.
 //!
-//! With ample memory these only play their tables, on two books. They are for runs in which the Nth growth is refused (`rt try --test
-//! --fail-alloc N`): the book that answers ENOMEM is compared with the other one, which has not yet taken the step.
+//! With ample memory these only play their tables, on two books. They are for runs in which the Nth allocation fails (`rt try --test
+//! --fail-alloc N`). The book that answers ENOMEM is compared with the other one, which has not yet taken the step.
 use super::negating::{ENDED_BADLY, FOLLOWED_BY_NONE, NEGATED_BY_THE_SECOND};
 use super::scenes::{
     A_HANDLER_ASKS, BOTH_ARE_MADE, BOTH_IN_THE_THREAD_RING, CLEARED_IN_THE_MAKING,
@@ -48,10 +48,10 @@ fn said(alloc: Global, book: &mut Book, now: Moment, line: &str) -> Result<Strin
     }
 }
 
-/// The words of the lines that may want memory.
+/// The words of the lines that may be out of memory.
 const WANTING: &[&str] = &["open", "hello", "read", "describe", "add", "callout"];
 
-/// Which lines may want memory. A request may where it starts a construction.
+/// Which lines may be out of memory. A request may where it starts a construction.
 fn may_want_memory(line: &str, answer: &str) -> bool {
     for word in line.split_whitespace() {
         if WANTING.contains(&word) {
@@ -76,7 +76,7 @@ fn say_the_same(
     Ok(())
 }
 
-/// Sessions see the same keys in both books, and the books tell the same of sessions and constructions.
+/// Sessions see the same keys in both books, and the books return the same of sessions and constructions.
 fn are_alike(
     rt: &impl Abort,
     alloc: Global,

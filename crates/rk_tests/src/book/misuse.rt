@@ -59,7 +59,7 @@ fn events_out_of_turn(rt: HostRuntime) -> Result<(), Fail> {
     play_all(&rt, rt.alloc(), &[ALONE, OUT_OF_TURN])
 }
 
-/// What a plain handler puts out is no payload, and a piped one has no session.
+/// What a plain handler outputs is no payload, and a piped one has no session.
 const OF_A_PLAIN_HANDLER: &[Row] = &[
     ("c1 request user a none x", "start 3"),
     ("launched 3 plain", "0"),

@@ -9,12 +9,13 @@ use std::alloc::{AllocError, Global};
 /// A line that was read.
 #[derive(Drop)]
 pub struct Line {
-    /// Its moment, where it tells one.
+    /// Its moment, where it has one.
     pub moment: Option<Moment>,
+    /// What happens.
     pub told: Move,
 }
 
-/// What a line tells.
+/// What a line says.
 #[derive(Drop)]
 pub enum Move {
     /// This happens.
@@ -97,7 +98,7 @@ fn read_event(alloc: Global, words: &[&str]) -> Result<Event, Fault> {
     }
 }
 
-/// The handler has ended, with what it put out, if anything.
+/// The handler has ended, with what it output, if anything.
 fn ended(alloc: Global, key: &str, how: How, out: &[&str]) -> Result<Event, Fault> {
     let key = serial(key)?;
     let put_out: Option<Payload> = match out.first() {

@@ -1,7 +1,7 @@
-//! What happens while growths are refused.
+//! What happens while allocations fail.
 use super::Row;
 
-/// A handler is started, assumes its authority and makes the key; when it has ended, the requester is told.
+/// A handler is started, assumes its authority and makes the key; when it has ended, the requester gets the outcome.
 pub(super) const MADE_BY_A_HANDLER: &[Row] = &[
     ("c1 request user a none x", "start 3"),
     ("launched 3 plain", "0"),
@@ -22,7 +22,7 @@ pub(super) const ONE_START_FOR_TWO: &[Row] = &[
 
 pub(super) const ITS_HANDLER_ACTS: &[Row] = &[("h3 assume 3", "0"), ("h3 callout", "bytes x")];
 
-/// Who waits is told when the key is complete, who started it when the handler has ended.
+/// Who waits gets the outcome when the key is complete, who started it when the handler has ended.
 pub(super) const TOLD_ONE_AFTER_THE_OTHER: &[Row] = &[
     ("collect c2", "waiting 3"),
     ("h3 instantiate 3 hi none", "0"),
@@ -32,8 +32,8 @@ pub(super) const TOLD_ONE_AFTER_THE_OTHER: &[Row] = &[
     ("collect c1", "3"),
 ];
 
-/// A third client of the session ring revokes the key that is being made: a new request starts anew, and who
-/// waits is told that it was revoked, though the handler makes it.
+/// A third client of the session ring revokes the key under construction: a new request starts anew. Who
+/// waits gets the error that it was revoked, though the handler makes it.
 pub(super) const REVOKED_IN_THE_MAKING: &[Row] = &[
     ("open c3", "0"),
     ("c3 hello 1000 1000 0 1", "rings 0 0 1 2"),
@@ -45,7 +45,7 @@ pub(super) const REVOKED_IN_THE_MAKING: &[Row] = &[
     ("collect c1", "E128"),
 ];
 
-/// The handler of `u` asks for `w`: its own handler is told of the client, and finds its rings.
+/// The handler of `u` asks for `w`: its own handler gets the client's identity, and finds its rings.
 pub(super) const A_HANDLER_ASKS: &[Row] = &[
     ("c1 request user u none x", "start 4"),
     ("launched 4 plain", "0"),
@@ -86,7 +86,7 @@ pub(super) const THE_SAME_NAME_AGAIN: &[Row] = &[
     ("c2 read 4", "bytes two"),
 ];
 
-/// What DESCRIBE tells of a key, from its start on.
+/// What DESCRIBE returns of a key, from its start on.
 pub(super) const STATES: &[Row] = &[
     ("c1 request user a none x", "start 3"),
     ("c2 describe 3", "bytes user;1000;building;a"),
@@ -104,8 +104,8 @@ pub(super) const STATES: &[Row] = &[
     ("c2 link 3 user", "E128"),
 ];
 
-/// A client whose key is being made in its thread ring goes: the ring is dropped, and the key vanishes when it is made. The uid's
-/// user ring stays.
+/// A client whose key is under construction in its thread ring goes: the ring is dropped, and the key vanishes when it is made.
+/// The uid's user ring stays.
 pub(super) const GONE_WHILE_IT_WAITS: &[Row] = &[
     ("c1 request user a thread x", "start 4"),
     ("launched 4 plain", "0"),
@@ -119,7 +119,7 @@ pub(super) const GONE_WHILE_IT_WAITS: &[Row] = &[
     ("c2 read 4", "E126"),
 ];
 
-/// The session ring is cleared and the starter goes: the other one is told the serial of a key that has vanished.
+/// The session ring is cleared and the starter goes: the other one gets the serial of a key that has vanished.
 pub(super) const CLEARED_IN_THE_MAKING: &[Row] = &[
     ("c1 request user a none x", "start 3"),
     ("c2 request user a none y", "waiting 3"),

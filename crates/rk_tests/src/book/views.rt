@@ -1,4 +1,4 @@
-//! What a book tells without a step.
+//! What a book returns without a step.
 use super::*;
 
 /// A payload is seen by the handler of a key, in the rings of its requester, as long as its authority is unspent.

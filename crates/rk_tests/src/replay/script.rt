@@ -1,4 +1,4 @@
-//! That each fault of the streams is told, and that the writer is flushed.
+//! That each fault of the streams is returned, and that the writer is flushed.
 use crate::same::same;
 use rk_replay::{ScriptFault, run_script};
 use std::alloc::Global;
@@ -8,8 +8,11 @@ use std::io::{Read, Write};
 /// Gives newlines, one at a time, and then fails or is at its end.
 #[derive(Drop)]
 struct Newlines {
+    /// How many newlines are left.
     left: u32,
+    /// Whether it then fails.
     fails: bool,
+    /// How often it was read.
     reads: u32,
 }
 
@@ -41,8 +44,11 @@ impl Read for Newlines {
 /// Keeps what it is given until it is flushed, which may fail.
 #[derive(Drop)]
 struct Keeps {
+    /// What was written since the last flush.
     kept: Vec<u8>,
+    /// What was flushed.
     passed_on: Vec<u8>,
+    /// Whether a flush fails.
     fails: bool,
 }
 
@@ -74,6 +80,7 @@ impl Write for Keeps {
 /// Takes nothing.
 #[derive(Drop)]
 struct Refuses {
+    /// Whether it was written to.
     seen: bool,
 }
 

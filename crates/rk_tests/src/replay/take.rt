@@ -1,4 +1,4 @@
-//! Happenings that are played while growths are refused.
+//! Happenings that are played while allocations fail.
 use crate::same::same;
 use rk_conf::Conf;
 use rk_core::Limits;
@@ -106,7 +106,7 @@ fn first_other<'a>(text: &'a str, want: &str) -> Option<&'a str> {
     None
 }
 
-/// As what a refused growth may show itself.
+/// The lines that a failed allocation may cause.
 const SHOWN: &[&str] = &[
     "shut 1",
     "to 1 00000002030c",
@@ -114,7 +114,7 @@ const SHOWN: &[&str] = &[
     "tohandler 3 00000002030c",
 ];
 
-/// What was said is what was wanted, or shows a refused growth, or came to its end before.
+/// What was said is what was wanted, or shows a failed allocation, or came to its end before.
 fn is_said(rt: &impl Abort, text: &str, played: Result<(), AllocError>) {
     if played.is_err() {
         return;
@@ -125,7 +125,7 @@ fn is_said(rt: &impl Abort, text: &str, played: Result<(), AllocError>) {
     }
 }
 
-/// Up to a growth that is refused (`rt try --test --fail-alloc N`) the lines are the same. By itself it shows as a client that is shut,
+/// Up to an allocation that fails (`rt try --test --fail-alloc N`) the lines are the same. The failure shows as a client that is shut,
 /// as ENOMEM, as a command that can't be made, or as the end of all.
 #[test]
 fn growths_of_a_negate_command(rt: HostRuntime) {

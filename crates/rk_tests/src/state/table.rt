@@ -1,4 +1,4 @@
-//! A growth past all memory.
+//! An allocation past all memory.
 use crate::same::same;
 use rk_table::Table;
 use std::alloc::{AllocError, Global};

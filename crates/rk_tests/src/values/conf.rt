@@ -1,4 +1,4 @@
-//! What no script shows of a configuration: how many lines it has, which line is for a request, and what comes of refused growths.
+//! What no script shows of a configuration: how many lines it has, which line is for a request, and what results from failed allocations.
 use crate::same::same;
 use rk_conf::{Conf, ConfKind, picks_one};
 use rk_names::{Callout, Description, NameFault, TypeName};
@@ -52,7 +52,7 @@ fn reads_the_line_of_nfsidmap(rt: HostRuntime) -> Result<(), Fail> {
     Ok(())
 }
 
-/// Run with each allocation refused in turn, it still passes: a sound text is read, or wants memory.
+/// Run with each allocation refused in turn, it still passes: a sound text is read, or out of memory is answered.
 #[test]
 fn wants_nothing_but_memory(rt: HostRuntime) {
     match Conf::read(rt.alloc(), EXAMPLE) {

@@ -1,4 +1,4 @@
-//! What no script shows of frames: what many small ones cost, and what comes of refused growths.
+//! What no script shows of frames: what many small ones cost, and what results from failed allocations.
 use crate::same::same;
 use rk_frame::{Frames, Next, any_cutting};
 use std::alloc::AllocError;

@@ -1,4 +1,4 @@
-//! The table of asks, as docs/PROTOCOL.md tells it, and what comes of refused growths.
+//! The table of asks, as in docs/PROTOCOL.md, and what results from failed allocations.
 use crate::same::same;
 use rk_message::{
     Ask, AskShape, Fault, Op, ReadError, Reply, asks_have_one_reading, replies_have_one_reading,
@@ -7,7 +7,7 @@ use std::alloc::{AllocError, Global};
 use std::process::Abort;
 use std::test::Fail;
 
-/// Reads the body and writes it again: as it was, or not for want of memory, and never by halves.
+/// Reads the body and writes it again: as it was, or out of memory, and never by halves.
 fn ask_may_want_memory(rt: &impl Abort, alloc: Global, body: &[u8]) {
     match Ask::read(alloc, body) {
         Ok(ask) => {
@@ -21,7 +21,7 @@ fn ask_may_want_memory(rt: &impl Abort, alloc: Global, body: &[u8]) {
     }
 }
 
-/// Whichever allocation is refused, a body is read as what it spells or wants memory.
+/// Whichever allocation is refused, a body is read as what it spells, or out of memory is answered.
 #[test]
 fn memory_may_be_refused(rt: HostRuntime) {
     let alloc = rt.alloc();
@@ -42,7 +42,7 @@ fn memory_may_be_refused(rt: HostRuntime) {
     same(&rt, bad.err(), Some(ReadError::Fault(Fault::Trailing)));
 }
 
-/// The asks and their fields as docs/PROTOCOL.md tells them, by rising op byte.
+/// The asks and their fields as docs/PROTOCOL.md has them, by rising op byte.
 const ASKS: &str = "HELLO uid gid flags join
 REQUEST type description callout ring
 ASSUME key
