@@ -1,37 +1,51 @@
 -- How a launch is brought to its end.
-use Rattle.std.specs.Prelude.{ℕ, ◌≡◌, ◌==◌, ◌≤◌, ◌⊎◌, ◌+◌, ◌-◌, max, List, true, Option, Some, None, Result, Ok, Err, if◌then◌else◌}
+use Rattle.std.specs.Prelude.{ℕ, ◌≡◌, ◌==◌, ◌≤◌, ◌<◌, ◌⊎◌, ◌+◌, ◌-◌, max, List, [], ◌∷◌, true, false, Option, Some, None, Result, Ok, Err, if◌then◌else◌}
+use Rattle.std.specs.List.{All}
+use Rattle.rk_conf.specs.declared.line.Line.{Line}
+use Rattle.rk_macro.specs.declared.command.Command.{Command}
+use Rattle.rk_macro.specs.declared.subject.Op.TheVariants.{Negate}
+use Rattle.rk_macro.specs.declared.subject.Subject.{Subject}
 use Rattle.rk_machine.specs.declared.event.How.TheVariants.{Exit}
 use Rattle.rk_devices.specs.declared.output.OutputFault.{OutputFault}
 use Rattle.rk_devices.specs.declared.reading.ReadFault.{ReadFault}
 use Rattle.rk_devices.specs.Counts.{most, Rose}
-use Rattle.rk_devices.specs.Shown.{ChildShown, LauncherShown}
+use Rattle.rk_devices.specs.Shown.{ChildShown, LauncherShown, Tried, and_then}
 use Rattle.rk_devices.specs.declared.driven.Driven.{Driven}
 use Rattle.rk_devices.specs.declared.driven.Driven.TheVariants.{Ended, NoPayload, NotStarted, NotMade, NoMemory, StartFailed, ReadFailed, WaitFailed}
+use Rattle.rk_child.specs.Commands.{IsCommandFor}
 
--- what was done with a launcher in the run of a launch of this depth: its counts did not fall, each child came back, and no more children were out at one time
--- than those before, or with those that are out one for each depth from this one to 8
+-- commands were to be started, each while at least as many children were out as before
+abbrev pub TriesMore : LauncherShown → LauncherShown → Type 0
+TriesMore old new = (tried : List Tried) × (new.tried ≡ and_then old.tried tried) × All (λ (t : Tried). old.out ≤ t.out) tried
+
+-- what was done with a launcher in the run of a launch of this depth: its counts did not fall, no child was read more than 1,048,576 times, none was waited for
+-- while its input was open, each came back, and no more children were out at one time than those before, or with those that are out one for each depth from
+-- this one to 8
 pub record Runs (depth : ℕ) (old new : LauncherShown) : Type 0 where
   pub bound : new.count ≤ most
   pub rises : old.count ≤ new.count
   pub longest : old.longest ≤ new.longest
+  pub reads : new.longest ≤ max old.longest 1048576
+  pub hasty : new.hasty ≡ old.hasty
   pub out : new.out ≡ old.out
   pub deepest : new.deepest ≤ max old.deepest (old.out + (9 - depth))
+  pub tried : TriesMore old new
 
--- a fault comes only where the count of failures rose, or a child was read as often as it may be
+-- a fault comes only where the count of failures rose, or the child that came back last was read as often as it may be
 abbrev pub FaultRose : Driven → LauncherShown → LauncherShown → Type 0
 FaultRose StartFailed old new = Rose old.count new.count
-FaultRose ReadFailed old new = Rose old.count new.count ⊎ (1048576 ≤ new.longest)
+FaultRose ReadFailed old new = Rose old.count new.count ⊎ (new.reads ≡ 1048576)
 FaultRose WaitFailed old new = Rose old.count new.count
 FaultRose _ old new = Unit {0}
 
--- how the child that came back last has ended is what is told, and it was waited for only at the end of its output; where a start failed, nothing but the count
--- is new, and where none was to be, nothing
+-- how the child that came back last has ended is what is told, and it was waited for only at the end of its output; where a start failed, nothing is new but the
+-- count and the command, and where none was to be, nothing
 abbrev pub TellsEnd : Driven → LauncherShown → LauncherShown → Type 0
 TellsEnd (Ended how) old new = (new.last ≡ Some (Some how)) × (new.at_end ≡ true)
 TellsEnd (NoPayload fault) old new = (new.last ≡ Some (Some (Exit 0))) × (new.at_end ≡ true)
 TellsEnd WaitFailed old new = (new.last ≡ Some None) × (new.at_end ≡ true)
 TellsEnd ReadFailed old new = new.last ≡ None
-TellsEnd StartFailed old new = new ≡ record old { count = new.count }
+TellsEnd StartFailed old new = new ≡ record old { count = new.count; tried = new.tried }
 TellsEnd NotStarted old new = new ≡ old
 TellsEnd (NotMade fault) old new = new ≡ old
 TellsEnd NoMemory old new = new ≡ old
@@ -52,11 +66,31 @@ HasRun NoMemory = ⊥
 HasRun StartFailed = ⊥
 HasRun _ = Unit {0}
 
--- a child is waited for where its output was read to the end, and else not
+-- what was to be started for one command of a launch while so many children were out: nothing where none was prepared; else the command of the line that is
+-- chosen for the subject, once, and then what its handler's own starts are, each while it is out
+abbrev pub Tries : List Line → Subject → ℕ → Driven → List Tried → Type 0
+Tries conf subject out NotStarted tried = tried ≡ []
+Tries conf subject out (NotMade fault) tried = tried ≡ []
+Tries conf subject out NoMemory tried = tried ≡ []
+Tries conf subject out _ tried = (command : Command) × (nested : List Tried) × IsCommandFor conf subject command × All (λ (t : Tried). out < t.out) nested
+    × (tried ≡ record { out = out; command = command } ∷ nested)
+
+-- what was to be started for one command of a launch, by a launcher that tells it
+abbrev pub HasTried : List Line → Subject → Driven → LauncherShown → LauncherShown → Type 0
+HasTried conf subject driven old new = (tried : List Tried) × (new.tried ≡ and_then old.tried tried) × Tries conf subject old.out driven tried
+
+-- what was to be started for a launch: what makes the key; and then, where the hall hands out the construction once more, what says that it can't be made. What
+-- is told is how the later one has ended, where it was started
+abbrev pub Drives : List Line → Subject → Driven → LauncherShown → LauncherShown → Type 0
+Drives conf subject driven old new = HasTried conf subject driven old new
+    ⊎ ((first second : Driven) × (mid : LauncherShown) × HasRun first × HasTried conf subject first old mid × (mid.out ≡ old.out)
+    × HasTried conf (record subject { op = Negate }) second mid new × (driven ≡ later_of first second))
+
+-- a child is waited for where its output was read to the end, once its input is closed, and else not
 abbrev pub EndsAs : Result Unit ReadFault → Driven → ChildShown → ChildShown → Type 0
 EndsAs (Err f) d old new = (d ≡ ReadFailed) × (new ≡ old)
-EndsAs (Ok u) (Ended how) old new = (new ≡ record old { waited = Some (Some how) })
-EndsAs (Ok u) WaitFailed old new = Rose old.count new.count × (new ≡ record old { count = new.count; waited = Some None })
+EndsAs (Ok u) (Ended how) old new = (new ≡ record old { closed = true; waited = Some (Some how); hasty = false })
+EndsAs (Ok u) WaitFailed old new = Rose old.count new.count × (new ≡ record old { count = new.count; closed = true; waited = Some None; hasty = false })
 EndsAs (Ok u) _ old new = ⊥
 
 -- what is told of a command whose output is no payload: that, where it has ended with 0

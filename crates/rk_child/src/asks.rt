@@ -1,9 +1,9 @@
 //! The asks of a plain handler.
-ghost use Rattle.std.specs.Prelude.{◌≡◌, ◌≤◌, ◌<◌, ◌+◌, length, MatchBool, OnOk, IfErr, true};
+ghost use Rattle.std.specs.Prelude.{◌≡◌, ◌≤◌, ◌<◌, ◌+◌, length, MatchBool, OnOk, IfErr, None, true};
 ghost use Rattle.rk_devices.specs.Counts.{most};
 ghost use Rattle.rk_frame.specs.Streams.{IsPartial};
 ghost use Rattle.rk_talk.specs.Stays.{Stays};
-ghost use Rattle.rk_devices.specs.Shown.{FailsReading, GoesOn};
+ghost use Rattle.rk_devices.specs.Shown.{FailsReading, GoesOn, ReadsUpTo};
 ghost use Rattle.rk_child.specs.Driving.{Runs};
 ghost use Rattle.rk_child.specs.Replying.{SaysOf};
 ghost use Rattle.rk_child.specs.Rooms.{IsEmpty};
@@ -45,6 +45,7 @@ pub fn serve_asks<P: Platform>(
     requires empty { IsEmpty frames }
     ensures runs { Runs (depth + 1) (P.Launcher.shown crew.old.launcher) (P.Launcher.shown crew.new.launcher) }
     ensures child { GoesOn (P.Launcher.Started.shown child.old) (P.Launcher.Started.shown child.new) }
+    ensures reads { ReadsUpTo 1048576 result (P.Launcher.Started.shown child.old) (P.Launcher.Started.shown child.new) }
     ensures end { OnOk result ((P.Launcher.Started.shown child.new).at_end ≡ true) }
     ensures fault { IfErr result (λ f. FailsReading f (P.Launcher.Started.shown child.old) (P.Launcher.Started.shown child.new)) }
     ensures stays { Stays crew.old.caller.seat crew.new.caller.seat }
@@ -84,6 +85,7 @@ fn answer_all<P: Platform>(
     ensures left { MatchBool result (IsPartial frames.new.bytes × (4096 ≤ frames.new.room)) (Unit {0}) }
     ensures runs { Runs (depth + 1) (P.Launcher.shown crew.old.launcher) (P.Launcher.shown crew.new.launcher) }
     ensures child { GoesOn (P.Launcher.Started.shown child.old) (P.Launcher.Started.shown child.new) }
+    ensures reads { (P.Launcher.Started.shown child.new).reads ≡ (P.Launcher.Started.shown child.old).reads }
     ensures stays { Stays crew.old.caller.seat crew.new.caller.seat }
 {
     loop {
@@ -109,6 +111,7 @@ fn answer_next<P: Platform>(
     ensures takes { Turns result frames.old frames.new }
     ensures runs { Runs (depth + 1) (P.Launcher.shown crew.old.launcher) (P.Launcher.shown crew.new.launcher) }
     ensures child { GoesOn (P.Launcher.Started.shown child.old) (P.Launcher.Started.shown child.new) }
+    ensures reads { (P.Launcher.Started.shown child.new).reads ≡ (P.Launcher.Started.shown child.old).reads }
     ensures stays { Stays crew.old.caller.seat crew.new.caller.seat }
 {
     match frames.next() {
@@ -136,6 +139,7 @@ fn brought_to_end<P: Platform>(
     requires bound { (P.Launcher.shown crew.old.launcher).count ≤ most }
     ensures runs { Runs (depth + 1) (P.Launcher.shown crew.old.launcher) (P.Launcher.shown crew.new.launcher) }
     ensures stays { Stays crew.old.caller.seat crew.new.caller.seat }
+    ensures idle { launch ≡ None → crew.new.caller.seat ≡ crew.old.caller.seat }
 {
     if let Some(nested) = launch {
         if nested.depth() > depth {

@@ -1,20 +1,22 @@
 //! A launch is brought to its end.
 ghost use Rattle.std.specs.Prelude.{◌≡◌, ◌≤◌, ◌+◌, IfSome, OnOk, IfErr, true};
 ghost use Rattle.rk_devices.specs.Counts.{most};
-ghost use Rattle.rk_devices.specs.Shown.{FailsReading, GoesOn};
+ghost use Rattle.rk_devices.specs.Shown.{FailsReading, GoesOn, ReadsUpTo};
+ghost use Rattle.rk_hall.specs.Seats.{negated};
 ghost use Rattle.rk_talk.specs.Stays.{Stays, SeesOn, clients_at};
 ghost use Rattle.rk_child.specs.Commands.{TellsWhy};
-ghost use Rattle.rk_child.specs.Driving.{Runs, FaultRose, TellsEnd, HasRun};
-ghost use Rattle.rk_child.specs.Rooms.{IsEmptyRoom};
+ghost use Rattle.rk_child.specs.Driving.{Runs, FaultRose, TellsEnd, HasRun, HasTried, Drives};
+ghost use Rattle.rk_child.specs.Rooms.{GivesCallout, IsEmptyRoom};
 
 use crate::asks::serve_asks;
 use crate::command::{Prepared, prepare};
 use crate::driven::later;
 use crate::ending::{wait_for, with_output};
 use crate::room::Room;
-use crate::spent::{begin, fail, finish};
+use crate::spent::{begin, finish, spend, unstarted};
 use rk_devices::{
-    Child, Clock, Driven, Gate, Launcher, OutputFault, ReadFault, pipe_through, read_out,
+    Child, Clock, Driven, Gate, Launcher, OutputFault, ReadFault, Report, StartFault, pipe_through,
+    read_out,
 };
 use rk_hall::{Launch, Running};
 use rk_names::Payload;
@@ -41,21 +43,17 @@ pub fn drive<P: Platform>(
     ensures fault { FaultRose result (P.Launcher.shown crew.old.launcher) (P.Launcher.shown crew.new.launcher) }
     ensures end { TellsEnd result (P.Launcher.shown crew.old.launcher) (P.Launcher.shown crew.new.launcher) }
     ensures why { TellsWhy stage.now.conf.now launch.subject result }
+    ensures commands { Drives stage.now.conf.now launch.subject result (P.Launcher.shown crew.old.launcher) (P.Launcher.shown crew.new.launcher) }
     ensures clients { clients_at crew.new.caller.seat ≡ clients_at crew.old.caller.seat }
     ensures seen { SeesOn crew.old.caller.seat crew.new.caller.seat }
 {
-    let key = launch.key();
     prove!(launch.depth() <= MAX_DEPTH);
     let (first, next) = run(stage, crew, launch);
-    stage.gate.driven(stage.rt, key, first);
     let Some(launch) = next else {
         return first;
     };
     let (second, next) = run(stage, crew, launch);
-    stage.gate.driven(stage.rt, key, second);
-    if let Some(launch) = next {
-        fail(stage, &mut crew.caller, launch);
-    }
+    spend(stage, &mut crew.caller, next);
     later(first, second)
 }
 
@@ -72,26 +70,39 @@ fn run<P: Platform>(
     ensures fault { FaultRose result.0 (P.Launcher.shown crew.old.launcher) (P.Launcher.shown crew.new.launcher) }
     ensures end { TellsEnd result.0 (P.Launcher.shown crew.old.launcher) (P.Launcher.shown crew.new.launcher) }
     ensures why { TellsWhy stage.now.conf.now launch.subject result.0 }
-    ensures next { IfSome result.1 (λ l. (l.depth ≡ launch.depth) × HasRun result.0) }
+    ensures commands { HasTried stage.now.conf.now launch.subject result.0 (P.Launcher.shown crew.old.launcher) (P.Launcher.shown crew.new.launcher) }
+    ensures next { IfSome result.1 (λ l. (l ≡ negated launch) × HasRun result.0) }
     ensures stays { Stays crew.old.caller.seat crew.new.caller.seat }
 {
     let now = crew.caller.clock.now();
     let Prepared { command, room } = match prepare(stage, &launch, now) {
         Ok(prepared) => prepared,
         Err(why) => {
-            fail(stage, &mut crew.caller, launch);
+            unstarted(stage, &mut crew.caller, launch, why, None);
             return (why, None);
         }
     };
-    let Ok(mut child) = crew.launcher.start(&command) else {
-        fail(stage, &mut crew.caller, launch);
-        return (Driven::StartFailed, None);
+    let mut child = match crew.launcher.start(&command) {
+        Ok(child) => child,
+        Err(StartFault { os_error }) => {
+            let driven = Driven::StartFailed;
+            unstarted(stage, &mut crew.caller, launch, driven, os_error);
+            return (driven, None);
+        }
     };
+    let key = launch.key();
     let Some(running) = begin(stage, &mut crew.caller, launch, room.ran()) else {
         child.close_input();
         let read = read_out(&mut child, 0);
         let driven = wait_for(&mut child, read);
         crew.launcher.back(child);
+        let report = Report {
+            key,
+            subject: None,
+            driven,
+            os_error: None,
+        };
+        stage.gate.driven(stage.rt, report);
         return (driven, None);
     };
     stage.gate.started(stage.rt, running.key());
@@ -99,7 +110,7 @@ fn run<P: Platform>(
     let ended = wait_for(&mut child, read);
     crew.launcher.back(child);
     let (driven, payload) = with_output(ended, output);
-    let next = finish(stage, &mut crew.caller, running, driven.how(), payload);
+    let next = finish(stage, &mut crew.caller, running, driven, payload);
     (driven, next)
 }
 
@@ -116,6 +127,8 @@ fn attend<P: Platform>(
     requires empty { IsEmptyRoom room }
     ensures runs { Runs (running.now.depth + 1) (P.Launcher.shown crew.old.launcher) (P.Launcher.shown crew.new.launcher) }
     ensures child { GoesOn (P.Launcher.Started.shown child.old) (P.Launcher.Started.shown child.new) }
+    ensures given { GivesCallout room running.now.subject (P.Launcher.Started.shown child.old) (P.Launcher.Started.shown child.new) }
+    ensures reads { ReadsUpTo 1048576 result.0 (P.Launcher.Started.shown child.old) (P.Launcher.Started.shown child.new) }
     ensures end { OnOk result.0 ((P.Launcher.Started.shown child.new).at_end ≡ true) }
     ensures fault { IfErr result.0 (λ f. FailsReading f (P.Launcher.Started.shown child.old) (P.Launcher.Started.shown child.new)) }
     ensures stays { Stays crew.old.caller.seat crew.new.caller.seat }

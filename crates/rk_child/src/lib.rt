@@ -13,8 +13,9 @@
 //! own.
 //!
 //! *Faults.* What is told (`Driven`) is how the child has ended that came back last. `StartFailed` and `WaitFailed` come only where the launcher's
-//! count of failures rose, its children's counted, and `ReadFailed` only there or where a child was read 1,048,576 times. After a read that failed a
-//! child is not waited for, and it was waited for only where a read had told the end of its output. Where no command was to be started, it is told why:
+//! count of failures rose, its children's counted, and `ReadFailed` only there or where the child that came back last was read 1,048,576 times. No child is
+//! read more often. After a read that failed a child is not waited for, and it was waited for only where a read had told the end of its output, and its
+//! input was closed. Where no command was to be started, it is told why:
 //! `NotStarted` only where no line fits, `NotMade` only where the words of the one that does fail so, and `NoMemory` only where there is a command.
 //!
 //! *A plain handler* has each ask answered in order, by the hall of its key. A reply that can't be written, a frame that none has, or an ask of which

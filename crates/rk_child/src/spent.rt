@@ -1,10 +1,11 @@
 //! Launches and handlers that are at their end.
 ghost use Rattle.std.specs.Prelude.{◌≡◌, IfSome};
+ghost use Rattle.rk_hall.specs.Seats.{negated};
 ghost use Rattle.rk_talk.specs.Stays.{Stays};
 
-use rk_devices::Clock;
+use rk_devices::{Clock, Driven, Gate, Report};
 use rk_hall::{Launch, Owed, Running};
-use rk_machine::{How, Ran};
+use rk_machine::Ran;
 use rk_names::Payload;
 use rk_talk::{Caller, Platform, Stage};
 
@@ -21,6 +22,39 @@ pub fn fail<P: Platform>(stage: &Stage<'_, P>, caller: &mut Caller<P>, launch: L
         None => {}
         Some(_) => unreachable!(),
     }
+}
+
+/// Ends a launch of which nothing is to come, if there is one.
+pub fn spend<P: Platform>(
+    stage: &Stage<'_, P>,
+    caller: &mut Caller<P>,
+    launch: Option<Launch<P::Names>>,
+)
+    ensures { Stays caller.old.seat caller.new.seat }
+{
+    if let Some(launch) = launch {
+        fail(stage, caller, launch);
+    }
+}
+
+/// Reports why no command runs for a launch, and tells its hall that none was started.
+pub fn unstarted<P: Platform>(
+    stage: &Stage<'_, P>,
+    caller: &mut Caller<P>,
+    launch: Launch<P::Names>,
+    driven: Driven,
+    os_error: Option<i32>,
+)
+    ensures { Stays caller.old.seat caller.new.seat }
+{
+    let report = Report {
+        key: launch.key(),
+        subject: Some(launch.subject()),
+        driven,
+        os_error,
+    };
+    stage.gate.driven(stage.rt, report);
+    fail(stage, caller, launch);
 }
 
 /// Tells that a handler runs. Where its hall owes that no more, there is none.
@@ -41,18 +75,25 @@ pub fn begin<P: Platform>(
     value
 }
 
-/// Tells how a handler has ended. A launch comes back where another command is to follow.
+/// Reports what became of a handler, and tells its hall how it has ended. A launch comes back where another command is to follow.
 pub fn finish<P: Platform>(
     stage: &Stage<'_, P>,
     caller: &mut Caller<P>,
     running: Running<P::Names>,
-    how: How,
+    driven: Driven,
     payload: Option<Payload>,
 ) -> Option<Launch<P::Names>>
-    ensures token { IfSome result (λ l. l.depth ≡ running.depth) }
+    ensures token { IfSome result (λ l. l ≡ negated running) }
     ensures stays { Stays caller.old.seat caller.new.seat }
 {
-    let now = caller.clock.now();
+    let report = Report {
+        key: running.key(),
+        subject: Some(running.subject()),
+        driven,
+        os_error: None,
+    };
+    stage.gate.driven(stage.rt, report);
+    let (now, how) = (caller.clock.now(), driven.how());
     let Owed { value, receipt } = stage
         .halls
         .ended(stage.rt, &mut caller.seat, now, running, how, payload);

@@ -2,7 +2,7 @@
 
 use crate::held::Held;
 use log::{Log, warn};
-use rk_devices::{Driven, Gate};
+use rk_devices::{Driven, Gate, Report};
 use rk_hall::{HallNo, Halls, Names};
 use rk_names::{Serial, SessionId};
 use rk_talk::Shelf;
@@ -47,7 +47,8 @@ impl<'a, L: Log, N: Names, S: Shelf> Gate for Relief<'a, L, N, S> {
     }
 
     /// A fault is told. How a program has ended is its own, and where no line fits a request there is no handler.
-    fn driven<R: Wait>(&self, _rt: &R, key: Serial, driven: Driven) {
+    fn driven<R: Wait>(&self, _rt: &R, report: Report<'_>) {
+        let Report { key, driven, .. } = report;
         match driven {
             Driven::Ended(_) | Driven::NotStarted => {}
             Driven::NoPayload(_)

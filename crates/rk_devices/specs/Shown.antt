@@ -1,36 +1,63 @@
 -- What is seen of children and their launcher, and what a call does to it.
-use Rattle.std.specs.Prelude.{ℕ, ◌≡◌, ◌≤◌, ◌+◌, ◌-◌, ◌==◌, ◌&&◌, not, max, Bool, false, Option, Some, None, Result, Ok, Err}
+use Rattle.std.specs.Prelude.{ℕ, ◌≡◌, ◌≤◌, ◌+◌, ◌-◌, ◌==◌, ◌⊎◌, ◌&&◌, ◌||◌, not, max, List, [], ◌∷◌, ◌++◌, Bool, true, false, Option, option_map, Some, None, Result, Ok, Err, if◌then◌else◌}
+use Rattle.rk_macro.specs.declared.command.Command.{Command}
 use Rattle.rk_machine.specs.declared.event.How.{How}
 use Rattle.rk_devices.specs.declared.device.DeviceFault.{DeviceFault}
+use Rattle.rk_devices.specs.declared.device.StartFault.{StartFault}
 use Rattle.rk_devices.specs.declared.reading.ReadFault.{ReadFault}
 use Rattle.rk_devices.specs.declared.reading.ReadFault.TheVariants.{Failed, UsedUp}
 use Rattle.rk_devices.specs.Counts.{Rose, both, raised, raised_by, IsRaised}
 
--- a child: how often a call failed; how often it was read; whether the read that came last told the end of its output; and `None` before it was waited for,
--- then how it has ended, or `None` where the wait failed
+-- a child: how often a call failed; how often it was read; whether the read that came last told the end of its output; the bytes that were written to its
+-- input, where it tells them; whether that was closed; `None` before it was waited for, then how it has ended, or `None` where the wait failed; and whether
+-- its input was open when it was waited for
 pub record ChildShown : Type 0 where
   pub count : ℕ
   pub reads : ℕ
   pub at_end : Bool
+  pub told : Option (List ℕ)
+  pub closed : Bool
   pub waited : Option (Option How)
+  pub hasty : Bool
+
+-- a command that was to be started, and how many children were out before
+pub record Tried : Type 0 where
+  pub out : ℕ
+  pub command : Command
 
 -- a launcher: how often a call failed, its own and those of children that came back; the most reads of a child that came back; how many children are out; the
--- most that were out at one time; and `at_end` and `waited` of the child that came back last
+-- most that were out at one time; `reads`, `at_end` and `waited` of the child that came back last; whether one came back that was waited for while its input was
+-- open; and the commands that were to be started, first things first, where it tells them
 pub record LauncherShown : Type 0 where
   pub count : ℕ
   pub longest : ℕ
   pub out : ℕ
   pub deepest : ℕ
+  pub reads : ℕ
   pub at_end : Bool
   pub last : Option (Option How)
+  pub hasty : Bool
+  pub tried : Option (List Tried)
 
--- a child that was just started
-abbrev pub new_child : ChildShown
-new_child = record { count = 0; reads = 0; at_end = false; waited = None }
+-- a child that was just started; it tells what is written to it, or not
+abbrev pub new_child : Bool → ChildShown
+new_child tells = record {
+  count = 0;
+  reads = 0;
+  at_end = false;
+  told = if tells then Some [] else None;
+  closed = false;
+  waited = None;
+  hasty = false;
+}
 
--- a launcher that has started nothing
+-- a launcher that has started nothing, and does not tell its commands
 abbrev pub new_launcher : LauncherShown
-new_launcher = record { count = 0; longest = 0; out = 0; deepest = 0; at_end = false; last = None }
+new_launcher = record { count = 0; longest = 0; out = 0; deepest = 0; reads = 0; at_end = false; last = None; hasty = false; tried = None }
+
+-- what is told, with more
+abbrev pub and_then : {A : Type 0} → Option (List A) → List A → Option (List A)
+and_then told more = option_map (λ t. t ++ more) told
 
 -- how a child has ended that was waited for, `None` where the wait failed
 abbrev pub end_of : Result How DeviceFault → Option How
@@ -42,23 +69,39 @@ abbrev pub is_end : ℕ → Result ℕ DeviceFault → Bool
 is_end room (Ok n) = n == 0 && not (room == 0)
 is_end room (Err e) = false
 
--- a write: one that failed raised the count, and all else is as before
-abbrev pub Writes : Result Unit DeviceFault → ChildShown → ChildShown → Type 0
-Writes r old new = IsRaised r old.count new.count × (new ≡ record old { count = new.count })
+-- a write of these bytes: they were written, or it failed, the first ones were, and the count rose
+abbrev pub Writes : Result Unit DeviceFault → List ℕ → ChildShown → ChildShown → Type 0
+Writes (Ok u) bytes old new = new ≡ record old { told = and_then old.told bytes }
+Writes (Err e) bytes old new = Rose old.count new.count × (first others : List ℕ) × (bytes ≡ first ++ others)
+    × (new ≡ record old { count = new.count; told = and_then old.told first })
+
+-- its input was closed
+abbrev pub closed : ChildShown → ChildShown
+closed c = record c { closed = true }
 
 -- a read with room for so many bytes: one that failed raised the count, it is one read more, and whether it told the end is known
 abbrev pub Reads : ℕ → Result ℕ DeviceFault → ChildShown → ChildShown → Type 0
 Reads room r old new = IsRaised r old.count new.count × (new ≡ record old { count = new.count; reads = raised old.reads; at_end = is_end room r })
 
--- a wait: one that failed raised the count, and what it came to is known
+-- a wait: one that failed raised the count, and what it came to is known, and whether the input was open
 abbrev pub Waits : Result How DeviceFault → ChildShown → ChildShown → Type 0
-Waits r old new = IsRaised r old.count new.count × (new ≡ record old { count = new.count; waited = Some (end_of r) })
+Waits r old new = IsRaised r old.count new.count × (new ≡ record old { count = new.count; waited = Some (end_of r); hasty = not old.closed })
 
 -- what was done with a child: its counts did not fall, and it was not waited for
 pub record GoesOn (old new : ChildShown) : Type 0 where
   pub count : old.count ≤ new.count
   pub reads : old.reads ≤ new.reads
   pub waited : new.waited ≡ old.waited
+  pub hasty : new.hasty ≡ old.hasty
+
+-- a piped handler was given the callout: it was written to its input, or the first bytes of it were and a write failed; then that was closed
+abbrev pub IsGiven : List ℕ → ChildShown → ChildShown → Type 0
+IsGiven callout old new = (new.closed ≡ true) × ((new.told ≡ and_then old.told callout)
+    ⊎ (Rose old.count new.count × (first others : List ℕ) × (callout ≡ first ++ others) × (new.told ≡ and_then old.told first)))
+
+-- what was written to a child, and whether its input is closed, are as before
+abbrev pub IsToldNoMore : ChildShown → ChildShown → Type 0
+IsToldNoMore old new = (new.told ≡ old.told) × (new.closed ≡ old.closed)
 
 -- why a child was not read to its end: a read failed, and the count rose; or it was read as often as it may be
 abbrev pub FailsReading : ReadFault → ChildShown → ChildShown → Type 0
@@ -74,11 +117,23 @@ ReadsUpTo times r old new = new.reads ≤ raised_by times old.reads
 abbrev pub one_more : LauncherShown → LauncherShown
 one_more l = record l { out = l.out + 1; deepest = max l.deepest (l.out + 1) }
 
--- a start: a new child is out, or the count rose and all else is as before
-abbrev pub Starts : {A : Type 0} → Result A DeviceFault → LauncherShown → LauncherShown → Type 0
-Starts (Ok child) old new = new ≡ one_more old
-Starts (Err e) old new = Rose old.count new.count × (new ≡ record old { count = new.count })
+-- a command was to be started
+abbrev pub with_tried : Command → LauncherShown → LauncherShown
+with_tried command l = record l { tried = and_then l.tried (record { out = l.out; command = command } ∷ []) }
+
+-- a start of this command: a new child is out, or the count rose and all else is as before
+abbrev pub Starts : {A : Type 0} → Command → Result A StartFault → LauncherShown → LauncherShown → Type 0
+Starts command (Ok child) old new = new ≡ one_more (with_tried command old)
+Starts command (Err e) old new = Rose old.count new.count × (new ≡ record (with_tried command old) { count = new.count })
 
 -- a child came back: its failures are the launcher's
 abbrev pub taken_back : LauncherShown → ChildShown → LauncherShown
-taken_back l c = record l { count = both l.count c.count; longest = max l.longest c.reads; out = l.out - 1; at_end = c.at_end; last = c.waited }
+taken_back l c = record l {
+  count = both l.count c.count;
+  longest = max l.longest c.reads;
+  out = l.out - 1;
+  reads = c.reads;
+  at_end = c.at_end;
+  last = c.waited;
+  hasty = l.hasty || c.hasty;
+}

@@ -1,6 +1,6 @@
 //! What a session or a handler's run is told by, and what is told of it.
 
-use crate::driven::Driven;
+use crate::report::Report;
 use rk_names::{Moment, Serial, SessionId};
 use std::sync::Wait;
 
@@ -15,8 +15,9 @@ pub trait Gate {
     /// The handler of this key was started, and its hall knows it.
     fn started<R: Wait>(&self, rt: &R, key: Serial);
 
-    /// What became of a handler of this key, at its end. Each is told of once, also one that was not started; of the two that a launch may have, each.
-    fn driven<R: Wait>(&self, rt: &R, key: Serial, driven: Driven);
+    /// What became of a command, at its end, and before its hall is told. Each is told of once, also one that was not started; of the two that a launch
+    /// may have, each.
+    fn driven<R: Wait>(&self, rt: &R, report: Report<'_>);
 
     /// A reply to this session was written.
     fn answered<R: Wait>(&self, rt: &R, session: SessionId);

@@ -16,8 +16,8 @@
 //!
 //! # How it is built
 //!
-//! `device` has the launcher and its children, `around` clock and gate, and `driven` what a gate is told of a handler's end. `output` keeps what a piped handler
-//! puts out, in room that was made before its start, and `reading` reads.
+//! `device` has the launcher and its children, and `around` clock and gate. `driven` is how a launch was brought to its end, and `report` what a gate is told
+//! of that. `output` keeps what a piped handler puts out, in room that was made before its start, and `reading` reads.
 #![tactic(auto)]
 
 mod around;
@@ -25,9 +25,11 @@ mod device;
 mod driven;
 mod output;
 mod reading;
+mod report;
 
 pub use around::{Clock, Gate};
-pub use device::{Child, DeviceFault, Launcher};
+pub use device::{Child, DeviceFault, Launcher, StartFault};
 pub use driven::Driven;
 pub use output::{Output, OutputFault};
 pub use reading::{MAX_READS, PIECE, ReadFault, pipe_through, read_out};
+pub use report::Report;

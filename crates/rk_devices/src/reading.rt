@@ -1,6 +1,6 @@
 //! Reading a child's output to its end.
 ghost use Rattle.std.specs.Prelude.{◌≡◌, ◌≤◌, ◌-◌, OnOk, IfErr, true};
-ghost use Rattle.rk_devices.specs.Shown.{FailsReading, GoesOn, ReadsUpTo};
+ghost use Rattle.rk_devices.specs.Shown.{FailsReading, GoesOn, IsGiven, IsToldNoMore, ReadsUpTo};
 
 use crate::device::Child;
 use crate::output::Output;
@@ -27,6 +27,7 @@ pub enum ReadFault {
 pub fn read_out<C: Child>(child: &mut C, reads: u32) -> Result<(), ReadFault>
     requires { reads ≤ (C.shown child.old).reads }
     ensures goes_on { GoesOn (C.shown child.old) (C.shown child.new) }
+    ensures told { IsToldNoMore (C.shown child.old) (C.shown child.new) }
     ensures reads { ReadsUpTo (1048576 - reads) result (C.shown child.old) (C.shown child.new) }
     ensures end { OnOk result ((C.shown child.new).at_end ≡ true) }
     ensures fault { IfErr result (λ f. FailsReading f (C.shown child.old) (C.shown child.new)) }
@@ -42,22 +43,26 @@ pub fn read_out<C: Child>(child: &mut C, reads: u32) -> Result<(), ReadFault>
     Err(ReadFault::UsedUp)
 }
 
-/// Writes the callout to the input of a piped handler's child, closes it, and keeps what the child puts out, to its end. That the input can't be
-/// written is passed over: a handler need not read it.
-pub fn pipe_through<C: Child>(
-    child: &mut C,
-    callout: &[u8],
-    output: &mut Output,
-) -> Result<(), ReadFault>
+// Writes the callout to the input of a piped handler's child, and closes it. That it can't be written is passed over: a handler need not read it.
+fn give<C: Child>(child: &mut C, callout: &[u8])
     ensures goes_on { GoesOn (C.shown child.old) (C.shown child.new) }
-    ensures reads { ReadsUpTo 1048576 result (C.shown child.old) (C.shown child.new) }
-    ensures end { OnOk result ((C.shown child.new).at_end ≡ true) }
-    ensures fault { IfErr result (λ f. FailsReading f (C.shown child.old) (C.shown child.new)) }
+    ensures given { IsGiven callout.now (C.shown child.old) (C.shown child.new) }
+    ensures reads { (C.shown child.new).reads ≡ (C.shown child.old).reads }
 {
     if !callout.is_empty() {
         let _ = child.write(callout);
     }
     child.close_input();
+}
+
+// Keeps what a child puts out, to its end.
+fn keep<C: Child>(child: &mut C, output: &mut Output) -> Result<(), ReadFault>
+    ensures goes_on { GoesOn (C.shown child.old) (C.shown child.new) }
+    ensures told { IsToldNoMore (C.shown child.old) (C.shown child.new) }
+    ensures reads { ReadsUpTo 1048576 result (C.shown child.old) (C.shown child.new) }
+    ensures end { OnOk result ((C.shown child.new).at_end ≡ true) }
+    ensures fault { IfErr result (λ f. FailsReading f (C.shown child.old) (C.shown child.new)) }
+{
     let mut piece = [0u8; PIECE];
     for _ in 0..MAX_READS {
         match child.read(&mut piece) {
@@ -67,4 +72,21 @@ pub fn pipe_through<C: Child>(
         }
     }
     Err(ReadFault::UsedUp)
+}
+
+/// Gives the callout to a piped handler's child, and keeps what the child puts out, to its end. That the input can't be written is passed over: a handler
+/// need not read it.
+pub fn pipe_through<C: Child>(
+    child: &mut C,
+    callout: &[u8],
+    output: &mut Output,
+) -> Result<(), ReadFault>
+    ensures goes_on { GoesOn (C.shown child.old) (C.shown child.new) }
+    ensures given { IsGiven callout.now (C.shown child.old) (C.shown child.new) }
+    ensures reads { ReadsUpTo 1048576 result (C.shown child.old) (C.shown child.new) }
+    ensures end { OnOk result ((C.shown child.new).at_end ≡ true) }
+    ensures fault { IfErr result (λ f. FailsReading f (C.shown child.old) (C.shown child.new)) }
+{
+    give(child, callout);
+    keep(child, output)
 }

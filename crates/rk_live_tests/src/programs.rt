@@ -1,7 +1,7 @@
 //! Programs that are really started: what they put out, how they end, and that nothing of them is left.
 use crate::same::same;
 use rk_conf::Word;
-use rk_devices::{Child, Launcher, Output, pipe_through};
+use rk_devices::{Child, Launcher, Output, StartFault, pipe_through};
 use rk_machine::How;
 use rk_macro::{Command, Words};
 use rk_names::Payload;
@@ -109,11 +109,21 @@ fn programs_end_and_put_out(rt: HostRuntime) {
     tried(&rt, rt.alloc(), Trial::Scripts);
 }
 
-/// What can't be started is a failure, and nothing of it is left.
+/// The system's error number where the program at this path can't be started.
+fn refusal<L: Launcher>(launcher: &mut L, alloc: Global, path: &str) -> Option<i32> {
+    match launcher.start(&command(alloc, path, &[])?) {
+        Ok(child) => {
+            launcher.back(child);
+            None
+        }
+        Err(StartFault { os_error }) => os_error,
+    }
+}
+
+/// What can't be started is a failure, and nothing of it is left. It is told why, as ENOENT or EACCES.
 fn refusals<L: Launcher>(rt: &impl Abort, alloc: Global, launcher: &mut L) {
-    for path in ["/no/such/program", "/etc/passwd", "/"] {
-        let ran = run(launcher, alloc, command(alloc, path, &[]), b"");
-        same(rt, ran.is_none(), true);
+    for (path, errno) in [("/no/such/program", 2), ("/etc/passwd", 13), ("/", 13)] {
+        same(rt, refusal(launcher, alloc, path), Some(errno));
     }
     same(rt, launcher.failures(), 3);
 }

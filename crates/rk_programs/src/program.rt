@@ -16,19 +16,24 @@ pub struct Program<P: OpenProcess> {
     pub(crate) failed: u64,
     pub(crate) reads: u64,
     pub(crate) at_end: bool,
+    pub(crate) closed: bool,
+    pub(crate) hasty: bool,
     pub(crate) waited: Option<Option<How>>,
 }
 
 impl<P: OpenProcess> Program<P> {
     /// What was just started.
     pub(crate) fn new(child: process::Child<P>) -> Program<P>
-        ensures { (result.failed ≡ 0) × (result.reads ≡ 0) × (result.at_end ≡ false) × (result.waited ≡ None) }
+        ensures counts { (result.failed ≡ 0) × (result.reads ≡ 0) }
+        ensures ends { (result.at_end ≡ false) × (result.closed ≡ false) × (result.waited ≡ None) × (result.hasty ≡ false) }
     {
         Program {
             child,
             failed: 0,
             reads: 0,
             at_end: false,
+            closed: false,
+            hasty: false,
             waited: None,
         }
     }
@@ -38,8 +43,8 @@ impl<P: OpenProcess> Program<P> {
         ensures count { self.new.failed ≡ raised self.old.failed }
         ensures rose { Rose self.old.failed self.new.failed }
         ensures reads { self.new.reads ≡ self.old.reads }
-        ensures at_end { self.new.at_end ≡ self.old.at_end }
-        ensures waited { self.new.waited ≡ self.old.waited }
+        ensures at_end { (self.new.at_end ≡ self.old.at_end) × (self.new.closed ≡ self.old.closed) }
+        ensures waited { (self.new.waited ≡ self.old.waited) × (self.new.hasty ≡ self.old.hasty) }
     {
         self.failed = one_more(self.failed);
         DeviceFault
@@ -57,7 +62,7 @@ fn ending(status: ExitStatus) -> How
 }
 
 impl<P: OpenProcess> Child for Program<P> {
-    ghost shown = { λ p. record { count = p.failed; reads = p.reads; at_end = p.at_end; waited = p.waited } };
+    ghost shown = { λ p. record { count = p.failed; reads = p.reads; at_end = p.at_end; told = None; closed = p.closed; waited = p.waited; hasty = p.hasty } };
 
     fn write(&mut self, bytes: &[u8]) -> Result<(), DeviceFault> {
         let Some(input) = &mut self.child.stdin else {
@@ -71,6 +76,7 @@ impl<P: OpenProcess> Child for Program<P> {
 
     fn close_input(&mut self) {
         drop(self.child.stdin.take());
+        self.closed = true;
     }
 
     fn read(&mut self, buf: &mut [u8]) -> Result<usize, DeviceFault> {
@@ -91,6 +97,7 @@ impl<P: OpenProcess> Child for Program<P> {
     }
 
     fn wait(&mut self) -> Result<How, DeviceFault> {
+        self.hasty = !self.closed;
         match self.child.wait() {
             Ok(status) => {
                 let how = ending(status);

@@ -1,12 +1,12 @@
 //! The launcher of real programs.
-ghost use Rattle.std.specs.Prelude.{◌≡◌};
+ghost use Rattle.std.specs.Prelude.{◌≡◌, None};
 ghost use Rattle.rk_devices.specs.Shown.{LauncherShown, new_launcher};
 
 use crate::counting::one_more;
 use crate::making::made;
 use crate::program::Program;
 use crate::unwaited::Unwaited;
-use rk_devices::{DeviceFault, Launcher};
+use rk_devices::{Launcher, StartFault};
 use rk_machine::How;
 use rk_macro::Command;
 use std::alloc::Global;
@@ -23,7 +23,9 @@ pub struct Programs<'a, R: Processes> {
     longest: u64,
     out: u64,
     deepest: u64,
+    reads: u64,
     at_end: bool,
+    hasty: bool,
     last: Option<Option<How>>,
     unwaited: Unwaited<R::Started>,
 }
@@ -42,7 +44,9 @@ impl<'a, R: Processes> Programs<'a, R> {
             longest: 0,
             out: 0,
             deepest: 0,
+            reads: 0,
             at_end: false,
+            hasty: false,
             last: None,
             unwaited: Unwaited::new(alloc),
         }
@@ -60,16 +64,16 @@ fn spawn<R: Processes>(
 }
 
 impl<'a, R: Processes> Launcher for Programs<'a, R> {
-    ghost shown = { λ l. record { count = l.failed; longest = l.longest; out = l.out; deepest = l.deepest; at_end = l.at_end; last = l.last } };
+    ghost shown = { λ l. record { count = l.failed; longest = l.longest; out = l.out; deepest = l.deepest; reads = l.reads; at_end = l.at_end; last = l.last; hasty = l.hasty; tried = None } };
 
     type Started = Program<R::Started>;
 
-    fn start(&mut self, command: &Command) -> Result<Program<R::Started>, DeviceFault> {
+    fn start(&mut self, command: &Command) -> Result<Program<R::Started>, StartFault> {
         let failed = self.failed;
         self.unwaited.let_ended_go();
         if self.out == u64::MAX {
             self.failed = one_more(failed);
-            return Err(DeviceFault);
+            return Err(StartFault { os_error: None });
         }
         match spawn(self.rt, self.alloc, command, self.keyutils) {
             Ok(child) => {
@@ -77,9 +81,11 @@ impl<'a, R: Processes> Launcher for Programs<'a, R> {
                 self.deepest = self.deepest.max(self.out);
                 Ok(Program::new(child))
             }
-            Err(_) => {
+            Err(error) => {
                 self.failed = one_more(failed);
-                Err(DeviceFault)
+                Err(StartFault {
+                    os_error: error.raw_os_error(),
+                })
             }
         }
     }
@@ -90,12 +96,16 @@ impl<'a, R: Processes> Launcher for Programs<'a, R> {
             failed,
             reads,
             at_end,
+            closed: _,
+            hasty,
             waited,
         } = child;
         self.failed = self.failed.saturating_add(failed);
         self.longest = self.longest.max(reads);
         self.out = self.out.saturating_sub(1);
+        self.reads = reads;
         self.at_end = at_end;
+        self.hasty = self.hasty || hasty;
         self.last = waited;
         if !matches!(waited, Some(Some(_))) {
             self.unwaited.keep(child);

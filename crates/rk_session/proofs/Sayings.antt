@@ -29,7 +29,7 @@ refused_settled (answer.Refused e) is waits = waits
 
 shut_settled : (session : SessionId) (hall : HallNo) (old new : SeatShown) (s : Saying) → IsShutOut session hall old new s → IsSettled s
 shut_settled session hall old new s (IsNotCalled f refused is same) = refusal_settled f s is
-shut_settled session hall old new s (IsNotOpened now n called refuses stays) = at s refuses
+shut_settled session hall old new s (IsNotOpened now n called refuses stays alone) = at s refuses
   where
     at : (x : Saying) → Refuses n (Some x) → IsSettled x
     at (saying.Noted m) is = λ waits. refused_settled n.answer is.1 (subst (λ (r : Noted). IsToWait r.answer) is.0 waits)
@@ -40,7 +40,7 @@ shut_settled session hall old new s (IsNotOpened now n called refuses stays) = a
 pub says_settled : (session : SessionId) (from : Standing) (body : List ℕ) (s : Saying) (to : Standing) → Says session from body s to → IsSettled s
 says_settled session from body s to (NotRead e why) = tt
 says_settled session from body s to (AsksHere a x seat spells known answered) = answered_settled session from.place.hall a from.seat seat x answered
-says_settled session from body s to (Greets a x mid there spells first hello seen same answered context) =
+says_settled session from body s to (Greets a x mid there spells first hello moved answered context) =
     answered_settled session there.place.hall a mid there.seat x answered
 says_settled session from body s to (ShutOut a x there seat spells first hello another shut) = shut_settled session there from.seat seat x shut
 

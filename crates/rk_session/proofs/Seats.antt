@@ -1,23 +1,25 @@
 -- The clients of a seat, hall by hall.
-use Rattle.std.proofs.Common.{◌≡◌, ◌≢◌, ◌≤◌, ◌<◌, ℕ, ◌+◌, ◌-◌, refl, sym, ap, ◌∙◌, subst, arith}
+use Rattle.std.proofs.Common.{◌≡◌, ◌≤◌, ◌<◌, ℕ, ◌+◌, ◌-◌, inl, inr, refl, sym, ap, ◌∙◌, subst, arith}
 use Rattle.std.specs.Prelude.{Option, Some, None, Result}
 use Rattle.rk_names.specs.declared.numbers.SessionId.{SessionId}
 use Rattle.rk_machine.specs.Event.{Event}
-use Rattle.rk_machine.specs.declared.event.EventOf.TheVariants.{Opened}
+use Rattle.rk_machine.specs.declared.event.EventOf.TheVariants.{Gone, Opened}
 use Rattle.rk_machine.specs.declared.event.Answer.{Answer}
 use Rattle.rk_machine.specs.declared.event.Answer.TheVariants as answer
 use Rattle.rk_record.specs.declared.told.Told.TheVariants as told
 use Rattle.rk_talk.specs.declared.saying.Saying.{Saying}
 use Rattle.rk_talk.specs.declared.saying.Saying.TheVariants as saying
-use Rattle.rk_talk.specs.Said.{IsCalled, IsToWait}
+use Rattle.rk_talk.specs.Said.{HasLaunch, IsCalled, IsToWait}
 use Rattle.rk_record.specs.declared.hall_no.HallNo.{HallNo}
 use Rattle.rk_record.specs.declared.hall_no.HallNo.TheVariants.{Zero, One, Two, Three}
+use Rattle.rk_record.specs.Copies.{started}
 use Rattle.rk_record.specs.Turns.{Noted}
 use Rattle.rk_hall.specs.declared.lapse.Lapse.{Lapse}
-use Rattle.rk_hall.specs.Seats.{PartShown, SeatShown, part, with_part, after_call, without_client, opens, OwedSeen}
+use Rattle.rk_hall.specs.Seats.{PartShown, SeatShown, TokenShown, part, with_part, after_call, without_client, opens, OwedSeen}
 use Rattle.rk_talk.specs.Stays.{Clients, Stays, SeesOn, clients_at, with_one, without_one}
-use Rattle.rk_talk.proofs.Seats.{call_stays, owed_stays, stays_on}
-use Rattle.rk_session.specs.Opening.{IsNotOpened, IsRefused, Refuses}
+use Rattle.rk_talk.proofs.Sayings.{none_started}
+use Rattle.rk_talk.proofs.Seats.{call_stays, owed_stays, stays_on, stays_same}
+use Rattle.rk_session.specs.Opening.{HasGone, IsMoved, IsNotOpened, IsOpened, IsRefused, Refuses}
 use Rattle.rk_session.specs.Moving.{HasOpened, Leaves, Moves}
 
 -- a part that has seen no less
@@ -116,15 +118,6 @@ moves_over here to old mid new opened left = (
   sees_then old mid new opened.1 left.1,
 )
 
--- the same, where the halls are two
-pub has_moved : (here to : HallNo) (old mid new : SeatShown) → to ≢ here → (clients_at mid ≡ with_one to (clients_at old)) × SeesOn old mid
-    → Leaves here mid new → Moves here to old new × (to ≡ here → new ≡ old)
-has_moved here to old mid new another opened left = (moves_over here to old mid new opened left, λ is. absurd (another is))
-
--- a client that is to stand where it stands
-pub moves_nowhere : (here to : HallNo) (s : SeatShown) → to ≡ here → Moves here to s s × (to ≡ here → s ≡ s)
-moves_nowhere here to s is = ((λ others stood. subst (λ h. clients_at s ≡ with_one h others) (sym is) stood, sees_same s), λ _. refl)
-
 -- one move after the other
 pub moves_then : (a b c : HallNo) (x y z : SeatShown) → Moves a b x y → Moves b c y z → Moves a c x z
 moves_then a b c x y z f g = (λ others is. g.0 others (f.0 others is), sees_then x y z f.1 g.1)
@@ -157,19 +150,33 @@ none_refused session (answer.Waiting k) is = absurd is
 none_refused session (answer.Refused e) is = refl
 
 -- an opening whose call gave this receipt
-pub opened_by : (session : SessionId) (h : HallNo) (now : ℕ) (old mid new : SeatShown) (r : Noted) (result : Option Saying)
-    → IsCalled h now (told.Opened session) (part h old) r → mid ≡ with_part h old (after_call (part h old) (Opened session) r) → Stays mid new →
-    Refuses r result
-    → HasOpened session h old new result
-opened_by session h now old mid new r None called is stays (reply, done) =
-    let more = call_opens h old mid (Opened session) r (ap (opens (Opened session)) done) called.3 is in
-    (stays.clients ∙ more.0, sees_then old mid new more.1 stays.seen)
-opened_by session h now old mid new r (Some (saying.Noted m)) called is stays refuses = (
+pub opened_by : (session : SessionId) (h : HallNo) (now : ℕ) (old mid new : SeatShown) (r : Noted) (launch : Option TokenShown) (result : Option Saying)
+    → IsCalled h now (told.Opened session) (part h old) r → mid ≡ with_part h old (after_call (part h old) (Opened session) r)
+    → HasLaunch h r.answer launch → Stays mid new → (launch ≡ None → new ≡ mid) → Refuses r result → HasOpened session h old new result
+opened_by session h now old mid new r launch None called is has stays idle (reply, done) =
+    (now, r, called, (reply, done), idle (none_started h r.answer launch has (ap started done)) ∙ is)
+opened_by session h now old mid new r launch (Some (saying.Noted m)) called is has stays idle refuses = (
   stays_on old mid new (call_stays h old mid (Opened session) r (none_refused session r.answer refuses.1) called.3 is) stays,
-  IsNotOpened now r called refuses (subst (λ s. Stays s new) is stays),
+  IsNotOpened now r called refuses (subst (λ s. Stays s new) is stays) (λ none. idle (none_started h r.answer launch has none) ∙ is),
 )
-opened_by session h now old mid new r (Some (saying.Short e)) called is stays refuses = absurd refuses
-opened_by session h now old mid new r (Some saying.Behind) called is stays waits = (
+opened_by session h now old mid new r launch (Some (saying.Short e)) called is has stays idle refuses = absurd refuses
+opened_by session h now old mid new r launch (Some saying.Behind) called is has stays idle waits = (
   stays_on old mid new (call_stays h old mid (Opened session) r (none_waits session r.answer waits) called.3 is) stays,
-  IsNotOpened now r called waits (subst (λ s. Stays s new) is stays),
+  IsNotOpened now r called waits (subst (λ s. Stays s new) is stays) (λ none. idle (none_started h r.answer launch has none) ∙ is),
 )
+
+-- a client that was opened stands there
+pub opened_clients : (session : SessionId) (h : HallNo) (old new : SeatShown) → IsOpened session h old new
+    → (clients_at new ≡ with_one h (clients_at old)) × SeesOn old new
+opened_clients session h old new (now, n, called, (reply, done), is) = call_opens h old new (Opened session) n (ap (opens (Opened session)) done) called.3 is
+
+-- one that was reported gone does not
+pub left_clients : (session : SessionId) (h : HallNo) (old new : SeatShown) → HasGone session h old new → Leaves h old new
+left_clients session h old new (now, r, seen) = gone_leaves h now (Gone session) old new r seen
+
+-- one that has moved stands there and not here
+pub moved_clients : (session : SessionId) (here to : HallNo) (old new : SeatShown) → IsMoved session here to old new → Moves here to old new
+moved_clients session here to old new (inl (is, same)) =
+    subst (λ s. Moves here to old s) (sym same) (subst (λ h. Moves here h old old) (sym is) (stays_moves here old old (stays_same old)))
+moved_clients session here to old new (inr (another, mid, opened, gone)) =
+    moves_over here to old mid new (opened_clients session to old mid opened) (left_clients session here mid new gone)

@@ -13,7 +13,7 @@ use Rattle.rk_devices.specs.Counts.{most, raised, raised_by}
 use Rattle.rk_devices.specs.declared.device.DeviceFault.{DeviceFault}
 use Rattle.rk_session.specs.Wires.{Happened, Heard, WireShown, and_then, Reads}
 use Rattle.rk_session.specs.declared.serving.Served.{Served}
-use Rattle.rk_session.specs.declared.serving.Served.TheVariants.{Ended, ReadFault, WriteFault, Malformed, TurnsUsed, Behind}
+use Rattle.rk_session.specs.declared.serving.Served.TheVariants.{Ended, NotOpened, ReadFault, WriteFault, Malformed, TurnsUsed, Behind}
 use Rattle.rk_session.specs.Places.{Says, Standing, at_first, standing_of}
 use Rattle.rk_session.specs.Talk.{Begun, Turn, Talking, begins, hears, turns, told_in, Talked}
 use Rattle.rk_session.specs.Parts.{GoesOn, EndsHere, TurnEnds, IsEndInTurns, TakesOne, TakesAll}
@@ -37,7 +37,7 @@ pub goes_then : (session : SessionId) (a b c : WireShown) (x y z : List ℕ) (p 
 goes_then session a b c x y z p q r f g begun story is t = let one = f begun story is t in g begun one.0 one.1 one.2
 
 -- and then the end
-pub ends_then : (session : SessionId) (served : Served) (a b c : WireShown) (x y : List ℕ) (p q : Standing) (last : SeatShown) → GoesOn session a x p b y q
+pub ends_then : (session : SessionId) (served : Served) (a b c : WireShown) (x y : List ℕ) (p q last : Standing) → GoesOn session a x p b y q
     → EndsHere session served b y q c last → EndsHere session served a x p c last
 ends_then session served a b c x y p q last f g begun story is t = let one = f begun story is t in g begun one.0 one.1 one.2
 
@@ -54,7 +54,7 @@ turn_goes session body old new held held' from to takes (s, says, (note, r, tell
 -- the end at a message
 pub turn_ends : (session : SessionId) (body : List ℕ) (served : Served) (old new : WireShown) (held held' : List ℕ) (from to : Standing)
     → TakesBody body held held' → TurnEnds session from body to (Err served) old new
-    → IsEndInTurns served × EndsHere session served old held from new to.seat
+    → IsEndInTurns served × EndsHere session served old held from new to
 turn_ends session body WriteFault old new held held' from to takes (s, says, (note, r, first, others, tells, cut, rose, is)) = (
   tt,
   λ begun story told t.
@@ -65,7 +65,6 @@ turn_ends session body WriteFault old new held held' from to takes (s, says, (no
           story,
           one,
           from,
-          to.place,
           held',
           first,
           others,
@@ -85,7 +84,6 @@ turn_ends session body Behind old new held held' from to takes (s, says, (none, 
       body,
       held',
       from,
-      to.place,
       subst (λ h. Talking session begun story h from) takes.front t,
       takes.is_body,
       subst (λ x. Says session from body x to) none says,
@@ -96,12 +94,13 @@ turn_ends session body Ended old new held held' from to takes (s, says, none) = 
 turn_ends session body ReadFault old new held held' from to takes (s, says, none) = absurd none
 turn_ends session body Malformed old new held held' from to takes (s, says, none) = absurd none
 turn_ends session body TurnsUsed old new held held' from to takes (s, says, none) = absurd none
+turn_ends session body NotOpened old new held held' from to takes (s, says, none) = absurd none
 
 -- the end at a length that no frame has
 pub malformed_ends : (session : SessionId) (old new : WireShown) (held : List ℕ) (from : Standing) → HasFault held → new ≡ old
-    → IsEndInTurns Malformed × EndsHere session Malformed old held from new from.seat
+    → IsEndInTurns Malformed × EndsHere session Malformed old held from new from
 malformed_ends session old new held from bad same =
-    (tt, λ begun story told t. (story, ap (λ (w : WireShown). w.story) same ∙ told, (held, from.place, t, bad)))
+    (tt, λ begun story told t. (story, ap (λ (w : WireShown). w.story) same ∙ told, (held, t, bad)))
 
 -- what a session tells since it began, with this seat: how far it has come, what it holds, and how its client stands
 abbrev pub Stands : SessionId → SeatShown → WireShown → WireShown → List ℕ → Standing → Type 0
@@ -144,7 +143,7 @@ stands_read session seat begun old mid held held' buf standing n size s none som
     (ap (λ (w : WireShown). w.story) read) fed
 
 -- the end behind them
-pub stands_ends : (session : SessionId) (served : Served) (seat last : SeatShown) (begun old new : WireShown) (held : List ℕ) (standing : Standing)
+pub stands_ends : (session : SessionId) (served : Served) (seat : SeatShown) (last : Standing) (begun old new : WireShown) (held : List ℕ) (standing : Standing)
     → Stands session seat begun old held standing → EndsHere session served old held standing new last → Talked session served seat last begun new
 stands_ends session served seat last begun old new held standing s ends first is =
     let one = s first is in ends (record { story = first; seat = seat }) one.0 one.1 one.2
@@ -183,27 +182,27 @@ all_taken session old mid new f g h p q r goes (none, kept, room, same, stayed) 
 
 -- the input is at its end
 pub read_ends : (session : SessionId) (seat : SeatShown) (begun old new : WireShown) (held buf : List ℕ) (standing : Standing)
-    → Stands session seat begun old held standing → IsPartial held → Reads (Ok 0) buf old new → Talked session Ended seat standing.seat begun new
+    → Stands session seat begun old held standing → IsPartial held → Reads (Ok 0) buf old new → Talked session Ended seat standing begun new
 read_ends session seat begun old new held buf standing s none read first is =
     let one = s first is in (
       one.0 ++ Heard [] ∷ [],
       ap (λ (w : WireShown). w.story) read ∙ story_then old.story one.0 (Heard [] ∷ []) one.1,
-      (one.0, held, standing.place, one.2, none, refl),
+      (one.0, held, one.2, none, refl),
     )
 
 -- a read failed
 pub fault_ends : (session : SessionId) (seat : SeatShown) (e : DeviceFault) (begun old new : WireShown) (held buf : List ℕ) (standing : Standing)
     → Stands session seat begun old held standing → IsPartial held → Reads (Err e) buf old new
-    → Talked session ReadFault seat standing.seat begun new
+    → Talked session ReadFault seat standing begun new
 fault_ends session seat e begun old new held buf standing s none read first is =
     let one = s first is in
-    (one.0, ap (λ (w : WireShown). w.story) read.1 ∙ one.1, (held, standing.place, one.2, none))
+    (one.0, ap (λ (w : WireShown). w.story) read.1 ∙ one.1, (held, one.2, none))
 
 -- the reads are used up
 pub used_ends : (session : SessionId) (seat : SeatShown) (begun now : WireShown) (held : List ℕ) (standing : Standing)
-    → Stands session seat begun now held standing → IsPartial held → Talked session TurnsUsed seat standing.seat begun now
+    → Stands session seat begun now held standing → IsPartial held → Talked session TurnsUsed seat standing begun now
 used_ends session seat begun now held standing s none first is =
-    let one = s first is in (one.0, one.1, (held, standing.place, one.2, none))
+    let one = s first is in (one.0, one.1, (held, one.2, none))
 
 -- no read so far
 pub raised_none : (n : ℕ) → n ≡ raised_by 0 n

@@ -5,7 +5,7 @@ use Rattle.rk_record.specs.declared.hall_no.HallNo.{HallNo}
 use Rattle.rk_hall.specs.Seats.{SeatShown}
 use Rattle.rk_talk.specs.Stays.{Clients, SeesOn, Stays, clients_at, with_one, without_one}
 use Rattle.rk_talk.specs.declared.saying.Saying.{Saying}
-use Rattle.rk_session.specs.Opening.{IsShutOut}
+use Rattle.rk_session.specs.Opening.{IsMoved, IsOpened, IsShutOut}
 
 -- a client that stood in one hall stands in the other, all others stand as before, and nothing is forgotten that was seen
 abbrev pub Moves : HallNo → HallNo → SeatShown → SeatShown → Type 0
@@ -17,10 +17,10 @@ Leaves hall old new = (clients_at new ≡ without_one hall (clients_at old)) × 
 
 -- a client that was to be opened in this hall stands there; or it was shut out, which is to be said, and all clients are as before
 abbrev pub HasOpened : SessionId → HallNo → SeatShown → SeatShown → Option Saying → Type 0
-HasOpened session hall old new None = (clients_at new ≡ with_one hall (clients_at old)) × SeesOn old new
+HasOpened session hall old new None = IsOpened session hall old new
 HasOpened session hall old new (Some s) = Stays old new × IsShutOut session hall old new s
 
 -- a client that was to move stands there and nothing is to be said yet; or it stays, where there is another hall
 abbrev pub HasMoved : SessionId → HallNo → HallNo → SeatShown → SeatShown → Option Saying → Type 0
-HasMoved session here to old new None = Moves here to old new × (to ≡ here → new ≡ old)
+HasMoved session here to old new None = IsMoved session here to old new
 HasMoved session here to old new (Some s) = Stays old new × (to ≢ here) × IsShutOut session to old new s

@@ -7,7 +7,6 @@ use Rattle.rk_message.specs.declared.reply.Reply.{Reply}
 use Rattle.rk_devices.specs.declared.device.DeviceFault.{DeviceFault}
 use Rattle.rk_devices.specs.Counts.{Rose}
 use Rattle.rk_record.specs.Turns.{Noted}
-use Rattle.rk_hall.specs.Seats.{SeatShown}
 use Rattle.rk_talk.specs.Replies.{reply_bytes}
 use Rattle.rk_talk.specs.declared.saying.Saying.{Saying}
 use Rattle.rk_talk.specs.declared.saying.Saying.TheVariants as saying
@@ -22,8 +21,8 @@ abbrev pub GoesOn : SessionId → WireShown → List ℕ → Standing → WireSh
 GoesOn session old held from new held' to = (begun : Begun) (story : List Happened) → old.story ≡ Some story → Talking session begun story held from
     → (story' : List Happened) × (new.story ≡ Some story') × Talking session begun story' held' to
 
--- whatever talk led here, with this held and the client there, the session has ended so, with this seat
-abbrev pub EndsHere : SessionId → Served → WireShown → List ℕ → Standing → WireShown → SeatShown → Type 0
+-- whatever talk led here, with this held and the client there, the session has ended so, and the client stands there
+abbrev pub EndsHere : SessionId → Served → WireShown → List ℕ → Standing → WireShown → Standing → Type 0
 EndsHere session served old held from new last = (begun : Begun) (story : List Happened) → old.story ≡ Some story
     → Talking session begun story held from → (story' : List Happened) × (new.story ≡ Some story') × Ends session served begun story' last
 
@@ -38,7 +37,7 @@ IsEndInTurns _ = ⊥
 abbrev pub TakesAll : SessionId → Result Unit Served → WireShown → Unread → Standing → WireShown → Unread → Standing → Type 0
 TakesAll session (Ok u) old frames from new frames' to =
     GoesOn session old frames.bytes from new frames'.bytes to × IsPartial frames'.bytes × (4096 ≤ frames'.room)
-TakesAll session (Err served) old frames from new frames' to = IsEndInTurns served × EndsHere session served old frames.bytes from new to.seat
+TakesAll session (Err served) old frames from new frames' to = IsEndInTurns served × EndsHere session served old frames.bytes from new to
 
 -- the count of a wire over messages that may end the session
 abbrev pub Counts : {A : Type 0} → Result A Served → ℕ → ℕ → Type 0
@@ -72,4 +71,4 @@ TakesOne session (Ok true) old frames from new frames' to =
     (body : List ℕ) × TakesBody body frames.bytes frames'.bytes × TurnEnds session from body to (Ok tt) old new
 TakesOne session (Ok false) old frames from new frames' to =
     IsPartial frames'.bytes × (frames'.bytes ≡ frames.bytes) × (4096 ≤ frames'.room) × (new ≡ old) × (to ≡ from)
-TakesOne session (Err served) old frames from new frames' to = IsEndInTurns served × EndsHere session served old frames.bytes from new to.seat
+TakesOne session (Err served) old frames from new frames' to = IsEndInTurns served × EndsHere session served old frames.bytes from new to

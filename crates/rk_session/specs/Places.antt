@@ -13,11 +13,10 @@ use Rattle.rk_record.specs.declared.hall_no.HallNo.TheVariants.{Zero}
 use Rattle.rk_record.specs.HallNumbers.{hall_number}
 use Rattle.rk_hall.specs.Seats.{SeatShown}
 use Rattle.rk_talk.specs.Said.{IsAnswered}
-use Rattle.rk_talk.specs.Stays.{SeesOn}
 use Rattle.rk_talk.specs.declared.saying.Saying.{Saying}
 use Rattle.rk_talk.specs.declared.saying.Saying.TheVariants as saying
 use Rattle.rk_session.specs.declared.standing.Place.{Place}
-use Rattle.rk_session.specs.Opening.{IsShutOut}
+use Rattle.rk_session.specs.Opening.{IsMoved, IsShutOut}
 
 -- a session begins in hall 0, and has no context there
 abbrev pub at_first : Place
@@ -65,7 +64,7 @@ pub data Says (session : SessionId) (from : Standing) (body : List ℕ) : Saying
   -- the HELLO of a client without a context is asked in the hall of its uid, to which the client moves before, where that is another one: there it stands
   -- then, with a context where the HELLO was done
   Greets : (a : Ask) (s : Saying) (mid : SeatShown) (to : Standing) → Spells a body → from.place.greeted ≡ false → IsHelloOf to.place.hall a
-      → SeesOn from.seat mid → (to.place.hall ≡ from.place.hall → mid ≡ from.seat) → IsAnswered session to.place.hall a mid to.seat s
+      → IsMoved session from.place.hall to.place.hall from.seat mid → IsAnswered session to.place.hall a mid to.seat s
       → to.place.greeted ≡ says_done s → Says session from body s to
   -- or the client could not be opened there, and stays
   ShutOut : (a : Ask) (s : Saying) (there : HallNo) (seat : SeatShown) → Spells a body → from.place.greeted ≡ false → IsHelloOf there a

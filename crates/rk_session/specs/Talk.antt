@@ -11,13 +11,11 @@ use Rattle.rk_record.specs.declared.hall_no.HallNo.TheVariants.{Zero}
 use Rattle.rk_record.specs.Turns.{Noted}
 use Rattle.rk_hall.specs.Seats.{SeatShown}
 use Rattle.rk_talk.specs.Replies.{TakesMemory, reply_bytes, reply_of}
-use Rattle.rk_talk.specs.Stays.{SeesOn}
 use Rattle.rk_talk.specs.declared.saying.Saying.{Saying}
 use Rattle.rk_talk.specs.declared.saying.Saying.TheVariants as saying
-use Rattle.rk_session.specs.declared.standing.Place.{Place}
 use Rattle.rk_session.specs.declared.serving.Served.{Served}
-use Rattle.rk_session.specs.declared.serving.Served.TheVariants.{Ended, ReadFault, WriteFault, Malformed, TurnsUsed, Behind}
-use Rattle.rk_session.specs.Opening.{IsShutOut}
+use Rattle.rk_session.specs.declared.serving.Served.TheVariants.{Ended, NotOpened, ReadFault, WriteFault, Malformed, TurnsUsed, Behind}
+use Rattle.rk_session.specs.Opening.{HasGone, IsOpened, IsShutOut}
 use Rattle.rk_session.specs.Places.{Says, Standing, at_first, standing_of}
 use Rattle.rk_session.specs.Wires.{Happened, Heard, HasNoted, Said, WireShown}
 
@@ -65,23 +63,24 @@ pub data Talking : (session : SessionId) (begun : Begun) (story : List Happened)
       → Talking session begun story (frame t.body ++ held) from → IsTurn session from t to
       → Talking session begun (story ++ told_in t.note (reply_bytes t.reply)) held to
 
--- how a session ends, and what its seat shows then: where it holds no whole message, at a read that told the end of the input, a failed read, or its last
+-- how a session ends, and how its client stands then: where it holds no whole message, at a read that told the end of the input, a failed read, or its last
 -- read; at a length that no frame has; at a reply that could be written only in part; or at an ask of which nothing can be said, which gets no receipt and no
 -- reply
-abbrev pub Ends : SessionId → Served → Begun → List Happened → SeatShown → Type 0
-Ends session Ended begun story last = (before : List Happened) × (held : List ℕ) × (place : Place)
-    × Talking session begun before held (standing_of place last) × IsPartial held × (story ≡ before ++ Heard [] ∷ [])
-Ends session ReadFault begun story last = (held : List ℕ) × (place : Place) × Talking session begun story held (standing_of place last) × IsPartial held
-Ends session TurnsUsed begun story last = (held : List ℕ) × (place : Place) × Talking session begun story held (standing_of place last) × IsPartial held
-Ends session Malformed begun story last = (held : List ℕ) × (place : Place) × Talking session begun story held (standing_of place last) × HasFault held
-Ends session WriteFault begun story last = (before : List Happened) × (t : Turn) × (from : Standing) × (place : Place) × (rest first others : List ℕ)
-    × Talking session begun before (frame t.body ++ rest) from × IsTurn session from t (standing_of place last)
+abbrev pub Ends : SessionId → Served → Begun → List Happened → Standing → Type 0
+Ends session Ended begun story last = (before : List Happened) × (held : List ℕ)
+    × Talking session begun before held last × IsPartial held × (story ≡ before ++ Heard [] ∷ [])
+Ends session ReadFault begun story last = (held : List ℕ) × Talking session begun story held last × IsPartial held
+Ends session TurnsUsed begun story last = (held : List ℕ) × Talking session begun story held last × IsPartial held
+Ends session Malformed begun story last = (held : List ℕ) × Talking session begun story held last × HasFault held
+Ends session WriteFault begun story last = (before : List Happened) × (t : Turn) × (from : Standing) × (rest first others : List ℕ)
+    × Talking session begun before (frame t.body ++ rest) from × IsTurn session from t last
     × (reply_bytes t.reply ≡ first ++ others) × (story ≡ before ++ told_in t.note first)
-Ends session Behind begun story last = (body rest : List ℕ) × (from : Standing) × (place : Place)
-    × Talking session begun story (frame body ++ rest) from × IsBody body × Says session from body saying.Behind (standing_of place last)
+Ends session Behind begun story last = (body rest : List ℕ) × (from : Standing)
+    × Talking session begun story (frame body ++ rest) from × IsBody body × Says session from body saying.Behind last
+Ends session NotOpened begun story last = ⊥
 
--- a wire that tells what happened on it tells of a session that began with this seat and ended so, with that one
-abbrev pub Talked : SessionId → Served → SeatShown → SeatShown → WireShown → WireShown → Type 0
+-- a wire that tells what happened on it tells of a session that began with this seat and ended so, with its client there
+abbrev pub Talked : SessionId → Served → SeatShown → Standing → WireShown → WireShown → Type 0
 Talked session served seat last old new = (begun : List Happened) → old.story ≡ Some begun
     → (story : List Happened) × (new.story ≡ Some story) × Ends session served (record { story = begun; seat = seat }) story last
 
@@ -91,9 +90,10 @@ EndCounts WriteFault before after = Rose before after
 EndCounts ReadFault before after = Rose before after
 EndCounts _ before after = after ≡ before
 
--- a session that was served: there was a talk, by a seat that had forgotten nothing and forgets nothing of it; or the client was shut out of hall 0, nothing
--- happened on the wire, and that is told as the end of its input
+-- a session that was served: its client was opened in hall 0, there was a talk, and the client was reported gone from where it stood then; or it was shut out
+-- of hall 0, which is told, and nothing happened on the wire
 abbrev pub Serves : SessionId → Served → SeatShown → SeatShown → WireShown → WireShown → Type 0
 Serves session served seat seat' old new =
-    ((first last : SeatShown) × SeesOn seat first × Talked session served first last old new × SeesOn last seat')
-    ⊎ ((served ≡ Ended) × (s : Saying) × IsShutOut session Zero seat seat' s × (new ≡ old))
+    ((first : SeatShown) × (last : Standing) × IsOpened session Zero seat first × Talked session served first last old new
+    × HasGone session last.place.hall last.seat seat')
+    ⊎ ((served ≡ NotOpened) × (s : Saying) × IsShutOut session Zero seat seat' s × (new ≡ old))

@@ -1,5 +1,5 @@
 //! What is to be said of one message of a client.
-ghost use Rattle.std.specs.Prelude.{◌≡◌, ◌≤◌, false, true, MatchOption};
+ghost use Rattle.std.specs.Prelude.{◌≡◌, ◌≤◌, None, false, true, MatchOption};
 ghost use Rattle.rk_names.specs.declared.numbers.SessionId.TheVariants.{Client};
 ghost use Rattle.rk_message.specs.Bodies.{Spells};
 ghost use Rattle.rk_devices.specs.Counts.{most};
@@ -26,6 +26,7 @@ fn brought_to_end<P: Platform>(
     requires bound { (P.Launcher.shown crew.old.launcher).count ≤ most }
     ensures bound { (P.Launcher.shown crew.new.launcher).count ≤ most }
     ensures stays { Stays crew.old.caller.seat crew.new.caller.seat }
+    ensures idle { launch ≡ None → crew.new.caller.seat ≡ crew.old.caller.seat }
 {
     if let Some(launch) = launch {
         let _ = drive(stage, crew, launch);

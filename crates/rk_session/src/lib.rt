@@ -19,7 +19,7 @@
 //! *Halls.* A client stands in hall 0 at first, without a context. It has one after a HELLO that was answered as done. A HELLO of a client without a context
 //! is asked in the hall of its uid, where the client stands from then on; where it could not be opened there, it stays, and what is noted is the refused
 //! opening in that hall. Every other ask is made in the hall where the client stands. The receipt that is noted of an ask, or of its collect, is of the hall
-//! where it was made.
+//! where it was made. The seat makes one turn for an ask that starts nothing and waits for nothing, and in the end the one by which the client is gone.
 //!
 //! # How it is built
 //!

@@ -19,8 +19,10 @@ use rk_talk::{Crew, Platform, Stage};
 /// How a session ended.
 #[derive(Clone, Copy, Debug, PartialEq, Eq)]
 pub enum Served {
-    /// A read told the end of the client's input, perhaps in the middle of a frame; or the client could not be opened.
+    /// A read told the end of the client's input, perhaps in the middle of a frame.
     Ended,
+    /// The client could not be opened: the record of hall 0 is full, memory ran out, the hall refused it, or the seat had seen more than the hall.
+    NotOpened,
     /// A read failed.
     ReadFault,
     /// A reply could not be written, or only in part.
@@ -72,7 +74,7 @@ fn talk<P: Platform, W: Wire>(
     requires first { place.old ≡ at_first }
     requires bound { (P.Launcher.shown crew.old.launcher).count ≤ most }
     ensures bound { (P.Launcher.shown crew.new.launcher).count ≤ most }
-    ensures talked { Talked (Client client) result crew.old.caller.seat crew.new.caller.seat (W.shown wire.old) (W.shown wire.new) }
+    ensures talked { Talked (Client client) result crew.old.caller.seat (standing_of place.new crew.new.caller.seat) (W.shown wire.old) (W.shown wire.new) }
     ensures fault { EndCounts result (W.shown wire.old).count (W.shown wire.new).count }
     ensures turns { result ≡ Served.TurnsUsed → (W.shown wire.new).reads ≡ raised_by 1048576 (W.shown wire.old).reads }
     ensures reads { (W.shown wire.new).reads ≤ (W.shown wire.old).reads + 1048576 }
@@ -122,7 +124,7 @@ pub fn serve<P: Platform, W: Wire>(
         None => {}
         Some(refusal) => {
             drop(refusal);
-            return Served::Ended;
+            return Served::NotOpened;
         }
     }
     let mut place = Place {

@@ -1,10 +1,10 @@
 //! Where a client stands: it comes, moves and leaves.
-ghost use Rattle.std.specs.Prelude.{◌≡◌, IfOk};
+ghost use Rattle.std.specs.Prelude.{◌≡◌, None, IfOk};
 ghost use Rattle.rk_names.specs.declared.numbers.SessionId.TheVariants.{Client};
 ghost use Rattle.rk_record.specs.declared.told.Told.TheVariants as told;
 ghost use Rattle.rk_talk.specs.Stays.{Stays};
-ghost use Rattle.rk_session.specs.Opening.{Refuses};
-ghost use Rattle.rk_session.specs.Moving.{HasMoved, HasOpened, Leaves};
+ghost use Rattle.rk_session.specs.Opening.{HasGone, Refuses};
+ghost use Rattle.rk_session.specs.Moving.{HasMoved, HasOpened};
 
 use rk_child::fail;
 use rk_devices::Clock;
@@ -28,7 +28,8 @@ fn spend<P: Platform>(
     caller: &mut Caller<P>,
     launch: Option<Launch<P::Names>>,
 )
-    ensures { Stays caller.old.seat caller.new.seat }
+    ensures stays { Stays caller.old.seat caller.new.seat }
+    ensures idle { launch ≡ None → caller.new.seat ≡ caller.old.seat }
 {
     if let Some(launch) = launch {
         fail(stage, caller, launch);
@@ -75,7 +76,7 @@ pub fn leave<P: Platform>(
     client: u32,
 ) -> Result<Receipt, Lapse>
     ensures gone { IfOk result (λ r. (r.hall ≡ hall) × (r.told ≡ told.Gone (Client client))) }
-    ensures leaves { Leaves hall caller.old.seat caller.new.seat }
+    ensures left { HasGone (Client client) hall caller.old.seat caller.new.seat }
 {
     let now = caller.clock.now();
     let session = SessionId::Client(client);

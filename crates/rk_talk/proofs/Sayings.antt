@@ -1,6 +1,6 @@
 -- What is said of a message, and that it is settled.
-use Rattle.std.proofs.Common.{◌≡◌, ◌⊎◌, ℕ, List, inl, inr, refl, sym, subst}
-use Rattle.std.specs.Prelude.{Result, Err}
+use Rattle.std.proofs.Common.{◌≡◌, ◌⊎◌, ℕ, List, inl, inr, refl, sym, ap, subst, ◌∙◌}
+use Rattle.std.specs.Prelude.{Option, Some, None, Result, Err}
 use Rattle.rk_names.specs.declared.errors.Errno.{Errno}
 use Rattle.rk_names.specs.declared.errors.Errno.TheVariants.{Enomem}
 use Rattle.rk_names.specs.declared.numbers.SessionId.{SessionId}
@@ -19,12 +19,14 @@ use Rattle.rk_machine.specs.declared.event.EventOf.TheVariants.{Asked}
 use Rattle.rk_record.specs.declared.hall_no.HallNo.{HallNo}
 use Rattle.rk_record.specs.declared.told.Told.TheVariants as told
 use Rattle.rk_record.specs.Turns.{Noted}
-use Rattle.rk_hall.specs.Seats.{SeatShown, after_call, part, with_part}
+use Rattle.rk_machine.specs.declared.event.Answer.{Answer}
+use Rattle.rk_record.specs.Copies.{started}
+use Rattle.rk_hall.specs.Seats.{SeatShown, TokenShown, after_call, part, with_part}
 use Rattle.rk_hall.specs.declared.lapse.CallFault.{CallFault}
 use Rattle.rk_hall.specs.declared.lapse.CallFault.TheVariants as fault
 use Rattle.rk_talk.specs.declared.saying.Saying.{Saying}
 use Rattle.rk_talk.specs.declared.saying.Saying.TheVariants as saying
-use Rattle.rk_talk.specs.Said.{HasSettled, IsAnswered, IsCalled, IsCollected, IsNotAsked, IsRefusal, IsSettled, IsToWait, Settles}
+use Rattle.rk_talk.specs.Said.{HasLaunch, HasSettled, IsAnswered, IsCalled, IsCollected, IsNotAsked, IsRefusal, IsSettled, IsToWait, Settles}
 use Rattle.rk_talk.specs.Stays.{Stays}
 
 -- why a body was not read
@@ -34,12 +36,22 @@ pub why_not_read : (body : List ℕ) (error : ReadError) (e : Errno)
 why_not_read body (unreadable.Fault f) e found is = inl (f, found f refl, is)
 why_not_read body unreadable.NoMemory e found is = inr is
 
+abbrev is_there : {A : Type 0} → Option A → Type 0
+is_there (Some x) = Unit {0}
+is_there None = ⊥
+
+-- where nothing was started, there is no launch
+pub none_started : (hall : HallNo) (a : Answer) (launch : Option TokenShown) → HasLaunch hall a launch → started a ≡ None → launch ≡ None
+none_started hall a (Some l) has is = absurd (subst is_there (sym (ap started has.1) ∙ is) tt)
+none_started hall a None has is = refl
+
 -- where its call gave this receipt
-pub receipt_answers : (session : SessionId) (hall : HallNo) (now : ℕ) (a : Ask) (old called mid new : SeatShown) (n : Noted) (s : Saying)
-    → IsCalled hall now (told.Asked session a) (part hall old) n → called ≡ with_part hall old (after_call (part hall old) (Asked session a) n)
-    → Stays called mid → Settles hall session n mid new s → IsAnswered session hall a old new s
-receipt_answers session hall now a old called mid new n s noted is stays settles =
-    HasSettled now n mid noted (subst (λ seat. Stays seat mid) is stays) settles
+pub receipt_answers : (session : SessionId) (hall : HallNo) (now : ℕ) (a : Ask) (old called mid new : SeatShown) (n : Noted) (launch : Option TokenShown)
+    (s : Saying) → IsCalled hall now (told.Asked session a) (part hall old) n → called ≡ with_part hall old (after_call (part hall old) (Asked session a) n)
+    → HasLaunch hall n.answer launch → Stays called mid → (launch ≡ None → mid ≡ called) → Settles hall session n mid new s
+    → IsAnswered session hall a old new s
+receipt_answers session hall now a old called mid new n launch s noted is has stays idle settles =
+    HasSettled now n mid noted (subst (λ seat. Stays seat mid) is stays) (λ none. idle (none_started hall n.answer launch has none) ∙ is) settles
 
 -- where its call was refused
 pub refusal_settled : (f : CallFault) (s : Saying) → IsRefusal f s → IsSettled s
@@ -64,4 +76,4 @@ receipt_settled hall session old new r s (inr waits) = collected_settled hall wa
 -- however its ask came to it
 pub answered_settled : (session : SessionId) (hall : HallNo) (a : Ask) (old new : SeatShown) (s : Saying) → IsAnswered session hall a old new s → IsSettled s
 answered_settled session hall a old new s (IsNotAsked f refused is same) = refusal_settled f s is
-answered_settled session hall a old new s (HasSettled now n mid called stays settles) = receipt_settled hall session mid new n s settles
+answered_settled session hall a old new s (HasSettled now n mid called stays alone settles) = receipt_settled hall session mid new n s settles

@@ -63,10 +63,12 @@ IsRefusal fault.NoMemory s = s ≡ saying.Short Enomem
 pub data IsAnswered (session : SessionId) (hall : HallNo) (a : Ask) (old new : SeatShown) (s : Saying) : Type 0 where
   -- its call was refused, and the seat is as before
   IsNotAsked : (f : CallFault) → CallRefused (part hall old) f → IsRefusal f s → new ≡ old → IsAnswered session hall a old new s
-  -- its call was a turn of the seat; what that started was brought to its end, and then its receipt settled
+  -- its call was one turn of the seat; what that started was brought to its end, and the seat made no other turn where nothing was started; and then its receipt
+  -- settled
   HasSettled : (now : ℕ) (n : Noted) (mid : SeatShown) → IsCalled hall now (told.Asked session a) (part hall old) n
-      → Stays (with_part hall old (after_call (part hall old) (event.Asked session a) n)) mid → Settles hall session n mid new s
-      → IsAnswered session hall a old new s
+      → Stays (with_part hall old (after_call (part hall old) (event.Asked session a) n)) mid
+      → (started n.answer ≡ None → mid ≡ with_part hall old (after_call (part hall old) (event.Asked session a) n))
+      → Settles hall session n mid new s → IsAnswered session hall a old new s
 
 -- what is to be said of a message whose ask is made in this hall
 pub data Says (session : SessionId) (hall : HallNo) (body : List ℕ) (old new : SeatShown) : Saying → Type 0 where

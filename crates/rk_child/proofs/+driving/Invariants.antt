@@ -1,4 +1,5 @@
-use Rattle.std.proofs.Common.{◌≤◌, ◌+◌, ◌-◌, ◌*◌, length}
+use Rattle.std.proofs.Common.{◌≡◌, ◌≤◌, ◌+◌, ◌-◌, ◌*◌, length}
+use Rattle.rk_devices.specs.Counts.{raised_by}
 use Rattle.rk_devices.specs.Shown.{GoesOn}
 use Rattle.rk_talk.specs.Stays.{Stays}
 use Rattle.rk_child.specs.Driving.{Runs}
@@ -32,6 +33,7 @@ abbrev pub invariant-asks::answer_all-loop : goal.invariant-asks::answer_all-loo
 invariant-asks::answer_all-loop g l = record {
   runs : Runs (l.depth + 1) (g.P.Launcher.Launcher.shown l.fn.crew.launcher) (g.P.Launcher.Launcher.shown l.crew.launcher);
   child : GoesOn (g.P.Launcher.Started.Child.shown l.fn.child) (g.P.Launcher.Started.Child.shown l.child);
+  reads : (g.P.Launcher.Started.Child.shown l.child).reads ≡ (g.P.Launcher.Started.Child.shown l.fn.child).reads;
   stays : Stays l.fn.crew.caller.seat l.crew.caller.seat;
 }
 
@@ -42,6 +44,7 @@ abbrev pub invariant-asks::serve_asks-loop-reads : goal.invariant-asks::serve_as
 invariant-asks::serve_asks-loop-reads g l = record {
   room : 4096 ≤ l.frames.room;
   reads : l.reads ≤ (g.P.Launcher.Started.Child.shown l.child).reads;
+  times : (g.P.Launcher.Started.Child.shown l.child).reads ≡ raised_by l.reads (g.P.Launcher.Started.Child.shown l.fn.child).reads;
   runs : Runs (l.depth + 1) (g.P.Launcher.Launcher.shown l.fn.crew.launcher) (g.P.Launcher.Launcher.shown l.crew.launcher);
   child : GoesOn (g.P.Launcher.Started.Child.shown l.fn.child) (g.P.Launcher.Started.Child.shown l.child);
   stays : Stays l.fn.crew.caller.seat l.crew.caller.seat;

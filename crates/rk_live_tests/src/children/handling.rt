@@ -8,14 +8,18 @@ use crate::halls::paths::all;
 use crate::same::same;
 use rk_child::{Caller, Crew, Driven, Gate, Platform, Stage, drive};
 use rk_conf::Conf;
+use rk_devices::Report;
 use rk_hall::{HallNo, Halls, Names, Seat, Volume, settle};
 use rk_machine::EventStep;
+use rk_macro::Op;
 use rk_names::{Serial, SessionId};
 use rk_wait::await_outcome;
 use std::alloc::Global;
 use std::marker::PhantomData;
 use std::process::Abort;
 use std::sync::Wait;
+use std::sync::atomic::AtomicU64;
+use std::sync::atomic::Ordering::SeqCst;
 
 /// Who adds the key `k`, with the payload `v`, before the request.
 #[derive(Clone, Copy)]
@@ -90,6 +94,8 @@ pub struct Handling {
     pub reads: Option<u64>,
     /// How many volumes were handed out.
     pub volumes: u64,
+    /// What the gate was told, where it is looked at.
+    pub reported: Option<Reported>,
 }
 
 impl Handling {
@@ -120,7 +126,7 @@ impl Handling {
         let mut seat = seat;
         let (receipt, launch) = requests(rt, halls, &mut seat);
         drop(receipt);
-        let (gate, shelf) = (Open, Bin::new());
+        let (gate, shelf) = (Open::new(), Bin::new());
         let stage = stage_of(rt, alloc, halls, &conf, &gate, &shelf);
         let caller = Caller {
             seat,
@@ -141,6 +147,7 @@ impl Handling {
             driven,
             outcome: in_words(&outcome.value),
             fake,
+            reported: gate.reported(),
             volumes: shelf.count(),
         };
         (seat, came)
@@ -165,7 +172,7 @@ impl<N: Names, R: Wait> Platform for Alone<N, R> {
 }
 
 /// A launch and its requester have all of this to themselves.
-fn stage_of<'a, N: Names, R: Wait>(
+pub fn stage_of<'a, N: Names, R: Wait>(
     rt: &'a R,
     alloc: Global,
     halls: &'a Halls<N>,
@@ -189,6 +196,7 @@ pub struct Came {
     pub driven: Driven,
     pub outcome: Said,
     pub fake: Fake,
+    pub reported: Reported,
     pub volumes: u64,
 }
 
@@ -219,14 +227,51 @@ fn is_as_wanted<R: Abort>(rt: &R, came: &Came, handling: &Handling, steps: u64) 
     same(rt, came.volumes, handling.volumes);
     let reads = handling.reads.unwrap_or(fake.longest);
     same(rt, fake.longest, reads);
+    let reported = handling.reported.unwrap_or(came.reported);
+    same(rt, came.reported, reported);
     if let Some(told) = handling.told {
         same(rt, fake.told.as_slice(), told);
     }
 }
 
-/// Holds nobody.
+/// What a gate was told of commands for keys of type user that uid 1000 requested.
+#[derive(Clone, Copy, Debug, PartialEq, Eq)]
+pub struct Reported {
+    /// How many were to make a key.
+    pub creates: u64,
+    /// How many were to say that it can't be made.
+    pub negates: u64,
+    /// How many could not be started, since their program is missing (ENOENT).
+    pub missing: u64,
+}
+
+/// Holds nobody, and counts what it is told of commands.
 #[derive(Drop)]
-pub struct Open;
+pub struct Open {
+    creates: AtomicU64,
+    negates: AtomicU64,
+    missing: AtomicU64,
+}
+
+impl Open {
+    /// It was told of nothing.
+    pub fn new() -> Open {
+        Open {
+            creates: AtomicU64::new(0),
+            negates: AtomicU64::new(0),
+            missing: AtomicU64::new(0),
+        }
+    }
+
+    /// What it was told.
+    fn reported(&self) -> Reported {
+        Reported {
+            creates: self.creates.load(SeqCst),
+            negates: self.negates.load(SeqCst),
+            missing: self.missing.load(SeqCst),
+        }
+    }
+}
 
 impl Gate for Open {
     fn started<R: Wait>(&self, rt: &R, key: Serial) {
@@ -234,10 +279,21 @@ impl Gate for Open {
         let _ = key;
     }
 
-    fn driven<R: Wait>(&self, rt: &R, key: Serial, driven: Driven) {
+    fn driven<R: Wait>(&self, rt: &R, report: Report<'_>) {
         let _ = rt;
-        let _ = key;
-        let _ = driven;
+        if let Some(subject) = report.subject
+            && subject.uid == 1000
+            && subject.typ.as_bytes() == b"user".as_slice()
+        {
+            let count = match subject.op {
+                Op::Create => &self.creates,
+                Op::Negate => &self.negates,
+            };
+            count.fetch_add(1, SeqCst);
+        }
+        if (report.driven, report.os_error) == (Driven::StartFailed, Some(2)) {
+            self.missing.fetch_add(1, SeqCst);
+        }
     }
 
     fn answered<R: Wait>(&self, rt: &R, session: SessionId) {

@@ -1,6 +1,6 @@
 //! What a requester gets for each thing that a program does, and for each call of a device that fails.
 use crate::answers::Said;
-use crate::children::handling::{Adder, Handling};
+use crate::children::handling::{Adder, Handling, Reported};
 use crate::fakes::launcher::{Call, Fuse, Program};
 use crate::halls::opening::{Scene, in_new_halls};
 use rk_devices::{Driven, OutputFault};
@@ -152,6 +152,7 @@ pub const PLAIN: Handling = Handling {
     steps: None,
     reads: None,
     volumes: 0,
+    reported: None,
 };
 
 /// A piped one.
@@ -549,12 +550,58 @@ const NOT_NESTED: Handling = Handling {
     ..NESTED
 };
 
+/// A gate is told of each command, and of a start that failed why.
+const REPORTED: &[Handling] = &[
+    Handling {
+        reported: Some(CREATES_ONE),
+        ..PLAIN
+    },
+    Handling {
+        conf: b"# none\n",
+        reported: Some(CREATES_ONE),
+        ..NO_LINE
+    },
+    Handling {
+        reported: Some(Reported {
+            creates: 2,
+            ..CREATES_ONE
+        }),
+        ..NESTED
+    },
+    Handling {
+        reported: Some(NEGATES_TOO),
+        ..FOLLOWED
+    },
+    Handling {
+        fuse: Some(Fuse(2, Call::Start, 1)),
+        driven: Driven::Ended(How::Exit(7)),
+        words: b"/bin/p ",
+        reported: Some(Reported {
+            missing: 1,
+            ..NEGATES_TOO
+        }),
+        ..FOLLOWED
+    },
+];
+
+const CREATES_ONE: Reported = Reported {
+    creates: 1,
+    negates: 0,
+    missing: 0,
+};
+
+const NEGATES_TOO: Reported = Reported {
+    negates: 1,
+    ..CREATES_ONE
+};
+
 #[test]
 fn what_others_come_to(rt: HostRuntime) {
     for handlings in [
         NOT_STARTED,
         WITH_A_PAYLOAD,
         TOLD,
+        REPORTED,
         FIRST_ALONE,
         OF_ANOTHER_KEY,
         OF_THE_FIRST,

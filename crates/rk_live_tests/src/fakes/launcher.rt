@@ -1,7 +1,7 @@
 //! A launcher of programs that are lists of bytes, with a fuse for one call.
-ghost use Rattle.std.specs.Prelude.{◌≡◌, ◌≤◌, length, IfOk};
+ghost use Rattle.std.specs.Prelude.{◌≡◌, ◌≤◌, length, None, IfOk};
 
-use rk_devices::{Child, DeviceFault, Launcher};
+use rk_devices::{Child, DeviceFault, Launcher, StartFault};
 use rk_machine::How;
 use rk_macro::Command;
 use std::alloc::{AllocError, Global};
@@ -78,7 +78,9 @@ pub struct Fake {
     pub longest: u64,
     pub out: u64,
     pub deepest: u64,
+    reads: u64,
     at_end: bool,
+    pub hasty: bool,
     last: Option<Option<How>>,
 }
 
@@ -110,7 +112,9 @@ impl Fake {
             longest: 0,
             out: 0,
             deepest: 0,
+            reads: 0,
             at_end: false,
+            hasty: false,
             last: None,
         })
     }
@@ -138,6 +142,8 @@ pub struct Running {
     failed: u64,
     reads: u64,
     at_end: bool,
+    closed: bool,
+    hasty: bool,
     waited: Option<Option<How>>,
 }
 
@@ -170,7 +176,7 @@ pub fn give(bytes: &[u8], buf: &mut [u8]) -> usize
 }
 
 impl Child for Running {
-    ghost shown = { λ c. record { count = c.failed; reads = c.reads; at_end = c.at_end; waited = c.waited } };
+    ghost shown = { λ c. record { count = c.failed; reads = c.reads; at_end = c.at_end; told = None; closed = c.closed; waited = c.waited; hasty = c.hasty } };
 
     fn write(&mut self, bytes: &[u8]) -> Result<(), DeviceFault> {
         self.written = self.written.saturating_add(1);
@@ -182,7 +188,9 @@ impl Child for Running {
         Ok(())
     }
 
-    fn close_input(&mut self) {}
+    fn close_input(&mut self) {
+        self.closed = true;
+    }
 
     fn read(&mut self, buf: &mut [u8]) -> Result<usize, DeviceFault> {
         self.reads = self.reads.saturating_add(1);
@@ -205,6 +213,7 @@ impl Child for Running {
     }
 
     fn wait(&mut self) -> Result<How, DeviceFault> {
+        self.hasty = !self.closed;
         if burns(self.fuse, self.number, Call::Wait, 1) {
             self.failed = self.failed.saturating_add(1);
             self.waited = Some(None);
@@ -220,15 +229,15 @@ impl Child for Running {
 }
 
 impl Launcher for Fake {
-    ghost shown = { λ l. record { count = l.failed; longest = l.longest; out = l.out; deepest = l.deepest; at_end = l.at_end; last = l.last } };
+    ghost shown = { λ l. record { count = l.failed; longest = l.longest; out = l.out; deepest = l.deepest; reads = l.reads; at_end = l.at_end; last = l.last; hasty = l.hasty; tried = None } };
 
     type Started = Running;
 
-    fn start(&mut self, command: &Command) -> Result<Running, DeviceFault> {
+    fn start(&mut self, command: &Command) -> Result<Running, StartFault> {
         self.asked = self.asked.saturating_add(1);
         let (Some((program, told)), Some(out)) = (self.next(), self.out.checked_add(1)) else {
             self.failed = self.failed.saturating_add(1);
-            return Err(DeviceFault);
+            return Err(StartFault { os_error: Some(2) });
         };
         let _ = put_words(&mut self.words, command);
         // The call tells the prover that the count is a u64.
@@ -245,6 +254,8 @@ impl Launcher for Fake {
             failed: 0,
             reads: 0,
             at_end: false,
+            closed: false,
+            hasty: false,
             waited: None,
         })
     }
@@ -260,13 +271,17 @@ impl Launcher for Fake {
             failed,
             reads,
             at_end,
+            closed: _,
+            hasty,
             waited,
         } = child;
         let _ = self.told.extend_from_slice(&told);
         self.failed = self.failed.saturating_add(failed);
         self.longest = self.longest.max(reads);
         self.out = self.out.saturating_sub(1);
+        self.reads = reads;
         self.at_end = at_end;
+        self.hasty = self.hasty || hasty;
         self.last = waited;
     }
 

@@ -1,7 +1,7 @@
 //! Threads act in one order: each waits until its turn has come.
 
 use crate::fakes::still::NOW;
-use rk_devices::{Driven, Gate};
+use rk_devices::{Gate, Report};
 use rk_hall::{Halls, Names};
 use rk_names::{Moment, Serial, SessionId};
 use std::sync::Wait;
@@ -87,10 +87,9 @@ impl<'a, N: Names, R: Clock> Gate for Held<'a, N, R> {
         self.turns.pass(self.takes);
     }
 
-    fn driven<W: Wait>(&self, rt: &W, key: Serial, driven: Driven) {
+    fn driven<W: Wait>(&self, rt: &W, report: Report<'_>) {
         let _ = rt;
-        let _ = key;
-        let _ = driven;
+        let _ = report;
     }
 
     fn answered<W: Wait>(&self, rt: &W, session: SessionId) {

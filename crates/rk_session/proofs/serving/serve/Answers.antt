@@ -1,6 +1,8 @@
 use Rattle.std.proofs.Common.{inl, inr, refl}
 use Rattle.rk_record.specs.declared.hall_no.HallNo.TheVariants.{Zero}
-use Rattle.rk_session.proofs.Seats.{came_and_went}
+use Rattle.rk_names.specs.declared.numbers.SessionId.TheVariants.{Client}
+use Rattle.rk_session.specs.Places.{standing_of}
+use Rattle.rk_session.proofs.Seats.{came_and_went, left_clients, opened_clients}
 use Rattle.rk_session.proofs.serving.serve.Goals as goal
 
 pub returns-in-Some-clause-talked : goal.returns-in-Some-clause-talked
@@ -8,9 +10,10 @@ returns-in-Some-clause-talked g c = inr (refl, c.in-Some.refusal, c.in-Some.ensu
 
 pub returns-clause-talked : goal.returns-clause-talked
 returns-clause-talked g c =
-    inl (c.open.new.caller.seat, c.talk-served.new.crew.caller.seat, c.in-None.ensures.1, c.talk-served.ensures.talked, c.leave.ensures.leaves.1)
+    inl (c.open.new.caller.seat, standing_of c.talk-served.new.place c.talk-served.new.crew.caller.seat, c.in-None.ensures, c.talk-served.ensures.talked, c.leave.ensures.left)
 
 pub returns-clause-stays : goal.returns-clause-stays
 returns-clause-stays g c =
-    came_and_went Zero c.talk-served.new.place.hall c.args.crew.now.caller.seat c.open.new.caller.seat c.talk-served.new.crew.caller.seat c.leave.new.caller.seat c.in-None.ensures
-    c.talk-served.ensures.moves c.leave.ensures.leaves
+    came_and_went Zero c.talk-served.new.place.hall c.args.crew.now.caller.seat c.open.new.caller.seat c.talk-served.new.crew.caller.seat c.leave.new.caller.seat
+    (opened_clients (Client c.args.client) Zero c.args.crew.now.caller.seat c.open.new.caller.seat c.in-None.ensures) c.talk-served.ensures.moves
+    (left_clients (Client c.args.client) c.talk-served.new.place.hall c.talk-served.new.crew.caller.seat c.leave.new.caller.seat c.leave.ensures.left)

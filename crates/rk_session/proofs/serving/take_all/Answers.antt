@@ -57,7 +57,7 @@ returns-in-Err-clause-takes g c = (
   c.in-Err.ensures.takes.0,
   ends_then (Client c.args.client) c.in-Err.served (g.W.Wire.shown c.args.wire.now) (g.W.Wire.shown c.loop-served.wire)
       (g.W.Wire.shown c.next_turn.new.wire) c.args.frames.now.bytes c.loop-served.frames.bytes (standing_of c.args.place.now c.args.crew.now.caller.seat)
-      (standing_of c.loop-served.place c.loop-served.crew.caller.seat) c.next_turn.new.crew.caller.seat c.loop-served.invariant.goes c.in-Err.ensures.takes.1,
+      (standing_of c.loop-served.place c.loop-served.crew.caller.seat) (standing_of c.next_turn.new.place c.next_turn.new.crew.caller.seat) c.loop-served.invariant.goes c.in-Err.ensures.takes.1,
 )
 
 pub returns-in-Err-clause-moves : goal.returns-in-Err-clause-moves

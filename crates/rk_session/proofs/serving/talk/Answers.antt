@@ -35,7 +35,7 @@ returns-in-Ok-eq0-clause-talked g c =
 pub returns-in-Err-take_all-clause-talked : goal.returns-in-Err-take_all-clause-talked
 returns-in-Err-take_all-clause-talked g c =
     let here = standing_of c.loop.place c.loop.crew.caller.seat in
-    stands_ends (Client c.args.client) c.in-Err-take_all.served c.args.crew.now.caller.seat c.take_all.new.crew.caller.seat (g.W.Wire.shown c.args.wire.now)
+    stands_ends (Client c.args.client) c.in-Err-take_all.served c.args.crew.now.caller.seat (standing_of c.take_all.new.place c.take_all.new.crew.caller.seat) (g.W.Wire.shown c.args.wire.now)
     (g.W.Wire.shown c.read.new.self) (g.W.Wire.shown c.take_all.new.wire) c.feed.new.self.bytes here
     (stands_read (Client c.args.client) c.args.crew.now.caller.seat (g.W.Wire.shown c.args.wire.now) (g.W.Wire.shown c.loop.wire) (g.W.Wire.shown c.read.new.self)
     c.loop.frames.bytes c.feed.new.self.bytes c.read.new.buf here c.in-Ok.count _ c.loop.invariant.stands c.loop.invariant.is_partial

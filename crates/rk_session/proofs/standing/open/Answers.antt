@@ -9,8 +9,8 @@ use Rattle.rk_session.proofs.standing.open.Goals as goal
 pub returns-in-Ok : goal.returns-in-Ok
 returns-in-Ok g c =
     opened_by (Client c.args.client) c.args.hall c.now-now.result c.args.caller.now.seat c.open_in.new.seat c.spend.new.caller.seat c.in-Ok.field-0.receipt
-    c.refusal_of.result
-    c.in-Ok.ensures.receipt c.in-Ok.ensures.seat c.spend.ensures c.refusal_of.ensures
+    c.in-Ok.field-0.launch c.refusal_of.result c.in-Ok.ensures.receipt c.in-Ok.ensures.seat c.in-Ok.ensures.launch c.spend.ensures.stays c.spend.ensures.idle
+    c.refusal_of.ensures
 
 pub returns-in-Err : goal.returns-in-Err
 returns-in-Err g c = (

@@ -1,0 +1,18 @@
+//! What a gate is told of a command at its end.
+
+use crate::driven::Driven;
+use rk_macro::Subject;
+use rk_names::Serial;
+
+/// What became of a command of a launch, with what an operator needs to know of it.
+#[derive(Clone, Copy, Debug)]
+pub struct Report<'a> {
+    /// The key under construction.
+    pub key: Serial,
+    /// What the command was for. `None` only if it ran, and its hall did not owe its launch any more.
+    pub subject: Option<&'a Subject>,
+    /// What became of it.
+    pub driven: Driven,
+    /// The system's error number (errno(3)) of a start that failed, if there is one.
+    pub os_error: Option<i32>,
+}

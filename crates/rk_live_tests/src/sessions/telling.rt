@@ -1,0 +1,86 @@
+//! A wire that tells all that happens on it.
+ghost use Rattle.std.specs.Prelude.{◌≡◌, ◌≤◌, [], length, map, Some};
+ghost use Rattle.rk_devices.specs.Counts.{raised};
+ghost use Rattle.rk_live_tests.specs.Telling.{happened};
+
+use crate::kept::Kept;
+use rk_devices::DeviceFault;
+use rk_hall::Receipt;
+use rk_session::Wire;
+use std::alloc::Global;
+use std::process::Abort;
+
+/// A wire that gives these bytes, and then the end. Out of memory for what it keeps ends the process.
+#[derive(Drop)]
+pub struct Telling<'a, R> {
+    pub rt: &'a R,
+    pub alloc: Global,
+    /// What is still to come.
+    pub bytes: &'a [u8],
+    pub reads: u64,
+    /// What has happened, first things first.
+    pub kept: Vec<Kept>,
+}
+
+impl<'a, R> Telling<'a, R> {
+    /// A wire on which nothing has happened. It takes no memory.
+    pub fn new(rt: &'a R, alloc: Global, bytes: &'a [u8]) -> Telling<'a, R>
+        ensures { result.kept.items ≡ [] }
+    {
+        Telling {
+            rt,
+            alloc,
+            bytes,
+            reads: 0,
+            kept: Vec::new(alloc),
+        }
+    }
+}
+
+/// One more; the greatest count stays.
+fn one_more(count: u64) -> u64
+    ensures { result ≡ raised count }
+{
+    if count < u64::MAX { count + 1 } else { count }
+}
+
+/// Copies what there is room for to the front of the buffer.
+fn give(bytes: &[u8], buf: &mut [u8]) -> usize
+    ensures bound { result ≤ length buf.old }
+    ensures same { length buf.new ≡ length buf.old }
+    ensures there { result ≤ length bytes.now }
+{
+    let count = bytes.len().min(buf.len());
+    buf[..count].copy_from_slice(&bytes[..count]);
+    count
+}
+
+impl<'a, R: Abort> Wire for Telling<'a, R> {
+    ghost shown = { λ w. record { count = 0; reads = w.reads; story = Some (map happened w.kept.items) } };
+
+    fn read(&mut self, buf: &mut [u8]) -> Result<usize, DeviceFault> {
+        self.reads = one_more(self.reads);
+        let bytes = self.bytes;
+        let count = give(bytes, buf);
+        self.bytes = &bytes[count..];
+        let came = Vec::from_slice(self.alloc, &buf[..count]).expect(self.rt, "memory");
+        self.kept.push(Kept::Came(came)).expect(self.rt, "memory");
+        Ok(count)
+    }
+
+    fn write(&mut self, bytes: &[u8]) -> Result<(), DeviceFault> {
+        let went = Vec::from_slice(self.alloc, bytes).expect(self.rt, "memory");
+        self.kept.push(Kept::Went(went)).expect(self.rt, "memory");
+        Ok(())
+    }
+
+    fn note(&mut self, receipt: Receipt) {
+        self.kept
+            .push(Kept::Noted(receipt))
+            .expect(self.rt, "memory");
+    }
+
+    fn failures(&self) -> u64 {
+        0
+    }
+}
