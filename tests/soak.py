@@ -199,7 +199,7 @@ def left(daemon, before):
 
 def steps(volume):
     """The steps of a volume as docs/RECORD.md has them: the rows of each one's event and answer, a kind, a how, a number and the rest."""
-    data, at = volume.read_bytes(), 46
+    data, at = volume.read_bytes()[66:-32], 46  # (without its seal and its sum)
     for _ in range(int.from_bytes(data[38:46], "big")):
         at, rows = at + 8, []
         for _ in range(2):
@@ -234,7 +234,7 @@ def otherwise(heard, volumes):
 def judged(program, volumes):
     """What is wrong with the volumes that were written, and how many steps they have."""
     run = subprocess.run([program, "rejoin", *volumes], capture_output=True, text=True)
-    last = re.fullmatch(r"ok, 4 halls, ([0-9]+) steps: a run of the machine", (run.stdout.splitlines() or [""])[-1])
+    last = re.fullmatch(r"ok, 4 halls, ([0-9]+) steps: a run of the machine, to its end", (run.stdout.splitlines() or [""])[-1])
     if run.returncode or run.stderr or not last:
         return [f"rejoin of {len(volumes)} volumes: {run.stdout[-200:]} {run.stderr}"], 0
     return [], int(last[1])

@@ -1,5 +1,7 @@
 #!/usr/bin/env python3
-"""Has daemons write records, and asks `reqkeyd rejoin` what they are: whole ones, and ones that were changed, cut, mixed or left out."""
+"""Has daemons write records, and asks `reqkeyd rejoin` what they are: whole ones, and ones that were changed, cut, mixed or left out, with their sums as
+they were and with new ones."""
+import hashlib
 import os
 import pathlib
 import re
@@ -7,6 +9,7 @@ import signal
 import subprocess
 import sys
 import tempfile
+import threading
 
 sys.path.insert(0, str(pathlib.Path(__file__).resolve().parent / "serve"))
 import protocol_peer as ask
@@ -18,7 +21,11 @@ create user fail:* * |/bin/false
 negate user fail:* * /bin/true
 create user lone:* * /bin/true
 """
-LAST = re.compile(r"ok, 4 halls, (\d+) steps: a run of the machine")
+LAST = re.compile(r"ok, 4 halls, (\d+) steps: a run of the machine, to its end")
+LINE = b"reqkeyd volume 2\n"
+# where the parts of a file begin: the mark, the number of the run, the sum of the volume before, the volume of version 1, and in it the steps
+MARK, RUN, PREVIOUS, VOLUME = 17, 18, 34, 66
+STEPS = VOLUME + 17 + 29
 
 
 def rejoin(program, files):
@@ -29,6 +36,23 @@ def rejoin(program, files):
 
 def volumes(folder):
     return sorted(pathlib.Path(folder).glob("hall-*"))
+
+
+def parts(data):
+    """The steps of a volume's file, as bytes, after docs/RECORD.md."""
+    steps, place = [], STEPS
+    while place < len(data) - 32:
+        end = place + 8
+        for _ in range(2):
+            end += 4 + int.from_bytes(data[end:end + 4], "big")
+        steps.append(data[place:end])
+        place = end
+    return steps
+
+
+def resummed(front):
+    """A file with the sum that what stands before it has."""
+    return front + hashlib.sha256(front).digest()
 
 
 def used(program, folder, rounds=3):
@@ -57,13 +81,22 @@ def whole(program):
             return f"files {files}"
         if any(f.stat().st_mode & 0o777 != 0o600 for f in files):
             return "modes"
-        if files[0].read_bytes().split(b"\n")[0] != b"reqkeyd volume 1":
-            return "first line"
+        runs = set()
+        for file in files:
+            data = file.read_bytes()
+            if not data.startswith(LINE) or data[MARK] != 1 or data[PREVIOUS:VOLUME] != bytes(32) or resummed(data[:-32]) != data:
+                return f"the seal of {file.name}"
+            runs.add(data[RUN:PREVIOUS])
+        if len(runs) != 1:
+            return f"{runs}"
         for order in (files, files[::-1]):
             status, lines, fault = rejoin(program, order)
             if status or fault or not LAST.fullmatch(lines[-1]) or len(lines) != 5:
                 return f"{status} {lines} {fault}"
         return None
+
+
+SUM = "its sum is not that of its bytes, so that it was cut or changed"
 
 
 def changed(program):
@@ -74,19 +107,27 @@ def changed(program):
         data = files[0].read_bytes()
         place = data.index(b"hello", data.index(b"hello") + 5) if data.count(b"hello") > 1 else data.index(b"hello")
         target = pathlib.Path(folder) / "changed"
-        target.write_bytes(data[:place] + b"j" + data[place + 1:])
+        other = data[:place] + b"j" + data[place + 1:]
+        target.write_bytes(resummed(other[:-32]))
         status, lines, fault = rejoin(program, [target, *files[1:]])
         if status != 1 or not re.fullmatch(r"reqkeyd: hall 0, volume 1, step \d+: the machine answers otherwise", fault):
             return f"changed: {status} {lines} {fault}"
-        for length in [*range(0, 90), *range(90, len(data), 97), len(data) - 1]:
+        for length in [*range(0, 150), *range(150, len(data), 97), len(data) - 1]:
             target.write_bytes(data[:length])
             status, lines, fault = rejoin(program, [target])
-            if status != 1 or lines or not fault.startswith(f"reqkeyd: {target}: it"):
+            if status != 1 or lines or fault != f"reqkeyd: {target}: {SUM if length >= 17 else 'it does not begin as a volume of this version'}":
                 return f"cut at {length}: {status} {lines} {fault}"
-        target.write_bytes(data + b"\0")
-        status, lines, fault = rejoin(program, [target])
-        if status != 1 or fault != f"reqkeyd: {target}: bytes are left behind its last step":
-            return f"longer: {status} {fault}"
+            if length < 17 or length >= 400:
+                continue
+            target.write_bytes(resummed(data[:length]))
+            status, lines, fault = rejoin(program, [target])
+            if status != 1 or lines or not fault.startswith(f"reqkeyd: {target}: it"):
+                return f"cut at {length}, with a new sum: {status} {lines} {fault}"
+        for longer, word in ((data + b"\0", SUM), (resummed(data[:-32] + b"\0"), "bytes are left behind its last step")):
+            target.write_bytes(longer)
+            status, lines, fault = rejoin(program, [target])
+            if status != 1 or fault != f"reqkeyd: {target}: {word}":
+                return f"longer: {status} {fault}"
         status, lines, fault = rejoin(program, [*files, files[2]])
         if status != 1 or fault != "reqkeyd: hall 2, volume 1: it is there twice":
             return f"twice: {status} {fault}"
@@ -96,33 +137,146 @@ def changed(program):
         return None
 
 
-def one_step(program):
-    """The example of docs/RECORD.md, of which the bytes are written by hand there."""
+def flipped(program):
+    """Any bit that is another: also one of a payload that nobody read, of a moment, and of the sum."""
+    with tempfile.TemporaryDirectory() as folder:
+        used(program, folder, 1)
+        files = volumes(folder)
+        data = files[0].read_bytes()
+        unread = data.index(b"v" * 2000)
+        target = pathlib.Path(folder) / "flipped"
+        for place in (MARK, RUN, PREVIOUS, VOLUME + 10, VOLUME + 17, STEPS, unread + 7, len(data) - 33, len(data) - 1):
+            target.write_bytes(data[:place] + bytes([data[place] ^ 1]) + data[place + 1:])
+            status, lines, fault = rejoin(program, [target, *files[1:]])
+            if status != 1 or lines or fault != f"reqkeyd: {target}: {SUM}":
+                return f"at {place}: {status} {lines} {fault}"
+        # (the machine answers the same where only this payload is another: nothing but the sum tells)
+        target.write_bytes(resummed(data[:unread] + b"w" + data[unread + 1:-32]))
+        status, lines, fault = rejoin(program, [target, *files[1:]])
+        return None if status == 0 else f"with a new sum: {status} {fault}"
+
+
+def example():
+    """The example of docs/RECORD.md, of which the bytes are written by hand there: a volume of version 1, and what its seal is in version 2."""
     text = (pathlib.Path(__file__).resolve().parent.parent / "docs/RECORD.md").read_text()
-    lines = text[text.rindex("```\n72 65"):].splitlines()[1:]
-    data = bytes.fromhex("".join(line[:54] for line in lines[:lines.index("```")]))
+    given = []
+    for block in re.findall(r"```\n(72 65.*?)```", text, re.DOTALL):
+        given.append(bytes.fromhex("".join(line[:54] for line in block.splitlines())))
+    return given
+
+
+def one_step(program):
+    """The volumes of docs/RECORD.md, of either version."""
+    old, front = example()
     with tempfile.TemporaryDirectory() as folder:
         target = pathlib.Path(folder) / "example"
-        target.write_bytes(data)
+        open_end = ["hall 0: 1 volumes, 1 steps", "ok, 1 halls, 1 steps: a run of the machine; later volumes may be missing"]
+        for data in (old, resummed(front + old)):
+            target.write_bytes(data)
+            status, lines, fault = rejoin(program, [target])
+            if status or lines != open_end:
+                return f"{status} {lines} {fault}"
+        target.write_bytes(front + old)
         status, lines, fault = rejoin(program, [target])
-        if status or lines != ["hall 0: 1 volumes, 1 steps", "ok, 1 halls, 1 steps: a run of the machine"]:
+        if status != 1 or fault != f"reqkeyd: {target}: {SUM}":
+            return f"no sum: {status} {fault}"
+        for mark in range(1, 256):
+            target.write_bytes(resummed(front[:MARK] + bytes([mark]) + front[RUN:] + old))
+            status, lines, fault = rejoin(program, [target])
+            wanted = "hall 1: the volume that closes its record is missing" if mark == 1 else f"{target}: its head is cut or bad"
+            if status != 1 or fault != f"reqkeyd: {wanted}":
+                return f"mark {mark}: {status} {fault}"
+        for place, number, word in ((17, 4, f"{target}: its head is cut or bad"), (29, 2, "hall 0, volume 1: it is missing"),
+                                    (29, 0, "hall 0, volume 0: volumes are counted from 1")):
+            other = old[:place] + bytes([number]) + old[place + 1:]
+            for data in (other, resummed(front + other)):
+                target.write_bytes(data)
+                status, lines, fault = rejoin(program, [target])
+                if status != 1 or fault != f"reqkeyd: {word}":
+                    return f"{number} at {place}: {status} {fault}"
+        return None
+
+
+def runs(program):
+    """Volumes of two runs, which begin alike: one of the other run, one of version 1 among those in seals, and the number of the run changed."""
+    with tempfile.TemporaryDirectory() as folder, tempfile.TemporaryDirectory() as second:
+        for place in (folder, second):
+            used(program, place, 1)
+        files, others = volumes(folder), volumes(second)
+        target = pathlib.Path(folder) / "other"
+        data = files[1].read_bytes()
+        target.write_bytes(data[VOLUME:-32])
+        for instead in (others[1], target):
+            status, lines, fault = rejoin(program, [files[0], instead, *files[2:]])
+            if status != 1 or lines or fault != "reqkeyd: hall 1, volume 1: it is of another run than the first volume":
+                return f"{instead}: {status} {lines} {fault}"
+        # (a record of version 1 can't tell)
+        for at, file in enumerate(files + others):
+            (pathlib.Path(folder) / f"old-{at}").write_bytes(file.read_bytes()[VOLUME:-32])
+        old = [pathlib.Path(folder) / f"old-{at}" for at in (0, 5, 2, 3)]
+        status, lines, fault = rejoin(program, old)
+        return None if status == 0 and lines[-1].endswith("; later volumes may be missing") else f"version 1: {status} {fault}"
+
+
+def chained(program):
+    """More volumes than one: one is of the run, with steps exchanged or left out that change nothing, and with its own sum; the last ones are left out; and a
+    volume stands behind one that closes the record."""
+    with tempfile.TemporaryDirectory() as folder:
+        with Daemon(program, CONF, "--record", folder, "--clients", "1") as daemon:
+            with Client(daemon.path, 1000) as client:
+                for number in range(17000):
+                    client.ask(ask.request(b"user", b"none:%d" % (number % 2), None, 0))
+            daemon.end()
+        files = volumes(folder)
+        if len(files) != 6:
+            return f"{files}"
+        status, lines, fault = rejoin(program, files)
+        if status or not LAST.fullmatch(lines[-1]):
             return f"{status} {lines} {fault}"
-        other = bytearray(data)
-        other[17] = 4
-        target.write_bytes(other)
-        status, lines, fault = rejoin(program, [target])
-        if status != 1 or fault != f"reqkeyd: {target}: its head is cut or bad":
-            return f"hall 4: {status} {fault}"
-        other = bytearray(data)
-        other[29] = 2
-        target.write_bytes(other)
-        status, lines, fault = rejoin(program, [target])
-        if status != 1 or fault != "reqkeyd: hall 0, volume 1: it is missing":
-            return f"index 2: {status} {fault}"
-        other[29] = 0
-        target.write_bytes(other)
-        status, lines, fault = rejoin(program, [target])
-        return None if status == 1 and fault == "reqkeyd: hall 0, volume 0: volumes are counted from 1" else f"index 0: {status} {fault}"
+        second, third = files[1].read_bytes(), files[2].read_bytes()
+        if second[PREVIOUS:VOLUME] != files[0].read_bytes()[-32:] or third[PREVIOUS:VOLUME] != second[-32:] or second[MARK]:
+            return "links"
+        target = pathlib.Path(folder) / "second"
+        steps = parts(second)
+        count = len(steps).to_bytes(8, "big")
+        if second[STEPS - 8:STEPS] != count:
+            return f"{len(steps)} steps"
+        for body in (steps[:10] + [steps[11], steps[10]] + steps[12:], steps[:10] + [steps[11]] + steps[11:]):
+            target.write_bytes(resummed(second[:STEPS] + b"".join(body)))
+            status, lines, fault = rejoin(program, [files[0], target, *files[2:]])
+            if status != 1 or fault != "reqkeyd: hall 0, volume 3: the volume before it is another than it says":
+                return f"exchanged: {status} {lines} {fault}"
+        target.write_bytes(resummed(second[:MARK] + b"\1" + second[RUN:-32]))
+        status, lines, fault = rejoin(program, [files[0], target, *files[2:]])
+        if status != 1 or fault != "reqkeyd: hall 0, volume 3: the record was closed before it":
+            return f"closed: {status} {lines} {fault}"
+        for left, word in ((files[:2] + files[3:], "hall 0: the volume that closes its record is missing"),
+                           (files[3:], "hall 0: the volume that closes its record is missing"),
+                           (files[:5], "hall 3: the volume that closes its record is missing"),
+                           (files[:1] + files[2:], "hall 0, volume 2: it is missing")):
+            status, lines, fault = rejoin(program, left)
+            if status != 1 or fault != f"reqkeyd: {word}":
+                return f"left out: {status} {lines} {fault}"
+        status, lines, fault = rejoin(program, files[:2])
+        return None if status == 0 and lines[-1].endswith("; later volumes may be missing") else f"the last of all: {status} {lines} {fault}"
+
+
+def at_once(program):
+    """Four clients at a time fill the volumes of one hall, so that several workers hand them out: each has the sum of the one before it."""
+    with tempfile.TemporaryDirectory() as folder:
+        with Daemon(program, CONF, "--record", folder, "--clients", "4") as daemon:
+            def ask_much():
+                with Client(daemon.path, 1000) as client:
+                    for _ in range(8200):
+                        client.ask(ask.default(-1))
+            threads = [threading.Thread(target=ask_much) for _ in range(4)]
+            for thread in threads:
+                thread.start()
+            for thread in threads:
+                thread.join()
+            daemon.end()
+        status, lines, fault = rejoin(program, volumes(folder))
+        return None if status == 0 and LAST.fullmatch(lines[-1]) and lines[0].startswith("hall 0: 5 volumes") else f"{status} {lines} {fault}"
 
 
 def many(program):
@@ -155,7 +309,7 @@ def negative(program):
             daemon.end()
         status, lines, fault = rejoin(program, volumes(folder))
         # a client comes, says HELLO and goes; each request is a start, a launch, an end and a collect. Those of other halls come to hall 0 first, and go
-        wanted = [f"hall {hall}: 1 volumes, {15 + 6 * (hall == 0)} steps" for hall in range(4)] + ["ok, 4 halls, 66 steps: a run of the machine"]
+        wanted = [f"hall {hall}: 1 volumes, {15 + 6 * (hall == 0)} steps" for hall in range(4)] + ["ok, 4 halls, 66 steps: a run of the machine, to its end"]
         return None if (status, lines) == (0, wanted) else f"{status} {lines} {fault}"
 
 
@@ -193,7 +347,8 @@ def killed(program):
             daemon.process.wait()
         status, lines, fault = rejoin(program, volumes(folder))
         # a place of the volume is kept for the end of the client, which did not come
-        return None if status == 0 and lines[-1] == "ok, 1 halls, 8191 steps: a run of the machine" else f"{status} {lines} {fault}"
+        last = "ok, 1 halls, 8191 steps: a run of the machine; later volumes may be missing"
+        return None if status == 0 and lines[-1] == last else f"{status} {lines} {fault}"
 
 
 def full(program):
@@ -232,9 +387,10 @@ def replaces_none(program):
         return None if all(other.read_text() == "another daemon's" for other in others) else "replaced"
 
 
-CASES = [("a whole record is a run", whole), ("changed, cut, longer and doubled files are refused", changed), ("the example of the format", one_step),
-         ("a second volume", many), ("another negative time", negative), ("folders that are missing or have volumes", starts), ("a signal leaves whole volumes", killed),
-         ("a full disk costs its volume alone", full), ("no file is replaced", replaces_none)]
+CASES = [("a whole record is a run", whole), ("changed, cut, longer and doubled files are refused", changed), ("any bit that is another is seen", flipped),
+         ("the examples of the format", one_step), ("volumes of two runs", runs), ("volumes are chained", chained), ("several clients at once", at_once),
+         ("a second volume", many), ("another negative time", negative), ("folders that are missing or have volumes", starts),
+         ("a signal leaves whole volumes", killed), ("a full disk costs its volume alone", full), ("no file is replaced", replaces_none)]
 
 if __name__ == "__main__":
     check_all([(name, try_it) for name, try_it in CASES], lambda program, try_it: try_it(program))

@@ -1,13 +1,14 @@
 -- What `rejoin` does on its streams.
 use Rattle.std.specs.Prelude.{◌≡◌, ℕ, Bool, true, false, ◌&&◌, ◌==◌, not, List, [], ◌∷◌, map, codes, Option, Ok}
-use Rattle.std.specs.List.{AllZip, list_all}
+use Rattle.std.specs.List.{AllByRecursion, AllZip, list_all}
 use Rattle.std.specs.List.Sorted.{IsPermutation}
 use Rattle.std.specs.Str.{bytes_eq}
 use Rattle.std.specs.Io.KnownBytes.{Appends}
 use Rattle.rk_record.specs.declared.hall_no.HallNo.TheVariants as hall
 use Rattle.rk_volumes.specs.declared.stored.Stored.{Stored}
-use Rattle.rk_volumes.specs.Format.{IsStored}
+use Rattle.rk_volumes.specs.Filed.{IsFiled}
 use Rattle.rk_rejoin.specs.declared.part.Part.{Part}
+use Rattle.rk_rejoin.specs.Chains.{run_of, run_of_first}
 use Rattle.rk_rejoin.specs.Judged.{IsRecordOf, negative_of}
 use Rattle.reqkeyd.specs.Disk.{Reading, and_then}
 
@@ -35,7 +36,7 @@ named_files (name ∷ word ∷ files) = files
 
 -- what was read are bytes, and these are the volume
 abbrev pub IsVolumeIn : Reading → Stored → Type 0
-IsVolumeIn reading v = (bytes : List ℕ) × (reading.outcome ≡ Ok bytes) × IsStored v.head v.steps.items bytes
+IsVolumeIn reading v = (bytes : List ℕ) × (reading.outcome ≡ Ok bytes) × IsFiled v.head v.steps.items v.seal bytes
 
 -- the file at the path was read, and it is the volume: what was read, before and after
 abbrev pub IsRead : List ℕ → Option (List Reading) → Option (List Reading) → Stored → Type 0
@@ -52,10 +53,11 @@ pub record AreRead (files : List (List ℕ)) (story story' : Option (List Readin
 abbrev pub AreOfFiles : List (List ℕ) → Option (List Reading) → Option (List Reading) → List Stored → Type 0
 AreOfFiles files story story' vs = (read : List Stored) × AreRead files story story' read × IsPermutation read vs
 
--- each of the files is a volume, and the volumes are for each hall a run of the machine from the empty world on, which obeys its laws; some text was
--- written: what was read, and what was written, before and after
+-- each of the files is a volume, all are of one run, and the volumes are for each hall a run of the machine from the empty world on, which obeys its laws;
+-- some text was written: what was read, and what was written, before and after
 abbrev pub HasRejoined : List (List ℕ) → Option (List Reading) → Option (List Reading) → Option (List ℕ) → Option (List ℕ) → Type 0
 HasRejoined files story story' contents contents' = (vs : List Stored) × (text : List ℕ) × AreOfFiles files story story' vs
+    × AllByRecursion (λ v. run_of v ≡ run_of_first vs) vs
     × ((part : Part) × IsRecordOf (negative_of vs) vs hall.Zero part) × ((part : Part) × IsRecordOf (negative_of vs) vs hall.One part)
     × ((part : Part) × IsRecordOf (negative_of vs) vs hall.Two part) × ((part : Part) × IsRecordOf (negative_of vs) vs hall.Three part)
     × Appends contents contents' text

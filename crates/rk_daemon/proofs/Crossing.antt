@@ -14,6 +14,9 @@ use Rattle.rk_conf.specs.contracts.line.Line as line
 use Rattle.rk_hall.specs.declared.names.Names as names
 use Rattle.rk_hall.specs.contracts.halls.Halls as halls
 use Rattle.rk_hall.proofs.Crossing.{lock_send, lock_sync}
+use Rattle.rk_daemon.specs.contracts.chain.Last as last
+use Rattle.rk_daemon.specs.contracts.chain.Chain as chain
+use Rattle.rk_daemon.specs.contracts.chain.Run as run
 use Rattle.rk_daemon.specs.contracts.connections.Connections as connections
 use Rattle.rk_daemon.specs.contracts.held.Held as held
 use Rattle.rk_daemon.specs.contracts.workers.Shared as shared
@@ -72,6 +75,21 @@ held_send = search (sendable, crosses) depth 40 fits 20000
 held_sync : IsSync (Struct (shape held.the_type))
 held_sync = search (sendable, crosses) depth 40 fits 20000
 
+last_send : IsSend (Struct (shape last.the_type))
+last_send = search (sendable, crosses) depth 40 fits 20000
+
+chain_send : IsSend (Struct (shape chain.the_type))
+chain_send = let l = last_send in search (sendable, crosses) depth 40 fits 20000
+
+chain_sync : IsSync (Struct (shape chain.the_type))
+chain_sync = let l = last_send in search (sendable, crosses) depth 40 fits 20000
+
+run_send : IsSend (Struct (shape run.the_type))
+run_send = let c = chain_send in search (sendable, crosses) depth 40 fits 20000
+
+run_sync : IsSync (Struct (shape run.the_type))
+run_sync = let c = chain_sync in search (sendable, crosses) depth 40 fits 20000
+
 module _ (N : RattleType) (g : names.Ghosts N.Denot) (n : IsSend N) where
   pub shared_send : IsSend (shared.the_row N g)
   shared_send =
@@ -87,7 +105,7 @@ module _ (N : RattleType) (g : names.Ghosts N.Denot) (n : IsSend N) where
               connections_send,
               (
                 held_send,
-                (search (sendable, crosses) depth 40 fits 20000, (search (sendable, crosses) depth 40 fits 20000, (search sendable depth 20, tt))),
+                (search (sendable, crosses) depth 40 fits 20000, (let r = run_send in search (sendable, crosses) depth 40 fits 20000, (search sendable depth 20, tt))),
               ),
             ),
           ),
@@ -108,7 +126,7 @@ module _ (N : RattleType) (g : names.Ghosts N.Denot) (n : IsSend N) where
               connections_sync,
               (
                 held_sync,
-                (search (sendable, crosses) depth 40 fits 20000, (search (sendable, crosses) depth 40 fits 20000, (search sendable depth 20, tt))),
+                (search (sendable, crosses) depth 40 fits 20000, (let r = run_sync in search (sendable, crosses) depth 40 fits 20000, (search sendable depth 20, tt))),
               ),
             ),
           ),

@@ -1,7 +1,7 @@
 //! The folder into which volumes are written.
 
 use rk_hall::Recorded;
-use rk_volumes::Head;
+use rk_volumes::{Head, Seal, Sum};
 use std::alloc::Global;
 use std::fs::{Files, OpenOptions};
 use std::io::{BufWriter, Write};
@@ -28,20 +28,37 @@ pub fn is_free<R: Files + AllocGlobal + Clone + Drop>(rt: &R, folder: &str) -> i
 
 /// What writes volumes into a folder: whatever has [`Files`]. It has no types of its own, as those have, so that threads can be handed it.
 pub trait Keeper {
-    /// Writes a volume into the folder, as `hall-2-volume-000001`, for nobody but the owner to read. It is written under another name at first, so that a
-    /// volume under its name is a whole one; where that fails, nothing of it stays. No file that is there is replaced, under either name. It is not waited
-    /// for that the disk has it.
-    fn keep(&self, alloc: Global, folder: &str, head: &Head, steps: &[Recorded]) -> io::Result<()>;
+    /// Writes a volume in its seal into the folder, as `hall-2-volume-000001`, for nobody but the owner to read, and gives its sum. It is written under
+    /// another name at first, so that a volume under its name is a whole one; where that fails, nothing of it stays. No file that is there is replaced, under
+    /// either name. It is not waited for that the disk has it.
+    fn keep(
+        &self,
+        alloc: Global,
+        folder: &str,
+        seal: &Seal,
+        head: &Head,
+        steps: &[Recorded],
+    ) -> io::Result<Sum>;
 }
 
 impl<R: Files> Keeper for R {
-    fn keep(&self, alloc: Global, folder: &str, head: &Head, steps: &[Recorded]) -> io::Result<()> {
+    fn keep(
+        &self,
+        alloc: Global,
+        folder: &str,
+        seal: &Seal,
+        head: &Head,
+        steps: &[Recorded],
+    ) -> io::Result<Sum> {
         let (hall, index) = (head.hall.number(), head.index);
         let path = format!(in alloc; "{folder}/{PREFIX}{hall}-volume-{index:06}")?;
         let part = format!(in alloc; "{folder}/{PART}{hall}-volume-{index:06}.part")?;
         let file = create(self, part.as_str())?;
-        let written = write(alloc, file, head, steps);
-        let kept = written.and_then(|()| fs::hard_link(self, part.as_str(), path.as_str()));
+        let written = write(alloc, file, seal, head, steps);
+        let kept = match written {
+            Ok(sum) => fs::hard_link(self, part.as_str(), path.as_str()).map(|()| sum),
+            Err(error) => Err(error),
+        };
         let _ = fs::remove_file(self, part.as_str());
         kept
     }
@@ -56,14 +73,16 @@ fn create<R: Files>(rt: &R, path: &str) -> io::Result<R::File> {
         .open(rt, path)
 }
 
-/// Writes a volume into a new file.
+/// Writes a volume in its seal into a new file, and gives its sum.
 fn write<W: Write + Drop>(
     alloc: Global,
     file: W,
+    seal: &Seal,
     head: &Head,
     steps: &[Recorded],
-) -> io::Result<()> {
+) -> io::Result<Sum> {
     let mut file = BufWriter::new(alloc, file)?;
-    head.store(alloc, steps, &mut file)?;
-    file.flush()
+    let sum = seal.store(alloc, head, steps, &mut file)?;
+    file.flush()?;
+    Ok(sum)
 }

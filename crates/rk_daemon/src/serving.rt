@@ -3,7 +3,9 @@ ghost use Rattle.std.specs.Prelude.{◌≡◌, IfErr};
 ghost use Rattle.rk_daemon.specs.Faults.{IsFound, IsOfConf};
 
 use crate::accepting::{Entrance, accept};
+use crate::chain::Run;
 use crate::connections::Connections;
+use crate::drawn::Drawn;
 use crate::fault::Fault;
 use crate::held::Held;
 use crate::path::{give_free, take};
@@ -14,7 +16,6 @@ use crate::workers::{Shared, start};
 use log::{Log, warn};
 use rk_conf::Conf;
 use rk_hall::{Fresh, HallNo, Halls, Names};
-use rk_talk::Shelf;
 use std::alloc::{AllocError, Global};
 use std::fs;
 use std::fs::{File, Files};
@@ -57,7 +58,7 @@ fn serve_at<
     rt: &R,
     alloc: Global,
     fresh: Fresh,
-    seed: u64,
+    drawn: Drawn,
     conf: Conf,
     listener: UnixListener,
     settings: &Settings<'_>,
@@ -68,12 +69,12 @@ fn serve_at<
     requires two { (fresh.two.calls.name ≡ N.name 4) × (fresh.two.out.name ≡ N.name 5) }
     requires three { (fresh.three.calls.name ≡ N.name 6) × (fresh.three.out.name ≡ N.name 7) }
 {
-    let halls: Halls<N> = Halls::with_volume(alloc, fresh, settings.negative, seed, VOLUME)?;
+    let halls: Halls<N> = Halls::with_volume(alloc, fresh, settings.negative, drawn.seed, VOLUME)?;
     let Ok(begun) = Instant::now(rt) else {
         return Err(AllocError);
     };
     let keyutils = copied(alloc, settings.keyutils)?;
-    let folder = copied(alloc, settings.folder)?;
+    let run = copied(alloc, settings.folder)?.map(|folder| Run::new(folder, drawn.run));
     let shared = Arc::new(
         alloc,
         Shared {
@@ -83,7 +84,7 @@ fn serve_at<
             connections: Connections::new(),
             held: Held::new(),
             keyutils,
-            folder,
+            run,
             negative: settings.negative,
         },
     )?;
@@ -98,7 +99,7 @@ fn serve_at<
     for worker in workers {
         worker.join(rt);
     }
-    if shared.folder.is_some() {
+    if shared.run.is_some() {
         hand_out_all(rt, alloc, &shared);
     }
     Ok(())
@@ -121,7 +122,7 @@ fn hand_out_all<N: Names, R: Wait + Eprint + Log + Keeper>(
     let shelf = shared.shelf(rt, alloc);
     for hall in HallNo::ALL {
         match shared.halls.roll(rt, hall) {
-            Ok(volume) => shelf.put(rt, volume),
+            Ok(volume) => shelf.put_last(rt, volume),
             Err(fault) => {
                 let hall = hall.number();
                 warn!(rt; "the last volume of hall {hall}: {fault:?}");
@@ -147,14 +148,14 @@ fn serve_named<
 >(
     rt: &R,
     alloc: Global,
-    seed: u64,
+    drawn: Drawn,
     conf: Conf,
     listener: UnixListener,
     settings: &Settings<'_>,
     errors: &mut E,
 ) -> Result<(), AllocError> {
     let fresh = Fresh::new();
-    serve_at::<Brand, R, E>(rt, alloc, fresh, seed, conf, listener, settings, errors)
+    serve_at::<Brand, R, E>(rt, alloc, fresh, drawn, conf, listener, settings, errors)
 }
 
 /// The configuration of the file at the path.
@@ -170,18 +171,7 @@ fn conf_at<R: Files + AllocGlobal>(rt: &R, path: &str) -> Result<Conf, Fault>
     }
 }
 
-/// With what names are hashed in this run: nobody else knows it.
-fn random_seed<R: RandomSource>(rt: &R) -> Result<u64, Fault>
-    ensures { IfErr result (λ fault. fault ≡ Fault.Random) }
-{
-    let mut bytes = [0; 8];
-    match rt.fill_bytes(&mut bytes) {
-        Ok(()) => Ok(u64::from_le_bytes(bytes)),
-        Err(_) => Err(Fault::Random),
-    }
-}
-
-/// Reads the configuration, draws the seed of this run, looks at the folder of the record and for the library, takes the places of standard streams that are
+/// Reads the configuration, draws the seed and the number of this run, looks at the folder of the record and for the library, takes the places of standard streams that are
 /// closed and the path of the socket, and serves connections: for good, or until so many have come as the settings say, and those are served out. `errors` is
 /// told once connections are accepted.
 pub fn serve<
@@ -205,7 +195,7 @@ pub fn serve<
     ensures { IfErr result IsFound }
 {
     let conf = conf_at(rt, settings.conf)?;
-    let seed = random_seed(rt)?;
+    let drawn = Drawn::of(rt)?;
     if let Some(folder) = settings.folder
         && !matches!(is_free(rt, folder), Ok(true))
     {
@@ -222,7 +212,7 @@ pub fn serve<
     let Ok((listener, taken)) = take(rt, settings.socket, settings.mode) else {
         return Err(Fault::Socket);
     };
-    let served = serve_named(rt, rt.alloc(), seed, conf, listener, settings, errors);
+    let served = serve_named(rt, rt.alloc(), drawn, conf, listener, settings, errors);
     give_free(rt, settings.socket, taken);
     match served {
         Ok(()) => Ok(()),

@@ -2,6 +2,7 @@
 ghost use Rattle.std.specs.Prelude.{◌≤◌};
 ghost use Rattle.rk_devices.specs.Counts.{most};
 
+use crate::chain::Run;
 use crate::clock::Seconds;
 use crate::connections::Connections;
 use crate::gate::Relief;
@@ -50,8 +51,8 @@ pub struct Shared<N: Names> {
     pub held: Held,
     /// The library that plain handlers preload.
     pub keyutils: Option<String>,
-    /// The folder of the record.
-    pub folder: Option<String>,
+    /// This run, where its record is written.
+    pub run: Option<Run>,
     /// For how many seconds a key is negative whose handler did not complete it.
     pub negative: u32,
 }
@@ -63,8 +64,7 @@ impl<N: Names> Shared<N> {
         rt: &'a R,
         alloc: Global,
     ) -> Outlet<'a, R> {
-        let folder = self.folder.as_ref().map(|path| path.as_str());
-        Outlet::new(rt, alloc, folder, self.negative)
+        Outlet::new(rt, alloc, self.run.as_ref(), self.negative)
     }
 }
 

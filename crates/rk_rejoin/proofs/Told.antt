@@ -1,6 +1,6 @@
 -- What is told of volumes that are refused.
 use Rattle.std.proofs.Common.{◌≡◌, ℕ, ◌+◌, ◌-◌, ◌<◌, ◌≤◌, ◌^◌, Bool, true, false, List, [], ◌∷◌, ◌++◌, length, take, drop, get_or, map, refl, sym, ap, subst}
-use Rattle.std.proofs.Common.{◌∙◌, inr, arith}
+use Rattle.std.proofs.Common.{◌∙◌, inl, inr, arith}
 use Rattle.std.specs.Prelude.{◌⊎◌, min, slice_get, Some}
 use Rattle.std.specs.List.{flat_map}
 use Rattle.std.proofs.lemmas.List.{take_all}
@@ -20,7 +20,7 @@ use Rattle.rk_volumes.specs.declared.stored.Stored.{Stored}
 use Rattle.rk_rejoin.specs.declared.verdict.Verdict.{Verdict}
 use Rattle.rk_rejoin.specs.declared.verdict.Verdict.TheVariants.{Broken}
 use Rattle.rk_rejoin.specs.Judged.{steps_of, of_hall, joined, beginning, negative_of, AreNext}
-use Rattle.rk_rejoin.specs.Refused.{IsNoNext, CannotJoin, NamesStep, IsBroken, IsRefusedFor}
+use Rattle.rk_rejoin.specs.Refused.{IsNoNext, CannotJoin, NamesStep, IsBroken, IsHallRefused, IsRefusedFor}
 use Rattle.rk_rejoin.proofs.Joined.{is_of, behind, place_of, one_more, none_more, count_more}
 
 -- a volume that does not follow on those before it
@@ -95,9 +95,9 @@ pub hall_broken : (negative : ℕ) (h : HallNo) (vs : List Stored) (number place
 hall_broken negative h vs number place f next is broken names = (next, (place, broken, subst (λ (k : ℕ). NamesStep h vs k f) is names))
 
 -- what is wrong with one hall is wrong with all
-pub hall_refused : (vs : List Stored) (h : HallNo) (negative : ℕ) (f : Verdict) → negative ≡ negative_of vs → CannotJoin h vs f ⊎ IsBroken negative h vs f
+pub hall_refused : (vs : List Stored) (h : HallNo) (negative : ℕ) (f : Verdict) → negative ≡ negative_of vs → IsHallRefused negative h vs f
     → IsRefusedFor vs f
-hall_refused vs h negative f is wrong = inr (h, subst (λ (n : ℕ). CannotJoin h vs f ⊎ IsBroken n h vs f) is wrong)
+hall_refused vs h negative f is wrong = inr (inr (inl (h, subst (λ (n : ℕ). IsHallRefused n h vs f) is wrong)))
 
 -- ---- what a rejoin says, of the volumes
 

@@ -1,12 +1,16 @@
 //! Whether volumes are a run of the machine.
-ghost use Rattle.std.specs.Prelude.{◌≡◌, ◌≤◌, ◌⊎◌, length, IfOk, IfErr, OnOk};
+ghost use Rattle.std.specs.Prelude.{◌≡◌, ◌≤◌, length, IfOk, IfErr, OnOk};
 ghost use Rattle.std.specs.List.{AllByRecursion};
 ghost use Rattle.rk_hall.specs.Locked.{first_serial};
 ghost use Rattle.rk_record.specs.declared.hall_no.HallNo.TheVariants as hall;
-ghost use Rattle.rk_rejoin.specs.Judged.{negative_of, of_hall, joined, AreNext, IsRecordOf};
-ghost use Rattle.rk_rejoin.specs.Refused.{CannotJoin, HasNoCommon, IsBroken, IsRefusedFor, NamesStep};
+ghost use Rattle.rk_rejoin.specs.Chains.{run_of, run_of_first};
+ghost use Rattle.rk_rejoin.specs.Judged.{negative_of, of_hall, joined, AreNext, AreClosedAlike, IsRecordOf};
+ghost use Rattle.rk_rejoin.specs.Refused.{HasNoCommon, IsHallRefused, IsRefusedFor, NamesStep};
 
+use crate::chain::chain_of_hall;
+use crate::closing::are_closed_alike;
 use crate::joining::steps_of_hall;
+use crate::one_run::have_one_run;
 use crate::part::{Part, Total};
 use crate::verdict::Verdict;
 use rk_core::Limits;
@@ -16,22 +20,28 @@ use rk_volumes::Stored;
 use std::alloc::Global;
 
 /// What volumes are that stand by rising index within each hall. `Ok` says how much of each hall's record they are: from its first step on, with no volume
-/// left out or there twice, and a run of the machine that obeys its laws. A [`Verdict`] says what is wrong first. Nothing is changed.
+/// left out or there twice, all of one run, each after the one that it names, and a run of the machine that obeys its laws. Either all halls' records are
+/// closed, or none is. A [`Verdict`] says what is wrong first. Nothing is changed.
 pub fn judge(alloc: Global, volumes: &[Stored]) -> Result<Total, Verdict>
     ensures negative { OnOk result (AllByRecursion (λ v. v.head.negative ≡ negative_of volumes.now) volumes.now) }
     ensures zero { IfOk result (λ t. IsRecordOf (negative_of volumes.now) volumes.now hall.Zero t.zero) }
     ensures one { IfOk result (λ t. IsRecordOf (negative_of volumes.now) volumes.now hall.One t.one) }
     ensures two { IfOk result (λ t. IsRecordOf (negative_of volumes.now) volumes.now hall.Two t.two) }
     ensures three { IfOk result (λ t. IsRecordOf (negative_of volumes.now) volumes.now hall.Three t.three) }
+    ensures run { OnOk result (AllByRecursion (λ v. run_of v ≡ run_of_first volumes.now) volumes.now) }
+    ensures closed { IfOk result AreClosedAlike }
     ensures refused { IfErr result (λ f. IsRefusedFor volumes.now f) }
 {
     let negative = common_negative(volumes)?;
-    Ok(Total {
+    have_one_run(volumes)?;
+    let total = Total {
         zero: judge_hall(alloc, negative, HallNo::Zero, volumes)?,
         one: judge_hall(alloc, negative, HallNo::One, volumes)?,
         two: judge_hall(alloc, negative, HallNo::Two, volumes)?,
         three: judge_hall(alloc, negative, HallNo::Three, volumes)?,
-    })
+    };
+    are_closed_alike(&total)?;
+    Ok(total)
 }
 
 /// The seconds of a negative key, which all volumes have in common.
@@ -63,13 +73,15 @@ fn judge_hall(
     volumes: &[Stored],
 ) -> Result<Part, Verdict>
     ensures is { IfOk result (λ part. IsRecordOf negative volumes.now hall part) }
-    ensures refused { IfErr result (λ f. CannotJoin hall volumes.now f ⊎ IsBroken negative hall volumes.now f) }
+    ensures refused { IfErr result (λ f. IsHallRefused negative hall volumes.now f) }
 {
     let steps = steps_of_hall(alloc, hall, volumes)?;
+    let closed = chain_of_hall(hall, volumes)?;
     match rejoin(alloc, limits_of(negative, hall), &steps) {
         Ok(count) => Ok(Part {
             volumes: steps.len() as u64,
             steps: count,
+            closed,
         }),
         Err(Rejoin::Broken { number }) => Err(broken_at(hall, number, volumes)),
         Err(Rejoin::NoMemory) => Err(Verdict::NoMemory),

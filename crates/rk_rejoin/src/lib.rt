@@ -7,17 +7,22 @@
 //!
 //! # What it promises
 //!
-//! An `Ok` of `judge` says of each hall that its volumes are all there up to the last one that is handed in, each once and in order, and that their steps,
-//! joined, are a run from the empty world on, which obeys the laws of every run. It does not say that no volume came behind the last one. A [`Verdict`]
-//! names the hall and the volume, and the step where one is answered otherwise.
+//! An `Ok` of `judge` says of each hall that its volumes are all there up to the last one that is handed in, each once and in order, that all are of one
+//! run and each says which sum the one before it has, and that their steps, joined, are a run from the empty world on, which obeys the laws of every run.
+//! That no volume came behind the last one it says where the records are closed, all of them. A [`Verdict`] names the hall and the volume, and the step
+//! where one is answered otherwise.
 //!
 //! # How it is built
 //!
-//! `verdict` and `part` have what is answered, `joining` puts the steps of a hall together, and `judging` has them stepped through by rk_record's `rejoin`.
+//! `verdict` and `part` have what is answered. `one_run` compares the numbers of the run, `joining` puts the steps of a hall together, `chain` follows the
+//! sums from volume to volume, `judging` has the steps stepped through by rk_record's `rejoin`, and `closing` compares the ends of the halls.
 #![tactic(auto)]
 
+mod chain;
+mod closing;
 mod joining;
 mod judging;
+mod one_run;
 mod part;
 mod verdict;
 

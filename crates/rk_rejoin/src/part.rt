@@ -9,6 +9,8 @@ pub struct Part {
     pub volumes: u64,
     /// How many steps they have, at most the greatest u64.
     pub steps: u64,
+    /// Whether the last one closes the hall's record.
+    pub closed: bool,
 }
 
 /// How much there is of each hall's record.
@@ -31,7 +33,8 @@ impl Total {
     }
 }
 
-/// A line for each hall, as `hall 2: 3 volumes, 17000 steps`, and the last line, as `ok, 4 halls, 68000 steps: a run of the machine`.
+/// A line for each hall, as `hall 2: 3 volumes, 17000 steps`, and the last line, as `ok, 4 halls, 68000 steps: a run of the machine, to its end`. Of a record
+/// that is not closed it says that later volumes may be missing.
 impl fmt::Display for Total {
     fn fmt<W: fmt::Write>(&self, f: &mut fmt::Formatter<W>) -> fmt::Result {
         let (mut halls, mut steps) = (0u64, 0u64);
@@ -43,6 +46,14 @@ impl fmt::Display for Total {
                 steps = steps.saturating_add(count);
             }
         }
-        writeln!(f, "ok, {halls} halls, {steps} steps: a run of the machine")
+        let end = if self.zero.closed {
+            ", to its end"
+        } else {
+            "; later volumes may be missing"
+        };
+        writeln!(
+            f,
+            "ok, {halls} halls, {steps} steps: a run of the machine{end}"
+        )
     }
 }

@@ -15,7 +15,7 @@ use Rattle.rk_volumes.specs.declared.head.Head.{Head}
 use Rattle.rk_volumes.specs.Rules.{IsStep}
 use Rattle.rk_volumes.specs.declared.fault.Fault.{Fault}
 use Rattle.rk_volumes.specs.declared.fault.Fault.TheVariants as fault
-use Rattle.rk_volumes.specs.Format.{title, head_bytes, step_bytes, file_bytes, IsHead, IsStored, HasNoStep, IsMissing, IsFaultOf, HasStored, HaveOneReading}
+use Rattle.rk_volumes.specs.Format.{title, head_bytes, step_bytes, file_bytes, IsHead, IsStored, HasNoStep, IsMissing, IsFaultOf, HaveOneReading}
 use Rattle.rk_volumes.proofs.Fronts.{same_front, same_word, same_long}
 use Rattle.rk_volumes.proofs.Rows.{second}
 use Rattle.rk_volumes.proofs.Steps.{same_step}
@@ -175,6 +175,7 @@ stored_has_none file fault.Trailing h ss at is =
     let one = same_file at.0 h at.1 ss at.2 [] at.3 is.head at.4 is.steps (sym at.5 ∙ is.bytes ∙ sym (append-nil (file_bytes h ss))) in
     absurd (omega (arith, at.6, ap length one.2))
 stored_has_none file fault.NoMemory h ss at is = refl
+stored_has_none file fault.Sum h ss at is = absurd at
 
 -- a file is the volume that was read from it
 pub stored_is_read : (file : List ℕ) (h g : Head) (ss ts : List Recorded) → IsStored g ts file → IsStored h ss file → (g ≡ h) × (ts ≡ ss)
@@ -191,6 +192,7 @@ missing_of file more h count fault.Head is eq missing = absurd missing
 missing_of file more h count (fault.Step number) is eq missing = (h, count, more, is, eq, missing)
 missing_of file more h count fault.Trailing is eq missing = absurd missing
 missing_of file more h count fault.NoMemory is eq missing = tt
+missing_of file more h count fault.Sum is eq missing = absurd missing
 
 -- a file of which the line and the head were read
 pub file_of : (file rest more : List ℕ) (h : Head) (count : ℕ) → file ≡ title ++ rest → rest ≡ head_bytes h count ++ more
@@ -226,23 +228,11 @@ stored_of file rest more left h count ss is at eq len all steps none = record {
       ∙ append-nil (file_bytes h ss);
 }
 
--- one step more was written
-pub more_written : (a b c : Option (List ℕ)) (front : List ℕ) (ss : List Recorded) (i : ℕ) (s : Recorded) (text : List ℕ)
-    → Appends a b (front ++ flat_map step_bytes (take i ss)) → Appends b c text → text ≡ step_bytes s → i < length ss → s ≡ get_or ss i s
-    → Appends a c (front ++ flat_map step_bytes (take (i + 1) ss))
-more_written a b c front ss i s text first next is lt at =
-    let parts : (front ++ flat_map step_bytes (take i ss)) ++ text ≡ front ++ flat_map step_bytes (take (i + 1) ss) =
+-- one step more was put behind what there was
+pub step_more : (front : List ℕ) (ss : List Recorded) (i : ℕ) (s : Recorded) (text : List ℕ) → text ≡ step_bytes s → i < length ss → s ≡ get_or ss i s
+    → (front ++ flat_map step_bytes (take i ss)) ++ text ≡ front ++ flat_map step_bytes (take (i + 1) ss)
+step_more front ss i s text is lt at =
     append_assoc front (flat_map step_bytes (take i ss)) text
     ∙ ap (λ (x : List ℕ). front ++ (flat_map step_bytes (take i ss) ++ x)) is
     ∙ ap (λ (x : List ℕ). front ++ x) (sym (bytes_more (take i ss) s))
-    ∙ ap (λ (t : List Recorded). front ++ flat_map step_bytes t) (sym (take_step ss i s lt at)) in
-    subst (Appends a c) parts (appended a b c (front ++ flat_map step_bytes (take i ss)) text first next)
-
--- all steps were written
-pub whole_written : (a b : Option (List ℕ)) (h : Head) (ss ts : List Recorded) → ts ≡ ss → IsHead h (length ss) → AllByRecursion IsStep ts
-    → Appends a b ((title ++ head_bytes h (length ss)) ++ flat_map step_bytes ts) → HasStored h ss a b
-whole_written a b h ss ts all head each bytes =
-    let parts : (title ++ head_bytes h (length ss)) ++ flat_map step_bytes ts ≡ file_bytes h ss =
-    append_assoc title (head_bytes h (length ss)) (flat_map step_bytes ts)
-    ∙ ap (λ (t : List Recorded). title ++ (head_bytes h (length ss) ++ flat_map step_bytes t)) all in
-    (file_bytes h ss, record { head = head; steps = subst (AllByRecursion IsStep) all each; bytes = refl }, subst (Appends a b) parts bytes)
+    ∙ ap (λ (t : List Recorded). front ++ flat_map step_bytes t) (sym (take_step ss i s lt at))

@@ -5,3 +5,5 @@ pub mod Rows
 pub mod Subjects
 pub mod Steps
 pub mod Files
+pub mod Sealing
+pub mod Filed

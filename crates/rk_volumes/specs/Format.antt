@@ -1,8 +1,7 @@
 -- The format of a volume in a file. Numbers stand with their highest byte first.
-use Rattle.std.specs.Prelude.{◌≡◌, ℕ, ◌+◌, ◌<◌, ◌^◌, List, [], ◌∷◌, ◌++◌, length, codes, Option}
+use Rattle.std.specs.Prelude.{◌≡◌, ℕ, ◌+◌, ◌<◌, ◌^◌, List, [], ◌∷◌, ◌++◌, length, codes}
 use Rattle.std.specs.List.{flat_map, AllByRecursion}
 use Rattle.std.specs.Int.{w32, w64, to_be_bytes}
-use Rattle.std.specs.Io.KnownBytes.{Appends}
 use Rattle.rk_frame.specs.Framing.{frame}
 use Rattle.rk_record.specs.HallNumbers.{hall_number}
 use Rattle.rk_record.specs.declared.recorded.Recorded.{Recorded}
@@ -63,10 +62,7 @@ IsFaultOf file (fault.Step number) = (h : Head) × (count : ℕ) × (more : List
 IsFaultOf file fault.Trailing = (h : Head) × (steps : List Recorded) × (left : List ℕ) × IsHead h (length steps) × AllByRecursion IsStep steps
     × (file ≡ file_bytes h steps ++ left) × (0 < length left)
 IsFaultOf file fault.NoMemory = Unit {0}
-
--- a volume was written, behind what was written before
-abbrev pub HasStored : Head → List Recorded → Option (List ℕ) → Option (List ℕ) → Type 0
-HasStored h steps contents contents' = (file : List ℕ) × IsStored h steps file × Appends contents contents' file
+IsFaultOf file fault.Sum = ⊥
 
 -- a volume at the front of a file is all of it, and no other
 abbrev pub HaveOneReading : Type 0

@@ -8,10 +8,13 @@ use thiserror::Error;
 /// Why a file is no volume, in the order in which it is found.
 #[derive(Clone, Copy, Debug, PartialEq, Eq, Error)]
 pub enum Fault {
+    /// The sum at its end is not that of the bytes before it.
+    #[error("its sum is not that of its bytes, so that it was cut or changed")]
+    Sum,
     /// It does not begin with the line that names the format and its version.
     #[error("it does not begin as a volume of this version")]
     Title,
-    /// No head stands behind the line: it is cut, or there is no such hall.
+    /// No seal or no head stands behind the line: it is cut, or there is no such mark or hall.
     #[error("its head is cut or bad")]
     Head,
     /// The step of this number, from 1 within the volume, is cut or bad.

@@ -2,26 +2,28 @@
 //!
 //! # Purpose
 //!
-//! A daemon that keeps its record writes each volume into a file (`reqkeyd serve --record`). [`Head::store`] writes one, and [`Stored::read`] reads it: the
+//! A daemon that keeps its record writes each volume into a file (`reqkeyd serve --record`). [`Seal::store`] writes one, and [`Stored::read`] reads it: the
 //! hall and the place of the volume in its record, the seconds for which a key is negative, and every step with its moment, its event and its answer.
 //!
 //! # What it promises
 //!
-//! A file is one volume or none (`volumes_have_one_reading`): what was written is read back as the same head and the same steps, and no file is another one
-//! with more bytes behind it. So a file that is cut anywhere is refused, and so is one with a byte too many. A [`Fault`] says what is wrong and at which step,
-//! and comes exactly where that is so; want of memory alone comes besides.
+//! What was written is read back as the same head, the same steps and the same seal. A volume in its seal has the sum of all its bytes before it, by SHA-256:
+//! a file that was cut or changed is refused, unless its sum is right by chance. A volume with nothing around it (version 1) is one or none, and no other one
+//! with more bytes behind it (`volumes_have_one_reading`). A [`Fault`] says what is wrong and at which step, and comes exactly where that is so; want of
+//! memory alone comes besides.
 //!
 //! # The format
 //!
-//! A line of text names the format and its version. Behind it stand the head and the steps, in numbers with their highest byte first. A step is its moment,
+//! A line of text names the format and its version. A file of version 2 has a [`Seal`] behind it, then a volume as version 1 has it, and the sum. Behind the
+//! line of version 1 stand the head and the steps, in numbers with their highest byte first. A step is its moment,
 //! its event and its answer; event and answer are rows of one shape, each behind its length: a kind, a byte that says how, a number, and the rest. Asks and
 //! replies stand in a row as they do on the wire (rk_message). docs/RECORD.md has the tables.
 //!
 //! # How it is built
 //!
-//! `specs/Format.antt` is the format. `numbers` reads numbers and what stands behind a length, `row` reads and writes rows, `kinds` has the numbers of
+//! `specs/Format.antt` is the format of a volume, `specs/Seals.antt` that of a seal, and `specs/Filed.antt` says what a file has. `numbers` reads numbers and what stands behind a length, `row` reads and writes rows, `kinds` has the numbers of
 //! sessions, starts, ends and uses. `event_reading`, `event_writing`, `answer_reading` and `answer_writing` make rows of steps and back, `subject` has what
-//! is started. `step`, `head` and `stored` put them together.
+//! is started, and `seal` what ties volumes together. `step`, `head` and `stored` put them together.
 #![tactic(auto)]
 
 mod answer_reading;
@@ -34,6 +36,7 @@ mod kinds;
 mod law;
 mod numbers;
 mod row;
+mod seal;
 mod step;
 mod stored;
 mod subject;
@@ -41,4 +44,5 @@ mod subject;
 pub use fault::Fault;
 pub use head::Head;
 pub use law::volumes_have_one_reading;
+pub use seal::{RunNumber, Seal, Sealed, Sum};
 pub use stored::Stored;

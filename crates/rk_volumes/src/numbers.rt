@@ -41,3 +41,11 @@ pub(crate) fn framed(bytes: &[u8]) -> Option<(&[u8], &[u8])>
     }
     Some(rest.split_at(len))
 }
+
+/// So many bytes, and what stands behind them; `None` for fewer bytes.
+pub(crate) fn array<const N: usize>(bytes: &[u8]) -> Option<([u8; N], &[u8])>
+    ensures { MatchOption result (length bytes.now < N) (λ x. (length x.0 ≡ N) × (bytes.now ≡ x.0 ++ x.1.now)) }
+{
+    let (front, rest) = bytes.split_first_chunk::<N>()?;
+    Some((*front, rest))
+}

@@ -1,4 +1,5 @@
-use Rattle.std.proofs.Common.{ℕ, List, length, ap, ◌∙◌, inr, arith}
+use Rattle.std.proofs.Common.{ℕ, List, length, ap, ◌∙◌, inl, inr, arith}
+use Rattle.std.proofs.lemmas.Result.{err_from_is_err_and}
 use Rattle.rk_record.specs.declared.recorded.Recorded.{Recorded}
 use Rattle.rk_record.specs.Volumes.{counted}
 use Rattle.rk_rejoin.specs.Judged.{of_hall, joined}
@@ -17,6 +18,8 @@ returns-in-Ok-clause-is c =
       next = had.next;
       volumes = omega (arith, c.len.ensures, as_many ls vs had.steps);
       steps = c.in-Ok.ensures.count ∙ ap (λ (l : List Recorded). counted (length l)) flat;
+      chained = c.in_ok-closed.ensures.chained;
+      closed = c.in_ok-closed.ensures.closed;
       world = run.0;
       run = run_of c.limits_of.result c.args.negative c.args.hall _ _ run.0 c.limits_of.ensures flat run.1;
     }
@@ -37,5 +40,10 @@ returns-in-Err-Broken-clause-refused c =
     let flat = flat_steps c.deref.result.now c.in_ok-steps.steps.items vs c.deref.ensures.value had.steps in
     let at = breaks_at _ _ c.in-Err-Broken.field-0 c.in-Err-Broken.number c.in-Err-Broken.field-0-is c.in-Err-Broken.ensures.broken in
     let number = numbered _ _ c.in-Err-Broken.number at.0 at.1 (omega (arith, ap length flat, had.count)) at.2 in
-    inr (hall_broken c.args.negative c.args.hall c.args.volumes.now c.in-Err-Broken.number at.0 c.broken_at.result had.next number.0
-    (broken_of c.limits_of.result c.args.negative c.args.hall _ _ at.0 c.limits_of.ensures flat at.2) c.broken_at.ensures)
+    inr (inr (hall_broken c.args.negative c.args.hall c.args.volumes.now c.in-Err-Broken.number at.0 c.broken_at.result had.next number.0
+    (broken_of c.limits_of.result c.args.negative c.args.hall _ _ at.0 c.limits_of.ensures flat at.2) c.broken_at.ensures))
+
+pub returns-in_err-closed-clause-refused : goal.returns-in_err-closed-clause-refused
+returns-in_err-closed-clause-refused c =
+    let p = err_from_is_err_and c.from_residual-in_err-closed.result c.from_residual-in_err-closed.ensures.1 in
+    rw (p.1, p.2) (inr (inl c.in_err-closed.ensures.refused))

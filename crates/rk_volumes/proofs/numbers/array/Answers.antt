@@ -1,0 +1,10 @@
+use Rattle.std.proofs.Common.{length, ap, arith}
+use Rattle.std.proofs.lemmas.List.{length-take}
+use Rattle.rk_volumes.proofs.Sealing.{cut_at}
+use Rattle.rk_volumes.proofs.numbers.array.Goals as goal
+
+pub returns : goal.returns
+returns g c =
+    let at = c.in_ok-front.ensures.cases in
+    let bytes = c.args.bytes.now in
+    (omega (arith, ap length at.0, length-take g.row.N bytes, at.2), cut_at bytes c.in_ok-front.front.now c.in_ok-front.rest.now g.row.N at.0 at.1)

@@ -1,0 +1,6 @@
+use Rattle.rk_volumes.specs.Seals.{seal_bytes}
+use Rattle.std.proofs.Common.{◌++◌}
+use Rattle.rk_volumes.proofs.seal.split_seal.Goals as goal
+
+pub returns-in_default-clause-only : goal.returns-in_default-clause-only
+returns-in_default-clause-only c = λ s volume is. c.in_default.ensures.only (seal_bytes s ++ volume)
