@@ -109,6 +109,46 @@ CUT = {f"{cut} bytes of {len(whole)}": whole[:cut] for whole in [peer.frame(peer
 
 SOCKET, FILE, OUTPUT = b"reqkeyctl: socket\n", b"reqkeyctl: file\n", b"reqkeyctl: output\n"
 
+GONE, NO_REPLY = "the peer is gone", "the peer sent no reply"
+STREAMS = b"reqkeyctl: socket\n  standard input and output: no reply came, since one of them ended or failed\n"
+NO_REPLY_IN = b"reqkeyctl: socket\n  standard input: what came is no reply\n"
+
+# usage errors, and the first line of what standard error says
+SAID = [
+    (["--payload-from", "x", "add", "user", "k", "v", "user"], "unexpected argument 'user' found"),
+    (["--payload-from", "f", "instantiate", "none"], "the following required arguments were not provided:"),
+    (["--payload-from", "-", "instantiate", "3", "none"], "the file '-' is standard input, which leads to the daemon unless '--socket <PATH>' is used"),
+    (["--payload-from", "f", "read", "3"], "the argument '--payload-from <FILE>' cannot be used with a command that takes no payload"),
+    (["--callout-from", "f", "instantiate", "3", "none"], "the argument '--callout-from <FILE>' cannot be used with a command that takes no callout"),
+    (["--callout-from", "f", "--payload-from", "f", "request", "user", "a", "none"],
+     "the argument '--payload-from <FILE>' cannot be used with '--callout-from <FILE>'"),
+    (["add", "--help", "x"], "the following required arguments were not provided:"),
+    (["add", "user", "--help"], "the following required arguments were not provided:"),
+    (["read", "3", "--help"], "unexpected argument '--help' found"),
+    (["read", "3", "4"], "unexpected argument '4' found"),
+    (["hello", "x"], "unexpected argument 'x' found"),
+    (["nothing"], "unrecognized subcommand 'nothing'"),
+    (["nothing", "--help"], "unrecognized subcommand 'nothing'"),
+    (["--nothing", "read", "3"], "unexpected argument '--nothing' found"),
+    (["read", "x"], "<key> is a number up to 2147483647, or auth: the authority that is assumed"),
+    (["--uid", "+1", "read", "3"], "invalid value '+1' for '--uid <N>': a number has digits alone"),
+    (["--gid=+1", "read", "3"], "invalid value '+1' for '--gid <N>': a number has digits alone"),
+    (["--join", "+1", "read", "3"], "invalid value '+1' for '--join <N>': a number has digits alone"),
+    (["--uid", "-h", "read", "3"], "a value is required for '--uid <N>' but none was supplied"),
+    (["--uid", "1", "--uid", "1", "read", "3"], "the argument '--uid <N>' cannot be used multiple times"),
+    (["--quiet=1", "read", "3"], "unexpected value '1' for '--quiet' found; no more were expected"),
+    (["--quiet", "--quiet", "read", "3"], "the argument '--quiet' cannot be used multiple times"),
+    (["--uid", "1", "run", "--", "true"], "the options of 'run' stand behind it, as in 'reqkeyctl run --uid 1000 -- PROGRAM'"),
+    (["run"], "the following required arguments were not provided:"),
+    (["run", "--nothing", "--", "true"], "unexpected argument '--nothing' found"),
+    (["run", "--uid", "+1", "--", "true"], "invalid value '+1' for '--uid <N>': a number has digits alone"),
+    (["run", "--library", "rel", "--", "true"], "invalid value 'rel' for '--library <FILE>': it has to be an absolute path, without a space or a colon"),
+    (["run", "--library", "/a b", "--", "true"], "invalid value '/a b' for '--library <FILE>': it has to be an absolute path, without a space or a colon"),
+    *[(["run", "--trap", option, value, "--", "true"], f"the argument '--trap' cannot be used with '{option} <{name}>'") for option, value, name in
+      [("--library", "/l", "FILE"), ("--uid", "1", "N"), ("--gid", "1", "N")]],
+    (["run", "--trap=", "--", "true"], "unexpected value '' for '--trap' found; no more were expected"),
+]
+
 
 def ran(program, words, stdin=b"", **more):
     done = subprocess.run([program, *words], input=stdin, stdout=subprocess.PIPE, stderr=subprocess.PIPE, timeout=LIMIT, **more)
@@ -152,6 +192,12 @@ def out_of_bounds(program, before, option, value, most):
     return differs((status, output, errors.decode().partition("\n")[0]), (2, b"", want))
 
 
+def says(program, words, want):
+    """A usage error: status 2, nothing on standard output, and one message, which says what is wrong."""
+    status, output, errors = ran(program, words, b"unread")
+    return differs((status, output, errors.decode().partition("\n")[0]), (2, b"", f"error: {want}"))
+
+
 def misuses_socket(program, words):
     """The same with a socket, to which nothing is said."""
     with peer.Daemon([None]) as daemon:
@@ -186,16 +232,20 @@ def refuses(program, errno):
 
 def fails(program, reply):
     """Invalid replies, to HELLO, to the ask, and to a handler."""
+    cut = reply in CUT.values()
     for replies in [[reply], [peer.frame(peer.rings(0, 0, 1, 2)), reply]]:
         with peer.Daemon([*replies[:-1], replies[-1] or None]) as daemon:
             got = ran(program, ["--socket", daemon.path, "read", "3"])
-        if got != (1, b"", SOCKET):
+        if got != (1, b"", SOCKET + f"  {daemon.path}: {GONE if cut else NO_REPLY}\n".encode()):
             return f"{got} at reply {len(replies)}"
-    return differs(ran(program, ["read", "3"], reply), (1, peer.frame(peer.on_key(7, 3)), SOCKET))
+    return differs(ran(program, ["read", "3"], reply), (1, peer.frame(peer.on_key(7, 3)), STREAMS if cut else NO_REPLY_IN))
 
 
-def no_daemon(program, path):
-    return differs(ran(program, ["--socket", path, "read", "3"]), (1, b"", SOCKET))
+def no_daemon(program, path, reason):
+    """A socket that can't be reached: the path and the system's reason, of a request and of a program that is to be run."""
+    want = SOCKET + f"  {path}: {reason}\n".encode()
+    runs = ran(program, ["run", "--socket", path, "--library", "/dev/null", "--", "true"])
+    return differs(ran(program, ["--socket", path, "read", "3"]), (1, b"", want)) or differs(runs, (1, b"", want))
 
 
 def full_output(program):
@@ -203,35 +253,131 @@ def full_output(program):
     with open("/dev/full", "wb") as full, peer.Daemon([peer.frame(peer.rings(0, 0, 1, 2)), peer.frame(peer.number(7))]) as daemon:
         done = [subprocess.run([program, *words, "read", "3"], stdin=subprocess.DEVNULL, stdout=full, stderr=subprocess.PIPE, timeout=LIMIT) for words in
                 [["--socket", daemon.path], []]]
-    return differs([(it.returncode, it.stderr) for it in done], [(1, OUTPUT), (1, SOCKET)])
+    return differs([(it.returncode, it.stderr) for it in done], [(1, OUTPUT), (1, STREAMS)])
 
 
 def closed_input(program):
     """A handler whose input ends at once, or can't be read."""
     with open("/dev/null", "wb") as none:
         done = subprocess.run([program, "read", "3"], stdin=none, stdout=subprocess.PIPE, stderr=subprocess.PIPE, timeout=LIMIT)
-    return differs((done.returncode, done.stderr), (1, SOCKET))
+    return differs((done.returncode, done.stderr), (1, STREAMS))
 
 
-def from_file(program, words, option, content, ask, want=(0, b"7\n", b"")):
-    """The bytes of a file stand for an argument: of a file, and of standard input; and of a file in a handler."""
+def from_file(program, words, option, content, ask, rule=None):
+    """The bytes of a file stand for an argument: of a file, and of standard input; and of a file in a handler. Or they break the rule of the argument."""
+    def want(source):
+        return (0, b"7\n", b"") if rule is None else (1, b"", FILE + f"  {source}: {rule}\n".encode())
+
     with tempfile.TemporaryDirectory() as room:
         path = pathlib.Path(room) / "bytes"
         path.write_bytes(content)
         for source, stdin in [(str(path), b"unread"), ("-", content)]:
             with peer.Daemon([peer.frame(peer.rings(0, 0, 1, 2)), peer.frame(peer.number(7))]) as daemon:
                 got = ran(program, ["--socket", daemon.path, option, source, *words], stdin)
-            if got != want or daemon.heard != ([peer.hello(), ask] if ask is not None else []):
+            if got != want("standard input" if source == "-" else source) or daemon.heard != ([peer.hello(), ask] if ask is not None else []):
                 return f"{str(got)[:200]} {str(daemon.heard)[:200]} from {source}"
         handler = ran(program, [f"{option}={path}", *words], peer.frame(peer.number(7)))
-        return differs(handler, (0, peer.frame(ask), b"7\n") if ask is not None else want)
+        return differs(handler, (0, peer.frame(ask), b"7\n") if ask is not None else want(path))
 
 
-def no_file(program, path):
+def no_file(program, path, reason):
     """A file that can't be read is found before the daemon is asked, and behind faults of the words."""
     with peer.Daemon([None]) as daemon:
         got = ran(program, ["--socket", daemon.path, "--payload-from", path, "instantiate", "3", "none"])
-        return differs((got, daemon.heard), ((1, b"", FILE), []))
+        return differs((got, daemon.heard), ((1, b"", FILE + f"  {path}: {reason}\n".encode()), []))
+
+
+def no_library(program, path):
+    """A library that is not there, and a `reqkey-trap` that isn't: where it would be, beside the program."""
+    own = pathlib.Path(program).resolve()
+    trap = own.parent.parent / "bin" / "reqkey-trap"
+    for words, file in [(["--library", path], path), (["--trap"], trap)]:
+        got = ran(program, ["run", "--socket", "/dev/null/none", *words, "--", "true"])
+        want = (1, b"", FILE + f"  {file}: No such file or directory\n".encode())
+        if got != want and not trap.exists():
+            return f"{got}, not {want}"
+    return None
+
+
+def runs_by_trap(program, room):
+    """`run --trap` starts the `reqkey-trap` that is installed beside it, with the socket and the program, and in the environment that there is."""
+    room = pathlib.Path(tempfile.mkdtemp(dir=room)) / "bin"
+    room.mkdir()
+    own = shutil.copy(program, room / "reqkeyctl")
+    trap = room / "reqkey-trap"
+    trap.write_text('#!/bin/sh\nprintf "%s\\n" "$@" "$REQKEYD_SOCKET $REQKEYD_JOIN $LD_PRELOAD"\nexit 7\n')
+    trap.chmod(0o755)
+    behind = ["--", "program", "-x", "--socket", ""]
+    named = ran(own, ["run", "--trap", "--socket", "a b/s", *behind], env={"REQKEYD_JOIN": "5"})
+    told = ran(own, ["run", "--trap", *behind], env={"REQKEYD_SOCKET": "/s"})
+    words = "\n".join(behind)
+    trap.write_text("")
+    empty = ran(own, ["run", "--trap", "--socket", "s", *behind])
+    return differs((named, told, empty), (
+        (7, f"--socket\na b/s\n{words}\n 5 \n".encode(), b""), (7, f"--socket\n/s\n{words}\n/s  \n".encode(), b""),
+        (126, b"", f"reqkeyctl: program\n  {trap}: Exec format error\n".encode())))
+
+
+def no_program(program, path, status, reason):
+    """A program that can't be started."""
+    with peer.Daemon([peer.frame(peer.rings(0, 0, 1, 2))]) as daemon:
+        got = ran(program, ["run", "--socket", daemon.path, "--library", "/dev/null", "--", path])
+    return differs(got, (status, b"", f"reqkeyctl: program\n  {path}: {reason}\n".encode()))
+
+
+def no_socket_for_run(program):
+    """No socket is named: standard error says so."""
+    got = ran(program, ["run", "--library", "/dev/null", "--", "true"], env={"PATH": os.environ["PATH"]})
+    return differs(got, (1, b"", SOCKET + b"  no daemon answered; --socket or REQKEYD_SOCKET names its socket\n"))
+
+
+def runs_for(program, words, uid, gid, want):
+    """Whom HELLO of a run is for: who is named, or else the effective user and group of who calls."""
+    with peer.Daemon([peer.frame(peer.rings(0, 0, 1, 2))]) as daemon:
+        os.chmod(daemon.room.name, 0o755)
+        os.chmod(daemon.path, 0o666)
+        words = ["run", "--socket", daemon.path, "--library", "/dev/null", *words, "--", "/bin/true"]
+        more = {"user": uid, "group": gid, "extra_groups": []} if os.geteuid() == 0 else {}
+        subprocess.run([program, *words], stdin=subprocess.DEVNULL, stderr=subprocess.DEVNULL, timeout=LIMIT, **more)
+        daemon.ended()
+    return differs(daemon.heard, [peer.hello(*want)])
+
+
+def is_quiet(program, reply):
+    """No reply is printed, but a refusal is."""
+    for replies, want in [([reply], (0, b"", b"")), ([peer.refused(126)], (1, b"", b"errno 126\n"))]:
+        with peer.Daemon([peer.frame(it) for it in [peer.rings(0, 0, 1, 2), *replies]]) as daemon:
+            got = ran(program, ["--socket", daemon.path, "--quiet", "read", "3"])
+        handler = ran(program, ["--quiet", "read", "3"], peer.frame(replies[0]))
+        if got != want or handler != (want[0], peer.frame(peer.on_key(7, 3)), want[2]):
+            return f"{got} and {handler}"
+    return None
+
+
+def at_terminal(program, words, status, want):
+    """What a call does whose standard output is a terminal, and that names no socket: it writes nothing there but help."""
+    leader, follower = os.openpty()
+    environment = {key: value for key, value in os.environ.items() if key != "REQKEYD_SOCKET"}
+    done = subprocess.run([program, *words], stdin=follower, stdout=follower, stderr=subprocess.PIPE, env=environment, timeout=LIMIT)
+    os.write(follower, b"end")
+    shown = b""
+    while not shown.endswith(b"end"):
+        shown += os.read(leader, 65536)
+    os.close(leader)
+    os.close(follower)
+    return differs((done.returncode, want.encode() in (shown if status == 0 else done.stderr), shown == b"end"), (status, True, status != 0))
+
+
+def by_environment(program, stdin, stdout, named):
+    """REQKEYD_SOCKET names the socket, unless an option does, or both streams are pipes, as a handler's are: those are the daemon's."""
+    piped = stdin == stdout == subprocess.PIPE
+    with peer.Daemon([peer.frame(peer.rings(0, 0, 1, 2)), peer.frame(peer.number(7))]) as daemon:
+        words = ["--socket", daemon.path] if named else []
+        environment = {"REQKEYD_SOCKET": "/dev/null/none" if named else daemon.path}
+        done = subprocess.run([program, *words, "read", "3"], stdin=stdin, stdout=stdout, stderr=subprocess.PIPE, env=environment, timeout=LIMIT)
+    if piped and not named:
+        return differs((done.stdout, done.stderr, daemon.heard), (peer.frame(peer.on_key(7, 3)), STREAMS, []))
+    return differs((done.returncode, done.stderr, daemon.heard), (0, b"", [peer.hello(), peer.on_key(7, 3)]))
 
 
 def helps(program, words, *wanted):
@@ -318,27 +464,47 @@ def cases(room):
     for name, reply in [*MALFORMED.items(), *CUT.items()]:
         yield name, fails, reply
     (room / "plain").write_bytes(b"x")
-    for path in [room / "none", room / "plain", room, "/" + "l" * 120, ""]:
-        yield f"a socket at {str(path)[:40]!r}", no_daemon, str(path)
+    for path, reason in [(room / "none", "No such file or directory"), (room / "plain", "Connection refused"), (room, "Connection refused")]:
+        yield f"a socket at {str(path)[:40]!r}", no_daemon, str(path), reason
+    for words, want in SAID:
+        yield f"{words} is told", says, words, want
     for before in [[], ["run"]]:
         yield f"too great a number of {before}", out_of_bounds, before, "--uid", "4294967296", 4294967295
         yield f"too great a number of a group of {before}", out_of_bounds, before, "--gid", "4294967296", 4294967295
     yield "too great a number of a ring", out_of_bounds, [], "--join", "2147483648", 2147483647
-    yield "a file that is not there", no_file, str(room / "none")
-    yield "a folder for a file", no_file, str(room)
+    yield "a file that is not there", no_file, str(room / "none"), "No such file or directory"
+    yield "a folder for a file", no_file, str(room), "Is a directory"
+    yield "a library that is not there", no_library, str(room / "none")
+    yield "a program that is not there", no_program, str(room / "none"), 127, "No such file or directory"
+    yield "a program that can't be started", no_program, str(room / "plain"), 126, "Permission denied"
+    yield "no socket for a run", no_socket_for_run
+    yield "a run by reqkey-trap", runs_by_trap, room
+    own = (os.geteuid(), os.getegid()) if os.geteuid() != 0 else (1000, 2000)
+    yield "a run for its caller", runs_for, [], *own, own
+    yield "a run for another user", runs_for, ["--uid", "7"], *own, (7, own[1])
+    yield "a run for another group", runs_for, ["--gid", "7"], *own, (own[0], 7)
+    for reply, *_ in REPLIES[:5]:
+        yield f"the reply {reply[:12]!r} quiet", is_quiet, reply
+    yield "a request at a terminal", at_terminal, ["read", "3"], 2, "nor REQKEYD_SOCKET says where the daemon is, and standard output is a terminal"
+    yield "words that are no call at a terminal", at_terminal, ["nothing"], 2, "unrecognized subcommand"
+    yield "help at a terminal", at_terminal, ["read", "--help"], 0, "Usage"
+    for stdin in [subprocess.PIPE, subprocess.DEVNULL]:
+        for stdout in [subprocess.PIPE, subprocess.DEVNULL]:
+            for named in [False, True]:
+                yield f"REQKEYD_SOCKET with streams {stdin} and {stdout}, {named}", by_environment, stdin, stdout, named
     yield "a full device", full_output
     yield "an input that can't be read", closed_input
     yield "two runs in a script", two_in_a_script
     put, payload = ["instantiate", "3", "none"], b"\x00\xff\n-"
     yield "a payload from a file", from_file, put, "--payload-from", payload, peer.instantiate(3, payload, 0)
     yield "the longest payload from a file", from_file, put, "--payload-from", b"p" * 32767, peer.instantiate(3, b"p" * 32767, 0)
-    yield "too long a payload from a file", from_file, put, "--payload-from", b"p" * 32768, None, (1, b"", FILE)
-    yield "no payload from a file", from_file, put, "--payload-from", b"", None, (1, b"", FILE)
+    yield "too long a payload from a file", from_file, put, "--payload-from", b"p" * 32768, None, "<payload> is 1 to 32767 bytes"
+    yield "no payload from a file", from_file, put, "--payload-from", b"", None, "<payload> is 1 to 32767 bytes"
     yield "a payload of add from a file", from_file, ["add", "user", "k", "5"], "--payload-from", payload, peer.add(b"user", b"k", payload, 5)
     ask_key = ["request", "user", "a", "none"]
     yield "a callout from a file", from_file, ask_key, "--callout-from", b"c\n", peer.request(b"user", b"a", b"c\n", 0)
     yield "an empty callout from a file", from_file, ask_key, "--callout-from", b"", peer.request(b"user", b"a", b"", 0)
-    yield "a callout from a file without text", from_file, ask_key, "--callout-from", b"\xff", None, (1, b"", FILE)
+    yield "a callout from a file without text", from_file, ask_key, "--callout-from", b"\xff", None, "<callout> is at most 4095 bytes of text, for the handler"
     if shutil.which("gcc"):
         library = str(room / "refusing_malloc.so")
         subprocess.run(["gcc", "-shared", "-fPIC", "-o", library, pathlib.Path(__file__).with_name("refusing_malloc.c")], check=True)

@@ -23,6 +23,7 @@ from programs import LIMIT, PROGRAMS, top
 
 count = Counted()
 CALLS = top / "tests" / "clients" / "calls.py"
+ABSENT = "No such file or directory"
 class Keyutils(Programs, Keyctl):
     """Programs in a session ring, and what keyctl has to print there."""
 
@@ -272,19 +273,22 @@ def ends(runner, room):
         runner.fits(script, runner.shell(script), want, "")
     plain = room / "plain"
     plain.write_text("#!/bin/sh\n")
-    for words, want in [(["no-such-program"], 127), (["/no/such/program"], 127), ([""], 127), ([plain], 126), ([room], 126)]:
-        runner.fits(f"{words}", runner.run(*words), want, "", "reqkeyctl: program\n")
+    for word, want, why in [("no-such-program", 127, ABSENT), ("/no/such/program", 127, ABSENT), ("", 127, ABSENT), (plain, 126, DENIED), (room, 126, DENIED)]:
+        runner.fits(f"{word}", runner.run(word), want, "", f"reqkeyctl: program\n  {word}: {why}\n")
 
 
 def refuses(runner, room):
     """No daemon, wrong ones, no library, and usage errors."""
     library = ["--library", runner.library]
     socket = ["--socket", runner.path]
-    for options in [library, [*library, "--socket", room / "none"], [*library, "--socket", room]]:
-        runner.same(f"{options}", runner.run("echo", "ran", options=options), (1, "", "reqkeyctl: socket\n"))
-    for wanted in ["/no/such/library", str(room / "none")]:
-        runner.same(f"the library {wanted}", runner.run("echo", "ran", options=[*socket, "--library", wanted]), (1, "", "reqkeyctl: file\n"))
-    unheard = "reqkeyctl: socket\n"
+    unheard = "reqkeyctl: socket\n  no daemon answered; --socket or REQKEYD_SOCKET names its socket\n"
+    none = room / "none"
+    for options, want in [([], unheard), (["--socket", none], f"reqkeyctl: socket\n  {none}: {ABSENT}\n"),
+                          (["--socket", room], f"reqkeyctl: socket\n  {room}: Connection refused\n")]:
+        runner.same(f"{options}", runner.run("echo", "ran", options=[*library, *options]), (1, "", want))
+    for wanted in ["/no/such/library", str(none)]:
+        told = runner.run("echo", "ran", options=[*socket, "--library", wanted])
+        runner.same(f"the library {wanted}", told, (1, "", f"reqkeyctl: file\n  {wanted}: {ABSENT}\n"))
     for reply, want in [(None, unheard), (ask.frame(b"\x09"), unheard), (ask.frame(ask.number(5)), unheard), (ask.frame(ask.data(b"x")), unheard),
                         (ask.frame(ask.refused(13)), "errno 13\n")]:
         with ask.Daemon([reply]) as hostile:

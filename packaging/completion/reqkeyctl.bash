@@ -4,7 +4,7 @@ _reqkeyctl()
     # for the program and each command its options; for each command its arguments, and for those their words; for options the names of their
     # values, and the arguments in whose place they stand
     local -A options=(
-        [reqkeyctl]='--socket --uid --gid --join --payload-from --callout-from --raw -h --help -V --version'
+        [reqkeyctl]='--socket --uid --gid --join --payload-from --callout-from --raw --quiet -h --help -V --version'
         [hello]='-h --help'
         [request]='-h --help'
         [assume]='-h --help'
@@ -21,7 +21,7 @@ _reqkeyctl()
         [default]='-h --help'
         [add]='-h --help'
         [callout]='-h --help'
-        [run]='--socket --uid --gid --library -h --help'
+        [run]='--socket --uid --gid --library --trap -h --help'
     )
     local -A arguments=(
         [request]='type description ring callout'

@@ -1,5 +1,5 @@
 -- What the words of a call ask for.
-use Rattle.std.specs.Prelude.{◌≡◌, ℕ, List, [], length, Bool, true, false, ◌||◌, codes, Option, Some, None, option_map, if◌then◌else◌, ◌⊎◌}
+use Rattle.std.specs.Prelude.{◌≡◌, ℕ, List, [], ◌∷◌, length, Bool, true, false, ◌||◌, codes, Option, Some, None, option_map, if◌then◌else◌, ◌⊎◌}
 use Rattle.std.specs.Str.{bytes_eq}
 use Rattle.std.specs.List.{insert, list_any, position}
 use Rattle.rk_names.specs.Numbers.{serial_of}
@@ -12,15 +12,33 @@ use Rattle.rk_message.specs.declared.shape.Op.TheVariants as op
 use Rattle.rk_message.specs.Asks.{ask_op, ask_values}
 use Rattle.rk_message.specs.Table.{ask_fields}
 use Rattle.rk_client.specs.Arguments.{ask_said}
-use Rattle.reqkeyctl.specs.Said.{CallSaid, OptionsSaid}
+use Rattle.reqkeyctl.specs.Said.{CallSaid, OptionsSaid, in_front, is_alone, op_and_more}
 
 -- a word that asks for help or for the version
 abbrev pub is_help : List ℕ → Bool
 is_help word = bytes_eq word (codes "--help") || bytes_eq word (codes "-h") || bytes_eq word (codes "--version") || bytes_eq word (codes "-V")
 
--- such a word is among the words
+-- such a word stands in the place of an option
+abbrev pub asks_in_front : List (List ℕ) → Bool
+asks_in_front [] = false
+asks_in_front (word ∷ []) = is_help word
+asks_in_front (word ∷ next ∷ words) = is_help word || (if is_alone word then asks_in_front (next ∷ words) else asks_in_front words)
+
+-- such a word is the only one
+abbrev pub is_help_alone : List (List ℕ) → Bool
+is_help_alone (word ∷ []) = is_help word
+is_help_alone _ = false
+
+-- it stands in front of the op, or is all that is behind it
+abbrev pub asks_of : List (List ℕ) → Option (Op × List (List ℕ)) → Bool
+asks_of words None = asks_in_front words
+asks_of words (Some (o, arguments)) = is_help_alone arguments || asks_in_front (in_front words arguments)
+
+-- the words, of which the first is the name of the program, ask for help; all that is behind an op are its arguments
 abbrev pub asks_help : List (List ℕ) → Bool
-asks_help words = list_any is_help words
+asks_help [] = false
+asks_help (program ∷ []) = false
+asks_help (program ∷ word ∷ words) = if bytes_eq word (codes "run") then asks_in_front words else asks_of (word ∷ words) (op_and_more (word ∷ words))
 
 -- who acts with these options: no ring of its own
 abbrev pub greeting_said : OptionsSaid → Ask

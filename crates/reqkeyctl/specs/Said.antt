@@ -15,6 +15,7 @@ pub record OptionsSaid : Type 0 where
   pub gid : ℕ
   pub join : ℕ
   pub raw : Bool
+  pub quiet : Bool
   pub payload_from : Option (List ℕ)
   pub callout_from : Option (List ℕ)
 
@@ -32,6 +33,7 @@ options_by o = record {
   gid = o.gid;
   join = o.join;
   raw = o.raw;
+  quiet = o.quiet;
   payload_from = option_map (λ s. s.now) o.payload_from;
   callout_from = option_map (λ s. s.now) o.callout_from;
 }
@@ -42,21 +44,25 @@ call_by c = record { options = options_by c.options; op = c.op; arguments = map 
 
 -- the options that have no value
 abbrev pub flags : List (List ℕ)
-flags = codes "--raw" ∷ []
+flags = codes "--raw" ∷ codes "--quiet" ∷ []
 
 -- all options
 abbrev pub is_option : List ℕ → Bool
 is_option name = is_among (
-    codes "--socket" ∷ codes "--uid" ∷ codes "--gid" ∷ codes "--join" ∷ codes "--raw" ∷ codes "--payload-from" ∷ codes "--callout-from" ∷ []
+    codes "--socket" ∷ codes "--uid" ∷ codes "--gid" ∷ codes "--join" ∷ codes "--raw" ∷ codes "--quiet" ∷ codes "--payload-from" ∷ codes "--callout-from" ∷ []
     ) name
+
+-- an option that has no value
+abbrev pub is_flag : List ℕ → Bool
+is_flag name = bytes_eq name (codes "--raw") || bytes_eq name (codes "--quiet")
 
 -- a flag that is given a value, even an empty one
 abbrev pub is_flag_with_value : List ℕ → Bool
-is_flag_with_value word = is_joined word && bytes_eq (joined word).name (codes "--raw")
+is_flag_with_value word = is_joined word && is_flag (joined word).name
 
 -- an option in one word
 abbrev pub is_alone : List ℕ → Bool
-is_alone word = is_joined word || bytes_eq word (codes "--raw")
+is_alone word = is_joined word || is_flag word
 
 -- the op of a first word, with the words behind it; where it is none, the op of other words
 abbrev pub or_op : Option Op → List (List ℕ) → Option (Op × List (List ℕ)) → Option (Op × List (List ℕ))
@@ -71,18 +77,19 @@ op_and_more (word ∷ next ∷ words) = or_op (op_said word) (next ∷ words)
     (if is_flag_with_value word then None else (if is_alone word then op_and_more (next ∷ words) else op_and_more words))
 
 -- all of them
-abbrev pub together : Option (Option (List ℕ)) → Option ℕ → Option ℕ → Option ℕ → Option (Option (List ℕ))
+abbrev pub together : Option (Option (List ℕ)) → Option ℕ → Option ℕ → Option ℕ → Option (Option (List ℕ)) → Option (Option (List ℕ))
     → Option (Option (List ℕ)) → Option (Option (List ℕ)) → Option OptionsSaid
-together (Some socket) (Some uid) (Some gid) (Some join) (Some raw) (Some payload_from) (Some callout_from) = Some (record {
+together (Some socket) (Some uid) (Some gid) (Some join) (Some raw) (Some quiet) (Some payload_from) (Some callout_from) = Some (record {
   socket = socket;
   uid = uid;
   gid = gid;
   join = join;
   raw = is_some raw;
+  quiet = is_some quiet;
   payload_from = payload_from;
   callout_from = callout_from;
 })
-together _ _ _ _ _ _ _ = None
+together _ _ _ _ _ _ _ _ = None
 
 -- each known, there once at most, and with a value that is allowed
 abbrev pub options_in : Option (List Given) → Option OptionsSaid
@@ -92,6 +99,7 @@ options_in options = if all_named is_option options then together
     (number_in (codes "--gid") 0 (number_up_to 4294967295) options)
     (number_in (codes "--join") 0 (number_up_to 2147483647) options)
     (value_in (codes "--raw") options)
+    (value_in (codes "--quiet") options)
     (value_in (codes "--payload-from") options)
     (value_in (codes "--callout-from") options)
     else None

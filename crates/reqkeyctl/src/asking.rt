@@ -3,25 +3,32 @@ ghost use Rattle.std.specs.Prelude.{◌≡◌, Some, None, IfOk, Err, map, optio
 ghost use Rattle.std.specs.List.{list_any, position};
 ghost use Rattle.rk_message.specs.Table.{ask_fields};
 ghost use Rattle.rk_client.specs.declared.fault.ArgumentFault.{ArgumentFault as Faults};
+ghost use Rattle.reqkeyctl.specs.declared.misuse.Misplaced.{Misplaced as Misplacements};
 ghost use Rattle.reqkeyctl.specs.Calls.{Asks, AsksWith, greeting_before, greeting_said, is_callout, is_payload, place_said, with_bytes};
+ghost use Rattle.reqkeyctl.specs.Misplacing.{misplaced};
 ghost use Rattle.reqkeyctl.specs.Said.{call_by, options_by};
 
 use crate::call::{Call, Options};
+use crate::misuse::Misplaced;
 use crate::source::{SourceFault, read_source};
 use rk_client::{ArgumentFault, ask_of};
 use rk_message::{Ask, FieldKind, Greeting, Op};
 use rk_names::Serial;
 use std::alloc::{AllocError, Global};
 use std::fs::Files;
-use std::io::Read;
+use std::io::{Error, Read};
 
 /// Why a call is no ask.
 #[derive(Clone, Copy)]
 pub enum AskFault {
-    /// Its words are none.
+    /// Its arguments are not those of its op.
     Words(ArgumentFault),
-    /// The file can't be read, or its bytes are not allowed.
-    File,
+    /// A file stands for an argument that it can't be.
+    Place(Misplaced),
+    /// The file can't be read, as the system says.
+    File(Error),
+    /// The bytes of the file are not allowed.
+    Bytes(ArgumentFault),
     /// There was no memory.
     NoMemory,
 }
@@ -42,43 +49,45 @@ pub fn ask_for<R: Files, I: Read>(
 ) -> Result<Ask, AskFault>
     ensures asks { IfOk result (Asks (call_by call.now)) }
     ensures words { (fault : Faults) → result ≡ Err (AskFault.Words fault) → reader.new ≡ reader.old }
+    ensures place { (fault : Misplacements) → result ≡ Err (AskFault.Place fault) → reader.new ≡ reader.old }
     ensures handler { call.now.options.socket ≡ None → reader.new ≡ reader.old }
 {
     let Some(place) = place_of(call)? else {
         return ask_with(alloc, call, None);
     };
     if place.path == "-" && call.options.socket.is_none() {
-        return Err(AskFault::Words(ArgumentFault::Count));
+        return Err(AskFault::Place(Misplaced::Input));
     }
     ask_with(alloc, call, Some((place.at, b"-")))?;
     let bytes = match read_source(rt, alloc, place.path, reader) {
         Ok(bytes) => bytes,
-        Err(SourceFault::Lost) => return Err(AskFault::File),
+        Err(SourceFault::Lost(error)) => return Err(AskFault::File(error)),
         Err(SourceFault::NoMemory) => return Err(AskFault::NoMemory),
     };
     match ask_with(alloc, call, Some((place.at, bytes.as_slice()))) {
         Ok(ask) => Ok(ask),
-        Err(AskFault::NoMemory) => Err(AskFault::NoMemory),
-        Err(_) => Err(AskFault::File),
+        Err(AskFault::Words(fault)) => Err(AskFault::Bytes(fault)),
+        Err(_) => Err(AskFault::NoMemory),
     }
 }
 
 /// The file that is named, if one is. A callout comes last.
 fn place_of<'a>(call: &Call<'a>) -> Result<Option<Place<'a>>, AskFault>
     ensures { MatchResult result (λ p. place_said (call_by call.now) ≡ Some (option_map (λ place. record { path = place.path.now; at = place.at }) p))
-        (λ e. place_said (call_by call.now) ≡ None) }
+        (λ e. (place_said (call_by call.now) ≡ None) × (e ≡ AskFault.Place (misplaced call.now.options.payload_from call.now.options.callout_from))) }
 {
     match (call.options.payload_from, call.options.callout_from) {
         (None, None) => Ok(None),
         (Some(path), None) => match payload_place(call.op) {
             Some(at) => Ok(Some(Place { path, at })),
-            None => Err(AskFault::Words(ArgumentFault::Count)),
+            None => Err(AskFault::Place(Misplaced::Payload)),
         },
         (None, Some(path)) if has_callout(call.op) => Ok(Some(Place {
             path,
             at: call.arguments.len(),
         })),
-        _ => Err(AskFault::Words(ArgumentFault::Count)),
+        (None, Some(_)) => Err(AskFault::Place(Misplaced::Callout)),
+        (Some(_), Some(_)) => Err(AskFault::Place(Misplaced::Both)),
     }
 }
 

@@ -16,4 +16,7 @@ pub trait Daemon {
     fn ask(&mut self, path: &str, greeting: Option<&Ask>, ask: &Ask) -> Result<Reply, PeerFault>
         ensures { story self.new ≡ and_then (story self.old)
             (record { path = path.now; greeting = option_copied greeting.entry; ask = ask.now; answer = result }) };
+
+    /// What stood in the way of the last reply that there is not, where that is known: a text to be shown, with a path and what the system says of it.
+    fn trouble(&self) -> Option<&str>;
 }

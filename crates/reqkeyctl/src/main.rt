@@ -8,20 +8,25 @@
 //!
 //! `call` reads the words, `source` a file whose bytes stand for an argument, `asking` makes the ask of both; the library `rk_client` has what is
 //! said and heard. `daemon` is who is asked at a socket, and `sockets` how the system reaches it. `running` runs a program, by the library `rk_run`. `help`
-//! is the manual, for words that ask for it or can't be read. All that it does is one call, [`run::run_words`], over words, streams, a host and a daemon
+//! shows the manual to words that ask for it, and says what is wrong with words that can't be read, by `manual` and `misuse`. All that it does is one call, [`run::run_words`], over words, streams, a host and a daemon
 //! that are passed in.
 #![tactic(auto)]
 
+mod around;
 mod asking;
 mod call;
 mod daemon;
 mod help;
+mod manual;
+mod misuse;
 mod run;
 mod running;
 mod sockets;
 mod source;
 mod telling;
+mod trouble;
 
+use around::{Around, Invocation};
 use rk_run::System;
 use sockets::Sockets;
 use std::env;
@@ -40,6 +45,9 @@ fn main(rt: HostRuntime) -> ExitCode {
         }
         Err(_) => return ExitCode::from(telling::usage(&mut errors)),
     };
+    let Ok(around) = Around::look(&rt) else {
+        return ExitCode::from(telling::no_memory(&mut errors));
+    };
     let (mut reader, mut writer) = (rt.stdin(), rt.stdout());
     let mut host = System::new(&rt, rt.alloc());
     let mut daemon = Sockets::new(&rt, rt.alloc());
@@ -47,7 +55,10 @@ fn main(rt: HostRuntime) -> ExitCode {
         &rt,
         &mut host,
         &mut daemon,
-        words.as_slice(),
+        Invocation {
+            words: words.as_slice(),
+            around: &around,
+        },
         &mut reader,
         &mut writer,
         &mut errors,

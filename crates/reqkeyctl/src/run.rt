@@ -1,15 +1,20 @@
 //! What the words ask for, done over the streams that are passed in.
-ghost use Rattle.std.specs.Prelude.{◌≡◌, ◌≤◌, IfSome, None, map, string_bytes};
+ghost use Rattle.std.specs.Prelude.{◌≡◌, ◌≤◌, IfSome, Some, None, true, false, map, string_bytes};
 ghost use Rattle.rk_run.specs.Words.{wanted_said};
+ghost use Rattle.reqkeyctl.specs.Around.{call_in, is_lost};
+ghost use Rattle.reqkeyctl.specs.Calls.{asks_help};
 ghost use Rattle.reqkeyctl.specs.Outcome.{HasDone, HasSpoken};
 ghost use Rattle.reqkeyctl.specs.Programs.{RunsAs};
+ghost use Rattle.reqkeyctl.specs.Said.{CallSaid, call_by};
 
+use crate::around::{Around, Invocation};
 use crate::asking::{AskFault, ask_for, greeting_before};
 use crate::call::Call;
 use crate::daemon::Daemon;
-use crate::help::explain;
+use crate::help::{Misuse, explain};
 use crate::running::run_program;
 use crate::telling::{answer, answer_alone, no_file, no_memory, refused};
+use crate::trouble::{of_file, of_streams};
 use rk_client::exchange;
 use rk_run::{Host, Wanted};
 use std::fs::Files;
@@ -18,9 +23,9 @@ use std::io::{Read, Write};
 /// Runs the program on these words and streams, and gives its status: 0 where a reply was printed; 1 where it was a refusal, or there is none, or
 /// a file can't be used, or memory is lacking, with a line on `errors`; 2 for words that ask for nothing that there is, with the usage on `errors`.
 ///
-/// The first word is the name of the program. With `--socket` the `daemon` there is asked, behind the HELLO of the options; the reply is printed on
-/// `writer`, and `reader` is read only for a file `-`. Without it the peer is at the streams: one ask is written to `writer`, one reply read from
-/// `reader`, and it is printed on `errors`. Help and the version are written to `writer`.
+/// The first word is the name of the program. With `--socket`, or else with the socket of what is around, the `daemon` there is asked, behind the HELLO
+/// of the options; the reply is printed on `writer`, and `reader` is read only for a file `-`. Without one the peer is at the streams: one ask is written
+/// to `writer`, unless that is a terminal, one reply read from `reader`, and it is printed on `errors`. Help and the version are written to `writer`.
 ///
 /// Where the second word is `run`, and what follows are its options, `--` and a program, that program is run by `host` in a session ring of its own
 /// ([`rk_run::run`]), and the status is the program's; 127 where there is no such program and 126 where it can't be started; 1 where it was not run
@@ -29,28 +34,32 @@ pub fn run_words<R: AllocGlobal + Files, H: Host, D: Daemon, I: Read, W: Write, 
     rt: &R,
     host: &mut H,
     daemon: &mut D,
-    words: &[String],
+    invocation: Invocation<'_>,
     reader: &mut I,
     writer: &mut W,
     errors: &mut E,
 ) -> u8
     // what was done, by the words
-    ensures done { result ≡ 0 → HasDone (map string_bytes words.now) (D.story daemon.old) (D.story daemon.new)
+    ensures done { result ≡ 0 → HasDone invocation.entry.around.now (map string_bytes invocation.entry.words.now) (D.story daemon.old) (D.story daemon.new)
         (I.remaining reader.old) (I.remaining reader.new) (W.contents writer.old) (W.contents writer.new) (E.contents errors.old) (E.contents errors.new) }
     // whatever the status, the daemon is asked for nothing but what the words say, and that once
-    ensures spoke { HasSpoken (map string_bytes words.now) (D.story daemon.old) (D.story daemon.new) result }
+    ensures spoke { HasSpoken invocation.entry.around.now (map string_bytes invocation.entry.words.now) (D.story daemon.old) (D.story daemon.new) result }
     // words that ask for nothing read, write and say nothing
     ensures usage { result ≡ 2 → (reader.new ≡ reader.old) × (writer.new ≡ writer.old) × (daemon.new ≡ daemon.old) }
+    // a call that names no daemon writes nothing to a terminal, but help
+    ensures lost { (call : CallSaid) → call_in invocation.entry.around.now (map string_bytes invocation.entry.words.now) ≡ Some call
+        → is_lost invocation.entry.around.now call ≡ true → asks_help (map string_bytes invocation.entry.words.now) ≡ false
+        → (reader.new ≡ reader.old) × (writer.new ≡ writer.old) × (daemon.new ≡ daemon.old) }
 
     // a program that is wanted is run, and nothing is read, written or said here
-    ensures runs { IfSome (wanted_said (map string_bytes words.now)) (λ said. RunsAs said (H.story host.old) (H.story host.new) result
+    ensures runs { IfSome (wanted_said (map string_bytes invocation.entry.words.now)) (λ said. RunsAs said (H.story host.old) (H.story host.new) result
         × (reader.new ≡ reader.old) × (writer.new ≡ writer.old) × (daemon.new ≡ daemon.old)) }
     // for other words none is
-    ensures asks { wanted_said (map string_bytes words.now) ≡ None → (host.new ≡ host.old) × (result ≤ 2) }
+    ensures asks { wanted_said (map string_bytes invocation.entry.words.now) ≡ None → (host.new ≡ host.old) × (result ≤ 2) }
 {
-    match Wanted::read(words) {
+    match Wanted::read(invocation.words) {
         Some(wanted) => run_program(rt.alloc(), host, &wanted, errors),
-        None => ask_words(rt, daemon, words, reader, writer, errors),
+        None => ask_words(rt, daemon, invocation, reader, writer, errors),
     }
 }
 
@@ -58,36 +67,63 @@ pub fn run_words<R: AllocGlobal + Files, H: Host, D: Daemon, I: Read, W: Write, 
 fn ask_words<R: AllocGlobal + Files, D: Daemon, I: Read, W: Write, E: Write>(
     rt: &R,
     daemon: &mut D,
-    words: &[String],
+    invocation: Invocation<'_>,
     reader: &mut I,
     writer: &mut W,
     errors: &mut E,
 ) -> u8
-    ensures done { result ≡ 0 → HasDone (map string_bytes words.now) (D.story daemon.old) (D.story daemon.new)
+    ensures done { result ≡ 0 → HasDone invocation.entry.around.now (map string_bytes invocation.entry.words.now) (D.story daemon.old) (D.story daemon.new)
         (I.remaining reader.old) (I.remaining reader.new) (W.contents writer.old) (W.contents writer.new) (E.contents errors.old) (E.contents errors.new) }
-    ensures spoke { HasSpoken (map string_bytes words.now) (D.story daemon.old) (D.story daemon.new) result }
+    ensures spoke { HasSpoken invocation.entry.around.now (map string_bytes invocation.entry.words.now) (D.story daemon.old) (D.story daemon.new) result }
     ensures usage { result ≡ 2 → (reader.new ≡ reader.old) × (writer.new ≡ writer.old) × (daemon.new ≡ daemon.old) }
+    ensures lost { (call : CallSaid) → call_in invocation.entry.around.now (map string_bytes invocation.entry.words.now) ≡ Some call
+        → is_lost invocation.entry.around.now call ≡ true → asks_help (map string_bytes invocation.entry.words.now) ≡ false
+        → (reader.new ≡ reader.old) × (writer.new ≡ writer.old) × (daemon.new ≡ daemon.old) }
     ensures status { result ≤ 2 }
 {
-    let alloc = rt.alloc();
-    let Some(call) = Call::read(words) else {
-        return explain(alloc, words, None, writer, errors);
+    let (alloc, Invocation { words, around }) = (rt.alloc(), invocation);
+    let Some(call) = Call::read_in(words, around) else {
+        return explain(alloc, words, Misuse::Words, writer, errors);
     };
+    if is_lost(around, &call) {
+        return explain(alloc, words, Misuse::Lost, writer, errors);
+    }
     let ask = match ask_for(rt, alloc, &call, reader) {
         Ok(ask) => ask,
-        Err(AskFault::Words(fault)) => return explain(alloc, words, Some(fault), writer, errors),
-        Err(AskFault::File) => return no_file(errors),
+        Err(AskFault::Words(fault)) => {
+            return explain(
+                alloc,
+                words,
+                Misuse::Arguments(&call, fault),
+                writer,
+                errors,
+            );
+        }
+        Err(AskFault::Place(fault)) => {
+            return explain(alloc, words, Misuse::Place(fault), writer, errors);
+        }
         Err(AskFault::NoMemory) => return no_memory(errors),
+        Err(fault) => {
+            let trouble = of_file(alloc, &call, fault);
+            return no_file(trouble.as_deref(), errors);
+        }
     };
-    let raw = call.options.raw;
-    match call.options.socket {
+    let options = &call.options;
+    match options.socket {
         Some(path) => match daemon.ask(path, greeting_before(&call).as_ref(), &ask) {
-            Ok(reply) => answer(alloc, reply, raw, writer, errors),
-            Err(fault) => refused(fault, errors),
+            Ok(reply) => answer(alloc, reply, options, writer, errors),
+            Err(fault) => refused(fault, daemon.trouble(), errors),
         },
         None => match exchange(alloc, reader, writer, &ask) {
-            Ok(reply) => answer_alone(alloc, reply, raw, errors),
-            Err(fault) => refused(fault, errors),
+            Ok(reply) => answer_alone(alloc, reply, options, errors),
+            Err(fault) => refused(fault, Some(of_streams(fault)), errors),
         },
     }
+}
+
+/// Whether the call names no daemon, and its ask would be written to a terminal.
+fn is_lost(around: &Around, call: &Call<'_>) -> bool
+    ensures { result ≡ is_lost around.now (call_by call.now) }
+{
+    around.terminal && call.options.socket.is_none()
 }

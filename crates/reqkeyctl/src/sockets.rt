@@ -1,11 +1,12 @@
 //! The daemon at the sockets of the system.
-ghost use Rattle.std.specs.Prelude.{None, IfOk};
+ghost use Rattle.std.specs.Prelude.{◌≡◌, None, IfOk};
 ghost use Rattle.std.specs.Option.{option_copied};
 ghost use Rattle.reqkeyctl.specs.Daemon.{HasConversed};
 
 use crate::daemon::Daemon;
 use rk_client::{PeerFault, exchange, exchange_greeted};
 use rk_message::{Ask, Reply};
+use rk_run::told;
 use std::alloc::Global;
 use std::io::{Read, Write};
 use std::net::Net;
@@ -16,12 +17,25 @@ use std::os::unix::net::UnixStream;
 pub struct Sockets<'a, R: Net> {
     rt: &'a R,
     alloc: Global,
+    trouble: Option<String>,
 }
 
 impl<'a, R: Net> Sockets<'a, R> {
     /// The sockets of this system. It takes no memory.
     pub fn new(rt: &'a R, alloc: Global) -> Sockets<'a, R> {
-        Sockets { rt, alloc }
+        Sockets {
+            rt,
+            alloc,
+            trouble: None,
+        }
+    }
+
+    /// Keeps why there is no reply at this path, if there is memory for it.
+    fn note(&mut self, path: &str, fault: PeerFault) -> PeerFault
+        ensures { result ≡ fault }
+    {
+        self.trouble = format!(in self.alloc; "{path}: {fault}").ok();
+        fault
     }
 }
 
@@ -29,11 +43,25 @@ impl<'a, R: Net> Daemon for Sockets<'a, R> {
     ghost story = { λ s. None };
 
     fn ask(&mut self, path: &str, greeting: Option<&Ask>, ask: &Ask) -> Result<Reply, PeerFault> {
-        let Ok(stream) = UnixStream::connect(self.rt, path) else {
-            return Err(PeerFault::Lost);
+        let stream = match UnixStream::connect(self.rt, path) {
+            Ok(stream) => stream,
+            Err(error) => {
+                self.trouble = told(self.alloc, path, &error).ok();
+                return Err(PeerFault::Lost);
+            }
         };
         let (mut reader, mut writer) = (&stream, &stream);
-        converse(self.alloc, &mut reader, &mut writer, greeting, ask)
+        match converse(self.alloc, &mut reader, &mut writer, greeting, ask) {
+            Ok(reply) => Ok(reply),
+            Err(fault) => Err(self.note(path, fault)),
+        }
+    }
+
+    fn trouble(&self) -> Option<&str> {
+        match &self.trouble {
+            Some(text) => Some(text.as_str()),
+            None => None,
+        }
     }
 }
 

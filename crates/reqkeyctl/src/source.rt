@@ -3,7 +3,7 @@ ghost use Rattle.std.specs.Prelude.{◌≡◌, ◌≢◌, codes};
 
 use std::alloc::Global;
 use std::fs::{File, Files};
-use std::io::{ErrorKind, Read};
+use std::io::{Error, ErrorKind, Read};
 
 /// How much of a file is read: more than any argument may have.
 const MOST: u64 = 32_768;
@@ -11,8 +11,8 @@ const MOST: u64 = 32_768;
 /// Why there are no bytes.
 #[derive(Clone, Copy)]
 pub enum SourceFault {
-    /// The file can't be opened or read.
-    Lost,
+    /// The file can't be opened or read, as the system says.
+    Lost(Error),
     /// There was no memory for its bytes.
     NoMemory,
 }
@@ -32,7 +32,7 @@ pub fn read_source<R: Files, I: Read>(
     }
     match File::open(rt, path) {
         Ok(mut file) => read_start(alloc, &mut file),
-        Err(_) => Err(SourceFault::Lost),
+        Err(error) => Err(SourceFault::Lost(error)),
     }
 }
 
@@ -42,6 +42,6 @@ fn read_start<I: Read>(alloc: Global, reader: &mut I) -> Result<Vec<u8>, SourceF
     match Read::take(reader, MOST).read_to_end(&mut bytes) {
         Ok(_) => Ok(bytes),
         Err(error) if error.kind() == ErrorKind::OutOfMemory => Err(SourceFault::NoMemory),
-        Err(_) => Err(SourceFault::Lost),
+        Err(error) => Err(SourceFault::Lost(error)),
     }
 }

@@ -1,13 +1,14 @@
 //! What is told, on which stream, and the status that goes with it.
-ghost use Rattle.std.specs.Prelude.{◌≡◌, ◌≤◌, false};
+ghost use Rattle.std.specs.Prelude.{◌≡◌, ◌≤◌, IfOk, false};
 ghost use Rattle.std.specs.Io.KnownBytes.{Appends};
 ghost use Rattle.rk_client.specs.Peer.{is_refusal};
-ghost use Rattle.rk_client.specs.Printed.{printed};
-ghost use Rattle.reqkeyctl.specs.Outcome.{HasTold};
+ghost use Rattle.reqkeyctl.specs.Outcome.{told_reply};
+ghost use Rattle.reqkeyctl.specs.Said.{options_by};
 
+use crate::call::Options;
 use rk_client::{PeerFault, is_refusal, printed};
 use rk_message::Reply;
-use std::alloc::Global;
+use std::alloc::{AllocError, Global};
 use std::io::Write;
 
 /// The status of a run that failed.
@@ -24,12 +25,22 @@ pub fn no_memory<E: Write>(errors: &mut E) -> u8
     FAILED
 }
 
-/// A peer that can't be reached or is gone, or what it sent is no reply.
-pub fn no_peer<E: Write>(errors: &mut E) -> u8
+/// A peer that can't be reached or is gone, or what it sent is no reply; and what stood in the way.
+pub fn no_peer<E: Write>(trouble: Option<&str>, errors: &mut E) -> u8
     ensures { result ≡ 1 }
 {
     let _ = errors.write_all(b"reqkeyctl: socket\n");
+    detail(trouble, errors);
     FAILED
+}
+
+/// What stood in the way, in a line of its own, where that is known.
+fn detail<E: Write>(trouble: Option<&str>, errors: &mut E) {
+    if let Some(text) = trouble {
+        let _ = errors.write_all(b"  ");
+        let _ = errors.write_all(text.as_bytes());
+        let _ = errors.write_all(b"\n");
+    }
 }
 
 /// A stream that does not take what is told.
@@ -40,17 +51,19 @@ pub fn no_output<E: Write>(errors: &mut E) -> u8
     FAILED
 }
 
-/// A file that can't be read, or whose bytes the field does not allow.
-pub fn no_file<E: Write>(errors: &mut E) -> u8
+/// A file that can't be read, or whose bytes the field does not allow; and what stood in the way.
+pub fn no_file<E: Write>(trouble: Option<&str>, errors: &mut E) -> u8
     ensures { result ≡ 1 }
 {
     let _ = errors.write_all(b"reqkeyctl: file\n");
+    detail(trouble, errors);
     FAILED
 }
 
-/// A program that is not there, can't be started, or whose end is not known.
-pub fn no_program<E: Write>(errors: &mut E) {
+/// A program that is not there, can't be started, or whose end is not known; and what stood in the way.
+pub fn no_program<E: Write>(trouble: Option<&str>, errors: &mut E) {
     let _ = errors.write_all(b"reqkeyctl: program\n");
+    detail(trouble, errors);
 }
 
 /// The usage in one line, for words that are not text.
@@ -82,13 +95,13 @@ pub fn tell<W: Write>(text: &[u8], writer: &mut W) -> u8
     }
 }
 
-/// Why there is no reply.
-pub fn refused<E: Write>(fault: PeerFault, errors: &mut E) -> u8
+/// Why there is no reply, and what stood in the way.
+pub fn refused<E: Write>(fault: PeerFault, trouble: Option<&str>, errors: &mut E) -> u8
     ensures { result ≡ 1 }
 {
     match fault {
         PeerFault::NoMemory => no_memory(errors),
-        PeerFault::Lost | PeerFault::Malformed => no_peer(errors),
+        PeerFault::Lost | PeerFault::Malformed => no_peer(trouble, errors),
     }
 }
 
@@ -103,15 +116,31 @@ pub fn refusal<E: Write>(alloc: Global, reply: Reply, errors: &mut E) -> u8
     FAILED
 }
 
+/// What is told of a reply that is no refusal.
+fn text_of(alloc: Global, reply: Reply, options: &Options<'_>) -> Result<Vec<u8>, AllocError>
+    ensures { IfOk result (λ v. v.items ≡ told_reply (options_by options.now) reply) }
+{
+    if options.quiet {
+        return Ok(Vec::new(alloc));
+    }
+    printed(alloc, reply, options.raw)
+}
+
 /// Tells a reply on one stream, whatever it says: a handler's other stream is the daemon's.
-pub fn answer_alone<E: Write>(alloc: Global, reply: Reply, raw: bool, errors: &mut E) -> u8
-    ensures told { result ≡ 0 → (is_refusal reply ≡ false) × Appends (E.contents errors.old) (E.contents errors.new) (printed raw reply) }
+pub fn answer_alone<E: Write>(
+    alloc: Global,
+    reply: Reply,
+    options: &Options<'_>,
+    errors: &mut E,
+) -> u8
+    ensures told { result ≡ 0 → (is_refusal reply ≡ false)
+        × Appends (E.contents errors.old) (E.contents errors.new) (told_reply (options_by options.now) reply) }
     ensures status { result ≤ 1 }
 {
     if is_refusal(&reply) {
         return refusal(alloc, reply, errors);
     }
-    let Ok(text) = printed(alloc, reply, raw) else {
+    let Ok(text) = text_of(alloc, reply, options) else {
         return no_memory(errors);
     };
     tell(&text, errors)
@@ -121,18 +150,18 @@ pub fn answer_alone<E: Write>(alloc: Global, reply: Reply, raw: bool, errors: &m
 pub fn answer<W: Write, E: Write>(
     alloc: Global,
     reply: Reply,
-    raw: bool,
+    options: &Options<'_>,
     writer: &mut W,
     errors: &mut E,
 ) -> u8
-    ensures told { result ≡ 0 → (is_refusal reply ≡ false) × Appends (W.contents writer.old) (W.contents writer.new) (printed raw reply)
-        × (errors.new ≡ errors.old) }
+    ensures told { result ≡ 0 → (is_refusal reply ≡ false)
+        × Appends (W.contents writer.old) (W.contents writer.new) (told_reply (options_by options.now) reply) × (errors.new ≡ errors.old) }
     ensures status { result ≤ 1 }
 {
     if is_refusal(&reply) {
         return refusal(alloc, reply, errors);
     }
-    let Ok(text) = printed(alloc, reply, raw) else {
+    let Ok(text) = text_of(alloc, reply, options) else {
         return no_memory(errors);
     };
     if tell(&text, writer) == 0 {

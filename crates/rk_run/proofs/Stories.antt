@@ -1,5 +1,6 @@
 -- What is done, one thing after the other.
-use Rattle.std.proofs.Common.{◌≡◌, ℕ, List, [], ◌∷◌, ◌++◌, Option, Some, None, Result, Ok, Err, Bool, true, false, refl, sym, ap, ◌∙◌}
+use Rattle.std.proofs.Common.{◌≡◌, ℕ, List, [], ◌∷◌, ◌++◌, Option, Some, None, Result, Ok, Err, Bool, true, false, refl, sym, ap, subst, ◌∙◌}
+use Rattle.std.specs.Prelude.{string_bytes}
 use Rattle.std.specs.declared.process.status.ExitStatus.{ExitStatus}
 use Rattle.std.proofs.lemmas.List.{append_assoc, append-nil}
 use Rattle.rk_client.specs.declared.fault.PeerFault.{PeerFault}
@@ -12,7 +13,8 @@ use Rattle.rk_run.specs.declared.host.StartFault.{StartFault}
 use Rattle.rk_run.specs.declared.wanted.Wanted.{Wanted}
 use Rattle.rk_variables.specs.Starts.{Start}
 use Rattle.rk_run.specs.Story.{Event, Looked, Sought, Greeted, Started, Waited, Closed, and_then}
-use Rattle.rk_run.specs.Runs.{HasRun, HasRunIn, InSession, IsStartIn, turned_away, crowded, unstarted, ended, blind, nowhere, without, unanswered, answered, hello_of, library_of, socket_of, ring_in, unheard, unstarted_by, ending}
+use Rattle.rk_run.specs.Runs.{HasRun, HasRunIn, HasTrapped, HasTried, InSession, IsStartIn, turned_away, crowded, tried, unstarted, ended, blind, nowhere, without, trapped, choked, left, unanswered, answered, hello_of, tool_of, socket_of, ring_in, unheard, unstarted_by, ending}
+use Rattle.rk_run.specs.Starts.{IsTrapped}
 
 -- ---- stories that go on
 
@@ -41,16 +43,29 @@ pub had_no_room : (w : Wanted) (here : Here) (path : List ℕ) (answer : Reply) 
     → Ok ring ≡ ring_in answer → HasRunIn w here path answer s s (Err fault.NoMemory)
 had_no_room w here path answer s ring i = did_nothing w here path answer s (Err fault.NoMemory) (crowded ring (sym i))
 
-module _ (w : Wanted) (here : Here) (path : List ℕ) (answer : Reply) (ring : ℕ) (c : Start) where
-  pub did_not_start : (s t : Option (List Event)) (e : StartFault) → Ok ring ≡ ring_in answer → IsStartIn w here path ring c
-      → t ≡ and_then s (Started c (Err e) ∷ []) → HasRunIn w here path answer s t (Err (unstarted_by e))
-  did_not_start s t e r i told = (Started c (Err e) ∷ [], told, unstarted ring c e (sym r) i)
+pub did_try : (w : Wanted) (here : Here) (path : List ℕ) (answer : Reply) (ring : ℕ) (c : Start) (s t : Option (List Event)) (r : Result ℕ RunFault)
+    → Ok ring ≡ ring_in answer → IsStartIn w here path ring c → HasTried c s t r → HasRunIn w here path answer s t r
+did_try w here path answer ring c s t r is i (events, told, tries) = (events, told, tried ring c events r (sym is) i tries)
 
-  pub did_end : (s t u : Option (List Event)) (status : Option ExitStatus) (r : Result ℕ RunFault) → Ok ring ≡ ring_in answer
-      → IsStartIn w here path ring c → t ≡ and_then s (Started c (Ok tt) ∷ []) → u ≡ and_then t (Waited status ∷ []) → r ≡ ending status
-      → HasRunIn w here path answer s u r
-  did_end s t u status r is i told waited e =
-      (Started c (Ok tt) ∷ Waited status ∷ [], more s t u _ _ told waited, rw e (ended ring c status (sym is) i))
+-- ---- a start
+
+pub did_not_start : (c : Start) (s t : Option (List Event)) (e : StartFault) → t ≡ and_then s (Started c (Err e) ∷ []) → HasTried c s t (Err (unstarted_by e))
+did_not_start c s t e told = (Started c (Err e) ∷ [], told, unstarted e)
+
+pub did_end : (c : Start) (s t u : Option (List Event)) (status : Option ExitStatus) (r : Result ℕ RunFault) → t ≡ and_then s (Started c (Ok tt) ∷ [])
+    → u ≡ and_then t (Waited status ∷ []) → r ≡ ending status → HasTried c s u r
+did_end c s t u status r told waited e = (Started c (Ok tt) ∷ Waited status ∷ [], more s t u _ _ told waited, rw e (ended status))
+
+-- ---- by reqkey-trap
+
+pub did_choke : (w : Wanted) (here : Here) (path : List ℕ) (s : Option (List Event)) → HasTrapped w here path s s (Err fault.NoMemory)
+did_choke w here path s = ([], still s, choked)
+
+pub did_leave : (w : Wanted) (here : Here) (path trap : List ℕ) (c : Start) (s t : Option (List Event)) (r : Result ℕ RunFault)
+    → trap ≡ string_bytes here.trap → IsTrapped w trap path c → HasTried c s t r → HasTrapped w here path s t r
+did_leave w here path trap c s t r is i (events, told, tries) =
+    let P : List ℕ → Type 0 = λ x. IsTrapped w x path c in
+    (events, told, left c events r (subst P is i) tries)
 
 -- ---- of a run
 
@@ -61,30 +76,38 @@ pub knew_nobody : (w : Wanted) (here : Here) (s t : Option (List Event)) → t �
     → HasRun w s t (Err fault.Socket)
 knew_nobody w here s t e n = (Looked here ∷ [], e, nowhere here (sym n))
 
-module _ (w : Wanted) (here : Here) (path library : List ℕ) (found : Bool) (named : Some path ≡ socket_of w here) (is_library : library ≡ library_of w here) where
-  pub had_no_library : (s t u : Option (List Event)) → t ≡ and_then s (Looked here ∷ []) → u ≡ and_then t (Sought library found ∷ []) → found ≡ false
+module _ (w : Wanted) (here : Here) (path tool : List ℕ) (found : Bool) (named : Some path ≡ socket_of w here) (is_tool : tool ≡ tool_of w here) where
+  pub had_no_library : (s t u : Option (List Event)) → t ≡ and_then s (Looked here ∷ []) → u ≡ and_then t (Sought tool found ∷ []) → found ≡ false
       → HasRun w s u (Err fault.File)
   had_no_library s t u looked sought f = (
-    Looked here ∷ Sought (library_of w here) false ∷ [],
-    rw (← is_library, ← f) (more s t u _ _ looked sought),
+    Looked here ∷ Sought (tool_of w here) false ∷ [],
+    rw (← is_tool, ← f) (more s t u _ _ looked sought),
     without here path (sym named),
   )
 
-  module _ (ask : Ask) (is_hello : ask ≡ hello_of w here) (is_found : found ≡ true) where
-    pub heard_nothing : (s t u v : Option (List Event)) (e : PeerFault) → t ≡ and_then s (Looked here ∷ []) → u ≡ and_then t (Sought library found ∷ [])
+  pub was_trapped : found ≡ true → w.trap ≡ true → (s t u v : Option (List Event)) (r : Result ℕ RunFault) → t ≡ and_then s (Looked here ∷ [])
+      → u ≡ and_then t (Sought tool found ∷ []) → HasTrapped w here path u v r → HasRun w s v r
+  was_trapped f traps s t u v r looked sought (events, told, did) = (
+    Looked here ∷ Sought (tool_of w here) true ∷ events,
+    rw (← is_tool, ← f) (more s u v _ _ (more s t u _ _ looked sought) told),
+    trapped here path events r (sym named) traps did,
+  )
+
+  module _ (ask : Ask) (is_hello : ask ≡ hello_of w here) (is_found : found ≡ true) (by_library : w.trap ≡ false) where
+    pub heard_nothing : (s t u v : Option (List Event)) (e : PeerFault) → t ≡ and_then s (Looked here ∷ []) → u ≡ and_then t (Sought tool found ∷ [])
         → v ≡ and_then u (Greeted path ask (Err e) ∷ []) → HasRun w s v (Err (unheard e))
     heard_nothing s t u v e looked sought greeted = (
-      Looked here ∷ Sought (library_of w here) true ∷ Greeted path (hello_of w here) (Err e) ∷ [],
-      rw (← is_library, ← is_found, ← is_hello) (more s u v _ _ (more s t u _ _ looked sought) greeted),
-      unanswered here path e (sym named),
+      Looked here ∷ Sought (tool_of w here) true ∷ Greeted path (hello_of w here) (Err e) ∷ [],
+      rw (← is_tool, ← is_found, ← is_hello) (more s u v _ _ (more s t u _ _ looked sought) greeted),
+      unanswered here path e (sym named) by_library,
     )
 
     pub was_answered : (s t u v x y : Option (List Event)) (answer : Reply) (r : Result ℕ RunFault) → t ≡ and_then s (Looked here ∷ [])
-        → u ≡ and_then t (Sought library found ∷ []) → v ≡ and_then u (Greeted path ask (Ok answer) ∷ []) → HasRunIn w here path answer v x r
+        → u ≡ and_then t (Sought tool found ∷ []) → v ≡ and_then u (Greeted path ask (Ok answer) ∷ []) → HasRunIn w here path answer v x r
         → y ≡ and_then x (Closed ∷ []) → HasRun w s y r
     was_answered s t u v x y answer r looked sought greeted (events, told, did) closed = (
-      Looked here ∷ Sought (library_of w here) true ∷ Greeted path (hello_of w here) (Ok answer) ∷ events ++ Closed ∷ [],
-      rw (← is_library, ← is_found, ← is_hello)
+      Looked here ∷ Sought (tool_of w here) true ∷ Greeted path (hello_of w here) (Ok answer) ∷ events ++ Closed ∷ [],
+      rw (← is_tool, ← is_found, ← is_hello)
           (more s x y _ _ (more s v x _ _ (more s u v _ _ (more s t u _ _ looked sought) greeted) told) closed),
-      answered here path answer events r (sym named) did,
+      answered here path answer events r (sym named) by_library did,
     )

@@ -1,5 +1,5 @@
 -- What is done of a run, and what comes of it.
-use Rattle.std.specs.Prelude.{◌≡◌, ℕ, true, false, List, [], ◌∷◌, ◌++◌, Option, Some, None, Result, Ok, Err, option_map, string_bytes}
+use Rattle.std.specs.Prelude.{◌≡◌, ℕ, true, false, List, [], ◌∷◌, ◌++◌, Option, Some, None, Result, Ok, Err, option_map, string_bytes, if◌then◌else◌}
 use Rattle.std.specs.Option.{unwrap_or}
 use Rattle.std.specs.declared.process.status.ExitStatus.{ExitStatus}
 use Rattle.rk_client.specs.declared.fault.PeerFault.{PeerFault}
@@ -16,7 +16,7 @@ use Rattle.rk_run.specs.declared.host.StartFault.TheVariants as start
 use Rattle.rk_run.specs.declared.wanted.Wanted.{Wanted}
 use Rattle.rk_run.specs.Ending.{status_of}
 use Rattle.rk_run.specs.Paths.{from_anywhere}
-use Rattle.rk_run.specs.Starts.{IsStart}
+use Rattle.rk_run.specs.Starts.{IsStart, IsTrapped}
 use Rattle.rk_variables.specs.Starts.{Start}
 use Rattle.rk_run.specs.Story.{Event, Looked, Sought, Greeted, Started, Waited, Closed, and_then}
 
@@ -36,6 +36,10 @@ socket_of w here = or_else (option_map (λ s. s.now) w.socket) (option_map strin
 -- the library that is named, or else the one that is installed
 abbrev pub library_of : Wanted → Here → List ℕ
 library_of w here = unwrap_or (option_map (λ s. s.now) w.library) (string_bytes here.installed)
+
+-- the file that has to be there: reqkey-trap, or the library
+abbrev pub tool_of : Wanted → Here → List ℕ
+tool_of w here = if w.trap then string_bytes here.trap else library_of w here
 
 -- the session ring, as HELLO is answered; a refusal; any other reply is none to HELLO
 abbrev pub ring_in : Reply → Result ℕ RunFault
@@ -66,29 +70,38 @@ abbrev pub ending : Option ExitStatus → Result ℕ RunFault
 ending (Some status) = Ok (status_of status)
 ending None = Err fault.Unknown
 
+-- a start, the wait behind it, and what comes of it
+pub data Tries (s : Start) : List Event → Result ℕ RunFault → Type 0 where
+  unstarted : (e : StartFault) → Tries s (Started s (Err e) ∷ []) (Err (unstarted_by e))
+  ended : (status : Option ExitStatus) → Tries s (Started s (Ok tt) ∷ Waited status ∷ []) (ending status)
+
 -- what is done while the connection is open, HELLO having been answered so, and what comes of it
 pub data InSession (w : Wanted) (here : Here) (socket : List ℕ) (answer : Reply) : List Event → Result ℕ RunFault → Type 0 where
   turned_away : (e : RunFault) → ring_in answer ≡ Err e → InSession w here socket answer [] (Err e)
   crowded : (ring : ℕ) → ring_in answer ≡ Ok ring → InSession w here socket answer [] (Err fault.NoMemory)
-  unstarted : (ring : ℕ) (s : Start) (e : StartFault) → ring_in answer ≡ Ok ring
-      → IsStartIn w here socket ring s
-      → InSession w here socket answer (Started s (Err e) ∷ []) (Err (unstarted_by e))
-  ended : (ring : ℕ) (s : Start) (status : Option ExitStatus) → ring_in answer ≡ Ok ring
-      → IsStartIn w here socket ring s
-      → InSession w here socket answer (Started s (Ok tt) ∷ Waited status ∷ []) (ending status)
+  tried : (ring : ℕ) (s : Start) (events : List Event) (r : Result ℕ RunFault) → ring_in answer ≡ Ok ring → IsStartIn w here socket ring s
+      → Tries s events r → InSession w here socket answer events r
 
--- what is done of a run, first things first, and what comes of it. The library is there before anybody is asked; HELLO is the first that is asked; all else
--- is done before the connection is closed
+-- what is done where reqkey-trap is to start the program, which makes a connection of its own, and what comes of it
+pub data Traps (w : Wanted) (here : Here) (socket : List ℕ) : List Event → Result ℕ RunFault → Type 0 where
+  choked : Traps w here socket [] (Err fault.NoMemory)
+  left : (s : Start) (events : List Event) (r : Result ℕ RunFault) → IsTrapped w (string_bytes here.trap) socket s
+      → Tries s events r → Traps w here socket events r
+
+-- what is done of a run, first things first, and what comes of it. The library, or reqkey-trap, is there before anybody is asked. With the library, HELLO is
+-- the first that is asked, and all else is done before the connection is closed; reqkey-trap is started at once
 pub data Runs (w : Wanted) : List Event → Result ℕ RunFault → Type 0 where
   blind : Runs w [] (Err fault.NoMemory)
   nowhere : (here : Here) → socket_of w here ≡ None → Runs w (Looked here ∷ []) (Err fault.Socket)
   without : (here : Here) (socket : List ℕ) → socket_of w here ≡ Some socket
-      → Runs w (Looked here ∷ Sought (library_of w here) false ∷ []) (Err fault.File)
-  unanswered : (here : Here) (socket : List ℕ) (e : PeerFault) → socket_of w here ≡ Some socket
-      → Runs w (Looked here ∷ Sought (library_of w here) true ∷ Greeted socket (hello_of w here) (Err e) ∷ []) (Err (unheard e))
+      → Runs w (Looked here ∷ Sought (tool_of w here) false ∷ []) (Err fault.File)
+  trapped : (here : Here) (socket : List ℕ) (events : List Event) (r : Result ℕ RunFault) → socket_of w here ≡ Some socket → w.trap ≡ true
+      → Traps w here socket events r → Runs w (Looked here ∷ Sought (tool_of w here) true ∷ events) r
+  unanswered : (here : Here) (socket : List ℕ) (e : PeerFault) → socket_of w here ≡ Some socket → w.trap ≡ false
+      → Runs w (Looked here ∷ Sought (tool_of w here) true ∷ Greeted socket (hello_of w here) (Err e) ∷ []) (Err (unheard e))
   answered : (here : Here) (socket : List ℕ) (answer : Reply) (events : List Event) (r : Result ℕ RunFault) → socket_of w here ≡ Some socket
-      → InSession w here socket answer events r
-      → Runs w (Looked here ∷ Sought (library_of w here) true ∷ Greeted socket (hello_of w here) (Ok answer) ∷ events ++ Closed ∷ []) r
+      → w.trap ≡ false → InSession w here socket answer events r
+      → Runs w (Looked here ∷ Sought (tool_of w here) true ∷ Greeted socket (hello_of w here) (Ok answer) ∷ events ++ Closed ∷ []) r
 
 -- the same, done behind what was done before
 abbrev pub HasRun : Wanted → Option (List Event) → Option (List Event) → Result ℕ RunFault → Type 0
@@ -97,3 +110,11 @@ HasRun w before after r = (events : List Event) × (after ≡ and_then before ev
 -- and within a session
 abbrev pub HasRunIn : Wanted → Here → List ℕ → Reply → Option (List Event) → Option (List Event) → Result ℕ RunFault → Type 0
 HasRunIn w here socket answer before after r = (events : List Event) × (after ≡ and_then before events) × InSession w here socket answer events r
+
+-- a start
+abbrev pub HasTried : Start → Option (List Event) → Option (List Event) → Result ℕ RunFault → Type 0
+HasTried s before after r = (events : List Event) × (after ≡ and_then before events) × Tries s events r
+
+-- and by reqkey-trap
+abbrev pub HasTrapped : Wanted → Here → List ℕ → Option (List Event) → Option (List Event) → Result ℕ RunFault → Type 0
+HasTrapped w here socket before after r = (events : List Event) × (after ≡ and_then before events) × Traps w here socket events r

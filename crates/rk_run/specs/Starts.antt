@@ -30,3 +30,8 @@ pub record IsStart (w : Wanted) (library : List ℕ) (before : Option (List ℕ)
       → s.variable name ≡ None
   pub keeps : s.clears ≡ false
   pub folder : s.folder ≡ None
+
+-- reqkey-trap, the program at a path, with the socket of the daemon, and behind `--` the program that is wanted with its words; all variables are as they are
+abbrev pub IsTrapped : Wanted → List ℕ → List ℕ → Start → Type 0
+IsTrapped w trap socket s =
+    IsCalled trap (codes "--socket" ∷ socket ∷ codes "--" ∷ w.program.now ∷ map string_bytes w.words.now) s

@@ -23,6 +23,8 @@ pub struct Here {
     pub folder: Option<String>,
     /// Where the library is installed.
     pub installed: String,
+    /// Where `reqkey-trap` is installed.
+    pub trap: String,
 }
 
 /// Why a program was not started.
@@ -46,8 +48,8 @@ pub trait Host {
         ensures { Looks result (story self.old) (story self.new) };
 
     /// Whether there is such a file.
-    fn has(&mut self, library: &str) -> bool
-        ensures { story self.new ≡ and_then (story self.old) (Sought library.now result ∷ []) };
+    fn has(&mut self, path: &str) -> bool
+        ensures { story self.new ≡ and_then (story self.old) (Sought path.now result ∷ []) };
 
     /// Connects to the socket at this path, asks this as the first thing, and reads its reply. With a reply the connection stays open until
     /// [`Host::close`]; with a fault there is none.
@@ -65,4 +67,7 @@ pub trait Host {
     /// Closes the connection.
     fn close(&mut self)
         ensures { story self.new ≡ and_then (story self.old) (Closed ∷ []) };
+
+    /// What stood in the way of the last call that failed, where that is known: a text to be shown, with a path and what the system says of it.
+    fn trouble(&self) -> Option<&str>;
 }

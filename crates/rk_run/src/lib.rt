@@ -31,5 +31,5 @@ mod wanted;
 pub use fault::RunFault;
 pub use host::{Here, Host, StartFault};
 pub use running::run;
-pub use system::System;
+pub use system::{System, told};
 pub use wanted::Wanted;

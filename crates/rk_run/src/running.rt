@@ -1,12 +1,12 @@
 //! A run from its start to its end.
 ghost use Rattle.std.specs.Prelude.{◌≡◌, IfOk, option_map, string_bytes};
-ghost use Rattle.rk_run.specs.Runs.{HasRun, HasRunIn, IsStartIn, hello_of, library_of, ring_in, socket_of, unheard, unstarted_by};
+ghost use Rattle.rk_run.specs.Runs.{HasRun, HasRunIn, HasTrapped, HasTried, IsStartIn, hello_of, library_of, ring_in, socket_of, tool_of, unheard, unstarted_by};
 ghost use Rattle.rk_variables.specs.Starts.{start_of};
 
 use crate::fault::RunFault;
 use crate::host::{Here, Host, StartFault};
 use crate::paths::from_anywhere;
-use crate::starting::made;
+use crate::starting::{made, trapped};
 use crate::status::status_of;
 use crate::wanted::Wanted;
 use rk_client::PeerFault;
@@ -19,6 +19,8 @@ use std::process::Command;
 /// The socket, the user, the group and the library are those that are named, or else those of the host. Refusals, in this order: `NoMemory`; `Socket`
 /// where none is named; `File` where the library is not there; `Socket` where nobody answers or the answer is none to HELLO; `Refused` where HELLO is;
 /// `NotFound` and `Unstartable` where the program is not started, and `Unknown` where its end is not told. The connection is closed behind each.
+///
+/// Where `reqkey-trap` is wanted, it is there in place of the library, and is started with the program; it makes a connection and a session ring itself.
 pub fn run<H: Host>(alloc: Global, host: &mut H, wanted: &Wanted<'_>) -> Result<u8, RunFault>
     ensures { HasRun wanted.now (H.story host.old) (H.story host.new) result }
 {
@@ -28,8 +30,11 @@ pub fn run<H: Host>(alloc: Global, host: &mut H, wanted: &Wanted<'_>) -> Result<
     let Some(socket) = socket_of(wanted, &here) else {
         return Err(RunFault::Socket);
     };
-    if !host.has(library_of(wanted, &here)) {
+    if !host.has(tool_of(wanted, &here)) {
         return Err(RunFault::File);
+    }
+    if wanted.trap {
+        return by_trap(alloc, host, wanted, &here, socket);
     }
     match host.greet(socket, &hello_of(wanted, &here)) {
         Ok(reply) => {
@@ -59,6 +64,29 @@ fn in_session<H: Host>(
     let Ok(command) = made_in(alloc, wanted, here, socket, ring) else {
         return Err(RunFault::NoMemory);
     };
+    started(host, command)
+}
+
+/// Has `reqkey-trap` run the program, with the daemon at this path.
+fn by_trap<H: Host>(
+    alloc: Global,
+    host: &mut H,
+    wanted: &Wanted<'_>,
+    here: &Here,
+    socket: &str,
+) -> Result<u8, RunFault>
+    ensures { HasTrapped wanted.now here.now socket.now (H.story host.old) (H.story host.new) result }
+{
+    let Ok(command) = trapped(alloc, wanted, here.trap.as_str(), socket) else {
+        return Err(RunFault::NoMemory);
+    };
+    started(host, command)
+}
+
+/// Starts a program, waits for its end, and gives its status.
+fn started<H: Host>(host: &mut H, command: Command) -> Result<u8, RunFault>
+    ensures { HasTried (start_of command) (H.story host.old) (H.story host.new) result }
+{
     if let Err(fault) = host.start(command) {
         return Err(unstarted_by(fault));
     }
@@ -114,6 +142,17 @@ fn library_of<'a, 'w: 'a>(wanted: &Wanted<'w>, here: &'a Here) -> &'a str
     match wanted.library {
         Some(path) => path,
         None => here.installed.as_str(),
+    }
+}
+
+/// The file that has to be there: `reqkey-trap`, or the library.
+fn tool_of<'a, 'w: 'a>(wanted: &Wanted<'w>, here: &'a Here) -> &'a str
+    ensures { result.now ≡ tool_of wanted.now here.now }
+{
+    if wanted.trap {
+        here.trap.as_str()
+    } else {
+        library_of(wanted, here)
     }
 }
 

@@ -1,6 +1,6 @@
 //! The command of a program in a session ring.
 ghost use Rattle.std.specs.Prelude.{◌≡◌, IfOk, map, option_map, string_bytes};
-ghost use Rattle.rk_run.specs.Starts.{IsCalled, IsStart, preloads};
+ghost use Rattle.rk_run.specs.Starts.{IsCalled, IsStart, IsTrapped, preloads};
 ghost use Rattle.rk_variables.specs.Starts.{start_of};
 
 use crate::wanted::Wanted;
@@ -37,6 +37,27 @@ fn called(alloc: Global, program: &str, words: &[String]) -> Result<Command, All
 {
     let mut command = Command::new(alloc, program)?;
     for word in words {
+        command.arg(word.as_str())?;
+    }
+    Ok(command)
+}
+
+/// The program that is wanted with its words, to be started by `reqkey-trap`, the program at `trap`, which is told the socket. The only refusal is want of
+/// memory.
+pub fn trapped(
+    alloc: Global,
+    wanted: &Wanted<'_>,
+    trap: &str,
+    socket: &str,
+) -> Result<Command, AllocError>
+    ensures { IfOk result (λ c. IsTrapped wanted.now trap.now socket.now (start_of c)) }
+{
+    let mut command = Command::new(alloc, trap)?;
+    command.arg("--socket")?;
+    command.arg(socket)?;
+    command.arg("--")?;
+    command.arg(wanted.program)?;
+    for word in wanted.words {
         command.arg(word.as_str())?;
     }
     Ok(command)

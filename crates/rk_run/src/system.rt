@@ -13,7 +13,10 @@ use std::os::unix::net::UnixStream;
 use std::process::{Child, Command, ExitStatus, Processes};
 
 /// Where the library is, below the folder that has the folder of this program.
-const INSTALLED: &str = "/lib/reqkeyd/libkeyutils.so.1";
+const LIBRARY: &str = "/lib/reqkeyd/libkeyutils.so.1";
+
+/// Where the program is that answers system calls, below that folder.
+const TRAP: &str = "/bin/reqkey-trap";
 
 /// That folder, where it can't be found.
 const PREFIX: &str = "/usr/local";
@@ -25,6 +28,7 @@ pub struct System<'a, R: Processes> {
     alloc: Global,
     stream: Option<UnixStream>,
     child: Option<Child<R::Started>>,
+    trouble: Option<String>,
 }
 
 impl<'a, R: Processes> System<'a, R> {
@@ -35,7 +39,28 @@ impl<'a, R: Processes> System<'a, R> {
             alloc,
             stream: None,
             child: None,
+            trouble: None,
         }
+    }
+
+    /// Keeps what stood in the way, if there is memory for it.
+    fn note(&mut self, path: &str, error: &io::Error) {
+        self.trouble = told(self.alloc, path, error).ok();
+    }
+}
+
+/// A path, and what the system says of it.
+pub fn told(alloc: Global, path: &str, error: &io::Error) -> Result<String, AllocError> {
+    let text = error.to_string(alloc)?;
+    let reason = without_number(text.as_str());
+    format!(in alloc; "{path}: {reason}")
+}
+
+/// The words of an error of the system, without its number behind them.
+fn without_number(text: &str) -> &str {
+    match text.split_once(" (os error ") {
+        Some((words, _)) => words,
+        None => text,
     }
 }
 
@@ -57,15 +82,15 @@ fn folder<R: Env + AllocGlobal>(rt: &R) -> Result<Option<String>, AllocError> {
     }
 }
 
-/// Where the library is installed: beside the folder of this program, as `make install` puts both.
-fn installed<R: Files + AllocGlobal>(rt: &R) -> Result<String, AllocError> {
+/// Where a file is installed: below the folder that has the folder of this program, as `make install` puts both.
+fn installed<R: Files + AllocGlobal>(rt: &R, file: &str) -> Result<String, AllocError> {
     let mut path = String::new(rt.alloc());
     match env::current_exe(rt) {
         Ok(program) => path.push_str(prefix_of(program.as_str()))?,
         Err(error) if error.kind() == io::ErrorKind::OutOfMemory => return Err(AllocError),
         Err(_) => path.push_str(PREFIX)?,
     }
-    path.push_str(INSTALLED)?;
+    path.push_str(file)?;
     Ok(path)
 }
 
@@ -99,17 +124,28 @@ impl<'a, R: Processes + Net + Files + Env + AllocGlobal> Host for System<'a, R> 
             preloaded: variable(self.rt, "LD_PRELOAD")?,
             socket: variable(self.rt, "REQKEYD_SOCKET")?,
             folder: folder(self.rt)?,
-            installed: installed(self.rt)?,
+            installed: installed(self.rt, LIBRARY)?,
+            trap: installed(self.rt, TRAP)?,
         })
     }
 
-    fn has(&mut self, library: &str) -> bool {
-        File::open(self.rt, library).is_ok()
+    fn has(&mut self, path: &str) -> bool {
+        match File::open(self.rt, path) {
+            Ok(_) => true,
+            Err(error) => {
+                self.note(path, &error);
+                false
+            }
+        }
     }
 
     fn greet(&mut self, path: &str, ask: &Ask) -> Result<Reply, PeerFault> {
-        let Ok(stream) = UnixStream::connect(self.rt, path) else {
-            return Err(PeerFault::Lost);
+        let stream = match UnixStream::connect(self.rt, path) {
+            Ok(stream) => stream,
+            Err(error) => {
+                self.note(path, &error);
+                return Err(PeerFault::Lost);
+            }
         };
         let (mut reader, mut writer) = (&stream, &stream);
         let reply = exchange(self.alloc, &mut reader, &mut writer, ask)?;
@@ -124,7 +160,10 @@ impl<'a, R: Processes + Net + Files + Env + AllocGlobal> Host for System<'a, R> 
                 self.child = Some(child);
                 Ok(())
             }
-            Err(error) => Err(fault_of(&error)),
+            Err(error) => {
+                self.note(command.get_program(), &error);
+                Err(fault_of(&error))
+            }
         }
     }
 
@@ -134,5 +173,12 @@ impl<'a, R: Processes + Net + Files + Env + AllocGlobal> Host for System<'a, R> 
 
     fn close(&mut self) {
         drop(self.stream.take());
+    }
+
+    fn trouble(&self) -> Option<&str> {
+        match &self.trouble {
+            Some(text) => Some(text.as_str()),
+            None => None,
+        }
     }
 }

@@ -1,8 +1,8 @@
 //! What the words of `run` say.
 ghost use Rattle.std.specs.Prelude.{◌≡◌, ◌≤◌, codes, length, map, option_map, string_bytes};
-ghost use Rattle.std.specs.List.{position_or_len, before_first, after_first};
+ghost use Rattle.std.specs.List.{list_any, position_or_len, before_first, after_first};
 ghost use Rattle.rk_options.specs.Said as said;
-ghost use Rattle.rk_run.specs.Words.{behind_run, given, id_said, is_dashes, library_said, said_by, wanted_said};
+ghost use Rattle.rk_run.specs.Words.{behind_run, given, id_said, is_contrary, is_dashes, is_trap_with_value, library_said, said_by, wanted_said};
 
 use rk_options::Options;
 use rk_text::number;
@@ -19,6 +19,8 @@ pub struct Wanted<'a> {
     pub gid: Option<u32>,
     /// The library that is preloaded.
     pub library: Option<&'a str>,
+    /// Whether `reqkey-trap` starts the program, and no library is preloaded.
+    pub trap: bool,
     /// The program.
     pub program: &'a str,
     /// Its words.
@@ -26,13 +28,13 @@ pub struct Wanted<'a> {
 }
 
 /// The options that there are.
-const OPTIONS: [&str; 4] = ["--socket", "--uid", "--gid", "--library"];
+const OPTIONS: [&str; 5] = ["--socket", "--uid", "--gid", "--library", "--trap"];
 
 impl<'a> Wanted<'a> {
     /// What the words say, of which the first is the name of the program that is called and the second `run`: options, each at most once, as `--uid 5` or
     /// `--uid=5`, and behind the first `--` the program and its words, whatever they look like. `None` where they say none: where `--` or the program is
     /// lacking, an option is unknown or there twice, a uid or gid is no number up to 4294967295, or the library is no absolute path, or one with a space or
-    /// a colon.
+    /// a colon; and where `--trap` has a value, or stands beside a uid, a gid or a library, since each process acts for its own user then, by no library.
     pub fn read(words: &'a [String]) -> Option<Wanted<'a>>
         ensures { option_map said_by result ≡ wanted_said (map string_bytes words.now) }
     {
@@ -51,19 +53,51 @@ fn behind_run<'a>(words: &'a [String]) -> Option<Wanted<'a>>
     let (program, words) = behind.split_first()?;
     let options = Options {
         words: before,
-        flags: &[],
+        flags: &["--trap"],
     };
-    if !options.are_known(&OPTIONS) {
+    if has_trap_with_value(before) || !options.are_known(&OPTIONS) {
         return None;
     }
-    Some(Wanted {
+    let wanted = Wanted {
         socket: options.value_of("--socket")?,
         uid: number_given(&options, "--uid")?,
         gid: number_given(&options, "--gid")?,
         library: library_given(&options)?,
+        trap: options.value_of("--trap")?.is_some(),
         program: program.as_str(),
         words,
-    })
+    };
+    if is_contrary(&wanted) {
+        return None;
+    }
+    Some(wanted)
+}
+
+/// Whether it says what does not go with `--trap`, and that too.
+fn is_contrary(wanted: &Wanted<'_>) -> bool
+    ensures { result ≡ is_contrary (said_by wanted.now) }
+{
+    wanted.trap && (wanted.uid.is_some() || wanted.gid.is_some() || wanted.library.is_some())
+}
+
+/// Whether one of the words is `--trap` with a value, even an empty one.
+fn has_trap_with_value(words: &[String]) -> bool
+    ensures { result ≡ list_any is_trap_with_value (map string_bytes words.now) }
+{
+    match words {
+        [] => false,
+        [word, others @ ..] => is_trap_with_value(word.as_str()) || has_trap_with_value(others),
+    }
+}
+
+/// Whether the word is `--trap` with a value, even an empty one.
+fn is_trap_with_value(word: &str) -> bool
+    ensures { result ≡ is_trap_with_value word.now }
+{
+    match word.split_once('=') {
+        Some((name, _)) => name == "--trap",
+        None => false,
+    }
 }
 
 /// The words up to the first `--`, and those behind it.

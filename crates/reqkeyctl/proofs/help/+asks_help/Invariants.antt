@@ -1,5 +1,0 @@
-use Rattle.std.proofs.Common.{length}
-use Rattle.reqkeyctl.proofs.help.+asks_help.Given as goal
-
-abbrev pub decreases-asks_help : goal.decreases-asks_help
-decreases-asks_help l = length l.words.now

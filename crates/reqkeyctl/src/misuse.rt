@@ -1,0 +1,88 @@
+//! What is wrong with words where the manual finds nothing.
+
+use crate::call::op_and_more;
+use rk_options::Options;
+use rk_text::number;
+use rk_variables::is_library;
+use thiserror::Error;
+
+/// Why a file stands for no argument.
+#[derive(Clone, Copy, Debug, PartialEq, Eq, Error)]
+pub enum Misplaced {
+    /// The op takes no payload.
+    #[error("the argument '--payload-from <FILE>' cannot be used with a command that takes no payload")]
+    Payload,
+    /// The op takes no callout.
+    #[error("the argument '--callout-from <FILE>' cannot be used with a command that takes no callout")]
+    Callout,
+    /// Both are named.
+    #[error("the argument '--payload-from <FILE>' cannot be used with '--callout-from <FILE>'")]
+    Both,
+    /// It is standard input, where the daemon is.
+    #[error("the file '-' is standard input, which leads to the daemon unless '--socket <PATH>' is used")]
+    Input,
+}
+
+/// What the manual lets pass in words that are no call.
+#[derive(Clone, Copy, Debug, Error)]
+pub enum Leftover<'a> {
+    /// A number with a sign.
+    #[error("invalid value '{value}' for '{option} <N>': a number has digits alone")]
+    Number {
+        /// The option.
+        option: &'static str,
+        /// Its value.
+        value: &'a str,
+    },
+    /// A library that can't be preloaded.
+    #[error("invalid value '{0}' for '--library <FILE>': it has to be an absolute path, without a space or a colon")]
+    Library(&'a str),
+    /// Options in front of `run`.
+    #[error("the options of 'run' stand behind it, as in 'reqkeyctl run --uid 1000 -- PROGRAM'")]
+    Run,
+}
+
+/// The options that have numbers.
+const NUMBERS: [&str; 3] = ["--uid", "--gid", "--join"];
+
+/// What is wrong with words that are no call, in which the manual finds no fault. The first is the name of the program.
+pub fn unnoticed(words: &[String]) -> Leftover<'_> {
+    let options = Options {
+        words: options_in(words),
+        flags: &["--raw", "--quiet", "--trap"],
+    };
+    for option in NUMBERS {
+        if let Some(Some(value)) = options.value_of(option) {
+            if number(value.as_bytes(), 4_294_967_295).is_none() {
+                return Leftover::Number { option, value };
+            }
+        }
+    }
+    match options.value_of("--library") {
+        Some(Some(path)) if !is_library(path) => Leftover::Library(path),
+        _ => Leftover::Run,
+    }
+}
+
+/// The words that are to be options: those behind `run` up to the first `--`, or those in front of the op.
+fn options_in(words: &[String]) -> &[String] {
+    match words {
+        [] => words,
+        [_, word, others @ ..] if word.as_str() == "run" => {
+            match others.iter().position(|word| word.as_str() == "--") {
+                Some(end) if end <= others.len() => {
+                    let (front, _) = others.split_at(end);
+                    front
+                }
+                _ => others,
+            }
+        }
+        [_, words @ ..] => match op_and_more(words) {
+            Some((_, arguments)) => {
+                let (front, _) = words.split_at(words.len() - arguments.len() - 1);
+                front
+            }
+            None => words,
+        },
+    }
+}
