@@ -147,9 +147,13 @@ def said_by(line):
 # ---- by hand
 
 
+def counted_lines(number):
+    return f"ok, {number} line{'' if number == 1 else 's'}\n".encode()
+
+
 def checks(program, room):
     for text, wanted in TEXTS:
-        want = (0, f"ok, {wanted} lines\n".encode(), b"") if isinstance(wanted, int) else (1, b"", f"reqkeyd: conf line {wanted}\n".encode())
+        want = (0, counted_lines(wanted), b"") if isinstance(wanted, int) else (1, b"", f"reqkeyd: conf line {wanted}\n".encode())
         count.same(f"{program.name} check {text[:40]}", told(program, room, text, "check", "--conf", "CONF"), want)
         if want[0]:
             count.same(f"{program.name} pick of {text[:40]}", told(program, room, text, "pick", "--conf=CONF", *REQUEST), want)
@@ -284,7 +288,7 @@ def beside_replay(program, room, seed):
         return
     lines = sum(1 for line in conf if line.strip() and not line.strip().startswith("#"))
     got = told(program, room, "\n".join(conf).encode(), "check", "--conf", "CONF")
-    count.same(f"{program.name} {seed} check", got, (0, f"ok, {lines} lines\n".encode(), b""))
+    count.same(f"{program.name} {seed} check", got, (0, counted_lines(lines), b""))
     rings = bodies(bytes.fromhex(output[0].split(" ")[2]))[0]
     thread, process, session = (str(int.from_bytes(rings[at : at + 4], "big")) for at in (1, 5, 9))
     words = ["--uid", str(uid), "--gid", str(gid), "--thread", thread, "--process", process, "--session", session]

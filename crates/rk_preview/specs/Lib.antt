@@ -4,6 +4,7 @@ pub mod Numbers
 pub mod Asked
 pub mod Text
 pub mod Told
+pub mod Doubts
 pub mod Views
 pub mod Outlines
 pub mod Laws

@@ -33,4 +33,4 @@ command_text number piped path words = head_text number piped ++ word_line path 
 
 -- how many lines name a program
 abbrev pub count_text : ℕ → List ℕ
-count_text n = codes "ok, " ++ decimal n ++ codes " lines\n"
+count_text n = codes "ok, " ++ decimal n ++ (if n == 1 then codes " line\n" else codes " lines\n")

@@ -16,9 +16,10 @@
 //! # How it is built
 //!
 //! `numbers`, `names` and `preview` read the words, over the options of `rk_options`. `telling` picks and expands, `text` writes, `fault` says in words what
-//! is wrong.
+//! is wrong, and `doubts` finds what is allowed and hardly meant.
 #![tactic(auto)]
 
+mod doubts;
 mod fault;
 mod names;
 mod numbers;
@@ -27,6 +28,7 @@ mod reading;
 mod telling;
 mod text;
 
+pub use doubts::{Doubt, has_comment, hidden_by, is_of_no_request};
 pub use fault::{Fault, rule};
 pub use preview::Preview;
 pub use reading::commands_have_one_reading;

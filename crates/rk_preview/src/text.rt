@@ -15,7 +15,7 @@ pub fn count(alloc: Global, lines: usize) -> Result<Vec<u8>, AllocError>
     let mut buffer = Buffer::new();
     let mut text = Vec::from_slice(alloc, b"ok, ")?;
     text.extend_from_slice(buffer.format(lines).as_bytes())?;
-    text.extend_from_slice(b" lines\n")?;
+    text.extend_from_slice(if lines == 1 { b" line\n" } else { b" lines\n" })?;
     Ok(text)
 }
 
