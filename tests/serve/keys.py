@@ -36,6 +36,15 @@ def scripted(program):
         return differs((made, read, daemon.end()), (printed(12), printed("made"), (0, ["0"] * 2)))
 
 
+def astray(program):
+    """A handler that is a shell script speaks to its own daemon, whatever socket the daemon's environment names; with `--quiet` it leaves no line."""
+    with Daemon(program, "create user s:* * %room/handler %k\n", "--clients", "2", environment={"REQKEYD_SOCKET": "/dev/null/none"}) as daemon:
+        daemon.script("handler", SCRIPT.replace("%ctl", "%ctl --quiet"))
+        made = daemon.control(*USER, "request", "user", "s:1", "user", "x")
+        read = daemon.control(*USER, "read", "12")
+        return differs((made, read, daemon.end()), (printed(12), printed("made"), (0, [])))
+
+
 def nested(program):
     """A handler that has another key made, in the ring of its requester."""
     with Daemon(program, "create user s:* * %room/handler %k\ncreate user n:* * %room/nesting %k\n", "--clients", "4") as daemon:
@@ -213,7 +222,7 @@ def document(program):
 
 
 def cases():
-    for name, try_it in [("two runs and the end", first), ("a script as a handler", scripted), ("a nested request", nested), ("a line for negate", negated),
+    for name, try_it in [("two runs and the end", first), ("a script as a handler", scripted), ("a handler that is led astray", astray), ("a nested request", nested), ("a line for negate", negated),
                          ("keys that are decided otherwise", decided), ("what a handler has of the daemon", of_the_daemon), ("macros", macros),
                          ("a macro of a key that has expired", expired), ("a key that expires for all", expires_for_all), ("each subcommand", as_client), ("a session ring that is joined", joined),
                          ("each subcommand in a handler", as_handler), ("the example of the protocol", document)]:
