@@ -13,7 +13,7 @@ use crate::tables::Tables;
 use rk_keys::Condition;
 use rk_machine::{Answer, Asker, EventOf};
 use rk_message::AskStep;
-use rk_names::{Errno, KeyError, Moment, Serial, SessionId};
+use rk_names::{Errno, KeyError, Moment, SessionId};
 
 impl Tables {
     /// What a session asks is done, refused, waited for or started.

@@ -9,7 +9,6 @@ ghost use Rattle.rk_core.specs.Finding.{Passes, FindsAsker, FindsRing, FindsRing
 
 use crate::tables::Tables;
 use rk_auth::Session;
-use rk_keys::Standing;
 use rk_machine::Asker;
 use rk_names::{Errno, Moment, Serial, SessionId};
 use rk_rings::Place;

@@ -16,7 +16,7 @@ use crate::ticket::OneOfFour;
 use crate::token::{Launch, Running};
 use crate::volume::Volume;
 use rk_machine::{Answer, EventOf, EventStep, How, Ran};
-use rk_names::{Description, Errno, Moment, Payload, Serial, SessionId, TypeName};
+use rk_names::{Description, Errno, Moment, Payload, SessionId, TypeName};
 use rk_record::{HallFault, HallNo, MAX_STEPS, Receipt};
 use std::alloc::{AllocError, Global};
 use std::marker::PhantomData;

@@ -1,5 +1,5 @@
 -- What happened on a wire that keeps it, and that it was a talk.
-use Rattle.std.specs.Prelude.{◌≡◌, ◌⊎◌, ℕ, List, [], map}
+use Rattle.std.specs.Prelude.{◌≡◌, ◌⊎◌, List, []}
 use Rattle.rk_names.specs.declared.numbers.SessionId.{SessionId}
 use Rattle.rk_hall.specs.Seats.{SeatShown}
 use Rattle.rk_session.specs.declared.serving.Served.{Served}

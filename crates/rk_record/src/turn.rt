@@ -15,7 +15,7 @@ use crate::receipt::Receipt;
 use crate::recorded::Recorded;
 use crate::told::Told;
 use rk_core::Book;
-use rk_machine::{Answer, BoxedSubject, Event, EventStep};
+use rk_machine::{BoxedSubject, Event, EventStep};
 use rk_names::{Moment, SessionId};
 use std::alloc::{AllocError, Global};
 

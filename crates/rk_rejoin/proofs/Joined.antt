@@ -1,7 +1,7 @@
 -- The volumes of a hall, one more at a time.
 use Rattle.std.proofs.Common.{◌≡◌, ◌≢◌, ℕ, ◌+◌, ◌<◌, Bool, true, false, List, [], ◌∷◌, ◌++◌, ◌==◌, length, take, drop, get_or, map, refl, sym, ap, subst}
 use Rattle.std.proofs.Common.{◌∙◌, Bor}
-use Rattle.std.proofs.Common.{append_assoc, append-nil, length-append, arith}
+use Rattle.std.proofs.Common.{append-nil, length-append, arith}
 use Rattle.std.specs.List.{flat_map, filter}
 use Rattle.std.proofs.lemmas.Bool.{eqb-true, eqb-false}
 use Rattle.std.proofs.lemmas.List.{take_more, map-append, length-map, take-append-drop, drop_more}

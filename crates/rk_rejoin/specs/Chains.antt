@@ -1,5 +1,5 @@
 -- How the volumes of a run are tied to one another.
-use Rattle.std.specs.Prelude.{◌≡◌, ℕ, Bool, true, false, List, [], ◌∷◌, replicate, Option, Some, None, option_map, is_some, not, if◌then◌else◌}
+use Rattle.std.specs.Prelude.{◌≡◌, ℕ, Bool, List, [], ◌∷◌, replicate, Option, Some, None, option_map, is_some, not, if◌then◌else◌}
 use Rattle.rk_volumes.specs.declared.seal.Sealed.{Sealed}
 use Rattle.rk_volumes.specs.declared.stored.Stored.{Stored}
 

@@ -1,7 +1,7 @@
 -- What is judged of volumes that were read.
-use Rattle.std.specs.Prelude.{◌≡◌, ℕ, ◌+◌, ◌<◌, ◌==◌, List, [], ◌∷◌, filter, length, Some}
-use Rattle.std.specs.List.{flat_map, AllByRecursion}
-use Rattle.rk_machine.specs.World.{World, empty_world}
+use Rattle.std.specs.Prelude.{◌≡◌, ℕ, ◌+◌, ◌==◌, List, [], ◌∷◌, filter, length, Some}
+use Rattle.std.specs.List.{flat_map}
+use Rattle.rk_machine.specs.World.{World}
 use Rattle.rk_machine.specs.Steps.{Beginning}
 use Rattle.rk_machine.specs.Laws.{ContinuesTo}
 use Rattle.rk_record.specs.declared.hall_no.HallNo.{HallNo}

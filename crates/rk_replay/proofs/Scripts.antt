@@ -1,5 +1,5 @@
 -- The head of a script, line by line, and a whole script.
-use Rattle.std.proofs.Common.{◌≡◌, ◌≢◌, ℕ, ◌+◌, List, [], ◌∷◌, ◌++◌, length, map, Option, Some, None, true, false, not, refl, sym, ap, ◌∙◌, subst}
+use Rattle.std.proofs.Common.{◌≡◌, ◌≢◌, ℕ, ◌+◌, List, [], ◌∷◌, ◌++◌, length, map, Some, None, false, not, refl, sym, ap, ◌∙◌, subst}
 use Rattle.std.proofs.Common.{arith, append_assoc}
 use Rattle.std.specs.List.{flat_map, filter_map}
 use Rattle.std.proofs.lemmas.List.{append-nil, length-append}
@@ -28,7 +28,7 @@ use Rattle.rk_served.specs.Served.{Served}
 use Rattle.rk_served.specs.Order.{ServedInOrder}
 use Rattle.rk_replay.specs.Settings.{configured, Sets}
 use Rattle.rk_replay.specs.Written.{text_from, outputs_in, IsWritten, IsRefused}
-use Rattle.rk_replay.specs.Playing.{readings_left, readings_from, bytes_left, bytes_from, IsHead, PlaysBody}
+use Rattle.rk_replay.specs.Playing.{readings_from, IsHead, PlaysBody}
 use Rattle.rk_served.proofs.ServedLaws.{served_is_run}
 use Rattle.rk_served.proofs.Orders.{served_of}
 use Rattle.rk_replay.proofs.Heads.{Quiet, from_first, parts, said_parts, conf_parts, seconds_parts, configured_by, happenings_parts, text_parts, before_parts}

@@ -22,7 +22,7 @@ use Rattle.rk_machine.specs.declared.event.Answer.{Answer}
 use Rattle.rk_machine.specs.declared.event.Answer.TheVariants.{Done, Start, Waiting, Negate, Refused}
 use Rattle.rk_machine.specs.World.{World}
 use Rattle.rk_machine.specs.Allowed.{done, refused_if}
-use Rattle.rk_machine.specs.Steps.{Beginning, Past, Step, may_launch}
+use Rattle.rk_machine.specs.Steps.{Step, may_launch}
 use Rattle.rk_machine.specs.Views.{is_owed}
 use Rattle.rk_machine.specs.Laws.{same_session}
 use Rattle.rk_machine.proofs.Effects.KindsOfStep.{effect}

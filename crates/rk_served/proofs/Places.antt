@@ -1,19 +1,18 @@
 -- Where a peer stands among those in order, found by halves.
-use Rattle.std.proofs.Common.{◌≡◌, ℕ, zero, suc, ◌+◌, ◌<◌, ◌≤◌, Bool, true, false, cond, not, ◌&&◌, List, [], ◌∷◌, refl, sym, ap, ◌∙◌, subst}
+use Rattle.std.proofs.Common.{◌≡◌, ℕ, zero, suc, ◌+◌, ◌<◌, ◌≤◌, Bool, true, false, cond, not, List, [], ◌∷◌, refl, sym, ap, ◌∙◌}
 use Rattle.std.proofs.Common.{arith, length, get_or}
-use Rattle.std.specs.Prelude.{Option, Some, None, IfSome, slice_get}
-use Rattle.std.specs.List.{AllWithin, list_all, prefix_len}
+use Rattle.std.specs.Prelude.{Some, None, slice_get}
+use Rattle.std.specs.List.{list_all, prefix_len}
 use Rattle.std.specs.List.Sorted.{IsPartitionedBy, IsPartitionPoint}
 use Rattle.std.proofs.lemmas.Bool.Decides.{nat_tests}
 use Rattle.rk_names.specs.declared.numbers.SessionId.{SessionId}
 use Rattle.rk_names.specs.declared.numbers.SessionId.TheVariants.{Client, Handler}
 use Rattle.rk_machine.specs.Laws.{same_session}
-use Rattle.rk_machine.proofs.Effects.WaitsAfter.{same-true, same-self}
+use Rattle.rk_machine.proofs.Effects.WaitsAfter.{same-true}
 use Rattle.rk_served.specs.declared.peer.Peer.{Peer}
 use Rattle.rk_served.specs.Standing.{comes_before, are_in_order}
 use Rattle.rk_served.specs.WhoIsThere.{peer_of}
-use Rattle.rk_served.proofs.PeerLists.{both, both_of, not_false, some_peer}
-use Rattle.rk_served.proofs.Standings.{before_trans, before_self}
+use Rattle.rk_served.proofs.PeerLists.{both, some_peer}
 
 -- ---- a test that splits a list
 

@@ -1,6 +1,6 @@
 -- After what one session has done, nobody may move but those of whom the queue knows.
-use Rattle.std.proofs.Common.{◌≡◌, ◌⊎◌, ℕ, zero, suc, Bool, true, false, cond, not, ◌&&◌, List, [], ◌∷◌, ◌++◌, refl, sym, ap, ◌∙◌, subst, inl, inr}
-use Rattle.std.specs.Prelude.{Option, Some, None, IfSome, MatchOption, is_some, is_none, option_map, option_and_then, nat_eq, slice_get, slice_set}
+use Rattle.std.proofs.Common.{◌≡◌, ◌⊎◌, ℕ, Bool, true, false, cond, not, List, [], ◌∷◌, ◌++◌, refl, sym, ap, ◌∙◌, subst, inl, inr}
+use Rattle.std.specs.Prelude.{Option, Some, None, MatchOption, is_some, option_map, option_and_then, nat_eq, slice_get, slice_set}
 use Rattle.std.specs.List.{All, Contains}
 use Rattle.std.specs.Global.{Vec}
 use Rattle.std.specs.declared.cmp.Reverse.{Reverse}
@@ -60,7 +60,7 @@ use Rattle.rk_served.specs.WhoIsThere.{peer_of, has_peer, are_apart, HasItsPeers
 use Rattle.rk_served.specs.Standing.{comes_before}
 use Rattle.rk_served.specs.Movers.{reversed}
 use Rattle.rk_served.specs.Calls.{MovesBy, MovesNext, TriesAt, RestsBy}
-use Rattle.rk_served.specs.Queued.{IsMover, IsWaiter, Watches, IsWatched, IsWatchedBut, IsStill, IsKeyOf, Stirs, Wakes, Parks, KeepsMovers, KeepsKnown, waiters_at}
+use Rattle.rk_served.specs.Queued.{IsMover, IsWaiter, IsWatched, IsWatchedBut, IsStill, IsKeyOf, Stirs, Wakes, Parks, KeepsMovers, KeepsKnown, waiters_at}
 use Rattle.rk_served.proofs.PeerLists.{both, not_false, some_peer}
 use Rattle.rk_served.proofs.PeersFit.{fits}
 use Rattle.rk_served.proofs.Standings.{before_self}

@@ -1,6 +1,6 @@
 -- A volume has one file, and a file one volume.
-use Rattle.std.proofs.Common.{◌≡◌, ◌≢◌, ℕ, zero, suc, ◌+◌, ◌<◌, ◌≤◌, ◌^◌, List, [], ◌∷◌, ◌++◌, length, take, get_or, Option, Some, None, refl, sym, subst}
-use Rattle.std.proofs.Common.{ap, ◌∙◌, append_assoc, append-nil, length-append, arith}
+use Rattle.std.proofs.Common.{◌≡◌, ℕ, ◌+◌, ◌<◌, ◌≤◌, List, [], ◌∷◌, ◌++◌, length, take, get_or, Option, Some, None, refl, sym, subst}
+use Rattle.std.proofs.Common.{ap, ◌∙◌, append_assoc, append-nil, arith}
 use Rattle.std.specs.List.{flat_map, AllByRecursion}
 use Rattle.std.specs.Int.{w32, w64, to_be_bytes}
 use Rattle.std.specs.Io.KnownBytes.{Appends}
@@ -16,7 +16,7 @@ use Rattle.rk_volumes.specs.Rules.{IsStep}
 use Rattle.rk_volumes.specs.declared.fault.Fault.{Fault}
 use Rattle.rk_volumes.specs.declared.fault.Fault.TheVariants as fault
 use Rattle.rk_volumes.specs.Format.{title, head_bytes, step_bytes, file_bytes, IsHead, IsStored, HasNoStep, IsMissing, IsFaultOf, HaveOneReading}
-use Rattle.rk_volumes.proofs.Fronts.{same_front, same_word, same_long}
+use Rattle.rk_volumes.proofs.Fronts.{same_word, same_long}
 use Rattle.rk_volumes.proofs.Rows.{second}
 use Rattle.rk_volumes.proofs.Steps.{same_step}
 

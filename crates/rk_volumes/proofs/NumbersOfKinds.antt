@@ -1,5 +1,5 @@
 -- Which numbers are of serials, sessions, starts, ends, uses and errors.
-use Rattle.std.proofs.Common.{◌≡◌, ◌≢◌, ℕ, ◌<◌, ◌≤◌, Bool, true, false, cond, eqb, ltb, Option, Some, None, refl, sym, ap, ◌∙◌, arith}
+use Rattle.std.proofs.Common.{◌≡◌, ◌≢◌, ℕ, ◌≤◌, Bool, true, false, cond, eqb, ltb, Option, Some, None, refl, sym, ap, ◌∙◌, arith}
 use Rattle.std.specs.Prelude.{MatchOption}
 use Rattle.std.proofs.lemmas.Bool.{eqb-true, eqb-false, ltb-true, ltb-false}
 use Rattle.rk_names.specs.declared.errors.Errno.{Errno}
@@ -12,8 +12,7 @@ use Rattle.rk_macro.specs.declared.subject.Op.TheVariants as op
 use Rattle.rk_machine.specs.declared.event.Ran.{Ran}
 use Rattle.rk_machine.specs.declared.event.Ran.TheVariants.{Plain, Piped, Failed}
 use Rattle.rk_machine.specs.declared.event.How.{How}
-use Rattle.rk_machine.specs.declared.event.How.TheVariants.{Exit, Signal, Fault}
-use Rattle.rk_volumes.specs.Kinds.{session_kind, session_number, ran_kind, how_kind, status_of, op_kind}
+use Rattle.rk_volumes.specs.Kinds.{session_kind, session_number, ran_kind, op_kind}
 use Rattle.rk_volumes.specs.Rules.{IsSerial, IsSession}
 
 -- ---- serials

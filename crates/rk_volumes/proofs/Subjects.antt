@@ -1,5 +1,5 @@
 -- What is started, as bytes: its numbers, and the request that asks for its names.
-use Rattle.std.proofs.Common.{◌≡◌, ◌≢◌, ℕ, ◌+◌, ◌<◌, ◌≤◌, List, [], ◌∷◌, ◌++◌, length, Option, Some, None, refl, sym, ap, ◌∙◌, append_assoc}
+use Rattle.std.proofs.Common.{◌≡◌, ◌≢◌, ℕ, ◌+◌, ◌<◌, ◌≤◌, List, ◌++◌, length, Some, None, refl, sym, ap, ◌∙◌, append_assoc}
 use Rattle.std.proofs.Common.{length-append, arith}
 use Rattle.std.specs.Prelude.{pos}
 use Rattle.std.specs.Int.{w32, to_be_bytes}
@@ -14,8 +14,8 @@ use Rattle.rk_message.specs.Asks.{IsAsk, ask_message}
 use Rattle.rk_message.proofs.Asks.{asks_are_told}
 use Rattle.rk_macro.specs.declared.subject.Subject.{Subject}
 use Rattle.rk_volumes.specs.Rows.{request_of, subject_bytes}
-use Rattle.rk_volumes.specs.Rules.{IsWord, IsSerial, IsSubject}
-use Rattle.rk_volumes.proofs.Fronts.{same_word, too_short}
+use Rattle.rk_volumes.specs.Rules.{IsWord, IsSubject}
+use Rattle.rk_volumes.proofs.Fronts.{same_word}
 use Rattle.rk_volumes.proofs.NumbersOfKinds.{no_serial}
 use Rattle.rk_volumes.proofs.Rows.{serial_fits, from_uid, from_gid, from_thread, from_process, from_session, names_bytes}
 

@@ -6,7 +6,6 @@ use Rattle.rk_names.specs.Rules.{payload_fault}
 use Rattle.rk_message.specs.Asks.{IsAsk}
 use Rattle.rk_message.specs.Replies.{IsReply}
 use Rattle.rk_macro.specs.declared.subject.Subject.{Subject}
-use Rattle.rk_machine.specs.declared.event.How.{How}
 use Rattle.rk_machine.specs.Event.{Event}
 use Rattle.rk_machine.specs.declared.event.EventOf.TheVariants as event
 use Rattle.rk_machine.specs.declared.event.Answer.{Answer}

@@ -4,7 +4,6 @@ use Rattle.std.specs.Prelude.{Option, Some, None}
 use Rattle.rk_names.specs.declared.numbers.SessionId.{SessionId}
 use Rattle.rk_hall.specs.Seats.{SeatShown}
 use Rattle.rk_session.specs.declared.serving.Served.{Served}
-use Rattle.rk_session.specs.Places.{Standing}
 use Rattle.rk_session.specs.Talk.{Ends, Serves}
 use Rattle.rk_session.specs.Wires.{Happened, WireShown}
 use Rattle.rk_live_tests.specs.Telling.{IsTalk}

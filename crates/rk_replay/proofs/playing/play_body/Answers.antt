@@ -1,4 +1,3 @@
-use Rattle.std.proofs.Common.{◌≡◌}
 use Rattle.rk_replay.proofs.Bodies.{plays_none}
 use Rattle.rk_replay.proofs.playing.play_body.Goals as goal
 

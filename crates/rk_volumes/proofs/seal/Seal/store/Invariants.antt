@@ -1,4 +1,4 @@
-use Rattle.std.proofs.Common.{◌≡◌, ◌++◌, length, take}
+use Rattle.std.proofs.Common.{◌++◌, length, take}
 use Rattle.std.specs.List.{flat_map, AllByRecursion}
 use Rattle.std.specs.Io.KnownBytes.{Appends}
 use Rattle.sha2.specs.Hashers.{Holds256}
