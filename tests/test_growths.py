@@ -116,12 +116,12 @@ def replies(word):
 
 
 def judged_session(words, commands, is_made, goes_on):
-    """The steps of a run of a session: it ends as its input does, and each reply is the whole one's up to the allocation that is refused. Numbers and refusals
-    take no memory, so that the end of a handler which lacked it is still reported."""
+    """The steps of a run of a session: it ends as its input does, or its client could not be opened, and made no step. Each reply is the whole one's up to
+    the allocation that is refused. Numbers and refusals take no memory, so that the end of a handler which lacked it is still reported."""
     steps, served, said, text = words
     said, steps, count = list(replies(said)), int(steps), started(text, commands)
     last = TWELVE if is_made else NO_KEY
-    holds(served == "Ended", "another end")
+    holds(served == ("Ended" if steps else "NotOpened"), "another end")
     if not said:
         holds(steps == 0 and count == 0, "a session that gets nothing")
         return steps
