@@ -445,6 +445,8 @@ def load(trap_program, program, daemon_program):
 
 
 def main():
+    # A shell without job control starts what it sends to the background with SIGINT ignored, and then no program of a test could catch it.
+    signal.signal(signal.SIGINT, signal.default_int_handler)
     if not shutil.which("gcc") or not shutil.which("make"):
         print("clients/trap: not tried, there is no gcc and make")
         count.end()
