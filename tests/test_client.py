@@ -139,6 +139,12 @@ SAID = [
     (["--quiet=1", "read", "3"], "unexpected value '1' for '--quiet' found; no more were expected"),
     (["--quiet", "--quiet", "read", "3"], "the argument '--quiet' cannot be used multiple times"),
     (["--uid", "1", "run", "--", "true"], "the options of 'run' stand behind it, as in 'reqkeyctl run --uid 1000 -- PROGRAM'"),
+    (["list", "x"], "unexpected argument 'x' found"),
+    (["list"], "neither '--socket <PATH>' nor REQKEYD_SOCKET says where the daemon is"),
+    (["--uid", "1000", "sweep"], "neither '--socket <PATH>' nor REQKEYD_SOCKET says where the daemon is"),
+    (["--uid", "+1", "list"], "invalid value '+1' for '--uid <N>': a number has digits alone"),
+    *[(["--socket", "s", *words, "list"], "'list' and 'sweep' take no other options than '--socket', '--uid' and '--gid'") for words in
+      [["--raw"], ["--quiet"], ["--join", "5"], ["--payload-from", "f"], ["--callout-from", "f"]]],
     (["run"], "the following required arguments were not provided:"),
     (["run", "--nothing", "--", "true"], "unexpected argument '--nothing' found"),
     (["run", "--uid", "+1", "--", "true"], "invalid value '+1' for '--uid <N>': a number has digits alone"),
@@ -354,6 +360,24 @@ def is_quiet(program, reply):
     return None
 
 
+def looks(program, command, uid, newest, replies, bodies, want):
+    """`list` and `sweep`: what is asked behind HELLO, and what is printed of the replies; where one is None the daemon ends."""
+    with peer.Daemon([it and peer.frame(it) for it in [peer.rings(0, 0, newest, 2), *replies]]) as daemon:
+        got = ran(program, ["--socket", daemon.path, "--uid", str(uid), command])
+        daemon.ended()
+    if want[2] in [GONE, NO_REPLY]:
+        want = (*want[:2], SOCKET + f"  {daemon.path}: {want[2]}\n".encode())
+    return differs((got, daemon.heard), (want, [peer.hello(uid), *bodies]))
+
+
+def is_turned_away(program, command):
+    """A search whose HELLO is refused: nothing else is asked."""
+    with peer.Daemon([peer.frame(peer.refused(122))]) as daemon:
+        got = ran(program, ["--socket", daemon.path, command])
+        daemon.ended()
+    return differs((got, daemon.heard, daemon.more), ((1, b"", b"errno 122\n"), [peer.hello()], b""))
+
+
 def at_terminal(program, words, status, want):
     """What a call does whose standard output is a terminal, and that names no socket: it writes nothing there but help."""
     leader, follower = os.openpty()
@@ -485,6 +509,28 @@ def cases(room):
     yield "a run for another group", runs_for, ["--gid", "7"], *own, (own[0], 7)
     for reply, *_ in REPLIES[:5]:
         yield f"the reply {reply[:12]!r} quiet", is_quiet, reply
+    described, gone = peer.data(b"user;5;valid;a"), peer.refused(13)
+    asked = [peer.on_key(8, serial) for serial in [1, 5, 9]]
+    text = b"1 user;5;valid;a\n9 user;5;valid;a\n"
+    yield "a list", looks, "list", 5, 13, [described, gone, described], asked, (0, text, b"")
+    yield "a list of nothing", looks, "list", 5, 1, [], [], (0, b"", b"")
+    yield "a list of the first keys", looks, "list", 4, 8, [gone], [peer.on_key(8, 4)], (0, b"", b"")
+    yield "a newest serial that there can't be", looks, "list", 4, 2147483648, [], [], (1, b"", NO_REPLY)
+    for command in ["list", "sweep"]:
+        yield f"{command} that HELLO refuses", is_turned_away, command
+    yield "a list that is cut", looks, "list", 5, 13, [described, None], asked[:2], (1, b"", GONE)
+    yield "a list with a refusal that there can't be", looks, "list", 5, 13, [described, peer.refused(3)], asked[:2], (1, b"", NO_REPLY)
+    yield "a sweep that is cut", looks, "sweep", 5, 5, [described, None], [asked[0], peer.on_key(7, 1)], (1, b"", GONE)
+    for errno, dead in [(errno, errno >= 126) for errno in ERRNOS]:
+        tail = ([peer.number(0)], [peer.on_key_and_ring(12, 1, -4)]) if dead else ([], [])
+        yield f"a sweep at errno {errno}", looks, "sweep", 5, 5, [described, peer.refused(errno), *tail[0]], [peer.on_key(8, 1), peer.on_key(7, 1), *tail[1]], \
+            (0, b"1\n" if dead else b"0\n", b"")
+    yield "a sweep of a living key", looks, "sweep", 5, 5, [described, peer.data(b"v")], [peer.on_key(8, 1), peer.on_key(7, 1)], (0, b"0\n", b"")
+    yield "a sweep of one key of two", looks, "sweep", 5, 13, [described, gone, described, peer.data(b"v"), peer.refused(128), peer.number(0)], \
+        [*asked, peer.on_key(7, 1), peer.on_key(7, 9), peer.on_key_and_ring(12, 9, -4)], (0, b"1\n", b"")
+    yield "a sweep of nothing", looks, "sweep", 5, 5, [gone], [peer.on_key(8, 1)], (0, b"0\n", b"")
+    yield "a sweep of a key in another ring", looks, "sweep", 5, 5, [described, peer.refused(126), peer.refused(2)], \
+        [peer.on_key(8, 1), peer.on_key(7, 1), peer.on_key_and_ring(12, 1, -4)], (0, b"0\n", b"")
     yield "a request at a terminal", at_terminal, ["read", "3"], 2, "nor REQKEYD_SOCKET says where the daemon is, and standard output is a terminal"
     yield "words that are no call at a terminal", at_terminal, ["nothing"], 2, "unrecognized subcommand"
     yield "help at a terminal", at_terminal, ["read", "--help"], 0, "Usage"

@@ -38,6 +38,8 @@ ARGUMENTS = {
     "default": [SETTINGS],
     "add": [[], [], [], RINGS],
     "callout": [],
+    "list": [],
+    "sweep": [],
 }
 
 # Calls whose last word is to be completed, which may be empty, and what it may be; some.file is the one file of the folder.

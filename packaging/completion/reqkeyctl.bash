@@ -21,6 +21,8 @@ _reqkeyctl()
         [default]='-h --help'
         [add]='-h --help'
         [callout]='-h --help'
+        [list]='-h --help'
+        [sweep]='-h --help'
         [run]='--socket --uid --gid --library --trap -h --help'
     )
     local -A arguments=(
@@ -41,7 +43,7 @@ _reqkeyctl()
         [run]=program
     )
     local -A words=(
-        [command]='hello request assume instantiate negate reject read describe revoke timeout link unlink clear default add callout run'
+        [command]='hello request assume instantiate negate reject read describe revoke timeout link unlink clear default add callout list sweep run'
         [ring]='none thread process session user requestor'
         [key]=auth
         [error]='126 127 128 129'

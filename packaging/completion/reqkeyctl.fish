@@ -104,6 +104,8 @@ complete -c reqkeyctl -n '__reqkeyctl_at in clear' -s h -l help -d 'Print help'
 complete -c reqkeyctl -n '__reqkeyctl_at in default' -s h -l help -d 'Print help'
 complete -c reqkeyctl -n '__reqkeyctl_at in add' -s h -l help -d 'Print help'
 complete -c reqkeyctl -n '__reqkeyctl_at in callout' -s h -l help -d 'Print help'
+complete -c reqkeyctl -n '__reqkeyctl_at in list' -s h -l help -d 'Print help'
+complete -c reqkeyctl -n '__reqkeyctl_at in sweep' -s h -l help -d 'Print help'
 complete -c reqkeyctl -n '__reqkeyctl_at in run' -l socket -r -F -d 'The socket of the daemon'
 complete -c reqkeyctl -n '__reqkeyctl_at in run' -l uid -x -d 'The user to act for'
 complete -c reqkeyctl -n '__reqkeyctl_at in run' -l gid -x -d 'The group to act for'
@@ -126,6 +128,8 @@ complete -c reqkeyctl -n '__reqkeyctl_at command' -a clear -d 'Take all links ou
 complete -c reqkeyctl -n '__reqkeyctl_at command' -a default -d 'Set to which ring a key that is made goes by default, and print the setting before'
 complete -c reqkeyctl -n '__reqkeyctl_at command' -a add -d 'Add a key with this payload, link it, and print its serial'
 complete -c reqkeyctl -n '__reqkeyctl_at command' -a callout -d 'Print the callout of the request'
+complete -c reqkeyctl -n '__reqkeyctl_at command' -a list -d 'List the keys that the user can see, each with its serial and what describe prints'
+complete -c reqkeyctl -n '__reqkeyctl_at command' -a sweep -d 'Unlink from the user ring what is negative, has expired or was revoked, and print how many'
 complete -c reqkeyctl -n '__reqkeyctl_at command' -a run -d 'Run a program whose calls of keyutils the daemon answers, in a new session ring'
 complete -c reqkeyctl -n '__reqkeyctl_at ring' -a none
 complete -c reqkeyctl -n '__reqkeyctl_at ring' -a thread

@@ -45,6 +45,35 @@ def astray(program):
         return differs((made, read, daemon.end()), (printed(12), printed("made"), (0, [])))
 
 
+def looked_for(program):
+    """`list` prints the keys of a user in the order of their serials, and `sweep` unlinks what is dead; no other user's."""
+    with Daemon(program, "create user p:* * |/bin/cat\n") as daemon:
+        for uid, name in [("1000", "p:1"), ("1000", "p:2"), ("1000", "p:3"), ("1000", "none"), ("1004", "p:4")]:
+            daemon.control("--uid", uid, "request", "user", name, "user", "hello")
+        serials = [line.split()[0].decode() for line in daemon.control(*USER, "list")[1].splitlines()]
+        daemon.control(*USER, "revoke", serials[1])
+        listed = daemon.control(*USER, "list")
+        swept = [daemon.control(*USER, "sweep"), daemon.control(*USER, "sweep"), daemon.control("--uid", "1004", "sweep")]
+        left = daemon.control(*USER, "list")
+        states = [("p:1", "valid"), ("p:2", "revoked"), ("p:3", "valid"), ("none", "negative")]
+        lines = [f"{serial} user;1000;{state};{name}\n".encode() for serial, (name, state) in zip(serials, states)]
+        want = (0, b"".join(lines), b""), [printed(2), printed(0), printed(0)], (0, lines[0] + lines[2], b"")
+        return differs((listed, swept, left), want)
+
+
+def far_apart(program):
+    """The first and the last of a thousand serials are found, and swept."""
+    with Daemon(program) as daemon:
+        first = daemon.control(*USER, "add", "user", "first", "v", "user")[1].strip().decode()
+        daemon.client().ask(*[ask.add(b"user", b"other", b"v", -3)] * 1000)
+        last = daemon.control(*USER, "add", "user", "last", "v", "user")[1].strip().decode()
+        daemon.control(*USER, "revoke", last)
+        listed, swept, left = [daemon.control(*USER, word) for word in ["list", "sweep", "list"]]
+        lines = [f"{first} user;1000;valid;first\n".encode(), f"{last} user;1000;revoked;last\n".encode()]
+        want = (0, b"".join(lines), b""), printed(1), (0, lines[0], b""), True
+        return differs((listed, swept, left, int(last) - int(first) > 4000), want)
+
+
 def nested(program):
     """A handler that has another key made, in the ring of its requester."""
     with Daemon(program, "create user s:* * %room/handler %k\ncreate user n:* * %room/nesting %k\n", "--clients", "4") as daemon:
@@ -222,7 +251,8 @@ def document(program):
 
 
 def cases():
-    for name, try_it in [("two runs and the end", first), ("a script as a handler", scripted), ("a handler that is led astray", astray), ("a nested request", nested), ("a line for negate", negated),
+    for name, try_it in [("two runs and the end", first), ("a script as a handler", scripted), ("a handler that is led astray", astray), ("keys that are listed and swept", looked_for),
+                         ("keys far apart", far_apart), ("a nested request", nested), ("a line for negate", negated),
                          ("keys that are decided otherwise", decided), ("what a handler has of the daemon", of_the_daemon), ("macros", macros),
                          ("a macro of a key that has expired", expired), ("a key that expires for all", expires_for_all), ("each subcommand", as_client), ("a session ring that is joined", joined),
                          ("each subcommand in a handler", as_handler), ("the example of the protocol", document)]:

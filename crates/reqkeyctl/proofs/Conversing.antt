@@ -4,7 +4,7 @@ use Rattle.rk_message.specs.Ask.{Ask}
 use Rattle.rk_message.specs.declared.reply.Reply.{Reply}
 use Rattle.rk_client.specs.declared.fault.PeerFault.{PeerFault}
 use Rattle.reqkeyctl.specs.Calls.{Asks, greeting_before}
-use Rattle.reqkeyctl.specs.Daemon.{Conversation, and_then}
+use Rattle.reqkeyctl.specs.Daemon.{Talk, Asked, and_then}
 use Rattle.reqkeyctl.specs.Outcome.{HasAskedAs}
 use Rattle.reqkeyctl.specs.Said.{CallSaid}
 use Rattle.reqkeyctl.specs.Around.{call_in}
@@ -12,10 +12,10 @@ use Rattle.reqkeyctl.specs.declared.around.Around.{Around}
 
 -- a conversation of the call at its socket, behind its greeting
 pub asked_as : (call : CallSaid) (around : Around) (words : List (List ℕ)) (path : List ℕ) (ask : Ask) (answer : Result Reply PeerFault) (greeting : Option Ask)
-    (said said' : Option (List Conversation)) → Some call ≡ call_in around words → call.options.socket ≡ Some path → Asks call ask → greeting ≡ greeting_before call
-    → said' ≡ and_then said (record { path = path; greeting = greeting; ask = ask; answer = answer }) → HasAskedAs call ask answer around words said said'
+    (said said' : Option (List Talk)) → Some call ≡ call_in around words → call.options.socket ≡ Some path → Asks call ask → greeting ≡ greeting_before call
+    → said' ≡ and_then said (Asked (record { path = path; greeting = greeting; ask = ask; answer = answer })) → HasAskedAs call ask answer around words said said'
 asked_as call around words path ask answer greeting said said' is_call is_socket asks is_greeting held =
-    let Held : Option Ask → Type 0 = λ g. said' ≡ and_then said (record { path = path; greeting = g; ask = ask; answer = answer }) in
+    let Held : Option Ask → Type 0 = λ g. said' ≡ and_then said (Asked (record { path = path; greeting = g; ask = ask; answer = answer })) in
     record { is_call = sym is_call; path = path; is_socket = is_socket; asks = asks; once = subst Held is_greeting held }
 
 -- a refusal is no success

@@ -1,3 +1,4 @@
 pub mod Conversing
+pub mod Describing
 pub mod Inserting
 pub mod OpOfWords

@@ -4,6 +4,8 @@ use Rattle.rk_message.specs.Ask.{Ask}
 use Rattle.rk_message.specs.declared.reply.Reply.{Reply}
 use Rattle.rk_client.specs.declared.fault.PeerFault.{PeerFault}
 use Rattle.rk_client.specs.Peer.{HasAsked, HasGreeted}
+use Rattle.reqkeyctl.specs.declared.search.Search.{Search}
+use Rattle.reqkeyctl.specs.Searching.{FoundSaid}
 
 -- one connection: the path of the socket, the HELLO that is said first, where one is, what is asked behind it, and what comes of it
 pub record Conversation : Type 0 where
@@ -12,9 +14,14 @@ pub record Conversation : Type 0 where
   pub ask : Ask
   pub answer : Result Reply PeerFault
 
--- this one was held, too
-abbrev pub and_then : Option (List Conversation) → Conversation → Option (List Conversation)
-and_then story conversation = option_map (λ s. s ++ conversation ∷ []) story
+-- what is said to it: an ask; or a search for keys, by the path of the socket, the HELLO, what they are looked for, for, and what comes of it
+pub data Talk : Type 0 where
+  Asked : Conversation → Talk
+  Searched : List ℕ → Ask → Search → Result FoundSaid PeerFault → Talk
+
+-- this was said, too
+abbrev pub and_then : Option (List Talk) → Talk → Option (List Talk)
+and_then story talk = option_map (λ s. s ++ talk ∷ []) story
 
 -- the ask was written and its reply read, behind the greeting where there is one: what was written and what was left to read, before and after
 abbrev pub HasConversed : Option (List ℕ) → Option (List ℕ) → Option (List ℕ) → Option (List ℕ) → Option Ask → Ask → Reply → Type 0

@@ -5,3 +5,6 @@ pub mod Misplacing
 pub mod Outcome
 pub mod Programs
 pub mod Said
+pub mod Searches
+pub mod Searching
+pub mod Surveys

@@ -8,8 +8,11 @@ use Rattle.rk_client.specs.Peer.{HasAsked, is_refusal}
 use Rattle.rk_client.specs.Printed.{printed}
 use Rattle.rk_run.specs.Words.{wanted_said}
 use Rattle.reqkeyctl.specs.Calls.{Asks, asks_help, greeting_before}
-use Rattle.reqkeyctl.specs.Daemon.{Conversation, and_then}
+use Rattle.reqkeyctl.specs.Daemon.{Talk, Asked, Searched, and_then}
 use Rattle.reqkeyctl.specs.Said.{CallSaid, OptionsSaid}
+use Rattle.reqkeyctl.specs.Searching.{FoundSaid, Told, Turned}
+use Rattle.reqkeyctl.specs.Surveys.{SurveySaid, survey_said, greeting_for}
+use Rattle.rk_names.specs.declared.errors.Errno.{Errno}
 use Rattle.reqkeyctl.specs.Around.{call_in, is_lost}
 use Rattle.reqkeyctl.specs.declared.around.Around.{Around}
 
@@ -23,15 +26,15 @@ HasTold contents contents' = (text : List ℕ) × Appends contents contents' tex
 
 -- the ask of the words went to the socket that they name, or else to that of the environment, once, behind the HELLO of their options, and this is the answer: what was said to the daemon,
 -- before and after
-pub record HasAskedAs (call : CallSaid) (ask : Ask) (answer : Result Reply PeerFault) (around : Around) (words : List (List ℕ)) (said said' : Option (List Conversation)) : Type 0 where
+pub record HasAskedAs (call : CallSaid) (ask : Ask) (answer : Result Reply PeerFault) (around : Around) (words : List (List ℕ)) (said said' : Option (List Talk)) : Type 0 where
   pub is_call : call_in around words ≡ Some call
   pub path : List ℕ
   pub is_socket : call.options.socket ≡ Some path
   pub asks : Asks call ask
-  pub once : said' ≡ and_then said (record { path = path; greeting = greeting_before call; ask = ask; answer = answer })
+  pub once : said' ≡ and_then said (Asked (record { path = path; greeting = greeting_before call; ask = ask; answer = answer }))
 
 -- what a run with status 0 did, by its words: what was said to the daemon, what was left to read, what was written and what was told, before and after
-pub data HasDone (around : Around) (words : List (List ℕ)) (said said' : Option (List Conversation)) (unread unread' written written' told told' : Option (List ℕ)) : Type 0 where
+pub data HasDone (around : Around) (words : List (List ℕ)) (said said' : Option (List Talk)) (unread unread' written written' told told' : Option (List ℕ)) : Type 0 where
   explained : asks_help words ≡ true → said' ≡ said → HasTold written written' → HasDone around words said said' unread unread' written written' told told'
   asked_as_handler : (call : CallSaid) (ask : Ask) (reply : Reply) → call_in around words ≡ Some call → call.options.socket ≡ None → is_lost around call ≡ false
       → Asks call ask
@@ -39,10 +42,16 @@ pub data HasDone (around : Around) (words : List (List ℕ)) (said said' : Optio
       → HasDone around words said said' unread unread' written written' told told'
   asked_as_client : (call : CallSaid) (ask : Ask) (reply : Reply) → HasAskedAs call ask (Ok reply) around words said said' → is_refusal reply ≡ false
       → Appends written written' (told_reply call.options reply) → HasDone around words said said' unread unread' written written' told told'
+  searched : (survey : SurveySaid) (text : List ℕ) → survey_said around words ≡ Some survey
+      → said' ≡ and_then said (Searched survey.path (greeting_for survey) survey.search (Ok (Told text))) → Appends written written' text
+      → HasDone around words said said' unread unread' written written' told told'
   ran : IsSome (wanted_said words) → said' ≡ said → unread' ≡ unread → written' ≡ written → HasDone around words said said' unread unread' written written' told told'
 
 -- what a run with this status said to the daemon, by its words: nothing, or what they ask, once; and without an answer, or with a refusal, the status is 1
-pub data HasSpoken (around : Around) (words : List (List ℕ)) (said said' : Option (List Conversation)) (status : ℕ) : Type 0 where
+pub data HasSpoken (around : Around) (words : List (List ℕ)) (said said' : Option (List Talk)) (status : ℕ) : Type 0 where
   silent : said' ≡ said → HasSpoken around words said said' status
   spoke : (call : CallSaid) (ask : Ask) (answer : Result Reply PeerFault) → HasAskedAs call ask answer around words said said'
       → MatchResult answer (λ reply. is_refusal reply ≡ true → status ≡ 1) (λ fault. status ≡ 1) → HasSpoken around words said said' status
+  looked : (survey : SurveySaid) (answer : Result FoundSaid PeerFault) → survey_said around words ≡ Some survey
+      → said' ≡ and_then said (Searched survey.path (greeting_for survey) survey.search answer)
+      → MatchResult answer (λ f. (e : Errno) → f ≡ Turned e → status ≡ 1) (λ fault. status ≡ 1) → HasSpoken around words said said' status

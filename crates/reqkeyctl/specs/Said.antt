@@ -5,6 +5,7 @@ use Rattle.rk_options.specs.Options.{Given, all_named, is_among, is_joined, join
 use Rattle.rk_options.specs.Values.{number_in, number_up_to}
 use Rattle.rk_message.specs.declared.shape.Op.{Op}
 use Rattle.rk_client.specs.Words.{op_said}
+use Rattle.reqkeyctl.specs.Searches.{search_named}
 use Rattle.reqkeyctl.specs.declared.call.Call.{Call}
 use Rattle.reqkeyctl.specs.declared.call.Options.{Options}
 
@@ -60,9 +61,9 @@ is_flag name = bytes_eq name (codes "--raw") || bytes_eq name (codes "--quiet")
 abbrev pub is_flag_with_value : List ℕ → Bool
 is_flag_with_value word = is_joined word && is_flag (joined word).name
 
--- an option in one word
+-- a word that takes no next word: an option in one word, or a command that looks for keys
 abbrev pub is_alone : List ℕ → Bool
-is_alone word = is_joined word || is_flag word
+is_alone word = is_joined word || is_flag word || is_some (search_named word)
 
 -- the op of a first word, with the words behind it; where it is none, the op of other words
 abbrev pub or_op : Option Op → List (List ℕ) → Option (Op × List (List ℕ)) → Option (Op × List (List ℕ))

@@ -4,6 +4,7 @@ ghost use Rattle.reqkeyctl.specs.Around.{call_in, or_else, socket_around};
 ghost use Rattle.reqkeyctl.specs.Said.{call_by, call_said, is_alone, is_flag, is_flag_with_value, op_and_more, options_by, options_said};
 
 use crate::around::Around;
+use crate::search::Search;
 use rk_client::op_named;
 use rk_message::Op;
 
@@ -82,7 +83,7 @@ impl<'a> Call<'a> {
 }
 
 /// The socket that is named, or else that of what is around.
-fn or_around<'a>(named: Option<&'a str>, around: &'a Around) -> Option<&'a str>
+pub fn or_around<'a>(named: Option<&'a str>, around: &'a Around) -> Option<&'a str>
     ensures { option_map (λ s. s.now) result ≡ or_else (option_map (λ s. s.now) named.entry) (socket_around around.now) }
 {
     match named {
@@ -124,11 +125,11 @@ fn is_flag_with_value(word: &str) -> bool
     }
 }
 
-/// Whether the word is an option without the next word.
+/// Whether the word takes no next word: it is an option in one word, or a command that looks for keys.
 pub fn is_alone(word: &str) -> bool
     ensures { result ≡ is_alone word.now }
 {
-    word.split_once('=').is_some() || is_flag(word)
+    word.split_once('=').is_some() || is_flag(word) || Search::named(word).is_some()
 }
 
 /// Whether it is the name of an option that has no value.
@@ -140,7 +141,7 @@ fn is_flag(name: &str) -> bool
 
 impl<'a> Options<'a> {
     /// What the words in front of an op say; `None` where an option is unknown, there twice, or has a value that is not allowed.
-    fn read(words: &'a [String]) -> Option<Options<'a>>
+    pub fn read(words: &'a [String]) -> Option<Options<'a>>
         ensures { option_map options_by result ≡ options_said (map string_bytes words.now) }
     {
         let options = rk_options::Options {

@@ -1,21 +1,28 @@
 //! The daemon, as a client speaks to it.
 ghost use Rattle.std.specs.Prelude.{◌≡◌, List, Option};
 ghost use Rattle.std.specs.Option.{option_copied};
-ghost use Rattle.reqkeyctl.specs.Daemon.{Conversation, and_then};
+ghost use Rattle.reqkeyctl.specs.Daemon.{Asked, Searched, Talk, and_then};
+ghost use Rattle.reqkeyctl.specs.Searching.{answer_said};
 
+use crate::search::Search;
+use crate::searching::Found;
 use rk_client::PeerFault;
 use rk_message::{Ask, Reply};
 
 /// Who is asked at a socket. It may tell what was said to it, as one for a test would; the system's tells nothing.
 pub trait Daemon {
     /// What was said to it, first things first, where it tells that.
-    ghost story: { Self → Option (List Conversation) };
+    ghost story: { Self → Option (List Talk) };
 
     /// Connects to the socket at this path, says the greeting, a HELLO, where one is given, asks, and reads the reply. Where the greeting is refused
     /// the ask is not sent, and that refusal is the reply.
     fn ask(&mut self, path: &str, greeting: Option<&Ask>, ask: &Ask) -> Result<Reply, PeerFault>
         ensures { story self.new ≡ and_then (story self.old)
-            (record { path = path.now; greeting = option_copied greeting.entry; ask = ask.now; answer = result }) };
+            (Asked (record { path = path.now; greeting = option_copied greeting.entry; ask = ask.now; answer = result })) };
+
+    /// Connects to the socket at this path, says the greeting, a HELLO, and looks for keys ([`crate::searching::search`]).
+    fn search(&mut self, path: &str, greeting: &Ask, search: Search) -> Result<Found, PeerFault>
+        ensures { story self.new ≡ and_then (story self.old) (Searched path.now greeting.now search (answer_said result)) };
 
     /// What stood in the way of the last reply that there is not, where that is known: a text to be shown, with a path and what the system says of it.
     fn trouble(&self) -> Option<&str>;

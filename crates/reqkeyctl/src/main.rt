@@ -6,10 +6,13 @@
 //!
 //! `reqkeyctl run -- PROGRAM WORDS` runs a program in a session ring of its own, to which keyutils' calls are the daemon's (docs/PROGRAMS.md).
 //!
+//! `reqkeyctl list` and `reqkeyctl sweep` look for the keys of a user: each serial that there may be is described.
+//!
 //! `call` reads the words, `source` a file whose bytes stand for an argument, `asking` makes the ask of both; the library `rk_client` has what is
-//! said and heard. `daemon` is who is asked at a socket, and `sockets` how the system reaches it. `running` runs a program, by the library `rk_run`. `help`
-//! shows the manual to words that ask for it, and says what is wrong with words that can't be read, by `manual` and `misuse`. All that it does is one call, [`run::run_words`], over words, streams, a host and a daemon
-//! that are passed in.
+//! said and heard. `daemon` is who is asked at a socket, and `sockets` how the system reaches it. `search` names the commands that look for keys, `survey`
+//! reads their words, `searching` is what they say to the daemon, and `looking` prints what is found. `running` runs a program, by the library `rk_run`.
+//! `help` shows the manual to words that ask for it, and says what is wrong with words that can't be read, by `manual` and `misuse`. All that it does is one
+//! call, [`run::run_words`], over words, streams, a host and a daemon that are passed in.
 #![tactic(auto)]
 
 mod around;
@@ -17,12 +20,16 @@ mod asking;
 mod call;
 mod daemon;
 mod help;
+mod looking;
 mod manual;
 mod misuse;
 mod run;
 mod running;
+mod search;
+mod searching;
 mod sockets;
 mod source;
+mod survey;
 mod telling;
 mod trouble;
 

@@ -105,6 +105,18 @@ const RUN_OPTIONS: [Described; 4] = [
     ),
 ];
 
+/// The commands that look for keys.
+const SEARCHES: [(&str, &str); 2] = [
+    (
+        "list",
+        "List the keys that the user can see, each with its serial and what describe prints",
+    ),
+    (
+        "sweep",
+        "Unlink from the user ring what is negative, has expired or was revoked, and print how many",
+    ),
+];
+
 /// The fields that arguments stand for.
 const ARGUMENTS: [FieldKind; 9] = [
     FieldKind::Key,
@@ -200,6 +212,9 @@ fn command<'a>(
     let mut command = top(alloc, after)?;
     for (shape, name) in AskShape::all().iter().zip(names) {
         command = command.subcommand(subcommand(alloc, shape, name.as_str(), without)?)?;
+    }
+    for (name, about) in SEARCHES {
+        command = command.subcommand(Command::new(alloc, name).about(about))?;
     }
     command.subcommand(run(alloc)?)
 }

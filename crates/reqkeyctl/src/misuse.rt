@@ -1,6 +1,7 @@
 //! What is wrong with words where the manual finds nothing.
 
 use crate::call::op_and_more;
+use crate::search::Search;
 use rk_options::Options;
 use rk_text::number;
 use rk_variables::is_library;
@@ -37,6 +38,12 @@ pub enum Leftover<'a> {
     /// A library that can't be preloaded.
     #[error("invalid value '{0}' for '--library <FILE>': it has to be an absolute path, without a space or a colon")]
     Library(&'a str),
+    /// An option that `list` and `sweep` don't take.
+    #[error("'list' and 'sweep' take no other options than '--socket', '--uid' and '--gid'")]
+    Search,
+    /// No socket for `list` or `sweep`.
+    #[error("neither '--socket <PATH>' nor REQKEYD_SOCKET says where the daemon is")]
+    Nowhere,
     /// Options in front of `run`.
     #[error("the options of 'run' stand behind it, as in 'reqkeyctl run --uid 1000 -- PROGRAM'")]
     Run,
@@ -60,7 +67,17 @@ pub fn unnoticed(words: &[String]) -> Leftover<'_> {
     }
     match options.value_of("--library") {
         Some(Some(path)) if !is_library(path) => Leftover::Library(path),
-        _ => Leftover::Run,
+        _ if !searches(words) => Leftover::Run,
+        _ if options.are_known(&["--socket", "--uid", "--gid"]) => Leftover::Nowhere,
+        _ => Leftover::Search,
+    }
+}
+
+/// Whether the last word names a search.
+fn searches(words: &[String]) -> bool {
+    match words {
+        [.., word] => Search::named(word.as_str()).is_some(),
+        [] => false,
     }
 }
 
@@ -82,6 +99,10 @@ fn options_in(words: &[String]) -> &[String] {
                 let (front, _) = words.split_at(words.len() - arguments.len() - 1);
                 front
             }
+            None if searches(words) => match words.split_last() {
+                Some((_, front)) => front,
+                None => words,
+            },
             None => words,
         },
     }

@@ -1,5 +1,5 @@
 //! What the words ask for, done over the streams that are passed in.
-ghost use Rattle.std.specs.Prelude.{◌≡◌, ◌≤◌, IfSome, Some, None, true, false, map, string_bytes};
+ghost use Rattle.std.specs.Prelude.{◌≡◌, ◌≤◌, ℕ, List, Option, IfSome, Some, None, true, false, map, string_bytes};
 ghost use Rattle.rk_run.specs.Words.{wanted_said};
 ghost use Rattle.reqkeyctl.specs.Around.{call_in, is_lost};
 ghost use Rattle.reqkeyctl.specs.Calls.{asks_help};
@@ -12,11 +12,14 @@ use crate::asking::{AskFault, ask_for, greeting_before};
 use crate::call::Call;
 use crate::daemon::Daemon;
 use crate::help::{Misuse, explain};
+use crate::looking::look;
 use crate::running::run_program;
+use crate::survey::Survey;
 use crate::telling::{answer, answer_alone, no_file, no_memory, refused};
 use crate::trouble::{of_file, of_streams};
 use rk_client::exchange;
 use rk_run::{Host, Wanted};
+use std::alloc::Global;
 use std::fs::Files;
 use std::io::{Read, Write};
 
@@ -26,6 +29,9 @@ use std::io::{Read, Write};
 /// The first word is the name of the program. With `--socket`, or else with the socket of what is around, the `daemon` there is asked, behind the HELLO
 /// of the options; the reply is printed on `writer`, and `reader` is read only for a file `-`. Without one the peer is at the streams: one ask is written
 /// to `writer`, unless that is a terminal, one reply read from `reader`, and it is printed on `errors`. Help and the version are written to `writer`.
+///
+/// Where the last word is `list` or `sweep`, behind options alone, the daemon is searched for keys ([`crate::searching::search`]), and what is found is
+/// printed on `writer`.
 ///
 /// Where the second word is `run`, and what follows are its options, `--` and a program, that program is run by `host` in a session ring of its own
 /// ([`rk_run::run`]), and the status is the program's; 127 where there is no such program and 126 where it can't be started; 1 where it was not run
@@ -63,7 +69,7 @@ pub fn run_words<R: AllocGlobal + Files, H: Host, D: Daemon, I: Read, W: Write, 
     }
 }
 
-/// Does what other words ask for: one ask, or help.
+/// Does what other words ask for: one ask, a search for keys, or help.
 fn ask_words<R: AllocGlobal + Files, D: Daemon, I: Read, W: Write, E: Write>(
     rt: &R,
     daemon: &mut D,
@@ -83,7 +89,7 @@ fn ask_words<R: AllocGlobal + Files, D: Daemon, I: Read, W: Write, E: Write>(
 {
     let (alloc, Invocation { words, around }) = (rt.alloc(), invocation);
     let Some(call) = Call::read_in(words, around) else {
-        return explain(alloc, words, Misuse::Words, writer, errors);
+        return search_words(alloc, daemon, invocation, writer, errors);
     };
     if is_lost(around, &call) {
         return explain(alloc, words, Misuse::Lost, writer, errors);
@@ -118,6 +124,26 @@ fn ask_words<R: AllocGlobal + Files, D: Daemon, I: Read, W: Write, E: Write>(
             Ok(reply) => answer_alone(alloc, reply, options, errors),
             Err(fault) => refused(fault, Some(of_streams(fault)), errors),
         },
+    }
+}
+
+/// Does what words ask for that are no ask: a search for keys, or help.
+fn search_words<D: Daemon, W: Write, E: Write>(
+    alloc: Global,
+    daemon: &mut D,
+    invocation: Invocation<'_>,
+    writer: &mut W,
+    errors: &mut E,
+) -> u8
+    ensures done { result ≡ 0 → (unread unread' told told' : Option (List ℕ)) → HasDone invocation.entry.around.now (map string_bytes invocation.entry.words.now)
+        (D.story daemon.old) (D.story daemon.new) unread unread' (W.contents writer.old) (W.contents writer.new) told told' }
+    ensures spoke { HasSpoken invocation.entry.around.now (map string_bytes invocation.entry.words.now) (D.story daemon.old) (D.story daemon.new) result }
+    ensures usage { result ≡ 2 → (writer.new ≡ writer.old) × (daemon.new ≡ daemon.old) }
+    ensures status { result ≤ 2 }
+{
+    match Survey::read(invocation.words, invocation.around) {
+        Some(survey) => look(alloc, daemon, &survey, writer, errors),
+        None => explain(alloc, invocation.words, Misuse::Words, writer, errors),
     }
 }
 

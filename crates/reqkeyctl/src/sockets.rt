@@ -4,6 +4,8 @@ ghost use Rattle.std.specs.Option.{option_copied};
 ghost use Rattle.reqkeyctl.specs.Daemon.{HasConversed};
 
 use crate::daemon::Daemon;
+use crate::search::Search;
+use crate::searching::{self, Found};
 use rk_client::{PeerFault, exchange, exchange_greeted};
 use rk_message::{Ask, Reply};
 use rk_run::told;
@@ -53,6 +55,21 @@ impl<'a, R: Net> Daemon for Sockets<'a, R> {
         let (mut reader, mut writer) = (&stream, &stream);
         match converse(self.alloc, &mut reader, &mut writer, greeting, ask) {
             Ok(reply) => Ok(reply),
+            Err(fault) => Err(self.note(path, fault)),
+        }
+    }
+
+    fn search(&mut self, path: &str, greeting: &Ask, search: Search) -> Result<Found, PeerFault> {
+        let stream = match UnixStream::connect(self.rt, path) {
+            Ok(stream) => stream,
+            Err(error) => {
+                self.trouble = told(self.alloc, path, &error).ok();
+                return Err(PeerFault::Lost);
+            }
+        };
+        let (mut reader, mut writer) = (&stream, &stream);
+        match searching::search(self.alloc, &mut reader, &mut writer, greeting, search) {
+            Ok(found) => Ok(found),
             Err(fault) => Err(self.note(path, fault)),
         }
     }

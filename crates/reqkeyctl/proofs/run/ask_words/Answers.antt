@@ -31,3 +31,6 @@ returns-in-Ok-exchange-clause-done g c =
     λ zero. let told = c.answer_alone.ensures.told zero in
     asked_as_handler (call_by c.in-Some.call) c.in-Ok.ask c.in-Ok-exchange.reply (sym c.in-Some.ensures)
     (rw c.in-None.is refl) (sym c.is_lost.ensures ∙ c.if-is_lost.false) c.in-Ok.ensures.asks refl (rw (c.in-Ok.ensures.handler c.in-None.is) at c.in-Ok-exchange.ensures.asked) told.0 told.1
+
+pub returns-in_default-clause-done : goal.returns-in_default-clause-done
+returns-in_default-clause-done g c = λ zero. c.search_words.ensures.done zero _ _ _ _
