@@ -8,6 +8,7 @@ import collections
 import contextlib
 import os
 import pathlib
+import re
 import resource
 import signal
 import socket
@@ -54,6 +55,11 @@ def told(body):
     if kind == 3 and len(fields) == 1:
         return f"E{fields[0]}"
     raise GaveUp(f"{body!r} is no reply")
+
+
+def text_of(line):
+    """A line of the log without its time: `warn: session 17: ReadFault`."""
+    return re.sub(r"^[0-9]{4}-[0-9]{2}-[0-9]{2}T[0-9]{2}:[0-9]{2}:[0-9]{2}Z (?=error|warn|info|debug)", "", line)
 
 
 def ended(thread, what):
@@ -202,11 +208,11 @@ class Daemon:
     these options besides, and is killed at the end if it still runs. Its standard error is read as it comes.
     """
 
-    def __init__(self, program, conf="", *options, files=None, mask=None, longest=None, ignored=None, closed=(), ready=True, environment=None):
+    def __init__(self, program, conf="", *options, files=None, mask=None, longest=None, ignored=None, closed=(), ready=True, environment=None, input=subprocess.DEVNULL):
         self.program, self.options, self.ready = program, options, ready
         self.client_program = client_of(program)
         self.files, self.mask, self.longest, self.ignored, self.closed, self.environment = files, mask, longest, ignored, closed, environment
-        self.conf_text = conf
+        self.conf_text, self.input = conf, input
         self.folder = tempfile.TemporaryDirectory(prefix="serve-")
         self.room = pathlib.Path(self.folder.name)
         self.path, self.conf = self.room / "s", self.room / "conf"
@@ -255,7 +261,7 @@ class Daemon:
         """Starts it, also once more after its end."""
         words = [self.program, "serve", "--socket", self.path, "--conf", self.conf, *self.options]
         environment = {**os.environ, **self.environment} if self.environment else None
-        streams = {"stdin": subprocess.DEVNULL, "stdout": subprocess.PIPE, "stderr": subprocess.PIPE}
+        streams = {"stdin": self.input, "stdout": subprocess.PIPE, "stderr": subprocess.PIPE}
         self.process = subprocess.Popen(words, **streams, env=environment, preexec_fn=self.narrow)
         self.lines = []
         self.reader = threading.Thread(target=self.listen, args=(self.process.stderr, self.lines), daemon=True)

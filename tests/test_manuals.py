@@ -2,7 +2,6 @@
 """Compares the manual pages of man/ with what the programs say of themselves and with the code, and has groff look for faults in them."""
 import pathlib
 import re
-import shlex
 import shutil
 import subprocess
 import sys
@@ -28,7 +27,7 @@ def spoken(line):
     macro, _, rest = line.partition(" ")
     if not macro.startswith("."):
         return plain(line)
-    words = [plain(word) for word in shlex.split(rest.replace("\\", "\\\\").replace("'", "\\'"))]
+    words = [plain(quoted or word) for quoted, word in re.findall(r'"([^"]*)"|(\S+)', rest)]
     return ("" if macro in [".BI", ".BR", ".IB", ".IR", ".RB", ".RI"] else " ").join(words)
 
 
@@ -95,14 +94,16 @@ def of_warnings():
     with which the daemon warns."""
     tags = tagged(sections("reqkeyd.8")["DIAGNOSTICS"])
     ends = [f"session N: {it}" for it in variants("rk_session/src/serving.rt", "Served") if it != "Ended"]
-    fails = ["X1: reason", *(it for it in variants("rk_devices/src/driven.rt", "Driven") if it != "NotStarted"), "no payload (0 bytes)"]
-    count.same("warnings of sessions", [tag for tag in tags if tag.startswith("session N: ") and tag != "session N: no memory"], ends)
-    count.same("warnings of handlers", [tag for tag in tags if tag.startswith("handler of key N: ")], [f"handler of key N: {it}" for it in fails])
+    ending = (top / "crates" / "rk_daemon" / "src" / "ending.rt").read_text()
+    ways = ending.partition("fn put_how(")[2].partition("fn errno_text(")[0]
+    fails = [re.sub(r"\{\w+\}", "N", text) for text in re.findall(r'"([^"]+)"', ways) if not re.match(r"X[234]|start failed: |it could", text) and "more than" not in text]
+    count.same("warnings of sessions", [tag for tag in tags if tag.startswith("session N: ") and tag not in ["session N: no memory", "session N: idle"]], ends)
+    count.same("warnings of handlers", [tag for tag in tags if tag.startswith("handler of key N: ") and not tag.endswith("this line")], [f"handler of key N: {it}" for it in sorted(fails, key=fails.index)])
     text = " ".join(spoken(line) for line in sections("reqkeyd.8")["DIAGNOSTICS"]).partition("handler of key N: ")[2].partition("accept:")[0]
-    reasons = shown("rk_macro/src/fault.rt", "ExpandFault") + shown("rk_devices/src/output.rt", "OutputFault")
+    reasons = re.findall(r"X[234]: [^\"]+", ways) + shown("rk_devices/src/output.rt", "OutputFault")
     count.same("reasons of handlers", [it for it in reasons if it not in text], [])
     sources = (top / "crates" / "rk_daemon" / "src").glob("*.rt")
-    texts = [text for path in sources for text in re.findall(r'warn!\([^;]*; "(.*)"\)', path.read_text())]
+    texts = [text for path in sources for text in re.findall(r'(?:warn|info)!\([^;]*; "(.*)"\)', path.read_text())]
     count.same("texts of warnings", len(texts) > 5, True)
     count.same("warnings that no tag tells", [text for text in texts if not any(re.fullmatch(shape(text), tag) for tag in tags)], [])
 

@@ -110,16 +110,37 @@ NO_CALLS = [
     (["pick", "--conf", "CONF", "--negate", "--negate", *REQUEST], "--negate"),
     (["pick", "--conf", "CONF", "--negate=yes", *REQUEST], "--negate"),
     (["pick", "--conf", "CONF", "--uid", "1", "--uid=1", *REQUEST], "--uid"),
-    (["pick", "--conf", "CONF", "", "debug:x", ""], USAGE),
-    (["pick", "--conf", "CONF", ".x", "debug:x", ""], USAGE),
-    (["pick", "--conf", "CONF", "t" * 32, "debug:x", ""], USAGE),
-    (["pick", "--conf", "CONF", "user", "", ""], USAGE),
-    (["pick", "--conf", "CONF", "user", "d" * 4096, ""], USAGE),
-    (["pick", "--conf", "CONF", "user", "debug:x", "c" * 4096], USAGE),
+    (["pick", "--conf", "CONF", "", "debug:x", ""], "error: invalid value"),
+    (["pick", "--conf", "CONF", ".x", "debug:x", ""], "error: invalid value"),
+    (["pick", "--conf", "CONF", "t" * 32, "debug:x", ""], "error: invalid value"),
+    (["pick", "--conf", "CONF", "user", "", ""], "error: invalid value"),
+    (["pick", "--conf", "CONF", "user", "d" * 4096, ""], "it has more than 4095 bytes"),
+    (["pick", "--conf", "CONF", "user", "debug:x", "c" * 4096], "it has more than 4095 bytes"),
     (["pick", "--conf", "CONF", "user", b"debug:\xff", ""], USAGE),
     (["check", *["--conf=CONF"] * 50_000], ""),
     (["pick", *["--uid=0"] * 50_000, "--conf", "CONF", *REQUEST], ""),
     (["pick", *["--negate"] * 50_000, *REQUEST], ""),
+]
+
+HIDDEN = "reqkeyd: line 2: it is never chosen, since line 1 fits whatever it fits\n"
+
+# What is allowed and hardly meant, and what `check` warns of.
+DOUBTS = [
+    ("create user a:* * |/bin/cat\nnegate * * * /bin/true\n", ""),
+    ("", "reqkeyd: no line names a program\n"),
+    ("creat user a * /bin/cat\n", "reqkeyd: line 1: the operation is neither create nor negate\n"),
+    ("c*e user a * /bin/cat\n", ""),
+    ("create user a:* * /bin/cat\ncreate user a:b:* x /bin/cat\n", HIDDEN),
+    ("create user a:b:* x /bin/cat\ncreate user a:* * /bin/cat\n", ""),
+    ("* * * * /bin/cat\nnegate user a * /bin/cat\n", HIDDEN),
+    ("create user a*c * /bin/cat\ncreate user a*b*c * /bin/cat\n", HIDDEN),
+    ("create user a*c * /bin/cat\ncreate user a* * /bin/cat\n", ""),
+    ("create user a * /bin/cat\nnegate user a * /bin/cat\n", ""),
+    ("create user a * /bin/cat -n # numbers\n", "reqkeyd: line 1: a # within a line begins no comment\n"),
+    ("create user a * /bin/cat a#b\n", ""),
+    ("create user a * /no/such\n", "reqkeyd: line 1: its program can't be started\n  /no/such: No such file or directory\n"),
+    ("create user a * /etc/passwd\n", "reqkeyd: line 1: its program can't be started\n  /etc/passwd: Permission denied\n"),
+    ("create user a * |/etc\n", "reqkeyd: line 1: its program can't be started\n  /etc: Permission denied\n"),
 ]
 
 # The greatest number of each option.
@@ -154,12 +175,16 @@ def counted_lines(number):
 def checks(program, room):
     for text, wanted in TEXTS:
         want = (0, counted_lines(wanted), b"") if isinstance(wanted, int) else (1, b"", f"reqkeyd: conf line {wanted}\n".encode())
-        count.same(f"{program.name} check {text[:40]}", told(program, room, text, "check", "--conf", "CONF"), want)
+        got = told(program, room, text, "check", "--conf", "CONF")
+        count.same(f"{program.name} check {text[:40]}", got[:2] if got[0] == 0 else got, want[:2] if got[0] == 0 else want)
         if want[0]:
             count.same(f"{program.name} pick of {text[:40]}", told(program, room, text, "pick", "--conf=CONF", *REQUEST), want)
     for path in [room / "none", room]:
         for words in [["check", "--conf", path], ["pick", "--conf", path, *REQUEST]]:
-            count.same(f"{program.name} {words}", ran(program, *words), (1, b"", b"reqkeyd: conf\n"))
+            count.same(f"{program.name} {words}", ran(program, *words), (1, b"", f"reqkeyd: conf\n  {path}: {'Is a directory' if path == room else 'No such file or directory'}\n".encode()))
+    for text, wanted in DOUBTS:
+        count.same(f"{program.name} doubts {text}", told(program, room, text.encode(), "check", "--conf", "CONF"),
+                   (0, counted_lines(len(text.split("\n")) - 1), wanted.encode()))
 
 
 def picks(program, room):
@@ -288,7 +313,7 @@ def beside_replay(program, room, seed):
         return
     lines = sum(1 for line in conf if line.strip() and not line.strip().startswith("#"))
     got = told(program, room, "\n".join(conf).encode(), "check", "--conf", "CONF")
-    count.same(f"{program.name} {seed} check", got, (0, counted_lines(lines), b""))
+    count.same(f"{program.name} {seed} check", got[:2], (0, counted_lines(lines)))
     rings = bodies(bytes.fromhex(output[0].split(" ")[2]))[0]
     thread, process, session = (str(int.from_bytes(rings[at : at + 4], "big")) for at in (1, 5, 9))
     words = ["--uid", str(uid), "--gid", str(gid), "--thread", thread, "--process", process, "--session", session]

@@ -322,7 +322,7 @@ def starts(program):
                     with Client(daemon.path, 1000):
                         pass
                 status, lines = daemon.end()
-            if not word and (status != 1 or lines != ["reqkeyd: record"]):
+            if not word and (status != 1 or lines != ["reqkeyd: record", f"  {path}: No such file or directory"]):
                 return f"{path}: {status} {lines}"
         used = [volumes(folder)[0].name, ".hall-2-volume-000001.part"]
         for file in volumes(folder):
@@ -331,7 +331,7 @@ def starts(program):
             (pathlib.Path(folder) / name).write_text("what was left")
             with Daemon(program, CONF, "--record", folder, "--clients", "1", ready=False) as daemon:
                 status, lines = daemon.end()
-            if status != 1 or lines != ["reqkeyd: record"]:
+            if status != 1 or lines != ["reqkeyd: record", f"  {folder}: it has files of a record"]:
                 return f"with {name}: {status} {lines}"
             (pathlib.Path(folder) / name).unlink()
 

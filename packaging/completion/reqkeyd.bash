@@ -6,7 +6,7 @@ _reqkeyd()
     local -A options=(
         [reqkeyd]='-h --help -V --version'
         [replay]='-h --help'
-        [serve]='--socket --conf --negative --sessions --clients --mode --keyutils --record -h --help'
+        [serve]='--socket --conf --negative --sessions --clients --mode --keyutils --record --until-eof --idle --log --slow --status -h --help'
         [check]='--conf -h --help'
         [pick]='--conf --negate --uid --gid --key --thread --process --session -h --help'
         [rejoin]='-h --help'
@@ -18,7 +18,7 @@ _reqkeyd()
     local -A words=(
         [command]='replay serve check pick rejoin'
     )
-    local -A values=([--socket]=PATH [--conf]=PATH [--negative]=N [--sessions]=N [--clients]=N [--mode]=OCTAL [--keyutils]=FILE [--record]=FOLDER [--uid]=N [--gid]=N [--key]=N [--thread]=N [--process]=N [--session]=N)
+    local -A values=([--socket]=PATH [--conf]=PATH [--negative]=N [--sessions]=N [--clients]=N [--mode]=OCTAL [--keyutils]=FILE [--record]=FOLDER [--idle]=SECONDS [--log]=LEVEL [--slow]=SECONDS [--status]=SECONDS [--uid]=N [--gid]=N [--key]=N [--thread]=N [--process]=N [--session]=N)
     local -A instead=()
     local current=${COMP_WORDS[COMP_CWORD]} command=reqkeyd value= dropped= seen=0 candidates word at
     local -a left=(command)

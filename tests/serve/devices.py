@@ -58,7 +58,7 @@ def at_start(program, call, code, closed=()):
         with failing(program, call, count, code, closed) as daemon:
             if not begun(daemon):
                 status, lines = daemon.end()
-                if status != 1 or len(lines) != 1 or lines[0] not in LINES:
+                if status != 1 or not lines or lines[0] not in LINES or any(not line.startswith("  ") for line in lines[1:]):
                     return f"{call} {count}: status {status} {lines}"
                 daemon.environment = None
                 daemon.start()

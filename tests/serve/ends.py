@@ -1,11 +1,12 @@
 """How clients, handlers and the daemon end, and what is then left."""
 import os
+import re
 import select
 import signal
 import subprocess
 
 import protocol_peer as ask
-from daemon import LIMIT, Daemon, until
+from daemon import LIMIT, Daemon, text_of, until
 from programs import differs
 
 HELD = "create user h:* * %puppet %k\n"
@@ -399,17 +400,46 @@ def warned(program):
             whole.ask(want(callout=None))
         status, lines = daemon.end()
         want_lines = ["session 1: Malformed", "session 2: ReadFault", "session 3: WriteFault"]
-        fit = len(lines) == 3 and all("WARN" in line and line.endswith(told) for line, told in zip(sorted(lines, key=lambda it: it[-25:]), want_lines))
+        fit = len(lines) == 3 and all(" warn: " in line and line.endswith(told) for line, told in zip(sorted(lines, key=lambda it: it[-25:]), want_lines))
         return differs((status, done, fit), (0, (0, 0), True)) and f"{status} {done} {lines}"
 
 
 def warnings(lines):
-    """What the daemon has warned of handlers, and every other line."""
-    return [line.partition("WARN  rk_daemon::gate] handler of ")[2] or line for line in lines]
+    """What the daemon has warned of handlers, without what they were started for, and every other line."""
+    return [re.sub(r" \((create|negate) .*?\)(?=: )", "", line.partition(" warn: handler of ")[2]) or line for line in lines]
+
+
+def told_whole(program):
+    """How each handler has ended that gave no key: what it was started for, by which line and program, and why. Nothing else is told of a request."""
+    lines = ["x:* * %room/fails", "k:* * |%room/killed", "m:* * /no/such", "d:* * /etc", "l:* * /bin/true", "n:* * |/bin/true"]
+    conf = "# the first line\n" + "".join(f"create user {line}\n" for line in lines)
+    with Daemon(program, conf, "--clients", "1", "--log", "info") as daemon:
+        daemon.script("fails", "#!/bin/sh\nexit 3\n")
+        daemon.script("killed", "#!/bin/sh\nkill -9 $$\n")
+        names = [b"x:1", b"k:1", b"m:1", b"d:1", b"l:1", b"n:1", b"none", b'k:"\\\xc3\xa9' + b"y" * 130]
+        with daemon.client(7) as client:
+            replies = client.ask(*[want(name, b"secret") for name in names])
+        status, got = daemon.end()
+        room = daemon.room
+        strange = "k:\\0042\\0134\\0303\\0251" + "y" * 122 + ".."
+        wanted = [
+            ("warn", "create", "x:1", f"; line 2, {room}/fails", "exit status 3"),
+            ("warn", "create", "k:1", f"; line 3, {room}/killed", "killed by a signal"),
+            ("info", "negate", "k:1", "", "no line fits"),
+            ("warn", "create", "m:1", "; line 4, /no/such", "start failed: ENOENT, no such file or directory"),
+            ("warn", "create", "d:1", "; line 5, /etc", "start failed: EACCES, permission denied"),
+            ("warn", "create", "n:1", "; line 7, /bin/true", "exit status 0, and no payload (0 bytes)"),
+            ("info", "negate", "n:1", "", "no line fits"),
+            ("info", "create", "none", "", "no line fits"),
+            ("warn", "create", strange, f"; line 3, {room}/killed", "killed by a signal"),
+            ("info", "negate", strange, "", "no line fits"),
+        ]
+        told = [f'{level}: handler of key ({op} user "{name}", uid 7{line}): {how}' for level, op, name, line, how in wanted]
+        return differs((replies, status, [re.sub(r"key [0-9]+", "key", text_of(line)) for line in got]), (["E126"] * len(names), 0, told))
 
 
 def piped(program, name, script, want_payload, callout=b"x", warning=None):
-    """What a piped program outputs: the payload of its key; or None, and a warning where it has ended with 0."""
+    """What a piped program outputs: the payload of its key; or None, and a warning of how it has ended."""
     with Daemon(program, f"create user p:* * |%room/program {name}\n", "--negative", "0", "--clients", "1") as daemon:
         daemon.script("program", f"#!/bin/sh\n{script}\n")
         with daemon.client() as client:
@@ -433,11 +463,11 @@ def not_made(program):
             replies = client.ask(*[want(name + b":1") for name in [b"n", b"t", b"l", b"f", b"o"]])
         status, lines = daemon.end()
         no_key = "X1: an argument %{..} is the payload of a key that the requester doesn't find"
-        told = [f"key 28: {no_key}", "key 32: X2: a payload is no text", "key 36: X3: the words are more than 65536 bytes", f"key 40: {no_key}"]
+        told = [f"key 28: {no_key}", "key 32: X2: a payload is no text", "key 36: X3: the words are more than 65536 bytes", "key 40: exit status 1", f"key 40: {no_key}"]
         return differs((replies, status, warnings(lines), (daemon.room / "started").exists()), (["E126"] * 5, 0, told, False))
 
 
-def missing(program, line):
+def missing(program, line, why):
     """A program that can't be started: whoever asks gets ENOKEY, and a warning says why, once each time."""
     with Daemon(program, f"create user p:* * {line}\n", "--negative", "0", "--clients", "1") as daemon:
         daemon.script("no_script", "")
@@ -445,7 +475,7 @@ def missing(program, line):
         with daemon.client() as client:
             replies = [client.ask(want(b"p:1")) for _ in range(3)]
         status, lines = daemon.end()
-        return differs((replies, status, warnings(lines)), (["E126"] * 3, 0, [f"key {key}: StartFailed" for key in [12, 16, 20]]))
+        return differs((replies, status, warnings(lines)), (["E126"] * 3, 0, [f"key {key}: start failed: {why}" for key in [12, 16, 20]]))
 
 
 def ends_unknown(program):
@@ -577,7 +607,7 @@ def nothing_left(program):
 
 
 def cases():
-    for try_it in [client_killed, all_clients_killed, again_after, completed_and_killed, daemon_killed, terminated, no_asks, child_goes_on, replies_unread,
+    for try_it in [client_killed, all_clients_killed, again_after, completed_and_killed, daemon_killed, terminated, no_asks, child_goes_on, replies_unread, told_whole,
                    handler_leaves, stopped, signalled, waits_and_dies, not_followed, not_made, warned, ends_unknown, chain, many_wait, reads_to_the_end,
                    each_outcome_wakes, second_start_fails, nothing_left]:
         yield try_it.__name__.replace("_", " "), try_it
@@ -599,7 +629,7 @@ def cases():
     yield "a piped program whose child has its output", child_keeps, waits, False, b"made\nmore\n"
     yield "a piped program whose child has its input", child_keeps, f"exec > /dev/null; {waits}", True, b"made\n"
     big = "head -c {} /dev/zero | tr '\\0' p".format
-    nothing, too_much = "no payload (0 bytes)", "no payload (more than 32767 bytes)"
+    nothing, too_much = [f"exit status 0, and no payload ({it})" for it in ["0 bytes", "more than 32767 bytes"]]
     for name, script, payload, *more in [
         ("ignores its input", "echo made", b"made\n", b"c" * 4095),
         ("closes its input", "exec < /dev/null; echo made", b"made\n", b"c" * 4095),
@@ -610,16 +640,18 @@ def cases():
         ("outputs ten million bytes", big(10_000_000), None, b"x", too_much),
         ("outputs one byte", "printf x", b"x"),
         ("outputs nothing", ":", None, b"x", nothing),
-        ("outputs nothing and fails", "exit 1", None),
+        ("outputs nothing and fails", "exit 1", None, b"x", "exit status 1"),
         ("outputs any bytes", "printf '\\000\\377\\n'", b"\0\xff\n"),
-        ("exits with 1", "echo made; exit 1", None),
-        ("exits with 255", "echo made; exit 255", None),
-        ("is killed", "echo made; kill -9 $$", None),
+        ("exits with 1", "echo made; exit 1", None, b"x", "exit status 1"),
+        ("exits with 255", "echo made; exit 255", None, b"x", "exit status 255"),
+        ("is killed", "echo made; kill -9 $$", None, b"x", "killed by a signal"),
         ("closes its output and exits", "echo made; exec >&-; exit 0", b"made\n"),
-        ("closes its output and fails", "echo made; exec >&-; exit 7", None),
+        ("closes its output and fails", "echo made; exec >&-; exit 7", None, b"x", "exit status 7"),
         ("has no other descriptor", "ls /proc/self/fd | tr '\\n' ' '", b"0 1 2 3 "),
         ("outputs in pieces", "for at in 1 2 3 4 5 6 7 8; do printf $at; done", b"12345678"),
     ]:
         yield f"a piped program that {name}", piped, name.split()[0], script, payload, *more
-    for line in ["/no/such", "|/no/such", "/", "|/tmp", "%room/no_program", "|%room/no_program", "%room/no_script/x"]:
-        yield f"the line {line}", missing, line
+    none, no_folder, denied = "ENOENT, no such file or directory", "ENOTDIR, not a directory", "EACCES, permission denied"
+    for line, why in [("/no/such", none), ("|/no/such", none), ("/", denied), ("|/tmp", denied), ("%room/no_program", denied), ("|%room/no_program", denied),
+                      ("%room/no_script/x", no_folder)]:
+        yield f"the line {line}", missing, line, why

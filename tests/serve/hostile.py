@@ -5,7 +5,7 @@ import select
 import threading
 
 import protocol_peer as ask
-from daemon import LIMIT, Client, Daemon, GaveUp, ended, until
+from daemon import LIMIT, Client, Daemon, GaveUp, ended, text_of, until
 from programs import differs
 
 HELLO = ask.frame(ask.hello(1000, 1000))
@@ -281,7 +281,8 @@ def all_busy(program, workers):
             then = [(type(client.ask(ask.hello(1000, 1000))), client.ends()) for client in waiting]
             if wrong := differs((rest, then), ([[]] * workers, [(tuple, [])] * 3)):
                 return wrong
-        return differs(daemon.end(), (0, [f"[WARN  rk_daemon::accepting] all {workers} workers are busy, connections wait"] * 2))
+        status, lines = daemon.end()
+        return differs((status, list(map(text_of, lines))), (0, [f"warn: all {workers} workers are busy, connections wait"] * 2))
 
 
 def served_again(daemon):

@@ -27,7 +27,7 @@ def run(program, count):
         until(lambda: daemon.lines or daemon.process.poll() is not None, "a first line")
         if "reqkeyd: ready" not in daemon.lines:
             status, lines = daemon.end()
-            wrong = status != 1 or len(lines) != 1 or lines[0] not in LINES or daemon.path.exists()
+            wrong = status != 1 or not lines or lines[0] not in LINES or any(not line.startswith("  ") for line in lines[1:]) or daemon.path.exists()
             return "memory", f"allocation {count}: status {status} {lines}" if wrong else None
         short = False
         with Client(daemon.path) as client:

@@ -2,6 +2,7 @@
 import itertools
 import os
 import pathlib
+import re
 import socket
 import stat
 import subprocess
@@ -27,6 +28,9 @@ NUMBERS = {
     "--sessions": (["1", "64", "08"], ["0", "65", "4294967296"]),
     "--clients": (["1", "001"], ["4294967296", "99999999999999999999999"]),
     "--mode": (["600", "0600", "777", "0"], ["8", "0o600", "0x1ff", "77777777777"]),
+    "--idle": (["0", "4294967295"], ["4294967296"]),
+    "--slow": (["0", "4294967295"], ["4294967296"]),
+    "--status": (["0", "4294967295"], ["4294967296"]),
 }
 NO_NUMBERS = ["", "-1", "+1", "x", "1x", " 1", "1 ", "1.0", "-", "٣"]
 
@@ -39,6 +43,13 @@ def ended(words, **more):
     """A run that has to end by itself."""
     ran = subprocess.run(words, stdin=subprocess.DEVNULL, capture_output=True, timeout=LIMIT, **more)
     return ran.returncode, ran.stdout, ran.stderr.decode(errors="replace")
+
+
+def failed(words):
+    """A run that has to end by itself with a fault: the first line that it says, and whether it says in one more line which file that is of, and why."""
+    status, output, errors = ended(words)
+    first, _, second = errors.partition("\n")
+    return status, output, f"{first}\n", bool(re.fullmatch(r"  \S[^\n]*: [^\n]+\n", second))
 
 
 class Stopped(Daemon):
@@ -91,20 +102,20 @@ def faults(program, conf, want):
             daemon.conf.mkdir()
         else:
             daemon.conf.write_bytes(conf if isinstance(conf, bytes) else conf.encode())
-        got = ended(words_of(daemon))
-        return differs((got, daemon.path.exists()), ((1, b"", f"reqkeyd: {want}\n"), False))
+        got = failed(words_of(daemon))
+        return differs((got, daemon.path.exists()), ((1, b"", f"reqkeyd: {want}\n", True), False))
 
 
 def in_order(program):
     """Of several faults the first is reported: of the words, of the file, of its lines, of the library, of the socket."""
     with Stopped(program, "create") as daemon:
         daemon.path.write_text("plain")
-        got = [ended(words_of(daemon, "--sessions", "0"))[0], ended(words_of(daemon))]
+        got = [ended(words_of(daemon, "--sessions", "0"))[0], failed(words_of(daemon))]
         daemon.conf.unlink()
-        got += [ended(words_of(daemon, "--sessions", "0"))[0], ended(words_of(daemon))]
+        got += [ended(words_of(daemon, "--sessions", "0"))[0], failed(words_of(daemon))]
         daemon.conf.write_text("")
-        got += [ended(words_of(daemon, "--keyutils", "/none/libkeyutils.so.1")), ended(words_of(daemon))]
-        lines = [(1, b"", f"reqkeyd: {it}\n") for it in ["conf line 1: C1", "conf", "keyutils", "socket"]]
+        got += [failed(words_of(daemon, "--keyutils", "/none/libkeyutils.so.1")), failed(words_of(daemon))]
+        lines = [(1, b"", f"reqkeyd: {it}\n", True) for it in ["conf line 1: C1", "conf", "keyutils", "socket"]]
         return differs((got, daemon.path.read_text()), ([2, lines[0], 2, *lines[1:]], "plain"))
 
 
@@ -133,18 +144,18 @@ def stands(program, what):
         elif what == "empty file":
             daemon.path.write_text("")
         before = os.lstat(daemon.path)
-        got = ended(words_of(daemon))
+        got = failed(words_of(daemon))
         after = os.lstat(daemon.path)
         if listener:
             listener.close()
-        return differs((got, after.st_ino, after.st_mode), ((1, b"", "reqkeyd: socket\n"), before.st_ino, before.st_mode))
+        return differs((got, after.st_ino, after.st_mode), ((1, b"", "reqkeyd: socket\n", True), before.st_ino, before.st_mode))
 
 
 def nowhere(program, path):
     """A path at which no socket can be."""
     with Stopped(program) as daemon:
         words = [daemon.program, "serve", "--socket", path.replace("%room", str(daemon.room)), "--conf", daemon.conf]
-        return differs(ended(words), (1, b"", "reqkeyd: socket\n"))
+        return differs(failed(words), (1, b"", "reqkeyd: socket\n", True))
 
 
 def longest(program, length):
@@ -155,7 +166,7 @@ def longest(program, length):
         path = f"{folder}/" + "s" * (length - len(str(folder)) - 1)
         words = [daemon.program, "serve", "--socket", path, "--conf", daemon.conf, "--clients", "1"]
         if length > 107:
-            return differs((ended(words), list(folder.iterdir())), ((1, b"", "reqkeyd: socket\n"), []))
+            return differs((failed(words), list(folder.iterdir())), ((1, b"", "reqkeyd: socket\n", True), []))
         daemon.path = pathlib.Path(path)
         daemon.options = ("--clients", "1")
         Daemon.start(daemon)
@@ -180,9 +191,9 @@ def stale(program):
 def two(program):
     """A second daemon at the socket of one that runs is refused, and the first goes on."""
     with Daemon(program) as daemon:
-        got = ended(words_of(daemon))
+        got = failed(words_of(daemon))
         mode = stat.S_ISSOCK(os.lstat(daemon.path).st_mode)
-        return differs((got, mode), ((1, b"", "reqkeyd: socket\n"), True)) or daemon.lives()
+        return differs((got, mode), ((1, b"", "reqkeyd: socket\n", True), True)) or daemon.lives()
 
 
 def busy(program):
@@ -190,12 +201,12 @@ def busy(program):
     with Daemon(program, "", "--sessions", "1") as daemon:
         daemon.client()
         waiting = [daemon.client(None) for _ in range(3)]
-        got = ended(words_of(daemon))
+        got = failed(words_of(daemon))
         rings = daemon.clients[0].ask(b"\x01")
         for client in waiting:
             client.socket.close()
         daemon.clients[0].socket.close()
-        return differs((got, rings), ((1, b"", "reqkeyd: socket\n"), "E22")) or daemon.lives()
+        return differs((got, rings), ((1, b"", "reqkeyd: socket\n", True), "E22")) or daemon.lives()
 
 
 def modes(program, mask, options, want):
@@ -254,7 +265,7 @@ def refuses(path):
 
 def helps(program, words):
     status, output, errors = ended([program, *words])
-    wanted = ["Usage: ", "--socket", "--conf", "--negative", "--sessions", "--clients", "--mode", "60", "64"] if "serve" in words else ["serve", "replay"]
+    wanted = ["Usage: ", "--socket", "--conf", "--negative", "--sessions", "--clients", "--mode", "--until-eof", "--idle", "--log", "--slow", "--status", "60", "64"] if "serve" in words else ["serve", "replay"]
     missing = [it for it in wanted if it not in output.decode()]
     return differs((status, missing, errors), (0, [], ""))
 
@@ -288,7 +299,7 @@ def cases():
     base = ["serve", "--socket", "S", "--conf", "C"]
     for words in [["serve"], base[:3], [base[0], *base[3:]], ["serve", "--socket"], [*base, "more"], [*base, "--nothing"], [*base, "--mode"],
                   [*base, "--socket", "S"], [*base, "--conf=C"], ["serve", "--socket", "--conf", "C"], ["--socket", "S", "serve", "--conf", "C"],
-                  [*base, "--negativ", "1"], [*base, "-s", "1"], [*base, "replay"], [*base, "--sessions"], [*base, "--", "x"]]:
+                  [*base, "--until-eof=1"], [*base, "--until-eof", "--until-eof"], [*base, "--log"], [*base, "--log", "warning"], [*base, "--negativ", "1"], [*base, "-s", "1"], [*base, "replay"], [*base, "--sessions"], [*base, "--", "x"]]:
         yield f"words {words}", misuses, words
     for option, (good, bad) in NUMBERS.items():
         for value in good:

@@ -1,3 +1,6 @@
+pub mod Complaint
 pub mod Disk
+pub mod Doubted
 pub mod Outcome
+pub mod Reason
 pub mod Rejoined

@@ -1,10 +1,11 @@
 -- What the program does on its streams, by the words that it is called with.
-use Rattle.std.specs.Prelude.{ℕ, Bool, false, List, [], ◌∷◌, codes, Option, None, IfSome, if◌then◌else◌}
+use Rattle.std.specs.Prelude.{ℕ, Bool, true, false, List, [], ◌∷◌, codes, Option, None, IfSome, if◌then◌else◌}
+use Rattle.std.specs.Option.{option_map_or}
 use Rattle.std.specs.Str.{bytes_eq}
 use Rattle.std.specs.Io.KnownBytes.{Appends}
 use Rattle.rk_replay.specs.Written.{IsWritten}
 use Rattle.rk_daemon.specs.Settings.{Set, settings_said}
-use Rattle.rk_preview.specs.Asked.{Asked, asked_said}
+use Rattle.rk_preview.specs.Asked.{Asked, check, pick, asked_said}
 use Rattle.rk_preview.specs.Told.{IsTold}
 
 -- the words are the name of the program and `replay`, and nothing else
@@ -32,6 +33,15 @@ HasTold contents contents' = (text : List ℕ) × Appends contents contents' tex
 abbrev pub asks_preview : List (List ℕ) → Option Asked
 asks_preview [] = None
 asks_preview (name ∷ words) = asked_said words
+
+-- whether that is a check
+abbrev pub is_check : Asked → Bool
+is_check (check path) = true
+is_check (pick path subject) = false
+
+-- whether the words ask for a check
+abbrev pub asks_check : List (List ℕ) → Bool
+asks_check words = option_map_or is_check (asks_preview words) false
 
 -- it wrote what the text of some configuration has to say to that: what was written, before and after
 abbrev pub HasShown : Asked → Option (List ℕ) → Option (List ℕ) → Type 0

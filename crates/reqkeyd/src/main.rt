@@ -9,8 +9,11 @@
 #![tactic(auto)]
 
 mod args;
+mod complaint;
 mod disk;
+mod doubting;
 mod preview_args;
+mod reason;
 mod rejoining;
 mod run;
 mod showing;

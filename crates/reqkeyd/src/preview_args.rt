@@ -8,17 +8,17 @@ const PICK: &str = "Tells which line of a configuration a request chooses, and w
 
 Options stand before the names. Nothing is started, and no key is looked for.";
 
-/// What `pick --help` says behind its options.
+/// What `pick --help` says after its options.
 const AFTER: &str =
-    "Numbers have no sign. What is told is one line for the number of the chosen line and its kind, one for the program's path, and one for each word. \
+    "Numbers have no sign. The output is one line for the number of the chosen line and its kind, one for the program's path, and one for each word. \
 In a path or word a control byte (0x01 to 0x1f, 0x7f) and a backslash are \\0 and three octal digits, which printf(1) reads by %b.
 
 Example:
   reqkeyd pick --conf /etc/reqkeyd.conf --uid 1000 user debug:x hello
 
-Status: 0; 2 for words that are no call; 1 for a configuration that can't be read (reqkeyd: conf) or has a fault (reqkeyd: conf line 3: C1: fewer than \
-five fields), where no line is chosen (reqkeyd: no line), where the words of line 3 can't be made, as for the payload of a key (reqkeyd: line 3: X1: ..), \
-or for want of memory (reqkeyd: memory) or an output that can't be written (reqkeyd: output).";
+Status: 0; 2 for a usage error; 1 for a configuration that can't be read (reqkeyd: conf) or has an invalid line (reqkeyd: conf line 3: C1: fewer than five \
+fields), if no line is chosen (reqkeyd: no line), if the words of line 3 can't be made, as for the payload of a key (reqkeyd: line 3: X1: ..), if it is \
+out of memory (reqkeyd: memory), or if the output can't be written (reqkeyd: output).";
 
 /// The names of a request, and what they are.
 const NAMES: [(&str, &str); 3] = [
@@ -81,17 +81,20 @@ fn conf(alloc: Global) -> Arg<'static> {
 /// `check` with its option.
 pub fn check<'a>(alloc: Global) -> Result<Command<'a>, AllocError> {
     Command::new(alloc, "check")
-        .about("Tells how many lines of a configuration name a program, or its first fault")
+        .about("Tells how many lines of a configuration name a program, or its first invalid line")
         .after_help(CHECKED)
         .arg(conf(alloc))
 }
 
-/// What `check --help` says behind its option.
+/// What `check --help` says after its option.
 const CHECKED: &str = "Example:
   reqkeyd check --conf /etc/reqkeyd.conf
 
-Status: 0 (ok, 3 lines); 2 for words that are no call; 1 for a configuration that can't be read (reqkeyd: conf) or has a fault \
-(reqkeyd: conf line 3: C1: fewer than five fields), for want of memory (reqkeyd: memory), or an output that can't be written (reqkeyd: output).";
+Standard error has a line for each thing that is allowed and hardly meant: an operation that no request has, a program that can't be started, a line that \
+an earlier one hides, a word that begins with #, no line at all.
+
+Status: 0 (ok, 3 lines), also with warnings; 2 for a usage error; 1 for a configuration that can't be read (reqkeyd: conf) or has an invalid line \
+(reqkeyd: conf line 3: C1: fewer than five fields), if it is out of memory (reqkeyd: memory), or if the output can't be written (reqkeyd: output).";
 
 /// `pick` with its options and the names.
 pub fn pick<'a>(alloc: Global) -> Result<Command<'a>, AllocError> {

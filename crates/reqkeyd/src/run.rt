@@ -5,14 +5,15 @@ ghost use Rattle.std.specs.Io.KnownBytes.{Appends};
 ghost use Rattle.rk_preview.specs.Views.{asked_by};
 ghost use Rattle.rk_daemon.specs.Settings.{set_by};
 ghost use Rattle.reqkeyd.specs.Rejoined.{are_files, asks_rejoin, is_file, named_files, HasRejoined};
-ghost use Rattle.reqkeyd.specs.Outcome.{asks_preview, asks_replay, asks_serve, HasPlayed, HasShown, HasTold};
+ghost use Rattle.reqkeyd.specs.Outcome.{asks_check, asks_preview, asks_replay, asks_serve, HasPlayed, HasShown, HasTold};
 
 use crate::args::{command, is_memory};
+use crate::complaint::Complaint;
 use crate::disk::Disk;
+use crate::reason::tell_reason;
 use crate::rejoining::rejoin;
 use crate::showing::show;
 use clap::Error;
-use log::Log;
 use rk_daemon::{Keeper, Settings, serve};
 use rk_preview::Preview;
 use rk_replay::run_script;
@@ -22,6 +23,7 @@ use std::io::{Eprint, Read, Write};
 use std::net::Net;
 use std::process::{Processes, SystemProcess};
 use std::random::RandomSource;
+use std::rt::Env;
 use std::sync::Wait;
 use std::thread::Threads;
 use std::time::Clock;
@@ -115,12 +117,12 @@ fn is_replay(words: &[String]) -> bool
 pub fn run_words<
     R: Files
         + Net
+        + Env
         + Threads
         + Wait
         + Processes<Started = SystemProcess>
         + Clock
         + Eprint
-        + Log
         + Keeper
         + RandomSource
         + AllocGlobal
@@ -155,9 +157,10 @@ pub fn run_words<
     ensures told { asks_replay (map string_bytes words.now) ≡ false → result ≡ 0 → HasTold (W.contents writer.old) (W.contents writer.new) }
     ensures usage { result ≡ 2 → writer.new ≡ writer.old }
 
-    // `serve` with options that set what is to be set: the daemon says when it is ready. Of any other run that ends well nothing is said.
+    // `serve` with options that set what is to be set: the daemon says when it is ready. `check` may warn. Of any other run that ends well nothing is said.
     ensures serves { IsSome (asks_serve (map string_bytes words.now)) → result ≤ 1 }
-    ensures quiet { asks_serve (map string_bytes words.now) ≡ None → result ≡ 0 → errors.new ≡ errors.old }
+    ensures quiet { asks_serve (map string_bytes words.now) ≡ None → asks_check (map string_bytes words.now) ≡ false → result ≡ 0
+        → errors.new ≡ errors.old }
     ensures status { result ≤ 2 }
 {
     let alloc = rt.alloc();
@@ -235,12 +238,12 @@ fn settings_of<'a>(words: &'a [String]) -> Option<Settings<'a>>
 fn daemon<
     R: Files
         + Net
+        + Env
         + Threads
         + Wait
         + Processes<Started = SystemProcess>
         + Clock
         + Eprint
-        + Log
         + Keeper
         + RandomSource
         + AllocGlobal
@@ -256,8 +259,22 @@ fn daemon<
         Ok(()) => 0,
         Err(fault) => {
             let _ = writeln!(errors, "reqkeyd: {fault}");
+            tell_reason(rt.alloc(), settings, &fault, errors);
             FAILED
         }
+    }
+}
+
+/// Says what is wrong with words that look right.
+fn complain<E: Write>(words: &[String], errors: &mut E) -> u8
+    ensures { result ≡ 2 }
+{
+    match Complaint::of(words) {
+        Some(complaint) => {
+            let _ = writeln!(errors, "error: {complaint}");
+            USAGE
+        }
+        None => usage(errors),
     }
 }
 
@@ -277,7 +294,7 @@ fn explain<W: Write, E: Write>(
         return no_memory(errors);
     };
     match command.try_get_matches_from(words) {
-        Ok(_) => usage(errors),
+        Ok(_) => complain(words, errors),
         Err(error) => refused(alloc, &error, writer, errors),
     }
 }

@@ -1,15 +1,18 @@
 //! `check` and `pick`: what a configuration has to say, written.
-ghost use Rattle.std.specs.Prelude.{◌≡◌, ◌≤◌};
+ghost use Rattle.std.specs.Prelude.{◌≡◌, ◌≤◌, false};
 ghost use Rattle.rk_preview.specs.Views.{asked_by};
-ghost use Rattle.reqkeyd.specs.Outcome.{HasShown};
+ghost use Rattle.reqkeyd.specs.Outcome.{HasShown, is_check};
 
+use crate::doubting::warn_of;
+use crate::reason::tell_error;
 use crate::run::{FAILED, tell};
 use rk_preview::Preview;
 use std::fs;
 use std::fs::Files;
 use std::io::Write;
 
-/// Reads the configuration, and writes what it has to say to what is asked. The status is 1, with a line on `errors`, where it can't be read or has
+/// Reads the configuration, and writes what it has to say to what is asked; of a check, `errors` gets a line for each thing that is allowed and hardly
+/// meant. The status is 1, with a line on `errors`, where it can't be read or has
 /// nothing to say, or where `writer` fails.
 pub fn show<R: Files + AllocGlobal, W: Write, E: Write>(
     rt: &R,
@@ -18,15 +21,23 @@ pub fn show<R: Files + AllocGlobal, W: Write, E: Write>(
     errors: &mut E,
 ) -> u8
     ensures shown { result ≡ 0 → HasShown (asked_by preview.now) (W.contents writer.old) (W.contents writer.new) }
-    ensures quiet { result ≡ 0 → errors.new ≡ errors.old }
+    ensures quiet { is_check (asked_by preview.now) ≡ false → result ≡ 0 → errors.new ≡ errors.old }
     ensures status { result ≤ 1 }
 {
-    let Ok(text) = fs::read(rt, preview.conf()) else {
-        return failed("conf", errors);
+    let text = match fs::read(rt, preview.conf()) {
+        Ok(text) => text,
+        Err(error) => {
+            let status = failed("conf", errors);
+            tell_error(rt.alloc(), preview.conf(), error, errors);
+            return status;
+        }
     };
     match preview.of(rt.alloc(), &text) {
         Ok(told) => {
             if tell(&told, writer) == 0 {
+                if let Preview::Check(_) = preview {
+                    warn_of(rt, &text, errors);
+                }
                 return 0;
             }
             failed("output", errors)

@@ -19,6 +19,12 @@ use Rattle.rk_daemon.specs.contracts.chain.Chain as chain
 use Rattle.rk_daemon.specs.contracts.chain.Run as run
 use Rattle.rk_daemon.specs.contracts.connections.Connections as connections
 use Rattle.rk_daemon.specs.contracts.held.Held as held
+use Rattle.rk_daemon.specs.contracts.handlers.Started as started
+use Rattle.rk_daemon.specs.contracts.handlers.Handlers as handlers
+use Rattle.rk_daemon.specs.contracts.tally.Count as count
+use Rattle.rk_daemon.specs.contracts.tally.Tally as tally
+use Rattle.rk_daemon.specs.contracts.tally.Tallies as tallies
+use Rattle.rk_daemon.specs.contracts.reporter.LogState as log_state
 use Rattle.rk_daemon.specs.contracts.workers.Shared as shared
 
 typ_send : IsSend typ.the_row
@@ -90,6 +96,36 @@ run_send = let c = chain_send in search (sendable, crosses) depth 40 fits 20000
 run_sync : IsSync (Struct (shape run.the_type))
 run_sync = let c = chain_sync in search (sendable, crosses) depth 40 fits 20000
 
+started_send : IsSend started.the_row
+started_send = search (sendable, crosses) depth 40 fits 20000
+
+handlers_send : IsSend (Struct (shape handlers.the_type))
+handlers_send = let s = started_send in search (sendable, crosses) depth 40 fits 20000
+
+handlers_sync : IsSync (Struct (shape handlers.the_type))
+handlers_sync = let s = started_send in search (sendable, crosses) depth 40 fits 20000
+
+count_send : IsSend (Struct (shape count.the_type))
+count_send = search (sendable, crosses) depth 40 fits 20000
+
+tally_send : IsSend (Struct (shape tally.the_type))
+tally_send = let c = count_send in search (sendable, crosses) depth 40 fits 20000
+
+tally_sync : IsSync (Struct (shape tally.the_type))
+tally_sync = let c = count_send in search (sendable, crosses) depth 40 fits 20000
+
+tallies_send : IsSend (Struct (shape tallies.the_type))
+tallies_send = let t = tally_send in search (sendable, crosses) depth 40 fits 20000
+
+tallies_sync : IsSync (Struct (shape tallies.the_type))
+tallies_sync = let t = tally_sync in search (sendable, crosses) depth 40 fits 20000
+
+log_send : IsSend (Struct (shape log_state.the_type))
+log_send = let t = tallies_send in search (sendable, crosses) depth 40 fits 20000
+
+log_sync : IsSync (Struct (shape log_state.the_type))
+log_sync = let t = tallies_sync in search (sendable, crosses) depth 40 fits 20000
+
 module _ (N : RattleType) (g : names.Ghosts N.Denot) (n : IsSend N) where
   pub shared_send : IsSend (shared.the_row N g)
   shared_send =
@@ -105,7 +141,16 @@ module _ (N : RattleType) (g : names.Ghosts N.Denot) (n : IsSend N) where
               connections_send,
               (
                 held_send,
-                (search (sendable, crosses) depth 40 fits 20000, (let r = run_send in search (sendable, crosses) depth 40 fits 20000, (search sendable depth 20, tt))),
+                (
+                  handlers_send,
+                  (
+                    log_send,
+                    (
+                      search (sendable, crosses) depth 40 fits 20000,
+                      (let r = run_send in search (sendable, crosses) depth 40 fits 20000, (search sendable depth 20, (search sendable depth 20, tt))),
+                    ),
+                  ),
+                ),
               ),
             ),
           ),
@@ -126,7 +171,16 @@ module _ (N : RattleType) (g : names.Ghosts N.Denot) (n : IsSend N) where
               connections_sync,
               (
                 held_sync,
-                (search (sendable, crosses) depth 40 fits 20000, (let r = run_sync in search (sendable, crosses) depth 40 fits 20000, (search sendable depth 20, tt))),
+                (
+                  handlers_sync,
+                  (
+                    log_sync,
+                    (
+                      search (sendable, crosses) depth 40 fits 20000,
+                      (let r = run_sync in search (sendable, crosses) depth 40 fits 20000, (search sendable depth 20, (search sendable depth 20, tt))),
+                    ),
+                  ),
+                ),
               ),
             ),
           ),

@@ -1,2 +1,9 @@
+pub mod Ending
+pub mod Entry
 pub mod Faults
+pub mod Figures
+pub mod Handlers
+pub mod Held
+pub mod Log
 pub mod Settings
+pub mod Tally

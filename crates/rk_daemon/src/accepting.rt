@@ -1,9 +1,13 @@
 //! Accepting connections.
+ghost use Rattle.std.specs.Prelude.{◌≡◌, pos};
 
-use crate::connections::Connections;
+use crate::entrance::Entrance;
 use crate::workers::Client;
 use crossbeam_channel::Sender;
+use libc::net::{POLLIN, poll};
+use libc::types::pollfd;
 use log::{Log, warn};
+use std::os::fd::AsRawFd;
 use std::os::unix::net::UnixListener;
 use std::sync::Wait;
 use std::thread;
@@ -12,61 +16,79 @@ use std::time::{Clock, Duration};
 /// How many milliseconds it waits after an accept that failed, as where no descriptor is left.
 const PAUSE: u64 = 100;
 
-/// What connections find: so many workers, who may all be busy.
-#[derive(Drop)]
-pub struct Entrance<'a> {
-    connections: &'a Connections,
-    workers: u32,
-    are_busy: bool,
+/// How many bytes of standard input are read and dropped at a time.
+const PIECE: usize = 4_096;
+
+/// When no more connections are accepted.
+#[derive(Clone, Copy, Debug, PartialEq, Eq)]
+pub struct Until {
+    /// After so many connections; 0 for never.
+    pub clients: u32,
+    /// Once standard input has ended.
+    pub eof: bool,
 }
 
-impl<'a> Entrance<'a> {
-    /// So many workers, of which none is busy, for these connections.
-    pub fn new(connections: &'a Connections, workers: u32) -> Entrance<'a> {
-        Entrance {
-            connections,
-            workers,
-            are_busy: false,
-        }
-    }
-
-    /// Counts one more connection, and warns where it is the first of several that find all workers busy. None of these workers may come free by itself: who
-    /// has it may wait for what a program of its own asks over this connection. Only here a worker gets more to do, so that one who has come free meanwhile
-    /// is found so by the next connection.
-    fn come<R: Log>(&mut self, rt: &R) {
-        let (workers, were_busy) = (self.workers, self.are_busy);
-        self.are_busy = self.connections.come() >= workers;
-        if self.are_busy && !were_busy {
-            warn!(rt; "all {workers} workers are busy, connections wait");
-        }
-    }
-}
-
-/// Accepts connections and hands them out, numbered from 1, up to this number; 0 is none. It waits where the workers are behind.
-pub fn accept<R: Wait + Clock + Log>(
+/// Accepts connections and hands them out, numbered from 1, until no more are to be accepted. It waits where the workers are behind.
+pub fn accept<R: Wait + Clock, L: Log>(
     rt: &R,
+    log: &L,
     listener: &UnixListener,
     mut entrance: Entrance<'_>,
     workers: &Sender<Client>,
-    clients: u32,
+    until: Until,
 ) {
     let mut last = 0;
-    for stream in listener.incoming() {
-        match stream {
-            Ok(stream) => {
+    for _ in rt.forever() {
+        if until.eof && has_ended_first(rt, listener) {
+            return;
+        }
+        match listener.accept() {
+            Ok((stream, _)) => {
                 let Some(number) = u32::checked_add(last, 1) else {
                     return;
                 };
                 last = number;
-                entrance.come(rt);
-                if workers.send(rt, Client { number, stream }).is_err() || number == clients {
+                entrance.come(log);
+                if workers.send(rt, Client { number, stream }).is_err() || number == until.clients {
                     return;
                 }
             }
             Err(error) => {
-                warn!(rt; "accept: {error}");
+                warn!(log; "accept: {error}");
                 thread::sleep(rt, Duration::from_millis(PAUSE));
             }
         }
     }
+}
+
+/// Waits for a connection, or the end of standard input; whether that has come first. What standard input has is dropped.
+fn has_ended_first<R: Wait>(rt: &R, listener: &UnixListener) -> bool {
+    for _ in rt.forever() {
+        let mut asked = [asked_of(libc::STDIN_FILENO), asked_of(listener.as_raw_fd())];
+        poll(&mut asked, -1);
+        if asked[0].revents != 0 && has_ended() {
+            return true;
+        }
+        if asked[1].revents != 0 {
+            return false;
+        }
+    }
+    false
+}
+
+/// Asks whether a descriptor can be read (`poll(2)`).
+fn asked_of(descriptor: i32) -> pollfd
+    ensures { result ≡ record { fd = descriptor; events = POLLIN; revents = pos 0 } }
+{
+    pollfd {
+        fd: descriptor,
+        events: POLLIN,
+        revents: 0,
+    }
+}
+
+/// Reads some of standard input, which can be read; whether there is no more, or no more can be read.
+fn has_ended() -> bool {
+    let mut piece = [0u8; PIECE];
+    libc::read(libc::STDIN_FILENO, &mut piece) <= 0
 }

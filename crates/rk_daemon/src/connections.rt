@@ -2,10 +2,11 @@
 
 use std::sync::atomic::{AtomicU32, Ordering};
 
-/// How many connections have been accepted that are not yet served to their end. Threads count here without a lock.
+/// How many connections have been accepted that are not yet served to their end, and how many of them a worker serves. Threads count here without a lock.
 #[derive(Drop)]
 pub struct Connections {
     open: AtomicU32,
+    served: AtomicU32,
 }
 
 impl Connections {
@@ -13,6 +14,7 @@ impl Connections {
     pub fn new() -> Connections {
         Connections {
             open: AtomicU32::new(0),
+            served: AtomicU32::new(0),
         }
     }
 
@@ -21,8 +23,24 @@ impl Connections {
         self.open.fetch_add(1, Ordering::Relaxed)
     }
 
+    /// A worker begins to serve one.
+    pub fn begin(&self) {
+        self.served.fetch_add(1, Ordering::Relaxed);
+    }
+
     /// One was served to its end.
     pub fn go(&self) {
+        self.served.fetch_sub(1, Ordering::Relaxed);
         self.open.fetch_sub(1, Ordering::Relaxed);
+    }
+
+    /// How many there are.
+    pub fn open(&self) -> u32 {
+        self.open.load(Ordering::Relaxed)
+    }
+
+    /// How many of them are served.
+    pub fn served(&self) -> u32 {
+        self.served.load(Ordering::Relaxed)
     }
 }

@@ -1,5 +1,5 @@
 //! What a run draws at its start.
-ghost use Rattle.std.specs.Prelude.{◌≡◌, IfErr};
+ghost use Rattle.std.specs.Prelude.{IfErr};
 
 use crate::fault::Fault;
 use rk_volumes::RunNumber;
@@ -15,19 +15,20 @@ pub struct Drawn {
 }
 
 impl Drawn {
-    ghost use Rattle.std.specs.Prelude.{◌≡◌, IfErr};
+    ghost use Rattle.std.specs.Prelude.{IfErr};
+    ghost use Rattle.rk_daemon.specs.Faults.{IsRandom};
 
     /// Draws them.
     pub fn of<R: RandomSource>(rt: &R) -> Result<Drawn, Fault>
-        ensures { IfErr result (λ fault. fault ≡ Fault.Random) }
+        ensures { IfErr result IsRandom }
     {
         let (mut seed, mut run) = ([0; 8], [0; 16]);
-        let Ok(()) = rt.fill_bytes(&mut seed) else {
-            return Err(Fault::Random);
-        };
-        let Ok(()) = rt.fill_bytes(&mut run) else {
-            return Err(Fault::Random);
-        };
+        if let Err(error) = rt.fill_bytes(&mut seed) {
+            return Err(Fault::Random(error));
+        }
+        if let Err(error) = rt.fill_bytes(&mut run) {
+            return Err(Fault::Random(error));
+        }
         let seed = u64::from_le_bytes(seed);
         Ok(Drawn { seed, run })
     }

@@ -1,12 +1,20 @@
 //! What is done between a session's asks.
 
+use crate::ending::{End, error_number, line_for};
+use crate::handlers::Handlers;
 use crate::held::Held;
-use log::{Log, warn};
-use rk_devices::{Driven, Gate, Report};
+use crate::reporter::Reporter;
+use crate::workers::Shared;
+use log::{log, warn};
+use rk_conf::Conf;
+use rk_devices::{Gate, Report};
 use rk_hall::{HallNo, Halls, Names};
 use rk_names::{Serial, SessionId};
 use rk_talk::Shelf;
+use std::alloc::{AllocError, Global};
+use std::io::Eprint;
 use std::sync::Wait;
+use std::time::Clock;
 
 /// How many bytes of asks and replies a hall's record may hold, about, before its volume is handed out.
 const MOST: u64 = 16 << 20;
@@ -14,53 +22,74 @@ const MOST: u64 = 16 << 20;
 /// What a handler is counted as, of whose asks and output nothing is told here: the bytes of the longest payload.
 const HANDLER: u64 = 32_767;
 
-/// The gate of the daemon: it holds nobody. After each reply, the volume of a hall whose record holds much goes to the shelf. Where a handler could not be
-/// run, as where its program is not there, or what it put out is no payload, a warning tells an operator why a request was answered that there is no key.
+/// The gate of the daemon: it holds nobody. After each reply, the volume of a hall whose record holds much goes to the shelf. How a handler has ended is
+/// logged, so that an operator learns why a request was answered that there is no key.
 #[derive(Drop)]
-pub struct Relief<'a, L: Log, N: Names, S: Shelf> {
-    rt: &'a L,
+pub struct Relief<'a, R, N: Names, S: Shelf> {
+    alloc: Global,
+    log: Reporter<'a, R>,
     halls: &'a Halls<N>,
+    conf: &'a Conf,
     held: &'a Held,
+    handlers: &'a Handlers,
     shelf: &'a S,
 }
 
-impl<'a, L: Log, N: Names, S: Shelf> Relief<'a, L, N, S> {
-    /// A gate that warns by this handle, and relieves these halls.
+impl<'a, R, N: Names, S: Shelf> Relief<'a, R, N, S> {
+    /// A gate that warns by this log, and relieves the halls of what all workers share.
     pub fn new(
-        rt: &'a L,
-        halls: &'a Halls<N>,
-        held: &'a Held,
+        alloc: Global,
+        log: Reporter<'a, R>,
+        shared: &'a Shared<N>,
         shelf: &'a S,
-    ) -> Relief<'a, L, N, S> {
+    ) -> Relief<'a, R, N, S> {
         Relief {
-            rt,
-            halls,
-            held,
+            alloc,
+            log,
+            halls: &shared.halls,
+            conf: &shared.conf,
+            held: &shared.held,
+            handlers: &shared.handlers,
             shelf,
         }
     }
 }
 
-impl<'a, L: Log, N: Names, S: Shelf> Gate for Relief<'a, L, N, S> {
-    fn started<R: Wait>(&self, _rt: &R, key: Serial) {
-        self.held.add(HallNo::of_serial(key), HANDLER);
-    }
-
-    /// A fault is told. How a program has ended is its own, and where no line fits a request there is no handler.
-    fn driven<R: Wait>(&self, _rt: &R, report: Report<'_>) {
-        let Report { key, driven, .. } = report;
-        match driven {
-            Driven::Ended(_) | Driven::NotStarted => {}
-            Driven::NoPayload(_)
-            | Driven::NotMade(_)
-            | Driven::NoMemory
-            | Driven::StartFailed
-            | Driven::ReadFailed
-            | Driven::WaitFailed => {
-                let key = key.get();
-                warn!(self.rt; "handler of key {key}: {driven}");
+impl<'a, R: Wait + Eprint + Clock, N: Names, S: Shelf> Relief<'a, R, N, S> {
+    /// Logs how a handler has ended.
+    fn tell(&self, end: &End<'_, '_>) {
+        let level = end.level();
+        match end.text(self.alloc) {
+            Ok(text) => log!(self.log; level, "{text}"),
+            Err(AllocError) => {
+                let key = end.key.get();
+                warn!(self.log; "handler of key {key}: no memory for this line");
             }
         }
+    }
+}
+
+impl<'a, E: Wait + Eprint + Clock, N: Names, S: Shelf> Gate for Relief<'a, E, N, S> {
+    fn started<R: Wait>(&self, rt: &R, key: Serial) {
+        self.held.add(HallNo::of_serial(key), HANDLER);
+        self.handlers.start(rt, key, self.log.seconds());
+    }
+
+    fn driven<R: Wait>(&self, rt: &R, report: Report<'_>) {
+        let Report {
+            key,
+            subject,
+            driven,
+            os_error,
+        } = report;
+        self.handlers.end(rt, key);
+        self.tell(&End {
+            key,
+            subject,
+            line: line_for(self.conf, subject),
+            driven,
+            error: error_number(os_error),
+        });
     }
 
     /// A volume that can't be handed out, since all of it is owed, is tried again once as much has come.
@@ -69,6 +98,7 @@ impl<'a, L: Log, N: Names, S: Shelf> Gate for Relief<'a, L, N, S> {
             if self.held.is_over(hall, MOST)
                 && let Ok(volume) = self.halls.roll(rt, hall)
             {
+                self.held.roll();
                 self.shelf.put(rt, volume);
             }
         }

@@ -1,17 +1,21 @@
 //! How much the halls' records hold.
+ghost use Rattle.std.specs.Prelude.{◌≡◌};
+ghost use Rattle.rk_daemon.specs.Held.{bytes_of, taken_by};
 
 use rk_hall::{HallNo, Receipt, Told};
 use rk_machine::Answer;
 use rk_message::{Ask, Reply};
 use std::sync::atomic::{AtomicU64, Ordering};
 
-/// How many bytes of asks and replies each hall's record has taken since its volume was last handed out, about. Threads count here without a lock.
+/// How many bytes of asks and replies each hall's record has taken since its volume was last handed out, about, and how many volumes were. Threads count
+/// here without a lock.
 #[derive(Drop)]
 pub struct Held {
     zero: AtomicU64,
     one: AtomicU64,
     two: AtomicU64,
     three: AtomicU64,
+    volumes: AtomicU64,
 }
 
 impl Held {
@@ -22,10 +26,17 @@ impl Held {
             one: AtomicU64::new(0),
             two: AtomicU64::new(0),
             three: AtomicU64::new(0),
+            volumes: AtomicU64::new(0),
         }
     }
 
-    fn of(&self, hall: HallNo) -> &AtomicU64 {
+    /// That of a hall.
+    fn of(&self, hall: HallNo) -> &AtomicU64
+        ensures zero { hall ≡ HallNo.Zero → result.now ≡ self.now.zero }
+        ensures one { hall ≡ HallNo.One → result.now ≡ self.now.one }
+        ensures two { hall ≡ HallNo.Two → result.now ≡ self.now.two }
+        ensures three { hall ≡ HallNo.Three → result.now ≡ self.now.three }
+    {
         match hall {
             HallNo::Zero => &self.zero,
             HallNo::One => &self.one,
@@ -39,6 +50,16 @@ impl Held {
         self.of(hall).fetch_add(bytes, Ordering::Relaxed);
     }
 
+    /// Counts a volume that was handed out.
+    pub fn roll(&self) {
+        self.volumes.fetch_add(1, Ordering::Relaxed);
+    }
+
+    /// How many volumes were handed out.
+    pub fn volumes(&self) -> u64 {
+        self.volumes.load(Ordering::Relaxed)
+    }
+
     /// Whether the record of this hall has taken more than so many bytes. Then its volume is to be handed out, and it is counted from 0 again, so that one
     /// of several threads is told.
     pub fn is_over(&self, hall: HallNo, most: u64) -> bool {
@@ -49,7 +70,9 @@ impl Held {
 
 /// How many bytes the step of this receipt has put into its hall's record beside the step itself: those of the names and payloads of the ask, and of its
 /// reply.
-pub fn taken_by(receipt: &Receipt) -> u64 {
+pub fn taken_by(receipt: &Receipt) -> u64
+    ensures { result ≡ taken_by receipt.now.told receipt.now.answer }
+{
     let asked = match receipt.told() {
         Told::Asked(_, ask) => bytes_of(ask),
         _ => 0,
@@ -62,7 +85,9 @@ pub fn taken_by(receipt: &Receipt) -> u64 {
 }
 
 /// How many bytes an ask has outside of its value: those of its description, its callout and its payload.
-fn bytes_of(ask: &Ask) -> usize {
+fn bytes_of(ask: &Ask) -> usize
+    ensures { result ≡ bytes_of ask.now }
+{
     match ask {
         Ask::Request {
             description,

@@ -9,8 +9,13 @@
 //! `settings` has what an operator sets by options, `fault` why nothing is served. `socket`, `clock`, `gate` and `shelf` are the devices of a session:
 //! the wire over an accepted socket, seconds of the system's monotonic clock, a gate that holds nobody, warns of handlers that could not be run, and hands
 //! out volumes of which `held` counts much, and a shelf that writes a volume into the folder of the `record`, or names it and drops it. `chain` has the
-//! volumes of a hall written in their order, and `drawn` the random numbers of a run. `path` takes the socket's path and gives it free, and `streams` takes the places of standard streams that are closed. `platform` names the types of all these for a
-//! worker's sessions. `workers` serves the `connections` that `accepting` hands out, and warns of where they wait, and `serving` puts it all together.
+//! volumes of a hall written in their order, and `drawn` the random numbers of a run. `path` takes the socket's path and gives it free, and `streams` takes
+//! the places of standard streams that are closed. `platform` names the types of all these for a worker's sessions. `workers` serves the `connections` that
+//! `accepting` hands out, `entrance` warns where they wait, and `serving` puts it all together. `watching` looks after the `handlers` that run, and tells the
+//! `figures`.
+//!
+//! `reporter` makes each line of the log: an `entry` in the `style` of the journal or with the time, of a `kind` of which `tally` counts the lines. `ending`
+//! has the line of a handler that has ended.
 #![tactic(auto)]
 
 mod accepting;
@@ -18,20 +23,30 @@ mod chain;
 mod clock;
 mod connections;
 mod drawn;
+mod ending;
+mod entrance;
+mod entry;
 mod fault;
+mod figures;
 mod gate;
+mod handlers;
 mod held;
+mod kind;
 mod path;
 mod platform;
 mod record;
+mod reporter;
 mod serving;
 mod settings;
 mod shelf;
 mod socket;
 mod streams;
+mod style;
+mod tally;
+mod watching;
 mod workers;
 
 pub use fault::Fault;
 pub use record::Keeper;
 pub use serving::serve;
-pub use settings::Settings;
+pub use settings::{LogSettings, Settings};

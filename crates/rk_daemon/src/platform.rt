@@ -3,8 +3,8 @@
 use crate::clock::Seconds;
 use crate::gate::Relief;
 use crate::record::Keeper;
+use crate::reporter::Reporter;
 use crate::shelf::Outlet;
-use log::Log;
 use rk_hall::Names;
 use rk_programs::Programs;
 use rk_session::Platform;
@@ -18,7 +18,7 @@ use std::time::Clock;
 /// them.
 pub struct WorkerPlatform<'a, N: Names, R>(PhantomData<(&'a R, N)>);
 
-impl<'a, N: Names + 'a, R: Wait + Processes + Clock + Eprint + Log + Keeper + 'a> Platform
+impl<'a, N: Names + 'a, R: Wait + Processes + Clock + Eprint + Keeper + 'a> Platform
     for WorkerPlatform<'a, N, R> {
     type Names = N;
 
@@ -28,7 +28,7 @@ impl<'a, N: Names + 'a, R: Wait + Processes + Clock + Eprint + Log + Keeper + 'a
 
     type Clock = Seconds<'a, R>;
 
-    type Gate = Relief<'a, R, N, Outlet<'a, R>>;
+    type Gate = Relief<'a, R, N, Outlet<'a, Reporter<'a, R>>>;
 
-    type Shelf = Outlet<'a, R>;
+    type Shelf = Outlet<'a, Reporter<'a, R>>;
 }

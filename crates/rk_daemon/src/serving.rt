@@ -1,19 +1,23 @@
 //! The daemon from its start to its end.
-ghost use Rattle.std.specs.Prelude.{◌≡◌, IfErr};
-ghost use Rattle.rk_daemon.specs.Faults.{IsFound, IsOfConf};
+ghost use Rattle.std.specs.Prelude.{◌≡◌, IfErr, IfOk, option_map, string_bytes};
+ghost use Rattle.rk_daemon.specs.Faults.{IsFound, IsOfConf, IsOfRecord, IsRandom};
 
-use crate::accepting::{Entrance, accept};
+use crate::accepting::{Until, accept};
 use crate::chain::Run;
 use crate::connections::Connections;
 use crate::drawn::Drawn;
+use crate::entrance::Entrance;
 use crate::fault::Fault;
+use crate::handlers::Handlers;
 use crate::held::Held;
 use crate::path::{give_free, take};
 use crate::record::{Keeper, is_free};
+use crate::reporter::{LogState, Reporter};
 use crate::settings::Settings;
 use crate::streams::StandIns;
-use crate::workers::{Shared, start};
-use log::{Log, warn};
+use crate::style::Style;
+use crate::workers::{Shared, start, start_watch};
+use log::warn;
 use rk_conf::Conf;
 use rk_hall::{Fresh, HallNo, Halls, Names};
 use std::alloc::{AllocError, Global};
@@ -25,6 +29,7 @@ use std::net::Net;
 use std::os::unix::net::UnixListener;
 use std::process::{Processes, SystemProcess};
 use std::random::RandomSource;
+use std::rt::Env;
 use std::sync::{Arc, Wait};
 use std::thread::Threads;
 use std::time::{Clock, Instant};
@@ -39,6 +44,19 @@ const VOLUME: usize = 8192;
 /// What is said once connections are accepted.
 const READY: &[u8] = b"reqkeyd: ready\n";
 
+/// What is there once a daemon may begin.
+#[derive(Drop)]
+struct Opened {
+    /// What was drawn at its start.
+    drawn: Drawn,
+    /// The configuration.
+    conf: Conf,
+    /// Where clients connect.
+    listener: UnixListener,
+    /// The log.
+    log: LogState,
+}
+
 /// Serves what comes at the listener, with new halls.
 fn serve_at<
     N: Names + Send + Sync + 'static,
@@ -47,7 +65,6 @@ fn serve_at<
         + Processes<Started = SystemProcess>
         + Clock
         + Eprint
-        + Log
         + Keeper
         + Clone
         + Send
@@ -58,9 +75,7 @@ fn serve_at<
     rt: &R,
     alloc: Global,
     fresh: Fresh,
-    drawn: Drawn,
-    conf: Conf,
-    listener: UnixListener,
+    opened: Opened,
     settings: &Settings<'_>,
     errors: &mut E,
 ) -> Result<(), AllocError>
@@ -69,6 +84,12 @@ fn serve_at<
     requires two { (fresh.two.calls.name ≡ N.name 4) × (fresh.two.out.name ≡ N.name 5) }
     requires three { (fresh.three.calls.name ≡ N.name 6) × (fresh.three.out.name ≡ N.name 7) }
 {
+    let Opened {
+        drawn,
+        conf,
+        listener,
+        log,
+    } = opened;
     let halls: Halls<N> = Halls::with_volume(alloc, fresh, settings.negative, drawn.seed, VOLUME)?;
     let Ok(begun) = Instant::now(rt) else {
         return Err(AllocError);
@@ -83,30 +104,52 @@ fn serve_at<
             start: begun,
             connections: Connections::new(),
             held: Held::new(),
+            handlers: Handlers::new(alloc),
+            log,
             keyutils,
             run,
             negative: settings.negative,
+            idle: settings.idle,
         },
     )?;
     let (to, from) = crossbeam_channel::bounded(alloc, WAITING)?;
     let workers = start(rt, alloc, &shared, &from, settings.sessions)?;
     drop(from);
+    let (watched, end) = crossbeam_channel::bounded(alloc, 1)?;
+    let watcher = start_watch(rt, &shared, end, settings.log)?;
     let _ = errors.write_all(READY);
     let entrance = Entrance::new(&shared.connections, settings.sessions);
-    accept(rt, &listener, entrance, &to, settings.clients);
+    let log = Reporter::new(rt, &shared.log);
+    accept(rt, &log, &listener, entrance, &to, until(settings));
     drop(listener);
     drop(to);
     for worker in workers {
         worker.join(rt);
     }
+    drop(watched);
+    watcher.join(rt);
+    log.tell_left_out(u64::MAX);
     if shared.run.is_some() {
         hand_out_all(rt, alloc, &shared);
     }
     Ok(())
 }
 
+/// When the daemon is to end by itself.
+fn until(settings: &Settings<'_>) -> Until
+    ensures clients { result.clients ≡ settings.now.clients }
+    ensures eof { result.eof ≡ settings.now.until_eof }
+{
+    Until {
+        clients: settings.clients,
+        eof: settings.until_eof,
+    }
+}
+
 /// A copy of a path, where there is one.
-fn copied(alloc: Global, path: Option<&str>) -> Result<Option<String>, AllocError> {
+fn copied(alloc: Global, path: Option<&str>) -> Result<Option<String>, AllocError>
+    ensures { IfOk result (λ copy. option_map string_bytes copy ≡ option_map (λ p. p.now) path.entry) }
+{
     match path {
         Some(path) => Ok(Some(String::from_str(alloc, path)?)),
         None => Ok(None),
@@ -114,18 +157,19 @@ fn copied(alloc: Global, path: Option<&str>) -> Result<Option<String>, AllocErro
 }
 
 /// Hands out what each hall still records, once nobody serves any more; a volume without a step, too.
-fn hand_out_all<N: Names, R: Wait + Eprint + Log + Keeper>(
+fn hand_out_all<N: Names, R: Wait + Eprint + Clock + Keeper>(
     rt: &R,
     alloc: Global,
     shared: &Shared<N>,
 ) {
-    let shelf = shared.shelf(rt, alloc);
+    let log = Reporter::new(rt, &shared.log);
+    let shelf = shared.shelf(&log, alloc);
     for hall in HallNo::ALL {
         match shared.halls.roll(rt, hall) {
             Ok(volume) => shelf.put_last(rt, volume),
             Err(fault) => {
                 let hall = hall.number();
-                warn!(rt; "the last volume of hall {hall}: {fault:?}");
+                warn!(log; "the last volume of hall {hall}: {fault:?}");
             }
         }
     }
@@ -138,7 +182,6 @@ fn serve_named<
         + Processes<Started = SystemProcess>
         + Clock
         + Eprint
-        + Log
         + Keeper
         + Clone
         + Send
@@ -148,26 +191,42 @@ fn serve_named<
 >(
     rt: &R,
     alloc: Global,
-    drawn: Drawn,
-    conf: Conf,
-    listener: UnixListener,
+    opened: Opened,
     settings: &Settings<'_>,
     errors: &mut E,
 ) -> Result<(), AllocError> {
     let fresh = Fresh::new();
-    serve_at::<Brand, R, E>(rt, alloc, fresh, drawn, conf, listener, settings, errors)
+    serve_at::<Brand, R, E>(rt, alloc, fresh, opened, settings, errors)
 }
 
 /// The configuration of the file at the path.
 fn conf_at<R: Files + AllocGlobal>(rt: &R, path: &str) -> Result<Conf, Fault>
     ensures { IfErr result IsOfConf }
 {
-    let Ok(text) = fs::read(rt, path) else {
-        return Err(Fault::Unreadable);
+    let text = match fs::read(rt, path) {
+        Ok(text) => text,
+        Err(error) => return Err(Fault::Unreadable(error)),
     };
     match Conf::read(rt.alloc(), &text) {
         Ok(conf) => Ok(conf),
         Err(fault) => Err(Fault::Conf(fault)),
+    }
+}
+
+/// That a record may be written into this folder, where there is one.
+fn record_at<R: Files + AllocGlobal + Clone + Drop>(
+    rt: &R,
+    folder: Option<&str>,
+) -> Result<(), Fault>
+    ensures { IfErr result IsOfRecord }
+{
+    match folder {
+        Some(folder) => match is_free(rt, folder) {
+            Ok(true) => Ok(()),
+            Ok(false) => Err(Fault::Recorded),
+            Err(error) => Err(Fault::Record(error)),
+        },
+        None => Ok(()),
     }
 }
 
@@ -177,12 +236,12 @@ fn conf_at<R: Files + AllocGlobal>(rt: &R, path: &str) -> Result<Conf, Fault>
 pub fn serve<
     R: Files
         + Net
+        + Env
         + Threads
         + Wait
         + Processes<Started = SystemProcess>
         + Clock
         + Eprint
-        + Log
         + Keeper
         + RandomSource
         + AllocGlobal
@@ -196,23 +255,27 @@ pub fn serve<
 {
     let conf = conf_at(rt, settings.conf)?;
     let drawn = Drawn::of(rt)?;
-    if let Some(folder) = settings.folder
-        && !matches!(is_free(rt, folder), Ok(true))
-    {
-        return Err(Fault::Record);
-    }
+    record_at(rt, settings.folder)?;
     if let Some(library) = settings.keyutils
-        && File::open(rt, library).is_err()
+        && let Err(error) = File::open(rt, library)
     {
-        return Err(Fault::Keyutils);
+        return Err(Fault::Keyutils(error));
     }
-    let Ok(_stand_ins) = StandIns::take(rt) else {
-        return Err(Fault::Socket);
+    let _stand_ins = match StandIns::take(rt) {
+        Ok(taken) => taken,
+        Err(error) => return Err(Fault::Stream(error)),
     };
-    let Ok((listener, taken)) = take(rt, settings.socket, settings.mode) else {
-        return Err(Fault::Socket);
+    let (listener, taken) = match take(rt, settings.socket, settings.mode) {
+        Ok(opened) => opened,
+        Err(error) => return Err(Fault::Socket(error)),
     };
-    let served = serve_named(rt, rt.alloc(), drawn, conf, listener, settings, errors);
+    let opened = Opened {
+        drawn,
+        conf,
+        listener,
+        log: LogState::new(settings.log.level, Style::of_errors(rt)),
+    };
+    let served = serve_named(rt, rt.alloc(), opened, settings, errors);
     give_free(rt, settings.socket, taken);
     match served {
         Ok(()) => Ok(()),

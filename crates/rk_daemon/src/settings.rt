@@ -3,13 +3,14 @@ ghost use Rattle.std.specs.Prelude.{◌≡◌, codes, map, option_map, string_by
 ghost use Rattle.std.specs.List.{list_all};
 ghost use Rattle.rk_options.specs.Said.{said_by};
 ghost use Rattle.rk_options.specs.Values.{number_in, number_up_to};
-ghost use Rattle.rk_daemon.specs.Settings.{is_octal_digit, library_in, permissions_said, set_by, set_in, settings_said, unless_zero};
+ghost use Rattle.rk_daemon.specs.Settings.{flag_in, is_octal_digit, level_in, level_said, library_in, log_set_by, log_set_in, permissions_said, set_by, set_in, settings_said, unless_zero};
 
+use log::Level;
 use rk_options::Options;
 use rk_variables::is_library;
 
-/// The names of the options that there are; each has a value.
-const NAMES: [&str; 8] = [
+/// The names of the options.
+const NAMES: [&str; 13] = [
     "--socket",
     "--conf",
     "--negative",
@@ -18,7 +19,26 @@ const NAMES: [&str; 8] = [
     "--mode",
     "--keyutils",
     "--record",
+    "--until-eof",
+    "--idle",
+    "--log",
+    "--slow",
+    "--status",
 ];
+
+/// Those of them that have no value.
+const FLAGS: [&str; 1] = ["--until-eof"];
+
+/// What an operator sets of the log.
+#[derive(Clone, Copy, Debug)]
+pub struct LogSettings {
+    /// The least important lines that are written.
+    pub level: Level,
+    /// After how many seconds a handler that still runs is a warning; 0 for never.
+    pub slow: u32,
+    /// After how many seconds a line tells the daemon's figures, again and again; 0 for never.
+    pub status: u32,
+}
 
 /// What an operator sets.
 #[derive(Clone, Copy, Debug)]
@@ -39,17 +59,27 @@ pub struct Settings<'a> {
     pub keyutils: Option<&'a str>,
     /// The folder into which the volumes of the record are written.
     pub folder: Option<&'a str>,
+    /// Whether it ends when standard input ends.
+    pub until_eof: bool,
+    /// For how many seconds a client that is read may be silent; 0 for any time.
+    pub idle: u32,
+    /// What is written of what happens.
+    pub log: LogSettings,
 }
 
 impl<'a> Settings<'a> {
     /// The settings that the words say: options with their values, as `--clients 2` or `--clients=2`, in any order. `None` where a name has no value,
     /// is unknown or there twice, where a path is lacking, and where a value is no number within its bounds. `--negative` (60) and `--clients` (0) are
     /// decimal digits up to 4294967295, `--sessions` (64) from 1 to 64, and `--mode` (600) octal digits up to 777; none has a sign. `--keyutils` is an
-    /// absolute path without a space or a colon, and there is none unless it is given; neither is there a `--record`.
+    /// absolute path without a space or a colon, and there is none unless it is given; neither is there a `--record`. `--until-eof` is a flag. `--log` is
+    /// `error`, `warn`, `info` or `debug` (`warn`), and `--idle` (0), `--slow` (60) and `--status` (0) are seconds up to 4294967295.
     pub fn read(words: &'a [String]) -> Option<Settings<'a>>
         ensures { option_map set_by result ≡ settings_said (map string_bytes words.now) }
     {
-        Settings::of(&Options { words, flags: &[] })
+        Settings::of(&Options {
+            words,
+            flags: &FLAGS,
+        })
     }
 
     /// The settings that the options make.
@@ -68,7 +98,57 @@ impl<'a> Settings<'a> {
             mode: mode(options)?,
             keyutils: library(options)?,
             folder: options.value_of("--record")?,
+            until_eof: until_eof(options)?,
+            idle: options.number_or("--idle", u32::MAX, 0)?,
+            log: LogSettings::of(options)?,
         })
+    }
+}
+
+impl LogSettings {
+    /// What the options set of the log.
+    fn of(options: &Options<'_>) -> Option<LogSettings>
+        ensures { option_map log_set_by result ≡ log_set_in (said_by options.now) }
+    {
+        Some(LogSettings {
+            level: level(options)?,
+            slow: options.number_or("--slow", u32::MAX, 60)?,
+            status: options.number_or("--status", u32::MAX, 0)?,
+        })
+    }
+}
+
+/// Whether the flag is there.
+fn until_eof(options: &Options<'_>) -> Option<bool>
+    ensures { result ≡ flag_in (codes "--until-eof") (said_by options.now) }
+{
+    match options.value_of("--until-eof")? {
+        None => Some(false),
+        Some("") => Some(true),
+        Some(_) => None,
+    }
+}
+
+/// The level of the log.
+fn level(options: &Options<'_>) -> Option<Level>
+    ensures { result ≡ level_in (codes "--log") (said_by options.now) }
+{
+    match options.value_of("--log")? {
+        Some(word) => level_named(word),
+        None => Some(Level::Warn),
+    }
+}
+
+/// The level with this name.
+pub fn level_named(word: &str) -> Option<Level>
+    ensures { result ≡ level_said word.now }
+{
+    match word {
+        "error" => Some(Level::Error),
+        "warn" => Some(Level::Warn),
+        "info" => Some(Level::Info),
+        "debug" => Some(Level::Debug),
+        _ => None,
     }
 }
 

@@ -6,16 +6,19 @@ use crate::held::{Held, taken_by};
 use rk_devices::DeviceFault;
 use rk_hall::Receipt;
 use rk_session::Wire;
-use std::io::{Read, Write};
+use std::io;
+use std::io::{ErrorKind, Read, Write};
 use std::os::unix::net::UnixStream;
+use std::time::Duration;
 
-/// A client's socket. It counts its failures and reads, and what its asks put into the records.
+/// A client's socket. It counts its failures and reads, and what its asks put into the records, and knows whether its client was silent for too long.
 #[derive(Drop)]
 pub struct Socket<'a> {
     stream: UnixStream,
     held: &'a Held,
     failed: u64,
     reads: u64,
+    is_idle: bool,
 }
 
 /// One more; the greatest count stays.
@@ -36,7 +39,22 @@ impl<'a> Socket<'a> {
             held,
             failed: 0,
             reads: 0,
+            is_idle: false,
         }
+    }
+
+    /// Has reads fail after so many seconds in which nothing comes; 0 is no limit.
+    pub fn set_patience(&self, seconds: u32) -> io::Result<()> {
+        if seconds == 0 {
+            return Ok(());
+        }
+        self.stream
+            .set_read_timeout(Some(Duration::from_secs(u64::from(seconds))))
+    }
+
+    /// Whether a read has failed since nothing came for so long.
+    pub fn is_idle(&self) -> bool {
+        self.is_idle
     }
 
     /// Counts a failure.
@@ -57,7 +75,10 @@ impl<'a> Wire for Socket<'a> {
         self.reads = one_more(self.reads);
         match self.stream.read(buf) {
             Ok(count) => Ok(count),
-            Err(_) => Err(self.fault()),
+            Err(error) => {
+                self.is_idle = error.kind() == ErrorKind::WouldBlock;
+                Err(self.fault())
+            }
         }
     }
 

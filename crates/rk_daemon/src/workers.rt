@@ -6,13 +6,17 @@ use crate::chain::Run;
 use crate::clock::Seconds;
 use crate::connections::Connections;
 use crate::gate::Relief;
+use crate::handlers::Handlers;
 use crate::held::Held;
 use crate::platform::WorkerPlatform;
 use crate::record::Keeper;
+use crate::reporter::{LogState, Reporter};
+use crate::settings::LogSettings;
 use crate::shelf::Outlet;
 use crate::socket::Socket;
+use crate::watching::watch;
 use crossbeam_channel::Receiver;
-use log::{Log, warn};
+use log::{info, warn};
 use rk_conf::Conf;
 use rk_frame::Frames;
 use rk_hall::{Halls, Names};
@@ -49,54 +53,61 @@ pub struct Shared<N: Names> {
     pub connections: Connections,
     /// How much the halls' records hold.
     pub held: Held,
+    /// The handlers that run.
+    pub handlers: Handlers,
+    /// The log.
+    pub log: LogState,
     /// The library that plain handlers preload.
     pub keyutils: Option<String>,
     /// This run, where its record is written.
     pub run: Option<Run>,
     /// For how many seconds a key is negative whose handler did not complete it.
     pub negative: u32,
+    /// For how many seconds a client that is read may be silent; 0 for any time.
+    pub idle: u32,
 }
 
 impl<N: Names> Shared<N> {
     /// Where volumes go.
-    pub fn shelf<'a, R: Eprint + Log + Keeper>(
+    pub fn shelf<'a, R: Wait + Eprint + Clock + Keeper>(
         &'a self,
-        rt: &'a R,
+        log: &'a Reporter<'a, R>,
         alloc: Global,
-    ) -> Outlet<'a, R> {
-        Outlet::new(rt, alloc, self.run.as_ref(), self.negative)
+    ) -> Outlet<'a, Reporter<'a, R>> {
+        Outlet::new(log, alloc, self.run.as_ref(), self.negative)
     }
 }
 
 /// Serves the client with this number to its end.
-fn serve_client<P: Platform>(
+fn serve_client<P: Platform, R: Wait + Eprint + Clock>(
     stage: &Stage<'_, P>,
+    log: &Reporter<'_, R>,
     crew: &mut Crew<P>,
     number: u32,
     socket: &mut Socket<'_>,
 )
-where
-    P::Runtime: Log,
     requires bound { (P.Launcher.shown crew.old.launcher).count ≤ most }
     ensures bound { (P.Launcher.shown crew.new.launcher).count ≤ most }
 {
     let Ok(frames) = Frames::new(stage.alloc) else {
-        warn!(stage.rt; "session {number}: no memory");
+        warn!(log; "session {number}: no memory");
         return;
     };
     let served = serve(stage, crew, number, frames, socket);
-    if served != Served::Ended {
-        warn!(stage.rt; "session {number}: {served:?}");
+    if socket.is_idle() {
+        info!(log; "session {number}: idle");
+    } else if served != Served::Ended {
+        warn!(log; "session {number}: {served:?}");
     }
 }
 
 /// Serves the connections that come, until no more can.
-fn serve_clients<'a, N: Names, R: Wait + Processes + Clock + Eprint + Log + Keeper>(
+fn serve_clients<'a, N: Names, R: Wait + Processes + Clock + Eprint + Keeper>(
     rt: &'a R,
     alloc: Global,
     shared: &'a Shared<N>,
-    gate: &'a Relief<'a, R, N, Outlet<'a, R>>,
-    shelf: &'a Outlet<'a, R>,
+    gate: &'a Relief<'a, R, N, Outlet<'a, Reporter<'a, R>>>,
+    shelf: &'a Outlet<'a, Reporter<'a, R>>,
     clients: &Receiver<Client>,
 ) {
     let Some(seat) = shared.halls.seat(rt) else {
@@ -118,10 +129,13 @@ fn serve_clients<'a, N: Names, R: Wait + Processes + Clock + Eprint + Log + Keep
         },
         launcher: Programs::new(rt, alloc, keyutils),
     };
+    let log = Reporter::new(rt, &shared.log);
     for client in clients.iter(rt) {
         let Client { number, stream } = client;
         let mut socket = Socket::new(stream, &shared.held);
-        serve_client(&stage, &mut crew, number, &mut socket);
+        shared.connections.begin();
+        let _ = socket.set_patience(shared.idle);
+        serve_client(&stage, &log, &mut crew, number, &mut socket);
         // (before the connection is closed: whoever sees that may count on this worker)
         shared.connections.go();
         drop(socket);
@@ -134,14 +148,15 @@ fn serve_clients<'a, N: Names, R: Wait + Processes + Clock + Eprint + Log + Keep
 }
 
 /// A worker, from its first connection to its last.
-fn work<N: Names, R: Wait + Processes + Clock + Eprint + Log + Keeper>(
+fn work<N: Names, R: Wait + Processes + Clock + Eprint + Keeper>(
     rt: &R,
     alloc: Global,
     shared: &Shared<N>,
     clients: &Receiver<Client>,
 ) {
-    let shelf = shared.shelf(rt, alloc);
-    let gate = Relief::new(rt, &shared.halls, &shared.held, &shelf);
+    let log = Reporter::new(rt, &shared.log);
+    let shelf = shared.shelf(&log, alloc);
+    let gate = Relief::new(alloc, log, shared, &shelf);
     serve_clients(rt, alloc, shared, &gate, &shelf, clients);
 }
 
@@ -153,7 +168,6 @@ pub fn start<
         + Processes<Started = SystemProcess>
         + Clock
         + Eprint
-        + Log
         + Keeper
         + Clone
         + Send
@@ -174,4 +188,20 @@ pub fn start<
         all.push(worker)?;
     }
     Ok(all)
+}
+
+/// Starts the thread that looks after the daemon until the other end of the channel is dropped.
+pub fn start_watch<
+    N: Names + Send + Sync + 'static,
+    R: Threads + Wait + Clock + Eprint + Keeper + Clone + Send + Drop + 'static,
+>(
+    rt: &R,
+    shared: &Arc<Shared<N>>,
+    end: Receiver<()>,
+    settings: LogSettings,
+) -> Result<JoinHandle<()>, AllocError> {
+    let own = rt.clone()?;
+    let shared = Arc::try_clone(shared)?;
+    let watcher = thread::spawn(rt, move || watch(&own, &shared, &end, settings))?;
+    Ok(watcher)
 }

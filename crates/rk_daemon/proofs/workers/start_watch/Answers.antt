@@ -1,0 +1,20 @@
+use denote.Param.{param}
+use denote.Param.Send.{IsSend, IsSync, sendable}
+use Rattle.std.proofs.Crossing.{crosses, Arc-send}
+use Rattle.rk_daemon.specs.contracts.settings.LogSettings as settings
+use Rattle.rk_daemon.specs.contracts.workers.Shared as shared
+use Rattle.rk_daemon.proofs.Crossing.{shared_send, shared_sync}
+use Rattle.rk_daemon.proofs.workers.start_watch.Goals as goal
+
+settings_send : IsSend settings.the_row
+settings_send = search (sendable, crosses) depth 40 fits 20000
+
+-- the thread takes what is shared, and its end of the channel
+pub spawn-requires-send-F : goal.spawn-requires-send-F
+spawn-requires-send-F g c κs within =
+    let s = shared_send (param 0 g.row.N) g.N.Names c.type_bounds.send-N in
+    let y = shared_sync (param 0 g.row.N) g.N.Names c.type_bounds.send-N in
+    let a = Arc-send (shared.the_row (param 0 g.row.N) g.N.Names) s y in
+    let e = settings_send in
+    let o = c.type_bounds.send-R in
+    search (sendable, crosses) depth 60 fits 20000

@@ -1,0 +1,125 @@
+-- How a handler has ended, as a line of the log.
+use Rattle.std.specs.Prelude.{ℕ, Bool, ◌+◌, ◌/◌, ◌%◌, ◌&&◌, not, ◌==◌, nat_le, nat_lt, if◌then◌else◌}
+use Rattle.std.specs.Prelude.{ℤ, pos, negsuc, List, [], ◌∷◌, ◌++◌, codes, decimal, length, take, Option, Some, None, option_map, IsNone}
+use Rattle.std.specs.List.{flat_map}
+use Rattle.log.specs.declared.level.Level.{Level}
+use Rattle.log.specs.declared.level.Level.TheVariants as level
+use Rattle.rk_conf.specs.declared.line.Line.{Line}
+use Rattle.rk_conf.specs.Choice.{IsChosen}
+use Rattle.rk_devices.specs.declared.driven.Driven.{Driven}
+use Rattle.rk_devices.specs.declared.driven.Driven.TheVariants as driven
+use Rattle.rk_devices.specs.declared.output.OutputFault.TheVariants as output
+use Rattle.rk_machine.specs.declared.event.How.TheVariants as how
+use Rattle.rk_macro.specs.declared.fault.ExpandFault.{ExpandFault}
+use Rattle.rk_macro.specs.declared.fault.ExpandFault.TheVariants as fault
+use Rattle.rk_macro.specs.declared.subject.Subject.{Subject}
+use Rattle.rk_macro.specs.Ops.{op_name}
+use Rattle.rk_daemon.specs.declared.ending.End.{End}
+
+-- a number that is not below 0
+abbrev pub natural : ℤ → Option ℕ
+natural (pos n) = Some n
+natural (negsuc n) = None
+
+-- the line is the one that these lines' configuration picks for what a handler was started for; there is none where that is not known
+abbrev pub IsLineFor : List Line → Option Subject → Option Line → Type 0
+IsLineFor lines None line = IsNone line
+IsLineFor lines (Some s) line = IsChosen lines (op_name s.op) s.typ s.desc s.callout line
+
+-- printable ASCII, and neither `"` nor a backslash
+abbrev pub is_plain : ℕ → Bool
+is_plain b = nat_le 32 b && nat_lt b 127 && not (b == 34) && not (b == 92)
+
+-- the last octal digit
+abbrev pub octal : ℕ → ℕ
+octal n = 48 + n % 8
+
+-- a byte: itself, or `\0` and its three octal digits, which the %b of printf(1) reads
+abbrev pub byte_text : ℕ → List ℕ
+byte_text b = if is_plain b then b ∷ [] else 92 ∷ 48 ∷ octal (b / 64) ∷ octal (b / 8) ∷ octal b ∷ []
+
+-- the first 128 bytes of a name or a path, and `..` where there are more
+abbrev pub shown_text : List ℕ → List ℕ
+shown_text bytes = if nat_lt 128 (length bytes) then flat_map byte_text (take 128 bytes) ++ codes ".." else flat_map byte_text bytes
+
+-- the line that was chosen, and its program
+abbrev pub line_text : Option Line → List ℕ
+line_text None = []
+line_text (Some line) = codes "; line " ++ decimal line.number ++ codes ", " ++ shown_text line.prog
+
+-- the operation, and the type of the key
+abbrev pub operation_text : Subject → List ℕ
+operation_text s = codes " (" ++ shown_text (op_name s.op) ++ codes " " ++ shown_text s.typ
+
+-- the description of the key, and the requester
+abbrev pub key_text : Subject → List ℕ
+key_text s = codes " \"" ++ shown_text s.desc ++ codes "\", uid " ++ decimal s.uid
+
+-- what the handler was started for, and by which line
+abbrev pub for_text : Subject → Option Line → List ℕ
+for_text s line = operation_text s ++ key_text s ++ line_text line ++ codes ")"
+
+-- the same, where that is still known
+abbrev pub subject_text : Option Subject → Option Line → List ℕ
+subject_text None line = []
+subject_text (Some s) line = for_text s line
+
+-- why the words of a command can't be made
+abbrev pub words_text : ExpandFault → List ℕ
+words_text fault.NoKey = codes "X1: an argument %{..} is the payload of a key that the requester doesn't find"
+words_text fault.NotText = codes "X2: a payload is no text"
+words_text fault.TooLong = codes "X3: the words are more than 65536 bytes"
+words_text fault.NoMemory = codes "X4: no memory"
+
+-- the name and meaning of an error number, of those that a start may have: errno(3)
+abbrev pub errno_text : ℕ → Option (List ℕ)
+errno_text n = if n == 1 then Some (codes "EPERM, operation not permitted")
+    else (if n == 2 then Some (codes "ENOENT, no such file or directory")
+    else (if n == 5 then Some (codes "EIO, input/output error")
+    else (if n == 7 then Some (codes "E2BIG, argument list too long")
+    else (if n == 8 then Some (codes "ENOEXEC, exec format error")
+    else (if n == 11 then Some (codes "EAGAIN, no process can be made now")
+    else (if n == 12 then Some (codes "ENOMEM, out of memory")
+    else (if n == 13 then Some (codes "EACCES, permission denied")
+    else (if n == 20 then Some (codes "ENOTDIR, not a directory")
+    else (if n == 21 then Some (codes "EISDIR, is a directory")
+    else (if n == 23 then Some (codes "ENFILE, too many open files in system")
+    else (if n == 24 then Some (codes "EMFILE, too many open files")
+    else (if n == 26 then Some (codes "ETXTBSY, text file busy")
+    else (if n == 36 then Some (codes "ENAMETOOLONG, file name too long")
+    else (if n == 40 then Some (codes "ELOOP, too many levels of symbolic links") else None))))))))))))))
+
+-- that a start failed with this error number, and its name and meaning, if those are known
+abbrev pub named_text : ℕ → Option (List ℕ) → List ℕ
+named_text n None = codes "start failed: error " ++ decimal n
+named_text n (Some text) = codes "start failed: " ++ text
+
+-- that a start failed, with its error number, if there is one
+abbrev pub error_text : Option ℕ → List ℕ
+error_text None = codes "start failed"
+error_text (Some n) = named_text n (errno_text n)
+
+-- how it has ended
+abbrev pub how_text : Driven → Option ℕ → List ℕ
+how_text (driven.Ended (how.Exit status)) error = codes "exit status " ++ decimal status
+how_text (driven.Ended how.Signal) error = codes "killed by a signal"
+how_text (driven.Ended how.Fault) error = codes "it could not be read or waited for"
+how_text (driven.NoPayload output.Empty) error = codes "exit status 0, and no payload (0 bytes)"
+how_text (driven.NoPayload output.TooLong) error = codes "exit status 0, and no payload (more than 32767 bytes)"
+how_text driven.NotStarted error = codes "no line fits"
+how_text (driven.NotMade fault) error = words_text fault
+how_text driven.NoMemory error = codes "no memory for its start"
+how_text driven.StartFailed error = error_text error
+how_text driven.ReadFailed error = codes "its output could not be read"
+how_text driven.WaitFailed error = codes "the system does not say how it ended"
+
+-- the whole line
+abbrev pub end_text : End → List ℕ
+end_text e = codes "handler of key " ++ decimal e.key ++ subject_text (option_map (λ s. s.now) e.subject) (option_map (λ l. l.now) e.line)
+    ++ codes ": " ++ how_text e.driven e.error
+
+-- how important it is: a handler that has exited with 0 may have made its key
+abbrev pub level_of : Driven → Level
+level_of (driven.Ended (how.Exit status)) = if status == 0 then level.Debug else level.Warn
+level_of driven.NotStarted = level.Info
+level_of _ = level.Warn

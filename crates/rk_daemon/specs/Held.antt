@@ -1,0 +1,31 @@
+-- How much halls' records hold.
+use Rattle.std.specs.Prelude.{ℕ, ◌+◌, ◌-◌, ◌^◌, List, length, min, Option, Some, None}
+use Rattle.rk_message.specs.Ask.{Ask}
+use Rattle.rk_message.specs.declared.ask.AskOf.TheVariants as ask
+use Rattle.rk_message.specs.declared.reply.Reply.TheVariants as reply
+use Rattle.rk_machine.specs.declared.event.Answer.{Answer}
+use Rattle.rk_machine.specs.declared.event.Answer.TheVariants as answer
+use Rattle.rk_record.specs.declared.told.Told.{Told}
+use Rattle.rk_record.specs.declared.told.Told.TheVariants as told
+
+-- the bytes that an ask has outside of its value: of its description, its callout and its payload
+abbrev pub bytes_of : Ask → ℕ
+bytes_of (ask.Request typ description (Some callout) destination) = length description + length callout
+bytes_of (ask.Request typ description None destination) = length description
+bytes_of (ask.Instantiate key payload ring) = length payload
+bytes_of (ask.Add typ description payload ring) = length description + length payload
+bytes_of _ = 0
+
+-- those of what was handed in
+abbrev pub told_bytes : Told → ℕ
+told_bytes (told.Asked session ask) = bytes_of ask
+told_bytes _ = 0
+
+-- those of what was answered
+abbrev pub answer_bytes : Answer → ℕ
+answer_bytes (answer.Done (reply.Bytes bytes)) = length bytes
+answer_bytes _ = 0
+
+-- both, as a number of 64 bits
+abbrev pub taken_by : Told → Answer → ℕ
+taken_by told answer = min (told_bytes told + answer_bytes answer) (2 ^ 64 - 1)

@@ -1,0 +1,258 @@
+//! How a handler has ended, as a line of the log.
+ghost use Rattle.std.specs.Prelude.{◌≡◌, ◌++◌, ◌<◌, None, Some, MatchOption, OnOk, option_copied, option_map, string_bytes};
+ghost use Rattle.std.specs.List.{flat_map};
+ghost use Rattle.std.specs.Option.{option_and_then};
+ghost use Rattle.rk_daemon.specs.Ending.{byte_text, errno_text, error_text, for_text, how_text, is_plain, key_text, line_text, named_text, natural, octal, operation_text, shown_text, words_text, IsLineFor};
+
+use log::Level;
+use rk_conf::{Conf, Line};
+use rk_devices::{Driven, OutputFault};
+use rk_machine::How;
+use rk_macro::{ExpandFault, Subject};
+use rk_names::Serial;
+use std::alloc::{AllocError, Global};
+
+/// The most bytes of a name or a path that are shown.
+const MOST: usize = 128;
+
+/// A handler that has ended, or was not started.
+#[derive(Clone, Copy)]
+pub struct End<'s, 'c> {
+    /// Its key.
+    pub key: Serial,
+    /// What it was started for, where that is still known.
+    pub subject: Option<&'s Subject>,
+    /// The line of the configuration that was chosen, if one fits.
+    pub line: Option<&'c Line>,
+    /// How it has ended.
+    pub driven: Driven,
+    /// The system's error number of a start that failed, where it is known.
+    pub error: Option<u32>,
+}
+
+impl<'s, 'c> End<'s, 'c> {
+    ghost use Rattle.std.specs.Prelude.{◌≡◌, IfOk, string_bytes};
+    ghost use Rattle.rk_daemon.specs.Ending.{end_text, level_of};
+
+    /// The line, as `handler of key 12 (create user "debug:x", uid 1000; line 3, /bin/false): exit status 3`. It has neither the callout nor a payload. A
+    /// byte of a name or a path that is no printable ASCII, a `"` and a `\` are `\0` and three octal digits, and what is past 128 bytes is `..`.
+    pub fn text(&self, alloc: Global) -> Result<String, AllocError>
+        ensures { IfOk result (λ t. string_bytes t ≡ end_text self.now) }
+    {
+        let mut text = String::new(alloc);
+        let key = self.key.get();
+        write!(text, "handler of key {key}")?;
+        if let Some(subject) = self.subject {
+            put_subject(&mut text, subject, self.line)?;
+        }
+        text.push_str(": ")?;
+        put_how(&mut text, self.driven, self.error)?;
+        Ok(text)
+    }
+
+    /// How important it is. A handler that has exited with 0 may have made its key.
+    pub fn level(&self) -> Level
+        ensures { result ≡ level_of self.now.driven }
+    {
+        match self.driven {
+            Driven::Ended(How::Exit(0)) => Level::Debug,
+            Driven::NotStarted => Level::Info,
+            _ => Level::Warn,
+        }
+    }
+}
+
+/// The line that was chosen for what a handler was started for, where that is known. It is picked anew: the configuration never changes.
+pub fn line_for<'a>(conf: &'a Conf, subject: Option<&Subject>) -> Option<&'a Line>
+    ensures { IsLineFor conf.now (option_copied subject.entry) (option_copied result) }
+{
+    match subject {
+        Some(subject) => {
+            let (typ, desc, callout) = (&subject.typ, &subject.desc, &subject.callout);
+            conf.pick(subject.op.as_bytes(), typ, desc, callout)
+        }
+        None => None,
+    }
+}
+
+/// The system's error number; none is below 0.
+pub fn error_number(error: Option<i32>) -> Option<u32>
+    ensures { result ≡ option_and_then natural error }
+{
+    match error {
+        Some(number) => u32::try_from(number).ok(),
+        None => None,
+    }
+}
+
+/// What the handler was started for, and by which line.
+fn put_subject(text: &mut String, subject: &Subject, line: Option<&Line>) -> Result<(), AllocError>
+    ensures { OnOk result (string_bytes text.new ≡ string_bytes text.old ++ for_text subject.now (option_map (λ l. l.now) line.entry)) }
+{
+    put_operation(text, subject)?;
+    put_key(text, subject)?;
+    put_line(text, line)?;
+    text.push_str(")")
+}
+
+/// The operation, and the type of the key.
+fn put_operation(text: &mut String, subject: &Subject) -> Result<(), AllocError>
+    ensures { OnOk result (string_bytes text.new ≡ string_bytes text.old ++ operation_text subject.now) }
+{
+    text.push_str(" (")?;
+    put_shown(text, subject.op.as_bytes())?;
+    text.push_str(" ")?;
+    put_shown(text, subject.typ.as_bytes())
+}
+
+/// The description of the key, and the requester.
+fn put_key(text: &mut String, subject: &Subject) -> Result<(), AllocError>
+    ensures { OnOk result (string_bytes text.new ≡ string_bytes text.old ++ key_text subject.now) }
+{
+    let uid = subject.uid;
+    text.push_str(" \"")?;
+    put_shown(text, subject.desc.as_bytes())?;
+    write!(text, "\", uid {uid}")
+}
+
+/// The line that was chosen, and its program.
+fn put_line(text: &mut String, line: Option<&Line>) -> Result<(), AllocError>
+    ensures { OnOk result (string_bytes text.new ≡ string_bytes text.old ++ line_text (option_map (λ l. l.now) line.entry)) }
+{
+    let Some(line) = line else {
+        return Ok(());
+    };
+    let number = line.number;
+    write!(text, "; line {number}, ")?;
+    put_shown(text, line.prog.as_bytes())
+}
+
+/// How it has ended.
+fn put_how(text: &mut String, driven: Driven, error: Option<u32>) -> Result<(), AllocError>
+    ensures { OnOk result (string_bytes text.new ≡ string_bytes text.old ++ how_text driven error) }
+{
+    match driven {
+        Driven::Ended(How::Exit(status)) => write!(text, "exit status {status}"),
+        Driven::Ended(How::Signal) => text.push_str("killed by a signal"),
+        Driven::Ended(How::Fault) => text.push_str("it could not be read or waited for"),
+        Driven::NoPayload(OutputFault::Empty) => {
+            text.push_str("exit status 0, and no payload (0 bytes)")
+        }
+        Driven::NoPayload(OutputFault::TooLong) => {
+            text.push_str("exit status 0, and no payload (more than 32767 bytes)")
+        }
+        Driven::NotStarted => text.push_str("no line fits"),
+        Driven::NotMade(fault) => text.push_str(words_text(fault)),
+        Driven::NoMemory => text.push_str("no memory for its start"),
+        Driven::StartFailed => put_error(text, error),
+        Driven::ReadFailed => text.push_str("its output could not be read"),
+        Driven::WaitFailed => text.push_str("the system does not say how it ended"),
+    }
+}
+
+/// Why a start failed.
+fn put_error(text: &mut String, error: Option<u32>) -> Result<(), AllocError>
+    ensures { OnOk result (string_bytes text.new ≡ string_bytes text.old ++ error_text error) }
+{
+    match error {
+        Some(number) => put_named(text, number),
+        None => text.push_str("start failed"),
+    }
+}
+
+/// That a start failed with this error number, by its name and meaning if those are known.
+fn put_named(text: &mut String, number: u32) -> Result<(), AllocError>
+    ensures { OnOk result (string_bytes text.new ≡ string_bytes text.old ++ named_text number (errno_text number)) }
+{
+    match errno_text(number) {
+        Some(named) => write!(text, "start failed: {named}"),
+        None => write!(text, "start failed: error {number}"),
+    }
+}
+
+/// Why the words of a command can't be made.
+fn words_text(fault: ExpandFault) -> &'static str
+    ensures { result.now ≡ words_text fault }
+{
+    match fault {
+        ExpandFault::NoKey =>
+            "X1: an argument %{..} is the payload of a key that the requester doesn't find",
+        ExpandFault::NotText => "X2: a payload is no text",
+        ExpandFault::TooLong => "X3: the words are more than 65536 bytes",
+        ExpandFault::NoMemory => "X4: no memory",
+    }
+}
+
+/// The name and meaning of an error number, of those that a start may have (errno(3)).
+fn errno_text(number: u32) -> Option<&'static str>
+    ensures { MatchOption result (errno_text number ≡ None) (λ named. errno_text number ≡ Some named.now) }
+{
+    match number {
+        1 => Some("EPERM, operation not permitted"),
+        2 => Some("ENOENT, no such file or directory"),
+        5 => Some("EIO, input/output error"),
+        7 => Some("E2BIG, argument list too long"),
+        8 => Some("ENOEXEC, exec format error"),
+        11 => Some("EAGAIN, no process can be made now"),
+        12 => Some("ENOMEM, out of memory"),
+        13 => Some("EACCES, permission denied"),
+        20 => Some("ENOTDIR, not a directory"),
+        21 => Some("EISDIR, is a directory"),
+        23 => Some("ENFILE, too many open files in system"),
+        24 => Some("EMFILE, too many open files"),
+        26 => Some("ETXTBSY, text file busy"),
+        36 => Some("ENAMETOOLONG, file name too long"),
+        40 => Some("ELOOP, too many levels of symbolic links"),
+        _ => None,
+    }
+}
+
+/// The first 128 bytes of a name or a path, and `..` where there are more.
+fn put_shown(text: &mut String, bytes: &[u8]) -> Result<(), AllocError>
+    ensures { OnOk result (string_bytes text.new ≡ string_bytes text.old ++ shown_text bytes.now) }
+{
+    if bytes.len() > MOST {
+        let front = &bytes[..MOST];
+        put_bytes(text, front)?;
+        return text.push_str("..");
+    }
+    put_bytes(text, bytes)
+}
+
+/// Bytes.
+fn put_bytes(text: &mut String, bytes: &[u8]) -> Result<(), AllocError>
+    ensures { OnOk result (string_bytes text.new ≡ string_bytes text.old ++ flat_map byte_text bytes.now) }
+{
+    for byte in bytes {
+        put_byte(text, *byte)?;
+    }
+    Ok(())
+}
+
+/// A byte.
+fn put_byte(text: &mut String, byte: u8) -> Result<(), AllocError>
+    ensures { OnOk result (string_bytes text.new ≡ string_bytes text.old ++ byte_text byte) }
+{
+    if is_plain(byte) {
+        return text.push(char::from(byte));
+    }
+    text.push_str("\\0")?;
+    text.push(octal(byte / 64))?;
+    text.push(octal(byte / 8))?;
+    text.push(octal(byte))
+}
+
+/// Whether the byte is printable ASCII, and neither `"` nor `\`.
+fn is_plain(byte: u8) -> bool
+    ensures { result ≡ is_plain byte }
+{
+    byte >= 32 && byte < 127 && byte != b'"' && byte != b'\\'
+}
+
+/// The last octal digit.
+fn octal(number: u8) -> char
+    ensures value { result ≡ octal number }
+    ensures small { result < 128 }
+{
+    char::from(b'0' + number % 8)
+}

@@ -1,0 +1,34 @@
+//! What connections find.
+
+use crate::connections::Connections;
+use log::{Log, warn};
+
+/// What connections find: so many workers, who may all be busy.
+#[derive(Drop)]
+pub struct Entrance<'a> {
+    connections: &'a Connections,
+    workers: u32,
+    are_busy: bool,
+}
+
+impl<'a> Entrance<'a> {
+    /// So many workers, of which none is busy, for these connections.
+    pub fn new(connections: &'a Connections, workers: u32) -> Entrance<'a> {
+        Entrance {
+            connections,
+            workers,
+            are_busy: false,
+        }
+    }
+
+    /// Counts one more connection, and warns where it is the first of several that find all workers busy. None of these workers may come free by itself: who
+    /// has it may wait for what a program of its own asks over this connection. Only here a worker gets more to do, so that one who has come free meanwhile
+    /// is found so by the next connection.
+    pub fn come<R: Log>(&mut self, log: &R) {
+        let (workers, were_busy) = (self.workers, self.are_busy);
+        self.are_busy = self.connections.come() >= workers;
+        if self.are_busy && !were_busy {
+            warn!(log; "all {workers} workers are busy, connections wait");
+        }
+    }
+}

@@ -1,0 +1,105 @@
+//! The handlers that run.
+ghost use Rattle.std.specs.Prelude.{◌≡◌, ◌<◌, IfSome, length, position};
+ghost use Rattle.rk_daemon.specs.Handlers.{is_slow, IsTaken};
+
+use rk_names::Serial;
+use std::alloc::Global;
+use std::sync::{Mutex, Wait};
+
+/// A handler that runs.
+#[derive(Clone, Copy, Debug, PartialEq, Eq)]
+pub struct Started {
+    /// Its key.
+    pub key: Serial,
+    /// When it was started, in seconds of the monotonic clock.
+    pub since: u64,
+    /// Whether an operator was told that it runs for long.
+    pub is_told: bool,
+}
+
+impl Started {
+    ghost use Rattle.std.specs.Prelude.{◌≡◌, ◌-◌};
+    ghost use Rattle.rk_daemon.specs.Handlers.{is_slow};
+
+    /// For how many seconds it has run.
+    pub fn passed(&self, now: u64) -> u64
+        ensures { result ≡ now - self.now.since }
+    {
+        now.saturating_sub(self.since)
+    }
+
+    /// Whether it has run for so many seconds, and that was not told.
+    fn is_slow(&self, now: u64, seconds: u64) -> bool
+        ensures { result ≡ is_slow now seconds self.now }
+    {
+        !self.is_told && self.passed(now) >= seconds
+    }
+}
+
+/// The place of the first of these that is slow.
+fn first_slow(running: &[Started], now: u64, seconds: u64) -> Option<usize>
+    ensures first { result ≡ position (is_slow now seconds) running.now }
+    ensures within { IfSome result (λ at. at < length running.now) }
+{
+    running
+        .iter()
+        .position(|started| started.is_slow(now, seconds))
+}
+
+/// The first of these that has run for so many seconds, and for which that was not told; now it is.
+fn take_slow(running: &mut [Started], now: u64, seconds: u64) -> Option<Started>
+    ensures { IsTaken (position (is_slow now seconds) running.old) running.old result running.new }
+{
+    match first_slow(running, now, seconds) {
+        Some(at) => {
+            let started = running[at];
+            running[at] = Started {
+                is_told: true,
+                ..started
+            };
+            Some(started)
+        }
+        None => None,
+    }
+}
+
+/// The handlers that run, in the order in which they were started.
+#[derive(Drop)]
+pub struct Handlers {
+    running: Mutex<Vec<Started>>,
+}
+
+impl Handlers {
+    /// None runs.
+    pub fn new(alloc: Global) -> Handlers {
+        Handlers {
+            running: Mutex::new(Vec::new(alloc)),
+        }
+    }
+
+    /// The handler of this key was started now. Out of memory, it is not looked after.
+    pub fn start<R: Wait>(&self, rt: &R, key: Serial, now: u64) {
+        let started = Started {
+            key,
+            since: now,
+            is_told: false,
+        };
+        let _ = self.running.lock(rt).push(started);
+    }
+
+    /// The handler of this key has ended, or was not started.
+    pub fn end<R: Wait>(&self, rt: &R, key: Serial) {
+        self.running.lock(rt).retain(|started| started.key != key);
+    }
+
+    /// The first one that has run for so many seconds, and for which this was not asked before.
+    pub fn slow<R: Wait>(&self, rt: &R, now: u64, seconds: u64) -> Option<Started> {
+        take_slow(&mut self.running.lock(rt), now, seconds)
+    }
+
+    /// How many run, and the one that was started first.
+    pub fn oldest<R: Wait>(&self, rt: &R) -> (usize, Option<Started>) {
+        let running = self.running.lock(rt);
+        (running.len(), running.first().copied())
+    }
+}

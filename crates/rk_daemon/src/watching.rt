@@ -1,0 +1,86 @@
+//! What the daemon looks after by the clock.
+ghost use Rattle.std.specs.Prelude.{◌≡◌, ◌-◌};
+
+use crate::figures::{Figures, Running};
+use crate::handlers::Started;
+use crate::record::Keeper;
+use crate::reporter::Reporter;
+use crate::settings::LogSettings;
+use crate::workers::Shared;
+use crossbeam_channel::Receiver;
+use log::warn;
+use rk_hall::Names;
+use std::io::Eprint;
+use std::sync::Wait;
+use std::time::{Clock, Duration};
+
+/// Each second, until the other end of the channel is dropped: tells how many lines of the log were left out, and which handlers have run for long, and, as
+/// often as it is set, the daemon's figures.
+pub fn watch<N: Names, R: Wait + Clock + Eprint + Keeper>(
+    rt: &R,
+    shared: &Shared<N>,
+    end: &Receiver<()>,
+    settings: LogSettings,
+) {
+    let log = Reporter::new(rt, &shared.log);
+    let mut told = log.seconds();
+    for _ in rt.forever() {
+        match end.recv_timeout(rt, Duration::from_secs(1)) {
+            Err(error) if error.is_timeout() => {}
+            _ => return,
+        }
+        log.tell_left_out(log.minute());
+        let now = log.seconds();
+        if settings.slow > 0 {
+            tell_slow(rt, &log, shared, now, u64::from(settings.slow));
+        }
+        if settings.status > 0 && now.saturating_sub(told) >= u64::from(settings.status) {
+            tell_figures(rt, &log, shared, now);
+            told = now;
+        }
+    }
+}
+
+/// Warns of each handler that has run for so many seconds, once.
+fn tell_slow<N: Names, R: Wait + Clock + Eprint>(
+    rt: &R,
+    log: &Reporter<'_, R>,
+    shared: &Shared<N>,
+    now: u64,
+    seconds: u64,
+) {
+    for _ in rt.forever() {
+        let Some(started) = shared.handlers.slow(rt, now, seconds) else {
+            return;
+        };
+        warn!(log; "{}", running(started, now));
+    }
+}
+
+/// Tells how much there is at this moment.
+fn tell_figures<N: Names, R: Wait + Clock + Eprint>(
+    rt: &R,
+    log: &Reporter<'_, R>,
+    shared: &Shared<N>,
+    now: u64,
+) {
+    let (handlers, oldest) = shared.handlers.oldest(rt);
+    log.tell(&Figures {
+        connections: shared.connections.open(),
+        served: shared.connections.served(),
+        handlers,
+        oldest: oldest.map(|started| running(started, now)),
+        volumes: shared.held.volumes(),
+    });
+}
+
+/// A handler that was started, now.
+fn running(started: Started, now: u64) -> Running
+    ensures key { result.key ≡ started.key }
+    ensures seconds { result.seconds ≡ now - started.since }
+{
+    Running {
+        key: started.key.get(),
+        seconds: started.passed(now),
+    }
+}

@@ -1,0 +1,136 @@
+"""The log: its levels and its two styles, how many lines of a kind there are, handlers that run for long, figures; clients that are silent, and a clean end."""
+import subprocess
+
+import protocol_peer as ask
+from daemon import Daemon, text_of, until
+from programs import differs
+
+HELD = "create user h:* * %puppet %k\n"
+
+
+def malformed(daemon, count):
+    """So many clients that speak another protocol, one after the other."""
+    for _ in range(count):
+        with daemon.client(None) as client:
+            client.put(b"\0\1\0\1")
+            client.rest()
+
+
+def bounded(program, count):
+    """Of many lines of one kind ten are written in a minute, and at the end how many more there were. A minute may begin meanwhile."""
+    with Daemon(program, "", "--clients", str(count)) as daemon:
+        malformed(daemon, count)
+        status, lines = daemon.end()
+        lines = list(map(text_of, lines))
+        told = [line for line in lines if line.endswith(": Malformed")]
+        more = sum(int(line.split(" ")[3]) for line in lines if line.startswith("warn: sessions: and ") and line.endswith(" more"))
+        fit = len(told) == count if count <= 10 else 10 <= len(told) < count
+        return differs((status, fit, len(told) + more, told[:1]), (0, True, count, ["warn: session 1: Malformed"])) and f"{status} {lines}"
+
+
+def levels(program, level, wanted):
+    """Which lines are written: a warning of a client that speaks another protocol, and how a client ended that was silent."""
+    with Daemon(program, "", "--log", level, "--clients", "2", "--idle", "1") as daemon:
+        malformed(daemon, 1)
+        rest = daemon.client(None).rest()
+        status, lines = daemon.end()
+        return differs((status, rest, list(map(text_of, lines))), (0, [], wanted))
+
+
+def journal(program, is_journal):
+    """Where standard error is the stream that JOURNAL_STREAM names, lines begin with their priority; else with the time."""
+    with Daemon(program) as other:
+        stream = "$(stat -L -c %d:%i /proc/self/fd/2)" if is_journal else "1:2"
+        daemon = Daemon(program, "", "--clients", "1")
+        daemon.program = other.script("starts", f'#!/bin/sh\nJOURNAL_STREAM={stream} exec {program} "$@"\n')
+        with daemon:
+            malformed(daemon, 1)
+            status, lines = daemon.end()
+    wanted = "<4>session 1: Malformed" if is_journal else "warn: session 1: Malformed"
+    return differs((status, [line if is_journal else text_of(line) for line in lines]), (0, [wanted])) or differs(lines[0] == wanted, is_journal)
+
+
+def slow(program):
+    """A handler that runs for long is a warning, once; it goes on, and makes its key."""
+    with Daemon(program, HELD, "--slow", "1", "--clients", "1") as daemon:
+        client = daemon.client()
+        client.send(ask.request(b"user", b"h:1", b"x", -4))
+        handler = daemon.handler()
+        until(lambda: len(daemon.lines) > 1, "a warning")
+        done = handler.ask(ask.on_key(3, handler.key)), handler.ask(ask.instantiate(handler.key, b"v", 0))
+        handler.ends()
+        reply = client.reply()
+        client.socket.close()
+        status, lines = daemon.end()
+        fit = len(lines) == 1 and text_of(lines[0]).startswith("warn: handler of key 12 has run for ") and lines[0].endswith(" seconds")
+        return differs((done, reply, status, fit), ((0, 0), 12, 0, True)) and f"{done} {reply} {status} {lines}"
+
+
+def figures(program):
+    """A line of figures, again and again, whatever the level of the log."""
+    with Daemon(program, HELD, "--status", "1", "--log", "error", "--sessions", "2") as daemon:
+        client, other = daemon.client(), daemon.client()
+        client.send(ask.request(b"user", b"h:1", b"x", -4))
+        handler = daemon.handler()
+        text = "info: status: connections 2, workers busy 2, handlers 1, the oldest of key 16 for "
+        until(lambda: sum(text_of(line).startswith(text) for line in daemon.lines) > 1, "two lines of figures")
+        handler.ends()
+        reply = client.reply()
+        other.socket.close()
+        until(lambda: any("status: connections 1, workers busy 1, handlers 0, volumes 0" in line for line in daemon.lines), "another line")
+        return differs(reply, "E126") or daemon.lives()
+
+
+def idle(program):
+    """A client that is silent before or within a message is closed, and one whose request waits is not."""
+    with Daemon(program, HELD, "--idle", "1") as daemon:
+        waiting = daemon.client()
+        waiting.send(ask.request(b"user", b"h:1", b"x", -4))
+        handler = daemon.handler()
+        ends = []
+        for sent in [b"", ask.frame(ask.hello(1000, 1000))[:7], ask.frame(ask.hello(1000, 1000))]:
+            client = daemon.client(None)
+            client.put(sent)
+            ends.append(len(client.rest()))
+        done = handler.ask(ask.on_key(3, handler.key)), handler.ask(ask.instantiate(handler.key, b"v", 0))
+        handler.ends()
+        return differs((ends, done, waiting.reply(), waiting.rest()), ([0, 0, 1], (0, 0), 12, [])) or daemon.lives()
+
+
+def until_eof(program, what):
+    """The end of standard input is a clean end: who is there is served to its end, the socket goes, and the record is whole."""
+    with Daemon(program) as other:
+        folder = other.room / "record"
+        folder.mkdir()
+        with Daemon(program, "", "--until-eof", "--record", str(folder), input=subprocess.PIPE) as daemon:
+            client = daemon.client() if what == "a client" else None
+            if what == "bytes":
+                daemon.process.stdin.write(b"x" * 10_000)
+            daemon.process.stdin.close()
+            rings = None
+            if client:
+                until(lambda: not daemon.accepts(), "the end of its listener")
+                rings = client.ask(ask.default(-1))
+                client.socket.close()
+            got = daemon.end()
+            stands = daemon.path.exists()
+        kept = sorted(path.name for path in folder.iterdir())
+        joined = subprocess.run([program, "rejoin", *sorted(folder.iterdir())], capture_output=True, text=True)
+        wanted = [f"hall-{hall}-volume-000001" for hall in range(4)]
+        return differs((got, stands, kept, rings, joined.returncode), ((0, []), False, wanted, 0 if client else None, 0))
+
+
+def cases():
+    for count in [3, 10, 40]:
+        yield f"{count} lines of a kind", bounded, count
+    idle_line = "info: session 2: idle"
+    for level, wanted in [("error", []), ("warn", ["warn: session 1: Malformed"]), ("info", ["warn: session 1: Malformed", idle_line]),
+                          ("debug", ["warn: session 1: Malformed", idle_line])]:
+        yield f"the level {level}", levels, level, wanted
+    for is_journal in [True, False]:
+        yield f"standard error is {'' if is_journal else 'not '}the journal", journal, is_journal
+    yield "a slow handler", slow
+    yield "figures", figures
+    yield "silent clients", idle
+    for what in ["nothing", "bytes", "a client"]:
+        yield f"the end of standard input after {what}", until_eof, what
