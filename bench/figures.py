@@ -93,7 +93,8 @@ def serve(found):
 
 
 def connections(row):
-    return "1 connection" if row[0] == "1" else f"{row[0]} connections"
+    count, *more = row[0].split(", ")
+    return ", ".join(["1 connection" if count == "1" else f"{count} connections", *more])
 
 
 BENCHES = {of.__name__: of for of in [replay, steps, memory, profile, hall, spawn, serve]}

@@ -353,6 +353,7 @@ def spawn(options):
 
 CONF = "create user made:* * |/bin/cat\n"
 CONNECTIONS = ["1", "8", "64"]
+TOGETHER = "1, 50 in one write"
 # for so many nanoseconds the peer works for each ask, to see what an ask may take
 WORK = ["500", "1000", "2000", "3000"]
 
@@ -452,11 +453,12 @@ def resident_after(server, asks):
 
 def drive(found, options):
     table("connections", "program", "asks/s", "to C's", "latency")
-    for count in CONNECTIONS:
-        loads_of = {who: [peer("load"), server.path, count, str(options.asks)] for who, server in found.items()}
+    asks = str(options.asks)
+    for label, words in [*[(count, [count, asks]) for count in CONNECTIONS], (TOGETHER, ["1", asks, "together"])]:
+        loads_of = {who: [peer("load"), server.path, *words] for who, server in found.items()}
         for best in rates(loads_of, options.runs).values():
             for who, (rate, latency) in best.items():
-                row([count, who, f"{rate:,}", f"{rate / best[C][0]:.2f}", latency.strip(", ")])
+                row([label, who, f"{rate:,}", f"{rate / best[C][0]:.2f}", latency.strip(", ")])
 
 
 def drive_made(server, runs):

@@ -39,12 +39,13 @@ RUNS = [
 
 
 def load_is_answered(folder):
-    """Eight connections to the server that echoes."""
+    """Eight connections to the server that echoes, with an ask at a time, and with fifty."""
     path = folder / "socket"
     server = subprocess.Popen([folder / "echo", path, "8"], stderr=subprocess.PIPE)
     server.stderr.readline()
     try:
-        return subprocess.run([folder / "load", path, "8", "80"], capture_output=True, timeout=LIMIT).returncode == 0
+        loads = [folder / "load", path, "8", "80"], [folder / "load", path, "8", "800", "together"]
+        return all(subprocess.run(words, capture_output=True, timeout=LIMIT).returncode == 0 for words in loads)
     finally:
         server.kill()
         server.communicate()

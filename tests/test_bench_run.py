@@ -98,7 +98,7 @@ BARS = {
     "profile": (["<A as B>::play & more: 40.50"], "<A as B>::play & more: 40.50"),
     "hall": (["/bin/cat, 1 at a time: 0.50", "/bin/cat, 8 at a time, Rattle: 500"], "/bin/cat, 1 at a time, C: 1,000"),
     "spawn": (["/bin/cat, 8 at a time: 0.50", "/bin/cat, 1 at a time, C: 1,000"], "/bin/cat, 8 at a time, C: 1,000"),
-    "serve": (["64 connections: 0.50", "8 connections: 1.00"], None),
+    "serve": (["64 connections: 0.50", "1 connection, 50 in one write: 0.50", "8 connections: 1.00"], None),
 }
 
 count.same("peers that are ended where one doesn't start", ended_peers(), ["0", run.WORK[0]])

@@ -10,7 +10,7 @@ import sys
 sys.path.insert(0, str(pathlib.Path(__file__).resolve().parent / "serve"))
 from programs import check_all
 
-SUBJECTS = ["start", "keys", "ends", "frames", "hostile", "alike", "memory", "devices", "log"]
+SUBJECTS = ["start", "keys", "ends", "frames", "together", "hostile", "alike", "memory", "devices", "log"]
 
 
 def tried(program, try_it, *more):

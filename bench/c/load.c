@@ -1,16 +1,16 @@
 /* Drives a server: so many connections ask for a key that is there, or have one made, each as fast as it is answered.
  *
- * usage: load SOCKET CONNECTIONS ASKS [made]
+ * usage: load SOCKET CONNECTIONS ASKS [made|together]
  *
  * Each connection says HELLO as the user 1000. The first one adds the key `load` to the user's ring. Then each asks REQUEST for it, without a callout
- * and without a ring, and reads its reply before the next one. Or it asks for keys `made:..` that are not there, with a callout of 1 KiB, and unlinks
- * each one, which is not timed. A tenth of the asks are to get warm, and then so many in all are measured. It tells the asks a second, and the 50th,
+ * and without a ring, and reads its reply before the next one; `together` it writes 50 of them in one call, and reads their replies before the next 50.
+ * Or it asks for keys `made:..` that are not there, with a callout of 1 KiB, and unlinks each one, which is not timed. A tenth of the asks are to get warm, and then so many in all are measured. It tells the asks a second, and the 50th,
  * 99th and 99.9th percentile of the time to a reply. The status is 1 where a reply was no Number. */
 #include "socket.h"
 
-enum { CONNECTIONS = 64, CALLOUT = 1024 };
+enum { CONNECTIONS = 64, CALLOUT = 1024, TOGETHER = 50, NUMBER_LEN = 9 };
 
-static const char usage[] = "usage: load SOCKET CONNECTIONS ASKS [made]\n";
+static const char usage[] = "usage: load SOCKET CONNECTIONS ASKS [made|together]\n";
 
 static const uint8_t add[] = {0, 0, 0, 20, OP_ADD, 0, 4, 'u', 's', 'e', 'r', 0, 4, 'l', 'o', 'a', 'd', 0, 1, 'v', 0xff, 0xff, 0xff, 0xfc};
 static const uint8_t hello[] = {0, 0, 0, 14, OP_HELLO, 0, 0, 3, 232, 0, 0, 3, 232, 0, 0, 0, 0, 0};
@@ -21,8 +21,8 @@ _Static_assert(sizeof add == 4 + 20 && sizeof hello == 4 + 14 && sizeof request 
 struct connection {
     int socket;
     unsigned no, warm, asks, made;
-    bool makes;
-    uint64_t *times; /* of each measured ask, in ns */
+    bool makes, together;
+    uint64_t *times; /* of each measured ask, or of each 50, in ns */
     uint64_t begun, ended;
     bool failed;
     pthread_barrier_t *all;
@@ -90,9 +90,39 @@ static bool unlink_made(struct connection *c, uint32_t key)
     return ask(c, frame, sizeof frame, NULL) == NUMBER_REPLY;
 }
 
-/* One ask, and the time that it took. */
+/* Reads so many replies, each of which is to be a number. */
+static bool read_numbers(int from, size_t count)
+{
+    uint8_t replies[TOGETHER * NUMBER_LEN];
+    for (size_t held = 0; held < count * NUMBER_LEN;) {
+        ssize_t got = read(from, replies + held, count * NUMBER_LEN - held);
+        if (got <= 0)
+            return false;
+        held += (size_t)got;
+    }
+    for (size_t i = 0; i < count; i++)
+        if (replies[i * NUMBER_LEN + 4] != NUMBER_REPLY)
+            return false;
+    return true;
+}
+
+/* Fifty asks in one write, and the time to the last reply. */
+static bool ask_together(struct connection *c, uint64_t *took)
+{
+    static _Thread_local uint8_t frames[TOGETHER * sizeof request];
+    for (size_t i = 0; i < TOGETHER; i++)
+        memcpy(frames + i * sizeof request, request, sizeof request);
+    uint64_t begun = nanos();
+    bool answered = write_out(c->socket, frames, sizeof frames) && read_numbers(c->socket, TOGETHER);
+    *took = nanos() - begun;
+    return answered;
+}
+
+/* One ask, or fifty together, and the time that it took. */
 static bool ask_once(struct connection *c, uint64_t *took)
 {
+    if (c->together)
+        return ask_together(c, took);
     if (c->makes) {
         uint32_t key = have_made(c, took);
         return key && unlink_made(c, key);
@@ -136,22 +166,23 @@ static double at(const uint64_t *times, size_t count, double part)
     return (double)times[(size_t)((double)(count - 1) * part)] / 1e3;
 }
 
-static void tell(struct connection *connections, unsigned count, uint64_t *times, size_t asks)
+static void tell(struct connection *connections, unsigned count, uint64_t *times, size_t rounds, size_t each)
 {
     uint64_t begun = connections[0].begun, ended = connections[0].ended;
     for (unsigned i = 1; i < count; i++) {
         begun = connections[i].begun < begun ? connections[i].begun : begun;
         ended = connections[i].ended > ended ? connections[i].ended : ended;
     }
-    qsort(times, asks, sizeof *times, by_size);
+    qsort(times, rounds, sizeof *times, by_size);
     printf("%u %s: %.0f asks/s, %.1f us at the 50th percentile, %.1f at the 99th, %.1f at the 99.9th\n", count, count == 1 ? "connection" : "connections",
-        (double)asks / (double)(ended - begun) * 1e9, at(times, asks, 0.5), at(times, asks, 0.99), at(times, asks, 0.999));
+        (double)(rounds * each) / (double)(ended - begun) * 1e9, at(times, rounds, 0.5), at(times, rounds, 0.99), at(times, rounds, 0.999));
 }
 
 int main(int count, char **words)
 {
-    bool makes = count == 5 && strcmp(words[4], "made") == 0;
-    unsigned wanted = number_in(count == 4 || makes ? words[2] : NULL, 1, usage), asks = number_in(words[3], wanted, usage) / wanted;
+    bool makes = count == 5 && strcmp(words[4], "made") == 0, together = count == 5 && strcmp(words[4], "together") == 0;
+    unsigned each = together ? TOGETHER : 1, wanted = number_in(count == 4 || makes || together ? words[2] : NULL, 1, usage);
+    unsigned asks = number_in(words[3], wanted * each, usage) / wanted / each;
     struct connection connections[CONNECTIONS];
     pthread_barrier_t all;
     if (wanted > CONNECTIONS) {
@@ -162,7 +193,7 @@ int main(int count, char **words)
     uint64_t *times = make_zeroed((size_t)wanted * asks, sizeof *times);
     for (unsigned i = 0; i < wanted; i++) {
         struct connection *c = &connections[i];
-        *c = (struct connection){.socket = connect_to(words[1]), .no = i, .warm = asks / 10, .asks = asks, .makes = makes, .all = &all};
+        *c = (struct connection){.socket = connect_to(words[1]), .no = i, .warm = asks / 10, .asks = asks, .makes = makes, .together = together, .all = &all};
         c->times = times + (size_t)i * asks;
         need(ask(c, hello, sizeof hello, NULL) >= 0, "HELLO");
         if (i == 0)
@@ -175,7 +206,7 @@ int main(int count, char **words)
             return 1;
         }
     }
-    tell(connections, wanted, times, (size_t)wanted * asks);
+    tell(connections, wanted, times, (size_t)wanted * asks, each);
     free(times);
     return 0;
 }

@@ -1,5 +1,5 @@
 -- What `check` doubts of a line.
-use Rattle.std.specs.Prelude.{◌≡◌, ℕ, codes, List, Option, Some, None, if◌then◌else◌}
+use Rattle.std.specs.Prelude.{◌≡◌, codes, List, Option, Some, None, if◌then◌else◌}
 use Rattle.std.specs.List.{All, list_any}
 use Rattle.rk_glob.specs.Wildcard.{Fits}
 use Rattle.rk_conf.specs.declared.line.Line.{Line}

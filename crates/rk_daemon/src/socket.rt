@@ -1,21 +1,29 @@
 //! The wire of a client over a socket.
-ghost use Rattle.std.specs.Prelude.{◌≡◌, None};
+ghost use Rattle.std.specs.Prelude.{◌≡◌, ◌≤◌, ◌+◌, ◌==◌, not, None, true, false, length, vec_len, vec_capacity};
 ghost use Rattle.rk_devices.specs.Counts.{Rose, raised};
+ghost use Rattle.rk_session.specs.Wires.{Sends, Writes};
 
 use crate::held::{Held, taken_by};
 use rk_devices::DeviceFault;
 use rk_hall::Receipt;
 use rk_session::Wire;
+use std::alloc::{AllocError, Global};
 use std::io;
 use std::io::{ErrorKind, Read, Write};
 use std::os::unix::net::UnixStream;
 use std::time::Duration;
 
-/// A client's socket. It counts its failures and reads, and what its asks put into the records, and knows whether its client was silent for too long.
+/// The most bytes of replies that are kept.
+const ROOM: usize = 4_096;
+
+/// A client's socket. It keeps replies, so that many are sent together. It counts its failures and reads, and what its asks put into the records, and knows
+/// whether its client was silent for too long.
 #[derive(Drop)]
 pub struct Socket<'a> {
     stream: UnixStream,
     held: &'a Held,
+    kept: Vec<u8>,
+    cut: bool,
     failed: u64,
     reads: u64,
     is_idle: bool,
@@ -30,17 +38,24 @@ fn one_more(count: u64) -> u64
 }
 
 impl<'a> Socket<'a> {
-    /// The socket of a connection that was accepted, which counts what the records hold here.
-    pub fn new(stream: UnixStream, held: &'a Held) -> Socket<'a>
-        ensures { ⟦<Socket<'a> as Wire>⟧.shown result ≡ record { count = 0; reads = 0; story = None } }
+    /// The socket of a connection that was accepted, which counts what the records hold here. It takes no memory.
+    pub fn new(alloc: Global, stream: UnixStream, held: &'a Held) -> Socket<'a>
+        ensures { ⟦<Socket<'a> as Wire>⟧.shown result ≡ record { count = 0; reads = 0; kept = false; cut = false; story = None } }
     {
         Socket {
             stream,
             held,
+            kept: Vec::new(alloc),
+            cut: false,
             failed: 0,
             reads: 0,
             is_idle: false,
         }
+    }
+
+    /// Makes the room for replies, so that none is wanted while the client is served. An `Err` is want of memory.
+    pub fn make_room(&mut self) -> Result<(), AllocError> {
+        self.kept.reserve(ROOM)
     }
 
     /// Has reads fail after so many seconds in which nothing comes; 0 is no limit.
@@ -61,15 +76,67 @@ impl<'a> Socket<'a> {
     fn fault(&mut self) -> DeviceFault
         ensures count { self.new.failed ≡ raised self.old.failed }
         ensures rose { Rose self.old.failed self.new.failed }
-        ensures reads { self.new.reads ≡ self.old.reads }
+        ensures same { (self.new.reads ≡ self.old.reads) × (self.new.cut ≡ self.old.cut) × (vec_len self.new.kept ≡ vec_len self.old.kept) }
     {
         self.failed = one_more(self.failed);
         DeviceFault
     }
+
+    /// A write or a sending failed: what is kept is lost, and nothing can be written from now on.
+    fn sever(&mut self) -> DeviceFault
+        ensures count { self.new.failed ≡ raised self.old.failed }
+        ensures rose { Rose self.old.failed self.new.failed }
+        ensures reads { self.new.reads ≡ self.old.reads }
+        ensures cut { (self.new.cut ≡ true) × (vec_len self.new.kept ≡ 0) }
+    {
+        self.cut = true;
+        self.kept.clear();
+        self.fault()
+    }
+
+    /// What a sending of all that is kept came to.
+    fn outcome(&mut self, sent: io::Result<()>) -> Result<(), DeviceFault>
+        requires whole { self.old.cut ≡ false }
+        requires empty { vec_len self.old.kept ≡ 0 }
+        ensures { Sends result (⟦<Socket<'a> as Wire>⟧.shown self.old) (⟦<Socket<'a> as Wire>⟧.shown self.new) }
+    {
+        match sent {
+            Ok(()) => Ok(()),
+            Err(_) => Err(self.sever()),
+        }
+    }
+
+    /// Keeps bytes for which there is room.
+    fn keep(&mut self, bytes: &[u8])
+        requires { vec_len self.old.kept + length bytes.now ≤ vec_capacity self.old.kept }
+        ensures { (self.new.cut ≡ self.old.cut) × (self.new.failed ≡ self.old.failed) × (self.new.reads ≡ self.old.reads) }
+    {
+        match self.kept.extend_from_slice(bytes) {
+            Ok(()) => {}
+            Err(AllocError) => unreachable!(),
+        }
+    }
+
+    /// Sends what is kept, so that there is room, and keeps these bytes; they are sent, too, where they are longer than all of it.
+    fn write_anew(&mut self, bytes: &[u8]) -> Result<(), DeviceFault>
+        requires { self.old.cut ≡ false }
+        ensures { Writes result bytes.now (⟦<Socket<'a> as Wire>⟧.shown self.old) (⟦<Socket<'a> as Wire>⟧.shown self.new) }
+    {
+        match self.send() {
+            Ok(()) => {}
+            Err(fault) => return Err(fault),
+        }
+        if bytes.len() > self.kept.capacity() {
+            let sent = self.stream.write_all(bytes);
+            return self.outcome(sent);
+        }
+        self.keep(bytes);
+        Ok(())
+    }
 }
 
 impl<'a> Wire for Socket<'a> {
-    ghost shown = { λ s. record { count = s.failed; reads = s.reads; story = None } };
+    ghost shown = { λ s. record { count = s.failed; reads = s.reads; kept = not (vec_len s.kept == 0); cut = s.cut; story = None } };
 
     fn read(&mut self, buf: &mut [u8]) -> Result<usize, DeviceFault> {
         self.reads = one_more(self.reads);
@@ -83,10 +150,23 @@ impl<'a> Wire for Socket<'a> {
     }
 
     fn write(&mut self, bytes: &[u8]) -> Result<(), DeviceFault> {
-        match self.stream.write_all(bytes) {
-            Ok(()) => Ok(()),
-            Err(_) => Err(self.fault()),
+        if self.cut {
+            return Err(self.sever());
         }
+        if bytes.len() > self.kept.capacity() - self.kept.len() {
+            return self.write_anew(bytes);
+        }
+        self.keep(bytes);
+        Ok(())
+    }
+
+    fn send(&mut self) -> Result<(), DeviceFault> {
+        if self.cut {
+            return Err(self.sever());
+        }
+        let sent = self.stream.write_all(&self.kept);
+        self.kept.clear();
+        self.outcome(sent)
     }
 
     fn note(&mut self, receipt: Receipt) {

@@ -89,7 +89,7 @@ fn serve_client<P: Platform, R: Wait + Eprint + Clock>(
     requires bound { (P.Launcher.shown crew.old.launcher).count ≤ most }
     ensures bound { (P.Launcher.shown crew.new.launcher).count ≤ most }
 {
-    let Ok(frames) = Frames::new(stage.alloc) else {
+    let (Ok(frames), Ok(())) = (Frames::new(stage.alloc), socket.make_room()) else {
         warn!(log; "session {number}: no memory");
         return;
     };
@@ -132,7 +132,7 @@ fn serve_clients<'a, N: Names, R: Wait + Processes + Clock + Eprint + Keeper>(
     let log = Reporter::new(rt, &shared.log);
     for client in clients.iter(rt) {
         let Client { number, stream } = client;
-        let mut socket = Socket::new(stream, &shared.held);
+        let mut socket = Socket::new(alloc, stream, &shared.held);
         shared.connections.begin();
         let _ = socket.set_patience(shared.idle);
         serve_client(&stage, &log, &mut crew, number, &mut socket);

@@ -1,3 +1,4 @@
 pub mod Seats
 pub mod Talks
 pub mod Sayings
+pub mod Sendings

@@ -2,9 +2,10 @@
 use Rattle.std.proofs.Common.{◌≡◌, ℕ, List, [], ◌∷◌, refl, sym, ap, ◌∙◌, subst, append_assoc}
 use Rattle.std.specs.Prelude.{Option, Some, None, Result, Ok, Err}
 use Rattle.rk_names.specs.declared.numbers.SessionId.{SessionId}
+use Rattle.rk_names.specs.declared.errors.Errno.{Errno}
 use Rattle.rk_names.specs.declared.errors.Errno.TheVariants.{Enomem}
 use Rattle.rk_devices.specs.declared.device.DeviceFault.{DeviceFault}
-use Rattle.rk_devices.specs.Counts.{Rose}
+use Rattle.rk_message.specs.declared.reply.Reply.TheVariants as reply
 use Rattle.rk_machine.specs.declared.event.Answer.{Answer}
 use Rattle.rk_machine.specs.declared.event.Answer.TheVariants as answer
 use Rattle.rk_record.specs.declared.hall_no.HallNo.{HallNo}
@@ -13,11 +14,12 @@ use Rattle.rk_hall.specs.Seats.{SeatShown}
 use Rattle.rk_talk.specs.Said.{IsSettled, IsToWait}
 use Rattle.rk_talk.specs.declared.saying.Saying.{Saying}
 use Rattle.rk_talk.specs.declared.saying.Saying.TheVariants as saying
-use Rattle.rk_talk.specs.Replies.{LacksFrame, ReplyFramed, TakesMemory, reply_of}
+use Rattle.rk_talk.specs.Replies.{LacksFrame, ReplyFramed, TakesMemory, reply_bytes, reply_of}
 use Rattle.rk_talk.proofs.Sayings.{answered_settled, refusal_settled}
 use Rattle.rk_session.specs.Wires.{Happened, HasNoted, Said, WireShown, and_then, Notes, Writes}
-use Rattle.rk_session.specs.Parts.{Speaks, ended, spoken}
+use Rattle.rk_session.specs.Parts.{Speaks, ended}
 use Rattle.rk_session.specs.Opening.{IsNotCalled, IsNotOpened, IsRefused, IsShutOut, Refuses}
+use Rattle.rk_session.specs.Talk.{told_in}
 use Rattle.rk_session.specs.Places.{AsksHere, Greets, NotRead, Says, ShutOut, Standing}
 
 refused_settled : (a : Answer) → IsRefused a → IsToWait a → ⊥
@@ -58,30 +60,37 @@ two_more (Some s) x y = ap Some (append_assoc s (x ∷ []) (y ∷ []))
 
 -- a receipt was noted, and then its reply written, or tried
 pub noted_speaks : (n : Noted) (result : Result Unit DeviceFault) (bytes : List ℕ) (old mid new : WireShown) → ReplyFramed n.answer bytes → Notes n old mid
-    → Writes result bytes mid new → Speaks (saying.Noted n) (ended result) old new
-noted_speaks n (Ok u) bytes old mid new (r, replied, spelt) noted wrote = (
+    → Writes result bytes mid new → Speaks (saying.Noted n) (ended result) old.story new
+noted_speaks n (Ok u) bytes old mid new (r, replied, spelt) noted (whole, wrote) = (
   Some n,
   r,
   (refl, replied),
-  wrote ∙ ap (λ (w : WireShown). record w { story = and_then w.story (Said bytes ∷ []) }) noted
-      ∙ ap (λ s. record old { story = s }) (two_more old.story (HasNoted n) (Said bytes)) ∙ ap (λ b. spoken old (Some n) b) spelt,
+  ap (λ (w : WireShown). w.story) wrote ∙ ap (λ (w : WireShown). and_then w.story (Said bytes ∷ [])) noted
+      ∙ two_more old.story (HasNoted n) (Said bytes) ∙ ap (λ b. and_then old.story (told_in (Some n) b)) spelt,
 )
-noted_speaks n (Err e) bytes old mid new (r, replied, spelt) noted (rose, first, others, cut, wrote) = (
+noted_speaks n (Err e) bytes old mid new (r, replied, spelt) noted (rose, first, others, parts, wrote) = (
   Some n,
   r,
   first,
   others,
   (refl, replied),
-  sym spelt ∙ cut,
-  subst (λ (w : WireShown). Rose w.count new.count) noted rose,
-  wrote ∙ ap (λ (w : WireShown). record w { count = new.count; story = and_then w.story (Said first ∷ []) }) noted
-      ∙ ap (λ s. record old { count = new.count; story = s }) (two_more old.story (HasNoted n) (Said first)),
+  sym spelt ∙ parts,
+  ap (λ (w : WireShown). w.cut) wrote,
+  ap (λ (w : WireShown). w.story) wrote ∙ ap (λ (w : WireShown). and_then w.story (Said first ∷ [])) noted
+      ∙ two_more old.story (HasNoted n) (Said first),
 )
 
+-- an errno was written, or tried
+pub short_speaks : (e : Errno) (result : Result Unit DeviceFault) (old new : WireShown) → Writes result (reply_bytes (reply.Refused e)) old new
+    → Speaks (saying.Short e) (ended result) old.story new
+short_speaks e (Ok u) old new (whole, wrote) = (None, reply.Refused e, refl, ap (λ (w : WireShown). w.story) wrote)
+short_speaks e (Err fault) old new (rose, first, others, parts, wrote) =
+    (None, reply.Refused e, first, others, refl, parts, ap (λ (w : WireShown). w.cut) wrote, ap (λ (w : WireShown). w.story) wrote)
+
 -- want of memory was told in place of a receipt's reply, which wanted it
-pub memory_speaks : (n : Noted) (result : Result Unit DeviceFault) (old new : WireShown) → TakesMemory (reply_of n.answer)
-    → Speaks (saying.Short Enomem) (ended result) old new → Speaks (saying.Noted n) (ended result) old new
-memory_speaks n (Ok u) old new wants (None, r, is, wrote) = (None, r, (is, wants), wrote)
-memory_speaks n (Ok u) old new wants (Some m, r, is, wrote) = absurd is
-memory_speaks n (Err e) old new wants (None, r, first, others, is, cut, rose, wrote) = (None, r, first, others, (is, wants), cut, rose, wrote)
-memory_speaks n (Err e) old new wants (Some m, r, first, others, is, cut, rose, wrote) = absurd is
+pub memory_speaks : (n : Noted) (result : Result Unit DeviceFault) (story : Option (List Happened)) (new : WireShown) → TakesMemory (reply_of n.answer)
+    → Speaks (saying.Short Enomem) (ended result) story new → Speaks (saying.Noted n) (ended result) story new
+memory_speaks n (Ok u) story new wants (None, r, is, wrote) = (None, r, (is, wants), wrote)
+memory_speaks n (Ok u) story new wants (Some m, r, is, wrote) = absurd is
+memory_speaks n (Err e) story new wants (None, r, first, others, is, parts, cut, wrote) = (None, r, first, others, (is, wants), parts, cut, wrote)
+memory_speaks n (Err e) story new wants (Some m, r, first, others, is, parts, cut, wrote) = absurd is

@@ -1,5 +1,5 @@
 -- A talk, message by message.
-use Rattle.std.proofs.Common.{◌≡◌, ◌≢◌, ℕ, suc, ◌<◌, ◌≤◌, ◌+◌, List, [], ◌∷◌, ◌++◌, length, refl, sym, ap, ◌∙◌, subst, arith}
+use Rattle.std.proofs.Common.{◌≡◌, ◌≢◌, inl, inr, ℕ, suc, ◌<◌, ◌≤◌, ◌+◌, List, [], ◌∷◌, ◌++◌, length, refl, sym, ap, ◌∙◌, subst, arith}
 use Rattle.std.specs.Prelude.{Option, Some, Ok, Err, Bool, true, false, take, nat_lt, if◌then◌else◌}
 use Rattle.std.proofs.lemmas.Bool.Decides.{nat_tests}
 use Rattle.std.proofs.lemmas.List.{length-append, length-take-le}
@@ -10,13 +10,13 @@ use Rattle.rk_frame.specs.Unread.{Unread}
 use Rattle.rk_hall.specs.Seats.{SeatShown}
 use Rattle.rk_talk.specs.Replies.{reply_bytes}
 use Rattle.rk_devices.specs.Counts.{most, raised, raised_by}
-use Rattle.rk_devices.specs.declared.device.DeviceFault.{DeviceFault}
-use Rattle.rk_session.specs.Wires.{Happened, Heard, WireShown, and_then, Reads}
+use Rattle.rk_session.specs.Wires.{Happened, Heard, WireShown, and_then}
 use Rattle.rk_session.specs.declared.serving.Served.{Served}
 use Rattle.rk_session.specs.declared.serving.Served.TheVariants.{Ended, NotOpened, ReadFault, WriteFault, Malformed, TurnsUsed, Behind}
 use Rattle.rk_session.specs.Places.{Says, Standing, at_first, standing_of}
-use Rattle.rk_session.specs.Talk.{Begun, Turn, Talking, begins, hears, turns, told_in, Talked}
-use Rattle.rk_session.specs.Parts.{GoesOn, EndsHere, TurnEnds, IsEndInTurns, TakesOne, TakesAll}
+use Rattle.rk_session.specs.Talk.{Begun, Ends, Turn, Talking, begins, hears, turns, told_in, Talked}
+use Rattle.rk_session.specs.Parts.{EndsHere, GoesOn, Hears, IsEndInTurns, Parts, TakesAll, TakesOne, TurnEnds}
+use Rattle.rk_session.proofs.Sendings.{IsToPart}
 
 -- what a wire tells, with more
 story_then : (story : Option (List Happened)) (s more : List Happened) → story ≡ Some s → and_then story more ≡ Some (s ++ more)
@@ -47,21 +47,21 @@ pub turn_goes : (session : SessionId) (body : List ℕ) (old new : WireShown) (h
 turn_goes session body old new held held' from to takes (s, says, (note, r, tells, is)) begun story told t =
     let one : Turn = record { body = body; note = note; reply = r } in (
       story ++ told_in note (reply_bytes r),
-      ap (λ (w : WireShown). w.story) is ∙ story_then old.story story (told_in note (reply_bytes r)) told,
+      is ∙ story_then old.story story (told_in note (reply_bytes r)) told,
       turns session begun story held' one from to (subst (λ h. Talking session begun story h from) takes.front t) (takes.is_body, s, says, tells),
     )
 
 -- the end at a message
 pub turn_ends : (session : SessionId) (body : List ℕ) (served : Served) (old new : WireShown) (held held' : List ℕ) (from to : Standing)
     → TakesBody body held held' → TurnEnds session from body to (Err served) old new
-    → IsEndInTurns served × EndsHere session served old held from new to
-turn_ends session body WriteFault old new held held' from to takes (s, says, (note, r, first, others, tells, cut, rose, is)) = (
-  tt,
+    → IsEndInTurns served new × EndsHere session served old held from new to
+turn_ends session body WriteFault old new held held' from to takes (s, says, (note, r, first, others, tells, parts, cut, is)) = (
+  cut,
   λ begun story told t.
       let one : Turn = record { body = body; note = note; reply = r } in (
         story ++ told_in note first,
-        ap (λ (w : WireShown). w.story) is ∙ story_then old.story story (told_in note first) told,
-        (
+        is ∙ story_then old.story story (told_in note first) told,
+        inl (
           story,
           one,
           from,
@@ -70,7 +70,7 @@ turn_ends session body WriteFault old new held held' from to takes (s, says, (no
           others,
           subst (λ h. Talking session begun story h from) takes.front t,
           (takes.is_body, s, says, tells),
-          cut,
+          parts,
           refl,
         ),
       ),
@@ -79,7 +79,7 @@ turn_ends session body Behind old new held held' from to takes (s, says, (none, 
   tt,
   λ begun story told t. (
     story,
-    ap (λ (w : WireShown). w.story) is ∙ told,
+    is ∙ told,
     (
       body,
       held',
@@ -98,7 +98,7 @@ turn_ends session body NotOpened old new held held' from to takes (s, says, none
 
 -- the end at a length that no frame has
 pub malformed_ends : (session : SessionId) (old new : WireShown) (held : List ℕ) (from : Standing) → HasFault held → new ≡ old
-    → IsEndInTurns Malformed × EndsHere session Malformed old held from new from
+    → IsEndInTurns Malformed new × EndsHere session Malformed old held from new from
 malformed_ends session old new held from bad same =
     (tt, λ begun story told t. (story, ap (λ (w : WireShown). w.story) same ∙ told, (held, t, bad)))
 
@@ -136,9 +136,9 @@ some_taken n size buf some le same none =
 
 -- a piece came
 pub stands_read : (session : SessionId) (seat : SeatShown) (begun old mid : WireShown) (held held' buf : List ℕ) (standing : Standing) (n size : ℕ)
-    → Stands session seat begun old held standing → IsPartial held → n ≢ 0 → n ≤ size → length buf ≡ size → Reads (Ok n) buf old mid
+    → Stands session seat begun old held standing → IsPartial held → n ≤ size → length buf ≡ size → Hears (Ok n) buf old mid
     → held' ≡ held ++ take n buf → Stands session seat begun mid held' standing
-stands_read session seat begun old mid held held' buf standing n size s none some le same read fed =
+stands_read session seat begun old mid held held' buf standing n size s none le same (some, whole, read) fed =
     stands_heard session seat begun old mid held held' (take n buf) standing s none (some_taken n size buf some le same)
     (ap (λ (w : WireShown). w.story) read) fed
 
@@ -180,29 +180,57 @@ all_taken session old mid new f g h p q r goes (none, kept, room, same, stayed) 
   room,
 )
 
--- the input is at its end
-pub read_ends : (session : SessionId) (seat : SeatShown) (begun old new : WireShown) (held buf : List ℕ) (standing : Standing)
-    → Stands session seat begun old held standing → IsPartial held → Reads (Ok 0) buf old new → Talked session Ended seat standing begun new
-read_ends session seat begun old new held buf standing s none read first is =
+-- the end at a read: of the input; or the read failed; or what was kept could not be sent before it
+pub hears_talked : (session : SessionId) (seat : SeatShown) (served : Served) (begun old new : WireShown) (held buf : List ℕ) (standing : Standing)
+    → Stands session seat begun old held standing → IsPartial held → Hears (Err served) buf old new → Talked session served seat standing begun new
+hears_talked session seat Ended begun old new held buf standing s none (whole, read) first is =
     let one = s first is in (
       one.0 ++ Heard [] ∷ [],
       ap (λ (w : WireShown). w.story) read ∙ story_then old.story one.0 (Heard [] ∷ []) one.1,
-      (one.0, held, one.2, none, refl),
+      (one.0, (held, one.2, none), refl),
     )
-
--- a read failed
-pub fault_ends : (session : SessionId) (seat : SeatShown) (e : DeviceFault) (begun old new : WireShown) (held buf : List ℕ) (standing : Standing)
-    → Stands session seat begun old held standing → IsPartial held → Reads (Err e) buf old new
-    → Talked session ReadFault seat standing begun new
-fault_ends session seat e begun old new held buf standing s none read first is =
-    let one = s first is in
-    (one.0, ap (λ (w : WireShown). w.story) read.1 ∙ one.1, (held, one.2, none))
+hears_talked session seat ReadFault begun old new held buf standing s none (whole, rose, read) first is =
+    let one = s first is in (one.0, ap (λ (w : WireShown). w.story) read ∙ one.1, (held, one.2, none))
+hears_talked session seat WriteFault begun old new held buf standing s none (rose, cut) first is =
+    let one = s first is in (one.0, ap (λ (w : WireShown). w.story) cut ∙ one.1, inr (inl (held, one.2, none)))
+hears_talked session seat NotOpened begun old new held buf standing s none never first is = absurd never
+hears_talked session seat Malformed begun old new held buf standing s none never first is = absurd never
+hears_talked session seat TurnsUsed begun old new held buf standing s none never first is = absurd never
+hears_talked session seat Behind begun old new held buf standing s none never first is = absurd never
 
 -- the reads are used up
 pub used_ends : (session : SessionId) (seat : SeatShown) (begun now : WireShown) (held : List ℕ) (standing : Standing)
     → Stands session seat begun now held standing → IsPartial held → Talked session TurnsUsed seat standing begun now
 used_ends session seat begun now held standing s none first is =
     let one = s first is in (one.0, one.1, (held, one.2, none))
+
+-- what was kept could not be sent where the session would have ended so
+not_sent : (session : SessionId) (served : Served) (w : WireShown) (begun : Begun) (story : List Happened) (last : Standing) → IsToPart served w
+    → Ends session served begun story last → Ends session WriteFault begun story last
+not_sent session WriteFault w begun story last is ends = ends
+not_sent session Malformed w begun story last is ends = inr (inr (inl ends))
+not_sent session Behind w begun story last is ends = inr (inr (inr ends))
+not_sent session TurnsUsed w begun story last is ends = inr (inl ends)
+not_sent session Ended w begun story last is ends = absurd is
+not_sent session ReadFault w begun story last is ends = absurd is
+not_sent session NotOpened w begun story last is ends = absurd is
+
+-- the session parts
+pub parts_talked : (session : SessionId) (served told : Served) (seat : SeatShown) (last : Standing) (begun old new : WireShown) → IsToPart served old
+    → Talked session served seat last begun old → Parts served told old new → Talked session told seat last begun new
+parts_talked session served told seat last begun old new is talked (inl (same, whole, sent)) first begins_so =
+    let one = talked first begins_so in (
+      one.0,
+      ap (λ (w : WireShown). w.story) sent ∙ one.1,
+      subst (λ s. Ends session s (record { story = first; seat = seat }) one.0 last) (sym same) one.2,
+    )
+parts_talked session served told seat last begun old new is talked (inr (fault, rose, cut)) first begins_so =
+    let one = talked first begins_so in (
+      one.0,
+      ap (λ (w : WireShown). w.story) cut ∙ one.1,
+      subst (λ s. Ends session s (record { story = first; seat = seat }) one.0 last) (sym fault)
+          (not_sent session served old (record { story = first; seat = seat }) one.0 last is one.2),
+    )
 
 -- no read so far
 pub raised_none : (n : ℕ) → n ≡ raised_by 0 n

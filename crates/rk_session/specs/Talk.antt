@@ -1,5 +1,5 @@
 -- What a session does, message by message.
-use Rattle.std.specs.Prelude.{◌≡◌, ◌≢◌, ◌⊎◌, ℕ, List, [], ◌∷◌, ◌++◌, Option, Some, None}
+use Rattle.std.specs.Prelude.{◌≡◌, ◌≢◌, ◌⊎◌, ℕ, false, List, [], ◌∷◌, ◌++◌, Option, Some, None}
 use Rattle.rk_names.specs.declared.errors.Errno.TheVariants.{Enomem}
 use Rattle.rk_names.specs.declared.numbers.SessionId.{SessionId}
 use Rattle.rk_frame.specs.Framing.{IsBody, frame}
@@ -53,7 +53,8 @@ pub record Begun : Type 0 where
 
 -- what has happened since a session began, what it holds of the bytes that came, and how its client stands: bytes come only where it holds no whole message;
 -- the message at the front is taken, its receipt noted and its reply written, before anything else happens; each message finds the seat as the one before
--- left it
+-- left it. What is said is written to the wire, which may keep it. It is sent in this order, and all of it before the next bytes are heard, before the session
+-- waits for an outcome or a handler, and at its end
 pub data Talking : (session : SessionId) (begun : Begun) (story : List Happened) (held : List ℕ) (standing : Standing) → Type 0 where
   begins : (session : SessionId) (begun : Begun) → Talking session begun begun.story [] (standing_of at_first begun.seat)
   hears : (session : SessionId) (begun : Begun) (story : List Happened) (held piece : List ℕ) (standing : Standing)
@@ -63,20 +64,39 @@ pub data Talking : (session : SessionId) (begun : Begun) (story : List Happened)
       → Talking session begun story (frame t.body ++ held) from → IsTurn session from t to
       → Talking session begun (story ++ told_in t.note (reply_bytes t.reply)) held to
 
--- how a session ends, and how its client stands then: where it holds no whole message, at a read that told the end of the input, a failed read, or its last
--- read; at a length that no frame has; at a reply that could be written only in part; or at an ask of which nothing can be said, which gets no receipt and no
--- reply
-abbrev pub Ends : SessionId → Served → Begun → List Happened → Standing → Type 0
-Ends session Ended begun story last = (before : List Happened) × (held : List ℕ)
-    × Talking session begun before held last × IsPartial held × (story ≡ before ++ Heard [] ∷ [])
-Ends session ReadFault begun story last = (held : List ℕ) × Talking session begun story held last × IsPartial held
-Ends session TurnsUsed begun story last = (held : List ℕ) × Talking session begun story held last × IsPartial held
-Ends session Malformed begun story last = (held : List ℕ) × Talking session begun story held last × HasFault held
-Ends session WriteFault begun story last = (before : List Happened) × (t : Turn) × (from : Standing) × (rest first others : List ℕ)
+-- it holds no whole message, and is at a read
+abbrev pub IsToRead : SessionId → Begun → List Happened → Standing → Type 0
+IsToRead session begun story last = (held : List ℕ) × Talking session begun story held last × IsPartial held
+
+-- a length stands there that no frame has
+abbrev pub HasNoMore : SessionId → Begun → List Happened → Standing → Type 0
+HasNoMore session begun story last = (held : List ℕ) × Talking session begun story held last × HasFault held
+
+-- an ask was made of which nothing can be said: it gets no receipt and no reply
+abbrev pub HasNoReply : SessionId → Begun → List Happened → Standing → Type 0
+HasNoReply session begun story last = (body rest : List ℕ) × (from : Standing)
+    × Talking session begun story (frame body ++ rest) from × IsBody body × Says session from body saying.Behind last
+
+-- a reply could be written only in part, or not at all
+abbrev pub IsCutShort : SessionId → Begun → List Happened → Standing → Type 0
+IsCutShort session begun story last = (before : List Happened) × (t : Turn) × (from : Standing) × (rest first others : List ℕ)
     × Talking session begun before (frame t.body ++ rest) from × IsTurn session from t last
     × (reply_bytes t.reply ≡ first ++ others) × (story ≡ before ++ told_in t.note first)
-Ends session Behind begun story last = (body rest : List ℕ) × (from : Standing)
-    × Talking session begun story (frame body ++ rest) from × IsBody body × Says session from body saying.Behind last
+
+-- what was written before could not all be sent: at a read, or where the session would have ended without that
+abbrev pub IsNotSent : SessionId → Begun → List Happened → Standing → Type 0
+IsNotSent session begun story last = IsToRead session begun story last ⊎ (HasNoMore session begun story last ⊎ HasNoReply session begun story last)
+
+-- how a session ends, and how its client stands then: where it holds no whole message, at a read that told the end of the input, a failed read, or its last
+-- read; at a length that no frame has; at an ask of which nothing can be said; or where a write or a sending failed. Only there some of what was said may not
+-- have been sent, of the replies since the last read or the last wait: in every other end all of it was
+abbrev pub Ends : SessionId → Served → Begun → List Happened → Standing → Type 0
+Ends session Ended begun story last = (before : List Happened) × IsToRead session begun before last × (story ≡ before ++ Heard [] ∷ [])
+Ends session ReadFault begun story last = IsToRead session begun story last
+Ends session TurnsUsed begun story last = IsToRead session begun story last
+Ends session Malformed begun story last = HasNoMore session begun story last
+Ends session WriteFault begun story last = IsCutShort session begun story last ⊎ IsNotSent session begun story last
+Ends session Behind begun story last = HasNoReply session begun story last
 Ends session NotOpened begun story last = ⊥
 
 -- a wire that tells what happened on it tells of a session that began with this seat and ended so, with its client there
@@ -90,10 +110,10 @@ EndCounts WriteFault before after = Rose before after
 EndCounts ReadFault before after = Rose before after
 EndCounts _ before after = after ≡ before
 
--- a session that was served: its client was opened in hall 0, there was a talk, and the client was reported gone from where it stood then; or it was shut out
--- of hall 0, which is told, and nothing happened on the wire
+-- a session that was served: its client was opened in hall 0, there was a talk, at its end the wire keeps nothing, and the client was reported gone from where
+-- it stood then; or it was shut out of hall 0, which is told, and nothing happened on the wire
 abbrev pub Serves : SessionId → Served → SeatShown → SeatShown → WireShown → WireShown → Type 0
 Serves session served seat seat' old new =
-    ((first : SeatShown) × (last : Standing) × IsOpened session Zero seat first × Talked session served first last old new
+    ((first : SeatShown) × (last : Standing) × IsOpened session Zero seat first × Talked session served first last old new × (new.kept ≡ false)
     × HasGone session last.place.hall last.seat seat')
     ⊎ ((served ≡ NotOpened) × (s : Saying) × IsShutOut session Zero seat seat' s × (new ≡ old))

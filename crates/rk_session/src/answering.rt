@@ -3,12 +3,14 @@ ghost use Rattle.std.specs.Prelude.{◌≡◌, ◌≤◌, None, false, true, Mat
 ghost use Rattle.rk_names.specs.declared.numbers.SessionId.TheVariants.{Client};
 ghost use Rattle.rk_message.specs.Bodies.{Spells};
 ghost use Rattle.rk_devices.specs.Counts.{most};
-ghost use Rattle.rk_talk.specs.Said.{IsAnswered};
+ghost use Rattle.rk_talk.specs.Said.{IsAnswered, IsToWait};
 ghost use Rattle.rk_talk.specs.Stays.{Stays};
 ghost use Rattle.rk_session.specs.Moving.{Moves};
+ghost use Rattle.rk_session.specs.Parts.{Finishes, Pushes};
 ghost use Rattle.rk_session.specs.Places.{IsHello, IsHelloOf, Says, says_done, standing_of};
 
 use crate::standing::{Place, moved};
+use crate::wire::Wire;
 use rk_child::drive;
 use rk_devices::Clock;
 use rk_hall::{Called, HallNo, Launch};
@@ -33,27 +35,63 @@ fn brought_to_end<P: Platform>(
     }
 }
 
+// Sends what is kept where the client waits for what an ask with this answer comes to. That it could not be sent is told with its reply, which fails then.
+fn send_before_a_wait<W: Wire>(wire: &mut W, answer: &Answer)
+    ensures sent { IsToWait answer.now → (W.shown wire.new).kept ≡ false }
+    ensures pushes { Pushes (W.shown wire.old) (W.shown wire.new) }
+{
+    match answer {
+        Answer::Done(_) | Answer::Refused(_) => {}
+        Answer::Start(_, _) | Answer::Waiting(_) | Answer::Negate(_) => {
+            let _ = wire.send();
+        }
+    }
+}
+
+// What is to be said of an ask that was called: what it has started is brought to its end, and what it waits for is collected. Nothing is kept on the wire
+// meanwhile.
+fn finished<P: Platform, W: Wire>(
+    stage: &Stage<'_, P>,
+    crew: &mut Crew<P>,
+    hall: HallNo,
+    client: u32,
+    called: Called<P::Names>,
+    wire: &W,
+) -> Saying
+    requires bound { (P.Launcher.shown crew.old.launcher).count ≤ most }
+    requires sent { IsToWait called.receipt.answer → (W.shown wire.now).kept ≡ false }
+    ensures bound { (P.Launcher.shown crew.new.launcher).count ≤ most }
+    ensures finishes { Finishes hall (Client client) called.receipt called.launch crew.old.caller.seat crew.new.caller.seat result }
+    ensures stays { Stays crew.old.caller.seat crew.new.caller.seat }
+{
+    let Called { receipt, launch } = called;
+    brought_to_end(stage, crew, launch);
+    let session = SessionId::Client(client);
+    settled(stage, &mut crew.caller, hall, session, receipt)
+}
+
 // The ask is made, and what it starts or waits for is brought to its end.
-fn asked<P: Platform>(
+fn asked<P: Platform, W: Wire>(
     stage: &Stage<'_, P>,
     crew: &mut Crew<P>,
     hall: HallNo,
     client: u32,
     message: Message<'_>,
+    wire: &mut W,
 ) -> Saying
     requires bound { (P.Launcher.shown crew.old.launcher).count ≤ most }
     requires spells { Spells message.ask message.body.now }
     ensures bound { (P.Launcher.shown crew.new.launcher).count ≤ most }
     ensures says { IsAnswered (Client client) hall message.entry.ask crew.old.caller.seat crew.new.caller.seat result }
     ensures stays { Stays crew.old.caller.seat crew.new.caller.seat }
+    ensures pushes { Pushes (W.shown wire.old) (W.shown wire.new) }
 {
     let now = crew.caller.clock.now();
     let session = SessionId::Client(client);
     match ask_in(stage, &mut crew.caller.seat, hall, now, session, message) {
-        Ok(Called { receipt, launch }) => {
-            brought_to_end(stage, crew, launch);
-            let session = SessionId::Client(client);
-            settled(stage, &mut crew.caller, hall, session, receipt)
+        Ok(called) => {
+            send_before_a_wait(wire, called.receipt.answer());
+            finished(stage, crew, hall, client, called, wire)
         }
         Err(fault) => refused(fault),
     }
@@ -79,52 +117,55 @@ fn is_done(saying: &Saying) -> bool
     }
 }
 
-// A HELLO of a client without a context: it may move first.
-fn greeted<P: Platform>(
+// A HELLO of a client without a context, which stands in the hall of its uid.
+fn greeted<P: Platform, W: Wire>(
     stage: &Stage<'_, P>,
     crew: &mut Crew<P>,
-    place: &mut Place,
-    there: HallNo,
     client: u32,
+    place: &mut Place,
     message: Message<'_>,
+    wire: &mut W,
 ) -> Saying
     requires bound { (P.Launcher.shown crew.old.launcher).count ≤ most }
     requires spells { Spells message.ask message.body.now }
-    requires hello { IsHelloOf there message.ask }
-    requires first { place.old.greeted ≡ false }
     ensures bound { (P.Launcher.shown crew.new.launcher).count ≤ most }
-    ensures says { Says (Client client) (standing_of place.old crew.old.caller.seat) message.entry.body.now result
-        (standing_of place.new crew.new.caller.seat) }
-    ensures moves { Moves place.old.hall place.new.hall crew.old.caller.seat crew.new.caller.seat }
+    ensures says { IsAnswered (Client client) place.old.hall message.entry.ask crew.old.caller.seat crew.new.caller.seat result }
+    ensures context { place.new ≡ record place.old { greeted = says_done result } }
+    ensures stays { Stays crew.old.caller.seat crew.new.caller.seat }
+    ensures pushes { Pushes (W.shown wire.old) (W.shown wire.new) }
 {
-    match moved(stage, &mut crew.caller, place.hall, there, client) {
-        None => {}
-        Some(saying) => return saying,
-    }
-    place.hall = there;
-    let saying = asked(stage, crew, there, client, message);
+    let saying = asked(stage, crew, place.hall, client, message, wire);
     place.greeted = is_done(&saying);
     saying
 }
 
-/// What is to be said of the message with this body: it is asked in the client's hall, and what it starts is brought to its end. It may wait.
-pub fn answered<P: Platform>(
+/// What is to be said of the message with this body: it is asked in the client's hall, and what it starts is brought to its end. A HELLO of a client without a
+/// context is asked in the hall of its uid, to which the client moves first. It may wait; what the wire keeps is sent before that.
+pub fn answered<P: Platform, W: Wire>(
     stage: &Stage<'_, P>,
     crew: &mut Crew<P>,
-    place: &mut Place,
     client: u32,
+    place: &mut Place,
     body: &[u8],
+    wire: &mut W,
 ) -> Saying
     requires bound { (P.Launcher.shown crew.old.launcher).count ≤ most }
     ensures bound { (P.Launcher.shown crew.new.launcher).count ≤ most }
     ensures says { Says (Client client) (standing_of place.old crew.old.caller.seat) body.now result (standing_of place.new crew.new.caller.seat) }
     ensures moves { Moves place.old.hall place.new.hall crew.old.caller.seat crew.new.caller.seat }
+    ensures pushes { Pushes (W.shown wire.old) (W.shown wire.new) }
 {
-    match AskStep::read(stage.alloc, body) {
-        Err(error) => Saying::Short(error.errno()),
-        Ok(ask) => match hall_of_hello(place, &ask) {
-            Some(there) => greeted(stage, crew, place, there, client, Message { ask, body }),
-            None => asked(stage, crew, place.hall, client, Message { ask, body }),
-        },
+    let ask = match AskStep::read(stage.alloc, body) {
+        Ok(ask) => ask,
+        Err(error) => return Saying::Short(error.errno()),
+    };
+    let there = match hall_of_hello(place, &ask) {
+        Some(there) => there,
+        None => return asked(stage, crew, place.hall, client, Message { ask, body }, wire),
+    };
+    match moved(stage, &mut crew.caller, place.hall, there, client) {
+        None => place.hall = there,
+        Some(refusal) => return refusal,
     }
+    greeted(stage, crew, client, place, Message { ask, body }, wire)
 }

@@ -12,6 +12,10 @@
 //! waits isn't read. In every exit the seat has as many clients, hall by hall, as before: the client is reported gone. A fault is told only where the wire's
 //! count of failures rose. It ends at 1,048,576 reads.
 //!
+//! *Sendings.* A wire may keep what is written, so that the replies to many messages go out together. It is sent in order, and all of it before the next
+//! read, before the session waits for an outcome or a handler, and at every end. Where a write or a sending fails, the session ends as
+//! [`Served::WriteFault`], and some of the replies since the last sending may be lost; in every other end none is.
+//!
 //! *Receipts.* A receipt that is noted is of a turn of the session's seat, and new to it; each message finds the seat as the one before left it. A reply
 //! without a receipt is the errno of a body that spells no ask; EDQUOT or ENOMEM, where the seat made no turn of the ask; or ENOMEM in place of a reply that
 //! takes memory.

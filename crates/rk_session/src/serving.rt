@@ -1,12 +1,13 @@
 //! A session from its opening to its end.
-ghost use Rattle.std.specs.Prelude.{◌≡◌, ◌≤◌, ◌+◌, [], MatchBool};
+ghost use Rattle.std.specs.Prelude.{◌≡◌, ◌≤◌, ◌+◌, [], false, length, IfOk, MatchBool};
 ghost use Rattle.rk_names.specs.declared.numbers.SessionId.TheVariants.{Client};
 ghost use Rattle.rk_devices.specs.Counts.{most, raised_by};
 ghost use Rattle.rk_talk.specs.Stays.{Stays};
 ghost use Rattle.rk_session.specs.Moving.{Moves};
-ghost use Rattle.rk_session.specs.Parts.{Counts, TakesAll};
+ghost use Rattle.rk_session.specs.Parts.{Hears, Parts, TakesAll};
 ghost use Rattle.rk_session.specs.Places.{at_first, standing_of};
 ghost use Rattle.rk_session.specs.Talk.{EndCounts, Serves, Talked};
+ghost use Rattle.rk_session.specs.Wires.{Counts};
 
 use crate::standing::{Place, leave, open};
 use crate::turns::next_turn;
@@ -25,7 +26,7 @@ pub enum Served {
     NotOpened,
     /// A read failed.
     ReadFault,
-    /// A reply could not be written, or only in part.
+    /// A reply could not be written, or only in part; or what was written before could not all be sent.
     WriteFault,
     /// A length stood there that no frame has.
     Malformed,
@@ -33,6 +34,32 @@ pub enum Served {
     TurnsUsed,
     /// Nothing can be said of an ask, as where the seat had seen more than its hall.
     Behind,
+}
+
+// Sends what is kept, and then reads: a client is not read while it lacks a reply.
+fn hear<W: Wire>(wire: &mut W, piece: &mut [u8]) -> Result<usize, Served>
+    ensures bound { IfOk result (λ n. n ≤ length piece.old) }
+    ensures same { length piece.new ≡ length piece.old }
+    ensures hears { Hears result piece.new (W.shown wire.old) (W.shown wire.new) }
+{
+    let Ok(()) = wire.send() else {
+        return Err(Served::WriteFault);
+    };
+    match wire.read(piece) {
+        Ok(0) => Err(Served::Ended),
+        Ok(count) => Ok(count),
+        Err(_) => Err(Served::ReadFault),
+    }
+}
+
+// Sends what is kept at a session's end, and tells how it ended.
+fn part<W: Wire>(wire: &mut W, served: Served) -> Served
+    ensures { Parts served result (W.shown wire.old) (W.shown wire.new) }
+{
+    match wire.send() {
+        Ok(()) => served,
+        Err(_) => Served::WriteFault,
+    }
 }
 
 // Takes all messages that are there.
@@ -48,7 +75,7 @@ fn take_all<P: Platform, W: Wire>(
     ensures bound { (P.Launcher.shown crew.new.launcher).count ≤ most }
     ensures takes { TakesAll (Client client) result (W.shown wire.old) frames.old (standing_of place.old crew.old.caller.seat)
         (W.shown wire.new) frames.new (standing_of place.new crew.new.caller.seat) }
-    ensures count { Counts result (W.shown wire.old).count (W.shown wire.new).count }
+    ensures counts { Counts (W.shown wire.old) (W.shown wire.new) }
     ensures reads { (W.shown wire.new).reads ≡ (W.shown wire.old).reads }
     ensures moves { Moves place.old.hall place.new.hall crew.old.caller.seat crew.new.caller.seat }
 {
@@ -76,6 +103,7 @@ fn talk<P: Platform, W: Wire>(
     ensures bound { (P.Launcher.shown crew.new.launcher).count ≤ most }
     ensures talked { Talked (Client client) result crew.old.caller.seat (standing_of place.new crew.new.caller.seat) (W.shown wire.old) (W.shown wire.new) }
     ensures fault { EndCounts result (W.shown wire.old).count (W.shown wire.new).count }
+    ensures sent { (W.shown wire.new).kept ≡ false }
     ensures turns { result ≡ Served.TurnsUsed → (W.shown wire.new).reads ≡ raised_by 1048576 (W.shown wire.old).reads }
     ensures reads { (W.shown wire.new).reads ≤ (W.shown wire.old).reads + 1048576 }
     ensures moves { Moves place.old.hall place.new.hall crew.old.caller.seat crew.new.caller.seat }
@@ -83,10 +111,9 @@ fn talk<P: Platform, W: Wire>(
     let mut frames = frames;
     let mut piece = [0u8; PIECE];
     for _ in 0..MAX_READS {
-        let count = match wire.read(&mut piece) {
-            Ok(0) => return Served::Ended,
+        let count = match hear(wire, &mut piece) {
             Ok(count) => count,
-            Err(_) => return Served::ReadFault,
+            Err(served) => return served,
         };
         match frames.feed(&piece[..count]) {
             Ok(()) => {}
@@ -94,16 +121,19 @@ fn talk<P: Platform, W: Wire>(
         }
         match take_all(stage, crew, client, place, &mut frames, wire) {
             Ok(()) => {}
-            Err(served) => return served,
+            Err(served) => return part(wire, served),
         }
     }
-    Served::TurnsUsed
+    part(wire, Served::TurnsUsed)
 }
 
 /// Serves a session of this client to its end. A client that can't be opened is told nothing.
 ///
 /// The client's number must not be another's that is served; the frames are new, and take no memory for what a read brings. In every exit the client is
 /// reported gone. It may wait, for locks, for outcomes and for the handlers that it has started, and holds no lock while it reads or writes.
+///
+/// The replies of what one read has brought may go out together: the wire keeps what it likes of them, and has sent all of it before the next read, before
+/// a wait for an outcome or for a handler, and at the end.
 pub fn serve<P: Platform, W: Wire>(
     stage: &Stage<'_, P>,
     crew: &mut Crew<P>,

@@ -5,8 +5,9 @@ ghost use Rattle.rk_devices.specs.Counts.{most};
 ghost use Rattle.rk_talk.specs.Said.{IsSettled, IsToWait};
 ghost use Rattle.rk_talk.specs.declared.saying.Saying.TheVariants as saying;
 ghost use Rattle.rk_session.specs.Moving.{Moves};
-ghost use Rattle.rk_session.specs.Parts.{Counts, Speaks, TurnEnds, TakesOne, ended};
+ghost use Rattle.rk_session.specs.Parts.{Speaks, TurnEnds, TakesOne, ended};
 ghost use Rattle.rk_session.specs.Places.{standing_of};
+ghost use Rattle.rk_session.specs.Wires.{Counts};
 
 use crate::answering::answered;
 use crate::serving::Served;
@@ -22,7 +23,8 @@ use std::alloc::Global;
 // Notes the receipt, and then writes the reply of its answer. Where there is no memory for the reply, it is want of memory, and nothing is noted.
 fn tell<W: Wire>(alloc: Global, wire: &mut W, receipt: Receipt) -> Result<(), DeviceFault>
     requires { IsToWait receipt.answer → ⊥ }
-    ensures speaks { Speaks (saying.Noted receipt) (ended result) (W.shown wire.old) (W.shown wire.new) }
+    ensures speaks { Speaks (saying.Noted receipt) (ended result) (W.shown wire.old).story (W.shown wire.new) }
+    ensures counts { Counts (W.shown wire.old) (W.shown wire.new) }
     ensures reads { (W.shown wire.new).reads ≡ (W.shown wire.old).reads }
 {
     match answer_frame(alloc, receipt.answer()) {
@@ -36,7 +38,8 @@ fn tell<W: Wire>(alloc: Global, wire: &mut W, receipt: Receipt) -> Result<(), De
 
 // Writes an errno.
 fn refuse<W: Wire>(wire: &mut W, errno: Errno) -> Result<(), DeviceFault>
-    ensures speaks { Speaks (saying.Short errno) (ended result) (W.shown wire.old) (W.shown wire.new) }
+    ensures speaks { Speaks (saying.Short errno) (ended result) (W.shown wire.old).story (W.shown wire.new) }
+    ensures counts { Counts (W.shown wire.old) (W.shown wire.new) }
     ensures reads { (W.shown wire.new).reads ≡ (W.shown wire.old).reads }
 {
     wire.write(&refusal_frame(errno))
@@ -67,8 +70,8 @@ fn say<P: Platform, W: Wire>(
     saying: Saying,
 ) -> Result<(), Served>
     requires { IsSettled saying }
-    ensures speaks { Speaks saying result (W.shown wire.old) (W.shown wire.new) }
-    ensures count { Counts result (W.shown wire.old).count (W.shown wire.new).count }
+    ensures speaks { Speaks saying result (W.shown wire.old).story (W.shown wire.new) }
+    ensures counts { Counts (W.shown wire.old) (W.shown wire.new) }
     ensures reads { (W.shown wire.new).reads ≡ (W.shown wire.old).reads }
 {
     match saying {
@@ -91,11 +94,11 @@ fn turn<P: Platform, W: Wire>(
     ensures bound { (P.Launcher.shown crew.new.launcher).count ≤ most }
     ensures ends { TurnEnds (Client client) (standing_of place.old crew.old.caller.seat) body.now (standing_of place.new crew.new.caller.seat) result
         (W.shown wire.old) (W.shown wire.new) }
-    ensures count { Counts result (W.shown wire.old).count (W.shown wire.new).count }
+    ensures counts { Counts (W.shown wire.old) (W.shown wire.new) }
     ensures reads { (W.shown wire.new).reads ≡ (W.shown wire.old).reads }
     ensures moves { Moves place.old.hall place.new.hall crew.old.caller.seat crew.new.caller.seat }
 {
-    let saying = answered(stage, crew, place, client, body);
+    let saying = answered(stage, crew, client, place, body, wire);
     say(stage, wire, client, saying)
 }
 
@@ -112,7 +115,7 @@ pub fn next_turn<P: Platform, W: Wire>(
     ensures bound { (P.Launcher.shown crew.new.launcher).count ≤ most }
     ensures takes { TakesOne (Client client) result (W.shown wire.old) frames.old (standing_of place.old crew.old.caller.seat)
         (W.shown wire.new) frames.new (standing_of place.new crew.new.caller.seat) }
-    ensures count { Counts result (W.shown wire.old).count (W.shown wire.new).count }
+    ensures counts { Counts (W.shown wire.old) (W.shown wire.new) }
     ensures reads { (W.shown wire.new).reads ≡ (W.shown wire.old).reads }
     ensures moves { Moves place.old.hall place.new.hall crew.old.caller.seat crew.new.caller.seat }
 {

@@ -1,24 +1,31 @@
 //! A client's wire.
-ghost use Rattle.std.specs.Prelude.{◌≡◌, ◌≤◌, length, IfOk};
-ghost use Rattle.rk_session.specs.Wires.{WireShown, Reads, Writes, Notes};
+ghost use Rattle.std.specs.Prelude.{◌≡◌, ◌≤◌, false, length, IfOk};
+ghost use Rattle.rk_session.specs.Wires.{WireShown, Reads, Writes, Sends, Notes};
 
 use rk_devices::DeviceFault;
 use rk_hall::Receipt;
 
-/// The stream of a client, both ways. It may tell what happens on it, as a test's does; a socket's tells only its counts.
+/// The stream of a client, both ways. It may tell what happens on it, as a test's does; a socket's tells only its counts, and whether it keeps something.
+///
+/// What is written may be kept, so that many replies go out together. [`serve`](crate::serve) has it sent before each read, before each wait, and at the end.
 pub trait Wire {
-    /// Its failures, its reads, and what happened on it.
+    /// Its failures, its reads, whether it keeps something, whether it is cut, and what happened on it.
     ghost shown: { Self → WireShown };
 
-    /// Reads bytes to the front of `buf`, and tells how many; 0 is the end of the input.
+    /// Reads bytes to the front of `buf`, and tells how many; 0 is the end of the input. What was written is sent before.
     fn read(&mut self, buf: &mut [u8]) -> Result<usize, DeviceFault>
+        requires { (shown self.old).kept ≡ false }
         ensures bound { IfOk result (λ n. n ≤ length buf.old) }
         ensures same { length buf.new ≡ length buf.old }
         ensures reads { Reads result buf.new (shown self.old) (shown self.new) };
 
-    /// Writes all bytes.
+    /// Writes all bytes, behind those that were written before. It may keep them. Once a write or a sending has failed, none succeeds.
     fn write(&mut self, bytes: &[u8]) -> Result<(), DeviceFault>
         ensures { Writes result bytes.now (shown self.old) (shown self.new) };
+
+    /// Sends what was written and is still kept.
+    fn send(&mut self) -> Result<(), DeviceFault>
+        ensures { Sends result (shown self.old) (shown self.new) };
 
     /// Is handed the receipt of a reply before that is written.
     fn note(&mut self, receipt: Receipt)

@@ -16,7 +16,7 @@ story_of None = []
 -- a session over a wire that tells, on which nothing had happened, is a talk
 pub is_talk : (session : SessionId) (served : Served) (seat seat' : SeatShown) (old new : WireShown) (story : List Happened)
     → old.story ≡ Some [] → new.story ≡ Some story → Serves session served seat seat' old new → IsTalk session served story
-is_talk session served seat seat' old new story begun tells (inl (first, last, opened, talked, gone)) =
+is_talk session served seat seat' old new story begun tells (inl (first, last, opened, talked, sent, gone)) =
     let t = talked [] begun in
     inl (first, last, subst (λ s. Ends session served (record { story = []; seat = first }) s last) (ap story_of (sym t.1 ∙ tells)) t.2)
 is_talk session served seat seat' old new story begun tells (inr (is, s, shut, same)) =

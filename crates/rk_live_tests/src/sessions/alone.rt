@@ -26,10 +26,10 @@ pub const SCENE: Scene<'static> = Scene {
     may_lack: false,
 };
 
-const FIRST: Part<'static> = Part {
+pub const FIRST: Part<'static> = Part {
     pieces: &[(0, HELLO), (0, REQUEST)],
     replies: &[RINGS, TWELVE],
-    story: Some(b"rnwrnwr"),
+    story: Some(b"rnwsrnwsr"),
     words: b"/bin/h 12 ",
     ..QUIET
 };
@@ -98,10 +98,12 @@ type Fails = (Cut, Served, usize, &'static [u8], Option<u64>);
 const FAILS_IN_TURN: &[Fails] = &[
     (Cut::Read(1), Served::ReadFault, 0, b"", Some(2)),
     (Cut::Write(1), Served::WriteFault, 0, b"rn", Some(3)),
-    (Cut::Read(2), Served::ReadFault, 1, b"rnw", Some(3)),
-    (Cut::Write(2), Served::WriteFault, 1, b"rnwrn", None),
-    (Cut::Read(3), Served::ReadFault, 2, b"rnwrnw", None),
-    (Cut::Write(3), Served::Ended, 2, b"rnwrnwr", None),
+    (Cut::Send(1), Served::WriteFault, 1, b"rnw", Some(3)),
+    (Cut::Read(2), Served::ReadFault, 1, b"rnws", Some(3)),
+    (Cut::Write(2), Served::WriteFault, 1, b"rnwsrn", None),
+    (Cut::Send(2), Served::WriteFault, 2, b"rnwsrnw", None),
+    (Cut::Read(3), Served::ReadFault, 2, b"rnwsrnws", None),
+    (Cut::Write(3), Served::Ended, 2, b"rnwsrnwsr", None),
 ];
 
 const SCENES: &[Scene<'static>] = &[SCENE, NESTED, PIPED, FOLLOWED];
@@ -198,7 +200,7 @@ fn a_hall_without_room_keeps_its_client_where_it_was(rt: HostRuntime) {
         first: Part {
             pieces: &[(0, OTHER_HELLO), (0, READ), (0, HELLO)],
             replies: &[QUOTA, ACCESS, RINGS],
-            story: Some(b"rnwrnwrnwr"),
+            story: Some(b"rnwsrnwsrnwsr"),
             words: b"",
             ..SCENE.first
         },

@@ -1,6 +1,7 @@
 //! A wire that gives what a scene has, and keeps what happens on it.
 
-ghost use Rattle.std.specs.Prelude.{◌≡◌, None};
+ghost use Rattle.std.specs.Prelude.{◌≡◌, None, false, true};
+ghost use Rattle.rk_devices.specs.Counts.{Rose};
 
 use crate::fakes::launcher::give;
 use crate::fakes::turns::Turns;
@@ -16,6 +17,8 @@ use std::time::Clock;
 pub enum Cut {
     Read(u64),
     Write(u64),
+    /// Of the sendings for which something was kept.
+    Send(u64),
 }
 
 /// The wire of a client.
@@ -31,15 +34,22 @@ pub struct Line<'a, R> {
     pub most: usize,
     /// The turn of the end.
     pub end: u64,
+    /// Whether a turn begins with each sending of what was kept.
+    pub sends_in_turn: bool,
     pub cut: Option<Cut>,
     pub given: usize,
     pub reads: u64,
     pub writes: u64,
+    pub sendings: u64,
     pub failed: u64,
+    /// Whether something was written since the last sending.
+    pub kept: bool,
+    /// Whether a write or a sending failed.
+    pub is_cut: bool,
     /// What was written.
     pub said: Vec<u8>,
     pub noted: Vec<Receipt>,
-    /// What happened, one letter for each: r for a read, n for a receipt, w for a write that succeeded.
+    /// What happened, one letter for each: r for a read, n for a receipt, w for a write that succeeded, s for a sending of what was kept.
     pub story: Vec<u8>,
 }
 
@@ -58,11 +68,15 @@ impl<'a, R> Line<'a, R> {
             endless: part.endless,
             most: part.most,
             end: part.end,
+            sends_in_turn: part.sends_in_turn,
             cut: part.cut,
             given: 0,
             reads: 0,
             writes: 0,
+            sendings: 0,
             failed: 0,
+            kept: false,
+            is_cut: false,
             said: Vec::with_capacity(alloc, 64)?,
             noted: Vec::with_capacity(alloc, 4)?,
             story: Vec::with_capacity(alloc, 16)?,
@@ -72,7 +86,8 @@ impl<'a, R> Line<'a, R> {
 
 impl<'a, R: Clock> Line<'a, R> {
     fn next_piece(&mut self) -> &'a [u8]
-        ensures same { (self.new.reads ≡ self.old.reads) × (self.new.failed ≡ self.old.failed) }
+        ensures counts { (self.new.reads ≡ self.old.reads) × (self.new.failed ≡ self.old.failed) }
+        ensures flags { (self.new.kept ≡ self.old.kept) × (self.new.is_cut ≡ self.old.is_cut) }
     {
         if self.endless && self.given == self.pieces.len() {
             self.given = 0;
@@ -91,8 +106,22 @@ impl<'a, R: Clock> Line<'a, R> {
     }
 }
 
+impl<'a, R> Line<'a, R> {
+    /// A write or a sending failed.
+    fn fail(&mut self) -> DeviceFault
+        ensures rose { Rose self.old.failed self.new.failed }
+        ensures cut { (self.new.kept ≡ false) × (self.new.is_cut ≡ true) }
+        ensures reads { self.new.reads ≡ self.old.reads }
+    {
+        self.kept = false;
+        self.is_cut = true;
+        self.failed = self.failed.saturating_add(1);
+        DeviceFault
+    }
+}
+
 impl<'a, R: Clock> Wire for Line<'a, R> {
-    ghost shown = { λ w. record { count = w.failed; reads = w.reads; story = None } };
+    ghost shown = { λ w. record { count = w.failed; reads = w.reads; kept = w.kept; cut = w.is_cut; story = None } };
 
     fn read(&mut self, buf: &mut [u8]) -> Result<usize, DeviceFault> {
         self.reads = self.reads.saturating_add(1);
@@ -106,13 +135,32 @@ impl<'a, R: Clock> Wire for Line<'a, R> {
 
     fn write(&mut self, bytes: &[u8]) -> Result<(), DeviceFault> {
         self.writes = self.writes.saturating_add(1);
-        if self.cut == Some(Cut::Write(self.writes))
+        if self.is_cut
+            || self.cut == Some(Cut::Write(self.writes))
             || self.story.push(b'w').is_err()
             || self.said.extend_from_slice(bytes).is_err()
         {
             self.turns.next();
-            self.failed = self.failed.saturating_add(1);
-            return Err(DeviceFault);
+            return Err(self.fail());
+        }
+        self.kept = true;
+        Ok(())
+    }
+
+    fn send(&mut self) -> Result<(), DeviceFault> {
+        if self.is_cut {
+            return Err(self.fail());
+        }
+        if !self.kept {
+            return Ok(());
+        }
+        self.sendings = self.sendings.saturating_add(1);
+        if self.cut == Some(Cut::Send(self.sendings)) || self.story.push(b's').is_err() {
+            return Err(self.fail());
+        }
+        self.kept = false;
+        if self.sends_in_turn {
+            self.turns.next();
         }
         Ok(())
     }

@@ -34,6 +34,8 @@ pub struct Part<'a> {
     pub most: usize,
     /// The turn of its end.
     pub end: u64,
+    /// Whether a turn begins with each sending of what was kept, too.
+    pub sends_in_turn: bool,
     /// The call of its wire that fails.
     pub cut: Option<Cut>,
     /// How it is to end.
@@ -54,6 +56,7 @@ pub const QUIET: Part<'static> = Part {
     endless: false,
     most: usize::MAX,
     end: 0,
+    sends_in_turn: false,
     cut: None,
     served: Served::Ended,
     replies: &[],

@@ -1,5 +1,5 @@
 //! A wire that tells all that happens on it.
-ghost use Rattle.std.specs.Prelude.{◌≡◌, ◌≤◌, [], length, map, Some};
+ghost use Rattle.std.specs.Prelude.{◌≡◌, ◌≤◌, [], length, map, Some, false};
 ghost use Rattle.rk_devices.specs.Counts.{raised};
 ghost use Rattle.rk_live_tests.specs.Telling.{happened};
 
@@ -10,7 +10,7 @@ use rk_session::Wire;
 use std::alloc::Global;
 use std::process::Abort;
 
-/// A wire that gives these bytes, and then the end. Out of memory for what it keeps ends the process.
+/// A wire that gives these bytes, and then the end. What is written is kept for ever, and none of it is to be sent. Out of memory for what it keeps ends the process.
 #[derive(Drop)]
 pub struct Telling<'a, R> {
     pub rt: &'a R,
@@ -56,7 +56,7 @@ fn give(bytes: &[u8], buf: &mut [u8]) -> usize
 }
 
 impl<'a, R: Abort> Wire for Telling<'a, R> {
-    ghost shown = { λ w. record { count = 0; reads = w.reads; story = Some (map happened w.kept.items) } };
+    ghost shown = { λ w. record { count = 0; reads = w.reads; kept = false; cut = false; story = Some (map happened w.kept.items) } };
 
     fn read(&mut self, buf: &mut [u8]) -> Result<usize, DeviceFault> {
         self.reads = one_more(self.reads);
@@ -71,6 +71,10 @@ impl<'a, R: Abort> Wire for Telling<'a, R> {
     fn write(&mut self, bytes: &[u8]) -> Result<(), DeviceFault> {
         let went = Vec::from_slice(self.alloc, bytes).expect(self.rt, "memory");
         self.kept.push(Kept::Went(went)).expect(self.rt, "memory");
+        Ok(())
+    }
+
+    fn send(&mut self) -> Result<(), DeviceFault> {
         Ok(())
     }
 

@@ -9,16 +9,16 @@ use crate::sessions::stage::{PLAIN, Part, QUIET, Scene, play};
 use rk_session::Served;
 
 /// It asks for key 12 and starts its handler, which is held until turn 4.
-const STARTER: Part<'static> = Part {
+pub const STARTER: Part<'static> = Part {
     pieces: &[(0, HELLO), (1, REQUEST)],
     end: 5,
     replies: &[RINGS, TWELVE],
-    story: Some(b"rnwrnwr"),
+    story: Some(b"rnwsrnwsr"),
     words: b"/bin/h 12 ",
     ..QUIET
 };
 
-const SCENE: Scene<'static> = Scene {
+pub const SCENE: Scene<'static> = Scene {
     conf: PLAIN,
     programs: &[COMPLETES],
     fuse: None,
@@ -81,7 +81,7 @@ fn a_key_is_completed_though_its_reply_is_lost(rt: HostRuntime) {
         cut: Some(Cut::Write(2)),
         served: Served::WriteFault,
         replies: &[RINGS],
-        story: Some(b"rnwrn"),
+        story: Some(b"rnwsrn"),
         ..STARTER
     };
     let second = Part {

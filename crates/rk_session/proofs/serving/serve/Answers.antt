@@ -10,7 +10,14 @@ returns-in-Some-clause-talked g c = inr (refl, c.in-Some.refusal, c.in-Some.ensu
 
 pub returns-clause-talked : goal.returns-clause-talked
 returns-clause-talked g c =
-    inl (c.open.new.caller.seat, standing_of c.talk-served.new.place c.talk-served.new.crew.caller.seat, c.in-None.ensures, c.talk-served.ensures.talked, c.leave.ensures.left)
+    inl (
+      c.open.new.caller.seat,
+      standing_of c.talk-served.new.place c.talk-served.new.crew.caller.seat,
+      c.in-None.ensures,
+      c.talk-served.ensures.talked,
+      c.talk-served.ensures.sent,
+      c.leave.ensures.left,
+    )
 
 pub returns-clause-stays : goal.returns-clause-stays
 returns-clause-stays g c =

@@ -3,6 +3,7 @@ use Rattle.rk_names.specs.declared.numbers.SessionId.TheVariants.{Client}
 use Rattle.rk_talk.proofs.Seats.{stays_same}
 use Rattle.rk_session.specs.Places.{standing_of}
 use Rattle.rk_session.proofs.Seats.{moves_then, stays_moves}
+use Rattle.rk_session.proofs.Sendings.{counts_same, counts_then}
 use Rattle.rk_session.proofs.Talks.{all_taken, ends_then, goes_nowhere, goes_then, taken_fewer, taken_goes}
 use Rattle.rk_session.proofs.serving.take_all.Goals as goal
 
@@ -13,7 +14,7 @@ loop-served-init g c =
       bound = c.requires.bound;
       goes = goes_nowhere (Client c.args.client) (g.W.Wire.shown c.args.wire.now) (g.W.Wire.shown c.args.wire.now) c.args.frames.now.bytes
           c.args.frames.now.bytes here here refl refl refl;
-      count = refl;
+      counts = counts_same _;
       reads = refl;
       moves = stays_moves _ _ _ (stays_same _);
     }
@@ -37,7 +38,7 @@ loop-served-preserved g c =
           c.args.frames.now.bytes c.loop-served.frames.bytes c.next_turn.new.frames.bytes begun here there i.goes
           (taken_goes (Client c.args.client) (g.W.Wire.shown c.loop-served.wire) (g.W.Wire.shown c.next_turn.new.wire) c.loop-served.frames
           c.next_turn.new.frames here there (rw c.in-Ok-true.field-0-test at e.takes));
-      count = e.count ∙ i.count;
+      counts = counts_then _ _ _ i.counts e.counts;
       reads = e.reads ∙ i.reads;
       moves = moves_then _ _ _ _ _ _ i.moves e.moves;
     }
@@ -62,3 +63,9 @@ returns-in-Err-clause-takes g c = (
 
 pub returns-in-Err-clause-moves : goal.returns-in-Err-clause-moves
 returns-in-Err-clause-moves g c = moves_then _ _ _ _ _ _ c.loop-served.invariant.moves c.in-Err.ensures.moves
+
+pub returns-in-Ok-false-clause-counts : goal.returns-in-Ok-false-clause-counts
+returns-in-Ok-false-clause-counts g c = counts_then _ _ _ c.loop-served.invariant.counts c.in-Ok-false.ensures.counts
+
+pub returns-in-Err-clause-counts : goal.returns-in-Err-clause-counts
+returns-in-Err-clause-counts g c = counts_then _ _ _ c.loop-served.invariant.counts c.in-Err.ensures.counts

@@ -4,6 +4,7 @@ use Rattle.rk_devices.specs.Counts.{most}
 use Rattle.rk_session.specs.Moving.{Moves}
 use Rattle.rk_session.specs.Parts.{GoesOn}
 use Rattle.rk_session.specs.Places.{standing_of}
+use Rattle.rk_session.specs.Wires.{Counts}
 use Rattle.rk_session.proofs.serving.take_all.Given as goal
 
 abbrev pub invariant-loop-served : goal.invariant-loop-served
@@ -11,7 +12,7 @@ invariant-loop-served g l = record {
   bound : (g.P.Launcher.Launcher.shown l.crew.launcher).count ≤ most;
   goes : GoesOn (Client l.client) (g.W.Wire.shown l.fn.wire) l.fn.frames.bytes (standing_of l.fn.place l.fn.crew.caller.seat) (g.W.Wire.shown l.wire)
       l.frames.bytes (standing_of l.place l.crew.caller.seat);
-  count : (g.W.Wire.shown l.wire).count ≡ (g.W.Wire.shown l.fn.wire).count;
+  counts : Counts (g.W.Wire.shown l.fn.wire) (g.W.Wire.shown l.wire);
   reads : (g.W.Wire.shown l.wire).reads ≡ (g.W.Wire.shown l.fn.wire).reads;
   moves : Moves l.fn.place.hall l.place.hall l.fn.crew.caller.seat l.crew.caller.seat;
 }

@@ -4,6 +4,7 @@ use Rattle.rk_frame.specs.Streams.{IsPartial}
 use Rattle.rk_devices.specs.Counts.{most, raised_by}
 use Rattle.rk_session.specs.Moving.{Moves}
 use Rattle.rk_session.specs.Places.{standing_of}
+use Rattle.rk_session.specs.Wires.{Counts}
 use Rattle.rk_session.proofs.Talks.{Stands}
 use Rattle.rk_session.proofs.serving.talk.Given as goal
 
@@ -15,6 +16,6 @@ invariant-loop g l = record {
   room : 4096 ≤ l.frames.room;
   reads : (g.W.Wire.shown l.wire).reads ≡ raised_by l.counter (g.W.Wire.shown l.fn.wire).reads;
   greatest : (g.W.Wire.shown l.wire).reads ≤ (g.W.Wire.shown l.fn.wire).reads + l.counter;
-  count : (g.W.Wire.shown l.wire).count ≡ (g.W.Wire.shown l.fn.wire).count;
+  counts : Counts (g.W.Wire.shown l.fn.wire) (g.W.Wire.shown l.wire);
   moves : Moves l.fn.place.hall l.place.hall l.fn.crew.caller.seat l.crew.caller.seat;
 }

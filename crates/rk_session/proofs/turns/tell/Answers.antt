@@ -1,5 +1,6 @@
 use Rattle.std.proofs.Common.{subst, sym}
 use Rattle.rk_talk.specs.Replies.{LacksFrame, ReplyFramed}
+use Rattle.rk_session.proofs.Sendings.{counts_then, notes_counts, writes_counts}
 use Rattle.rk_session.proofs.Sayings.{memory_speaks, noted_speaks, settled_takes}
 use Rattle.rk_session.proofs.turns.tell.Goals as goal
 
@@ -13,3 +14,7 @@ pub returns-in-Err-clause-speaks : goal.returns-in-Err-clause-speaks
 returns-in-Err-clause-speaks g c =
     memory_speaks c.args.receipt c.refuse.result _ _
     (settled_takes c.args.receipt.answer c.requires (subst LacksFrame c.answer.ensures c.in-Err.ensures.memory)) c.refuse.ensures.speaks
+
+pub returns-in-Ok-clause-counts : goal.returns-in-Ok-clause-counts
+returns-in-Ok-clause-counts g c =
+    counts_then _ _ _ (notes_counts c.args.receipt _ _ c.note.ensures) (writes_counts c.write.result c.as_bytes.result.now _ _ c.write.ensures)

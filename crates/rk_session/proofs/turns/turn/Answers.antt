@@ -1,5 +1,22 @@
+use Rattle.std.proofs.Common.{subst, ◌∙◌}
+use Rattle.rk_session.specs.Parts.{Speaks}
 use Rattle.rk_session.proofs.Sayings.{says_settled}
+use Rattle.rk_session.proofs.Sendings.{counts_then}
 use Rattle.rk_session.proofs.turns.turn.Goals as goal
 
 pub say-requires : goal.say-requires
 say-requires g c = says_settled _ _ _ _ _ c.answered-saying.ensures.says
+
+pub returns-clause-ends : goal.returns-clause-ends
+returns-clause-ends g c = (
+  c.answered-saying.result,
+  c.answered-saying.ensures.says,
+  subst (λ story. Speaks c.answered-saying.result c.say.result story (g.W.Wire.shown c.say.new.wire)) c.answered-saying.ensures.pushes.story
+      c.say.ensures.speaks,
+)
+
+pub returns-clause-counts : goal.returns-clause-counts
+returns-clause-counts g c = counts_then _ _ _ c.answered-saying.ensures.pushes.counts c.say.ensures.counts
+
+pub returns-clause-reads : goal.returns-clause-reads
+returns-clause-reads g c = c.say.ensures.reads ∙ c.answered-saying.ensures.pushes.reads
