@@ -16,7 +16,7 @@ import tempfile
 
 import protocol_peer as ask
 from counted import Counted
-from daemon import Daemon, until
+from daemon import Daemon, text_of, until
 from keyctl_commands import ALONE, CASES, DENIED, EXPIRED, LEFT_OUT, MISSING, NONE, OF_ANY_LENGTH, REJECTED, REVOKED, SERIAL, USAGE, Keyctl
 from keyutils_library import ENVIRONMENT, UID, Programs, available, libraries
 from programs import LIMIT, PROGRAMS, top
@@ -143,8 +143,11 @@ def scripted(keys):
     keys.fits("print %user:script:a", (0, "made\n", ""))
     keys.fits("print %user:made:nested", (0, "inner\n", ""))
     _, nested, _ = keys.run("keyctl", "id", "%user:made:nested")
-    until(lambda: len(said()) >= len(SAID), "what a script says")
-    count.same("what a script has said", said(), [line.format(uid=UID, nested=nested.strip()) for line in SAID])
+    until(lambda: len(said()) > len(SAID), "what a script says, and the daemon of its end")
+    *lines, end = said()
+    count.same("what a script has said", lines, [line.format(uid=UID, nested=nested.strip()) for line in SAID])
+    ended = re.sub(r"key [0-9]+ |, /.*(?=\))", "", text_of(end))
+    count.same("the end of a script whose last call was refused", ended, f'warn: handler of (create user "script:a", uid {UID}; line 8): exit status 1')
 
 
 # how long the library of names may look for one that is nowhere
