@@ -1,5 +1,5 @@
 //! What is to be said of one message of a client.
-ghost use Rattle.std.specs.Prelude.{◌≡◌, ◌≤◌, None, false, true, MatchOption};
+ghost use Rattle.std.specs.Prelude.{◌≡◌, ◌≤◌, None, false, true, MatchBool, MatchOption};
 ghost use Rattle.rk_names.specs.declared.numbers.SessionId.TheVariants.{Client};
 ghost use Rattle.rk_message.specs.Bodies.{Spells};
 ghost use Rattle.rk_devices.specs.Counts.{most};
@@ -35,16 +35,13 @@ fn brought_to_end<P: Platform>(
     }
 }
 
-// Sends what is kept where the client waits for what an ask with this answer comes to. That it could not be sent is told with its reply, which fails then.
-fn send_before_a_wait<W: Wire>(wire: &mut W, answer: &Answer)
-    ensures sent { IsToWait answer.now → (W.shown wire.new).kept ≡ false }
-    ensures pushes { Pushes (W.shown wire.old) (W.shown wire.new) }
+// Whether the client waits for what an ask with this answer comes to.
+fn waits(answer: &Answer) -> bool
+    ensures { MatchBool result (IsToWait answer.now) (IsToWait answer.now → ⊥) }
 {
     match answer {
-        Answer::Done(_) | Answer::Refused(_) => {}
-        Answer::Start(_, _) | Answer::Waiting(_) | Answer::Negate(_) => {
-            let _ = wire.send();
-        }
+        Answer::Done(_) | Answer::Refused(_) => false,
+        Answer::Start(_, _) | Answer::Waiting(_) | Answer::Negate(_) => true,
     }
 }
 
@@ -59,7 +56,7 @@ fn finished<P: Platform, W: Wire>(
     wire: &W,
 ) -> Saying
     requires bound { (P.Launcher.shown crew.old.launcher).count ≤ most }
-    requires sent { IsToWait called.receipt.answer → (W.shown wire.now).kept ≡ false }
+    requires sent { (W.shown wire.now).kept ≡ false }
     ensures bound { (P.Launcher.shown crew.new.launcher).count ≤ most }
     ensures finishes { Finishes hall (Client client) called.receipt called.launch crew.old.caller.seat crew.new.caller.seat result }
     ensures stays { Stays crew.old.caller.seat crew.new.caller.seat }
@@ -70,7 +67,7 @@ fn finished<P: Platform, W: Wire>(
     settled(stage, &mut crew.caller, hall, session, receipt)
 }
 
-// The ask is made, and what it starts or waits for is brought to its end.
+// The ask is made, and what it starts or waits for is brought to its end. Before that, what is kept is sent.
 fn asked<P: Platform, W: Wire>(
     stage: &Stage<'_, P>,
     crew: &mut Crew<P>,
@@ -89,10 +86,14 @@ fn asked<P: Platform, W: Wire>(
     let now = crew.caller.clock.now();
     let session = SessionId::Client(client);
     match ask_in(stage, &mut crew.caller.seat, hall, now, session, message) {
-        Ok(called) => {
-            send_before_a_wait(wire, called.receipt.answer());
-            finished(stage, crew, hall, client, called, wire)
-        }
+        Ok(Called { receipt, launch }) => match launch {
+            None if !waits(receipt.answer()) => Saying::Noted(receipt),
+            launch => {
+                // (that it could not be sent is told with the reply, whose write fails then)
+                let _ = wire.send();
+                finished(stage, crew, hall, client, Called { receipt, launch }, wire)
+            }
+        },
         Err(fault) => refused(fault),
     }
 }
