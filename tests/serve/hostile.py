@@ -277,6 +277,8 @@ def all_busy(program, workers):
             served = [daemon.client() for _ in range(workers)]
             waiting = [daemon.client(None) for _ in range(3)]
             until(lambda: len(daemon.lines[1:]) == count, f"a warning that {workers} are busy")
+            # (the listener is closed behind the last one)
+            until(lambda: daemon.descriptors()["socket"] == workers + len(waiting) + (count == 1), "a connection of each")
             rest = [client.ends() for client in served]
             then = [(type(client.ask(ask.hello(1000, 1000))), client.ends()) for client in waiting]
             if wrong := differs((rest, then), ([[]] * workers, [(tuple, [])] * 3)):
