@@ -121,7 +121,8 @@ def stepped():
 def served():
     asks = [(row[0], row[3]) for row in below("| connections | program |") if row[1] == "Rattle"]
     keys = [(row[0], row[3]) for row in below("| connections | keys/s |")]
-    return [f"{connections} {'connection' if connections == '1' else 'connections'}: {ratio}" for connections, ratio in asks + keys]
+    named = [(re.sub("^([0-9]+)", lambda it: f"{it[1]} connection{'s' * (it[1] != '1')}", load), ratio) for load, ratio in asks + keys]
+    return [f"{load}: {ratio}" for load, ratio in named]
 
 
 def rated(heads):
