@@ -10,6 +10,7 @@ ghost use Rattle.rk_core.specs.Finding.{answer_of, is_hello, is_first};
 ghost use Rattle.rk_core.specs.Sound.{IsSound};
 
 use crate::tables::Tables;
+use crate::wanted::Wanted;
 use rk_keys::Condition;
 use rk_machine::{Answer, Asker, EventOf};
 use rk_message::AskStep;
@@ -73,7 +74,14 @@ impl Tables {
                 description,
                 callout,
                 destination,
-            } => self.request(now, id, asker, typ, description, callout, destination),
+            } => {
+                let wanted = Wanted {
+                    typ,
+                    description,
+                    callout,
+                };
+                self.request(now, id, asker, &wanted, destination)
+            }
             AskStep::Assume { key } => self.assume(id, key),
             AskStep::Instantiate { key, payload, ring } => {
                 self.complete_key(now, asker, key, ring, Condition::Positive(payload), None)

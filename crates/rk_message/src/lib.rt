@@ -35,7 +35,8 @@
 //! `shape`, is proved to be that one. Asks are read and written field by field, and each is proved to go along its line of the
 //! table. `ask_reading` reads a view of the body, `ask_writing` writes a view of the ask. `field` reads one field from the front
 //! of the bytes, `spelling` writes a message. `reply_reading` and `reply_writing` have the four replies. What the table says of
-//! every body stands as laws in `laws`. `equality` compares messages, `copying` leads from each instance of an ask to the others.
+//! every body stands as laws in `laws`. `equality` compares messages, `copying` leads from each instance of an ask to the others, and
+//! `shared` keeps an ask whose copies share it.
 #![tactic(auto)]
 
 mod ask;
@@ -51,6 +52,7 @@ mod reply;
 mod reply_reading;
 mod reply_writing;
 mod shape;
+mod shared;
 mod spelling;
 
 pub use ask::{Ask, AskOf, AskStep, AskView};
@@ -60,3 +62,4 @@ pub use laws::{asks_have_one_reading, replies_have_one_reading};
 pub use reply::{Reply, ReplyBytes};
 pub use rk_names::KeyError;
 pub use shape::{AskShape, FieldKind, Op};
+pub use shared::SharedAsk;

@@ -3,17 +3,17 @@ ghost use Rattle.std.specs.Prelude.{◌≡◌, IfOk, IfErr, None, MatchResult, S
 ghost use Rattle.rk_names.specs.Rules.{description_fault, IsRefusedFor};
 
 use crate::errors::NameFault;
+use crate::name_bytes::NameBytes;
 use crate::text::text_fault;
 use std::alloc::{AllocError, Global};
 use std::marker::Model;
-use std::sync::Arc;
 
 /// What a key is called among those of its type: 1 to 4,095 bytes of UTF-8 without a zero byte
-/// (request_key(2), "DESCRIPTION"). Its copies share the bytes.
+/// (request_key(2), "DESCRIPTION"). At most 31 stand in the value, and the copies of more share them.
 #[derive(Debug, Drop)]
 pub struct Description {
     /// The text, 1 to 4,095 bytes.
-    bytes: Arc<Vec<u8>>,
+    bytes: NameBytes,
 }
 
 impl Model for Description {
@@ -22,9 +22,9 @@ impl Model for Description {
 
     ghost Value = { List ℕ };
 
-    ghost view = { λ n. n.bytes.value.items };
+    ghost view = { λ n. n.bytes };
 
-    ghost invariant = { λ n. description_fault n.bytes.value.items ≡ None };
+    ghost invariant = { λ n. description_fault n.bytes ≡ None };
 }
 
 impl Description {
@@ -63,9 +63,8 @@ impl Description {
         requires { description_fault bytes.now ≡ None }
         ensures { IfOk result (λ n. n ≡ bytes.now) }
     {
-        let bytes = Vec::from_slice(alloc, bytes)?;
         Ok(Description {
-            bytes: Arc::new(alloc, bytes)?,
+            bytes: NameBytes::of(alloc, bytes)?,
         })
     }
 
@@ -74,14 +73,16 @@ impl Description {
         ensures bytes { result.now ≡ self.now }
         ensures rule { description_fault self.now ≡ None }
     {
-        &self.bytes
+        self.bytes.as_slice()
     }
 
     /// The same, borrowed.
     pub fn view(&self) -> DescriptionView<'_>
         ensures { result ≡ self.now }
     {
-        DescriptionView { bytes: &self.bytes }
+        DescriptionView {
+            bytes: self.bytes.as_slice(),
+        }
     }
 }
 

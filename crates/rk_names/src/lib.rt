@@ -11,13 +11,13 @@
 //! A maker tests its rule and refuses by name, in one order: `Empty`, `TooLong`, `Dot`, `Byte`, and out of memory last. So `TypeName::new(b"user")`
 //! is made, `TypeName::new(b".x")` is refused with `Dot`. Where bytes are still borrowed, as in a message that is being read, a [`TypeView`] keeps
 //! the same rule and takes no memory, and `to_owned` copies it without another look. [`DescriptionView`], [`CalloutView`] and [`PayloadView`] do
-//! likewise. A type lies in its value and takes no memory. The bytes of a description and of a callout are shared by its copies, so that a step, its
-//! record and its receipt have one text in memory. [`Payload::new`] moves the bytes that it is handed and takes no memory either.
+//! likewise. A type lies in its value and takes no memory, and so does a description of at most 31 bytes. The copies of a longer one, or of a callout,
+//! share its bytes. [`Payload::new`] moves the bytes that it is handed and takes no memory either.
 //!
 //! # How it is built
 //!
 //! A file for each name (`type_name`, `description`, `callout`) and for `payload`; `numbers` has what
-//! is a number, `errors` the refusals, `equality` tells whether two names have the same bytes. The rules stand once, in
+//! is a number, `errors` the refusals, `name_bytes` keeps the bytes of a description, `equality` tells whether two names have the same bytes. The rules stand once, in
 //! `specs/Rules.antt`, as functions from bytes to the first fault; a maker, its test on borrowed bytes and its reader all cite them.
 #![tactic(auto)]
 
@@ -26,6 +26,7 @@ mod context;
 mod description;
 mod equality;
 mod errors;
+mod name_bytes;
 mod numbers;
 mod payload;
 mod text;

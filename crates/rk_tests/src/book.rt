@@ -14,7 +14,7 @@
 //! |---|---|
 //! | `100 open c1` | client 1 is there, at the moment 100 |
 //! | `c1 hello 1000 1000 3 0` | client 1 says who it is: uid, gid, its own rings (1 a thread ring, 2 a process ring, 3 both), the session ring to join, or 0 |
-//! | `c1 request user a none x` | client 1 asks, in the words of `reqkeyctl` (docs/CLIENT.md) |
+//! | `c1 request user a none x` | client 1 asks, in the words of `reqkeyctl` (reqkeyctl(1)) |
 //! | `launched 3 plain` | the handler of key 3 runs; or `piped`, `failed` |
 //! | `ended 3 exit 0 hi` | it ended, with what it output, if anything; or `signal`, `fault` |
 //! | `collect c1` | client 1 takes the outcome of its wait |

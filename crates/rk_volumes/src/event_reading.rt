@@ -15,7 +15,7 @@ use crate::fault::Unread;
 use crate::kinds::{how, ran, session};
 use crate::row::Row;
 use rk_machine::{Event, How};
-use rk_message::{Ask, ReadError};
+use rk_message::{Ask, ReadError, SharedAsk};
 use rk_names::{Payload, Serial, SessionId};
 use std::alloc::Global;
 
@@ -76,7 +76,10 @@ fn asked(alloc: Global, row: &Row<'_>) -> Result<Event, Unread>
         return Err(Unread::Bad);
     };
     match Ask::read(alloc, row.rest) {
-        Ok(ask) => Ok(Event::Asked(id, ask)),
+        Ok(ask) => match SharedAsk::new(alloc, ask) {
+            Ok(ask) => Ok(Event::Asked(id, ask)),
+            Err(_) => Err(Unread::NoMemory),
+        },
         Err(ReadError::NoMemory) => Err(Unread::NoMemory),
         Err(ReadError::Fault(_)) => Err(Unread::Bad),
     }

@@ -16,11 +16,17 @@ use std::alloc::{AllocError, Global};
 /// The numbers of a subject.
 #[derive(Clone, Copy)]
 struct Party {
+    /// The key to be made.
     key: u32,
+    /// The user of whoever requests it.
     uid: u32,
+    /// The group.
     gid: u32,
+    /// The thread ring, 0 for none.
     thread: u32,
+    /// The process ring, 0 for none.
     process: u32,
+    /// The session ring, 0 for none.
     session: u32,
 }
 

@@ -10,29 +10,30 @@ use Rattle.rk_machine.specs.Links.{linked_in}
 use Rattle.rk_machine.specs.Search.{Query}
 use Rattle.rk_machine.specs.Request.{waiting, subject_of}
 use Rattle.rk_machine.specs.declared.event.Answer.TheVariants.{Start}
+use Rattle.rk_core.specs.declared.wanted.Names.{Names}
 use Rattle.rk_core.proofs.Requests.NewKey.{new_known, others_stay, has_room, leads_nowhere}
 use Rattle.rk_core.proofs.tables.Tables.start.Goals as goal
 
 pub link-requires-clause-known : goal.link-requires-clause-known
 link-requires-clause-known c =
-    new_known c.args.self.now c.make_construction.new.self c.in_ok-key.key (new_key c.args.typ c.args.description c.args.asker.now.context.uid None)
+    new_known c.args.self.now c.make_construction.new.self c.in_ok-key.key (new_key c.args.names.typ c.args.names.description c.args.asker.now.context.uid None)
     (ap (λ (w : World). w.keys) c.in_ok-key.ensures.ok) (ap (λ (w : World). w.rings) c.in_ok-key.ensures.ok)
 
 pub link-requires-clause-tidy : goal.link-requires-clause-tidy
 link-requires-clause-tidy c =
-    others_stay c.args.self.now c.make_construction.new.self c.in_ok-key.key (new_key c.args.typ c.args.description c.args.asker.now.context.uid None)
+    others_stay c.args.self.now c.make_construction.new.self c.in_ok-key.key (new_key c.args.names.typ c.args.names.description c.args.asker.now.context.uid None)
     (ap (λ (w : World). w.keys) c.in_ok-key.ensures.ok) (ap (λ (w : World). w.rings) c.in_ok-key.ensures.ok) c.requires.sound.tidy
 
 pub link-requires-clause-room : goal.link-requires-clause-room
 link-requires-clause-room c =
-    has_room c.args.self.now c.make_construction.new.self c.in_ok-key.key (new_key c.args.typ c.args.description c.args.asker.now.context.uid None)
+    has_room c.args.self.now c.make_construction.new.self c.in_ok-key.key (new_key c.args.names.typ c.args.names.description c.args.asker.now.context.uid None)
     (ap (λ (w : World). w.keys) c.in_ok-key.ensures.ok) (ap (λ
     (w : World). w.rings) c.in_ok-key.ensures.ok) c.in_ok-key.ensures.unlinked c.args.ring c.requires.room
 
 pub wait-requires : goal.wait-requires
 wait-requires c =
     let authority : Authority =
-    record { context = c.args.asker.now.context; destination = c.args.ring; callout = c.args.callout; depth = c.args.asker.now.depth } in
+    record { context = c.args.asker.now.context; destination = c.args.ring; callout = c.args.names.callout; depth = c.args.asker.now.depth } in
     subst (λ (a : Sessions). ¬ (Leads a c.in_ok-key.key c.args.id.now))
     (sym (ap (λ (w : World). w.sessions) (c.link.ensures) ∙ ap (λ (w : World). w.sessions) c.in_ok-key.ensures.ok))
     (leads_nowhere c.args.self.now.sessions c.in_ok-key.key authority c.args.id.now
@@ -40,7 +41,7 @@ wait-requires c =
 
 pub returns-clause-ok : goal.returns-clause-ok
 returns-clause-ok c =
-    let q : Query = record { context = c.args.asker.now.context; typ = c.args.typ; description = c.args.description; now = c.args.now } in
+    let q : Query = record { context = c.args.asker.now.context; typ = c.args.names.typ; description = c.args.names.description; now = c.args.now } in
     let k : ℕ = c.in_ok-key.key in (
       k,
       c.in_ok-key.ensures.fresh,
@@ -48,9 +49,8 @@ returns-clause-ok c =
         λ i. Start k ((
             c.of_key.ensures
             ∙ ap (λ (s : Subject). record s { key = k }) (c.in_ok-subject.ensures ∙ c.subject-subject.ensures c.args.now)
-            ∙ (λ j. subject_of c.args.self.now k
-            (record q { typ = c.in_ok-told_typ.ensures.cases j; description = c.in_ok-told_description.ensures.cases j })
-            (c.in_ok-told_callout.ensures.cases j))) i),
+            ∙ ap (λ (n : Names). subject_of c.args.self.now k (record q { typ = n.typ; description = n.description }) n.callout)
+            c.in_ok-told.ensures.cases) i),
         c.wait.ensures ∙ ap (waiting c.args.id.now k true) (c.link.ensures
             ∙ ap (λ (w : World). tidied (linked_in (Some c.args.ring) k w)) c.in_ok-key.ensures.ok),
       ),

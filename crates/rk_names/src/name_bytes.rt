@@ -1,0 +1,65 @@
+//! The bytes of a description.
+ghost use Rattle.std.specs.Prelude.{◌≡◌, IfOk};
+
+use arrayvec::ArrayVec;
+use std::alloc::{AllocError, Global};
+use std::marker::Model;
+use std::sync::Arc;
+
+/// How many bytes stand in the value.
+const INLINE: usize = 31;
+
+/// The bytes of a description. At most 31 stand in the value, so that most copies take no memory; the copies of more share them.
+#[derive(Debug, Drop)]
+pub(crate) struct NameBytes {
+    /// At most 31 bytes; none where there are more.
+    few: ArrayVec<u8, INLINE>,
+    /// All bytes, where there are more.
+    many: Option<Arc<Vec<u8>>>,
+}
+
+impl Model for NameBytes {
+    ghost use Rattle.std.specs.Prelude.{List, ℕ, option_map, unwrap_or};
+
+    ghost Value = { List ℕ };
+
+    ghost view = { λ b. unwrap_or (option_map (λ many. many.value.items) b.many) b.few.items };
+}
+
+impl NameBytes {
+    /// A copy of the bytes. An `Err` is out of memory, which comes for more than 31 bytes alone.
+    pub(crate) fn of(alloc: Global, bytes: &[u8]) -> Result<NameBytes, AllocError>
+        ensures { IfOk result (λ copy. copy ≡ bytes.now) }
+    {
+        let mut few = ArrayVec::new();
+        if few.try_extend_from_slice(bytes).is_ok() {
+            return Ok(NameBytes { few, many: None });
+        }
+        let many = Vec::from_slice(alloc, bytes)?;
+        Ok(NameBytes {
+            few,
+            many: Some(Arc::new(alloc, many)?),
+        })
+    }
+
+    /// The bytes.
+    pub(crate) fn as_slice(&self) -> &[u8]
+        ensures { result.now ≡ self.now }
+    {
+        match &self.many {
+            Some(many) => many,
+            None => &self.few,
+        }
+    }
+}
+
+impl Clone for NameBytes {
+    ghost is_clone = { λ bytes copy. copy ≡ bytes };
+
+    fn clone(&self) -> Result<NameBytes, AllocError> {
+        Ok(NameBytes {
+            few: self.few.clone()?,
+            many: self.many.clone()?,
+        })
+    }
+}
