@@ -3,3 +3,4 @@ pub mod Receipts
 pub mod Starts
 pub mod Crossing
 pub mod LedgerNames
+pub mod HandedIn

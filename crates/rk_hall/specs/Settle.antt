@@ -1,6 +1,7 @@
 -- What seats and receipts say of four records.
-use Rattle.std.specs.Prelude.{◌≡◌, ◌≢◌, ◌⊎◌, ℕ, ◌+◌, ◌<◌, List, slice_get, length, Some, Result, Ok, Err}
+use Rattle.std.specs.Prelude.{◌≡◌, ◌≢◌, ◌⊎◌, ℕ, ◌+◌, ◌<◌, ◌≤◌, List, slice_get, length, Some, Result, Ok, Err}
 use Rattle.rk_record.specs.declared.hall_no.HallNo.{HallNo}
+use Rattle.rk_record.specs.declared.hall_no.HallNo.TheVariants.{Zero, One, Two, Three}
 use Rattle.rk_record.specs.declared.recorded.Recorded.{Recorded}
 use Rattle.rk_record.specs.HallNumbers.{hall_number}
 use Rattle.rk_record.specs.Record.{HallShown, IsRecord}
@@ -40,9 +41,13 @@ Stands h volumes r =
     ((r.volume ≡ h.index) × StandsIn h.before h.steps r)
     ⊎ ((v : VolumeShown) × IsHandedIn volumes r v × StandsIn v.before v.steps r)
 
--- the receipt at this place is genuine: it is numbered above those of its hall that come before it, and stands in its volume
+-- the receipt at this place is numbered above those of its hall that come before it
+abbrev pub Rises : List Noted → ℕ → Noted → Type 0
+Rises receipts place r = (k : ℕ) (s : Noted) → k < place → slice_get receipts k ≡ Some s → s.hall ≡ r.hall → s.number < r.number
+
+-- the receipt at this place is genuine: it rises above those before it, and stands in its volume
 pub record IsGenuine (h : HallShown) (volumes : List VolumeShown) (receipts : List Noted) (place : ℕ) (r : Noted) : Type 0 where
-  pub rises : (k : ℕ) (s : Noted) → k < place → slice_get receipts k ≡ Some s → s.hall ≡ r.hall → s.number < r.number
+  pub rises : Rises receipts place r
   pub stands : Stands h volumes r
 
 -- all receipts of the hall before this place are genuine
@@ -116,3 +121,39 @@ pub record SettlesSome (volumes : List VolumeShown) (seats : List SeatShown) (re
   pub sound : AreSound halls
   pub turns : (hall : HallNo) → (closed_of hall halls).live ≡ turns_of hall seats
   pub settles : Settles halls volumes receipts result
+
+-- ---- what is said of seats, volumes and receipts, whatever the halls are
+
+-- the turns of these seats, in all halls
+abbrev pub all_turns : List SeatShown → ℕ
+all_turns seats = turns_of Zero seats + turns_of One seats + turns_of Two seats + turns_of Three seats
+
+-- the receipt stands in a volume that was handed in
+abbrev pub StandsInOne : List VolumeShown → Noted → Type 0
+StandsInOne volumes r = (v : VolumeShown) × IsHandedIn volumes r v × StandsIn v.before v.steps r
+
+-- all adds up: the live turns are those of the seats, with the retired ones they are all steps, and no receipt is at fault
+pub record AddsUp (volumes : List VolumeShown) (seats : List SeatShown) (receipts : List Noted) (total : Total) : Type 0 where
+  pub even : IsEven total
+  pub live : total.live ≡ all_turns seats
+  pub rise : (k : ℕ) (r : Noted) → slice_get receipts k ≡ Some r → Rises receipts k r
+  -- the volumes that the halls were recording. A receipt of any other stands in one that was handed in
+  pub index : HallNo → ℕ
+  pub stand : (k : ℕ) (r : Noted) → slice_get receipts k ≡ Some r → (r.volume ≡ index r.hall) ⊎ StandsInOne volumes r
+
+-- the receipt at this place may be the first at fault: those of the halls below its own rise, and those of its hall before it
+pub record IsNamed (receipts : List Noted) (hall : HallNo) (place : ℕ) (r : Noted) : Type 0 where
+  pub found : slice_get receipts place ≡ Some r
+  pub of_hall : r.hall ≡ hall
+  pub below : (k : ℕ) (s : Noted) → slice_get receipts k ≡ Some s → hall_number s.hall < hall_number hall → Rises receipts k s
+  pub before : (k : ℕ) (s : Noted) → k < place → slice_get receipts k ≡ Some s → s.hall ≡ hall → Rises receipts k s
+
+-- what a settlement says of them. All adds up; or the steps are not the turns, of which these seats made no more than are held; or a receipt is named,
+-- whose volume was not handed in, or which does not rise or stands in no volume that was
+abbrev pub Says : List VolumeShown → List SeatShown → List Noted → Result Total SettleFault → Type 0
+Says volumes seats receipts (Ok total) = AddsUp volumes seats receipts total
+Says volumes seats receipts (Err (Uneven steps held)) = (steps ≢ held) × (all_turns seats ≤ held)
+Says volumes seats receipts (Err (Missing hall volume)) =
+    (place : ℕ) × (r : Noted) × IsNamed receipts hall place r × (r.volume ≡ volume) × ((v : VolumeShown) × IsHandedIn volumes r v → ⊥)
+Says volumes seats receipts (Err (Forged hall number)) =
+    (place : ℕ) × (r : Noted) × IsNamed receipts hall place r × (r.number ≡ number) × (Rises receipts place r → StandsInOne volumes r → ⊥)

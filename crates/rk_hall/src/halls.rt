@@ -6,6 +6,7 @@ ghost use Rattle.rk_record.specs.Copies.{told_of, started};
 ghost use Rattle.rk_hall.specs.Seats.{new_seat, part, with_part, after_call, IsCall, CallRefused, negated, runs_on, without_client, IsOutcomeOrNone};
 ghost use Rattle.rk_hall.specs.Seats.{OwedPart, OwedSeen};
 
+use crate::end::End;
 use crate::fresh::Fresh;
 use crate::lapse::{CallFault, Lapse, Owed};
 use crate::lock::Lock;
@@ -291,10 +292,10 @@ impl<N: Names> Halls<N> {
             ticket,
         } = running;
         let subject = subject.negated();
+        let end = End { how, payload };
         match ticket {
             OneOfFour::Zero(ticket) => goes_on!(
-                self.zero
-                    .ended(rt, &mut seat.zero, now, key, ticket, how, payload),
+                self.zero.ended(rt, &mut seat.zero, now, key, ticket, end),
                 Launch,
                 Zero,
                 key,
@@ -302,8 +303,7 @@ impl<N: Names> Halls<N> {
                 depth
             ),
             OneOfFour::One(ticket) => goes_on!(
-                self.one
-                    .ended(rt, &mut seat.one, now, key, ticket, how, payload),
+                self.one.ended(rt, &mut seat.one, now, key, ticket, end),
                 Launch,
                 One,
                 key,
@@ -311,8 +311,7 @@ impl<N: Names> Halls<N> {
                 depth
             ),
             OneOfFour::Two(ticket) => goes_on!(
-                self.two
-                    .ended(rt, &mut seat.two, now, key, ticket, how, payload),
+                self.two.ended(rt, &mut seat.two, now, key, ticket, end),
                 Launch,
                 Two,
                 key,
@@ -320,8 +319,7 @@ impl<N: Names> Halls<N> {
                 depth
             ),
             OneOfFour::Three(ticket) => goes_on!(
-                self.three
-                    .ended(rt, &mut seat.three, now, key, ticket, how, payload),
+                self.three.ended(rt, &mut seat.three, now, key, ticket, end),
                 Launch,
                 Three,
                 key,

@@ -20,7 +20,8 @@
 //! *Receipts.* When all is over, [`settle`] compares the records with the seats and with the receipts that their calls returned. It answers `Ok`
 //! exactly where the turns of the seats are all steps, and every receipt stands in the record of its hall, by rising number. Else it names what is
 //! missed, or the first receipt at fault. The records are those that stand under the locks then. No contract sees what a lock keeps, so no proof says
-//! that they are the records of the calls before. Tests of threads compare it.
+//! that they are the records of the calls before, nor that all strays are counted: tests compare both. Whatever the records are, the live turns are
+//! those of the seats, receipts rise, and a fault names a receipt that was handed in.
 //!
 //! A seat, a token or a volume works only with the `Halls` that made it, by its type. Not promised: that a lock is ever got, that a waiter wakes, and
 //! any order between threads beyond the numbers. That each step which gives an outcome wakes those who wait for it is tried by tests.
@@ -31,16 +32,18 @@
 //!
 //! # How it is built
 //!
-//! `names` and `fresh` have the ledgers of a `Halls`. `part` is a seat's part in one hall, `ticket` the right to say what becomes of one construction:
-//! each has a share of a ledger. `opening` makes a hall without a step. `locked` is what is under the lock of a hall, with the whole contract of each
-//! call, `lock` takes the lock, and `halls` chooses the hall. `seat` and `token` have what callers hold, `volume` a volume that was handed out, `lapse`
-//! why there is no receipt. `closed` is a hall that was taken out of its lock, `genuine` looks for receipts in it, and `settling` puts the four together.
+//! `names` and `fresh` have the ledgers of a `Halls`. `part` is a seat's part in one hall, `ticket` the right to say what becomes of one
+//! construction: each has a share of a ledger. `opening` makes a hall without a step. `locked` is what is under the lock of a hall, with the whole
+//! contract of each call, `lock` takes the lock, and `halls` chooses the hall. `seat` and `token` have what callers hold, `volume` a volume that was
+//! handed out, `end` how a handler has ended, `lapse` why there is no receipt. `closed` is a hall that was taken out of its lock, `genuine` looks for
+//! receipts in it, and `settling` puts the four together.
 //!
 //! In `specs/`, `Seats` says what a call does to a seat, and `Locked` what the lock keeps and what a call does under it. `Tickets` says of which hall
 //! a ticket is, `Closed` what is known of a hall without its lock, `Settle` what a settlement answers.
 #![tactic(auto)]
 
 mod closed;
+mod end;
 mod fresh;
 mod genuine;
 mod halls;

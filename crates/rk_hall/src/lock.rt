@@ -10,6 +10,7 @@ ghost use Rattle.rk_record.specs.declared.hall_no.HallNo.{HallNo};
 ghost use Rattle.rk_hall.specs.Seats.{no_calls, after_call, IsCall, CallRefused, runs_on, without_client, IsOutcomeOrNone, OwedPart};
 
 use crate::closed::Closed;
+use crate::end::End;
 use crate::fresh::Ledgers;
 use crate::lapse::{CallFault, Lapse, Owed};
 use crate::locked::{Begun, Locked};
@@ -17,9 +18,9 @@ use crate::names::Names;
 use crate::opening::empty_hall;
 use crate::part::Part;
 use crate::ticket::Ticket;
-use rk_machine::{Answer, EventOf, EventStep, How, Ran};
+use rk_machine::{Answer, EventOf, EventStep, Ran};
 use rk_message::AskStep;
-use rk_names::{Description, Errno, Moment, Payload, Serial, SessionId, TypeName};
+use rk_names::{Description, Errno, Moment, Serial, SessionId, TypeName};
 use rk_record::{Copies, HallFault, HallNo, Receipt, Volume};
 use std::alloc::{AllocError, Global};
 use std::sync::{Condvar, Mutex, Wait};
@@ -129,17 +130,13 @@ impl<N: Names, const H: u64> Lock<N, H> {
         now: Moment,
         key: Serial,
         ticket: Ticket<N, H>,
-        how: How,
-        payload: Option<Payload>,
+        end: End,
     ) -> Owed<Option<Ticket<N, H>>>
-        ensures step { (hall : HallNo) → hall_number hall ≡ H → OwedPart hall now (EventOf.Ended key how payload) part.old part.new result.receipt }
+        ensures step { (hall : HallNo) → hall_number hall ≡ H → OwedPart hall now (EventOf.Ended key end.how end.payload) part.old part.new result.receipt }
         ensures answer { IfOk result.receipt (λ r. is_some result.value ≡ is_followed r.answer) }
         ensures stray { result.receipt ≡ Err Lapse.Stray → result.value ≡ None }
     {
-        let owed = self
-            .locked
-            .lock(rt)
-            .ended(part, now, key, ticket, how, payload);
+        let owed = self.locked.lock(rt).ended(part, now, key, ticket, end);
         self.tell_if_over(&owed);
         owed
     }

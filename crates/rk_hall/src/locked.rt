@@ -12,13 +12,14 @@ ghost use Rattle.rk_record.specs.Volumes.{volume_of, rolled, CannotRoll};
 ghost use Rattle.rk_hall.specs.Seats.{no_calls, after_call, IsCall, runs_on, without_client, IsOutcomeOrNone, IsOutcome, IsDepth};
 ghost use Rattle.rk_hall.specs.Locked.{taken, HasDepth, RefusedUnder, OwedTurn, IsOwedOr, strays_of};
 
+use crate::end::End;
 use crate::lapse::{CallFault, Lapse, Owed};
 use crate::names::{Calls, Names, Out};
 use crate::part::Part;
 use crate::ticket::Ticket;
-use rk_machine::{Answer, BoxedSubject, EventOf, EventStep, How, Ran};
+use rk_machine::{Answer, BoxedSubject, EventOf, EventStep, Ran};
 use rk_message::Reply;
-use rk_names::{Description, Errno, Moment, Payload, Serial, SessionId, TypeName};
+use rk_names::{Description, Errno, Moment, Serial, SessionId, TypeName};
 use rk_record::{Copies, Hall, HallFault, Receipt, Volume};
 use std::alloc::{AllocError, Global};
 use std::marker::Model;
@@ -227,16 +228,16 @@ impl<N: Names, const H: u64> Locked<N, H> {
         now: Moment,
         key: Serial,
         ticket: Ticket<N, H>,
-        how: How,
-        payload: Option<Payload>,
+        end: End,
     ) -> Owed<Option<Ticket<N, H>>>
-        ensures step { OwedTurn self.old.hall now (EventOf.Ended key how payload) part.old part.new self.new.hall result.receipt
+        ensures step { OwedTurn self.old.hall now (EventOf.Ended key end.how end.payload) part.old part.new self.new.hall result.receipt
             (λ a. is_some result.value ≡ is_followed a) }
         ensures stray { result.receipt ≡ Err Lapse.Stray → result.value ≡ None }
-        ensures owed { IsOwedOr self.old.hall (EventOf.Ended key how payload) result.receipt }
+        ensures owed { IsOwedOr self.old.hall (EventOf.Ended key end.how end.payload) result.receipt }
         ensures hall { IfOk result.receipt (λ r. hall_number r.hall ≡ H) }
         ensures kept { self.new ≡ record self.old { hall = self.new.hall; strays = self.old.strays + strays_of result.receipt } }
     {
+        let End { how, payload } = end;
         let event = EventStep::Ended(key, how, payload);
         if !self.hall.owes(&event) {
             self.put_stray(ticket);

@@ -1,6 +1,6 @@
 //! Whether seats and receipts agree with the records, when all is over.
 ghost use Rattle.std.specs.Prelude.{◌≡◌, ◌+◌, ◌≤◌, ◌^◌, MatchOption};
-ghost use Rattle.rk_hall.specs.Settle.{total_of, AreGenuineBelow, HasFirstFault, AreSound, Settles, SettlesSome};
+ghost use Rattle.rk_hall.specs.Settle.{total_of, AreGenuineBelow, HasFirstFault, AreSound, Settles, SettlesSome, Says};
 
 use crate::closed::AllClosed;
 use crate::genuine::first_fault;
@@ -48,14 +48,17 @@ pub enum SettleFault {
 /// the one that the hall records nor among those that are handed in; else [`SettleFault::Forged`]. Receipts of several halls may come in any
 /// order among one another.
 ///
-/// The records are those that stand under the locks in the end. No contract sees what a lock keeps, so no proof says that the calls before made them.
+/// The records are those that stand under the locks in the end. No contract sees what a lock keeps, so no proof says that the calls before made them,
+/// nor how many tokens went astray. What does not rest on the halls is said of what is handed in alone: the live turns are those of the seats, and
+/// which receipt is at fault, and why.
 pub fn settle<N: Names>(
     halls: Halls<N>,
     volumes: &[Volume<N>],
     seats: Vec<Seat<N>>,
     receipts: &[Receipt],
 ) -> Result<Total, SettleFault>
-    ensures { SettlesSome volumes.now seats.items receipts.now result }
+    ensures halls { SettlesSome volumes.now seats.items receipts.now result }
+    ensures handed_in { Says volumes.now seats.items receipts.now result }
 {
     let mut closed = AllClosed::of(halls);
     closed.take_in(seats);

@@ -15,9 +15,13 @@ pub(crate) struct Ticket<N: Names, const H: u64> {
 
 /// A ticket of one of the four halls.
 pub(crate) enum OneOfFour<A, B, C, D> {
+    /// Of hall 0.
     Zero(A),
+    /// Of hall 1.
     One(B),
+    /// Of hall 2.
     Two(C),
+    /// Of hall 3.
     Three(D),
 }
 

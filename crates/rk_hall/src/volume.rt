@@ -1,6 +1,6 @@
 //! A volume of a record, of one `Halls`.
 ghost use Rattle.std.specs.Prelude.{◌≡◌, ◌↔◌, IsTrue};
-ghost use Rattle.rk_record.specs.Record.{Runs};
+ghost use Rattle.rk_record.specs.Record.{Runs, GoesOn};
 
 use crate::names::Names;
 use rk_record::{HallNo, Receipt, Recorded};
@@ -51,6 +51,7 @@ impl<N: Names> Volume<N> {
     pub fn steps(&self) -> &[Recorded]
         ensures steps { result.now ≡ self.now.steps }
         ensures run { Runs self.now.opening self.now.steps self.now.closing }
+        ensures goes_on { GoesOn self.now.before self.now.opening self.now.steps self.now.closing }
     {
         self.volume.steps()
     }

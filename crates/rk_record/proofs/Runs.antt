@@ -7,11 +7,11 @@ use Rattle.rk_machine.specs.declared.event.Answer.{Answer}
 use Rattle.rk_machine.specs.World.{World, empty_world}
 use Rattle.rk_machine.specs.Steps.{Beginning, Past, Step, Run}
 use Rattle.rk_machine.specs.Owing.{owed_to, ends_owed_to, whose, start_owes, start_ends}
-use Rattle.rk_machine.specs.Recording.{Recording}
+use Rattle.rk_machine.specs.Recording.{Reached, Recording}
 use Rattle.rk_machine.proofs.EveryRun.KeepsLaws.{lawful}
-use Rattle.rk_machine.proofs.OwedSteps.EachRecorded.{reached_empty, reached_next, reached_recording, empty_owes, no_ends}
+use Rattle.rk_machine.proofs.OwedSteps.EachRecorded.{reached_recording, empty_owes, no_ends}
 use Rattle.rk_record.specs.declared.recorded.Recorded.{Recorded}
-use Rattle.rk_record.specs.Record.{IsRecord, HallShown, Runs, past_of, past_step, IsSound, places_after}
+use Rattle.rk_record.specs.Record.{IsRecord, HallShown, Runs, IsReached, GoesOn, past_of, past_step, IsSound, places_after}
 
 -- a run and one more step are a run
 pub runs-snoc : (w v u : World) (ss : List Recorded) (s : Recorded) → Runs w ss v → Step v s.now s.event s.answer u → Runs w (ss ++ s ∷ []) u
@@ -30,13 +30,36 @@ unfolding Runs
 runs_on from past w v [] run on = subst (Run from past) on run
 runs_on from past w v (s ∷ ss) run on = runs_on from (past_step s ∷ past) on.0 v ss (w, run, on.1) on.2
 
+-- there are so many steps more
+length-past_of : (ss : List Recorded) (past : List Past) → length (past_of ss past) ≡ length past + length ss
+length-past_of [] past = omega arith
+length-past_of (s ∷ ss) past = let n = length-past_of ss (past_step s ∷ past) in omega arith
+
+-- where a run leads, it goes on with the steps that lead on from there
+pub reached_on : (before : ℕ) (w v : World) (ss : List Recorded) → IsReached before w → Runs w ss v → IsReached (before + length ss) v
+reached_on before w v ss r on = record {
+  from = r.from;
+  past = past_of ss r.past;
+  counted = (let n = length-past_of ss r.past in let m = r.counted in omega arith);
+  run = runs_on r.from r.past w v ss r.run on;
+}
+
+-- and obeys the laws
+pub goes_on : (before : ℕ) (w v : World) (ss : List Recorded) → IsReached before w → Runs w ss v → GoesOn before w ss v
+goes_on before w v ss r on = let longer = runs_on r.from r.past w v ss r.run on in (r, (longer, lawful r.from (past_of ss r.past) v longer))
+
 -- ---- what a hall keeps
+
+-- a run leads to the world of a sound record
+pub sound_reached : {o : World} {before limit places : ℕ} {w : World} {steps : List Recorded} {reserved ends : ℕ}
+    → IsSound o before limit places w steps reserved ends → Reached w
+sound_reached {o} {before} {limit} {places} {w} {steps} s = let r = reached_on before o w steps s.opened s.runs in (r.from, r.past, r.run)
 
 -- an empty record of at most 1,048,576 places is sound
 pub sound_none : (negative first stride places : ℕ) → places ≤ 1048576
     → IsSound (empty_world negative first stride) 0 places places (empty_world negative first stride) [] 0 0
 sound_none negative first stride places most = record {
-  reached = reached_empty negative first stride;
+  opened = record { from = record { negative = negative; first = first; stride = stride }; past = []; counted = refl; run = refl };
   runs = runs-none _;
   owes = sym (empty_owes negative first stride);
   owes_ends = sym (no_ends negative first stride);
@@ -53,14 +76,14 @@ pub sound_next : (o : World) (before limit places : ℕ) (w v : World) (steps : 
     → IsSound o before limit places v (steps ++ record { now = now; event = e; answer = a } ∷ [])
     (reserved + owed_to v (whose e) + start_owes a - owed_to w (whose e)) (ends + ends_owed_to v (whose e) + start_ends a - ends_owed_to w (whose e))
 sound_next o before limit places w v steps reserved ends room now e a s step le one fits =
-    let b : Recording w e a v = reached_recording w now e a v s.reached step in
+    let b : Recording w e a v = reached_recording w now e a v (sound_reached s) step in
     let p = b.places in
     let q = b.ends in
     let r = s.owes in
     let t = s.owes_ends in
     let n = length-append steps (record { now = now; event = e; answer = a } ∷ []) in
     record {
-      reached = reached_next w now e a v s.reached step;
+      opened = s.opened;
       runs = runs-snoc o w v steps (record { now = now; event = e; answer = a }) s.runs step;
       owes = omega arith;
       owes_ends = omega arith;
@@ -79,6 +102,7 @@ sound_same o before limit places w v steps reserved ends is s = subst (λ x. IsS
 pub sound_shown : (h : HallShown) (reserved ends : ℕ) → IsSound h.opening h.before h.limit h.places h.world h.steps reserved ends → IsRecord h
 sound_shown h reserved ends s = record {
   runs = s.runs;
+  goes_on = goes_on h.before h.opening h.world h.steps s.opened s.runs;
   laws = λ from past run. let longer = runs_on from past h.opening h.world h.steps run s.runs in (longer, lawful from (past_of h.steps past) h.world longer);
   fits = (let a = s.owes in let b = s.fits in omega arith);
   numbers = s.numbers;
@@ -109,7 +133,7 @@ sound_rolled o before limit places w steps reserved ends s fits =
     let n = s.numbers in
     let fit = places_fit limit (before + length steps) (omega arith) in
     record {
-      reached = s.reached;
+      opened = reached_on before o w steps s.opened s.runs;
       runs = runs-none w;
       owes = s.owes;
       owes_ends = s.owes_ends;

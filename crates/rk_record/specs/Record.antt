@@ -6,7 +6,6 @@ use Rattle.rk_machine.specs.Steps.{Beginning, Past, Step, Run}
 use Rattle.rk_machine.specs.Laws.{ContinuesTo}
 use Rattle.rk_machine.specs.Views.{is_owed}
 use Rattle.rk_machine.specs.Owing.{owed, ends_owed, need}
-use Rattle.rk_machine.specs.Recording.{Reached}
 use Rattle.rk_machine.specs.Event.{Event}
 use Rattle.rk_record.specs.declared.hall_no.HallNo.{HallNo}
 use Rattle.rk_record.specs.contracts.hall_no.HallNo as hall_no
@@ -26,6 +25,17 @@ past_step s = record { now = s.now; event = s.event; answer = s.answer }
 abbrev pub past_of : List Recorded → List Past → List Past
 past_of [] past = past
 past_of (s ∷ ss) past = past_of ss (past_step s ∷ past)
+
+-- a run of so many steps leads to this world
+pub record IsReached (count : ℕ) (w : World) : Type 0 where
+  pub from : Beginning
+  pub past : List Past
+  pub counted : length past ≡ count
+  pub run : Run from past w
+
+-- a run of so many steps leads to the first world. It goes on with these steps to the second one, and obeys the laws of every run
+abbrev pub GoesOn : ℕ → World → List Recorded → World → Type 0
+GoesOn before opening steps closing = (r : IsReached before opening) × ContinuesTo r.from (past_of steps r.past) closing
 
 -- what is seen of a hall: the volume that it records, and the world of its book
 pub record HallShown : Type 0 where
@@ -70,9 +80,10 @@ free h = h.places - (length h.steps + owed h.world)
 abbrev pub IsFull : HallShown → Event → Type 0
 IsFull h e = (is_owed h.world e ≡ false) × (free h < need e)
 
--- what a hall keeps: the volume is a run that leads to the book's world, and places and room for payloads are kept for all that is owed
+-- what a hall keeps: a run leads to where the volume opened, the volume leads on to the book's world, and places and room for payloads are kept for all
+-- that is owed
 pub record IsSound (opening : World) (before limit places : ℕ) (w : World) (steps : List Recorded) (reserved ends : ℕ) : Type 0 where
-  pub reached : Reached w
+  pub opened : IsReached before opening
   pub runs : Runs opening steps w
   pub owes : reserved ≡ owed w
   pub owes_ends : ends ≡ ends_owed w
@@ -84,6 +95,8 @@ pub record IsSound (opening : World) (before limit places : ℕ) (w : World) (st
 -- what holds of every hall
 pub record IsRecord (h : HallShown) : Type 0 where
   pub runs : Runs h.opening h.steps h.world
+  -- the steps of the volumes before this one are a run that leads to where it opened, goes on with it, and obeys the laws
+  pub goes_on : GoesOn h.before h.opening h.steps h.world
   -- whatever run led to where the volume opened, it goes on with the volume, and obeys the laws
   pub laws : (from : Beginning) (past : List Past) → Run from past h.opening → ContinuesTo from (past_of h.steps past) h.world
   -- there are places for all that is owed

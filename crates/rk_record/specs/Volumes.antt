@@ -11,7 +11,7 @@ use Rattle.rk_record.specs.declared.hall_no.HallNo.{HallNo}
 use Rattle.rk_record.specs.contracts.hall_no.HallNo as hall_no
 use Rattle.rk_record.specs.declared.recorded.Recorded.{Recorded}
 use Rattle.rk_record.specs.contracts.recorded.Recorded as recorded
-use Rattle.rk_record.specs.Record.{HallShown, Runs, places_after}
+use Rattle.rk_record.specs.Record.{HallShown, Runs, IsReached, places_after}
 use Rattle.rk_record.specs.declared.rejoin_fault.Rejoin.{Rejoin}
 use Rattle.rk_record.specs.declared.rejoin_fault.Rejoin.TheVariants.{Broken, NoMemory}
 
@@ -31,6 +31,11 @@ volume_code =
     (coded× hall_no.the_row.coded (coded× coded_ℕ (coded× coded_ℕ (coded× world_code (coded× world_code (coded_list recorded.the_row.coded))))))
     (λ v. (v.hall, (v.index, (v.before, (v.opening, (v.closing, v.steps))))))
     (λ p. record { hall = p.0; index = p.1.0; before = p.1.1.0; opening = p.1.1.1.0; closing = p.1.1.1.1.0; steps = p.1.1.1.1.1 }) (λ _. refl)
+
+-- what a volume keeps: a run of as many steps as the volumes before it have leads to where it opened, and its steps lead on to where it closed
+pub record IsVolume (before : ℕ) (opening : World) (steps : List Recorded) (closing : World) : Type 0 where
+  pub opened : IsReached before opening
+  pub runs : Runs opening steps closing
 
 -- the volume that is handed out
 abbrev pub volume_of : HallShown → VolumeShown

@@ -18,20 +18,20 @@ pub(crate) fn place_for_subject(
     ensures { IfOk result (λ n. option_map names_in n ≡ asked_of event.now) }
 {
     match event {
-        Event::Asked(
-            _,
+        Event::Asked(_, ask) => match ask.ask() {
             Ask::Request {
                 typ,
                 description,
                 callout: Some(callout),
                 ..
-            },
-        ) => Ok(Some(BoxedSubject::of_names(
-            alloc,
-            typ.clone()?,
-            description.clone()?,
-            callout.clone()?,
-        )?)),
+            } => Ok(Some(BoxedSubject::of_names(
+                alloc,
+                typ.clone()?,
+                description.clone()?,
+                callout.clone()?,
+            )?)),
+            _ => Ok(None),
+        },
         _ => Ok(None),
     }
 }

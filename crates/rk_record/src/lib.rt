@@ -8,15 +8,17 @@
 //!
 //! # What it promises
 //!
-//! A record is a run of the machine that leads to the book's state, and it obeys the laws of every run. A turn records one step, changes the book by
-//! that step alone, and its receipt says the step; a fault does nothing. No step is answered by out of memory.
+//! A record is a run of the machine from the empty state on, which leads to the book's state and obeys the laws of every run. It has as many steps as
+//! all volumes together. A turn records one step, changes the book by that step alone, and its receipt says the step; a fault does nothing. No step is
+//! answered by out of memory.
 //!
 //! What the book owes is never refused: the launch and the end of a construction, the collect of a wait, the end of a client. From the moment on at
 //! which it is owed, a place in the record and room for the payload of an end are kept. So an owed turn takes no memory. An event that is not owed is
 //! refused as full exactly where it may need more places than are free.
 //!
 //! A record is cut into volumes. [`Hall::roll`] hands out the volume that is being recorded, with exactly its steps, and the next one opens in the
-//! state in which this one closed. The numbers of the steps go on. [`rejoin`] steps an empty book through volumes that are joined: where it answers
+//! state in which this one closed. The numbers of the steps go on. So a run of as many steps as the volumes before it have leads to where a volume
+//! opens. [`rejoin`] steps an empty book through volumes that are joined: where it answers
 //! `Ok`, they are a run from the empty state on.
 //!
 //! # Use
@@ -29,7 +31,7 @@
 //! `journal` has the steps of the volume that is being recorded, with the places and the room that are kept; `room` is room for one payload. `hall`
 //! has the hall and what is only asked of it, `turn` its turns, `roll` its volumes. A turn asks the book before the step and after it what is owed to
 //! the client or construction that the event is about, and keeps the difference. It knows no kind of event by itself. `copies` has what is copied of
-//! a step, since the record, the receipt and whoever starts a handler each own what they say. Of an event that is not owed the caller may make the
+//! a step: the record and the receipt share what was asked, and whoever starts a handler has its own. Of an event that is not owed the caller may make the
 //! [`Copies`] before the hall is locked. `recorded`, `told`, `receipt`, `volume` and `fault` have what is recorded and handed out, `hall_no` the
 //! numbers of the halls, `joining` and `rejoin_fault` have `rejoin`.
 //!

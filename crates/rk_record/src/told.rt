@@ -3,7 +3,7 @@ ghost use Rattle.std.specs.Prelude.{◌≡◌, ◌↔◌, IsTrue, IfOk, length, 
 ghost use Rattle.rk_record.specs.Copies.{told_of, IsNoAsk};
 
 use rk_machine::{Event, EventStep, How, Ran};
-use rk_message::Ask;
+use rk_message::SharedAsk;
 use rk_names::{Payload, Serial, SessionId};
 use std::alloc::AllocError;
 
@@ -13,7 +13,7 @@ pub enum Told {
     /// A client is there.
     Opened(SessionId),
     /// A session asks.
-    Asked(SessionId, Ask),
+    Asked(SessionId, SharedAsk),
     /// The handler of a key was started, or could not be.
     Launched(Serial, Ran),
     /// The handler of a key has ended; a piped one may have output a payload of this length.
@@ -61,7 +61,7 @@ impl Told {
         match (self, event) {
             (Told::Opened(id), Event::Opened(other)) => id == other,
             (Told::Asked(id, ask), Event::Asked(other_id, other_ask)) => {
-                id == other_id && ask.equals(other_ask)
+                id == other_id && ask.ask().equals(other_ask.ask())
             }
             (Told::Launched(key, ran), Event::Launched(other_key, other_ran)) => {
                 key == other_key && ran == other_ran

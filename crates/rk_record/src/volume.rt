@@ -1,6 +1,6 @@
 //! A volume of a record, handed out.
 ghost use Rattle.std.specs.Prelude.{◌≡◌};
-ghost use Rattle.rk_record.specs.Record.{Runs};
+ghost use Rattle.rk_record.specs.Record.{Runs, GoesOn};
 
 use crate::hall_no::HallNo;
 use crate::recorded::Recorded;
@@ -8,7 +8,8 @@ use rk_core::Book;
 use std::marker::Model;
 use std::snapshot::Snapshot;
 
-/// A volume of a hall's record, handed out: its steps are a run from the state in which it opened to that in which it closed.
+/// A volume of a hall's record, handed out. A run of as many steps as the volumes before it have leads to the state in which it opened, and goes on
+/// with its steps to that in which it closed.
 #[derive(Drop)]
 pub struct Volume {
     /// Whose record it is of.
@@ -26,8 +27,7 @@ pub struct Volume {
 }
 
 impl Model for Volume {
-    ghost use Rattle.rk_record.specs.Record.{Runs};
-    ghost use Rattle.rk_record.specs.Volumes.{VolumeShown, volume_code};
+    ghost use Rattle.rk_record.specs.Volumes.{VolumeShown, volume_code, IsVolume};
 
     ghost Value = { VolumeShown };
 
@@ -42,7 +42,7 @@ impl Model for Volume {
       steps = v.steps.items;
     } };
 
-    ghost invariant = { λ v. Runs v.opening.value v.steps.items v.closing.value };
+    ghost invariant = { λ v. IsVolume v.before v.opening.value v.steps.items v.closing.value };
 }
 
 impl Volume {
@@ -71,6 +71,7 @@ impl Volume {
     pub fn steps(&self) -> &[Recorded]
         ensures steps { result.now ≡ self.now.steps }
         ensures run { Runs self.now.opening self.now.steps self.now.closing }
+        ensures goes_on { GoesOn self.now.before self.now.opening self.now.steps self.now.closing }
     {
         &self.steps
     }

@@ -5,8 +5,8 @@ use Rattle.rk_record.specs.declared.recorded.Recorded.{Recorded}
 use Rattle.rk_record.specs.Record.{HallShown}
 use Rattle.rk_record.specs.Journal.{JournalShown}
 use Rattle.rk_record.specs.Turns.{Turned, Noted}
-use Rattle.rk_record.proofs.Runs.{sound_shown, sound_same, sound_next, count_next}
-use Rattle.rk_record.proofs.Kept.{payload_room, ends_within, fits_start, idle_same, is_prepared, frees, few_ends}
+use Rattle.rk_record.proofs.Runs.{sound_reached, sound_shown, sound_same, sound_next, count_next}
+use Rattle.rk_record.proofs.Kept.{payload_room, ends_within, fits_start, idle_same, idle_keeps, is_prepared, frees, few_ends}
 use Rattle.rk_record.proofs.hall.Hall.turn_to_start.Goals as goal
 
 -- ---- before the step
@@ -29,17 +29,22 @@ returns-in_err-copies-clause-sound c = rw c.in_err-copies.ensures.err (sound_sho
 
 -- ---- what can't be recorded
 
+pub keep-requires : goal.keep-requires
+keep-requires c =
+    let same = idle_same _ _ _ _ _ (sound_reached c.self.invariant) c.step-answer.ensures.step c.in_default.ensures.none in
+    rw (c.in_ok-copies.ensures.journal, c.of-kept.ensures.0, c.of-kept.ensures.1) (idle_keeps _ _ c.self.inside.journal same.1)
+
 pub recorded_answer-requires : goal.recorded_answer-requires
-recorded_answer-requires c = rw c.in_ok-copies.ensures.copies.recorded (fits_start _ _ _ _ _ c.self.invariant.reached c.step-answer.ensures.step)
+recorded_answer-requires c = rw c.in_ok-copies.ensures.copies.recorded (fits_start _ _ _ _ _ (sound_reached c.self.invariant) c.step-answer.ensures.step)
 
 pub invariant_of-self-in_default : goal.invariant_of-self-in_default
 invariant_of-self-in_default c =
-    let same = idle_same _ _ _ _ _ c.self.invariant.reached c.step-answer.ensures.step c.in_default.ensures.none in
+    let same = idle_same _ _ _ _ _ (sound_reached c.self.invariant) c.step-answer.ensures.step c.in_default.ensures.none in
     rw (c.keep.ensures, c.in_ok-copies.ensures.journal, c.of-kept.ensures.0, c.of-kept.ensures.1) (sound_same _ _ _ _ _ _ _ _ _ same.0 c.self.invariant)
 
 pub returns-in_default-clause-err : goal.returns-in_default-clause-err
 returns-in_default-clause-err c =
-    let same = idle_same _ _ _ _ _ c.self.invariant.reached c.step-answer.ensures.step c.in_default.ensures.none in
+    let same = idle_same _ _ _ _ _ (sound_reached c.self.invariant) c.step-answer.ensures.step c.in_default.ensures.none in
     rw (c.keep.ensures, c.in_ok-copies.ensures.journal, same.0) c.self.view_is
 
 pub returns-in_default-clause-sound : goal.returns-in_default-clause-sound
@@ -48,7 +53,7 @@ returns-in_default-clause-sound c = sound_shown _ _ _ (invariant_of-self-in_defa
 pub returns-in_default-clause-owed : goal.returns-in_default-clause-owed
 returns-in_default-clause-owed c =
     λ is.
-    let same = idle_same _ _ _ _ _ c.self.invariant.reached c.step-answer.ensures.step c.in_default.ensures.none in
+    let same = idle_same _ _ _ _ _ (sound_reached c.self.invariant) c.step-answer.ensures.step c.in_default.ensures.none in
     let owes : is_owed c.self.inside.book c.args.event ≡ true = ap (λ (h : HallShown). is_owed h.world c.args.event) c.self.view_is ∙ is in
     absurd (true≢false (sym owes ∙ same.1))
 
@@ -57,13 +62,13 @@ returns-in_default-clause-owed c =
 pub push-requires : goal.push-requires
 push-requires c =
     let i = c.self.invariant in
-    rw c.in_ok-copies.ensures.journal ((is_prepared _ _ _ _ _ c.self.inside.journal i.reached c.step-answer.ensures.step i.owes i.owes_ends).one)
+    rw c.in_ok-copies.ensures.journal ((is_prepared _ _ _ _ _ c.self.inside.journal (sound_reached i) c.step-answer.ensures.step i.owes i.owes_ends).one)
 
 pub overflow_sub-kept : goal.overflow_sub-kept
 overflow_sub-kept c =
     let i = c.self.invariant in
     rw (c.owed_to-owed.ensures.0, c.owed_to-left.ensures.0, c.whose-whose.ensures, c.of-kept.ensures.0, c.start_owes.ensures)
-    ((frees _ _ _ _ _ c.self.inside.journal i.reached c.step-answer.ensures.step i.owes i.owes_ends).0)
+    ((frees _ _ _ _ _ c.self.inside.journal (sound_reached i) c.step-answer.ensures.step i.owes i.owes_ends).0)
 
 pub overflow_add-kept-3 : goal.overflow_add-kept-3
 overflow_add-kept-3 c =
@@ -73,7 +78,7 @@ overflow_add-kept-3 c =
     let least = i.least in
     let most = i.most in
     rw (c.owed_to-left.ensures.1, c.whose-whose.ensures, c.of-kept.ensures.1)
-    (let few = (few_ends _ _ _ _ _ c.self.inside.journal i.reached c.step-answer.ensures.step i.owes_ends (omega arith)).0 in omega arith)
+    (let few = (few_ends _ _ _ _ _ c.self.inside.journal (sound_reached i) c.step-answer.ensures.step i.owes_ends (omega arith)).0 in omega arith)
 
 pub overflow_add-kept-4 : goal.overflow_add-kept-4
 overflow_add-kept-4 c =
@@ -83,18 +88,18 @@ overflow_add-kept-4 c =
     let least = i.least in
     let most = i.most in
     rw (c.owed_to-left.ensures.1, c.whose-whose.ensures, c.of-kept.ensures.1, c.start_ends.ensures)
-    (let few = (few_ends _ _ _ _ _ c.self.inside.journal i.reached c.step-answer.ensures.step i.owes_ends (omega arith)).1 in omega arith)
+    (let few = (few_ends _ _ _ _ _ c.self.inside.journal (sound_reached i) c.step-answer.ensures.step i.owes_ends (omega arith)).1 in omega arith)
 
 pub overflow_sub-kept-2 : goal.overflow_sub-kept-2
 overflow_sub-kept-2 c =
     let i = c.self.invariant in
     rw (c.owed_to-owed.ensures.1, c.owed_to-left.ensures.1, c.whose-whose.ensures, c.of-kept.ensures.1, c.start_ends.ensures)
-    ((frees _ _ _ _ _ c.self.inside.journal i.reached c.step-answer.ensures.step i.owes i.owes_ends).1)
+    ((frees _ _ _ _ _ c.self.inside.journal (sound_reached i) c.step-answer.ensures.step i.owes i.owes_ends).1)
 
 pub keep-requires-2 : goal.keep-requires-2
 keep-requires-2 c =
     let i = c.self.invariant in
-    let p = is_prepared _ _ _ _ _ c.self.inside.journal i.reached c.step-answer.ensures.step i.owes i.owes_ends in
+    let p = is_prepared _ _ _ _ _ c.self.inside.journal (sound_reached i) c.step-answer.ensures.step i.owes i.owes_ends in
     rw (
       c.push.ensures,
       c.in_ok-copies.ensures.journal,
@@ -112,12 +117,12 @@ keep-requires-2 c =
 -- ---- the step is recorded
 
 pub started_subject-subject-requires : goal.started_subject-subject-requires
-started_subject-subject-requires c = rw c.in_ok-copies.ensures.copies.started (fits_start _ _ _ _ _ c.self.invariant.reached c.step-answer.ensures.step)
+started_subject-subject-requires c = rw c.in_ok-copies.ensures.copies.started (fits_start _ _ _ _ _ (sound_reached c.self.invariant) c.step-answer.ensures.step)
 
 pub invariant_of-self-2 : goal.invariant_of-self-2
 invariant_of-self-2 c =
     let i = c.self.invariant in
-    let p = is_prepared _ _ _ _ _ c.self.inside.journal i.reached c.step-answer.ensures.step i.owes i.owes_ends in
+    let p = is_prepared _ _ _ _ _ c.self.inside.journal (sound_reached i) c.step-answer.ensures.step i.owes i.owes_ends in
     let fits = subst (λ (k : JournalShown). length k.steps + k.reserved ≤ k.places) c.in_ok-copies.ensures.journal c.in_ok-copies.ensures.fits in
     rw (
       c.keep-2.ensures,
@@ -154,7 +159,7 @@ returns-clause-ok c =
     let steps : c.keep-2.new.self.steps ≡ h.journal.steps ++ s ∷ [] =
     rw (c.keep-2.ensures, c.push.ensures, c.in_ok-copies.ensures.journal, c.in_ok-copies.ensures.copies.event, c.in-Some.ensures.copy.0) refl in
     let places : c.keep-2.new.self.places ≡ h.journal.places = rw (c.keep-2.ensures, c.push.ensures, c.in_ok-copies.ensures.journal) refl in
-    let known = reached_recording _ _ _ _ _ c.self.invariant.reached c.step-answer.ensures.step in
+    let known = reached_recording _ _ _ _ _ (sound_reached c.self.invariant) c.step-answer.ensures.step in
     let new : HallShown = record {
       no = h.no;
       opening = h.opening.value;
