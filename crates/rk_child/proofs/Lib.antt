@@ -1,4 +1,6 @@
+pub mod Passing
 pub mod Running
 pub mod Taking
+pub mod Talks
 pub mod Unprepared
 pub mod Written

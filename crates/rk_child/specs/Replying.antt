@@ -1,11 +1,11 @@
 -- What is to be said of a message of a handler, and when its asks go on behind the reply.
-use Rattle.std.specs.Prelude.{◌≡◌, ◌⊎◌, ◌%◌, ◌++◌, ℕ, List, Some, Bool, true, false}
+use Rattle.std.specs.Prelude.{◌≡◌, ◌⊎◌, ◌%◌, ℕ, List, [], ◌∷◌, ◌++◌, Some, Bool, true, false}
 use Rattle.rk_names.specs.declared.errors.Errno.TheVariants.{Enomem}
 use Rattle.rk_names.specs.declared.numbers.SessionId.TheVariants.{Handler}
 use Rattle.rk_devices.specs.Counts.{Rose}
 use Rattle.rk_message.specs.declared.reply.Reply.{Reply}
 use Rattle.rk_message.specs.declared.reply.Reply.TheVariants.{Refused}
-use Rattle.rk_devices.specs.Shown.{ChildShown, and_then}
+use Rattle.rk_devices.specs.Shown.{ChildShown, Said, and_then}
 use Rattle.rk_record.specs.declared.hall_no.HallNo.{HallNo}
 use Rattle.rk_record.specs.HallNumbers.{hall_number}
 use Rattle.rk_hall.specs.Seats.{SeatShown}
@@ -26,7 +26,7 @@ IsReplyTo Behind r = ⊥
 
 -- they go on where the reply was written; they end where nothing is to be said, or the write failed, and the first bytes of the reply alone were written
 abbrev pub EndsAsks : Bool → Saying → ChildShown → ChildShown → Type 0
-EndsAsks true saying old new = (r : Reply) × IsReplyTo saying r × (new ≡ record old { told = and_then old.told (reply_bytes r) })
+EndsAsks true saying old new = (r : Reply) × IsReplyTo saying r × (new ≡ record old { story = and_then old.story (Said (reply_bytes r) ∷ []) })
 EndsAsks false saying old new = ((saying ≡ Behind) × (new ≡ old))
     ⊎ ((r : Reply) × IsReplyTo saying r × Rose old.count new.count × (first others : List ℕ) × (reply_bytes r ≡ first ++ others)
-    × (new ≡ record old { count = new.count; told = and_then old.told first }))
+    × (new ≡ record old { count = new.count; story = and_then old.story (Said first ∷ []) }))

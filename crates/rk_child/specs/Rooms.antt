@@ -1,8 +1,6 @@
 -- The room for what a handler puts out.
 use Rattle.std.specs.Prelude.{◌≡◌, ◌≤◌, Bool, true, false, [], Some}
 use Rattle.rk_frame.specs.Unread.{Unread}
-use Rattle.rk_macro.specs.declared.subject.Subject.{Subject}
-use Rattle.rk_devices.specs.Shown.{ChildShown, IsGiven}
 use Rattle.rk_machine.specs.declared.event.Ran.{Ran}
 use Rattle.rk_machine.specs.declared.event.Ran.TheVariants as ran
 use Rattle.rk_child.specs.declared.room.Room.{Room}
@@ -22,11 +20,6 @@ IsNewRoom _ _ = ⊥
 abbrev pub ran_in : Room → Ran
 ran_in (Plain frames) = ran.Plain
 ran_in (Piped output) = ran.Piped
-
--- a piped handler was given the callout
-abbrev pub GivesCallout : Room → Subject → ChildShown → ChildShown → Type 0
-GivesCallout (Plain frames) subject old new = Unit {0}
-GivesCallout (Piped output) subject old new = IsGiven subject.callout old new
 
 -- it is empty
 abbrev pub IsEmptyRoom : Room → Type 0

@@ -1,17 +1,40 @@
--- What the next message of a handler leaves of the bytes of its stream.
-use Rattle.std.specs.Prelude.{◌≡◌, ◌≤◌, ◌⊎◌, ℕ, List}
+-- What the next message of a handler comes to, and all that are held.
+use Rattle.std.specs.Prelude.{◌≡◌, ◌≤◌, ◌⊎◌, ℕ, Bool, true, false, List, ◌++◌}
 use Rattle.rk_frame.specs.Streams.{TakesBody, IsPartial, HasFault}
 use Rattle.rk_frame.specs.Unread.{Unread}
+use Rattle.rk_devices.specs.Shown.{ChildShown, Passed, and_then}
+use Rattle.rk_hall.specs.Seats.{SeatShown}
+use Rattle.rk_talk.specs.declared.saying.Saying.{Saying}
 use Rattle.rk_child.specs.declared.asks.Turned.{Turned}
 use Rattle.rk_child.specs.declared.asks.Turned.TheVariants.{Replied, NoneYet, AtEnd}
+use Rattle.rk_child.specs.Replying.{EndsAsks}
+use Rattle.rk_child.specs.Talk.{AreEnded, IsAsked, Standing, Talking}
 
--- one message was taken
-abbrev pub TakesOne : Unread → Unread → Type 0
-TakesOne old new = (body : List ℕ) × TakesBody body old.bytes new.bytes
+-- the message at the front was taken, and its reply written, or tried, or there is none
+abbrev pub TakesOne : ℕ → Bool → ChildShown → Unread → Standing → ChildShown → Unread → Standing → Type 0
+TakesOne key replied old frames from new frames' to = (body : List ℕ) × TakesBody body frames.bytes frames'.bytes
+    × (s : Saying) × IsAsked key from body s to × EndsAsks replied s old new
 
 -- a message that got its reply was taken; there is none yet where no frame is whole, and the next piece finds its room; the asks are at their end where a length
 -- stands that no frame has, or behind a message
-abbrev pub Turns : Turned → Unread → Unread → Type 0
-Turns Replied old new = TakesOne old new
-Turns NoneYet old new = IsPartial new.bytes × (new.bytes ≡ old.bytes) × (4096 ≤ new.room)
-Turns AtEnd old new = HasFault old.bytes ⊎ TakesOne old new
+abbrev pub Turns : ℕ → Turned → ChildShown → Unread → Standing → ChildShown → Unread → Standing → Type 0
+Turns key Replied old frames from new frames' to = TakesOne key true old frames from new frames' to
+Turns key NoneYet old frames from new frames' to =
+    IsPartial frames'.bytes × (frames'.bytes ≡ frames.bytes) × (4096 ≤ frames'.room) × (new ≡ old) × (to ≡ from)
+Turns key AtEnd old frames from new frames' to = (HasFault frames.bytes × (new ≡ old) × (to ≡ from)) ⊎ TakesOne key false old frames from new frames' to
+
+-- whatever talk led here, with this held and the handler standing so, goes on with what has passed
+abbrev pub TalksOn : ℕ → ChildShown → List ℕ → Standing → ChildShown → List ℕ → Standing → Type 0
+TalksOn key old held from new held' to = (passed : List Passed) × (new.story ≡ and_then old.story passed)
+    × ((begun : SeatShown) (story : List Passed) → Talking key begun story held from → Talking key begun (story ++ passed) held' to)
+
+-- whatever talk led here, its asks are at their end with what has passed
+abbrev pub EndsTalk : ℕ → ChildShown → List ℕ → Standing → ChildShown → Standing → Type 0
+EndsTalk key old held from new last = (passed : List Passed) × (new.story ≡ and_then old.story passed)
+    × ((begun : SeatShown) (story : List Passed) → Talking key begun story held from → AreEnded key begun (story ++ passed) last)
+
+-- all messages that were held got their replies, and the next piece finds its room; or the asks are at their end
+abbrev pub TakesAll : ℕ → Bool → ChildShown → Unread → Standing → ChildShown → Unread → Standing → Type 0
+TakesAll key true old frames from new frames' to =
+    TalksOn key old frames.bytes from new frames'.bytes to × IsPartial frames'.bytes × (4096 ≤ frames'.room)
+TakesAll key false old frames from new frames' to = EndsTalk key old frames.bytes from new to

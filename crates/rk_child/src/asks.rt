@@ -1,15 +1,16 @@
 //! The asks of a plain handler.
-ghost use Rattle.std.specs.Prelude.{◌≡◌, ◌≤◌, ◌<◌, ◌+◌, length, MatchBool, OnOk, IfErr, None, true};
+ghost use Rattle.std.specs.Prelude.{◌≡◌, ◌≤◌, ◌<◌, ◌+◌, ◌||◌, length, OnOk, IfErr, None, true};
 ghost use Rattle.rk_devices.specs.Counts.{most};
-ghost use Rattle.rk_frame.specs.Streams.{IsPartial};
 ghost use Rattle.rk_talk.specs.Stays.{Stays};
 ghost use Rattle.rk_devices.specs.Shown.{FailsReading, GoesOn, ReadsUpTo};
 ghost use Rattle.rk_child.specs.Driving.{Runs};
 ghost use Rattle.rk_child.specs.Replying.{SaysOf};
 ghost use Rattle.rk_child.specs.Rooms.{IsEmpty};
-ghost use Rattle.rk_child.specs.Turned.{Turns};
+ghost use Rattle.rk_child.specs.Talk.{IsAsked, Talked, standing_of};
+ghost use Rattle.rk_child.specs.Turned.{TakesAll, Turns};
 
 use crate::driving::drive;
+use crate::making::says_made;
 use crate::replying::reply;
 use crate::spent::fail;
 use rk_devices::{Child, Clock, Launcher, MAX_READS, PIECE, ReadFault, read_out};
@@ -31,7 +32,7 @@ pub enum Turned {
 }
 
 /// Reads what a plain handler puts out to its end, and answers each ask in it. A reply that can't be written, a length that no frame has, or an ask of
-/// which nothing can be said ends the asks: then the input is closed, and the rest is read and dropped.
+/// which nothing can be said ends the asks: then the input is closed, and the rest is read and dropped. Also whether one of the asks completed the key.
 #[cycle(driving)]
 pub fn serve_asks<P: Platform>(
     stage: &Stage<'_, P>,
@@ -40,35 +41,39 @@ pub fn serve_asks<P: Platform>(
     depth: u8,
     frames: Frames,
     child: &mut <P::Launcher as Launcher>::Started,
-) -> Result<(), ReadFault>
+) -> (Result<(), ReadFault>, bool)
     requires bound { (P.Launcher.shown crew.old.launcher).count ≤ most }
     requires empty { IsEmpty frames }
+    ensures talked { Talked key result.0 crew.old.caller.seat (standing_of crew.new.caller.seat result.1) (P.Launcher.Started.shown child.old)
+        (P.Launcher.Started.shown child.new) }
     ensures runs { Runs (depth + 1) (P.Launcher.shown crew.old.launcher) (P.Launcher.shown crew.new.launcher) }
     ensures child { GoesOn (P.Launcher.Started.shown child.old) (P.Launcher.Started.shown child.new) }
-    ensures reads { ReadsUpTo 1048576 result (P.Launcher.Started.shown child.old) (P.Launcher.Started.shown child.new) }
-    ensures end { OnOk result ((P.Launcher.Started.shown child.new).at_end ≡ true) }
-    ensures fault { IfErr result (λ f. FailsReading f (P.Launcher.Started.shown child.old) (P.Launcher.Started.shown child.new)) }
+    ensures reads { ReadsUpTo 1048576 result.0 (P.Launcher.Started.shown child.old) (P.Launcher.Started.shown child.new) }
+    ensures end { OnOk result.0 ((P.Launcher.Started.shown child.new).at_end ≡ true) }
+    ensures fault { IfErr result.0 (λ f. FailsReading f (P.Launcher.Started.shown child.old) (P.Launcher.Started.shown child.new)) }
     ensures stays { Stays crew.old.caller.seat crew.new.caller.seat }
 {
     let mut frames = frames;
+    let mut made = false;
     let mut piece = [0u8; PIECE];
     for reads in 0..MAX_READS {
         let count = match child.read(&mut piece) {
-            Ok(0) => return Ok(()),
+            Ok(0) => return (Ok(()), made),
             Ok(count) => count,
-            Err(_) => return Err(ReadFault::Failed),
+            Err(_) => return (Err(ReadFault::Failed), made),
         };
         match frames.feed(&piece[..count]) {
             Ok(()) => {}
             Err(_) => unreachable!(),
         }
-        let goes_on = answer_all(stage, crew, key, depth, &mut frames, child);
+        let goes_on = answer_all(stage, crew, key, depth, &mut frames, &mut made, child);
         if !goes_on {
             child.close_input();
-            return read_out(child, reads + 1);
+            let read = read_out(child, reads + 1);
+            return (read, made);
         }
     }
-    Err(ReadFault::UsedUp)
+    (Err(ReadFault::UsedUp), made)
 }
 
 // Answers all messages that are there. False where the asks are at their end.
@@ -79,17 +84,19 @@ fn answer_all<P: Platform>(
     key: Serial,
     depth: u8,
     frames: &mut Frames,
+    made: &mut bool,
     child: &mut <P::Launcher as Launcher>::Started,
 ) -> bool
     requires bound { (P.Launcher.shown crew.old.launcher).count ≤ most }
-    ensures left { MatchBool result (IsPartial frames.new.bytes × (4096 ≤ frames.new.room)) (Unit {0}) }
+    ensures takes { TakesAll key result (P.Launcher.Started.shown child.old) frames.old (standing_of crew.old.caller.seat made.old)
+        (P.Launcher.Started.shown child.new) frames.new (standing_of crew.new.caller.seat made.new) }
     ensures runs { Runs (depth + 1) (P.Launcher.shown crew.old.launcher) (P.Launcher.shown crew.new.launcher) }
     ensures child { GoesOn (P.Launcher.Started.shown child.old) (P.Launcher.Started.shown child.new) }
     ensures reads { (P.Launcher.Started.shown child.new).reads ≡ (P.Launcher.Started.shown child.old).reads }
     ensures stays { Stays crew.old.caller.seat crew.new.caller.seat }
 {
     loop {
-        match answer_next(stage, crew, key, depth, frames, child) {
+        match answer_next(stage, crew, key, depth, frames, made, child) {
             Turned::Replied => {}
             Turned::NoneYet => return true,
             Turned::AtEnd => return false,
@@ -105,10 +112,12 @@ fn answer_next<P: Platform>(
     key: Serial,
     depth: u8,
     frames: &mut Frames,
+    made: &mut bool,
     child: &mut <P::Launcher as Launcher>::Started,
 ) -> Turned
     requires bound { (P.Launcher.shown crew.old.launcher).count ≤ most }
-    ensures takes { Turns result frames.old frames.new }
+    ensures takes { Turns key result (P.Launcher.Started.shown child.old) frames.old (standing_of crew.old.caller.seat made.old)
+        (P.Launcher.Started.shown child.new) frames.new (standing_of crew.new.caller.seat made.new) }
     ensures runs { Runs (depth + 1) (P.Launcher.shown crew.old.launcher) (P.Launcher.shown crew.new.launcher) }
     ensures child { GoesOn (P.Launcher.Started.shown child.old) (P.Launcher.Started.shown child.new) }
     ensures reads { (P.Launcher.Started.shown child.new).reads ≡ (P.Launcher.Started.shown child.old).reads }
@@ -117,6 +126,8 @@ fn answer_next<P: Platform>(
     match frames.next() {
         Next::Whole(body) => {
             let saying = answered(stage, crew, key, depth, body);
+            let completed = says_made(&saying, key);
+            *made = *made || completed;
             if reply(stage, child, SessionId::Handler(key), saying) {
                 Turned::Replied
             } else {

@@ -6,12 +6,15 @@ ghost use Rattle.rk_hall.specs.Seats.{negated};
 ghost use Rattle.rk_talk.specs.Stays.{Stays, SeesOn, clients_at};
 ghost use Rattle.rk_child.specs.Commands.{TellsWhy};
 ghost use Rattle.rk_child.specs.Driving.{Runs, FaultRose, TellsEnd, HasRun, HasTried, Drives};
-ghost use Rattle.rk_child.specs.Rooms.{GivesCallout, IsEmptyRoom};
+ghost use Rattle.rk_child.specs.Passing.{Attends, EitherPassed, HasPassed};
+ghost use Rattle.rk_child.specs.Rooms.{IsEmptyRoom};
+ghost use Rattle.rk_child.specs.Talk.{standing_of};
 
 use crate::asks::serve_asks;
 use crate::command::{Prepared, prepare};
 use crate::driven::later;
 use crate::ending::{wait_for, with_output};
+use crate::making::gives_payload;
 use crate::room::Room;
 use crate::spent::{begin, finish, spend, unstarted};
 use rk_devices::{
@@ -44,6 +47,7 @@ pub fn drive<P: Platform>(
     ensures end { TellsEnd result (P.Launcher.shown crew.old.launcher) (P.Launcher.shown crew.new.launcher) }
     ensures why { TellsWhy stage.now.conf.now launch.subject result }
     ensures commands { Drives stage.now.conf.now launch.subject result (P.Launcher.shown crew.old.launcher) (P.Launcher.shown crew.new.launcher) }
+    ensures passed { EitherPassed stage.now.conf.now launch result crew.old.caller.seat crew.new.caller.seat (P.Launcher.shown crew.new.launcher) }
     ensures clients { clients_at crew.new.caller.seat ≡ clients_at crew.old.caller.seat }
     ensures seen { SeesOn crew.old.caller.seat crew.new.caller.seat }
 {
@@ -71,6 +75,7 @@ fn run<P: Platform>(
     ensures end { TellsEnd result.0 (P.Launcher.shown crew.old.launcher) (P.Launcher.shown crew.new.launcher) }
     ensures why { TellsWhy stage.now.conf.now launch.subject result.0 }
     ensures commands { HasTried stage.now.conf.now launch.subject result.0 (P.Launcher.shown crew.old.launcher) (P.Launcher.shown crew.new.launcher) }
+    ensures passed { HasPassed stage.now.conf.now launch result.0 crew.old.caller.seat crew.new.caller.seat (P.Launcher.shown crew.new.launcher) }
     ensures next { IfSome result.1 (λ l. (l ≡ negated launch) × HasRun result.0) }
     ensures stays { Stays crew.old.caller.seat crew.new.caller.seat }
 {
@@ -100,21 +105,23 @@ fn run<P: Platform>(
             key,
             subject: None,
             driven,
+            made: false,
             os_error: None,
         };
         stage.gate.driven(stage.rt, report);
         return (driven, None);
     };
     stage.gate.started(stage.rt, running.key());
-    let (read, output) = attend(stage, crew, &running, room, &mut child);
+    let (read, output, made) = attend(stage, crew, &running, room, &mut child);
     let ended = wait_for(&mut child, read);
     crew.launcher.back(child);
     let (driven, payload) = with_output(ended, output);
-    let next = finish(stage, &mut crew.caller, running, driven, payload);
+    let made = made || gives_payload(driven, &payload);
+    let next = finish(stage, &mut crew.caller, running, driven, made, payload);
     (driven, next)
 }
 
-// Serves the asks of a plain handler, or pipes the callout through a piped one, which has an output.
+// Serves the asks of a plain handler, and tells whether one of them completed its key; or pipes the callout through a piped one, which has an output.
 #[cycle(driving)]
 fn attend<P: Platform>(
     stage: &Stage<'_, P>,
@@ -122,12 +129,17 @@ fn attend<P: Platform>(
     running: &Running<P::Names>,
     room: Room,
     child: &mut <P::Launcher as Launcher>::Started,
-) -> (Result<(), ReadFault>, Option<Result<Payload, OutputFault>>)
+) -> (
+    Result<(), ReadFault>,
+    Option<Result<Payload, OutputFault>>,
+    bool,
+)
     requires bound { (P.Launcher.shown crew.old.launcher).count ≤ most }
     requires empty { IsEmptyRoom room }
     ensures runs { Runs (running.now.depth + 1) (P.Launcher.shown crew.old.launcher) (P.Launcher.shown crew.new.launcher) }
     ensures child { GoesOn (P.Launcher.Started.shown child.old) (P.Launcher.Started.shown child.new) }
-    ensures given { GivesCallout room running.now.subject (P.Launcher.Started.shown child.old) (P.Launcher.Started.shown child.new) }
+    ensures attends { Attends room running.now.key running.now.subject result.0 crew.old.caller.seat (standing_of crew.new.caller.seat result.2)
+        (P.Launcher.Started.shown child.old) (P.Launcher.Started.shown child.new) }
     ensures reads { ReadsUpTo 1048576 result.0 (P.Launcher.Started.shown child.old) (P.Launcher.Started.shown child.new) }
     ensures end { OnOk result.0 ((P.Launcher.Started.shown child.new).at_end ≡ true) }
     ensures fault { IfErr result.0 (λ f. FailsReading f (P.Launcher.Started.shown child.old) (P.Launcher.Started.shown child.new)) }
@@ -136,13 +148,13 @@ fn attend<P: Platform>(
     match room {
         Room::Plain(frames) => {
             let (key, depth) = (running.key(), running.depth());
-            let read = serve_asks(stage, crew, key, depth, frames, child);
-            (read, None)
+            let (read, made) = serve_asks(stage, crew, key, depth, frames, child);
+            (read, None, made)
         }
         Room::Piped(output) => {
             let mut output = output;
             let read = pipe_through(child, running.subject().callout.as_bytes(), &mut output);
-            (read, Some(output.into_payload()))
+            (read, Some(output.into_payload()), false)
         }
     }
 }

@@ -51,6 +51,7 @@ pub fn unstarted<P: Platform>(
         key: launch.key(),
         subject: Some(launch.subject()),
         driven,
+        made: false,
         os_error,
     };
     stage.gate.driven(stage.rt, report);
@@ -75,12 +76,14 @@ pub fn begin<P: Platform>(
     value
 }
 
-/// Reports what became of a handler, and tells its hall how it has ended. A launch comes back where another command is to follow.
+/// Reports what became of a handler, and whether it made its key, and tells its hall how it has ended. A launch comes back where another command is to
+/// follow.
 pub fn finish<P: Platform>(
     stage: &Stage<'_, P>,
     caller: &mut Caller<P>,
     running: Running<P::Names>,
     driven: Driven,
+    made: bool,
     payload: Option<Payload>,
 ) -> Option<Launch<P::Names>>
     ensures token { IfSome result (λ l. l ≡ negated running) }
@@ -90,6 +93,7 @@ pub fn finish<P: Platform>(
         key: running.key(),
         subject: Some(running.subject()),
         driven,
+        made,
         os_error: None,
     };
     stage.gate.driven(stage.rt, report);

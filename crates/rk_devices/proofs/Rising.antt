@@ -1,12 +1,12 @@
 -- Counts that rise.
-use Rattle.std.proofs.Common.{◌≡◌, ◌≤◌, ◌<◌, ◌+◌, ◌-◌, ℕ, Bool, true, false, inl, inr, arith, refl, sym, ap, subst, ◌∙◌, append_assoc, append-nil}
+use Rattle.std.proofs.Common.{◌≡◌, ◌≤◌, ◌<◌, ◌+◌, ◌-◌, ℕ, Bool, true, false, inl, inr, arith, refl, sym, ap, ◌∙◌, append_assoc, append-nil}
 use Rattle.std.specs.Prelude.{List, [], ◌++◌, Option, Some, None, nat_lt, if◌then◌else◌, Result, Ok, Err}
 use Rattle.std.proofs.lemmas.Bool.Decides.{nat_tests}
 use Rattle.rk_devices.specs.declared.device.DeviceFault.{DeviceFault}
 use Rattle.rk_devices.specs.declared.reading.ReadFault.{ReadFault}
 use Rattle.rk_devices.specs.declared.reading.ReadFault.TheVariants.{Failed, UsedUp}
 use Rattle.rk_devices.specs.Counts.{most, Rose, raised, raised_by, IsRaised}
-use Rattle.rk_devices.specs.Shown.{ChildShown, GoesOn, IsGiven, IsToldNoMore, ReadsUpTo, Writes, Reads, and_then, closed}
+use Rattle.rk_devices.specs.Shown.{ChildShown, GoesOn, ReadsUpTo, Writes, Reads, and_then, closed}
 
 -- a count that rose is no smaller
 pub rose_up : (a b : ℕ) → Rose a b → a ≤ b
@@ -85,8 +85,8 @@ pub close_goes : (a : ChildShown) → GoesOn a (closed a)
 close_goes a = record { count = omega arith; reads = omega arith; waited = refl; hasty = refl }
 
 -- a read
-pub read_goes : (room : ℕ) (r : Result ℕ DeviceFault) (a b : ChildShown) → Reads room r a b → GoesOn a b
-read_goes room r a b w = record {
+pub read_goes : (room : ℕ) (r : Result ℕ DeviceFault) (buf : List ℕ) (a b : ChildShown) → Reads room r buf a b → GoesOn a b
+read_goes room r buf a b w = record {
   count = raised_up r a.count b.count w.0;
   reads = let is : b.reads ≡ raised a.reads = ap (λ (c : ChildShown). c.reads) w.1 in let more = more_reads a.reads in omega (arith, is, more);
   waited = ap (λ (c : ChildShown). c.waited) w.1;
@@ -102,24 +102,6 @@ and_none (Some t) = ap Some (sym (append-nil t))
 pub and_more : {A : Type 0} (t : Option (List A)) (x y : List A) → and_then (and_then t x) y ≡ and_then t (x ++ y)
 and_more None x y = refl
 and_more (Some t) x y = ap Some (append_assoc t x y)
-
--- the callout was written, or tried, and then the input closed
-pub written_given : (r : Result Unit DeviceFault) (callout : List ℕ) (a b c : ChildShown) → Writes r callout a b → c ≡ closed b → IsGiven callout a c
-written_given (Ok u) callout a b c w is = (ap (λ (x : ChildShown). x.closed) is, inl (ap (λ (x : ChildShown). x.told) (is ∙ ap closed w)))
-written_given (Err e) callout a b c (rose, first, others, cut, w) is = (
-  ap (λ (x : ChildShown). x.closed) is,
-  inr (subst (λ (x : ChildShown). Rose a.count x.count) (sym is) rose, first, others, cut, ap (λ (x : ChildShown). x.told) (is ∙ ap closed w)),
-)
-
--- no callout
-pub none_given : (a b : ChildShown) → b ≡ closed a → IsGiven [] a b
-none_given a b is = (ap (λ (x : ChildShown). x.closed) is, inl (ap (λ (x : ChildShown). x.told) is ∙ and_none a.told))
-
--- what was given stays so while the child is read
-pub given_on : (callout : List ℕ) (a b c : ChildShown) → IsGiven callout a b → GoesOn b c → IsToldNoMore b c → IsGiven callout a c
-given_on callout a b c (shut, inl told) goes same = (same.1 ∙ shut, inl (same.0 ∙ told))
-given_on callout a b c (shut, inr (rose, first, others, cut, told)) goes same =
-    (same.1 ∙ shut, inr (rose_to a.count b.count c.count rose goes.count, first, others, cut, same.0 ∙ told))
 
 -- so many reads, and then so many more
 pub raised_twice : (k m n : ℕ) → raised_by k (raised_by m n) ≡ raised_by (m + k) n

@@ -1,5 +1,6 @@
 -- What is seen of children and their launcher, and what a call does to it.
-use Rattle.std.specs.Prelude.{ℕ, ◌≡◌, ◌≤◌, ◌+◌, ◌-◌, ◌==◌, ◌⊎◌, ◌&&◌, ◌||◌, not, max, List, [], ◌∷◌, ◌++◌, Bool, true, false, Option, option_map, Some, None, Result, Ok, Err, if◌then◌else◌}
+use Rattle.std.specs.Prelude.{ℕ, ◌≡◌, ◌≢◌, ◌≤◌, ◌+◌, ◌-◌, ◌==◌, ◌⊎◌, ◌&&◌, ◌||◌, not, max, List, [], ◌∷◌, ◌++◌, map, take, Bool, true, false, Option, option_map, Some, None, Result, Ok, Err, if◌then◌else◌}
+use Rattle.std.specs.List.{All}
 use Rattle.rk_macro.specs.declared.command.Command.{Command}
 use Rattle.rk_machine.specs.declared.event.How.{How}
 use Rattle.rk_devices.specs.declared.device.DeviceFault.{DeviceFault}
@@ -8,14 +9,19 @@ use Rattle.rk_devices.specs.declared.reading.ReadFault.{ReadFault}
 use Rattle.rk_devices.specs.declared.reading.ReadFault.TheVariants.{Failed, UsedUp}
 use Rattle.rk_devices.specs.Counts.{Rose, both, raised, raised_by, IsRaised}
 
--- a child: how often a call failed; how often it was read; whether the read that came last told the end of its output; the bytes that were written to its
--- input, where it tells them; whether that was closed; `None` before it was waited for, then how it has ended, or `None` where the wait failed; and whether
--- its input was open when it was waited for
+-- what passes between a child and who runs it: bytes of its output are heard, none at its end; bytes are written to its input
+pub data Passed : Type 0 where
+  Heard : List ℕ → Passed
+  Said : List ℕ → Passed
+
+-- a child: how often a call failed; how often it was read; whether the read that came last told the end of its output; what has passed, first things first,
+-- where it tells that; whether its input was closed; `None` before it was waited for, then how it has ended, or `None` where the wait failed; and whether its
+-- input was open when it was waited for
 pub record ChildShown : Type 0 where
   pub count : ℕ
   pub reads : ℕ
   pub at_end : Bool
-  pub told : Option (List ℕ)
+  pub story : Option (List Passed)
   pub closed : Bool
   pub waited : Option (Option How)
   pub hasty : Bool
@@ -26,8 +32,8 @@ pub record Tried : Type 0 where
   pub command : Command
 
 -- a launcher: how often a call failed, its own and those of children that came back; the most reads of a child that came back; how many children are out; the
--- most that were out at one time; `reads`, `at_end` and `waited` of the child that came back last; whether one came back that was waited for while its input was
--- open; and the commands that were to be started, first things first, where it tells them
+-- most that were out at one time; `reads`, `at_end`, `waited` and `story` of the child that came back last; whether one came back that was waited for while its
+-- input was open; and the commands that were to be started, first things first, where it tells them
 pub record LauncherShown : Type 0 where
   pub count : ℕ
   pub longest : ℕ
@@ -36,16 +42,21 @@ pub record LauncherShown : Type 0 where
   pub reads : ℕ
   pub at_end : Bool
   pub last : Option (Option How)
+  pub story : Option (List Passed)
   pub hasty : Bool
   pub tried : Option (List Tried)
 
--- a child that was just started; it tells what is written to it, or not
+-- what is told where all of it is told, or nothing
+abbrev pub told_if : {A : Type 0} → Bool → List A → Option (List A)
+told_if tells all = if tells then Some all else None
+
+-- a child that was just started; it tells what passes, or not
 abbrev pub new_child : Bool → ChildShown
 new_child tells = record {
   count = 0;
   reads = 0;
   at_end = false;
-  told = if tells then Some [] else None;
+  story = told_if tells [];
   closed = false;
   waited = None;
   hasty = false;
@@ -53,7 +64,7 @@ new_child tells = record {
 
 -- a launcher that has started nothing, and does not tell its commands
 abbrev pub new_launcher : LauncherShown
-new_launcher = record { count = 0; longest = 0; out = 0; deepest = 0; reads = 0; at_end = false; last = None; hasty = false; tried = None }
+new_launcher = record { count = 0; longest = 0; out = 0; deepest = 0; reads = 0; at_end = false; last = None; story = None; hasty = false; tried = None }
 
 -- what is told, with more
 abbrev pub and_then : {A : Type 0} → Option (List A) → List A → Option (List A)
@@ -71,17 +82,24 @@ is_end room (Err e) = false
 
 -- a write of these bytes: they were written, or it failed, the first ones were, and the count rose
 abbrev pub Writes : Result Unit DeviceFault → List ℕ → ChildShown → ChildShown → Type 0
-Writes (Ok u) bytes old new = new ≡ record old { told = and_then old.told bytes }
+Writes (Ok u) bytes old new = new ≡ record old { story = and_then old.story (Said bytes ∷ []) }
 Writes (Err e) bytes old new = Rose old.count new.count × (first others : List ℕ) × (bytes ≡ first ++ others)
-    × (new ≡ record old { count = new.count; told = and_then old.told first })
+    × (new ≡ record old { count = new.count; story = and_then old.story (Said first ∷ []) })
 
 -- its input was closed
 abbrev pub closed : ChildShown → ChildShown
 closed c = record c { closed = true }
 
--- a read with room for so many bytes: one that failed raised the count, it is one read more, and whether it told the end is known
-abbrev pub Reads : ℕ → Result ℕ DeviceFault → ChildShown → ChildShown → Type 0
-Reads room r old new = IsRaised r old.count new.count × (new ≡ record old { count = new.count; reads = raised old.reads; at_end = is_end room r })
+-- what a read has heard: the bytes at the front of its buffer, or nothing where it failed
+abbrev pub heard_by : Result ℕ DeviceFault → List ℕ → List Passed
+heard_by (Ok n) buf = Heard (take n buf) ∷ []
+heard_by (Err e) buf = []
+
+-- a read with room for so many bytes, which left the buffer so: one that failed raised the count, it is one read more, whether it told the end is known, and
+-- what it has heard
+abbrev pub Reads : ℕ → Result ℕ DeviceFault → List ℕ → ChildShown → ChildShown → Type 0
+Reads room r buf old new = IsRaised r old.count new.count
+    × (new ≡ record old { count = new.count; reads = raised old.reads; at_end = is_end room r; story = and_then old.story (heard_by r buf) })
 
 -- a wait: one that failed raised the count, and what it came to is known, and whether the input was open
 abbrev pub Waits : Result How DeviceFault → ChildShown → ChildShown → Type 0
@@ -94,14 +112,33 @@ pub record GoesOn (old new : ChildShown) : Type 0 where
   pub waited : new.waited ≡ old.waited
   pub hasty : new.hasty ≡ old.hasty
 
+-- a write of a callout, of which an empty one needs none
+abbrev pub callout_said : List ℕ → List Passed
+callout_said [] = []
+callout_said (byte ∷ bytes) = Said (byte ∷ bytes) ∷ []
+
 -- a piped handler was given the callout: it was written to its input, or the first bytes of it were and a write failed; then that was closed
 abbrev pub IsGiven : List ℕ → ChildShown → ChildShown → Type 0
-IsGiven callout old new = (new.closed ≡ true) × ((new.told ≡ and_then old.told callout)
-    ⊎ (Rose old.count new.count × (first others : List ℕ) × (callout ≡ first ++ others) × (new.told ≡ and_then old.told first)))
+IsGiven callout old new = (new.closed ≡ true) × ((new.story ≡ and_then old.story (callout_said callout))
+    ⊎ (Rose old.count new.count × (first others : List ℕ) × (callout ≡ first ++ others) × (new.story ≡ and_then old.story (Said first ∷ []))))
 
--- what was written to a child, and whether its input is closed, are as before
-abbrev pub IsToldNoMore : ChildShown → ChildShown → Type 0
-IsToldNoMore old new = (new.told ≡ old.told) × (new.closed ≡ old.closed)
+-- pieces of an output, of a byte or more each
+abbrev pub ArePieces : List (List ℕ) → Type 0
+ArePieces pieces = All (λ (piece : List ℕ). piece ≢ []) pieces
+
+-- the end of an output that was read to it
+abbrev pub end_heard : Result Unit ReadFault → List Passed
+end_heard (Ok u) = Heard [] ∷ []
+end_heard (Err f) = []
+
+-- a child was read, and nothing else passed: pieces of its output were heard, and then its end, where it was read to that
+abbrev pub IsHeard : Result Unit ReadFault → ChildShown → ChildShown → Type 0
+IsHeard read old new = (new.closed ≡ old.closed)
+    × (pieces : List (List ℕ)) × ArePieces pieces × (new.story ≡ and_then old.story (map Heard pieces ++ end_heard read))
+
+-- a piped handler was given the callout, and then read
+abbrev pub IsPiped : List ℕ → Result Unit ReadFault → ChildShown → ChildShown → Type 0
+IsPiped callout read old new = (given : ChildShown) × IsGiven callout old given × GoesOn given new × IsHeard read given new
 
 -- why a child was not read to its end: a read failed, and the count rose; or it was read as often as it may be
 abbrev pub FailsReading : ReadFault → ChildShown → ChildShown → Type 0
@@ -135,5 +172,6 @@ taken_back l c = record l {
   reads = c.reads;
   at_end = c.at_end;
   last = c.waited;
+  story = c.story;
   hasty = l.hasty || c.hasty;
 }

@@ -22,7 +22,7 @@ pub struct StartFault {
 
 /// A command that was started. It can't be dropped: its launcher takes it back.
 pub trait Child {
-    /// Its failures, its reads, whether its output is at its end, what was written to its input and whether that is closed, and what waiting for it came to.
+    /// Its failures, its reads, whether its output is at its end, what has passed, whether its input is closed, and what waiting for it came to.
     ghost shown: { Self → ChildShown };
 
     /// Writes all bytes to its input.
@@ -36,7 +36,8 @@ pub trait Child {
     /// Reads bytes of its output to the front of `buf`, and tells how many; 0 is the end of its output, where `buf` has room.
     fn read(&mut self, buf: &mut [u8]) -> Result<usize, DeviceFault>
         ensures bound { IfOk result (λ n. n ≤ length buf.old) }
-        ensures reads { Reads (length buf.old) result (shown self.old) (shown self.new) };
+        ensures same { length buf.new ≡ length buf.old }
+        ensures reads { Reads (length buf.old) result buf.new (shown self.old) (shown self.new) };
 
     /// Waits until it has ended.
     fn wait(&mut self) -> Result<How, DeviceFault>
@@ -59,7 +60,7 @@ pub trait Launcher {
     fn start(&mut self, command: &Command) -> Result<Self::Started, StartFault>
         ensures bound { (shown self.new).count ≤ most }
         ensures starts { Starts command.now result (shown self.old) (shown self.new) }
-        ensures fresh { IfOk result (λ child. Self.Started.shown child ≡ new_child (is_some (Self.Started.shown child).told)) };
+        ensures fresh { IfOk result (λ child. Self.Started.shown child ≡ new_child (is_some (Self.Started.shown child).story)) };
 
     /// Takes back a child: its failures are counted as the launcher's.
     fn back(&mut self, child: Self::Started)

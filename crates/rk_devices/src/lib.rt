@@ -10,8 +10,9 @@
 //!
 //! The traits say what each call does to counts that contracts see: failures (a count that stands at the greatest u64 stays there, and counts as risen),
 //! reads, whether a read told the end of a child's output, children that are out, and how the child that came back last has ended. So a contract above can
-//! bind each fault to a failure of a device, and say that every child is handed back, and is waited for only at the end of its output. [`pipe_through`]
-//! writes a callout to a piped handler and keeps what it puts out, at most 32,767 bytes; what is past that is read and dropped, and gives no payload.
+//! bind each fault to a failure of a device, and say that every child is handed back, and is waited for only at the end of its output. A child may tell what
+//! passes with it, both ways, as a test's does; then a contract above says what it was told. [`pipe_through`] writes a callout to a piped handler and keeps
+//! what it puts out, at most 32,767 bytes; what is past that is read and dropped, and gives no payload.
 //! [`read_out`] reads and drops. Both end after 1,048,576 reads, whatever the child does.
 //!
 //! # How it is built

@@ -13,6 +13,8 @@ pub struct Report<'a> {
     pub subject: Option<&'a Subject>,
     /// What became of it.
     pub driven: Driven,
+    /// Whether it made the key: a plain handler by an ask that completed it, a piped one by a payload that its hall is handed.
+    pub made: bool,
     /// The system's error number (errno(3)) of a start that failed, if there is one.
     pub os_error: Option<i32>,
 }

@@ -11,7 +11,7 @@
 //!
 //! `record` (a hall, its turns and volumes), `halls` (four halls and their seats), `threads` (threads that share four halls), `children` (handlers) and
 //! `sessions` (whole connections), both over the devices of `fakes`, `programs` (handlers that are really started), `texts` (what faults print). `asks` and
-//! `answers` have what is asked and answered there; `same` compares a value with the one that was worked out; `kept` is what a wire keeps.
+//! `answers` have what is asked and answered there; `same` compares a value with the one that was worked out; `kept` is what a wire keeps, and a launcher.
 #![tactic(auto)]
 
 #[cfg(test)]

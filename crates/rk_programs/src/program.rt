@@ -62,7 +62,7 @@ fn ending(status: ExitStatus) -> How
 }
 
 impl<P: OpenProcess> Child for Program<P> {
-    ghost shown = { λ p. record { count = p.failed; reads = p.reads; at_end = p.at_end; told = None; closed = p.closed; waited = p.waited; hasty = p.hasty } };
+    ghost shown = { λ p. record { count = p.failed; reads = p.reads; at_end = p.at_end; story = None; closed = p.closed; waited = p.waited; hasty = p.hasty } };
 
     fn write(&mut self, bytes: &[u8]) -> Result<(), DeviceFault> {
         let Some(input) = &mut self.child.stdin else {

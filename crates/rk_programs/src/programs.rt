@@ -64,7 +64,7 @@ fn spawn<R: Processes>(
 }
 
 impl<'a, R: Processes> Launcher for Programs<'a, R> {
-    ghost shown = { λ l. record { count = l.failed; longest = l.longest; out = l.out; deepest = l.deepest; reads = l.reads; at_end = l.at_end; last = l.last; hasty = l.hasty; tried = None } };
+    ghost shown = { λ l. record { count = l.failed; longest = l.longest; out = l.out; deepest = l.deepest; reads = l.reads; at_end = l.at_end; last = l.last; story = None; hasty = l.hasty; tried = None } };
 
     type Started = Program<R::Started>;
 

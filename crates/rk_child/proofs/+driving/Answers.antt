@@ -1,6 +1,7 @@
-use Rattle.std.proofs.Common.{◌≡◌, ◌+◌, ◌∙◌, ap, arith, refl, subst, rules}
+use Rattle.std.proofs.Common.{◌≡◌, ◌≢◌, ◌+◌, ◌∙◌, length, ap, arith, refl, subst, sym, rules}
 use Rattle.std.specs.Prelude.{Option, IfSome}
 use Rattle.rk_names.specs.declared.numbers.SessionId.TheVariants.{Handler}
+use Rattle.rk_frame.specs.Streams.{IsPartial}
 use Rattle.rk_hall.specs.Seats.{TokenShown, negated}
 use Rattle.rk_talk.specs.Said.{IsMade, IsNotAsked, NotRead}
 use Rattle.rk_talk.proofs.Sayings.{receipt_answers, why_not_read}
@@ -9,6 +10,10 @@ use Rattle.rk_devices.specs.Shown.{ChildShown}
 use Rattle.rk_devices.proofs.Rising.{goes_further, goes_same}
 use Rattle.rk_talk.proofs.Seats.{stays_on, stays_same}
 use Rattle.rk_child.proofs.Running.{drives_on, raised_none, ran_with, reads_more, runs_further, runs_same, tried_it, tried_none}
+use Rattle.rk_child.specs.Talk.{standing_of}
+use Rattle.rk_child.proofs.Passing.{dropped_on, either_passed, passed_on}
+use Rattle.rk_child.proofs.Taking.{nothing_held, takes_fewer}
+use Rattle.rk_child.proofs.Talks.{all_ended, all_taken, stands_end, stands_first, stands_on, stands_out, stands_read, talks_nowhere, talks_then, turn_talks}
 use Rattle.rk_child.proofs.Unprepared.{run_why}
 use Rattle.rk_child.proofs.+driving.Goals as goal
 
@@ -18,12 +23,48 @@ asks::answer_all-loop-preserved g t c =
     let child = g.P.Launcher.Started.Child.shown in
     let i = c.loop.invariant in
     let e = c.in-Replied.ensures in
+    let begun = standing_of c.args.crew.now.caller.seat c.args.made.now in
+    let here = standing_of c.loop.crew.caller.seat c.loop.made in
+    let there = standing_of c.answer_next.new.crew.caller.seat c.answer_next.new.made in
     record {
+      talks = talks_then c.args.key (child c.args.child.now) (child c.loop.child) (child c.answer_next.new.child) c.args.frames.now.bytes c.loop.frames.bytes
+          c.answer_next.new.frames.bytes begun here there i.talks
+          (turn_talks c.args.key (child c.loop.child) (child c.answer_next.new.child) c.loop.frames c.answer_next.new.frames here there e.takes);
       runs = runs_further (c.args.depth + 1) (shown c.args.crew.now.launcher) (shown c.loop.crew.launcher) (shown c.answer_next.new.crew.launcher) i.runs e.runs;
       child = goes_further (child c.args.child.now) (child c.loop.child) (child c.answer_next.new.child) i.child e.child;
       reads = e.reads ∙ i.reads;
       stays = stays_on c.args.crew.now.caller.seat c.loop.crew.caller.seat c.answer_next.new.crew.caller.seat i.stays e.stays;
     }
+
+pub asks::answer_all-loop-init : goal.asks::answer_all-loop-init
+asks::answer_all-loop-init g t c =
+    let child = g.P.Launcher.Started.Child.shown c.args.child.now in
+    let here = standing_of c.args.crew.now.caller.seat c.args.made.now in
+    record {
+      talks = talks_nowhere c.args.key child child c.args.frames.now.bytes c.args.frames.now.bytes here here refl refl refl;
+      runs = runs_same (c.args.depth + 1) (g.P.Launcher.Launcher.shown c.args.crew.now.launcher) c.requires.bound;
+      child = goes_same child;
+      reads = refl;
+      stays = stays_same c.args.crew.now.caller.seat;
+    }
+
+pub asks::answer_all-loop-smaller : goal.asks::answer_all-loop-smaller
+asks::answer_all-loop-smaller g t c =
+    let e = c.in-Replied.ensures.takes in takes_fewer e.0 c.loop.frames.bytes c.answer_next.new.frames.bytes e.1
+
+pub asks::answer_all-returns-in-NoneYet-clause-takes : goal.asks::answer_all-returns-in-NoneYet-clause-takes
+asks::answer_all-returns-in-NoneYet-clause-takes g t c =
+    let child = g.P.Launcher.Started.Child.shown in
+    all_taken c.args.key (child c.args.child.now) (child c.loop.child) (child c.answer_next.new.child) c.args.frames.now c.loop.frames
+    c.answer_next.new.frames (standing_of c.args.crew.now.caller.seat c.args.made.now) (standing_of c.loop.crew.caller.seat c.loop.made)
+    (standing_of c.answer_next.new.crew.caller.seat c.answer_next.new.made) c.loop.invariant.talks c.in-NoneYet.ensures.takes
+
+pub asks::answer_all-returns-in-AtEnd-clause-takes : goal.asks::answer_all-returns-in-AtEnd-clause-takes
+asks::answer_all-returns-in-AtEnd-clause-takes g t c =
+    let child = g.P.Launcher.Started.Child.shown in
+    all_ended c.args.key (child c.args.child.now) (child c.loop.child) (child c.answer_next.new.child) c.args.frames.now c.loop.frames
+    c.answer_next.new.frames (standing_of c.args.crew.now.caller.seat c.args.made.now) (standing_of c.loop.crew.caller.seat c.loop.made)
+    (standing_of c.answer_next.new.crew.caller.seat c.answer_next.new.made) c.loop.invariant.talks c.in-AtEnd.ensures.takes
 
 pub asks::answer_all-returns-in-NoneYet-clause-runs : goal.asks::answer_all-returns-in-NoneYet-clause-runs
 asks::answer_all-returns-in-NoneYet-clause-runs g t c =
@@ -55,6 +96,8 @@ asks::brought_to_end-returns-else-depth-clause-runs g t c =
 
 pub asks::serve_asks-loop-reads-init : goal.asks::serve_asks-loop-reads-init
 asks::serve_asks-loop-reads-init g t c = record {
+  stands = stands_first c.args.key c.args.crew.now.caller.seat (g.P.Launcher.Started.Child.shown c.args.child.now) c.args.frames.bytes c.requires.empty.0;
+  is_partial = subst IsPartial (sym c.requires.empty.0) nothing_held;
   room = c.requires.empty.1;
   reads = omega arith;
   times = raised_none (g.P.Launcher.Started.Child.shown c.args.child.now).reads;
@@ -69,8 +112,19 @@ asks::serve_asks-loop-reads-preserved g t c =
     let child = g.P.Launcher.Started.Child.shown in
     let i = c.loop-reads.invariant in
     let e = c.if-not-goes_on.ensures in
+    let takes = e.takes in
+    let some : c.in-Ok.count ≢ 0 = search rules in
+    let here = standing_of c.loop-reads.crew.caller.seat c.loop-reads.made in
+    let there = standing_of c.answer_all-goes_on.new.crew.caller.seat c.answer_all-goes_on.new.made in
     record {
-      room = search rules;
+      stands = stands_on c.args.key c.args.crew.now.caller.seat (child c.args.child.now) (child c.read.new.self) (child c.answer_all-goes_on.new.child)
+          c.feed.new.self.bytes c.answer_all-goes_on.new.frames.bytes here there
+          (stands_read c.args.key c.args.crew.now.caller.seat (child c.args.child.now) (child c.loop-reads.child) (child c.read.new.self)
+          c.loop-reads.frames.bytes c.feed.new.self.bytes c.read.new.buf here c.in-Ok.count _ i.stands i.is_partial some
+          c.in-Ok.ensures.bound c.in-Ok.ensures.same c.in-Ok.ensures.reads c.in-Ok-feed.ensures.ok)
+          takes.0;
+      is_partial = takes.1;
+      room = takes.2;
       reads = search rules;
       times = reads_more c.loop-reads.reads (child c.loop-reads.child).reads (child c.read.new.self).reads (child c.answer_all-goes_on.new.child).reads
           (child c.args.child.now).reads i.times (ap (λ (x : ChildShown). x.reads) c.in-Ok.ensures.reads.1) e.reads;
@@ -79,6 +133,28 @@ asks::serve_asks-loop-reads-preserved g t c =
       child = search rules;
       stays = stays_on c.args.crew.now.caller.seat c.loop-reads.crew.caller.seat c.answer_all-goes_on.new.crew.caller.seat i.stays e.stays;
     }
+
+pub asks::serve_asks-returns-in-Ok-eq0-clause-talked : goal.asks::serve_asks-returns-in-Ok-eq0-clause-talked
+asks::serve_asks-returns-in-Ok-eq0-clause-talked g t c =
+    let child = g.P.Launcher.Started.Child.shown in
+    let i = c.loop-reads.invariant in
+    stands_end c.args.key c.args.crew.now.caller.seat (child c.args.child.now) (child c.loop-reads.child) (child c.read.new.self) c.loop-reads.frames.bytes
+    c.read.new.buf (standing_of c.loop-reads.crew.caller.seat c.loop-reads.made) c.in-Ok-eq0.field-0 (length c.loop-reads.piece) i.stands i.is_partial
+    c.in-Ok-eq0.field-0-test c.in-Ok-eq0.ensures.reads
+
+pub asks::serve_asks-returns-then-not-goes_on-clause-talked : goal.asks::serve_asks-returns-then-not-goes_on-clause-talked
+asks::serve_asks-returns-then-not-goes_on-clause-talked g t c =
+    let child = g.P.Launcher.Started.Child.shown in
+    let i = c.loop-reads.invariant in
+    let some : c.in-Ok.count ≢ 0 = search rules in
+    let here = standing_of c.loop-reads.crew.caller.seat c.loop-reads.made in
+    let last = standing_of c.answer_all-goes_on.new.crew.caller.seat c.answer_all-goes_on.new.made in
+    stands_out c.args.key c.args.crew.now.caller.seat c.read_out-read.result (child c.args.child.now) (child c.read.new.self)
+    (child c.answer_all-goes_on.new.child) (child c.close_input.new.self) (child c.read_out-read.new.child) c.feed.new.self.bytes here last
+    (stands_read c.args.key c.args.crew.now.caller.seat (child c.args.child.now) (child c.loop-reads.child) (child c.read.new.self)
+    c.loop-reads.frames.bytes c.feed.new.self.bytes c.read.new.buf here c.in-Ok.count _ i.stands i.is_partial some c.in-Ok.ensures.bound c.in-Ok.ensures.same
+    c.in-Ok.ensures.reads c.in-Ok-feed.ensures.ok)
+    c.if-not-goes_on.ensures.takes c.close_input.ensures c.read_out-read.ensures.heard
 
 pub asks::serve_asks-returns-then-not-goes_on-clause-runs : goal.asks::serve_asks-returns-then-not-goes_on-clause-runs
 asks::serve_asks-returns-then-not-goes_on-clause-runs g t c =
@@ -104,6 +180,24 @@ driving::drive-returns-clause-commands g t c =
     drives_on c.args.stage.now.conf.now c.args.launch c.in-Some.launch c.run-first.result.0 c.run-second.result.0 c.later.result
     (shown c.args.crew.now.launcher) (shown c.run-first.new.crew.launcher) (shown c.run-second.new.crew.launcher) next c.run-first.ensures.runs
     c.run-first.ensures.commands c.run-second.ensures.commands c.later.ensures
+
+pub driving::drive-returns-clause-passed : goal.driving::drive-returns-clause-passed
+driving::drive-returns-clause-passed g t c =
+    let shown = g.P.Launcher.Launcher.shown in
+    let next = subst (λ (o : Option TokenShown). IfSome o (λ l. (l ≡ negated c.args.launch) × HasRun c.run-first.result.0)) c.in-Some.is
+    c.run-first.ensures.next in
+    either_passed c.args.stage.now.conf.now c.args.launch c.in-Some.launch c.args.crew.now.caller.seat c.run-first.new.crew.caller.seat
+    c.run-second.new.crew.caller.seat c.spend.new.caller.seat (shown c.run-first.new.crew.launcher) (shown c.run-second.new.crew.launcher)
+    c.run-first.result.0 c.run-second.result.0 c.later.result next c.run-first.ensures.passed c.run-second.ensures.passed c.run-second.ensures.end
+    c.run-first.ensures.stays c.run-second.ensures.stays c.spend.ensures
+
+pub driving::run-returns-in_default-clause-passed : goal.driving::run-returns-in_default-clause-passed
+driving::run-returns-in_default-clause-passed g t c =
+    let child = g.P.Launcher.Started.Child.shown in
+    dropped_on c.args.stage.now.conf.now c.args.launch c.read_out-read.result c.wait_for-driven.result c.wait_for-driven.result _
+    (child c.in-Ok-start.child) (child c.close_input.new.self) (child c.read_out-read.new.child) (child c.wait_for-driven.new.child)
+    (g.P.Launcher.Launcher.shown c.start.new.self) (g.P.Launcher.Launcher.shown c.back.new.self) c.args.crew.now.caller.seat c.begin.new.caller.seat
+    c.in-Ok-start.ensures.fresh c.close_input.ensures c.read_out-read.ensures.heard c.wait_for-driven.ensures c.back.ensures
 
 pub driving::attend-returns-in-Piped-clause-runs : goal.driving::attend-returns-in-Piped-clause-runs
 driving::attend-returns-in-Piped-clause-runs g t c =
@@ -165,6 +259,11 @@ driving::run-returns g t c =
       why = run_why c.args.stage.now.conf.now c.args.launch.subject driven h.3;
       commands = tried_it c.args.stage.now.conf.now c.args.launch.subject driven a s b new _ (child c.wait_for-ended.new.child) c.in-Ok.ensures.ok.0 h.3
           c.in-Ok-start.ensures.starts c.attend-read.ensures.runs.tried c.back-2.ensures;
+      passed = passed_on c.args.stage.now.conf.now c.args.launch _ _ _ c.attend-read.result.0 c.wait_for-ended.result driven _
+          (child c.in-Ok-start.child) (child c.attend-read.new.child) (child c.wait_for-ended.new.child) b new c.args.crew.now.caller.seat
+          c.begin.new.caller.seat c.attend-read.new.crew.caller.seat c.finish-next.new.caller.seat c.attend-read.result.2 c.in-Ok.ensures.ok
+          c.in-Some.ensures.token c.in-Some.ensures.stays c.attend-read.ensures.attends c.finish-next.ensures.stays c.in-Ok-start.ensures.fresh
+          c.wait_for-ended.ensures c.back-2.ensures;
       next = search rules;
       stays = search rules;
     }

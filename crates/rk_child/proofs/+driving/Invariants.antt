@@ -2,7 +2,11 @@ use Rattle.std.proofs.Common.{◌≡◌, ◌≤◌, ◌+◌, ◌-◌, ◌*◌, l
 use Rattle.rk_devices.specs.Counts.{raised_by}
 use Rattle.rk_devices.specs.Shown.{GoesOn}
 use Rattle.rk_talk.specs.Stays.{Stays}
+use Rattle.rk_frame.specs.Streams.{IsPartial}
 use Rattle.rk_child.specs.Driving.{Runs}
+use Rattle.rk_child.specs.Talk.{standing_of}
+use Rattle.rk_child.specs.Turned.{TalksOn}
+use Rattle.rk_child.proofs.Talks.{Stands}
 use Rattle.rk_child.proofs.+driving.Given as goal
 
 abbrev pub decreases-asks::answer_all : goal.decreases-asks::answer_all
@@ -31,6 +35,8 @@ decreases-driving::run g l = 8 * (256 - l.launch.depth) + 6
 
 abbrev pub invariant-asks::answer_all-loop : goal.invariant-asks::answer_all-loop
 invariant-asks::answer_all-loop g l = record {
+  talks : TalksOn l.key (g.P.Launcher.Started.Child.shown l.fn.child) l.fn.frames.bytes (standing_of l.fn.crew.caller.seat l.fn.made)
+      (g.P.Launcher.Started.Child.shown l.child) l.frames.bytes (standing_of l.crew.caller.seat l.made);
   runs : Runs (l.depth + 1) (g.P.Launcher.Launcher.shown l.fn.crew.launcher) (g.P.Launcher.Launcher.shown l.crew.launcher);
   child : GoesOn (g.P.Launcher.Started.Child.shown l.fn.child) (g.P.Launcher.Started.Child.shown l.child);
   reads : (g.P.Launcher.Started.Child.shown l.child).reads ≡ (g.P.Launcher.Started.Child.shown l.fn.child).reads;
@@ -42,6 +48,9 @@ decreases-asks::answer_all-loop g l = length l.frames.bytes
 
 abbrev pub invariant-asks::serve_asks-loop-reads : goal.invariant-asks::serve_asks-loop-reads
 invariant-asks::serve_asks-loop-reads g l = record {
+  stands : Stands l.key l.fn.crew.caller.seat (g.P.Launcher.Started.Child.shown l.fn.child) (g.P.Launcher.Started.Child.shown l.child) l.frames.bytes
+      (standing_of l.crew.caller.seat l.made);
+  is_partial : IsPartial l.frames.bytes;
   room : 4096 ≤ l.frames.room;
   reads : l.reads ≤ (g.P.Launcher.Started.Child.shown l.child).reads;
   times : (g.P.Launcher.Started.Child.shown l.child).reads ≡ raised_by l.reads (g.P.Launcher.Started.Child.shown l.fn.child).reads;

@@ -10,7 +10,7 @@ use Rattle.rk_record.specs.contracts.volume.Volume as recorded
 use Rattle.rk_hall.specs.declared.names.Names as names
 use Rattle.rk_hall.specs.contracts.seat.Seat as seat
 use Rattle.rk_hall.specs.contracts.volume.Volume as volume
-use Rattle.rk_hall.proofs.Crossing.{answer_send, ask_send, book_send, recorded_send, reply_send, subject_send}
+use Rattle.rk_hall.proofs.Crossing.{answer_send, book_send, recorded_send, reply_send, shared_send, subject_send}
 use Rattle.rk_live_tests.specs.contracts.fakes.turns.Turns as turns
 use Rattle.rk_live_tests.specs.contracts.threads.caller.Caller as caller
 
@@ -21,16 +21,16 @@ pub turns_sync : IsSync turns.the_row
 turns_sync = search (sendable, crosses) depth 40 fits 20000
 
 told_send : IsSend told.the_row
-told_send = let k = ask_send in search (sendable, crosses) depth 40 fits 20000
+told_send = let k = shared_send in search (sendable, crosses) depth 120 fits 20000
 
 pub receipt_send : IsSend receipt.the_row
 receipt_send =
-    let k = ask_send in
+    let k = shared_send in
     let t = told_send in
     let r = reply_send in
     let s = subject_send in
     let a = answer_send in
-    search (sendable, crosses) depth 60 fits 60000
+    search (sendable, crosses) depth 120 fits 60000
 
 steps_send : IsSend recorded.the_row
 steps_send = let b = book_send in let r = recorded_send in search (sendable, crosses) depth 40 fits 20000

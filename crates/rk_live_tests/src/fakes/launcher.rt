@@ -168,7 +168,8 @@ fn spelled(alloc: Global, says: &[(usize, &[u8])]) -> Result<Vec<u8>, AllocError
 
 /// Copies as many bytes as there is room for, at most 1,000, to the front of the buffer, and says how many.
 pub fn give(bytes: &[u8], buf: &mut [u8]) -> usize
-    ensures { result ≤ length buf.old }
+    ensures bound { result ≤ length buf.old }
+    ensures same { length buf.new ≡ length buf.old }
 {
     let count = bytes.len().min(buf.len()).min(1_000);
     buf[..count].copy_from_slice(&bytes[..count]);
@@ -176,7 +177,7 @@ pub fn give(bytes: &[u8], buf: &mut [u8]) -> usize
 }
 
 impl Child for Running {
-    ghost shown = { λ c. record { count = c.failed; reads = c.reads; at_end = c.at_end; told = None; closed = c.closed; waited = c.waited; hasty = c.hasty } };
+    ghost shown = { λ c. record { count = c.failed; reads = c.reads; at_end = c.at_end; story = None; closed = c.closed; waited = c.waited; hasty = c.hasty } };
 
     fn write(&mut self, bytes: &[u8]) -> Result<(), DeviceFault> {
         self.written = self.written.saturating_add(1);
@@ -229,7 +230,7 @@ impl Child for Running {
 }
 
 impl Launcher for Fake {
-    ghost shown = { λ l. record { count = l.failed; longest = l.longest; out = l.out; deepest = l.deepest; reads = l.reads; at_end = l.at_end; last = l.last; hasty = l.hasty; tried = None } };
+    ghost shown = { λ l. record { count = l.failed; longest = l.longest; out = l.out; deepest = l.deepest; reads = l.reads; at_end = l.at_end; last = l.last; story = None; hasty = l.hasty; tried = None } };
 
     type Started = Running;
 

@@ -3,7 +3,7 @@ ghost use Rattle.std.specs.Prelude.{◌≡◌, ◌≤◌};
 
 use crate::children::handling::Handling;
 use crate::halls::growths::Growths;
-use crate::halls::settling::{SixSteps, Volumes, hears};
+use crate::halls::settling::{SixSteps, Volumes, goes_astray, hears};
 use crate::threads::together::SideBySide;
 use crate::threads::waking::Waking;
 use rk_hall::{Fresh, Halls, Names};
@@ -20,6 +20,7 @@ pub enum Scene {
     SixSteps(SixSteps),
     Hears,
     Volumes(Volumes),
+    GoesAstray,
     SideBySide(SideBySide),
     Waking(Waking),
     Growths(Growths),
@@ -37,6 +38,7 @@ impl Scene {
             Scene::SixSteps(steps) => steps.play(rt, alloc, halls),
             Scene::Hears => hears(rt, alloc, halls),
             Scene::Volumes(volumes) => volumes.play(rt, alloc, halls),
+            Scene::GoesAstray => goes_astray(rt, alloc, halls),
             Scene::SideBySide(threads) => threads.play(rt, alloc, halls),
             Scene::Waking(waking) => waking.play(rt, alloc, halls),
             Scene::Growths(growths) => growths.play(rt, alloc, halls),

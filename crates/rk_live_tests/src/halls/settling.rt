@@ -1,17 +1,18 @@
 //! Whether seats and receipts agree with the records, when all is over.
 ghost use Rattle.rk_hall.specs.Seats.{IsCall};
 
-use crate::asks::{CLIENT, add};
+use crate::asks::{CLIENT, add, hello, request};
 use crate::fakes::still::NOW;
 use crate::halls::calls::{calls, greets, refuse_launch};
 use crate::halls::opening::{Scene, in_new_halls};
+use crate::halls::paths::keep;
 use crate::record::events::hall;
 use crate::same::same;
 use rk_hall::{
-    CallFault, Called, Hall, HallNo, Halls, Names, Receipt, Seat, SettleFault, Total, Volume,
-    settle,
+    CallFault, Called, Hall, HallNo, Halls, Lapse, Launch, Names, Owed, Receipt, Running, Seat,
+    SettleFault, Total, Volume, settle,
 };
-use rk_machine::EventStep;
+use rk_machine::{EventStep, How, Ran};
 use rk_names::SessionId;
 use std::alloc::Global;
 use std::process::Abort;
@@ -291,4 +292,150 @@ fn a_volume_that_was_handed_out_is_wanted(rt: HostRuntime) {
     for handed_in in [true, false] {
         in_new_halls(&rt, rt.alloc(), 6, Scene::Volumes(Volumes { handed_in }));
     }
+}
+
+/// Three tokens go astray, in two halls: of 18 steps. What is not owed and has no token is no stray.
+pub fn goes_astray<N: Names, R: Wait + Abort>(rt: &R, alloc: Global, halls: Halls<N>) {
+    let mut seat = halls.seat(rt).expect(rt, "a seat");
+    let mut receipts = Vec::new(alloc);
+    for (hall, client) in [(HallNo::Zero, 1), (HallNo::Zero, 2), (HallNo::One, 1)] {
+        let standing = Standing { hall, client };
+        standing.plays(rt, &halls, &mut seat, &mut receipts);
+    }
+    let seats = vec![in alloc; seat].expect(rt, "memory");
+    let none: Vec<Volume<N>> = Vec::new(alloc);
+    let wanted = Total {
+        steps: 18,
+        live: 18,
+        retired: 0,
+        strays: 3,
+    };
+    same(rt, settle(halls, &none, seats, &receipts), Ok(wanted));
+}
+
+/// A client, and where it stands.
+#[derive(Drop)]
+struct Standing {
+    hall: HallNo,
+    client: u32,
+}
+
+impl Standing {
+    /// It requests a key, whose token goes astray, and it goes: six steps.
+    fn plays<N: Names, R: Wait + Abort>(
+        &self,
+        rt: &R,
+        halls: &Halls<N>,
+        seat: &mut Seat<N>,
+        receipts: &mut Vec<Receipt>,
+    ) {
+        let launch = self.requests(rt, halls, seat, receipts);
+        let next = is_followed(rt, halls, seat, receipts, launch);
+        strays(rt, halls, seat, next);
+        self.goes_twice(rt, halls, seat, receipts);
+    }
+
+    fn session(&self) -> SessionId {
+        SessionId::Client(self.client)
+    }
+
+    /// It comes, says who it is, and requests a key: three steps.
+    fn requests<N: Names, R: Wait + Abort>(
+        &self,
+        rt: &R,
+        halls: &Halls<N>,
+        seat: &mut Seat<N>,
+        receipts: &mut Vec<Receipt>,
+    ) -> Launch<N> {
+        let coming = EventStep::Opened(self.session());
+        let opened = self.calls(rt, halls, seat, receipts, coming);
+        refuse_launch(rt, halls, seat, opened);
+        let greeting = EventStep::Asked(self.session(), hello());
+        let greeted = self.calls(rt, halls, seat, receipts, greeting);
+        refuse_launch(rt, halls, seat, greeted);
+        let ask = request(b"a").expect(rt, "an ask");
+        let asking = EventStep::Asked(self.session(), ask);
+        let asked = self.calls(rt, halls, seat, receipts, asking);
+        asked.expect(rt, "a launch")
+    }
+
+    fn calls<N: Names, R: Wait + Abort>(
+        &self,
+        rt: &R,
+        halls: &Halls<N>,
+        seat: &mut Seat<N>,
+        receipts: &mut Vec<Receipt>,
+        event: EventStep<'_>,
+    ) -> Option<Launch<N>>
+        requires { IsCall event }
+    {
+        let called = halls.call(rt, seat, self.hall, NOW, event);
+        let Called { receipt, launch } = called.expect(rt, "a receipt");
+        keep(rt, receipts, receipt);
+        launch
+    }
+
+    /// It goes: one step. Then it collects and goes again, which is not owed.
+    fn goes_twice<N: Names, R: Wait + Abort>(
+        &self,
+        rt: &R,
+        halls: &Halls<N>,
+        seat: &mut Seat<N>,
+        receipts: &mut Vec<Receipt>,
+    ) {
+        let gone = halls.gone(rt, seat, self.hall, NOW, self.session());
+        keep(rt, receipts, gone.receipt.expect(rt, "a receipt"));
+        let collected = halls.collect(rt, seat, self.hall, NOW, self.session());
+        same(rt, collected.receipt.err(), Some(Lapse::Stray));
+        let again = halls.gone(rt, seat, self.hall, NOW, self.session());
+        same(rt, again.receipt.err(), Some(Lapse::Stray));
+    }
+}
+
+/// A piped handler runs, and exits with 1: two steps. Another one is to follow.
+fn is_followed<N: Names, R: Wait + Abort>(
+    rt: &R,
+    halls: &Halls<N>,
+    seat: &mut Seat<N>,
+    receipts: &mut Vec<Receipt>,
+    launch: Launch<N>,
+) -> Launch<N> {
+    let Owed { value, receipt } = halls.launched(rt, seat, NOW, launch, Ran::Piped);
+    keep(rt, receipts, receipt.expect(rt, "a receipt"));
+    let running = value.expect(rt, "a handler that runs");
+    let Owed { value, receipt } = halls.ended(rt, seat, NOW, running, How::Exit(1), None);
+    keep(rt, receipts, receipt.expect(rt, "a receipt"));
+    value.expect(rt, "another handler")
+}
+
+/// It is said to be piped, which the second handler never is: no step, and its token is a stray.
+fn strays<N: Names, R: Wait + Abort>(
+    rt: &R,
+    halls: &Halls<N>,
+    seat: &mut Seat<N>,
+    next: Launch<N>,
+) {
+    let Owed { value, receipt } = halls.launched(rt, seat, NOW, next, Ran::Piped);
+    same(rt, receipt.err(), Some(Lapse::Stray));
+    refuse_running(rt, halls, seat, value);
+}
+
+/// There is to be no handler that runs.
+fn refuse_running<N: Names, R: Wait + Abort>(
+    rt: &R,
+    halls: &Halls<N>,
+    seat: &mut Seat<N>,
+    running: Option<Running<N>>,
+) {
+    if let Some(running) = running {
+        let Owed { value, receipt } = halls.ended(rt, seat, NOW, running, How::Exit(0), None);
+        drop(receipt);
+        refuse_launch(rt, halls, seat, value);
+        assert!(rt; false, "a handler that runs");
+    }
+}
+
+#[test]
+fn tokens_that_went_astray_are_counted(rt: HostRuntime) {
+    in_new_halls(&rt, rt.alloc(), 100, Scene::GoesAstray);
 }

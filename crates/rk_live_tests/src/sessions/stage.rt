@@ -279,11 +279,9 @@ fn may_serve<N: Names, R: Wait + Abort + Clock>(
 
 /// Whether client 2 has requested a key in this volume.
 fn has_request<N: Names>(volume: &Volume<N>) -> bool {
-    volume.steps().iter().any(|step| {
-        matches!(
-            &step.event,
-            Event::Asked(SessionId::Client(2), Ask::Request { .. })
-        )
+    volume.steps().iter().any(|step| match &step.event {
+        Event::Asked(SessionId::Client(2), ask) => matches!(ask.ask(), Ask::Request { .. }),
+        _ => false,
     })
 }
 

@@ -1,0 +1,222 @@
+//! Handlers over a launcher that tells: what `drive` promises of launchers that tell, said of one without a premise.
+ghost use Rattle.std.specs.Prelude.{◌≡◌, ◌≤◌, [], map};
+ghost use Rattle.rk_live_tests.specs.Telling.{AreTried, HasPassedWith, passed, tried};
+
+use crate::children::handling::{Open, settles};
+use crate::fakes::still::{Bin, Stopped};
+use crate::fakes::telling::{Speech, Telling};
+use crate::halls::calls::{greets, requests};
+use crate::kept::{Passed, Tried};
+use crate::same::same;
+use rk_child::{Caller, Crew, Driven, Platform, Stage, drive};
+use rk_conf::Conf;
+use rk_hall::{Fresh, Halls, Launch, Names, Seat};
+use rk_machine::How;
+use std::alloc::{AllocError, Global};
+use std::marker::{Brand, PhantomData};
+use std::process::Abort;
+use std::sync::Wait;
+
+/// What is around a launch of a launcher that tells: it has all of it to itself, and time stands still.
+struct Told<N: Names, R>(PhantomData<(N, R)>);
+
+impl<N: Names, R: Wait + Abort + Copy> Platform for Told<N, R> {
+    type Names = N;
+
+    type Runtime = R;
+
+    type Launcher = Telling<R>;
+
+    type Clock = Stopped;
+
+    type Gate = Open;
+
+    type Shelf = Bin;
+}
+
+/// A launch and its launcher have all of this to themselves.
+fn told_stage<'a, N: Names, R: Wait + Abort + Copy>(
+    rt: &'a R,
+    alloc: Global,
+    halls: &'a Halls<N>,
+    conf: &'a Conf,
+    gate: &'a Open,
+    shelf: &'a Bin,
+) -> Stage<'a, Told<N, R>> {
+    Stage {
+        rt,
+        alloc,
+        halls,
+        conf,
+        gate,
+        shelf,
+    }
+}
+
+/// Brings a launch to its end by a launcher that has started nothing: the commands are those of the launch, and what passes with the child that comes back
+/// last is what is to pass with its handler.
+fn drive_told<N: Names, R: Wait + Abort + Copy>(
+    stage: &Stage<'_, Told<N, R>>,
+    crew: &mut Crew<Told<N, R>>,
+    launch: Launch<N>,
+) -> Driven
+    requires failed { crew.old.launcher.failed ≡ 0 }
+    requires out { crew.old.launcher.out ≡ 0 }
+    requires first { crew.old.launcher.tried.items ≡ [] }
+    ensures tried { AreTried stage.now.conf.now launch.subject result (map tried crew.new.launcher.tried.items) }
+    ensures passed { HasPassedWith stage.now.conf.now launch result crew.old.caller.seat crew.new.caller.seat (map passed crew.new.launcher.story.items) }
+{
+    drive(stage, crew, launch)
+}
+
+/// ASSUME 12, REQUEST user b with the callout x, INSTANTIATE 12 "hi"; and ASSUME 16, INSTANTIATE 16 "hi".
+const NESTED: &[Speech] = &[
+    Speech {
+        bytes: b"\0\0\0\x05\x03\0\0\0\x0c\0\0\0\x12\x02\0\x04user\0\x01b\x01\0\x01x\0\0\0\0\0\0\0\x0d\x04\0\0\0\x0c\0\x02hi\0\0\0\0",
+        ends: How::Exit(6),
+    },
+    Speech {
+        bytes: b"\0\0\0\x05\x03\0\0\0\x10\0\0\0\x0d\x04\0\0\0\x10\0\x02hi\0\0\0\0",
+        ends: How::Exit(5),
+    },
+];
+
+/// What passes with the first of them: all that it puts out is heard, the replies are the numbers 0, 16 and 0, and then its end is heard.
+const PASSED: &[u8] =
+    b"<\0\0\0\x05\x03\0\0\0\x0c\0\0\0\x12\x02\0\x04user\0\x01b\x01\0\x01x\0\0\0\0\0\0\0\x0d\x04\0\0\0\x0c\0\x02hi\0\0\0\0>\0\0\0\x05\0\0\0\0\0>\0\0\0\x05\0\0\0\0\x10>\0\0\0\x05\0\0\0\0\0<";
+
+/// ASSUME 12, and a length that no frame has.
+const MALFORMED: &[Speech] = &[Speech {
+    bytes: b"\0\0\0\x05\x03\0\0\0\x0c\0\x01\0\x01aaa",
+    ends: How::Exit(0),
+}];
+
+/// What was kept: `<` before what was heard, `>` before what was said.
+fn story_text(alloc: Global, story: &[Passed]) -> Result<Vec<u8>, AllocError> {
+    let mut text = Vec::new(alloc);
+    for one in story {
+        match one {
+            Passed::Heard(bytes) => {
+                text.push(b'<')?;
+                text.extend_from_slice(bytes)?;
+            }
+            Passed::Said(bytes) => {
+                text.push(b'>')?;
+                text.extend_from_slice(bytes)?;
+            }
+        }
+    }
+    Ok(text)
+}
+
+/// The commands: how many children were out, and the words, each behind a space.
+fn tried_text(alloc: Global, tried: &[Tried]) -> Result<Vec<u8>, AllocError> {
+    let mut text = Vec::new(alloc);
+    for one in tried {
+        text.push(if one.out == 0 { b'0' } else { b'+' })?;
+        text.push(b' ')?;
+        text.extend_from_slice(one.command.path.as_bytes())?;
+        for word in one.command.words.as_slice() {
+            text.push(b' ')?;
+            text.extend_from_slice(word.as_bytes())?;
+        }
+        text.push(b'\n')?;
+    }
+    Ok(text)
+}
+
+/// What is played, and what comes of it.
+#[derive(Clone, Copy)]
+struct Scene {
+    speeches: &'static [Speech],
+    driven: Driven,
+    tried: &'static [u8],
+    passed: &'static [u8],
+    steps: u64,
+}
+
+/// A client requests a key, and its handler is brought to its end.
+fn plays<N: Names, R: Wait + Abort + Copy>(rt: &R, alloc: Global, halls: Halls<N>, scene: Scene) {
+    let mut seat = halls.seat(rt).expect(rt, "a seat");
+    drop(greets(rt, &halls, &mut seat));
+    let seat = is_driven(rt, alloc, &halls, seat, scene);
+    let mut seats = Vec::with_capacity(alloc, 1).expect(rt, "memory");
+    seats.push(seat).expect(rt, "memory");
+    same(rt, settles(rt, alloc, halls, seats), scene.steps);
+}
+
+/// Drives it, and looks at what was told. The seat comes back.
+fn is_driven<N: Names, R: Wait + Abort + Copy>(
+    rt: &R,
+    alloc: Global,
+    halls: &Halls<N>,
+    seat: Seat<N>,
+    scene: Scene,
+) -> Seat<N> {
+    let conf = Conf::read(alloc, b"create * * * /bin/h %k\n").expect(rt, "lines");
+    let mut seat = seat;
+    let (receipt, launch) = requests(rt, halls, &mut seat);
+    drop(receipt);
+    let (gate, shelf) = (Open::new(), Bin::new());
+    let stage = told_stage(rt, alloc, halls, &conf, &gate, &shelf);
+    let caller = Caller {
+        seat,
+        clock: Stopped,
+    };
+    let launcher = Telling::new(*rt, alloc, scene.speeches).expect(rt, "memory");
+    let mut crew: Crew<Told<N, R>> = Crew { caller, launcher };
+    let driven = drive_told(&stage, &mut crew, launch);
+    let Crew { caller, launcher } = crew;
+    let tried = tried_text(alloc, &launcher.tried).expect(rt, "memory");
+    let passed = story_text(alloc, &launcher.story).expect(rt, "memory");
+    same(
+        rt,
+        (driven, tried.as_slice(), passed.as_slice()),
+        (scene.driven, scene.tried, scene.passed),
+    );
+    let Caller {
+        seat,
+        clock: Stopped,
+    } = caller;
+    seat
+}
+
+fn in_halls<N: Names, R: Wait + Abort + Copy>(rt: &R, alloc: Global, fresh: Fresh, scene: Scene)
+    requires zero { (fresh.zero.calls.name ≡ N.name 0) × (fresh.zero.out.name ≡ N.name 1) }
+    requires one { (fresh.one.calls.name ≡ N.name 2) × (fresh.one.out.name ≡ N.name 3) }
+    requires two { (fresh.two.calls.name ≡ N.name 4) × (fresh.two.out.name ≡ N.name 5) }
+    requires three { (fresh.three.calls.name ≡ N.name 6) × (fresh.three.out.name ≡ N.name 7) }
+{
+    let halls: Halls<N> = Halls::with_volume(alloc, fresh, 60, 0, 100).expect(rt, "memory");
+    plays(rt, alloc, halls, scene);
+}
+
+/// Plays it in halls of its own.
+fn is_told<R: Wait + Abort + Copy>(rt: &R, alloc: Global, scene: Scene) {
+    let fresh = Fresh::new();
+    in_halls::<Brand, R>(rt, alloc, fresh, scene);
+}
+
+#[test]
+fn all_that_passes_is_told(rt: HostRuntime) {
+    let scene = Scene {
+        speeches: NESTED,
+        driven: Driven::Ended(How::Exit(6)),
+        tried: b"0 /bin/h 12\n+ /bin/h 16\n",
+        passed: PASSED,
+        steps: 13,
+    };
+    is_told(&rt, rt.alloc(), scene);
+}
+
+#[test]
+fn what_passes_with_a_malformed_handler_is_told(rt: HostRuntime) {
+    let scene = Scene {
+        speeches: MALFORMED,
+        driven: Driven::Ended(How::Exit(0)),
+        tried: b"0 /bin/h 12\n",
+        passed: b"<\0\0\0\x05\x03\0\0\0\x0c\0\x01\0\x01aaa>\0\0\0\x05\0\0\0\0\0<",
+        steps: 6,
+    };
+    is_told(&rt, rt.alloc(), scene);
+}
