@@ -2,7 +2,7 @@
 //!
 //! `reqkeyd replay` runs a script from its standard input to its standard output: what happens, line by line, and what the daemon does
 //! (docs/SCRIPTS.md). `reqkeyd serve` answers a Unix socket (docs/PROTOCOL.md, man/reqkeyd.8). `reqkeyd check` and `reqkeyd pick` tell of a configuration
-//! what is wrong with it, and what it would start (docs/CONFIGURATION.md). `reqkeyd rejoin` tells of the files of a record whether they are a run of the
+//! what is wrong with it, and what it would start (reqkeyd.conf(5)). `reqkeyd rejoin` tells of the files of a record whether they are a run of the
 //! machine (docs/RECORD.md).
 //!
 //! All that it does is one call, [`run::run_words`], over the words, the streams, the process and the disk that are passed in.

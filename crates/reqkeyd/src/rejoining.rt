@@ -21,7 +21,7 @@ enum Unread<'a> {
 }
 
 /// Has `disk` read the files, each once, and writes what the volumes in them are. The status is 1, with a line on `errors`, where a file can't be read or
-/// is no volume, where the volumes are no run of the machine, for want of memory, or where `writer` fails.
+/// is no volume, where the volumes are no run of the machine, out of memory, or where `writer` fails.
 pub fn rejoin<D: Disk, W: Write, E: Write>(
     alloc: Global,
     disk: &mut D,

@@ -34,7 +34,7 @@ pub const FAILED: u8 = 1;
 /// The status of words that ask for nothing that there is.
 const USAGE: u8 = 2;
 
-/// The answer to want of memory at the start.
+/// The answer to out of memory at the start.
 pub fn no_memory<E: Write>(errors: &mut E) -> u8
     ensures { result ≡ 1 }
 {
@@ -181,7 +181,7 @@ pub fn run_words<
     }
 }
 
-/// What words ask to see of a configuration, if they do. The only refusal is want of memory, for words that do.
+/// What words ask to see of a configuration, if they do. The only refusal is out of memory, for words that do.
 fn preview_of<'a>(alloc: Global, words: &'a [String]) -> Result<Option<Preview<'a>>, AllocError>
     ensures said { IfOk result (λ r. option_map asked_by r ≡ asks_preview (map string_bytes words.now)) }
     ensures memory { OnErr result (IsSome (asks_preview (map string_bytes words.now))) }

@@ -1,2 +1,5 @@
 pub mod Crossing
+pub mod Keepings
 pub mod Octal
+pub mod Stories
+pub mod Takings

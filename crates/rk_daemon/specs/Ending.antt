@@ -99,27 +99,28 @@ abbrev pub error_text : Option ℕ → List ℕ
 error_text None = codes "start failed"
 error_text (Some n) = named_text n (errno_text n)
 
--- how it has ended
-abbrev pub how_text : Driven → Option ℕ → List ℕ
-how_text (driven.Ended (how.Exit status)) error = codes "exit status " ++ decimal status
-how_text (driven.Ended how.Signal) error = codes "killed by a signal"
-how_text (driven.Ended how.Fault) error = codes "it could not be read or waited for"
-how_text (driven.NoPayload output.Empty) error = codes "exit status 0, and no payload (0 bytes)"
-how_text (driven.NoPayload output.TooLong) error = codes "exit status 0, and no payload (more than 32767 bytes)"
-how_text driven.NotStarted error = codes "no line fits"
-how_text (driven.NotMade fault) error = words_text fault
-how_text driven.NoMemory error = codes "no memory for its start"
-how_text driven.StartFailed error = error_text error
-how_text driven.ReadFailed error = codes "its output could not be read"
-how_text driven.WaitFailed error = codes "the system does not say how it ended"
+-- how it has ended, and where it has exited with 0, that the key was not made, if it was not
+abbrev pub how_text : Driven → Bool → Option ℕ → List ℕ
+how_text (driven.Ended (how.Exit status)) made error =
+    if status == 0 && not made then codes "exit status 0, and the key was not made" else codes "exit status " ++ decimal status
+how_text (driven.Ended how.Signal) made error = codes "killed by a signal"
+how_text (driven.Ended how.Fault) made error = codes "it could not be read or waited for"
+how_text (driven.NoPayload output.Empty) made error = codes "exit status 0, and no payload (0 bytes)"
+how_text (driven.NoPayload output.TooLong) made error = codes "exit status 0, and no payload (more than 32767 bytes)"
+how_text driven.NotStarted made error = codes "no line fits"
+how_text (driven.NotMade fault) made error = words_text fault
+how_text driven.NoMemory made error = codes "no memory for its start"
+how_text driven.StartFailed made error = error_text error
+how_text driven.ReadFailed made error = codes "its output could not be read"
+how_text driven.WaitFailed made error = codes "the system does not say how it ended"
 
 -- the whole line
 abbrev pub end_text : End → List ℕ
 end_text e = codes "handler of key " ++ decimal e.key ++ subject_text (option_map (λ s. s.now) e.subject) (option_map (λ l. l.now) e.line)
-    ++ codes ": " ++ how_text e.driven e.error
+    ++ codes ": " ++ how_text e.driven e.made e.error
 
--- how important it is: a handler that has exited with 0 may have made its key
-abbrev pub level_of : Driven → Level
-level_of (driven.Ended (how.Exit status)) = if status == 0 then level.Debug else level.Warn
-level_of driven.NotStarted = level.Info
-level_of _ = level.Warn
+-- how important it is: a handler that has exited with 0 and made its key is what is to be
+abbrev pub level_of : Driven → Bool → Level
+level_of (driven.Ended (how.Exit status)) made = if status == 0 && made then level.Debug else level.Warn
+level_of driven.NotStarted made = level.Info
+level_of _ made = level.Warn

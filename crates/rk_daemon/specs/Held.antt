@@ -1,5 +1,5 @@
 -- How much halls' records hold.
-use Rattle.std.specs.Prelude.{ℕ, ◌+◌, ◌-◌, ◌^◌, List, length, min, Option, Some, None}
+use Rattle.std.specs.Prelude.{ℕ, ◌+◌, ◌-◌, ◌^◌, length, min, Some, None}
 use Rattle.rk_message.specs.Ask.{Ask}
 use Rattle.rk_message.specs.declared.ask.AskOf.TheVariants as ask
 use Rattle.rk_message.specs.declared.reply.Reply.TheVariants as reply

@@ -2,8 +2,13 @@ pub mod Ending
 pub mod Entry
 pub mod Faults
 pub mod Figures
+pub mod Folder
 pub mod Handlers
 pub mod Held
+pub mod Keeping
 pub mod Log
+pub mod Place
 pub mod Settings
+pub mod Story
+pub mod Taking
 pub mod Tally

@@ -16,7 +16,9 @@ struct Last {
 /// The volumes of one hall. Each is written once the one before it is done with, since it says which sum that has; several threads hand them out.
 #[derive(Drop)]
 pub struct Chain {
+    /// The last volume that is done with.
     last: Mutex<Last>,
+    /// Told each time a volume is done with.
     moved: Condvar,
 }
 
@@ -56,9 +58,13 @@ pub struct Run {
     pub folder: String,
     /// Its number, which was drawn at the start.
     pub number: RunNumber,
+    /// The volumes of hall 0.
     zero: Chain,
+    /// Those of hall 1.
     one: Chain,
+    /// Those of hall 2.
     two: Chain,
+    /// Those of hall 3.
     three: Chain,
 }
 

@@ -8,8 +8,11 @@ use std::time::Instant;
 /// Whole seconds since the daemon's start, by the system's monotonic clock: an expiry doesn't move when the time of day is set.
 #[derive(Drop)]
 pub struct Seconds<'a, R: time::Clock> {
+    /// What has the clock.
     rt: &'a R,
+    /// From when on seconds are counted.
     start: Instant,
+    /// What the last call has given.
     last: Moment,
 }
 

@@ -5,7 +5,9 @@ use std::sync::atomic::{AtomicU32, Ordering};
 /// How many connections have been accepted that are not yet served to their end, and how many of them a worker serves. Threads count here without a lock.
 #[derive(Drop)]
 pub struct Connections {
+    /// The connections that are not yet served to their end.
     open: AtomicU32,
+    /// How many of them a worker serves.
     served: AtomicU32,
 }
 

@@ -26,6 +26,8 @@ pub struct End<'s, 'c> {
     pub line: Option<&'c Line>,
     /// How it has ended.
     pub driven: Driven,
+    /// Whether it made its key.
+    pub made: bool,
     /// The system's error number of a start that failed, where it is known.
     pub error: Option<u32>,
 }
@@ -46,16 +48,16 @@ impl<'s, 'c> End<'s, 'c> {
             put_subject(&mut text, subject, self.line)?;
         }
         text.push_str(": ")?;
-        put_how(&mut text, self.driven, self.error)?;
+        put_how(&mut text, self.driven, self.made, self.error)?;
         Ok(text)
     }
 
-    /// How important it is. A handler that has exited with 0 may have made its key.
+    /// How important it is. One that has exited with 0 and made its key is what is to be.
     pub fn level(&self) -> Level
-        ensures { result ≡ level_of self.now.driven }
+        ensures { result ≡ level_of self.now.driven self.now.made }
     {
         match self.driven {
-            Driven::Ended(How::Exit(0)) => Level::Debug,
+            Driven::Ended(How::Exit(0)) if self.made => Level::Debug,
             Driven::NotStarted => Level::Info,
             _ => Level::Warn,
         }
@@ -128,10 +130,18 @@ fn put_line(text: &mut String, line: Option<&Line>) -> Result<(), AllocError>
 }
 
 /// How it has ended.
-fn put_how(text: &mut String, driven: Driven, error: Option<u32>) -> Result<(), AllocError>
-    ensures { OnOk result (string_bytes text.new ≡ string_bytes text.old ++ how_text driven error) }
+fn put_how(
+    text: &mut String,
+    driven: Driven,
+    made: bool,
+    error: Option<u32>,
+) -> Result<(), AllocError>
+    ensures { OnOk result (string_bytes text.new ≡ string_bytes text.old ++ how_text driven made error) }
 {
     match driven {
+        Driven::Ended(How::Exit(0)) if !made => {
+            text.push_str("exit status 0, and the key was not made")
+        }
         Driven::Ended(How::Exit(status)) => write!(text, "exit status {status}"),
         Driven::Ended(How::Signal) => text.push_str("killed by a signal"),
         Driven::Ended(How::Fault) => text.push_str("it could not be read or waited for"),

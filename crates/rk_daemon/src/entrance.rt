@@ -6,8 +6,11 @@ use log::{Log, warn};
 /// What connections find: so many workers, who may all be busy.
 #[derive(Drop)]
 pub struct Entrance<'a> {
+    /// Counts the connections.
     connections: &'a Connections,
+    /// How many workers there are.
     workers: u32,
+    /// Whether the last connection has found all of them busy.
     are_busy: bool,
 }
 

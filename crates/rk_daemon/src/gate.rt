@@ -26,12 +26,19 @@ const HANDLER: u64 = 32_767;
 /// logged, so that an operator learns why a request was answered that there is no key.
 #[derive(Drop)]
 pub struct Relief<'a, R, N: Names, S: Shelf> {
+    /// What makes the lines of the log.
     alloc: Global,
+    /// The log.
     log: Reporter<'a, R>,
+    /// The halls that are relieved.
     halls: &'a Halls<N>,
+    /// The configuration, which has the lines of handlers.
     conf: &'a Conf,
+    /// How much the halls' records hold.
     held: &'a Held,
+    /// The handlers that run.
     handlers: &'a Handlers,
+    /// Where volumes go.
     shelf: &'a S,
 }
 
@@ -80,6 +87,7 @@ impl<'a, E: Wait + Eprint + Clock, N: Names, S: Shelf> Gate for Relief<'a, E, N,
             key,
             subject,
             driven,
+            made,
             os_error,
         } = report;
         self.handlers.end(rt, key);
@@ -88,6 +96,7 @@ impl<'a, E: Wait + Eprint + Clock, N: Names, S: Shelf> Gate for Relief<'a, E, N,
             subject,
             line: line_for(self.conf, subject),
             driven,
+            made,
             error: error_number(os_error),
         });
     }

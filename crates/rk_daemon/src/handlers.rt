@@ -66,6 +66,7 @@ fn take_slow(running: &mut [Started], now: u64, seconds: u64) -> Option<Started>
 /// The handlers that run, in the order in which they were started.
 #[derive(Drop)]
 pub struct Handlers {
+    /// Each of them.
     running: Mutex<Vec<Started>>,
 }
 

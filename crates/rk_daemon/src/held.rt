@@ -11,10 +11,15 @@ use std::sync::atomic::{AtomicU64, Ordering};
 /// here without a lock.
 #[derive(Drop)]
 pub struct Held {
+    /// The bytes of hall 0.
     zero: AtomicU64,
+    /// Those of hall 1.
     one: AtomicU64,
+    /// Those of hall 2.
     two: AtomicU64,
+    /// Those of hall 3.
     three: AtomicU64,
+    /// The volumes that were handed out, of all halls.
     volumes: AtomicU64,
 }
 
@@ -31,12 +36,7 @@ impl Held {
     }
 
     /// That of a hall.
-    fn of(&self, hall: HallNo) -> &AtomicU64
-        ensures zero { hall ≡ HallNo.Zero → result.now ≡ self.now.zero }
-        ensures one { hall ≡ HallNo.One → result.now ≡ self.now.one }
-        ensures two { hall ≡ HallNo.Two → result.now ≡ self.now.two }
-        ensures three { hall ≡ HallNo.Three → result.now ≡ self.now.three }
-    {
+    fn of(&self, hall: HallNo) -> &AtomicU64 {
         match hall {
             HallNo::Zero => &self.zero,
             HallNo::One => &self.one,
@@ -74,7 +74,7 @@ pub fn taken_by(receipt: &Receipt) -> u64
     ensures { result ≡ taken_by receipt.now.told receipt.now.answer }
 {
     let asked = match receipt.told() {
-        Told::Asked(_, ask) => bytes_of(ask),
+        Told::Asked(_, ask) => bytes_of(ask.ask()),
         _ => 0,
     };
     let answered = match receipt.answer() {

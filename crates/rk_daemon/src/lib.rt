@@ -14,6 +14,9 @@
 //! `accepting` hands out, `entrance` warns where they wait, and `serving` puts it all together. `watching` looks after the `handlers` that run, and tells the
 //! `figures`.
 //!
+//! What `path` and `record` do to files is done by a `place` and a `folder`, traits that may tell it, so that contracts can say in which order: by the
+//! system's, of `system_place` and `system_folder`, or by those of a test.
+//!
 //! `reporter` makes each line of the log: an `entry` in the `style` of the journal or with the time, of a `kind` of which `tally` counts the lines. `ending`
 //! has the line of a handler that has ended.
 #![tactic(auto)]
@@ -28,11 +31,13 @@ mod entrance;
 mod entry;
 mod fault;
 mod figures;
+mod folder;
 mod gate;
 mod handlers;
 mod held;
 mod kind;
 mod path;
+mod place;
 mod platform;
 mod record;
 mod reporter;
@@ -42,11 +47,16 @@ mod shelf;
 mod socket;
 mod streams;
 mod style;
+mod system_folder;
+mod system_place;
 mod tally;
 mod watching;
 mod workers;
 
 pub use fault::Fault;
-pub use record::Keeper;
+pub use folder::Folder;
+pub use path::{give_free, take};
+pub use place::{FileId, Place};
+pub use record::{Keeper, keep};
 pub use serving::serve;
 pub use settings::{LogSettings, Settings};

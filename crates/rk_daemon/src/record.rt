@@ -1,11 +1,16 @@
 //! The folder into which volumes are written.
+ghost use Rattle.std.specs.Prelude.{◌≡◌, IfOk, string_bytes};
+ghost use Rattle.std.specs.Result.{result_ok};
+ghost use Rattle.rk_daemon.specs.Keeping.{Fills, Keeps, Names, is_of_record, part_path, volume_path};
+ghost use Rattle.rk_daemon.specs.Story.{Does};
 
+use crate::folder::Folder;
+use crate::system_folder::SystemFolder;
 use rk_hall::Recorded;
 use rk_volumes::{Head, Seal, Sum};
-use std::alloc::Global;
-use std::fs::{Files, OpenOptions};
-use std::io::{BufWriter, Write};
-use std::os::unix::fs::OpenOptionsExt;
+use std::alloc::{AllocError, Global};
+use std::fs::Files;
+use std::io::BufWriter;
 use std::{fs, io};
 
 /// How the name of each volume begins.
@@ -18,19 +23,23 @@ const PART: &str = ".hall-";
 pub fn is_free<R: Files + AllocGlobal + Clone + Drop>(rt: &R, folder: &str) -> io::Result<bool> {
     for entry in fs::read_dir(rt, folder)? {
         let entry = entry?;
-        let name = entry.file_name();
-        if name.starts_with(PREFIX) || name.starts_with(PART) {
+        if is_of_record(entry.file_name()) {
             return Ok(false);
         }
     }
     Ok(true)
 }
 
+/// Whether a file of this name is a volume or a part of one.
+fn is_of_record(name: &str) -> bool
+    ensures { result ≡ is_of_record name.now }
+{
+    name.starts_with(PREFIX) || name.starts_with(PART)
+}
+
 /// What writes volumes into a folder: whatever has [`Files`]. It has no types of its own, as those have, so that threads can be handed it.
 pub trait Keeper {
-    /// Writes a volume in its seal into the folder, as `hall-2-volume-000001`, for nobody but the owner to read, and gives its sum. It is written under
-    /// another name at first, so that a volume under its name is a whole one; where that fails, nothing of it stays. No file that is there is replaced, under
-    /// either name. It is not waited for that the disk has it.
+    /// Writes a volume in its seal into the folder, as [`keep`] does.
     fn keep(
         &self,
         alloc: Global,
@@ -50,39 +59,87 @@ impl<R: Files> Keeper for R {
         head: &Head,
         steps: &[Recorded],
     ) -> io::Result<Sum> {
-        let (hall, index) = (head.hall.number(), head.index);
-        let path = format!(in alloc; "{folder}/{PREFIX}{hall}-volume-{index:06}")?;
-        let part = format!(in alloc; "{folder}/{PART}{hall}-volume-{index:06}.part")?;
-        let file = create(self, part.as_str())?;
-        let written = write(alloc, file, seal, head, steps);
-        let kept = match written {
-            Ok(sum) => fs::hard_link(self, part.as_str(), path.as_str()).map(|()| sum),
-            Err(error) => Err(error),
-        };
-        let _ = fs::remove_file(self, part.as_str());
-        kept
+        keep(
+            alloc,
+            &mut SystemFolder::new(self),
+            folder,
+            seal,
+            head,
+            steps,
+        )
     }
 }
 
-/// Makes a new file. Where one is there it is that of another daemon, which writes into this folder too, and is left to it.
-fn create<R: Files>(rt: &R, path: &str) -> io::Result<R::File> {
-    OpenOptions::new()
-        .write(true)
-        .create_new(true)
-        .mode(0o600)
-        .open(rt, path)
-}
-
-/// Writes a volume in its seal into a new file, and gives its sum.
-fn write<W: Write + Drop>(
+/// Writes a volume in its seal into the folder at this path, as `hall-2-volume-000001`, for nobody but the owner to read, and gives its sum. It is written under
+/// another name at first, so that a volume under its name is a whole one; where that fails, nothing of it stays. No file that is there is replaced, under
+/// either name. It is not waited for that the disk has it.
+pub fn keep<F: Folder>(
     alloc: Global,
-    file: W,
+    files: &mut F,
+    folder: &str,
     seal: &Seal,
     head: &Head,
     steps: &[Recorded],
-) -> io::Result<Sum> {
+) -> io::Result<Sum>
+    ensures { Does (Keeps folder.now head.now steps.now seal.now (result_ok result)) (F.story files.old) (F.story files.new) }
+{
+    let volume = volume_path(alloc, folder, head)?;
+    let unfinished = part_path(alloc, folder, head)?;
+    let (path, part) = (volume.as_str(), unfinished.as_str());
+    let file = files.create(part)?;
+    let sum = filled(alloc, files, file, seal, head, steps);
+    let kept = named(files, part, path, sum);
+    let _ = files.remove(part);
+    kept
+}
+
+/// The path of a volume in a folder.
+fn volume_path(alloc: Global, folder: &str, head: &Head) -> Result<String, AllocError>
+    ensures { IfOk result (λ path. string_bytes path ≡ volume_path folder.now head.now) }
+{
+    let (hall, index) = (head.hall.number(), head.index);
+    format!(in alloc; "{folder}/{PREFIX}{hall}-volume-{index:06}")
+}
+
+/// The path under which it is written.
+fn part_path(alloc: Global, folder: &str, head: &Head) -> Result<String, AllocError>
+    ensures { IfOk result (λ path. string_bytes path ≡ part_path folder.now head.now) }
+{
+    let (hall, index) = (head.hall.number(), head.index);
+    format!(in alloc; "{folder}/{PART}{hall}-volume-{index:06}.part")
+}
+
+/// Gives the file that was filled, unless it was not, the path of the volume.
+fn named<F: Folder>(
+    files: &mut F,
+    part: &str,
+    path: &str,
+    filled: io::Result<Sum>,
+) -> io::Result<Sum>
+    ensures { Does (Names part.now path.now (result_ok filled) (result_ok result)) (F.story files.old) (F.story files.new) }
+{
+    let sum = filled?;
+    files.link(part, path)?;
+    Ok(sum)
+}
+
+/// Writes a volume in its seal into a new file, hands all of it to the system, and gives its sum.
+fn filled<F: Folder>(
+    alloc: Global,
+    files: &mut F,
+    file: F::File,
+    seal: &Seal,
+    head: &Head,
+    steps: &[Recorded],
+) -> io::Result<Sum>
+    ensures { Does (Fills head.now steps.now seal.now (F.File.contents file) (result_ok result)) (F.story files.old) (F.story files.new) }
+{
     let mut file = BufWriter::new(alloc, file)?;
     let sum = seal.store(alloc, head, steps, &mut file)?;
-    file.flush()?;
+    let file = match file.into_inner() {
+        Ok(file) => file,
+        Err(error) => return Err(error.into_error()),
+    };
+    files.flush(file)?;
     Ok(sum)
 }

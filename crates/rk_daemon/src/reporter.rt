@@ -23,8 +23,11 @@ use std::time::Clock;
 /// What all threads share of the log.
 #[derive(Drop)]
 pub struct LogState {
+    /// How important a line has to be to be written.
     least: LevelFilter,
+    /// How each line begins.
     style: Style,
+    /// How many lines of each kind were written.
     tallies: Tallies,
 }
 
@@ -42,7 +45,9 @@ impl LogState {
 /// A log on standard error. A line that is not important enough is dropped, and so is one of a kind of which there were many in this minute.
 #[derive_where(Clone, Copy)]
 pub struct Reporter<'a, R> {
+    /// What writes, and has the clock.
     rt: &'a R,
+    /// What all threads share.
     state: &'a LogState,
 }
 

@@ -1,6 +1,6 @@
 //! The daemon from its start to its end.
 ghost use Rattle.std.specs.Prelude.{◌≡◌, IfErr, IfOk, option_map, string_bytes};
-ghost use Rattle.rk_daemon.specs.Faults.{IsFound, IsOfConf, IsOfRecord, IsRandom};
+ghost use Rattle.rk_daemon.specs.Faults.{IsFound, IsOfConf, IsOfRecord};
 
 use crate::accepting::{Until, accept};
 use crate::chain::Run;
@@ -16,6 +16,7 @@ use crate::reporter::{LogState, Reporter};
 use crate::settings::Settings;
 use crate::streams::StandIns;
 use crate::style::Style;
+use crate::system_place::SystemPlace;
 use crate::workers::{Shared, start, start_watch};
 use log::warn;
 use rk_conf::Conf;
@@ -57,7 +58,7 @@ struct Opened {
     log: LogState,
 }
 
-/// Serves what comes at the listener, with new halls.
+/// Serves what comes at the listener, with new halls, and hands out the last volumes of their record.
 fn serve_at<
     N: Names + Send + Sync + 'static,
     R: Threads
@@ -112,11 +113,40 @@ fn serve_at<
             idle: settings.idle,
         },
     )?;
+    serve_out(rt, alloc, &shared, listener, settings, errors)?;
+    if shared.run.is_some() {
+        hand_out_all(rt, alloc, &shared);
+    }
+    Ok(())
+}
+
+/// Serves what comes at the listener, until no more is to come and what came is served to its end.
+fn serve_out<
+    N: Names + Send + Sync + 'static,
+    R: Threads
+        + Wait
+        + Processes<Started = SystemProcess>
+        + Clock
+        + Eprint
+        + Keeper
+        + Clone
+        + Send
+        + Drop
+        + 'static,
+    E: Write,
+>(
+    rt: &R,
+    alloc: Global,
+    shared: &Arc<Shared<N>>,
+    listener: UnixListener,
+    settings: &Settings<'_>,
+    errors: &mut E,
+) -> Result<(), AllocError> {
     let (to, from) = crossbeam_channel::bounded(alloc, WAITING)?;
-    let workers = start(rt, alloc, &shared, &from, settings.sessions)?;
+    let workers = start(rt, alloc, shared, &from, settings.sessions)?;
     drop(from);
     let (watched, end) = crossbeam_channel::bounded(alloc, 1)?;
-    let watcher = start_watch(rt, &shared, end, settings.log)?;
+    let watcher = start_watch(rt, shared, end, settings.log)?;
     let _ = errors.write_all(READY);
     let entrance = Entrance::new(&shared.connections, settings.sessions);
     let log = Reporter::new(rt, &shared.log);
@@ -129,9 +159,6 @@ fn serve_at<
     drop(watched);
     watcher.join(rt);
     log.tell_left_out(u64::MAX);
-    if shared.run.is_some() {
-        hand_out_all(rt, alloc, &shared);
-    }
     Ok(())
 }
 
@@ -265,7 +292,8 @@ pub fn serve<
         Ok(taken) => taken,
         Err(error) => return Err(Fault::Stream(error)),
     };
-    let (listener, taken) = match take(rt, settings.socket, settings.mode) {
+    let mut place = SystemPlace::new(rt);
+    let (listener, taken) = match take(&mut place, settings.socket, settings.mode) {
         Ok(opened) => opened,
         Err(error) => return Err(Fault::Socket(error)),
     };
@@ -276,7 +304,7 @@ pub fn serve<
         log: LogState::new(settings.log.level, Style::of_errors(rt)),
     };
     let served = serve_named(rt, rt.alloc(), opened, settings, errors);
-    give_free(rt, settings.socket, taken);
+    give_free(&mut place, settings.socket, taken);
     match served {
         Ok(()) => Ok(()),
         Err(AllocError) => Err(Fault::NoMemory),

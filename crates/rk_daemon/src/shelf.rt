@@ -13,9 +13,13 @@ use std::sync::Wait;
 /// Writes each volume into the folder of the record; where there is none, names it on standard error, as `volume HALL INDEX STEPS`, and drops it.
 #[derive(Drop)]
 pub struct Outlet<'a, R: Eprint + Log + Keeper> {
+    /// What writes volumes and lines.
     rt: &'a R,
+    /// What makes the names of files.
     alloc: Global,
+    /// This run, where its record is written.
     run: Option<&'a Run>,
+    /// For how many seconds keys of these halls are negative.
     negative: u32,
 }
 

@@ -20,12 +20,19 @@ const ROOM: usize = 4_096;
 /// whether its client was silent for too long.
 #[derive(Drop)]
 pub struct Socket<'a> {
+    /// The connection.
     stream: UnixStream,
+    /// Counts what the records hold.
     held: &'a Held,
+    /// The replies that are kept.
     kept: Vec<u8>,
+    /// Whether a write or a sending has failed, after which nothing is written.
     cut: bool,
+    /// How many calls have failed.
     failed: u64,
+    /// How many reads there were.
     reads: u64,
+    /// Whether a read has failed since nothing came for too long.
     is_idle: bool,
 }
 
@@ -53,7 +60,7 @@ impl<'a> Socket<'a> {
         }
     }
 
-    /// Makes the room for replies, so that none is wanted while the client is served. An `Err` is want of memory.
+    /// Makes the room for replies, so that none is wanted while the client is served. An `Err` is out of memory.
     pub fn make_room(&mut self) -> Result<(), AllocError> {
         self.kept.reserve(ROOM)
     }

@@ -11,8 +11,11 @@ const NOTHING: &str = "/dev/null";
 /// What is open in the places of standard streams that were closed, as long as it is kept.
 #[derive(Drop)]
 pub struct StandIns<F: Drop> {
+    /// In the place of standard input.
     input: Option<F>,
+    /// In that of standard output.
     output: Option<F>,
+    /// In that of standard error.
     errors: Option<F>,
 }
 

@@ -66,6 +66,7 @@ impl Count {
 /// Bounds the lines of one kind: so many in each minute of the clock, and then a count of those that were left out.
 #[derive(Drop)]
 pub struct Tally {
+    /// How many there were.
     count: Mutex<Count>,
 }
 
@@ -91,11 +92,17 @@ impl Tally {
 /// A tally for each kind.
 #[derive(Drop)]
 pub struct Tallies {
+    /// How sessions end.
     session: Tally,
+    /// How handlers end.
     handler: Tally,
+    /// Handlers that run for long.
     slow: Tally,
+    /// Connections that wait for a worker.
     busy: Tally,
+    /// Connections that can't be accepted.
     accept: Tally,
+    /// All else.
     other: Tally,
 }
 
@@ -113,14 +120,7 @@ impl Tallies {
     }
 
     /// That of a kind.
-    pub fn of(&self, kind: Kind) -> &Tally
-        ensures session { kind ≡ Kind.Session → result.now ≡ self.now.session }
-        ensures handler { kind ≡ Kind.Handler → result.now ≡ self.now.handler }
-        ensures slow { kind ≡ Kind.Slow → result.now ≡ self.now.slow }
-        ensures busy { kind ≡ Kind.Busy → result.now ≡ self.now.busy }
-        ensures accept { kind ≡ Kind.Accept → result.now ≡ self.now.accept }
-        ensures other { kind ≡ Kind.Other → result.now ≡ self.now.other }
-    {
+    pub fn of(&self, kind: Kind) -> &Tally {
         match kind {
             Kind::Session => &self.session,
             Kind::Handler => &self.handler,

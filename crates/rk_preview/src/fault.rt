@@ -23,7 +23,7 @@ pub enum Fault {
     NoMemory,
 }
 
-/// The rule of a line that is broken, in words, as docs/CONFIGURATION.md has them under "What is refused".
+/// The rule of a line that is broken, in words, as reqkeyd.conf(5) has them under "DIAGNOSTICS".
 pub fn rule(kind: ConfKind) -> &'static str
     ensures { result.now ≡ rule_text kind }
 {

@@ -1,5 +1,5 @@
 use denote.Param.{param}
-use denote.Param.Send.{IsSend, IsSync, sendable}
+use denote.Param.Send.{IsSend, sendable}
 use Rattle.std.proofs.Crossing.{crosses, Arc-send}
 use Rattle.rk_daemon.specs.contracts.settings.LogSettings as settings
 use Rattle.rk_daemon.specs.contracts.workers.Shared as shared

@@ -1,0 +1,21 @@
+-- What is done at the path of a socket.
+use Rattle.std.specs.Prelude.{ℕ, Bool, List, Option, None, Some, Result, Ok, Err}
+use Rattle.std.specs.IoError.{error_kind}
+use Rattle.std.specs.declared.io.Error.{Error}
+use Rattle.std.specs.declared.io.ErrorKind.{ErrorKind}
+use Rattle.rk_daemon.specs.declared.place.FileId.{FileId}
+
+-- what is done: a socket is bound to a path, unless that fails, in some way; the file there gets permissions; the socket listens; it is seen whether the one
+-- at a path is left over, and which file is there, unless that can't be seen; the file is removed
+pub data Act : Type 0 where
+  Bound : List ℕ → Option ErrorKind → Act
+  Permitted : List ℕ → ℕ → Bool → Act
+  Listened : Bool → Act
+  Probed : List ℕ → Option Bool → Act
+  Identified : List ℕ → Option FileId → Act
+  Removed : List ℕ → Bool → Act
+
+-- how it has failed, if it has
+abbrev pub failure : {A : Type 0} → Result A Error → Option ErrorKind
+failure (Ok x) = None
+failure (Err e) = Some (error_kind e)
