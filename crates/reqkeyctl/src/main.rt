@@ -2,7 +2,7 @@
 //!
 //! `reqkeyctl --socket PATH OP ARGS` connects, says who it is, asks, and prints the reply. Without `--socket` it speaks as a handler that the daemon
 //! has started: it writes the ask to its standard output, reads the reply from its standard input, and not a byte more, and tells it on standard
-//! error. So a handler can be a shell script of a few such lines (docs/CLIENT.md).
+//! error. So a handler can be a shell script of a few such lines (reqkeyctl(1)).
 //!
 //! `reqkeyctl run -- PROGRAM WORDS` runs a program in a session ring of its own, to which keyutils' calls are the daemon's (docs/PROGRAMS.md).
 //!
@@ -12,7 +12,7 @@
 //! said and heard. `daemon` is who is asked at a socket, and `sockets` how the system reaches it. `search` names the commands that look for keys, `survey`
 //! reads their words, `searching` is what they say to the daemon, and `looking` prints what is found. `running` runs a program, by the library `rk_run`.
 //! `help` shows the manual to words that ask for it, and says what is wrong with words that can't be read, by `manual` and `misuse`. All that it does is one
-//! call, [`run::run_words`], over words, streams, a host and a daemon that are passed in.
+//! call, [`run::run_words`], over words, `streams`, a host and a daemon that are passed in.
 #![tactic(auto)]
 
 mod around;
@@ -29,6 +29,7 @@ mod search;
 mod searching;
 mod sockets;
 mod source;
+mod streams;
 mod survey;
 mod telling;
 mod trouble;
@@ -39,6 +40,7 @@ use sockets::Sockets;
 use std::env;
 use std::io::ErrorKind;
 use std::process::ExitCode;
+use streams::Streams;
 
 fn main(rt: HostRuntime) -> ExitCode {
     let mut errors = rt.stderr();
@@ -50,25 +52,21 @@ fn main(rt: HostRuntime) -> ExitCode {
         Err(error) if error.kind() == ErrorKind::OutOfMemory => {
             return ExitCode::from(telling::no_memory(&mut errors));
         }
-        Err(_) => return ExitCode::from(telling::usage(&mut errors)),
+        Err(_) => return ExitCode::from(telling::not_text(&mut errors)),
     };
     let Ok(around) = Around::look(&rt) else {
         return ExitCode::from(telling::no_memory(&mut errors));
     };
-    let (mut reader, mut writer) = (rt.stdin(), rt.stdout());
     let mut host = System::new(&rt, rt.alloc());
     let mut daemon = Sockets::new(&rt, rt.alloc());
-    let status = run::run_words(
-        &rt,
-        &mut host,
-        &mut daemon,
-        Invocation {
-            words: words.as_slice(),
-            around: &around,
-        },
-        &mut reader,
-        &mut writer,
-        &mut errors,
-    );
-    ExitCode::from(status)
+    let invocation = Invocation {
+        words: words.as_slice(),
+        around: &around,
+    };
+    let mut streams = Streams {
+        reader: rt.stdin(),
+        writer: rt.stdout(),
+        errors,
+    };
+    ExitCode::from(run::run_words(&rt, &mut host, &mut daemon, invocation, &mut streams))
 }

@@ -14,6 +14,7 @@ use crate::daemon::Daemon;
 use crate::help::{Misuse, explain};
 use crate::looking::look;
 use crate::running::run_program;
+use crate::streams::Streams;
 use crate::survey::Survey;
 use crate::telling::{answer, answer_alone, no_file, no_memory, refused};
 use crate::trouble::{of_file, of_streams};
@@ -26,9 +27,11 @@ use std::io::{Read, Write};
 /// Runs the program on these words and streams, and gives its status: 0 where a reply was printed; 1 where it was a refusal, or there is none, or
 /// a file can't be used, or memory is lacking, with a line on `errors`; 2 for words that ask for nothing that there is, with the usage on `errors`.
 ///
-/// The first word is the name of the program. With `--socket`, or else with the socket of what is around, the `daemon` there is asked, behind the HELLO
-/// of the options; the reply is printed on `writer`, and `reader` is read only for a file `-`. Without one the peer is at the streams: one ask is written
-/// to `writer`, unless that is a terminal, one reply read from `reader`, and it is printed on `errors`. Help and the version are written to `writer`.
+/// Of `streams`, `reader` is standard input, `writer` standard output and `errors` standard error. The first word is the name of the program.
+///
+/// With `--socket`, or else with the socket of what is around, the `daemon` there is asked, behind the HELLO of the options; the reply is printed on
+/// `writer`, and `reader` is read only for a file `-`. Without one the peer is at the streams: one ask is written to `writer`, unless that is a terminal,
+/// one reply read from `reader`, and it is printed on `errors`. Help and the version are written to `writer`.
 ///
 /// Where the last word is `list` or `sweep`, behind options alone, the daemon is searched for keys ([`crate::searching::search`]), and what is found is
 /// printed on `writer`.
@@ -36,58 +39,68 @@ use std::io::{Read, Write};
 /// Where the second word is `run`, and what follows are its options, `--` and a program, that program is run by `host` in a session ring of its own
 /// ([`rk_run::run`]), and the status is the program's; 127 where there is no such program and 126 where it can't be started; 1 where it was not run
 /// otherwise, with a line on `errors`.
-pub fn run_words<R: AllocGlobal + Files, H: Host, D: Daemon, I: Read, W: Write, E: Write>(
+pub fn run_words<
+    R: AllocGlobal + Files,
+    H: Host,
+    D: Daemon,
+    I: Read + Drop,
+    W: Write + Drop,
+    E: Write + Drop,
+>(
     rt: &R,
     host: &mut H,
     daemon: &mut D,
     invocation: Invocation<'_>,
-    reader: &mut I,
-    writer: &mut W,
-    errors: &mut E,
+    streams: &mut Streams<I, W, E>,
 ) -> u8
     // what was done, by the words
     ensures done { result ≡ 0 → HasDone invocation.entry.around.now (map string_bytes invocation.entry.words.now) (D.story daemon.old) (D.story daemon.new)
-        (I.remaining reader.old) (I.remaining reader.new) (W.contents writer.old) (W.contents writer.new) (E.contents errors.old) (E.contents errors.new) }
+        (I.remaining streams.old.reader) (I.remaining streams.new.reader) (W.contents streams.old.writer) (W.contents streams.new.writer)
+        (E.contents streams.old.errors) (E.contents streams.new.errors) }
     // whatever the status, the daemon is asked for nothing but what the words say, and that once
     ensures spoke { HasSpoken invocation.entry.around.now (map string_bytes invocation.entry.words.now) (D.story daemon.old) (D.story daemon.new) result }
     // words that ask for nothing read, write and say nothing
-    ensures usage { result ≡ 2 → (reader.new ≡ reader.old) × (writer.new ≡ writer.old) × (daemon.new ≡ daemon.old) }
+    ensures usage { result ≡ 2 → (streams.new.reader ≡ streams.old.reader) × (streams.new.writer ≡ streams.old.writer) × (daemon.new ≡ daemon.old) }
     // a call that names no daemon writes nothing to a terminal, but help
     ensures lost { (call : CallSaid) → call_in invocation.entry.around.now (map string_bytes invocation.entry.words.now) ≡ Some call
         → is_lost invocation.entry.around.now call ≡ true → asks_help (map string_bytes invocation.entry.words.now) ≡ false
-        → (reader.new ≡ reader.old) × (writer.new ≡ writer.old) × (daemon.new ≡ daemon.old) }
+        → (streams.new.reader ≡ streams.old.reader) × (streams.new.writer ≡ streams.old.writer) × (daemon.new ≡ daemon.old) }
 
     // a program that is wanted is run, and nothing is read, written or said here
     ensures runs { IfSome (wanted_said (map string_bytes invocation.entry.words.now)) (λ said. RunsAs said (H.story host.old) (H.story host.new) result
-        × (reader.new ≡ reader.old) × (writer.new ≡ writer.old) × (daemon.new ≡ daemon.old)) }
+        × (streams.new.reader ≡ streams.old.reader) × (streams.new.writer ≡ streams.old.writer) × (daemon.new ≡ daemon.old)) }
     // for other words none is
     ensures asks { wanted_said (map string_bytes invocation.entry.words.now) ≡ None → (host.new ≡ host.old) × (result ≤ 2) }
 {
     match Wanted::read(invocation.words) {
-        Some(wanted) => run_program(rt.alloc(), host, &wanted, errors),
-        None => ask_words(rt, daemon, invocation, reader, writer, errors),
+        Some(wanted) => run_program(rt.alloc(), host, &wanted, &mut streams.errors),
+        None => ask_words(rt, daemon, invocation, streams),
     }
 }
 
 /// Does what other words ask for: one ask, a search for keys, or help.
-fn ask_words<R: AllocGlobal + Files, D: Daemon, I: Read, W: Write, E: Write>(
+fn ask_words<R: AllocGlobal + Files, D: Daemon, I: Read + Drop, W: Write + Drop, E: Write + Drop>(
     rt: &R,
     daemon: &mut D,
     invocation: Invocation<'_>,
-    reader: &mut I,
-    writer: &mut W,
-    errors: &mut E,
+    streams: &mut Streams<I, W, E>,
 ) -> u8
     ensures done { result ≡ 0 → HasDone invocation.entry.around.now (map string_bytes invocation.entry.words.now) (D.story daemon.old) (D.story daemon.new)
-        (I.remaining reader.old) (I.remaining reader.new) (W.contents writer.old) (W.contents writer.new) (E.contents errors.old) (E.contents errors.new) }
+        (I.remaining streams.old.reader) (I.remaining streams.new.reader) (W.contents streams.old.writer) (W.contents streams.new.writer)
+        (E.contents streams.old.errors) (E.contents streams.new.errors) }
     ensures spoke { HasSpoken invocation.entry.around.now (map string_bytes invocation.entry.words.now) (D.story daemon.old) (D.story daemon.new) result }
-    ensures usage { result ≡ 2 → (reader.new ≡ reader.old) × (writer.new ≡ writer.old) × (daemon.new ≡ daemon.old) }
+    ensures usage { result ≡ 2 → (streams.new.reader ≡ streams.old.reader) × (streams.new.writer ≡ streams.old.writer) × (daemon.new ≡ daemon.old) }
     ensures lost { (call : CallSaid) → call_in invocation.entry.around.now (map string_bytes invocation.entry.words.now) ≡ Some call
         → is_lost invocation.entry.around.now call ≡ true → asks_help (map string_bytes invocation.entry.words.now) ≡ false
-        → (reader.new ≡ reader.old) × (writer.new ≡ writer.old) × (daemon.new ≡ daemon.old) }
+        → (streams.new.reader ≡ streams.old.reader) × (streams.new.writer ≡ streams.old.writer) × (daemon.new ≡ daemon.old) }
     ensures status { result ≤ 2 }
 {
     let (alloc, Invocation { words, around }) = (rt.alloc(), invocation);
+    let Streams {
+        reader,
+        writer,
+        errors,
+    } = streams;
     let Some(call) = Call::read_in(words, around) else {
         return search_words(alloc, daemon, invocation, writer, errors);
     };
@@ -127,7 +140,7 @@ fn ask_words<R: AllocGlobal + Files, D: Daemon, I: Read, W: Write, E: Write>(
     }
 }
 
-/// Does what words ask for that are no ask: a search for keys, or help.
+/// Does what other words than an ask say: a search for keys, or help.
 fn search_words<D: Daemon, W: Write, E: Write>(
     alloc: Global,
     daemon: &mut D,

@@ -1,4 +1,4 @@
-//! What is told, on which stream, and the status that goes with it.
+//! What is printed, on which stream, and the status that goes with it.
 ghost use Rattle.std.specs.Prelude.{◌≡◌, ◌≤◌, IfOk, false};
 ghost use Rattle.std.specs.Io.KnownBytes.{Appends};
 ghost use Rattle.rk_client.specs.Peer.{is_refusal};
@@ -17,7 +17,7 @@ const FAILED: u8 = 1;
 /// The status of words that ask for nothing that there is.
 const USAGE: u8 = 2;
 
-/// Want of memory.
+/// Out of memory.
 pub fn no_memory<E: Write>(errors: &mut E) -> u8
     ensures { result ≡ 1 }
 {
@@ -43,7 +43,7 @@ fn detail<E: Write>(trouble: Option<&str>, errors: &mut E) {
     }
 }
 
-/// A stream that does not take what is told.
+/// A stream that does not take what is printed.
 pub fn no_output<E: Write>(errors: &mut E) -> u8
     ensures { result ≡ 1 }
 {
@@ -66,11 +66,14 @@ pub fn no_program<E: Write>(trouble: Option<&str>, errors: &mut E) {
     detail(trouble, errors);
 }
 
-/// The usage in one line, for words that are not text.
-pub fn usage<E: Write>(errors: &mut E) -> u8
+/// That a word is not text.
+pub fn not_text<E: Write>(errors: &mut E) -> u8
     ensures { result ≡ 2 }
 {
-    misused("usage: reqkeyctl [OPTIONS] OP ARGS\n", errors)
+    misused(
+        "error: an argument is not UTF-8; '--payload-from <FILE>' takes a payload of any bytes\n",
+        errors,
+    )
 }
 
 /// What is wrong with the words.
@@ -116,7 +119,7 @@ pub fn refusal<E: Write>(alloc: Global, reply: Reply, errors: &mut E) -> u8
     FAILED
 }
 
-/// What is told of a reply that is no refusal.
+/// What is printed of a reply, unless it is a refusal.
 fn text_of(alloc: Global, reply: Reply, options: &Options<'_>) -> Result<Vec<u8>, AllocError>
     ensures { IfOk result (λ v. v.items ≡ told_reply (options_by options.now) reply) }
 {
