@@ -18,7 +18,7 @@ ZSH_DIR = $(PREFIX)/share/zsh/site-functions
 PYTHON_DIR = $(shell python3 -c 'import site, sys; \
 	print(next((it for it in site.getsitepackages() if it.startswith(sys.argv[1])), sys.argv[1] + "python3/dist-packages"))' '$(PREFIX)/lib/')
 
-.PHONY: all bench quick check cost edits demo soak install uninstall deb completion pictures clean help toolchain
+.PHONY: all bench quick check cost walk edits demo soak install uninstall deb completion pictures clean help toolchain
 
 all: $(addprefix build/,$(PROGRAMS))  ## Prove and build the programs, into build/
 
@@ -66,6 +66,9 @@ CRATES =
 
 cost:  ## List the functions that are the dearest to prove, of what the last checks kept; of some crates with CRATES=
 	@tools/cost.py $(CRATES)
+
+walk: build/reqkeyd  ## Count the calls, the files and the changes of file of a request, in an unoptimized build of the daemon
+	@tools/walk.py
 
 edits: toolchain  ## Try all edits that must fail, and write edits.lock, which lists what was refused. With ANEW=1 nothing is taken from earlier runs
 	@tests/test_edits.py --lock

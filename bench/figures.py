@@ -27,6 +27,13 @@ def quotients(over, under):
     return [f"{float(one.replace(',', '')) / float(other.replace(',', '')):.2f}" if MISSING not in (one, other) else MISSING for one, other in zip(over, under)]
 
 
+def asks(found):
+    for table in found:
+        if table.has("ask", "instructions Rattle"):
+            both = {"Rattle": table.column("instructions Rattle"), "C": table.column("instructions Rattle", 1)}
+            yield Panel("Instructions of an ask, and of the same frames in the server that echoes", rows(table.column("ask"), **both), None, True)
+
+
 def replay(found):
     for table in found:
         if table.has("load", "time", "instructions"):
@@ -97,7 +104,7 @@ def connections(row):
     return ", ".join(["1 connection" if count == "1" else f"{count} connections", *more])
 
 
-BENCHES = {of.__name__: of for of in [replay, steps, memory, profile, hall, spawn, serve]}
+BENCHES = {of.__name__: of for of in [asks, replay, steps, memory, profile, hall, spawn, serve]}
 
 
 def drawn(what, text):

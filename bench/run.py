@@ -3,56 +3,42 @@
 
 usage: run.py [--lines N] [--runs N] [--instructions N] [--asks N] [--only WORDS] [--folder FOLDER] WHAT ..
 
+asks     what each ask over `reqkeyd serve` takes in instructions, and what bench/c/echo.c takes for the same frames; a start of a program, beside
+         that of bench/c/spawn.c
 replay   `reqkeyd replay` and bench/c/replay.c on the scripts of loads.py, whose outputs have to be equal byte by byte
 steps    the same two: what a step costs in instructions and in time, by the number of keys, less what a line takes by itself; and steps of
          bench/c/book.c, which reads no script
-memory   what both take for each key
+memory   what both take for each key; and what `reqkeyd serve` and bench/c/echo.c have in memory at rest and after asks
 profile  where `reqkeyd replay` spends its instructions on those scripts
 hall     what a call costs behind a lock: `hall_bench` and bench/c/hall.c
 spawn    starts of programs: `spawn_bench` and bench/c/spawn.c
-serve    `reqkeyd serve` and bench/c/echo.c, both driven by bench/c/load.c over a socket
+serve    `reqkeyd serve` and bench/c/echo.c, both driven by bench/c/load.c over a socket; and, where they are installed, other services that look up
+         one thing: redis-server, ssh-agent, the kernel's own keys, and the library of clients/keyutils
 pictures measures nothing: draws bench/pictures/ anew, of the tables of bench/README.md
 
 Where the project's program is not built, the peer is measured alone. What is measured is drawn in FOLDER/WHAT.svg, of the printed tables (build/bench/).
 
 Times are processor times, the least of so many runs; what a script sets up before its measured lines is run alone and taken off. Instructions are
-those that callgrind counts, which no other work on the machine disturbs, over N lines (2,000; 0 for none).
+those that callgrind counts, which no other work on the machine disturbs, over N lines or asks (2,000; 0 for none).
 """
 import argparse
 import contextlib
 import os
 import pathlib
 import re
-import socket
 import subprocess
 import sys
 import tempfile
-import time
 
+import bounds
+import costs
 import figures
 import loads
+from others import others_of
+from serving import CONNECTIONS, Server, Wrong, built, peer, top
+from traced import GaveUp
 
-top = pathlib.Path(__file__).resolve().parent.parent
 RATTLE, C = "Rattle", "C"
-
-
-class Wrong(Exception):
-    """What can't be measured, and why."""
-
-
-def built(name):
-    """A program of the project: as `make` puts it into build/, or as the toolchain leaves it."""
-    for path in (top / "build" / name, top / "crates" / name / "out" / name):
-        if path.exists():
-            return path
-    raise Wrong(f"{name} is not built: make, make bench")
-
-
-def peer(name):
-    path = top / "build" / "c" / name
-    if not path.exists():
-        raise Wrong(f"build/c/{name} is not built: make -C bench")
-    return path
 
 
 # ---- one run
@@ -80,6 +66,36 @@ def instructions(words, script, kept=os.devnull):
     if not found:
         raise Wrong(f"callgrind: {ran.stderr.decode(errors='replace')[-400:]}")
     return int(found[1])
+
+
+# ---- asks
+
+
+def counted_asks(programs, ask, count):
+    """For each server the instructions of one of these asks. The peer that starts programs is another one."""
+    kinds = {RATTLE: costs.Daemon, C: costs.Echo}
+    found = {who: costs.cost(kinds[who](path), ask, count) for who, path in programs.items() if who == RATTLE or not isinstance(ask, costs.Start)}
+    return {C: costs.cost_of_start(peer("spawn"), count), **found} if isinstance(ask, costs.Start) else found
+
+
+def counted_lock(program):
+    return costs.locked(program)
+
+
+def asks(options):
+    """The echo has one reply for all frames, so what it takes is the reading of these and the writing of that."""
+    if not options.instructions:
+        raise Wrong("asks: --instructions 0 leaves nothing to be counted")
+    programs = both("echo", "reqkeyd", [])
+    print(f"Instructions of an ask, by callgrind: those of {2 * options.instructions:,} less those of {options.instructions:,}\n")
+    table("ask", "instructions Rattle", "C", "ratio", "at most")
+    for ask in costs.ASKS:
+        if options.only and options.only not in ask.name:
+            continue
+        steps = counted_asks({who: words[0] for who, words in programs.items()}, ask, options.instructions)
+        row([ask.name, *pair(steps, "{:,.0f}"), ratio(steps), f"{bounds.MOST[ask.name]:,}" if ask.name in bounds.MOST else "-"])
+        if ask == costs.FOUND and RATTLE in programs:
+            row([costs.LOCKED, f"{counted_lock(programs[RATTLE][0]):,}", "-", "-", "-"])
 
 
 # ---- replay
@@ -261,6 +277,21 @@ def memory(options):
     for who, words in programs.items():
         few, many = (run(words, script)[1] - len(script) // 1024 for script in scripts)
         row([who, f"{few:,}", f"{many:,}", f"{(many - few) * 1024 / (199 * OTHERS[-1]):,.0f}"])
+    print("\nResident memory of the servers, each with 64 workers\n")
+    table("program", *[head for head, *_ in RESIDENT])
+    with tempfile.TemporaryDirectory() as name:
+        found = servers(pathlib.Path(name))
+        try:
+            if RATTLE in found:
+                found[f"{RATTLE}, one memory pool"] = daemon(pathlib.Path(name), "pooled", "env", "MALLOC_ARENA_MAX=1")
+            for who, server in found.items():
+                row([who, *[f"{resident_after(server, *load):,}" for _, *load in RESIDENT]])
+        finally:
+            end_all(found)
+
+
+# after which loads memory is looked at: a head, and so many connections and asks
+RESIDENT = [("KiB at rest", 0, 0), ("after 128,000 asks of 64 connections", 64, 128_000), ("after 1,000,000 more of 8", 8, 1_000_000)]
 
 
 # ---- profile
@@ -352,45 +383,23 @@ def spawn(options):
 # ---- serve
 
 CONF = "create user made:* * |/bin/cat\n"
-CONNECTIONS = ["1", "8", "64"]
 TOGETHER = "1, 50 in one write"
 # for so many nanoseconds the peer works for each ask, to see what an ask may take
 WORK = ["500", "1000", "2000", "3000"]
 
 
-class Server:
-    """A server that runs, and its socket."""
-
-    def __init__(self, words, path):
-        self.path = path
-        self.child = subprocess.Popen([str(word) for word in words], stderr=subprocess.DEVNULL)
-        for _ in range(1000):
-            with socket.socket(socket.AF_UNIX) as tried:
-                if self.child.poll() is None and tried.connect_ex(str(path)) == 0:
-                    return
-            time.sleep(0.01)
-            if self.child.poll() is not None:
-                raise Wrong(f"{words[0]} {words[1]} does not serve")
-        self.end()
-        raise Wrong(f"{words[0]} {words[1]} does not answer")
-
-    def resident(self):
-        """The KiB that it has in memory."""
-        return int(re.search(r"VmRSS:\s+(\d+)", pathlib.Path(f"/proc/{self.child.pid}/status").read_text())[1])
-
-    def end(self):
-        self.child.kill()
-        self.child.wait()
+def daemon(folder, name, *before):
+    """The project's server, whose words may stand behind those of another program, as env(1)."""
+    conf, path = folder / "conf", folder / name
+    conf.write_text(CONF)
+    return Server([*before, built("reqkeyd"), "serve", "--socket", path, "--conf", conf, "--sessions", 64], path)
 
 
 def servers(folder):
     """Both servers, or the peer alone."""
-    conf = folder / "conf"
-    conf.write_text(CONF)
     found = {C: Server([peer("echo"), folder / "echo", 64], folder / "echo")}
     try:
-        words = [built("reqkeyd"), "serve", "--socket", folder / "reqkeyd", "--conf", conf, "--sessions", 64]
-        found[RATTLE] = Server(words, folder / "reqkeyd")
+        found[RATTLE] = daemon(folder, "reqkeyd")
     except Wrong as wrong:
         print(f"{wrong}; only C is measured\n")
     return found
@@ -399,18 +408,14 @@ def servers(folder):
 def serve(options):
     with tempfile.TemporaryDirectory() as name:
         found = servers(pathlib.Path(name))
-        try:
+        with contextlib.ExitStack() as ends:
+            ends.callback(end_all, found)
+            others = others_of(pathlib.Path(name), found.get(RATTLE), ends)
             print(f"Asks a second for a key that is there, Rattle's to C's to be {figures.ASKS}\n")
-            drive(found, options)
+            drive(found, others, options)
             if RATTLE in found:
                 print(f"\nKeys made by /bin/cat, beside as many starts at a time by the peer of `spawn`, to be {figures.STARTS} of them\n")
                 drive_made(found[RATTLE], options.runs)
-            print("\nMemory after asks, which is to stay as it is\n")
-            table("program", "KiB after 10,000", "KiB after 1,000,000")
-            for who, server in found.items():
-                row([who, *[f"{resident_after(server, asks):,}" for asks in ("10000", "1000000")]])
-        finally:
-            end_all(found)
         working(pathlib.Path(name), options)
 
 
@@ -446,19 +451,29 @@ def working(folder, options):
         end_all(found)
 
 
-def resident_after(server, asks):
-    subprocess.run([peer("load"), server.path, "8", asks], stdout=subprocess.DEVNULL, check=True)
+def resident_after(server, connections, asks):
+    """The KiB of a server after a load, or without one."""
+    if asks:
+        subprocess.run([peer("load"), server.path, str(connections), str(asks)], stdout=subprocess.DEVNULL, check=True)
     return server.resident()
 
 
-def drive(found, options):
-    table("connections", "program", "asks/s", "to C's", "latency")
+def drive(found, others, options):
+    """Each server in turn, and each further peer that takes so many connections."""
+    table("connections", "program", "asks/s", "to C's", "latency", "99th, to C's")
     asks = str(options.asks)
     for label, words in [*[(count, [count, asks]) for count in CONNECTIONS], (TOGETHER, ["1", asks, "together"])]:
         loads_of = {who: [peer("load"), server.path, *words] for who, server in found.items()}
+        loads_of |= {it.name: it.load(label, asks) for it in others if label in it.connections}
         for best in rates(loads_of, options.runs).values():
             for who, (rate, latency) in best.items():
-                row([label, who, f"{rate:,}", f"{rate / best[C][0]:.2f}", latency.strip(", ")])
+                row([label, who, f"{rate:,}", f"{rate / best[C][0]:.2f}", latency.strip(", "), slower(latency, best[C][1])])
+
+
+def slower(latency, other):
+    """How many times as long the 99th percentile is."""
+    found = [re.search(r"([0-9.]+) at the 99th", it) for it in (latency, other)]
+    return f"{float(found[0][1]) / float(found[1][1]):.2f}" if all(found) else figures.MISSING
 
 
 def drive_made(server, runs):
@@ -510,9 +525,9 @@ def main(words=None):
     parser.add_argument("what", nargs="+", choices=[*figures.BENCHES, "pictures"])
     parser.add_argument("--lines", type=int, default=20000)
     parser.add_argument("--runs", type=int, default=5)
-    parser.add_argument("--instructions", type=int, default=2000, metavar="LINES")
+    parser.add_argument("--instructions", type=int, default=2000, metavar="N", help="over how many lines, or asks, instructions are counted")
     parser.add_argument("--asks", type=int, default=100000, help="how many asks of each number of connections")
-    parser.add_argument("--only", help="the loads of replay whose names have these words")
+    parser.add_argument("--only", help="the loads of replay and profile, or the rows of asks, whose names have these words")
     parser.add_argument("--folder", type=pathlib.Path, default=top / "build" / "bench", help="where what was measured is drawn")
     options = parser.parse_args(words)
     try:
@@ -521,7 +536,7 @@ def main(words=None):
                 pictures()
             else:
                 measured(what, options)
-    except Wrong as wrong:
+    except (Wrong, costs.Failed, GaveUp) as wrong:
         print(f"run.py: {wrong}", file=sys.stderr)
         return 1
     return 0

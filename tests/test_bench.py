@@ -4,11 +4,14 @@
 It is written from the documents and shares no line with the daemon, so the two check each other: on each scenario of tests/replay, and on random
 scripts. Nothing is measured here.
 """
+import contextlib
 import pathlib
 import shutil
+import socket
 import subprocess
 import sys
 import tempfile
+import threading
 
 from programs import LIMIT, PROGRAMS, top
 from random_scripts import played, script_of
@@ -51,6 +54,32 @@ def load_is_answered(folder):
         server.communicate()
 
 
+def status_with(folder, way, *replies):
+    """The status of a load that asks another service, which a thread plays: it answers what has a mark by the reply that stands with it."""
+    path = folder / f"{way}{len(list(folder.iterdir()))}"
+    listener = socket.socket(socket.AF_UNIX)
+    listener.bind(str(path))
+    listener.listen()
+
+    def answer():
+        connection, _ = listener.accept()
+        with connection, contextlib.suppress(ConnectionResetError):
+            while data := connection.recv(4096):
+                connection.sendall(next(reply for mark, reply in replies if mark in data))
+
+    threading.Thread(target=answer, daemon=True).start()
+    with listener:
+        return subprocess.run([folder / "load", path, "1", "20", way], capture_output=True, timeout=LIMIT).returncode
+
+
+# A further service, what it answers, and the status of its load.
+SERVICES = [
+    ("redis", 0, (b"SET", b"+OK\r\n"), (b"GET", b"$1\r\nv\r\n")),
+    ("redis", 1, (b"SET", b"+OK\r\n"), (b"GET", b"-ERR it\r\n")),
+    ("agent", 0, (b"\x0b", b"\0\0\0\x05\x0c\0\0\0\x01")),
+    ("agent", 1, (b"\x0b", b"\0\0\0\x01\x05")),
+]
+
 if not shutil.which("gcc") or not shutil.which("make"):
     print("bench/c: not tried, there is no gcc and make")
     print("0 passed, 0 failed")
@@ -66,6 +95,9 @@ with tempfile.TemporaryDirectory() as folder:
             ran = subprocess.run([folder / program, *words], capture_output=True, timeout=LIMIT)
             tell(ran.returncode == 0, f"bench/c/{program}: status {ran.returncode}: {ran.stderr.decode(errors='replace')}")
         tell(load_is_answered(folder), "bench/c/load: it fails")
+        for way, wanted, *replies in SERVICES:
+            status = status_with(folder, way, *replies)
+            tell(status == wanted, f"bench/c/load, {way}: status {status}, not {wanted}")
         for case in scenarios():
             tell(played(replay, case.script) == (case.expected, case.status), f"bench/c/replay {case.name}: it is played otherwise")
         there = [program for program in PROGRAMS if program.exists()]

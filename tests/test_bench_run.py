@@ -11,6 +11,7 @@ from counted import Counted
 from crates import top
 
 sys.path.insert(0, str(top / "bench"))
+import others
 import run
 
 count = Counted()
@@ -38,6 +39,8 @@ def fake(programs):
         "both": lambda *_: {who: [who] for who in programs},
         "outputs_are_equal": lambda *_: (True, 1000),
         "measure": lambda *_: {who: (0.007 if who == OURS else 0.001, 3000 if who == OURS else 2000, 0.01) for who in programs},
+        "counted_asks": lambda *_: {who: 5000 if who == OURS else 1000 for who in programs},
+        "counted_lock": lambda _: 1500,
         "counted": lambda *_: {who: 5000 if who == OURS else 1000 for who in programs},
         "stepped": lambda _: {who: steps for who in programs},
         "played": lambda _: {who: steps for who in programs},
@@ -45,9 +48,11 @@ def fake(programs):
         "run": lambda _, script: (0.01, 4 * len(script) // 1024, 0),
         "shares": lambda _: [("<A as B>::play & more", "40.50"), ("x" * 200, "2.25")],
         "rates": rates,
+        "daemon": lambda *_: Server(),
         "servers": lambda _: {who: Server() for who in programs},
         "peers_at_work": lambda _: {nanos: Server() for nanos in ["0", *run.WORK]},
         "resident_after": lambda *_: 1000,
+        "others_of": lambda *_: [others.Other("another", ["8"], "socket", "way")],
         "OTHERS": [0, 1, 2],
     }
 
@@ -79,9 +84,10 @@ def ended_peers():
 def told(programs, bench):
     """The status of a run, what it printed, and the file that it drew."""
     vars(run).update(fake(programs))
+    others.peer = lambda name: name
     printed = io.StringIO()
     with tempfile.TemporaryDirectory() as folder, contextlib.redirect_stdout(printed), contextlib.redirect_stderr(io.StringIO()):
-        status = run.main(["--lines", "20", "--only", "misses", "--folder", folder, bench])
+        status = run.main(["--lines", "20", "--only", "miss", "--folder", folder, bench])
         files = {path.name: path.read_text() for path in pathlib.Path(folder).iterdir()}
     return status, printed.getvalue(), files
 
@@ -92,6 +98,7 @@ def bars(text):
 
 # A bar of each bench, as Rattle and C are made up above, and one with C alone, where there is any.
 BARS = {
+    "asks": (["missing REQUEST, Rattle: 5,000", "missing REQUEST, C: 1,000"], "missing REQUEST, C: 1,000"),
     "replay": (["misses, time: 7.00", "misses, instructions: 5.00", "misses: 1.50"], None),
     "steps": (["a key read, Rattle, 200,000 keys: 2.00", "a key read, C, 10,000 keys: 1.10"], "a key read, C, 10,000 keys: 1.10"),
     "memory": (["Rattle: ", "C: "], "C: "),

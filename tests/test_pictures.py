@@ -105,6 +105,11 @@ def number(figure):
     return float(figure.replace(",", ""))
 
 
+def asked():
+    for ask, ours, peer, *_ in below("| ask | instructions Rattle |"):
+        yield from [f"{ask}, Rattle: {ours}", f"{ask}, C: {peer}"]
+
+
 def replayed():
     for load, _, _, _, time, _, _, instructions in below("| load | lines |"):
         yield from [f"{load}, time: {time}", f"{load}, instructions: {instructions}"]
@@ -132,6 +137,7 @@ def rated(heads):
 
 
 TOLD = {
+    "asks.svg": list(asked()),
     "replay.svg": list(replayed()),
     "steps.svg": list(stepped()),
     "memory.svg": [f"{program}: {size}" for program, size in below("| program | bytes a key |")],

@@ -1,16 +1,25 @@
-/* Drives a server: so many connections ask for a key that is there, or have one made, each as fast as it is answered.
+/* Drives a server: so many connections ask for what is there, or have a key made, each as fast as it is answered.
  *
- * usage: load SOCKET CONNECTIONS ASKS [made|together]
+ * usage: load SOCKET CONNECTIONS ASKS [made|together|redis|agent]
+ *        load LIBRARY|- CALLERS ASKS calls
  *
  * Each connection says HELLO as the user 1000. The first one adds the key `load` to the user's ring. Then each asks REQUEST for it, without a callout
- * and without a ring, and reads its reply before the next one; `together` it writes 50 of them in one call, and reads their replies before the next 50.
- * Or it asks for keys `made:..` that are not there, with a callout of 1 KiB, and unlinks each one, which is not timed. A tenth of the asks are to get warm, and then so many in all are measured. It tells the asks a second, and the 50th,
- * 99th and 99.9th percentile of the time to a reply. The status is 1 where a reply was no Number. */
+ * and without a ring, and reads its reply before the next one. In other words:
+ *   together  it writes 50 of them in one call, and reads their replies before the next 50
+ *   made      it asks for keys `made:..` that are not there, with a callout of 1 KiB, and unlinks each one, which is not timed
+ *   redis     it asks a Redis server for the value of a key, which the first one has set
+ *   agent     it asks an ssh-agent for the list of its keys, one at least
+ *   calls     threads read a key by the library's keyctl_read, or for `-` have the kernel look one up by request_key(2)
+ * A tenth of the asks are to get warm, and then so many in all are measured. It prints the asks a second, and the 50th, 99th and 99.9th percentile of the
+ * time to a reply. The status is 1 where a reply was not the one that is due. */
 #include "socket.h"
 
-enum { CONNECTIONS = 64, CALLOUT = 1024, TOGETHER = 50, NUMBER_LEN = 9 };
+#include <dlfcn.h>
+#include <sys/syscall.h>
 
-static const char usage[] = "usage: load SOCKET CONNECTIONS ASKS [made|together]\n";
+enum { CONNECTIONS = 64, CALLOUT = 1024, TOGETHER = 50, NUMBER_LEN = 9, PROCESS = -2, SESSION = -3 };
+
+static const char usage[] = "usage: load SOCKET CONNECTIONS ASKS [made|together|redis|agent]\n       load LIBRARY|- CALLERS ASKS calls\n";
 
 static const uint8_t add[] = {0, 0, 0, 20, OP_ADD, 0, 4, 'u', 's', 'e', 'r', 0, 4, 'l', 'o', 'a', 'd', 0, 1, 'v', 0xff, 0xff, 0xff, 0xfc};
 static const uint8_t hello[] = {0, 0, 0, 14, OP_HELLO, 0, 0, 3, 232, 0, 0, 3, 232, 0, 0, 0, 0, 0};
@@ -18,10 +27,21 @@ static const uint8_t request[] = {0, 0, 0, 18, OP_REQUEST, 0, 4, 'u', 's', 'e', 
 
 _Static_assert(sizeof add == 4 + 20 && sizeof hello == 4 + 14 && sizeof request == 4 + 18, "the lengths that the frames say");
 
+struct connection;
+
+/* What is asked, and how: whether the connection could be made ready, the first one also for the others; and one ask, or so many together, with the time
+ * that it took. */
+struct way {
+    const char *name;
+    unsigned each;
+    bool (*open)(struct connection *c, const char *path);
+    bool (*ask)(struct connection *c, uint64_t *took);
+};
+
 struct connection {
+    const struct way *way;
     int socket;
     unsigned no, warm, asks, made;
-    bool makes, together;
     uint64_t *times; /* of each measured ask, or of each 50, in ns */
     uint64_t begun, ended;
     bool failed;
@@ -118,33 +138,18 @@ static bool ask_together(struct connection *c, uint64_t *took)
     return answered;
 }
 
-/* One ask, or fifty together, and the time that it took. */
-static bool ask_once(struct connection *c, uint64_t *took)
+static bool ask_found(struct connection *c, uint64_t *took)
 {
-    if (c->together)
-        return ask_together(c, took);
-    if (c->makes) {
-        uint32_t key = have_made(c, took);
-        return key && unlink_made(c, key);
-    }
     uint64_t begun = nanos();
     int kind = ask(c, request, sizeof request, NULL);
     *took = nanos() - begun;
     return kind == NUMBER_REPLY;
 }
 
-static void *drive(void *argument)
+static bool ask_made(struct connection *c, uint64_t *took)
 {
-    struct connection *c = argument;
-    uint64_t took;
-    for (unsigned i = 0; i < c->warm && !c->failed; i++)
-        c->failed = !ask_once(c, &took);
-    pthread_barrier_wait(c->all);
-    c->begun = nanos();
-    for (unsigned i = 0; i < c->asks && !c->failed; i++)
-        c->failed = !ask_once(c, &c->times[i]);
-    c->ended = nanos();
-    return NULL;
+    uint32_t key = have_made(c, took);
+    return key && unlink_made(c, key);
 }
 
 static int connect_to(const char *path)
@@ -153,6 +158,131 @@ static int connect_to(const char *path)
     int made = socket(AF_UNIX, SOCK_STREAM | SOCK_CLOEXEC, 0);
     need(made >= 0 && connect(made, (struct sockaddr *)&address, sizeof address) == 0, path);
     return made;
+}
+
+static bool open_session(struct connection *c, const char *path)
+{
+    c->socket = connect_to(path);
+    return ask(c, hello, sizeof hello, NULL) >= 0 && (c->no != 0 || ask(c, add, sizeof add, NULL) == NUMBER_REPLY);
+}
+
+/* Whether the next bytes are these. */
+static bool read_same(int from, const char *wanted)
+{
+    char bytes[64];
+    size_t len = strlen(wanted), held = 0;
+    while (held < len) {
+        ssize_t got = read(from, bytes + held, len - held);
+        if (got <= 0)
+            return false;
+        held += (size_t)got;
+    }
+    return memcmp(bytes, wanted, len) == 0;
+}
+
+static bool say(const struct connection *c, const char *text, const char *wanted)
+{
+    return write_out(c->socket, (const uint8_t *)text, strlen(text)) && read_same(c->socket, wanted);
+}
+
+static bool open_redis(struct connection *c, const char *path)
+{
+    c->socket = connect_to(path);
+    return c->no != 0 || say(c, "*3\r\n$3\r\nSET\r\n$4\r\nload\r\n$1\r\nv\r\n", "+OK\r\n");
+}
+
+static bool ask_redis(struct connection *c, uint64_t *took)
+{
+    uint64_t begun = nanos();
+    bool answered = say(c, "*2\r\n$3\r\nGET\r\n$4\r\nload\r\n", "$1\r\nv\r\n");
+    *took = nanos() - begun;
+    return answered;
+}
+
+static bool open_agent(struct connection *c, const char *path)
+{
+    c->socket = connect_to(path);
+    return true;
+}
+
+/* The agent's protocol has frames of the same kind; its request 11 is answered by 12, and a count of keys. */
+static bool ask_agent(struct connection *c, uint64_t *took)
+{
+    static const uint8_t list[] = {0, 0, 0, 1, 11};
+    uint64_t begun = nanos();
+    int kind = ask(c, list, sizeof list, NULL);
+    *took = nanos() - begun;
+    return kind == 12;
+}
+
+/* The calls of a library, and a key that they read. */
+static struct {
+    int (*add)(const char *type, const char *description, const void *payload, size_t len, int ring);
+    long (*read)(int key, char *buffer, size_t len);
+    int key;
+} library;
+
+/* Whether the kernel finds a key that it has put into this ring: the session ring may be another one's. */
+static bool is_in_kernel(int ring)
+{
+    library.key = (int)syscall(SYS_add_key, "user", "load", "v", 1, ring);
+    return library.key > 0 && syscall(SYS_request_key, "user", "load", NULL, 0) == library.key;
+}
+
+static bool open_calls(struct connection *c, const char *path)
+{
+    if (c->no != 0)
+        return true;
+    if (strcmp(path, "-") == 0)
+        return is_in_kernel(SESSION) || is_in_kernel(PROCESS);
+    void *opened = dlopen(path, RTLD_NOW);
+    need(opened != NULL, path);
+    library.add = (int (*)(const char *, const char *, const void *, size_t, int))dlsym(opened, "add_key");
+    library.read = (long (*)(int, char *, size_t))dlsym(opened, "keyctl_read");
+    return library.add && library.read && (library.key = library.add("user", "load", "v", 1, SESSION)) > 0;
+}
+
+static bool ask_calls(struct connection *c, uint64_t *took)
+{
+    char payload[16];
+    (void)c;
+    uint64_t begun = nanos();
+    bool answered = library.read ? library.read(library.key, payload, sizeof payload) == 1
+                                 : syscall(SYS_request_key, "user", "load", NULL, 0) == library.key;
+    *took = nanos() - begun;
+    return answered;
+}
+
+static const struct way ways[] = {
+    {"found", 1, open_session, ask_found},
+    {"together", TOGETHER, open_session, ask_together},
+    {"made", 1, open_session, ask_made},
+    {"redis", 1, open_redis, ask_redis},
+    {"agent", 1, open_agent, ask_agent},
+    {"calls", 1, open_calls, ask_calls},
+};
+
+static const struct way *way_of(const char *name)
+{
+    for (size_t i = 0; i < sizeof ways / sizeof *ways; i++)
+        if (strcmp(ways[i].name, name) == 0)
+            return &ways[i];
+    fputs(usage, stderr);
+    exit(2);
+}
+
+static void *drive(void *argument)
+{
+    struct connection *c = argument;
+    uint64_t took;
+    for (unsigned i = 0; i < c->warm && !c->failed; i++)
+        c->failed = !c->way->ask(c, &took);
+    pthread_barrier_wait(c->all);
+    c->begun = nanos();
+    for (unsigned i = 0; i < c->asks && !c->failed; i++)
+        c->failed = !c->way->ask(c, &c->times[i]);
+    c->ended = nanos();
+    return NULL;
 }
 
 static int by_size(const void *a, const void *b)
@@ -180,9 +310,9 @@ static void tell(struct connection *connections, unsigned count, uint64_t *times
 
 int main(int count, char **words)
 {
-    bool makes = count == 5 && strcmp(words[4], "made") == 0, together = count == 5 && strcmp(words[4], "together") == 0;
-    unsigned each = together ? TOGETHER : 1, wanted = number_in(count == 4 || makes || together ? words[2] : NULL, 1, usage);
-    unsigned asks = number_in(words[3], wanted * each, usage) / wanted / each;
+    const struct way *way = way_of(count == 5 ? words[4] : "found");
+    unsigned wanted = number_in(count == 4 || count == 5 ? words[2] : NULL, 1, usage);
+    unsigned asks = number_in(words[3], wanted * way->each, usage) / wanted / way->each;
     struct connection connections[CONNECTIONS];
     pthread_barrier_t all;
     if (wanted > CONNECTIONS) {
@@ -193,20 +323,18 @@ int main(int count, char **words)
     uint64_t *times = make_zeroed((size_t)wanted * asks, sizeof *times);
     for (unsigned i = 0; i < wanted; i++) {
         struct connection *c = &connections[i];
-        *c = (struct connection){.socket = connect_to(words[1]), .no = i, .warm = asks / 10, .asks = asks, .makes = makes, .together = together, .all = &all};
+        *c = (struct connection){.way = way, .no = i, .warm = asks / 10, .asks = asks, .all = &all};
         c->times = times + (size_t)i * asks;
-        need(ask(c, hello, sizeof hello, NULL) >= 0, "HELLO");
-        if (i == 0)
-            need(ask(c, add, sizeof add, NULL) == NUMBER_REPLY, "ADD");
+        need(way->open(c, words[1]), words[1]);
     }
     run_threads(wanted, drive, connections, sizeof *connections);
     for (unsigned i = 0; i < wanted; i++) {
         if (connections[i].failed) {
-            fputs("load: a reply was no number\n", stderr);
+            fputs("load: a reply was not the one that is due\n", stderr);
             return 1;
         }
     }
-    tell(connections, wanted, times, (size_t)wanted * asks, each);
+    tell(connections, wanted, times, (size_t)wanted * asks, way->each);
     free(times);
     return 0;
 }

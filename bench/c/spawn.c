@@ -1,9 +1,9 @@
 /* How fast programs are started: posix_spawn, a callout of 1 KiB written to the program, its output read to the end, and its end waited for.
  *
- * usage: spawn [--resident MIB] [--starts STARTS]
+ * usage: spawn [--resident MIB] [--starts STARTS] [--only PROGRAM]
  *
  * Once with /bin/cat and once with a program that does nothing, 1 and 8 at a time; with so many MiB that were written to before. The best of five
- * rounds is printed, each of so many starts. */
+ * rounds is printed, each of so many starts. Or only one of the two programs is started, 1 at a time. */
 #include "threads.h"
 
 #include <errno.h>
@@ -15,7 +15,7 @@
 
 enum { CALLOUT = 1024, AT_ONCE = 8 };
 
-static const char usage[] = "usage: spawn [--resident MIB] [--starts STARTS]\n";
+static const char usage[] = "usage: spawn [--resident MIB] [--starts STARTS] [--only PROGRAM]\n";
 
 extern char **environ;
 
@@ -79,7 +79,12 @@ static void bench(const char *program, size_t wanted, unsigned at_once, unsigned
 int main(int count, char **words)
 {
     unsigned resident = 0, starts = 400;
+    const char *only = NULL;
     for (int at = 1; at < count; at += 2) {
+        if (strcmp(words[at], "--only") == 0 && words[at + 1]) {
+            only = words[at + 1];
+            continue;
+        }
         unsigned *option = strcmp(words[at], "--resident") == 0 ? &resident : strcmp(words[at], "--starts") == 0 ? &starts : NULL;
         *(option ? option : &starts) = number_in(option ? words[at + 1] : NULL, option == &starts ? AT_ONCE : 0, usage);
     }
@@ -87,9 +92,11 @@ int main(int count, char **words)
     char *held = calloc((size_t)resident << 20 | 1, 1);
     need(held != NULL, "memory");
     memset(held, 1, (size_t)resident << 20);
-    for (unsigned at_once = 1; at_once <= AT_ONCE; at_once *= AT_ONCE) {
-        bench("/bin/true", 0, at_once, starts, resident);
-        bench("/bin/cat", CALLOUT, at_once, starts, resident);
+    for (unsigned at_once = 1; at_once <= (only ? 1 : AT_ONCE); at_once *= AT_ONCE) {
+        if (!only || strcmp(only, "/bin/true") == 0)
+            bench("/bin/true", 0, at_once, starts, resident);
+        if (!only || strcmp(only, "/bin/cat") == 0)
+            bench("/bin/cat", CALLOUT, at_once, starts, resident);
     }
     /* so that the memory has to be there until now */
     int lost = held[(size_t)resident << 19] != (resident ? 1 : 0);

@@ -1,0 +1,11 @@
+"""The most instructions that some asks over `serve` may take: tests/test_instructions.py counts them, and fails if one takes more.
+
+Each bound is what the proved program took, and 5% more, rounded up to ten. A change that makes an ask cheaper lowers its bound. One that makes it dearer
+says why, where it raises the bound.
+"""
+
+MOST = {
+    "found REQUEST": 4_760,
+    "READ of one byte": 4_820,
+    "ADD displacing": 8_010,
+}
