@@ -18,7 +18,8 @@ from script import ANSWER, is_conf, lines_of, read_answer, read_line
 LEFT = 46  # the columns of what happens
 WHOLE = 100  # the columns of a comment
 MARK = "?"
-LEGEND = """c1 is client 1, h3 the handler of key 3. A number at the start is the moment in seconds, until the next one.
+LEGEND = """The first number of a row is that of its line in the script. A second one is the moment in seconds,
+until the next one. c1 is client 1, h3 the handler of key 3.
 The output of a line stands beside it, with <- before a reply."""
 MEANS = {
     "S1": "this line is invalid, and is skipped",

@@ -45,8 +45,8 @@ everything() {
     for name in man/*; do
         put_text "$name" "$share/man/man${name##*.}/${name##*/}"
     done
-    for name in system user; do
-        put_text "packaging/systemd/$name/reqkeyd.service" "$PREFIX/lib/systemd/$name/reqkeyd.service"
+    for name in packaging/systemd/*/*; do
+        put_text "$name" "$PREFIX/lib/${name#packaging/}"
     done
     put_text packaging/reqkeyd.conf "$examples/reqkeyd.conf"
 

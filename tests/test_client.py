@@ -127,6 +127,7 @@ SAID = [
     (["read", "3", "--help"], "unexpected argument '--help' found"),
     (["read", "3", "4"], "unexpected argument '4' found"),
     (["hello", "x"], "unexpected argument 'x' found"),
+    ([b"--socket", b"s", b"add", b"user", b"a", b"\xff", b"user"], "an argument is not UTF-8; '--payload-from <FILE>' takes a payload of any bytes"),
     (["nothing"], "unrecognized subcommand 'nothing'"),
     (["nothing", "--help"], "unrecognized subcommand 'nothing'"),
     (["--nothing", "read", "3"], "unexpected argument '--nothing' found"),

@@ -134,6 +134,7 @@ def check(name, words, want, status):
         output, ended, errors = shown(path, [sys.executable, fake, told])
     legend, rows = output.split("before a reply.\n")
     count.same(name, (rows, ended, errors), (want, status, ""))
+    count.same(f"{name}: its legend", "first number of a row is that of its line" in legend and "second one is the moment" in legend, True)
 
 
 def at_the_end():

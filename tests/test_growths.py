@@ -30,12 +30,13 @@ PLAIN, ANOTHER, PIPED, NEGATE = "/bin/h 12 ", "/bin/h 16 ", "/bin/p ", "/bin/n n
 
 # Each handler: the commands that it is in the end, with what is reported of each as the last one that was started, and whether the key is made. Then the steps
 # of a session, where memory ends one allocation later each time: from 6 on the key is requested, and each further step is one that there was memory for. With
-# 8, say, a plain handler's first ask was done, and its second one could not be read. Without a session the client doesn't go, which is one step less.
+# 7, say, a plain handler's first ask could not be copied. With 8 it was done, and the second one could not be read. Without a session the client doesn't go,
+# which is one step less.
 HANDLERS = [
-    ("plain_handler", [(PLAIN, "Exit(0)")], True, [6, 8, 9]),
+    ("plain_handler", [(PLAIN, "Exit(0)")], True, [6, 7, 8, 9]),
     ("piped_handler", [(PIPED, "Exit(0)")], True, [6, 7]),
-    ("handler_that_asks_for_another_key", [(PLAIN, "Exit(6)"), (ANOTHER, "Exit(6)")], True, [6, 8, 11, 13, 14, 15]),
-    ("handler_that_is_followed", [(PIPED, "Exit(7)"), (NEGATE, "Exit(3)")], False, [6, 8, 9, 11]),
+    ("handler_that_asks_for_another_key", [(PLAIN, "Exit(6)"), (ANOTHER, "Exit(6)")], True, [6, 7, 8, 11, 12, 13, 14, 15]),
+    ("handler_that_is_followed", [(PIPED, "Exit(7)"), (NEGATE, "Exit(3)")], False, [6, 8, 9, 10, 11]),
 ]
 
 RINGS = bytes.fromhex("00000011 02 00000000 00000000 00000004 00000008")

@@ -28,7 +28,11 @@ FILES = {
     "include/reqkey.h": 0o644,
     f"{PYTHON}/reqkey.py": 0o644,
     "lib/reqkeyd/libkeyutils.so.1": 0o644,
+    "lib/systemd/system/reqkeyd-sweep@.service": 0o644,
+    "lib/systemd/system/reqkeyd-sweep@.timer": 0o644,
     "lib/systemd/system/reqkeyd.service": 0o644,
+    "lib/systemd/user/reqkeyd-sweep.service": 0o644,
+    "lib/systemd/user/reqkeyd-sweep.timer": 0o644,
     "lib/systemd/user/reqkeyd.service": 0o644,
     "share/bash-completion/completions/reqkey-trap": 0o644,
     "share/bash-completion/completions/reqkeyctl": 0o644,
@@ -122,7 +126,7 @@ def used(name, prefix, python=PYTHON):
 
 def texts(root):
     """The manual pages, units and examples below a folder: the name of each, and what it says."""
-    kinds = ["share/man/*/*.gz", "lib/systemd/*/*.service", "share/doc/reqkeyd/examples/*", "share/bash-completion/completions/*"]
+    kinds = ["share/man/*/*.gz", "lib/systemd/*/*", "share/doc/reqkeyd/examples/*", "share/bash-completion/completions/*"]
     for path in [path for kind in kinds for path in root.glob(f"usr/{kind}")]:
         data = path.read_bytes()
         yield path.name, (gzip.decompress(data) if path.suffix == ".gz" else data).decode()
@@ -143,6 +147,27 @@ def asks(manager, unit, prefix):
         count.same(f"the unit of the {manager}, without a daemon", run("/bin/sh", "-c", script, env=environment), (0, "", ""))
 
 
+def sweeps(manager, unit, prefix):
+    """What a unit runs that makes room for keys: it sweeps the ring of the uid, and leaves what lives."""
+    line = next(line for line in unit.read_text().split("\n") if line.startswith("ExecStart="))
+    with tempfile.TemporaryDirectory() as room:
+        command = line.removeprefix("ExecStart=").replace("%t/reqkeyd", room).replace("%i", "1000").replace("%U", "1000").split(" ")
+        conf = pathlib.Path(room) / "conf"
+        conf.write_text("create user p:* * |/bin/cat\n")
+        words = [prefix / "bin" / "reqkeyd", "serve", "--socket", f"{room}/socket", "--conf", conf, "--clients", "4"]
+        daemon = subprocess.Popen(words, stdin=subprocess.DEVNULL, stdout=subprocess.DEVNULL, stderr=subprocess.PIPE, text=True, env=PATH)
+        try:
+            daemon.stderr.readline()
+            client = [prefix / "bin" / "reqkeyctl", "--socket", f"{room}/socket", "--uid", "1000"]
+            asked = [run(*client, "request", "user", name, "user", "x")[0] for name in ["p:1", "none"]]
+            got = asked, run(*command), run(*client, "list"), daemon.wait(LIMIT)
+            count.same(f"the unit of the {manager} that sweeps", got, ([0, 1], (0, "1\n", ""), (0, "12 user;1000;valid;p:1\n", ""), 0))
+        finally:
+            daemon.kill()
+            daemon.wait()
+            daemon.stderr.close()
+
+
 def verified(prefix):
     """What systemd itself finds in the units, which name the programs below this prefix."""
     if not shutil.which("systemd-analyze"):
@@ -155,8 +180,11 @@ def verified(prefix):
             commands = [line.split(" ")[0] for line in unit.read_text().split("\n") if line.startswith("Exec")]
             count.same(f"command of the unit of the {manager}", commands, [f"ExecStart={prefix}/bin/reqkeyd", "ExecStartPost=/bin/sh"])
             asks(manager, unit, prefix)
-            found = run("systemd-analyze", f"--{manager}", "verify", "--man=no", "--recursive-errors=no", unit, env=environment)
-            count.same(f"unit of the {manager}", found, (0, "", ""))
+            name = "reqkeyd-sweep@" if manager == "system" else "reqkeyd-sweep"
+            sweeps(manager, unit.with_name(f"{name}.service"), prefix)
+            for it in [unit.name, f"{name}.service", f"{name}.timer"]:
+                found = run("systemd-analyze", f"--{manager}", "verify", "--man=no", "--recursive-errors=no", unit.with_name(it), env=environment)
+                count.same(f"{it} of the {manager}", found, (0, "", ""))
 
 
 def by_make(ours, room):
@@ -167,8 +195,8 @@ def by_make(ours, room):
     count.same("what is installed", files(root), {f"usr/local/{name}": mode for name, mode in FILES.items()})
     page = root / "usr" / "local" / "share" / "man" / "man8" / "reqkeyd.8"
     count.same("manual page below /usr/local", page.read_bytes(), (top / "man" / "reqkeyd.8").read_bytes())
-    named = [line for path in root.rglob("reqkeyd.service") for line in path.read_text().split("\n") if line.startswith("ExecStart=/usr/local/bin/reqkeyd ")]
-    count.same("programs of the units", len(named), 2)
+    named = [line for path in root.rglob("reqkeyd*.service") for line in path.read_text().split("\n") if line.startswith("ExecStart=/usr/local/bin/")]
+    count.same("programs of the units", len(named), 4)
     other = root / "usr" / "local" / "share" / "doc" / "reqkeyd" / "NOTES"
     other.touch()
     count.same("make uninstall", make("uninstall", *options), (0, ""))
@@ -231,7 +259,20 @@ def by_package(ours, room):
     count.same("the same bytes", package.exists() and package.read_bytes() == first, True)
 
 
+def without_toolchain():
+    """What needs the toolchain says where it is to be had, and that what is built is installed without it."""
+    path = "/usr/bin:/bin"
+    if not shutil.which("make") or shutil.which("rt", path=path):
+        print("make without the toolchain: not tried, there is no make or no PATH without rt")
+        return
+    for target in ["toolchain", "demo", "check"]:
+        status, output, errors = run("make", "-s", "-C", top, target, env={**PATH, "PATH": path})
+        told = [it in errors for it in ["its command rt has to be on the PATH", "ask whoever gave you the sources", "make install BUILT=FOLDER"]]
+        count.same(f"make {target} without the toolchain", (status, output, told), (2, "", [True] * 3))
+
+
 def main():
+    without_toolchain()
     programs = [built(name)[0] for name in ["reqkeyd", "reqkeyctl"]]
     lacking = [it for it in ["make", "gcc"] if not shutil.which(it)]
     if lacking:

@@ -411,12 +411,12 @@ def warnings(lines):
 
 def told_whole(program):
     """How each handler has ended that gave no key: what it was started for, by which line and program, and why. Nothing else is told of a request."""
-    lines = ["x:* * %room/fails", "k:* * |%room/killed", "m:* * /no/such", "d:* * /etc", "l:* * /bin/true", "n:* * |/bin/true"]
+    lines = ["x:* * %room/fails", "k:* * |%room/killed", "m:* * /no/such", "d:* * /etc", "n:* * |/bin/true"]
     conf = "# the first line\n" + "".join(f"create user {line}\n" for line in lines)
     with Daemon(program, conf, "--clients", "1", "--log", "info") as daemon:
         daemon.script("fails", "#!/bin/sh\nexit 3\n")
         daemon.script("killed", "#!/bin/sh\nkill -9 $$\n")
-        names = [b"x:1", b"k:1", b"m:1", b"d:1", b"l:1", b"n:1", b"none", b'k:"\\\xc3\xa9' + b"y" * 130]
+        names = [b"x:1", b"k:1", b"m:1", b"d:1", b"n:1", b"none", b'k:"\\\xc3\xa9' + b"y" * 130]
         with daemon.client(7) as client:
             replies = client.ask(*[want(name, b"secret") for name in names])
         status, got = daemon.end()
@@ -428,7 +428,7 @@ def told_whole(program):
             ("info", "negate", "k:1", "", "no line fits"),
             ("warn", "create", "m:1", "; line 4, /no/such", "start failed: ENOENT, no such file or directory"),
             ("warn", "create", "d:1", "; line 5, /etc", "start failed: EACCES, permission denied"),
-            ("warn", "create", "n:1", "; line 7, /bin/true", "exit status 0, and no payload (0 bytes)"),
+            ("warn", "create", "n:1", "; line 6, /bin/true", "exit status 0, and no payload (0 bytes)"),
             ("info", "negate", "n:1", "", "no line fits"),
             ("info", "create", "none", "", "no line fits"),
             ("warn", "create", strange, f"; line 3, {room}/killed", "killed by a signal"),
@@ -436,6 +436,20 @@ def told_whole(program):
         ]
         told = [f'{level}: handler of key ({op} user "{name}", uid 7{line}): {how}' for level, op, name, line, how in wanted]
         return differs((replies, status, [re.sub(r"key [0-9]+", "key", text_of(line)) for line in got]), (["E126"] * len(names), 0, told))
+
+
+def made_or_not(program):
+    """A plain handler that exits with 0 and has not made its key is a warning; one that has made it, or has said that it can't be made, is none."""
+    conf = "create user m:* * %room/makes %k\ncreate user n:* * %room/negates %k\ncreate user l:* * /bin/true\n"
+    with Daemon(program, conf, "--clients", "1") as daemon:
+        daemon.script("makes", '#!/bin/sh\n%ctl assume "$1" && %ctl instantiate "$1" made none\n')
+        daemon.script("negates", '#!/bin/sh\n%ctl assume "$1" && %ctl negate "$1" 9 none\n')
+        with daemon.client() as client:
+            replies = client.ask(want(b"m:1"), want(b"n:1"), want(b"l:1"))
+        status, lines = daemon.end()
+        told = [text_of(line) for line in lines if "handler of key" in line]
+        warning = 'warn: handler of key 20 (create user "l:1", uid 1000; line 3, /bin/true): exit status 0, and the key was not made'
+        return differs((replies, status, told), ([12, "E126", "E126"], 0, [warning]))
 
 
 def piped(program, name, script, want_payload, callout=b"x", warning=None):
@@ -476,6 +490,16 @@ def missing(program, line, why):
             replies = [client.ask(want(b"p:1")) for _ in range(3)]
         status, lines = daemon.end()
         return differs((replies, status, warnings(lines)), (["E126"] * 3, 0, [f"key {key}: start failed: {why}" for key in [12, 16, 20]]))
+
+
+def timed(program, bar):
+    """A program that would never end, as a plain /bin/cat, is ended by timeout(1) before it: its client gets ENOKEY, and a warning says how it ended."""
+    never = "/bin/sleep 1000" if bar else "/bin/cat"
+    with Daemon(program, f"create user t:* * {bar}/usr/bin/timeout 1 {never}\n", "--clients", "1") as daemon:
+        with daemon.client() as client:
+            reply = client.ask(want(b"t:1"))
+        status, lines = daemon.end()
+        return differs((reply, status, warnings(lines)), ("E126", 0, ["key 12: exit status 124"]))
 
 
 def ends_unknown(program):
@@ -608,7 +632,7 @@ def nothing_left(program):
 
 def cases():
     for try_it in [client_killed, all_clients_killed, again_after, completed_and_killed, daemon_killed, terminated, no_asks, child_goes_on, replies_unread, told_whole,
-                   handler_leaves, stopped, signalled, waits_and_dies, not_followed, not_made, warned, ends_unknown, chain, many_wait, reads_to_the_end,
+                   handler_leaves, stopped, signalled, waits_and_dies, not_followed, not_made, made_or_not, warned, ends_unknown, chain, many_wait, reads_to_the_end,
                    each_outcome_wakes, second_start_fails, nothing_left]:
         yield try_it.__name__.replace("_", " "), try_it
     for how in ["is killed", "ends"]:
@@ -625,6 +649,8 @@ def cases():
         yield f"a handler that writes {data!r}", garbage, data
     for after in [False, True]:
         yield f"output closed, complete {after}", closes_output, after
+    for bar in ["", "|"]:
+        yield f"{bar}timeout before a program that never ends", timed, bar
     waits = "read line < %room/gate; echo more"
     yield "a piped program whose child has its output", child_keeps, waits, False, b"made\nmore\n"
     yield "a piped program whose child has its input", child_keeps, f"exec > /dev/null; {waits}", True, b"made\n"

@@ -74,6 +74,18 @@ def far_apart(program):
         return differs((listed, swept, left, int(last) - int(first) > 4000), want)
 
 
+def crowded_out(program):
+    """Two hundred names that failed leave a uid no new key, and another uid is not concerned; a sweep gives the places back."""
+    with Daemon(program, "create user p:* * |/bin/cat\n") as daemon:
+        client, other = daemon.client(), daemon.client(1004)
+        failed = client.ask(*[ask.request(b"user", b"n:%d" % at, b"x", -4) for at in range(200)])
+        wanted = ask.request(b"user", b"p:1", b"x", -4)
+        full, made = client.ask(wanted), other.ask(wanted)
+        swept = daemon.control(*USER, "sweep")
+        got = failed, full, isinstance(made, int), swept, isinstance(client.ask(wanted), int)
+        return differs(got, (["E126"] * 200, "E122", True, printed(200), True))
+
+
 def nested(program):
     """A handler that has another key made, in the ring of its requester."""
     with Daemon(program, "create user s:* * %room/handler %k\ncreate user n:* * %room/nesting %k\n", "--clients", "4") as daemon:
@@ -252,7 +264,7 @@ def document(program):
 
 def cases():
     for name, try_it in [("two runs and the end", first), ("a script as a handler", scripted), ("a handler that is led astray", astray), ("keys that are listed and swept", looked_for),
-                         ("keys far apart", far_apart), ("a nested request", nested), ("a line for negate", negated),
+                         ("keys far apart", far_apart), ("two hundred names that failed", crowded_out), ("a nested request", nested), ("a line for negate", negated),
                          ("keys that are decided otherwise", decided), ("what a handler has of the daemon", of_the_daemon), ("macros", macros),
                          ("a macro of a key that has expired", expired), ("a key that expires for all", expires_for_all), ("each subcommand", as_client), ("a session ring that is joined", joined),
                          ("each subcommand in a handler", as_handler), ("the example of the protocol", document)]:

@@ -1,4 +1,6 @@
-"""The log: its levels and its two styles, how many lines of a kind there are, handlers that run for long, figures; clients that are silent, and a clean end."""
+"""The log: its levels and its two styles, how many lines of a kind there are, a file that may not grow, handlers that run for long, figures; clients that are
+silent, and a clean end."""
+import signal
 import subprocess
 
 import protocol_peer as ask
@@ -48,6 +50,22 @@ def journal(program, is_journal):
             status, lines = daemon.end()
     wanted = "<4>session 1: Malformed" if is_journal else "warn: session 1: Malformed"
     return differs((status, [line if is_journal else text_of(line) for line in lines]), (0, [wanted])) or differs(lines[0] == wanted, is_journal)
+
+
+def full(program, is_ignored):
+    """Standard error is a file that may not grow: SIGXFSZ ends the daemon, unless it was ignored when it started; then it goes on, without its lines."""
+    with Daemon(program) as other:
+        daemon = Daemon(program, "", "--clients", "2", ready=False)
+        trap = "trap '' XFSZ" if is_ignored else ":"
+        daemon.program = other.script("starts", f'#!/bin/sh\n{trap}\nulimit -f 0\nexec {program} "$@" 2> %room/log\n')
+        with daemon:
+            if not is_ignored:
+                return differs(daemon.end(), (-signal.SIGXFSZ, []))
+            until(daemon.accepts, "a daemon that accepts")
+            client = daemon.client(None)
+            client.put(b"\0\1\0\1")
+            rest = client.rest()
+            return differs((rest, daemon.end(), (other.room / "log").read_text()), ([], (0, []), ""))
 
 
 def slow(program):
@@ -129,6 +147,8 @@ def cases():
         yield f"the level {level}", levels, level, wanted
     for is_journal in [True, False]:
         yield f"standard error is {'' if is_journal else 'not '}the journal", journal, is_journal
+    for is_ignored in [True, False]:
+        yield f"a log that may not grow, and its signal is {'' if is_ignored else 'not '}ignored", full, is_ignored
     yield "a slow handler", slow
     yield "figures", figures
     yield "silent clients", idle
