@@ -9,9 +9,11 @@
 set -uo pipefail
 cd "$(dirname "$0")/.."
 
-# A second job of a proof costs a quarter more. On two processors other proofs fill them; with more, the longest chain of crates takes those that are spare.
+# As many proofs side by side as there are processors, and as memory holds at 4 GB each. Each has one job, since a second one costs a quarter more.
 processors=$(nproc)
-[[ $processors -gt 2 ]] || export RT_JOBS=${RT_JOBS:-$processors}
+room=$(awk '/^MemAvailable/ { print int($2 / 4000000) }' /proc/meminfo)
+jobs=$((room < processors ? room : processors))
+export RT_JOBS=${RT_JOBS:-$((jobs > 0 ? jobs : 1))}
 
 passed=0
 failed=0

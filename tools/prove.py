@@ -5,29 +5,63 @@
 
 Begins with what earlier checks kept in crates/NAME/out; `rt run` then builds the programs of it. Once each crate that is left stands on the one before it,
 only one can be proved at a time: it gets all processors. LOG gets what the toolchain prints. RT_JOBS in the environment is the number of processors to use.
+
+Before any proof, the toolchain reads all sources once for each crate that no other uses, which takes a minute or two each. So it works in build/programs, a
+copy that has the crates of the programs alone.
 """
 import os
 import pathlib
 import re
+import shutil
 import subprocess
 import sys
 import time
 
 top = pathlib.Path(__file__).resolve().parent.parent
+copy = top / "build" / "programs"
 # What the toolchain prints as a crate is done: `== NAME` for one of many, and how much it checked of each.
 CRATE = re.compile(rb"(?:== |crate )(\w+)\b")
 
 
+def lines_of(text):
+    """The lines of crates.txt, by the name of the crate, each with the libraries that it uses."""
+    return {line.split()[0].rstrip(":"): line.partition(":")[2].split() for line in text.splitlines() if ":" in line and not line.startswith("#")}
+
+
 def uses():
     """The crates of the programs, each with all those that it stands on."""
-    lines = re.findall(r"^(\w+)[^:\n]*:(.*)$", (top / "crates.txt").read_text(), re.M)
-    direct = {name: [it for it in used.split() if it in dict(lines)] for name, used in lines}
+    direct = lines_of((top / "crates.txt").read_text())
 
     def below(name):
-        return {it for used in direct[name] for it in {used, *below(used)}}
+        return {it for used in direct[name] if used in direct for it in {used, *below(used)}}
 
-    programs = [name for name in direct if (top / "crates" / name / "src" / "main.rt").exists()]
+    programs = [name for name in direct if is_program(name)]
     return {name: below(name) for name in {it for program in programs for it in {program, *below(program)}}}
+
+
+def is_program(name):
+    return (top / "crates" / name / "src" / "main.rt").exists()
+
+
+def move_kept(names, old, new):
+    """Moves what checks kept of these crates from one tree to the other."""
+    for name in names:
+        if (old / "crates" / name / "out").is_dir():
+            shutil.rmtree(new / "crates" / name / "out", ignore_errors=True)
+            (old / "crates" / name / "out").rename(new / "crates" / name / "out")
+
+
+def lay_out(names):
+    """Makes the copy anew, of the sources as they are."""
+    if copy.exists():
+        # (a run that was ended has left it)
+        move_kept(names, copy, top)
+        shutil.rmtree(copy)
+    for name in names:
+        shutil.copytree(top / "crates" / name, copy / "crates" / name, ignore=shutil.ignore_patterns("out"))
+    shutil.copy2(top / "HANDLES", copy)
+    lines = (top / "crates.txt").read_text().splitlines(keepends=True)
+    (copy / "crates.txt").write_text("".join(it for it in lines if it.startswith("#") or it.split(":")[0].split(" ")[0] in names))
 
 
 class Proof:
@@ -41,11 +75,19 @@ class Proof:
 
     def run(self, jobs):
         """Proves all that is left. Whether it is proved."""
-        is_proved = self.does(["rt", "all", "check", "--jobs", jobs], top, lambda done: jobs != "1" and self.is_chain_after(done))
-        if is_proved is None:
-            last = max(self.left, key=lambda it: len(self.used[it]))
-            is_proved = self.does(["rt", "check", "--jobs", jobs], top / "crates" / last, lambda done: False)
-        return is_proved
+        lay_out(self.used)
+        move_kept(self.used, top, copy)
+        try:
+            is_proved = self.does(["rt", "all", "check", "--jobs", jobs], copy, lambda done: jobs != "1" and self.is_chain_after(done))
+        finally:
+            move_kept(self.used, copy, top)
+        while is_proved is None and self.left:
+            name = self.chain()[0]
+            verb = "check" if is_program(name) else "lib"
+            if not self.does(["rt", verb, "--jobs", jobs], top / "crates" / name, lambda done: False):
+                return False
+            self.is_done(name)
+        return is_proved is not False
 
     def does(self, words, folder, ends_early):
         """Runs a command that proves crates. Whether all are proved; None if it was ended early."""
@@ -55,17 +97,26 @@ class Proof:
                 found = CRATE.match(line)
                 name = found and found[1].decode()
                 if name in self.left:
-                    self.left.remove(name)
-                    minutes = (time.monotonic() - self.started) / 60
-                    print(f"{name}: {len(self.used) - len(self.left)} of {len(self.used)}, {minutes:.0f} minutes so far", flush=True)
+                    self.is_done(name)
                     if ends_early(name):
                         proving.terminate()
                         return None
         return proving.returncode == 0
 
+    def is_done(self, name):
+        """Says that a crate is proved."""
+        if name in self.left:
+            self.left.remove(name)
+            minutes = (time.monotonic() - self.started) / 60
+            print(f"{name}: {len(self.used) - len(self.left)} of {len(self.used)}, {minutes:.0f} minutes so far", flush=True)
+
+    def chain(self):
+        """The crates that are left, lowest first."""
+        return sorted(self.left, key=lambda it: len(self.used[it]))
+
     def is_chain_after(self, done):
         """Whether each crate that is left stands on the one before it, and the first on this one, so that it has only begun."""
-        chain = [done, *sorted(self.left, key=lambda it: len(self.used[it]))]
+        chain = [done, *self.chain()]
         return len(chain) > 1 and all(one in self.used[other] for one, other in zip(chain, chain[1:]))
 
 
