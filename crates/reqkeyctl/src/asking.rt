@@ -36,7 +36,9 @@ pub enum AskFault {
 /// A file whose bytes stand for an argument.
 #[derive(Clone, Copy)]
 struct Place<'a> {
+    /// Its path, `-` for standard input.
     path: &'a str,
+    /// The place among the arguments for which its bytes stand, the first one 0.
     at: usize,
 }
 

@@ -17,8 +17,11 @@ use std::os::unix::net::UnixStream;
 /// The sockets of the system, to each of which a connection of its own is made.
 #[derive(Drop)]
 pub struct Sockets<'a, R: Net> {
+    /// The host, whose sockets these are.
     rt: &'a R,
+    /// Where memory for a reply comes from.
     alloc: Global,
+    /// Why there was no reply last: the path and the system's reason. `None` if nothing failed, or if memory for the text ran out.
     trouble: Option<String>,
 }
 

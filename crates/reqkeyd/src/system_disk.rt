@@ -9,6 +9,7 @@ use std::io::ErrorKind;
 /// The files of the system, each of which is read anew.
 #[derive(Drop)]
 pub struct SystemDisk<'a, R: Files + AllocGlobal> {
+    /// The host, whose files these are.
     rt: &'a R,
 }
 

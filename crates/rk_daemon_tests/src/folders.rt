@@ -15,7 +15,9 @@ use std::process::Abort;
 /// A file that keeps what is written, unless it is full.
 #[derive(Drop)]
 struct Memory {
+    /// What was written, in order.
     bytes: Vec<u8>,
+    /// Whether each write is refused with ENOSPC.
     is_full: bool,
 }
 
@@ -38,8 +40,11 @@ impl Write for Memory {
 /// A folder that tells what is done there, and fails as it is given. Out of memory for what it keeps ends the process.
 #[derive(Drop)]
 struct Telling<'a, R> {
+    /// The host, which ends the test when memory runs out.
     rt: &'a R,
+    /// Where memory for the copies comes from.
     alloc: Global,
+    /// Which calls fail.
     fails: Fails,
     /// What was done, first things first.
     done: Vec<InFolder>,
@@ -126,7 +131,9 @@ impl<'a, R: Abort> Folder for Telling<'a, R> {
 /// What fails: whether files are full, and which call does, the first one being 0.
 #[derive(Clone, Copy)]
 struct Fails {
+    /// Whether each file of the folder is full from the start.
     is_full: bool,
+    /// The number of the call that fails, counted from 0; one past the last fails none.
     call: usize,
 }
 

@@ -25,9 +25,13 @@ enum Stands {
 /// process.
 #[derive(Drop)]
 struct Telling<'a, R> {
+    /// The host, which ends the test when memory runs out.
     rt: &'a R,
+    /// Where memory for the copies comes from.
     alloc: Global,
+    /// What lies at the path at first.
     stands: Stands,
+    /// The number of the call that fails, counted from 0; one past the last fails none.
     fails: usize,
     /// What was done, first things first.
     done: Vec<AtPath>,

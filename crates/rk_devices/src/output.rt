@@ -21,7 +21,9 @@ pub enum OutputFault {
 /// What a piped handler has put out: its bytes, at most 32,767, or that there were more. Its room is made at first, so that none is wanted while bytes come.
 #[derive(Drop)]
 pub struct Output {
+    /// What was read so far, at most 32,767 bytes; it no longer counts once there were more.
     bytes: Vec<u8>,
+    /// Whether there were more bytes than a payload has.
     over: bool,
 }
 

@@ -70,16 +70,20 @@ impl<N: Names, const H: u64> Lock<N, H> {
         })
     }
 
+    /// A part of a new seat, for its turns in this hall. `None` once 4,294,967,295 are out.
     pub(crate) fn seat<R: Wait>(&self, rt: &R) -> Option<Part<N, H>>
         ensures { IfSome result (λ p. p ≡ no_calls) }
     {
         self.locked.lock(rt).seat()
     }
 
+    /// Takes the part of a seat back; its turns stay counted in the hall.
     pub(crate) fn retire<R: Wait>(&self, rt: &R, part: Part<N, H>) {
         self.locked.lock(rt).retire(part);
     }
 
+    /// A request or an opening, as one turn. The payload is copied before the lock is taken, and a completed key wakes those who wait for it. An `Err` leaves
+    /// the hall and the part as they were.
     pub(crate) fn call<R: Wait>(
         &self,
         rt: &R,
@@ -106,6 +110,7 @@ impl<N: Names, const H: u64> Lock<N, H> {
         Ok((receipt, begun))
     }
 
+    /// Whether the handler runs, as one turn. The ticket comes back while the construction goes on; if it has ended, those who wait wake.
     pub(crate) fn launched<R: Wait>(
         &self,
         rt: &R,
@@ -123,6 +128,7 @@ impl<N: Names, const H: u64> Lock<N, H> {
         owed
     }
 
+    /// How the handler has ended, as one turn. The ticket comes back if a `negate` handler is to follow; if not, those who wait wake.
     pub(crate) fn ended<R: Wait>(
         &self,
         rt: &R,
@@ -141,6 +147,7 @@ impl<N: Names, const H: u64> Lock<N, H> {
         owed
     }
 
+    /// The session's outcome, or that it still waits, as one turn. It wakes nobody.
     pub(crate) fn collect<R: Wait>(
         &self,
         rt: &R,
@@ -156,6 +163,7 @@ impl<N: Names, const H: u64> Lock<N, H> {
         self.locked.lock(rt).collect(part, now, session)
     }
 
+    /// The session has disconnected, as one turn: the hall forgets it, and what it waited for.
     pub(crate) fn gone<R: Wait>(
         &self,
         rt: &R,
@@ -175,6 +183,7 @@ impl<N: Names, const H: u64> Lock<N, H> {
         }
     }
 
+    /// Blocks the thread until the session waits for no key, or for one that has its outcome. It takes no turn.
     pub(crate) fn until_ready<R: Wait>(&self, rt: &R, session: SessionId) {
         let _locked = self.told.wait_while(
             rt,
@@ -183,6 +192,7 @@ impl<N: Names, const H: u64> Lock<N, H> {
         );
     }
 
+    /// A copy of the payload that a `%{..}` of a command finds for the handler of this key; `None` if no key of that name stands positive. It takes no turn.
     pub(crate) fn peek<R: Wait>(
         &self,
         rt: &R,
@@ -195,6 +205,7 @@ impl<N: Names, const H: u64> Lock<N, H> {
         self.locked.lock(rt).peek(alloc, key, typ, description, now)
     }
 
+    /// The full volume, in exchange for an empty one that goes on from the hall's state. An `Err` leaves the hall as it was.
     pub(crate) fn roll<R: Wait>(&self, rt: &R) -> Result<Volume, HallFault>
         ensures { IfOk result (λ v. hall_number v.hall ≡ H) }
     {

@@ -82,9 +82,13 @@ pub enum Reply {
     Bytes(ReplyBytes),
     /// The serials of the context's rings, 0 for one that is absent.
     Rings {
+        /// The thread ring.
         thread: u32,
+        /// The process ring.
         process: u32,
+        /// The session ring.
         session: u32,
+        /// The user ring.
         user: u32,
     },
     /// The ask was refused and changed nothing, or the key that it waited for can't be used.

@@ -8,21 +8,37 @@ ghost use Rattle.rk_message.specs.Table.{asks, ops, ask_line, op_byte, line_of, 
 /// What an ask asks, by its first byte: each is the op of the variant of `Ask` that has its name.
 #[derive(Clone, Copy, Debug, PartialEq, Eq)]
 pub enum Op {
+    /// 1: makes the session's context.
     Hello = 1,
+    /// 2: finds a key, or has it made.
     Request,
+    /// 3: takes on the authority to make a key, or lays it down.
     Assume,
+    /// 4: gives a key its payload.
     Instantiate,
+    /// 5: makes a key negative with ENOKEY.
     Negate,
+    /// 6: makes a key negative with another error.
     Reject,
+    /// 7: returns a payload, or a callout.
     Read,
+    /// 8: returns a key's type, owner, state and description.
     Describe,
+    /// 9: marks a key as revoked.
     Revoke,
+    /// 10: sets when a key expires.
     Timeout,
+    /// 11: links a key into a ring.
     Link,
+    /// 12: takes a link out of a ring.
     Unlink,
+    /// 13: takes every link out of a ring.
     Clear,
+    /// 14: sets, or returns, where made keys are linked by default.
     Default,
+    /// 15: makes a key with its payload.
     Add,
+    /// 16: returns the callout of the key that a handler makes.
     Callout,
 }
 

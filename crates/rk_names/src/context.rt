@@ -28,10 +28,15 @@ pub struct Context {
 pub enum Setting {
     /// As it begins. The search starts at the requestor's ring.
     Default,
+    /// The search starts at the thread ring.
     Thread,
+    /// It starts at the process ring.
     Process,
+    /// It starts at the session ring.
     Session,
+    /// The user ring, where the search ends, since there always is one.
     User,
+    /// It starts at the requestor's ring, as by default.
     Requestor,
 }
 

@@ -110,9 +110,13 @@ impl fmt::Display for Errno {
 /// (request-key.rst, "The search algorithm").
 #[derive(Clone, Copy, Debug, PartialEq, Eq)]
 pub enum KeyError {
+    /// It was revoked: EKEYREVOKED.
     Revoked,
+    /// It has expired: EKEYEXPIRED.
     Expired,
+    /// Its handler has rejected it: EKEYREJECTED.
     Rejected,
+    /// There is none, or its handler has made none: ENOKEY.
     NoKey,
 }
 

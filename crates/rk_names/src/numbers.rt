@@ -91,6 +91,8 @@ impl Model for NameNo {
 /// Who asks: a client by the number of its connection, or the handler that makes a key, by that key.
 #[derive(Clone, Copy, Debug, PartialEq, Eq, PartialOrd, Ord, Hash)]
 pub enum SessionId {
+    /// A client, by the number of its connection.
     Client(u32),
+    /// A handler, by the serial of the key that it makes.
     Handler(Serial),
 }

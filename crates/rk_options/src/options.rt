@@ -17,8 +17,11 @@ pub struct Options<'a> {
 /// An option, and the words behind it.
 #[derive(Clone, Copy)]
 struct Found<'a> {
+    /// Its name, with the dashes.
     name: &'a str,
+    /// Its value, empty for a flag.
     value: &'a str,
+    /// The words that are not read yet.
     rest: &'a [String],
 }
 

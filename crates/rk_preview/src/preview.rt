@@ -111,9 +111,13 @@ fn pick<'a>(alloc: Global, words: &'a [String]) -> Result<Option<Preview<'a>>, A
 /// A request that borrows the words.
 #[derive(Clone, Copy)]
 struct Outline<'a> {
+    /// The path of the configuration.
     conf: &'a str,
+    /// The operation: `create` or `negate`.
     op: Op,
+    /// The type, the description and the callout that are asked for.
     names: Names<'a>,
+    /// The numbers of the key and of the requester that the command is made for.
     numbers: Numbers,
 }
 

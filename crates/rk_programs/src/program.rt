@@ -12,12 +12,19 @@ use std::process::{self, ExitStatus, OpenProcess};
 
 /// A program that was started, with its two pipes. It can't be dropped: its launcher takes it back.
 pub struct Program<P: OpenProcess> {
+    /// The process, with its pipes as far as they are open.
     pub(crate) child: process::Child<P>,
+    /// How many calls of the system failed; it stays at the greatest number.
     pub(crate) failed: u64,
+    /// How often its output was read, whether that failed or not.
     pub(crate) reads: u64,
+    /// Whether the last read met the end of its output.
     pub(crate) at_end: bool,
+    /// Whether its input was closed, so that it can meet its end.
     pub(crate) closed: bool,
+    /// Whether it was waited for while its input was open: such a wait need not end.
     pub(crate) hasty: bool,
+    /// `None` before it was waited for. Then how it ended, or `None` inside if the wait failed.
     pub(crate) waited: Option<Option<How>>,
 }
 

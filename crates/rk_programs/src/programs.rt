@@ -16,17 +16,29 @@ use std::process::{self, Processes};
 /// Starts programs, and takes them back.
 #[derive(Drop)]
 pub struct Programs<'a, R: Processes> {
+    /// The host, which starts processes.
     rt: &'a R,
+    /// Where memory for words and environments comes from.
     alloc: Global,
+    /// The library that handlers preload in the place of libkeyutils, if there is one.
     keyutils: Option<&'a str>,
+    /// How many calls failed: starts, and the calls of programs that came back. It stays at the greatest number.
     failed: u64,
+    /// The most reads that a program took that came back.
     longest: u64,
+    /// How many programs were started and have not come back.
     out: u64,
+    /// The most that were out at a time: the depth to which requests of handlers have started handlers.
     deepest: u64,
+    /// The reads of the program that came back last.
     reads: u64,
+    /// Whether that one was read to the end of its output.
     at_end: bool,
+    /// Whether any was waited for while its input was open.
     hasty: bool,
+    /// How that one ended: `None` before it was waited for, `None` inside if the wait failed.
     last: Option<Option<How>>,
+    /// The programs that came back before they were waited for.
     unwaited: Unwaited<R::Started>,
 }
 

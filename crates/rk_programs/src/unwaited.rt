@@ -6,6 +6,7 @@ use std::process::{Child, OpenProcess};
 /// Programs that were not waited for. One that has ended stays in the list of processes until it is asked (`waitpid(2)`), so they are asked now and then.
 #[derive(Drop)]
 pub struct Unwaited<P: OpenProcess + Drop> {
+    /// Those that still ran when they were looked at last, their pipes closed.
     children: Vec<Child<P>>,
 }
 

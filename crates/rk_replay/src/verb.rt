@@ -33,14 +33,23 @@ pub fn happening(alloc: Global, word: &[u8], fields: &[u8]) -> Result<Happening,
 /// The word of a line that says what happens.
 #[derive(Clone, Copy)]
 pub enum Verb {
+    /// A client connects.
     Accept,
+    /// Bytes come from a client.
     Bytes,
+    /// A client disconnects.
     Gone,
+    /// A handler's start succeeded.
     Started,
+    /// It failed.
     Unstarted,
+    /// Bytes come from a handler.
     Out,
+    /// A handler's output can't be read.
     OutFault,
+    /// A handler has ended.
     Ended,
+    /// How it ended can't be learned.
     WaitFault,
 }
 

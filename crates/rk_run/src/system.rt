@@ -24,10 +24,15 @@ const PREFIX: &str = "/usr/local";
 /// The system, with one connection and one program.
 #[derive(Drop)]
 pub struct System<'a, R: Processes> {
+    /// The host, which connects and starts processes.
     rt: &'a R,
+    /// Where memory comes from.
     alloc: Global,
+    /// The connection to the daemon, whose session is the program's; `None` before it is made.
     stream: Option<UnixStream>,
+    /// The program that was started; `None` before, and once it was waited for.
     child: Option<Child<R::Started>>,
+    /// Why the last call failed: the path and the system's reason. `None` too if memory for the text ran out.
     trouble: Option<String>,
 }
 

@@ -6,14 +6,18 @@ use std::marker::Model;
 /// A reply behind its length. Those of a number and of a refusal lie in their value, so that they take no memory.
 #[derive(Debug, Drop)]
 pub struct Frame {
+    /// The reply's length and body.
     bytes: Kept,
 }
 
 /// Where the bytes lie.
 #[derive(Debug, Drop)]
 enum Kept {
+    /// A length of four bytes, the kind, and a number of four.
     Number([u8; 9]),
+    /// A length of four bytes, the kind, and an error of one.
     Refusal([u8; 6]),
+    /// Any other reply, which takes memory.
     Other(Vec<u8>),
 }
 
@@ -27,6 +31,7 @@ impl Model for Frame {
 }
 
 impl Frame {
+    /// The frame of a number. It takes no memory.
     pub(crate) fn number(bytes: [u8; 9]) -> Frame
         ensures { result ≡ bytes }
     {
@@ -35,6 +40,7 @@ impl Frame {
         }
     }
 
+    /// The frame of a refusal. It takes no memory.
     pub(crate) fn refusal(bytes: [u8; 6]) -> Frame
         ensures { result ≡ bytes }
     {
@@ -43,6 +49,7 @@ impl Frame {
         }
     }
 
+    /// The frame of any other reply, with its length.
     pub(crate) fn other(bytes: Vec<u8>) -> Frame
         ensures { result ≡ bytes.items }
     {

@@ -4,6 +4,7 @@ use super::*;
 
 const PUT_OUT_NOTHING: &[Row] = &[("ended 3 exit 0", "negate 3")];
 
+/// The piped handler ends with status 1: its output doesn't count, and a `negate` handler is to follow.
 pub(super) const ENDED_BADLY: &[Row] = &[("ended 3 exit 1 0123456789", "negate 3")];
 
 const ENDED_BY_A_SIGNAL: &[Row] = &[("ended 3 signal 0123456789", "negate 3")];

@@ -20,6 +20,7 @@ pub(super) const ONE_START_FOR_TWO: &[Row] = &[
     ("launched 3 plain", "0"),
 ];
 
+/// The handler assumes its authority, and reads the callout of the first requester.
 pub(super) const ITS_HANDLER_ACTS: &[Row] = &[("h3 assume 3", "0"), ("h3 callout", "bytes x")];
 
 /// Who waits gets the outcome when the key is complete, who started it when the handler has ended.
@@ -58,6 +59,7 @@ pub(super) const A_HANDLER_ASKS: &[Row] = &[
     ("h5 read auth", "bytes y"),
 ];
 
+/// The inner handler links its key into the ring of its requestor, which gets it. The outer one makes its own key, and no other.
 pub(super) const BOTH_ARE_MADE: &[Row] = &[
     ("h5 instantiate 5 w requestor", "0"),
     ("ended 5 exit 0", "0"),
@@ -142,6 +144,7 @@ pub(super) const PIPED: &[Row] = &[
     ("launched 3 piped", "0"),
 ];
 
+/// The handler has output one byte and ends well: that is the payload.
 pub(super) const PUT_OUT_A_BYTE: &[Row] = &[
     ("ended 3 exit 0 p", "0"),
     ("collect c1", "3"),

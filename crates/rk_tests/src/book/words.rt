@@ -8,6 +8,7 @@ use std::alloc::{AllocError, Global};
 pub enum Fault {
     /// A word is missing, or is not what stands there.
     Word,
+    /// There is no memory for a word.
     NoMemory,
 }
 
@@ -44,14 +45,17 @@ pub fn words<'a>(alloc: Global, line: &'a str) -> Result<Vec<&'a str>, AllocErro
     Ok(words)
 }
 
+/// The word as a number from 0 on.
 pub fn number(word: &str) -> Result<u32, Fault> {
     word.parse::<u32>().ok().ok_or(Fault::Word)
 }
 
+/// The word as a serial, 1 or more.
 pub fn serial(word: &str) -> Result<Serial, Fault> {
     Serial::new(number(word)?).ok_or(Fault::Word)
 }
 
+/// The bytes of the word as a payload, 1 to 32,767 of them.
 pub fn payload(alloc: Global, word: &str) -> Result<Payload, Fault> {
     Ok(Payload::new(Vec::from_slice(alloc, word.as_bytes())?)?)
 }
