@@ -6,13 +6,19 @@ use rk_names::Errno;
 /// What is said to an event.
 #[derive(Clone, Copy, Debug, PartialEq, Eq)]
 pub enum Said {
+    /// This number, as the serial of a key.
     Number(u32),
     /// The session ring and the user ring.
     Rings(u32, u32),
+    /// Bytes, whichever they are.
     Bytes,
+    /// The handler of this key is to be started.
     Start(u32),
+    /// A `negate` handler of this key is to be started.
     Negate(u32),
+    /// It waits for this key.
     Waiting(u32),
+    /// It is refused with this error.
     Refused(Errno),
     /// Nothing, since the record is full.
     Full,

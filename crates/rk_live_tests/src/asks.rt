@@ -66,14 +66,17 @@ pub fn find(name: &[u8]) -> Option<AskStep<'_>> {
     })
 }
 
+/// The type `user`.
 pub fn user(alloc: Global) -> Result<TypeName, AllocError> {
     TypeName::new(b"user").map_err(|_| AllocError)
 }
 
+/// A key's description. An `Err` is out of memory, or a name that breaks its rule.
 pub fn description(alloc: Global, name: &[u8]) -> Result<Description, AllocError> {
     Description::new(alloc, name).map_err(|_| AllocError)
 }
 
+/// A key's payload. An `Err` is out of memory, or no byte at all.
 pub fn payload(alloc: Global, bytes: &[u8]) -> Result<Payload, AllocError> {
     Payload::new(Vec::from_slice(alloc, bytes)?).map_err(|_| AllocError)
 }

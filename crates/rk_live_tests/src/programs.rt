@@ -60,10 +60,15 @@ fn run<L: Launcher>(
 /// What is tried of programs. Each is tried over any launcher, so that those of this machine are made and let go in one place.
 #[derive(Clone, Copy)]
 enum Trial {
+    /// What scripts output, and how they end.
     Scripts,
+    /// Programs that can't be started.
     Refusals,
+    /// Outputs of as many bytes as a payload may have, and of one more.
     Lengths,
+    /// Two hundred starts in a row, of which nothing may be left.
     Leftovers,
+    /// A program that comes back before it was waited for.
     Unwaited,
 }
 

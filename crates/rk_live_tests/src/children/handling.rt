@@ -24,6 +24,7 @@ use std::sync::atomic::Ordering::SeqCst;
 /// Who adds the key `k`, with the payload `v`, before the request.
 #[derive(Clone, Copy)]
 pub enum Adder {
+    /// There is no such key.
     Nobody,
     /// The client itself: the key that it requests is then 16.
     Requester,
@@ -71,12 +72,15 @@ fn adds<N: Names, R: Wait + Abort>(
 /// What is played, and what comes of it.
 #[derive(Clone, Copy)]
 pub struct Handling {
+    /// The configuration, which says what is started for the client's request.
     pub conf: &'static [u8],
+    /// Who has added the key that a `%{..}` of the command asks for.
     pub adder: Adder,
     /// What the programs do that are started one after the other.
     pub programs: &'static [Program],
     /// How many bytes each puts out at most.
     pub most: usize,
+    /// The call of a program that fails, if there is one.
     pub fuse: Option<Fuse>,
     /// How the launch ended.
     pub driven: Driven,
@@ -193,10 +197,15 @@ pub fn stage_of<'a, N: Names, R: Wait>(
 /// What came of it.
 #[derive(Drop)]
 pub struct Came {
+    /// How the launch ended.
     pub driven: Driven,
+    /// What the client was answered.
     pub outcome: Said,
+    /// The launcher, with all that it kept.
     pub fake: Fake,
+    /// What the gate learned of commands.
     pub reported: Reported,
+    /// How many volumes were handed out.
     pub volumes: u64,
 }
 
@@ -248,8 +257,11 @@ pub struct Reported {
 /// Holds nobody, and counts what it is told of commands.
 #[derive(Drop)]
 pub struct Open {
+    /// Commands that were to make a key.
     creates: AtomicU64,
+    /// Commands that were to make it negative.
     negates: AtomicU64,
+    /// Commands whose program is missing.
     missing: AtomicU64,
 }
 

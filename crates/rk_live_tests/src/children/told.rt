@@ -128,10 +128,15 @@ fn tried_text(alloc: Global, tried: &[Tried]) -> Result<Vec<u8>, AllocError> {
 /// What is played, and what comes of it.
 #[derive(Clone, Copy)]
 struct Scene {
+    /// What each program outputs, in the order of their starts.
     speeches: &'static [Speech],
+    /// How the launch ends.
     driven: Driven,
+    /// The commands, a line each, as `tried_text` writes them.
     tried: &'static [u8],
+    /// What passes with the child that comes back last, as `story_text` writes it.
     passed: &'static [u8],
+    /// How many steps the halls take.
     steps: u64,
 }
 

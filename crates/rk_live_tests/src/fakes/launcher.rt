@@ -20,9 +20,13 @@ pub struct Program {
 /// Which call of a device.
 #[derive(Clone, Copy, PartialEq, Eq)]
 pub enum Call {
+    /// The start of a child.
     Start,
+    /// A read of its output.
     Read,
+    /// A write to its input.
     Write,
+    /// The wait for its end.
     Wait,
 }
 
@@ -35,7 +39,9 @@ pub struct Fuse(pub usize, pub Call, pub u64);
 struct Played {
     /// What it puts out.
     bytes: Vec<u8>,
+    /// Whether bytes go on after these.
     endless: bool,
+    /// How it ends once it is waited for.
     ends: How,
 }
 
@@ -64,8 +70,11 @@ impl Played {
 /// Starts the programs, one after the other.
 #[derive(Drop)]
 pub struct Fake {
+    /// Where memory for a copy of a program comes from.
     alloc: Global,
+    /// The programs, in the order in which they are started.
     programs: Vec<Played>,
+    /// The call that fails, if there is one.
     fuse: Option<Fuse>,
     /// How many were to be started.
     asked: usize,
@@ -73,14 +82,21 @@ pub struct Fake {
     pub told: Vec<u8>,
     /// The path and the words of each command, a space behind each.
     pub words: Vec<u8>,
+    /// How many calls failed, those of children that came back too.
     pub failed: u64,
     /// How often the one was read that was read most.
     pub longest: u64,
+    /// How many children have not come back.
     pub out: u64,
+    /// The most that were out at a time.
     pub deepest: u64,
+    /// How often the child was read that came back last.
     reads: u64,
+    /// Whether that one was read to the end of its output.
     at_end: bool,
+    /// Whether any was waited for while its input was open.
     pub hasty: bool,
+    /// How that one ended: `None` before it was waited for, `None` inside if the wait failed.
     last: Option<Option<How>>,
 }
 
@@ -133,17 +149,29 @@ impl Fake {
 
 /// A program that runs.
 pub struct Running {
+    /// What it outputs, and how it ends.
     program: Played,
+    /// How many bytes of its output were read.
     given: usize,
+    /// The launcher's fuse, which burns at a call of this child or of another.
     fuse: Option<Fuse>,
+    /// Its place among the starts, the first one 1.
     number: usize,
+    /// What was written to its input.
     told: Vec<u8>,
+    /// How often its input was written to.
     written: u64,
+    /// How many of its calls failed.
     failed: u64,
+    /// How often its output was read.
     reads: u64,
+    /// Whether the last read met the end.
     at_end: bool,
+    /// Whether its input was closed.
     closed: bool,
+    /// Whether it was waited for while its input was open.
     hasty: bool,
+    /// `None` before it was waited for. Then how it ended, or `None` inside if the wait failed.
     waited: Option<Option<How>>,
 }
 

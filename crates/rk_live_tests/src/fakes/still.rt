@@ -23,6 +23,7 @@ impl Clock for Stopped {
 /// Keeps nothing, and counts the volumes.
 #[derive(Drop)]
 pub struct Bin {
+    /// How many volumes were handed out.
     put: AtomicU64,
 }
 

@@ -14,26 +14,36 @@ use std::process::Abort;
 /// What a program puts out, and how it ends then.
 #[derive(Clone, Copy)]
 pub struct Speech {
+    /// What it outputs.
     pub bytes: &'static [u8],
+    /// How it ends after that.
     pub ends: How,
 }
 
 /// Starts the programs, one after the other, and then ones that put out nothing. Out of memory for what it keeps ends the process.
 #[derive(Drop)]
 pub struct Telling<R> {
+    /// The host, which ends the process when memory runs out.
     rt: R,
+    /// Where memory for what is kept comes from.
     alloc: Global,
     /// What each program puts out, and how it ends then.
     programs: Vec<(Vec<u8>, How)>,
     /// How many starts failed.
     pub failed: u64,
+    /// The most reads of a child that came back.
     longest: u64,
     /// How many children are out.
     pub out: u64,
+    /// The most children that were out at a time.
     deepest: u64,
+    /// How often the child was read that came back last.
     reads: u64,
+    /// Whether that one was read to the end of its output.
     at_end: bool,
+    /// Whether any was waited for while its input was open.
     hasty: bool,
+    /// How that one ended: `None` before it was waited for, `None` inside if the wait failed.
     last: Option<Option<How>>,
     /// The commands that were to be started, first things first.
     pub tried: Vec<Tried>,
@@ -79,18 +89,27 @@ fn programs_of(alloc: Global, speeches: &[Speech]) -> Result<Vec<(Vec<u8>, How)>
 
 /// A program that runs.
 pub struct Speaking<R> {
+    /// The host, which ends the process when memory runs out.
     rt: R,
+    /// Where memory for the story comes from.
     alloc: Global,
     /// What it puts out.
     bytes: Vec<u8>,
     /// How much of that it has put out.
     given: usize,
+    /// How it ends after its output.
     ends: How,
+    /// How often its output was read.
     reads: u64,
+    /// Whether the last read met the end.
     at_end: bool,
+    /// Whether its input was closed.
     closed: bool,
+    /// Whether it was waited for while its input was open.
     hasty: bool,
+    /// `None` before it was waited for. Then how it ended, or `None` inside if the wait failed.
     waited: Option<Option<How>>,
+    /// What has passed with it, first things first.
     story: Vec<Passed>,
 }
 

@@ -13,8 +13,11 @@ use std::time::{Clock, Duration};
 /// Whose turn it is, how often one was waited for in vain, and how many seconds have passed by the clock of the sessions.
 #[derive(Drop)]
 pub struct Turns {
+    /// The turn that goes on.
     now: AtomicU64,
+    /// How many waits ended before their turn came, after ten seconds each.
     late: AtomicU64,
+    /// How many seconds the clock of the sessions has gone on.
     passed: AtomicU64,
 }
 
@@ -70,11 +73,15 @@ pub fn later(seconds: u64) -> Moment {
 /// clock of the sessions.
 #[derive(Drop)]
 pub struct Held<'a, N: Names, R> {
+    /// The host, by whose clock a wait is bounded.
     pub rt: &'a R,
     /// The halls of the sessions.
     pub halls: &'a Halls<N>,
+    /// The turns of the scene.
     pub turns: &'a Turns,
+    /// The turn until which a handler is held at its start.
     pub until: u64,
+    /// How many seconds it takes from then on, by the clock of the sessions.
     pub takes: u64,
 }
 
@@ -102,6 +109,7 @@ impl<'a, N: Names, R: Clock> Gate for Held<'a, N, R> {
 /// The moment moves where a handler takes its seconds.
 #[derive(Drop)]
 pub struct Watched<'a> {
+    /// The turns, which say how many seconds have passed.
     pub turns: &'a Turns,
 }
 

@@ -24,6 +24,7 @@ use std::sync::Wait;
 /// The path of a client whose piped handler exits with this status: with 0 its key is made, else another handler follows, which can't be started.
 #[derive(Clone, Copy)]
 pub struct Growths {
+    /// The handler's exit status.
     status: u8,
     /// Whether another client of its session ring requests the same key, and waits with it.
     two: bool,
@@ -34,9 +35,11 @@ pub struct Growths {
 /// What wants memory on the path, beside the calls and the receipts.
 #[derive(Drop)]
 struct Needs {
+    /// The client's request for the key.
     request: AskStep<'static>,
     /// That of the other client.
     other: AskStep<'static>,
+    /// What the handler outputs.
     put_out: Payload,
 }
 

@@ -17,13 +17,21 @@ use std::time::Clock;
 /// What is done in halls of its own, from their opening to their end.
 #[derive(Clone, Copy)]
 pub enum Scene {
+    /// Two seats make three calls each, and are settled.
     SixSteps(SixSteps),
+    /// A seat learns of another's receipt.
     Hears,
+    /// A volume is full, and the next one begins.
     Volumes(Volumes),
+    /// Tokens are spent for which nothing is owed.
     GoesAstray,
+    /// Threads make calls at one time.
     SideBySide(SideBySide),
+    /// A client waits on a thread of its own until its key is made.
     Waking(Waking),
+    /// A client goes its path while allocations are refused.
     Growths(Growths),
+    /// A handler is driven from its start to its end.
     Handling(Handling),
 }
 

@@ -44,6 +44,7 @@ pub fn goes<N: Names, R: Wait + Abort>(
     keep(rt, receipts, receipt.expect(rt, "a receipt"));
 }
 
+/// Adds the receipt to those that are settled at the end. Out of memory ends the test.
 pub fn keep<R: Abort>(rt: &R, receipts: &mut Vec<Receipt>, receipt: Receipt) {
     receipts.push(receipt).expect(rt, "memory");
 }

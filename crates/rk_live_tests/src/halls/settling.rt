@@ -59,6 +59,7 @@ fn turned<R: Abort>(rt: &R, hall: &mut Hall, number: u32, client: u32) -> Receip
 /// What is done to the genuine receipts before they are handed in.
 #[derive(Clone, Copy)]
 pub enum Change {
+    /// They are handed in as they are.
     Nothing,
     /// One numbered 7 is added, where there are six steps.
     Seventh,
@@ -71,6 +72,7 @@ pub enum Change {
 /// Who is handed in of two seats.
 #[derive(Clone, Copy)]
 pub enum Handed {
+    /// Both of them.
     Both,
     /// The first was given back before.
     OneRetired,
@@ -81,8 +83,11 @@ pub enum Handed {
 /// Two seats make three calls each, and what `settle` makes of it.
 #[derive(Clone, Copy)]
 pub struct SixSteps {
+    /// Which seats are handed in.
     handed: Handed,
+    /// What is done to the receipts before.
     change: Change,
+    /// What the settlement is to say.
     wanted: Result<Total, SettleFault>,
 }
 
@@ -223,6 +228,7 @@ fn what_was_heard_is_passed(rt: HostRuntime) {
 /// Five steps fill a volume of six, since the client's end is owed; its end is the sixth, in the next volume. A receipt of the first volume wants it.
 #[derive(Clone, Copy)]
 pub struct Volumes {
+    /// Whether the first volume is handed in; without it a receipt of it is in no record.
     handed_in: bool,
 }
 
@@ -316,7 +322,9 @@ pub fn goes_astray<N: Names, R: Wait + Abort>(rt: &R, alloc: Global, halls: Hall
 /// A client, and where it stands.
 #[derive(Drop)]
 struct Standing {
+    /// The hall of its uid.
     hall: HallNo,
+    /// The number of its connection.
     client: u32,
 }
 

@@ -50,14 +50,21 @@ pub fn key(rt: &impl Abort, number: u32) -> Serial {
 /// What happens, in a table.
 #[derive(Clone, Copy)]
 pub enum Happens {
+    /// The client comes.
     Opened,
+    /// It says HELLO.
     Hello,
+    /// It adds a key of this description.
     Add(&'static [u8]),
+    /// It requests a key of this description.
     Request(&'static [u8]),
+    /// The start of this key's handler has come to this.
     Launched(u32, Ran),
     /// The handler of this key has ended, and has put these bytes out.
     Ended(u32, How, &'static [u8]),
+    /// It collects its outcome.
     Collect,
+    /// It goes.
     Gone,
 }
 

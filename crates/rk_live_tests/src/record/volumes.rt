@@ -92,7 +92,9 @@ fn breaks(rt: &impl Abort, alloc: Global, hall: &mut Hall, volume: &Volume) {
 /// What is tried of a hall and its first volume.
 #[derive(Clone, Copy)]
 enum Trial {
+    /// The volume and what follows join to a run.
     Joins,
+    /// A changed answer, and a missing volume, are found.
     Breaks,
 }
 

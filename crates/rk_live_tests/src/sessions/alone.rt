@@ -26,6 +26,7 @@ pub const SCENE: Scene<'static> = Scene {
     may_lack: false,
 };
 
+/// The only client: it greets, requests key 12 and gets its serial.
 pub const FIRST: Part<'static> = Part {
     pieces: &[(0, HELLO), (0, REQUEST)],
     replies: &[RINGS, TWELVE],

@@ -15,7 +15,9 @@ use std::time::Clock;
 /// The call of a wire that fails, counted from 1.
 #[derive(Clone, Copy, PartialEq, Eq)]
 pub enum Cut {
+    /// The read of this number.
     Read(u64),
+    /// The write of this number.
     Write(u64),
     /// Of the sendings for which something was kept.
     Send(u64),
@@ -24,7 +26,9 @@ pub enum Cut {
 /// The wire of a client.
 #[derive(Drop)]
 pub struct Line<'a, R> {
+    /// The host, by whose clock a wait for a turn is bounded.
     pub rt: &'a R,
+    /// The turns of the scene.
     pub turns: &'a Turns,
     /// What it gives, one for each read, each when its turn has come; then the end.
     pub pieces: &'a [(u64, &'a [u8])],
@@ -36,11 +40,17 @@ pub struct Line<'a, R> {
     pub end: u64,
     /// Whether a turn begins with each sending of what was kept.
     pub sends_in_turn: bool,
+    /// The call that fails, if there is one.
     pub cut: Option<Cut>,
+    /// The place of the next piece among them, the first one 0.
     pub given: usize,
+    /// How often it was read.
     pub reads: u64,
+    /// How often it was written to.
     pub writes: u64,
+    /// How often something was sent that was kept.
     pub sendings: u64,
+    /// How many calls failed.
     pub failed: u64,
     /// Whether something was written since the last sending.
     pub kept: bool,
@@ -48,6 +58,7 @@ pub struct Line<'a, R> {
     pub is_cut: bool,
     /// What was written.
     pub said: Vec<u8>,
+    /// The receipts that it was handed, in order.
     pub noted: Vec<Receipt>,
     /// What happened, one letter for each: r for a read, n for a receipt, w for a write that succeeded, s for a sending of what was kept.
     pub story: Vec<u8>,

@@ -81,8 +81,11 @@ pub struct Scene<'a> {
     pub until: u64,
     /// How many seconds it takes from then on, by the clock of the sessions.
     pub takes: u64,
+    /// The session that begins, on the first thread.
     pub first: Part<'a>,
+    /// A session on a second thread, if there is one.
     pub second: Option<Part<'a>>,
+    /// A session on a third thread, if there is one.
     pub third: Option<Part<'a>>,
     /// The turn from which on the thread of the third session watches the record instead: a turn begins once client 2 has requested a key.
     pub watched: Option<u64>,
@@ -97,19 +100,28 @@ pub struct Scene<'a> {
 /// What is left of a thread: its seat, the receipts that were noted, and the volumes that were handed out.
 #[derive(Drop)]
 struct Left<N: Names> {
+    /// Its seat, to be settled.
     seat: Seat<N>,
+    /// The receipts of its session.
     noted: Vec<Receipt>,
+    /// The volumes that it took over.
     volumes: Vec<Volume<N>>,
 }
 
 /// What came of a session, without what it was lent.
 #[derive(Drop)]
 struct Came {
+    /// How the session ended.
     served: Served,
+    /// What it was written.
     said: Vec<u8>,
+    /// The receipts that were noted on its wire.
     noted: Vec<Receipt>,
+    /// What happened on its wire, a letter each.
     story: Vec<u8>,
+    /// The commands that were started, with their words.
     words: Vec<u8>,
+    /// How many programs have not come back; 0 is wanted.
     out: u64,
 }
 
@@ -147,16 +159,23 @@ fn is_said(said: &[u8], replies: &[&[u8]], repeats: usize) -> bool {
 /// What is around a session.
 #[derive(Drop)]
 struct Props<'a, N: Names, R> {
+    /// The configuration.
     conf: Conf,
+    /// The gate, which holds handlers.
     gate: Held<'a, N, R>,
+    /// The shelf, which counts volumes.
     shelf: Bin,
+    /// The turns, by which the clock goes.
     turns: &'a Turns,
 }
 
 /// What a session has for itself.
 struct Own<N: Names> {
+    /// The seat for its calls.
     seat: Seat<N>,
+    /// What plays its programs.
     launcher: Fake,
+    /// The number of its connection.
     client: u32,
 }
 
@@ -339,9 +358,11 @@ fn moment_of(scene: &Scene, receipt: &Receipt) -> Moment {
 /// What all threads have left.
 #[derive(Drop)]
 struct Gathered<N: Names> {
+    /// The seats of all threads.
     seats: Vec<Seat<N>>,
     /// By rising number.
     receipts: Vec<Receipt>,
+    /// The volumes of hall 0 that were handed out, in order.
     volumes: Vec<Volume<N>>,
 }
 

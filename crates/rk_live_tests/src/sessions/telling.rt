@@ -13,10 +13,13 @@ use std::process::Abort;
 /// A wire that gives these bytes, and then the end. What is written is kept for ever, and none of it is to be sent. Out of memory for what it keeps ends the process.
 #[derive(Drop)]
 pub struct Telling<'a, R> {
+    /// The host, which ends the process when memory runs out.
     pub rt: &'a R,
+    /// Where memory for what is kept comes from.
     pub alloc: Global,
     /// What is still to come.
     pub bytes: &'a [u8],
+    /// How often it was read.
     pub reads: u64,
     /// What has happened, first things first.
     pub kept: Vec<Kept>,

@@ -18,6 +18,7 @@ pub const STARTER: Part<'static> = Part {
     ..QUIET
 };
 
+/// A starter alone, whose handler is held until turn 4; scenes below add sessions to it.
 pub const SCENE: Scene<'static> = Scene {
     conf: PLAIN,
     programs: &[COMPLETES],

@@ -24,11 +24,15 @@ const ASKS: u32 = 250;
 /// Who calls for one client in its hall, and what came of it.
 #[derive(Drop)]
 pub struct Caller<N: Names> {
+    /// Its hall, by the number of its thread.
     hall: HallNo,
     /// Whether it is the first one in its hall, and takes the volumes that are handed out there.
     is_first: bool,
+    /// The client for which it calls.
     client: SessionId,
+    /// The seat for its calls.
     pub seat: Seat<N>,
+    /// The receipts of all its turns, in order.
     pub receipts: Vec<Receipt>,
     /// In order.
     pub volumes: Vec<Volume<N>>,

@@ -16,7 +16,9 @@ use std::thread::{Threads, map_indices};
 /// So many threads, whose clients ask so often each.
 #[derive(Clone, Copy)]
 pub struct SideBySide {
+    /// How many threads there are.
     threads: usize,
+    /// How many requests each client makes.
     asks: u32,
 }
 
@@ -62,6 +64,7 @@ impl SideBySide {
 /// What all threads have kept.
 #[derive(Drop)]
 struct Gathered<N: Names> {
+    /// The seats of all threads.
     seats: Vec<Seat<N>>,
     /// By their numbers.
     receipts: Vec<Receipt>,

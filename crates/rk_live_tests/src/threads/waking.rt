@@ -30,8 +30,11 @@ const TOLD: u64 = 3;
 /// By which step a key gets its outcome.
 #[derive(Clone, Copy)]
 enum Step {
+    /// Its handler gives it a payload.
     Instantiate,
+    /// Its handler makes it negative.
     Negate,
+    /// Its handler rejects it.
     Reject,
     /// Its handler can't be started.
     FailedStart,
@@ -67,7 +70,9 @@ impl Step {
 /// A client waits for key 12 on a thread of its own, until this step is done on another.
 #[derive(Clone, Copy)]
 pub struct Waking {
+    /// The step that completes the key, or ends its construction.
     step: Step,
+    /// What the client is answered then.
     outcome: Said,
 }
 
