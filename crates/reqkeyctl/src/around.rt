@@ -26,7 +26,7 @@ pub struct Invocation<'a> {
 }
 
 impl Around {
-    /// What is around this process. A variable that is empty or no text names no socket. The only refusal is want of memory.
+    /// What is around this process. A variable that is empty or no text names no socket. The only refusal is out of memory.
     pub fn look<R: Env + AllocGlobal>(rt: &R) -> Result<Around, AllocError> {
         let socket = match env::var(rt, "REQKEYD_SOCKET") {
             Ok(path) if !path.is_empty() => Some(path),

@@ -85,7 +85,7 @@ fn show<W: Write, E: Write>(alloc: Global, error: &Error, writer: &mut W, errors
     }
 }
 
-/// Says what is wrong with words that are no call.
+/// Says which usage error there is.
 fn wrong_words<E: Write>(alloc: Global, words: &[String], errors: &mut E) -> u8
     ensures { (result ≡ 1) ⊎ (result ≡ 2) }
 {

@@ -1,4 +1,4 @@
-//! A search for keys, and what is told of it.
+//! A search for keys, and what is printed of it.
 ghost use Rattle.std.specs.Prelude.{◌≡◌, ◌≤◌, List, ℕ, Result, Ok, MatchResult};
 ghost use Rattle.std.specs.Io.KnownBytes.{Appends};
 ghost use Rattle.rk_client.specs.declared.fault.PeerFault.{PeerFault as Faults};
@@ -15,7 +15,7 @@ use rk_message::Reply;
 use std::alloc::Global;
 use std::io::Write;
 
-/// Looks for the keys, and prints what is found; a refusal and why there is no answer are told on `errors`.
+/// Looks for the keys, and prints what is found; a refusal, and why there is no answer, go to `errors`.
 pub fn look<D: Daemon, W: Write, E: Write>(
     alloc: Global,
     daemon: &mut D,

@@ -24,7 +24,7 @@ pub enum Misplaced {
     Input,
 }
 
-/// What the manual lets pass in words that are no call.
+/// A usage error that the manual lets pass.
 #[derive(Clone, Copy, Debug, Error)]
 pub enum Leftover<'a> {
     /// A number with a sign.
@@ -52,7 +52,7 @@ pub enum Leftover<'a> {
 /// The options that have numbers.
 const NUMBERS: [&str; 3] = ["--uid", "--gid", "--join"];
 
-/// What is wrong with words that are no call, in which the manual finds no fault. The first is the name of the program.
+/// Which usage error these words have, in which the manual finds no fault. The first is the name of the program.
 pub fn unnoticed(words: &[String]) -> Leftover<'_> {
     let options = Options {
         words: options_in(words),

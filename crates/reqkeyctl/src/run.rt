@@ -25,7 +25,7 @@ use std::fs::Files;
 use std::io::{Read, Write};
 
 /// Runs the program on these words and streams, and gives its status: 0 where a reply was printed; 1 where it was a refusal, or there is none, or
-/// a file can't be used, or memory is lacking, with a line on `errors`; 2 for words that ask for nothing that there is, with the usage on `errors`.
+/// a file can't be used, or memory ran out, with a line on `errors`; 2 for a usage error, with the usage on `errors`.
 ///
 /// Of `streams`, `reader` is standard input, `writer` standard output and `errors` standard error. The first word is the name of the program.
 ///

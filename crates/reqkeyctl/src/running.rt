@@ -17,7 +17,7 @@ const UNSTARTABLE: u8 = 126;
 /// What stood in the way where the system gave no reason: no path was named, or what answered there is no daemon.
 const NOBODY: &str = "no daemon answered; --socket or REQKEYD_SOCKET names its socket";
 
-/// Runs the program that is wanted, and gives its status, or that of the fault, which is told.
+/// Runs the program that is wanted, and gives its status, or that of the fault, which is printed.
 pub fn run_program<H: Host, E: Write>(
     alloc: Global,
     host: &mut H,

@@ -127,7 +127,7 @@ fn line_of(alloc: Global, serial: u32, described: &[u8]) -> Result<Vec<u8>, Allo
     Ok(line)
 }
 
-/// What is told of the keys: their lines; or, to sweep, how many of them were taken out of the user ring.
+/// What is printed of the keys: their lines; or, to sweep, how many of them were taken out of the user ring.
 fn ended<R: Read, W: Write>(
     alloc: Global,
     reader: &mut R,

@@ -196,7 +196,7 @@ pub fn command<'a>(alloc: Global) -> Result<Command<'a>, AllocError> {
         .subcommand(rejoin(alloc)?)
 }
 
-/// Whether only memory was lacking.
+/// Whether nothing but memory is missing.
 pub fn is_memory(error: &Error) -> bool {
     error.kind() == ErrorKind::OutOfMemory
 }

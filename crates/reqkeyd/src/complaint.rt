@@ -10,7 +10,7 @@ use rk_options::Options;
 use rk_variables::is_library;
 use std::fmt;
 
-/// A value that is none, and why.
+/// An invalid value, and why it is.
 #[derive(Clone, Copy, Debug)]
 pub struct Complaint<'a> {
     /// The value.

@@ -152,7 +152,7 @@ pub fn run_words<
     ensures joins { asks_rejoin (map string_bytes words.now) ≡ true → result ≤ 1 }
     ensures unasked { asks_rejoin (map string_bytes words.now) ≡ false → disk.new ≡ disk.old }
 
-    // other words than `replay`: nothing is read; help and version are told with status 0, and nothing is with status 2.
+    // other words than `replay`: nothing is read; help and version are printed with status 0, and nothing is with status 2.
     ensures unread { asks_replay (map string_bytes words.now) ≡ false → reader.new ≡ reader.old }
     ensures told { asks_replay (map string_bytes words.now) ≡ false → result ≡ 0 → HasTold (W.contents writer.old) (W.contents writer.new) }
     ensures usage { result ≡ 2 → writer.new ≡ writer.old }

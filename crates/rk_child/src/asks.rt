@@ -31,7 +31,7 @@ pub enum Turned {
     AtEnd,
 }
 
-/// Reads what a plain handler puts out to its end, and answers each ask in it. A reply that can't be written, a length that no frame has, or an ask of
+/// Reads the output of a plain handler to its end, and answers each ask in it. A reply that can't be written, a length that no frame has, or an ask of
 /// which nothing can be said ends the asks: then the input is closed, and the rest is read and dropped. Also whether one of the asks completed the key.
 #[cycle(driving)]
 pub fn serve_asks<P: Platform>(
@@ -139,7 +139,7 @@ fn answer_next<P: Platform>(
     }
 }
 
-// What an ask has started is brought to its end. A start that is no deeper than the handler's own is ended as one that failed.
+// What an ask has started is brought to its end. A start that isn't deeper than the handler's own is ended as one that failed.
 #[cycle(driving)]
 fn brought_to_end<P: Platform>(
     stage: &Stage<'_, P>,

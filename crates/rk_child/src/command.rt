@@ -14,12 +14,12 @@ use std::alloc::AllocError;
 pub struct Prepared {
     /// The command.
     pub command: Command,
-    /// The room for what it will put out.
+    /// The room for its output.
     pub room: Room,
 }
 
-// The command of the first line that fits the launch's subject, with `%{..}` looked up in the requester's rings. An `Err` is what is told of the launch:
-// `NotStarted` where no line fits, and `NotMade` where the words of the first one can't be made, also for want of memory.
+// The command of the first line that fits the launch's subject, with `%{..}` looked up in the requester's rings. An `Err` is what is reported of the launch:
+// `NotStarted` where no line fits, and `NotMade` where the words of the first one can't be made, also for lack of memory.
 fn command_for<P: Platform>(
     stage: &Stage<'_, P>,
     launch: &Launch<P::Names>,
@@ -55,7 +55,7 @@ fn command_for<P: Platform>(
     }
 }
 
-/// The command of a launch, and the room for its run. An `Err` is what is told of the launch: `NotStarted` where no line fits, `NotMade` where one does and
+/// The command of a launch, and the room for its run. An `Err` is what is reported of the launch: `NotStarted` where no line fits, `NotMade` where one does and
 /// its command can't be made, and `NoMemory` where there is a command and no memory for the room.
 pub fn prepare<P: Platform>(
     stage: &Stage<'_, P>,

@@ -4,7 +4,7 @@ ghost use Rattle.rk_child.specs.Driving.{later_of};
 
 use rk_devices::Driven;
 
-/// What is told of a launch whose command another one followed: of that one, where it was started.
+/// What is reported of a launch whose command another one followed: of that one, where it was started.
 pub fn later(first: Driven, second: Driven) -> Driven
     ensures { result ≡ later_of first second }
 {

@@ -32,8 +32,8 @@ const MAX_DEPTH: u8 = 8;
 /// says that the key can't be made (request-key.conf(5), "negate").
 ///
 /// Whatever fails, the launch and those of its handler's own starts are spent, and each child is handed back to the launcher. A launch for which there is no
-/// command, or no memory for what its run needs, is ended as a start that failed; want of memory later is told to the handler as ENOMEM. What is told is how
-/// the child has ended that came back last, or why there was none; the gate is told it of each command. It may wait, for its children, for outcomes and for
+/// command, or no memory for what its run needs, is ended as a start that failed; out of memory later is ENOMEM to the handler. What is returned is how
+/// the child has ended that came back last, or why there was none; the gate learns it of each command. It may wait, for its children, for outcomes and for
 /// locks, and holds no lock while it calls a device, the gate or the shelf.
 #[cycle(driving)]
 pub fn drive<P: Platform>(

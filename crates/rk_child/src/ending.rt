@@ -20,7 +20,7 @@ pub fn wait_for<C: Child>(child: &mut C, read: Result<(), ReadFault>) -> Driven
     }
 }
 
-/// What is told of a command that has ended so, and the payload for its key, where its output is one. A plain handler has no output here.
+/// What is reported of a command that has ended so, and the payload for its key, where its output is one. A plain handler has no output here.
 pub fn with_output(
     ended: Driven,
     output: Option<Result<Payload, OutputFault>>,
@@ -35,7 +35,7 @@ pub fn with_output(
     }
 }
 
-/// What is told of a command that has ended so, and whose output is no payload. One that has failed owes none.
+/// What is reported of a command that has ended so, and whose output is no payload. One that has failed owes none.
 fn without_payload(ended: Driven, fault: OutputFault) -> Driven
     ensures { result ≡ without_payload ended fault }
 {

@@ -12,27 +12,27 @@
 //! child comes back to its launcher. Starts are nested at most eight deep, since a nested one is started only where it is deeper than its handler's
 //! own.
 //!
-//! *Faults.* What is told (`Driven`) is how the child has ended that came back last. `StartFailed` and `WaitFailed` come only where the launcher's
+//! *Faults.* What is returned (`Driven`) is how the child has ended that came back last. `StartFailed` and `WaitFailed` come only where the launcher's
 //! count of failures rose, its children's counted, and `ReadFailed` only there or where the child that came back last was read 1,048,576 times. No child is
 //! read more often. After a read that failed a child is not waited for, and it was waited for only where a read had told the end of its output, and its
-//! input was closed. Where no command was to be started, it is told why:
+//! input was closed. If no command was to be started, it says why:
 //! `NotStarted` only where no line fits, `NotMade` only where the words of the one that does fail so, and `NoMemory` only where there is a command.
 //!
 //! *A plain handler* has each ask answered in order, by the hall of its key. Its output is read only where no whole message is held; the message at the
 //! front is taken, asked, and replied to, before anything else passes. A reply that can't be written, a frame that none has, or an ask of which nothing can
-//! be said ends its asks: its input is closed, and what it still puts out is read and dropped. A child that tells what passes with it tells that and nothing
-//! else. The gate learns whether one of its asks completed its key. *A piped handler* is written the callout, and what it puts out is the payload, where
-//! there are 1 to 32,767 bytes; that its input can't be written is passed over. One that has exited with 0 and put out no payload is told as `NoPayload`.
+//! be said ends its asks: its input is closed, and what it still outputs is read and dropped. A child that tells what passes with it tells that and nothing
+//! else. The gate learns whether one of its asks completed its key. *A piped handler* is written the callout, and its output is the payload, where
+//! it has 1 to 32,767 bytes; that its input can't be written is passed over. One that has exited with 0 and without a payload is `NoPayload`.
 //!
-//! What a run needs is made before its start: want of memory there ends it as a start that failed. Not promised: that a child ends, and what it says.
+//! What a run needs is made before its start: out of memory there ends it as a start that failed. Not promised: that a child ends, and what it says.
 //!
 //! # How it is built
 //!
 //! `driving` and `asks` call each other, since an ask may start a handler: `driving` has one launch and one command, `asks` the messages of a plain
-//! handler. Around them, `command` has the command, `room` what is made before the start, `spent` what is told to a hall of a launch, `replying` the
-//! replies, `making` whether a key was made, `ending` the wait and what is made of the output, and `driven` which of two ends is told.
+//! handler. Around them, `command` has the command, `room` what is made before the start, `spent` what a hall learns of a launch, `replying` the
+//! replies, `making` whether a key was made, `ending` the wait and what is made of the output, and `driven` which of two ends is returned.
 //!
-//! In `specs/`, `Driving` says what is done with a launcher and what is told, `Commands` what a command is, `Talk` what passes with a plain handler, and
+//! In `specs/`, `Driving` says what is done with a launcher and what is returned, `Commands` what a command is, `Talk` what passes with a plain handler, and
 //! `Passing` with the child of a launch. `Replying` says what is to be said of a message, `Making` whether it made the key, `Turned` what one message comes
 //! to, and `Rooms` what is held of a stream.
 #![tactic(auto)]

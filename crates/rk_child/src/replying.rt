@@ -7,7 +7,7 @@ use rk_names::{Errno, SessionId};
 use rk_talk::{Platform, Saying, Stage, answer_frame, refusal_frame};
 use std::alloc::Global;
 
-// Writes what is to be said, in one write; where there is no memory for the reply, it is want of memory. False where it can't be written, or nothing
+// Writes what is to be said, in one write; where there is no memory for the reply, it is out of memory. False where it can't be written, or nothing
 // is to be said.
 fn is_said<C: Child>(alloc: Global, child: &mut C, saying: Saying) -> bool
     ensures goes_on { GoesOn (C.shown child.old) (C.shown child.new) }

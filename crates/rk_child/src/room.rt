@@ -1,4 +1,4 @@
-//! The room for what a handler puts out.
+//! The room for the output of a handler.
 ghost use Rattle.std.specs.Prelude.{◌≡◌, IfOk};
 ghost use Rattle.rk_child.specs.Rooms.{IsNewRoom, ran_in};
 
@@ -7,7 +7,7 @@ use rk_frame::Frames;
 use rk_machine::Ran;
 use std::alloc::{AllocError, Global};
 
-/// The room for what a handler puts out, made before its start.
+/// The room for the output of a handler, made before its start.
 #[derive(Drop)]
 pub enum Room {
     /// The frames of a plain handler.
@@ -17,7 +17,7 @@ pub enum Room {
 }
 
 impl Room {
-    /// Empty room. An `Err` is want of memory.
+    /// Empty room. An `Err` is out of memory.
     pub fn new(alloc: Global, piped: bool) -> Result<Room, AllocError>
         ensures { IfOk result (IsNewRoom piped) }
     {

@@ -7,7 +7,7 @@ use rk_message::Reply;
 use std::alloc::{AllocError, Global};
 
 /// What the reply says: a number, the numbers of four rings with spaces between them, the bytes, or `errno` and the number of the error; and then
-/// the end of a line, but behind bytes that are to be raw. Only want of memory refuses it.
+/// the end of a line, except after bytes that are to be raw. Only out of memory refuses it.
 pub fn printed(alloc: Global, reply: Reply, raw: bool) -> Result<Vec<u8>, AllocError>
     ensures { IfOk result (λ v. v.items ≡ printed raw reply) }
 {

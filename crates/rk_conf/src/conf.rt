@@ -100,7 +100,7 @@ impl Conf {
     }
 }
 
-/// Want of memory at a line.
+/// Out of memory at a line.
 fn no_memory(line: usize) -> ConfFault
     ensures { result.kind ≡ NoMemory }
 {

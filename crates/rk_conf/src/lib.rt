@@ -2,7 +2,7 @@
 //!
 //! # Purpose
 //!
-//! The text is that of request-key.conf(5), with the differences that docs/CONFIGURATION.md lists. A [`Conf`] is the
+//! The text is that of request-key.conf(5), with the differences that reqkeyd.conf(5) lists. A [`Conf`] is the
 //! list of its [`Line`]s; [`Conf::pick`] gives the first line whose four patterns fit a request. So after
 //! `Conf::read(alloc, b"create user debug:* * |/bin/cat")`, a request for the key `debug:x` of the type `user` picks
 //! the line 1, whose program is `/bin/cat`, with pipes.

@@ -37,7 +37,7 @@ impl<'s, 'c> End<'s, 'c> {
     ghost use Rattle.rk_daemon.specs.Ending.{end_text, level_of};
 
     /// The line, as `handler of key 12 (create user "debug:x", uid 1000; line 3, /bin/false): exit status 3`. It has neither the callout nor a payload. A
-    /// byte of a name or a path that is no printable ASCII, a `"` and a `\` are `\0` and three octal digits, and what is past 128 bytes is `..`.
+    /// byte of a name or a path outside printable ASCII, a `"` and a `\` are `\0` and three octal digits, and what is past 128 bytes is `..`.
     pub fn text(&self, alloc: Global) -> Result<String, AllocError>
         ensures { IfOk result (λ t. string_bytes t ≡ end_text self.now) }
     {

@@ -19,7 +19,7 @@ use std::time::Clock;
 /// How many bytes of asks and replies a hall's record may hold, about, before its volume is handed out.
 const MOST: u64 = 16 << 20;
 
-/// What a handler is counted as, of whose asks and output nothing is told here: the bytes of the longest payload.
+/// What a handler is counted as, whose asks and output are not seen here: the bytes of the longest payload.
 const HANDLER: u64 = 32_767;
 
 /// The gate of the daemon: it holds nobody. After each reply, the volume of a hall whose record holds much goes to the shelf. How a handler has ended is

@@ -61,7 +61,7 @@ impl Held {
     }
 
     /// Whether the record of this hall has taken more than so many bytes. Then its volume is to be handed out, and it is counted from 0 again, so that one
-    /// of several threads is told.
+    /// of several threads gets it.
     pub fn is_over(&self, hall: HallNo, most: u64) -> bool {
         let bytes = self.of(hall);
         bytes.load(Ordering::Relaxed) > most && bytes.swap(0, Ordering::Relaxed) > most

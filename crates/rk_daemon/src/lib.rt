@@ -3,6 +3,14 @@
 //! # Purpose
 //!
 //! [`serve`] is what `reqkeyd serve` does: it reads a configuration, takes the path of a socket, and has each connection served by one of its workers.
+//! It returns after as many connections as its settings say, or when standard input ends, if they say that; else it serves for good.
+//!
+//! # What it promises
+//!
+//! Most of what it does is outside of any contract: the sockets, files and threads of a system. What is proved are the parts. Its settings are
+//! what the words say ([`Settings::read`]). The socket's path is taken and given free in one order of calls ([`take`], [`give_free`]), so nobody connects
+//! before the file has its mode, and no other file is removed. A volume has its name only when all of its bytes are written ([`keep`]). What a worker
+//! does with a connection is `rk_session`'s promise. tests/test_serve.py and tests/test_record.py try the whole.
 //!
 //! # How it is built
 //!

@@ -62,7 +62,7 @@ impl<'a, R: Eprint + Log + Keeper> Outlet<'a, R> {
         drop(volume);
     }
 
-    /// Writes a volume, and gives its sum. One that can't be written is told of as a warning; then the record lacks it, and the next one is tied to the one
+    /// Writes a volume, and gives its sum. One that can't be written is a warning; then the record lacks it, and the next one is tied to the one
     /// before it.
     fn write<N: Names>(&self, run: &Run, seal: &Seal, volume: &Volume<N>) -> Sum {
         let head = Head {
@@ -87,7 +87,7 @@ impl<'a, R: Eprint + Log + Keeper> Outlet<'a, R> {
 }
 
 impl<'a, E: Eprint + Log + Keeper> Shelf for Outlet<'a, E> {
-    /// A volume that can't be written is told of as a warning and dropped; then the record lacks it.
+    /// A volume that can't be written is a warning, and dropped; then the record lacks it.
     fn put<N: Names, R: Wait>(&self, rt: &R, volume: Volume<N>) {
         self.hand_out(rt, volume, false);
     }

@@ -21,7 +21,7 @@ pub struct StandIns<F: Drop> {
 
 impl<F: Drop> StandIns<F> {
     /// Has each place taken. A file that is opened gets the lowest number that is free, so the socket or a client's connection would get that of a standard
-    /// stream that is closed, and what is told on standard error would be written to a client.
+    /// stream that is closed, and what goes to standard error would be written to a client.
     pub fn take<R: Files<File = F>>(rt: &R) -> io::Result<StandIns<F>> {
         Ok(StandIns {
             input: stand_in(rt, 0)?,

@@ -1,4 +1,4 @@
-//! What a session or a handler's run is told by, and what is told of it.
+//! The moments of a session or a handler's run, and who learns what becomes of it.
 
 use crate::report::Report;
 use rk_names::{Moment, Serial, SessionId};
@@ -15,7 +15,7 @@ pub trait Gate {
     /// The handler of this key was started, and its hall knows it.
     fn started<R: Wait>(&self, rt: &R, key: Serial);
 
-    /// What became of a command, at its end, and before its hall is told. Each is told of once, also one that was not started; of the two that a launch
+    /// What became of a command, at its end, and before its hall learns it. Each is reported once, also one that was not started; of the two that a launch
     /// may have, each.
     fn driven<R: Wait>(&self, rt: &R, report: Report<'_>);
 

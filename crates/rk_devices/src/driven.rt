@@ -12,7 +12,7 @@ use std::fmt;
 pub enum Driven {
     /// The command ran, and has ended so.
     Ended(How),
-    /// The command of a piped handler has exited with 0, and what it put out is no payload.
+    /// The command of a piped handler has exited with 0, and its output is no payload.
     NoPayload(OutputFault),
     /// No line of the configuration fits, so there is no command.
     NotStarted,
@@ -32,7 +32,7 @@ impl Driven {
     ghost use Rattle.std.specs.Prelude.{◌≡◌};
     ghost use Rattle.rk_devices.specs.Ends.{told_end};
 
-    /// What is told of its end.
+    /// What is reported of its end.
     pub fn how(self) -> How
         ensures { result ≡ told_end self }
     {

@@ -1,4 +1,4 @@
-//! What a piped handler puts out.
+//! The output of a piped handler.
 ghost use Rattle.std.specs.Prelude.{◌≡◌, [], Some, IfOk};
 ghost use Rattle.rk_devices.specs.Outputs.{put_out, payload_of};
 
@@ -7,7 +7,7 @@ use std::alloc::{AllocError, Global};
 use std::marker::Model;
 use thiserror::Error;
 
-/// Why what a piped handler has put out is no payload.
+/// Why the output of a piped handler is no payload.
 #[derive(Clone, Copy, Debug, PartialEq, Eq, Error)]
 pub enum OutputFault {
     /// There are no bytes.
@@ -18,7 +18,7 @@ pub enum OutputFault {
     TooLong,
 }
 
-/// What a piped handler has put out: its bytes, at most 32,767, or that there were more. Its room is made at first, so that none is wanted while bytes come.
+/// The output of a piped handler so far: its bytes, at most 32,767, or that there were more. Its room is made at first, so no byte that comes needs memory.
 #[derive(Drop)]
 pub struct Output {
     /// What was read so far, at most 32,767 bytes; it no longer counts once there were more.
@@ -38,7 +38,7 @@ impl Model for Output {
 }
 
 impl Output {
-    /// No bytes yet. An `Err` is want of memory for the room.
+    /// No bytes yet. An `Err` is out of memory for the room.
     pub fn new(alloc: Global) -> Result<Output, AllocError>
         ensures { IfOk result (λ o. o ≡ Some []) }
     {

@@ -23,7 +23,7 @@ pub enum ReadFault {
     UsedUp,
 }
 
-/// Reads and drops what a child that was read so often puts out, to its end.
+/// Reads to its end, and drops, the output of a child that was read so often.
 pub fn read_out<C: Child>(child: &mut C, reads: u32) -> Result<(), ReadFault>
     requires { reads ≤ (C.shown child.old).reads }
     ensures goes_on { GoesOn (C.shown child.old) (C.shown child.new) }
@@ -55,7 +55,7 @@ fn give<C: Child>(child: &mut C, callout: &[u8])
     child.close_input();
 }
 
-// Keeps what a child puts out, to its end.
+// Keeps the output of a child, to its end.
 fn keep<C: Child>(child: &mut C, output: &mut Output) -> Result<(), ReadFault>
     ensures goes_on { GoesOn (C.shown child.old) (C.shown child.new) }
     ensures heard { IsHeard result (C.shown child.old) (C.shown child.new) }
@@ -74,7 +74,7 @@ fn keep<C: Child>(child: &mut C, output: &mut Output) -> Result<(), ReadFault>
     Err(ReadFault::UsedUp)
 }
 
-/// Gives the callout to a piped handler's child, and keeps what the child puts out, to its end. That the input can't be written is passed over: a handler
+/// Gives the callout to a piped handler's child, and keeps the child's output, to its end. That the input can't be written is passed over: a handler
 /// need not read it.
 pub fn pipe_through<C: Child>(
     child: &mut C,

@@ -1,4 +1,4 @@
-//! What a gate is told of a command at its end.
+//! What a gate learns of a command at its end.
 
 use crate::driven::Driven;
 use rk_macro::Subject;

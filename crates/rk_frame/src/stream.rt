@@ -41,7 +41,7 @@ impl Frames {
     ghost use Rattle.rk_frame.specs.Answer.{Leaves};
     ghost use Rattle.rk_frame.specs.contracts.stream.Frames.{the_row};
 
-    /// No bytes yet, and room for [`RESERVED`] of them. Want of memory is the one refusal.
+    /// No bytes yet, and room for [`RESERVED`] of them. The only refusal is out of memory.
     pub fn new(alloc: Global) -> Result<Frames, AllocError>
         ensures empty { IfOk result (λ f. f.bytes ≡ []) }
         ensures room { IfOk result (λ f. f.room ≡ 69635) }

@@ -22,7 +22,7 @@ pub enum Said {
     Refused(Errno),
     /// Nothing, since the record is full.
     Full,
-    /// Nothing, for want of memory.
+    /// Nothing, since memory ran out.
     NoMemory,
 }
 

@@ -46,7 +46,7 @@ pub fn add(alloc: Global, name: &[u8]) -> Result<AskStep<'_>, AllocError> {
     })
 }
 
-/// It requests the key of this name, with the callout `x`; `None` for bytes that are no name.
+/// It requests the key of this name, with the callout `x`; `None` for bytes that break the rule of names.
 pub fn request(name: &[u8]) -> Option<AskStep<'_>> {
     Some(AskStep::Request {
         typ: TypeView::new(b"user").ok()?,
@@ -56,7 +56,7 @@ pub fn request(name: &[u8]) -> Option<AskStep<'_>> {
     })
 }
 
-/// It requests the key of this name, without a callout; `None` for bytes that are no name.
+/// It requests the key of this name, without a callout; `None` for bytes that break the rule of names.
 pub fn find(name: &[u8]) -> Option<AskStep<'_>> {
     Some(AskStep::Request {
         typ: TypeView::new(b"user").ok()?,

@@ -3,7 +3,7 @@
 //! # Purpose
 //!
 //! That calls succeed where there is memory; what a hall and its halls answer, by tables that were worked out by hand from docs/MACHINE.md and the manuals;
-//! what comes of devices that fail, and of programs that are really started. Each test uses public calls alone.
+//! devices that fail, and programs that are really started. Each test uses public calls alone.
 //!
 //! They stand apart from those of the machine, in `rk_tests`, so that both are proved side by side.
 //!

@@ -1,4 +1,4 @@
-//! Programs that are really started: what they put out, how they end, and that nothing of them is left.
+//! Programs that are really started: what they output, how they end, and that nothing of them is left.
 use crate::same::same;
 use rk_conf::Word;
 use rk_devices::{Child, Launcher, Output, StartFault, pipe_through};
@@ -32,7 +32,7 @@ fn script(alloc: Global, text: &str) -> Option<Command> {
     command(alloc, "/bin/sh", &["-c", text, "sh", "a b"])
 }
 
-/// What a program was: what it put out, and how it ended.
+/// What a program was: its output, and how it ended.
 type Ran = (Option<Vec<u8>>, Option<How>);
 
 /// The bytes of a payload.
@@ -90,7 +90,7 @@ fn tried<R: Processes + Abort>(rt: &R, alloc: Global, trial: Trial) {
     trial.play(rt, alloc, &mut programs);
 }
 
-/// Each script and its callout, what it puts out and how it ends.
+/// Each script and its callout, its output and how it ends.
 const SCRIPTS: &[(&str, &[u8], Option<&[u8]>, How)] = &[
     ("cat", b"callout", Some(b"callout"), How::Exit(0)),
     ("printf %s \"$1\"; exit 3", b"", Some(b"a b"), How::Exit(3)),
@@ -125,7 +125,7 @@ fn refusal<L: Launcher>(launcher: &mut L, alloc: Global, path: &str) -> Option<i
     }
 }
 
-/// What can't be started is a failure, and nothing of it is left. It is told why, as ENOENT or EACCES.
+/// What can't be started is a failure, and nothing of it is left. The reason is reported, as ENOENT or EACCES.
 fn refusals<L: Launcher>(rt: &impl Abort, alloc: Global, launcher: &mut L) {
     for (path, errno) in [("/no/such/program", 2), ("/etc/passwd", 13), ("/", 13)] {
         same(rt, refusal(launcher, alloc, path), Some(errno));
@@ -138,14 +138,14 @@ fn what_is_no_program_is_a_failure(rt: HostRuntime) {
     tried(&rt, rt.alloc(), Trial::Refusals);
 }
 
-/// The length of what a script puts out, with a callout of the greatest length that it may ignore.
+/// The length of a script's output, with a callout of the greatest length that it may ignore.
 fn length<L: Launcher>(launcher: &mut L, alloc: Global, text: &str) -> Option<usize> {
     let callout = vec![in alloc; b'x'; 4_095].ok()?;
     let (put_out, _) = run(launcher, alloc, script(alloc, text), &callout)?;
     put_out.map(|bytes| bytes.len())
 }
 
-/// What is put out is a payload up to 32,767 bytes.
+/// An output is a payload up to 32,767 bytes.
 fn lengths<L: Launcher>(rt: &impl Abort, alloc: Global, launcher: &mut L) {
     for (text, wanted) in [
         ("cat", Some(4_095)),

@@ -5,7 +5,7 @@ use Rattle.rk_text.specs.Text.{is_text}
 use Rattle.rk_macro.specs.declared.fault.ExpandFault.{ExpandFault}
 use Rattle.rk_macro.specs.declared.fault.ExpandFault.TheVariants.{NoKey, NotText, TooLong, NoMemory}
 
--- a word has no room, or memory is wanting for one that has
+-- a word has no room, or memory runs out for one that has
 abbrev pub WordFails : List ℕ → ℕ → ExpandFault → Type 0
 WordFails word used TooLong = 65536 < used + (length word + 1)
 WordFails word used NoMemory = used + (length word + 1) ≤ 65536

@@ -14,7 +14,7 @@
 //! key: 3 }.write(alloc)` is those bytes again. A body that spells nothing has one [`Fault`], its
 //! leftmost. `03 0000` is short, `03 00000003 00` has trailing bytes, and `ff` is an unknown op. A
 //! field that breaks its rule is bad and carries its errno. `Fault::errno` says what the session is
-//! answered. Want of memory comes only for a body that has a reading.
+//! answered. Out of memory comes only for a body that has a reading.
 //!
 //! All asks are one enum, [`AskOf`], over the types of their parts. An [`Ask`] owns its names and its payload. An [`AskView`] borrows them from the body,
 //! and takes no memory. An [`AskStep`] borrows its names and owns its payload: that is what a step takes, since the payload becomes a key's.

@@ -1,4 +1,4 @@
-//! Why nothing is told of a configuration.
+//! Why nothing is printed of a configuration.
 ghost use Rattle.std.specs.Prelude.{◌≡◌};
 ghost use Rattle.rk_preview.specs.Rules.{rule_text, failure_text};
 
@@ -6,7 +6,7 @@ use rk_conf::{ConfFault, ConfKind};
 use rk_macro::ExpandFault;
 use thiserror::Error;
 
-/// Why nothing is told of a configuration.
+/// Why nothing is printed of a configuration.
 #[derive(Clone, Copy, Debug, PartialEq, Eq, Error)]
 pub enum Fault {
     /// It has a fault. It is shown as `conf line 3: C1: fewer than five fields`.
@@ -18,7 +18,7 @@ pub enum Fault {
     /// The words of the chosen line, by its number, can't be made. It is shown as `line 3: X3: ..`.
     #[error("line {0}: {1}: {failure}", failure = failure(*.1))]
     NoWords(usize, ExpandFault),
-    /// There was no memory for what is told. It is shown as `memory`.
+    /// There was no memory for the text. It is shown as `memory`.
     #[error("memory")]
     NoMemory,
 }

@@ -47,7 +47,7 @@ impl<'a> Preview<'a> {
 
     /// What words ask for: `check --conf PATH`, or `pick --conf PATH [OPTIONS] TYPE DESCRIPTION CALLOUT` with the options of [`Numbers::read`] and
     /// `--negate`, in any order before the last three words, each once at most, as `--uid 5` or `--uid=5`. `None` for all other words. The only refusal is
-    /// want of memory, for words that ask for something.
+    /// out of memory, for words that ask for something.
     pub fn read(alloc: Global, words: &'a [String]) -> Result<Option<Preview<'a>>, AllocError>
         ensures said { IfOk result (λ r. option_map asked_by r ≡ asked_said (map string_bytes words.now)) }
         ensures memory { OnErr result (IsSome (asked_said (map string_bytes words.now))) }

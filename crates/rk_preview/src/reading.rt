@@ -1,4 +1,4 @@
-//! That what is told can be read back.
+//! That what is printed can be read back.
 ghost use Rattle.rk_preview.specs.Laws.{HasOneReading};
 
 /// No two commands have the same text, so that whoever has the lines has the line's number, its kind, the path and the words. Running it does nothing.

@@ -1,4 +1,4 @@
-//! What is told of a configuration.
+//! What is printed of a configuration.
 ghost use Rattle.std.specs.Prelude.{◌≡◌, None, Ok, IfOk, IfErr};
 ghost use Rattle.rk_preview.specs.Told.{FailsLine, IsChecked, IsNotChecked, IsNotPicked, IsPicked, TellsLine};
 

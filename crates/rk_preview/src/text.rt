@@ -1,4 +1,4 @@
-//! What is told, as text.
+//! What is printed, as text.
 ghost use Rattle.std.specs.Prelude.{◌≡◌, ◌++◌, IfOk, OnOk};
 ghost use Rattle.std.specs.List.{flat_map};
 ghost use Rattle.rk_preview.specs.Text.{byte_text, command_text, count_text, head_text, is_shown, octal, word_line};

@@ -8,7 +8,7 @@
 //! # What it promises
 //!
 //! A command is started with its own path and words, by [`made`]. The environment, the folder and standard error are the daemon's; a handler has no
-//! other descriptor of it. A handler that asks is told besides, where the launcher has a library, that it is preloaded (`LD_PRELOAD`) and that the daemon is
+//! other descriptor of it. If the launcher has a library, a plain handler also gets it preloaded (`LD_PRELOAD`), and learns that the daemon is
 //! at standard input and output (`REQKEYD_STREAMS`); so keyutils' own programs are handlers as they are. Each failure is counted, as the traits of
 //! `rk_devices` say, so that whoever drives a handler can bind each fault to a failure here.
 //! That a program is really started, and what a pipe gives or takes, no contract can say.

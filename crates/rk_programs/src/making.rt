@@ -8,8 +8,8 @@ use rk_variables::with;
 use std::alloc::{AllocError, Global};
 use std::process::{self, Stdio};
 
-/// The program of this command and its words, with pipes for its standard input and output. A handler that asks is told the library by which keyutils'
-/// calls are the daemon's, where there is one, and that they go over these pipes; a piped one is not. The only refusal is want of memory.
+/// The program of this command and its words, with pipes for its standard input and output. A plain handler gets the library by which keyutils'
+/// calls are the daemon's, where there is one, and that they go over these pipes; a piped one doesn't. The only refusal is out of memory.
 pub fn made(
     alloc: Global,
     command: &Command,

@@ -43,7 +43,7 @@ pub struct Programs<'a, R: Processes> {
 }
 
 impl<'a, R: Processes> Programs<'a, R> {
-    /// A launcher that has started nothing, with the library that handlers are told by which keyutils' calls are the daemon's, if there is one. It takes
+    /// A launcher that has started nothing, with the library for plain handlers by which keyutils' calls are the daemon's, if there is one. It takes
     /// no memory.
     pub fn new(rt: &'a R, alloc: Global, keyutils: Option<&'a str>) -> Programs<'a, R>
         ensures { ⟦<Programs<'a, R> as Launcher>⟧.shown result ≡ new_launcher }

@@ -39,7 +39,7 @@ IsNoNext h volumes before _ = ⊥
 abbrev pub StandsBehind : HallNo → List Stored → List Stored → Stored → Type 0
 StandsBehind h vs first v = (more : List Stored) × (of_hall h vs ≡ first ++ (v ∷ more))
 
--- memory is lacking, or a volume does not follow on those before it, which follow one another
+-- memory ran out, or a volume does not follow on those before it, which follow one another
 abbrev pub CannotJoin : HallNo → List Stored → Verdict → Type 0
 CannotJoin h vs f = (f ≡ NoMemory) ⊎ ((first : List Stored) × (v : Stored) × StandsBehind h vs first v × AreNext 0 0 first
     × IsNoNext v.head (length first) (length (flat_map steps_of first)) f)

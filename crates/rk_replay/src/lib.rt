@@ -1,4 +1,9 @@
-//! A script of happenings in; replies and commands out.
+//! The script of a replay: its lines in, replies and commands out.
+//!
+//! # Purpose
+//!
+//! `reqkeyd replay` is [`run_script`] over its standard streams. The replay itself, which takes what the lines say, is `rk_served`. So the
+//! lines `100 accept 1` and `100 bytes 1 000000050700000003`, READ 3 of a client without a context, give `to 1 00000002030d`, EACCES.
 //!
 //! # What is promised
 //!

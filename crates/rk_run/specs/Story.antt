@@ -22,7 +22,7 @@ pub data Event : Type 0 where
 abbrev pub and_then : Option (List Event) → List Event → Option (List Event)
 and_then story more = option_map (λ s. s ++ more) story
 
--- a look, which want of memory may refuse
+-- a look, which out of memory may refuse
 abbrev pub Looks : {E : Type 0} → Result Here E → Option (List Event) → Option (List Event) → Type 0
 Looks (Ok here) old new = new ≡ and_then old (Looked here ∷ [])
 Looks (Err e) old new = new ≡ old

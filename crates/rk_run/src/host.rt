@@ -17,7 +17,7 @@ pub struct Here {
     pub gid: u32,
     /// What is preloaded already, `LD_PRELOAD`.
     pub preloaded: Option<String>,
-    /// The socket that is told already, `REQKEYD_SOCKET`.
+    /// The socket of the caller's environment, `REQKEYD_SOCKET`.
     pub socket: Option<String>,
     /// The folder in which it is run, where that is known.
     pub folder: Option<String>,
@@ -43,7 +43,7 @@ pub trait Host {
     /// What was done, first things first, where it tells that.
     ghost story: { Self → Option (List Event) };
 
-    /// Looks who runs the program, and what is there. The only refusal is want of memory.
+    /// Looks who runs the program, and what is there. The only refusal is out of memory.
     fn look(&mut self) -> Result<Here, AllocError>
         ensures { Looks result (story self.old) (story self.new) };
 

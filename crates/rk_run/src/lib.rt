@@ -15,7 +15,7 @@
 //!
 //! # How it is built
 //!
-//! `wanted` reads the words, `host` has the trait of what a run does outside of itself, `starting` makes the command, `paths` what it is told of the socket,
+//! `wanted` reads the words, `host` has the trait of what a run does outside of itself, `starting` makes the command, `paths` what it gets of the socket,
 //! `status` tells how a program has ended, and `running` puts it together. `fault` says why there is no status. `system` is the host that there is.
 #![tactic(auto)]
 

@@ -9,7 +9,7 @@ use std::path::Path;
 const LONGEST: usize = 107;
 
 /// The path as it is found from any folder, which for a relative one is the path behind the folder in which it is named. It stays as it is where that folder
-/// is not known, or where the whole would be too long for a socket. The only refusal is want of memory.
+/// is not known, or where the whole would be too long for a socket. The only refusal is out of memory.
 pub fn from_anywhere(alloc: Global, folder: Option<&str>, path: &str) -> Result<String, AllocError>
     ensures { IfOk result (λ s. string_bytes s ≡ from_anywhere (option_map (λ f. f.now) folder.entry) path.now) }
 {

@@ -96,7 +96,7 @@ fn started<H: Host>(host: &mut H, command: Command) -> Result<u8, RunFault>
     }
 }
 
-/// The command of the program that is wanted, in this ring of the daemon at this path. The only refusal is want of memory.
+/// The command of the program that is wanted, in this ring of the daemon at this path. The only refusal is out of memory.
 fn made_in(
     alloc: Global,
     wanted: &Wanted<'_>,
@@ -124,7 +124,7 @@ fn hello_of(wanted: &Wanted<'_>, here: &Here) -> Ask
     })
 }
 
-/// The socket that is named, or else the one that is told already.
+/// The socket that is named, or else that of the environment.
 fn socket_of<'a, 'w: 'a>(wanted: &Wanted<'w>, here: &'a Here) -> Option<&'a str>
     ensures { option_map (λ s. s.now) result ≡ socket_of wanted.now here.now }
 {

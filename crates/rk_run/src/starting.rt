@@ -9,7 +9,7 @@ use rk_variables::{with, without};
 use std::alloc::{AllocError, Global};
 use std::process::Command;
 
-/// The program that is wanted, with its words and the variables that have keyutils' calls go to the daemon, into this ring. The only refusal is want of
+/// The program that is wanted, with its words and the variables that have keyutils' calls go to the daemon, into this ring. The only refusal is out of
 /// memory.
 pub fn made(
     alloc: Global,
@@ -42,7 +42,7 @@ fn called(alloc: Global, program: &str, words: &[String]) -> Result<Command, All
     Ok(command)
 }
 
-/// The program that is wanted with its words, to be started by `reqkey-trap`, the program at `trap`, which is told the socket. The only refusal is want of
+/// The program that is wanted with its words, to be started by `reqkey-trap`, the program at `trap`, which gets the socket. The only refusal is out of
 /// memory.
 pub fn trapped(
     alloc: Global,

@@ -1,7 +1,10 @@
-//! The machine of `rk_core` with a stream of frames for each client and each plain handler.
+//! The replay: the machine of `rk_core` with a stream of frames for each client and each plain handler.
+//!
+//! # Purpose
 //!
 //! Nothing is started, no clock is read and no socket is there: what happens is passed to a [`Replay`], and what it would do is
-//! output. `rk_replay` passes it the lines of a script.
+//! output. The crate is named after what the contracts speak of: a *served* list is a list of happenings with the outputs that a
+//! replay gives them. `rk_replay` is the script of a replay, and passes its lines here.
 //!
 //! # What is promised
 //!

@@ -46,7 +46,7 @@ says_settled session from body s to (Greets a x mid there spells first hello mov
     answered_settled session there.place.hall a mid there.seat x answered
 says_settled session from body s to (ShutOut a x there seat spells first hello another shut) = shut_settled session there from.seat seat x shut
 
--- an answer that is none to wait on lacks a frame only for want of memory
+-- an answer on which nobody waits lacks a frame only for lack of memory
 pub settled_takes : (a : Answer) → (IsToWait a → ⊥) → LacksFrame a → TakesMemory (reply_of a)
 settled_takes (answer.Done r) settled lacks = lacks
 settled_takes (answer.Start k subject) settled lacks = settled tt
@@ -87,7 +87,7 @@ short_speaks e (Ok u) old new (whole, wrote) = (None, reply.Refused e, refl, ap 
 short_speaks e (Err fault) old new (rose, first, others, parts, wrote) =
     (None, reply.Refused e, first, others, refl, parts, ap (λ (w : WireShown). w.cut) wrote, ap (λ (w : WireShown). w.story) wrote)
 
--- want of memory was told in place of a receipt's reply, which wanted it
+-- ENOMEM was said in place of a receipt's reply, which took memory
 pub memory_speaks : (n : Noted) (result : Result Unit DeviceFault) (story : Option (List Happened)) (new : WireShown) → TakesMemory (reply_of n.answer)
     → Speaks (saying.Short Enomem) (ended result) story new → Speaks (saying.Noted n) (ended result) story new
 memory_speaks n (Ok u) story new wants (None, r, is, wrote) = (None, r, (is, wants), wrote)

@@ -89,7 +89,7 @@ fn asked<P: Platform, W: Wire>(
         Ok(Called { receipt, launch }) => match launch {
             None if !waits(receipt.answer()) => Saying::Noted(receipt),
             launch => {
-                // (that it could not be sent is told with the reply, whose write fails then)
+                // (that it could not be sent shows with the reply, whose write fails then)
                 let _ = wire.send();
                 finished(stage, crew, hall, client, Called { receipt, launch }, wire)
             }

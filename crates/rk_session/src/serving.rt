@@ -127,7 +127,7 @@ fn talk<P: Platform, W: Wire>(
     part(wire, Served::TurnsUsed)
 }
 
-/// Serves a session of this client to its end. A client that can't be opened is told nothing.
+/// Serves a session of this client to its end. A client that can't be opened gets no reply.
 ///
 /// The client's number must not be another's that is served; the frames are new, and take no memory for what a read brings. In every exit the client is
 /// reported gone. It may wait, for locks, for outcomes and for the handlers that it has started, and holds no lock while it reads or writes.

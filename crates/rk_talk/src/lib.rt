@@ -11,14 +11,14 @@
 //! A call is refused as the hall's is. Where the hall's record is full, its volume goes to the [`Shelf`], the ask is read again from its body and the
 //! call made once more, and only a refusal then is answered. What is said of an ask is the answer of one receipt, of the ask itself or of the collect
 //! of its outcome; EDQUOT or ENOMEM where its call was refused; or nothing, where the seat has seen more than the hall has. The bytes of a reply are
-//! the one spelling of what the answer says, behind their length. Those of a number and of a refusal take no memory ([`Frame`]), so that want of memory
-//! can be told too, and so can what became of an ask that was done.
+//! the one spelling of what the answer says, behind their length. Those of a number and of a refusal take no memory ([`Frame`]), so that ENOMEM
+//! can be answered too, and so can what became of an ask that was done.
 //!
 //! # How it is built
 //!
 //! `stage` has what is around a session, `message` an ask with its body, and `calls` the calls with their second try. `saying` has what is to be said,
 //! `replies` its bytes, `frame` where they lie, and `shelf` where volumes go. In `specs/`, `Said` says why a reply is given, `Replies` how it is spelt
-//! and which want memory, and `Stays` what a seat keeps.
+//! and which take memory, and `Stays` what a seat keeps.
 #![tactic(auto)]
 
 mod calls;

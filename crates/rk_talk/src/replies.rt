@@ -30,7 +30,7 @@ fn number_frame(number: u32) -> [u8; 9]
     [0, 0, 0, 5, 0, first, second, third, fourth]
 }
 
-/// A refusal behind its length. It takes no memory, so that want of memory can be replied too.
+/// A refusal behind its length. It takes no memory, so that ENOMEM can be replied too.
 #[tactic(auto, unfolding(crate::specs::Replies::reply_bytes))]
 pub fn refusal_frame(errno: Errno) -> [u8; 6]
     ensures { result ≡ reply_bytes (reply.Refused errno) }
@@ -51,8 +51,8 @@ fn framed(alloc: Global, reply: &Reply) -> Result<Frame, AllocError>
     }
 }
 
-/// What an answer says to the session that asked, behind its length. A number and a refusal take no memory. An `Err` is want of memory; an answer that
-/// says nothing, of a session that waits, is told as that too.
+/// What an answer says to the session that asked, behind its length. A number and a refusal take no memory. An `Err` is out of memory; an answer that
+/// says nothing, of a session that waits, is refused as that too.
 pub fn answer_frame(alloc: Global, answer: &Answer) -> Result<Frame, AllocError>
     ensures framed { IfOk result (λ b. ReplyFramed answer.now b) }
     ensures memory { IfErr result (λ e. LacksFrame answer.now) }

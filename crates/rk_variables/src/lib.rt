@@ -6,6 +6,11 @@
 //! reached. [`with`] and [`without`] set and remove one, and change nothing else of a command; [`is_library`] is the rule for a path that goes into
 //! `LD_PRELOAD`.
 //!
+//! # What it promises
+//!
+//! The variable is set, or removed, and the program, its words, its folder and all other variables of the command are as before (`Sets` of
+//! `specs/Starts.antt`). The only refusal is out of memory. A library is an absolute path without a space or a colon, which would make two of it.
+//!
 //! # How it is built
 //!
 //! `setting` has the calls and `library` the rule. What is started of a command stands in `specs/Starts.antt`.

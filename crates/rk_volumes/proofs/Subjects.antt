@@ -62,7 +62,7 @@ pub record AreWords (k u g t p s : ℕ) : Type 0 where
 pub words_of : (k u g t p s : ℕ) → IsWord k × IsWord u × IsWord g × IsWord t × IsWord p × IsWord s → AreWords k u g t p s
 words_of k u g t p s is = record { key = is.0; uid = is.1; gid = is.2; thread = is.3; process = is.4; session = is.5 }
 
--- a fault is no want of memory
+-- a fault is not out of memory
 pub no_fault : (e : ReadError) (f : Fault) → e ≡ error.Fault f → e ≢ error.NoMemory
 no_fault e f is none = absurd cc
 

@@ -122,7 +122,7 @@ fn ended(alloc: Global, row: &Row<'_>) -> Result<Event, Unread>
     Ok(Event::Ended(key, how, payload))
 }
 
-/// What a handler has put out.
+/// The output of a handler.
 fn payload_of(alloc: Global, bytes: &[u8]) -> Result<Option<Payload>, Unread>
     ensures is { IfOk result (λ p. IsPutOut p × (bytes.now ≡ put_out p)) }
     ensures none { result ≡ Err Unread.Bad → (p : Option (List ℕ)) → IsPutOut p → bytes.now ≢ put_out p }

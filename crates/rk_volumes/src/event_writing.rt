@@ -11,7 +11,7 @@ use rk_machine::{Event, How};
 use rk_names::{Payload, SessionId};
 use std::alloc::{AllocError, Global};
 
-/// Appends the row of an event behind its length. An `Err` is want of memory, and a part of it may have been appended.
+/// Appends the row of an event behind its length. An `Err` is out of memory, and a part of it may have been appended.
 pub(crate) fn put_event(alloc: Global, out: &mut Vec<u8>, event: &Event) -> Result<(), AllocError>
     ensures bytes { OnOk result (out.new.items ≡ out.old.items ++ frame (row_bytes (event_row event.now))) }
     ensures is { OnOk result (IsEvent event.now) }
@@ -45,7 +45,7 @@ fn put_session(out: &mut Vec<u8>, kind: u8, id: &SessionId, rest: &[u8]) -> Resu
     put_row(out, kind, session_kind(id), session_number(id), rest)
 }
 
-/// The status of a handler, and what it has put out.
+/// The status of a handler, and its output.
 fn ending(alloc: Global, how: How, payload: &Option<Payload>) -> Result<Vec<u8>, AllocError>
     ensures bytes { IfOk result (λ v. v.items ≡ status_of how ∷ put_out payload.now) }
     ensures fits { IfOk result (λ v. length v.items ≤ 32768) }

@@ -74,7 +74,7 @@ impl Head {
     ghost use Rattle.std.specs.Prelude.{◌≡◌, ◌++◌, OnOk};
     ghost use Rattle.rk_volumes.specs.Format.{title, head_bytes, IsHead};
 
-    /// Appends the line and the head of a volume with so many steps. An `Err` is want of memory, and a part of it may have been appended.
+    /// Appends the line and the head of a volume with so many steps. An `Err` is out of memory, and a part of it may have been appended.
     pub(crate) fn put(&self, out: &mut Vec<u8>, count: u64) -> Result<(), AllocError>
         ensures bytes { OnOk result (out.new.items ≡ out.old.items ++ (title ++ head_bytes self.now count)) }
         ensures is { OnOk result (IsHead self.now count) }

@@ -43,7 +43,7 @@ impl<'a> Row<'a> {
     }
 }
 
-/// Appends a row behind its length. An `Err` is want of memory, and a part of it may have been appended.
+/// Appends a row behind its length. An `Err` is out of memory, and a part of it may have been appended.
 pub(crate) fn put_row(
     out: &mut Vec<u8>,
     kind: u8,

@@ -122,7 +122,7 @@ impl Seal {
     ghost use Rattle.std.specs.Prelude.{◌≡◌, ◌++◌, OnOk};
     ghost use Rattle.rk_volumes.specs.Seals.{sealed_title, seal_bytes, IsSeal};
 
-    /// Appends the line and the seal. An `Err` is want of memory, and a part of it may have been appended.
+    /// Appends the line and the seal. An `Err` is out of memory, and a part of it may have been appended.
     pub(crate) fn put(&self, out: &mut Vec<u8>) -> Result<(), AllocError>
         ensures bytes { OnOk result (out.new.items ≡ out.old.items ++ (sealed_title ++ seal_bytes self.now)) }
         ensures is { IsSeal self.now }

@@ -35,7 +35,7 @@ pub(crate) fn read_step(alloc: Global, bytes: &[u8]) -> Result<(Recorded, &[u8])
     Ok((step, rest))
 }
 
-/// Appends a step. An `Err` is want of memory, and a part of it may have been appended.
+/// Appends a step. An `Err` is out of memory, and a part of it may have been appended.
 pub(crate) fn put_step(alloc: Global, out: &mut Vec<u8>, step: &Recorded) -> Result<(), AllocError>
     ensures bytes { OnOk result (out.new.items ≡ out.old.items ++ step_bytes step.entry.now) }
     ensures is { OnOk result (IsStep step.entry.now) }

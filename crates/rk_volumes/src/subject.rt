@@ -110,7 +110,7 @@ pub(crate) fn read_subject(alloc: Global, op: Op, bytes: &[u8]) -> Result<Subjec
     })
 }
 
-/// The bytes of a subject but for its use. An `Err` is want of memory.
+/// The bytes of a subject but for its use. An `Err` is out of memory.
 pub(crate) fn subject_text(alloc: Global, subject: &Subject) -> Result<Vec<u8>, AllocError>
     ensures bytes { IfOk result (λ v. v.items ≡ subject_bytes subject.now) }
     ensures fits { IfOk result (λ v. length v.items ≤ 65560) }

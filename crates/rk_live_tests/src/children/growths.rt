@@ -1,7 +1,7 @@
 //! Growths that are refused to a client whose handlers are over fakes.
 //!
-//! With ample memory a handling is only played. tests/test_growths.py plays it with growths refused. Whatever it came to, the records agree with the seat;
-//! last what came of it is compared with the whole, so that both are told.
+//! With ample memory a handling is only played. tests/test_growths.py plays it with allocations refused. Whatever it came to, the records agree with the seat;
+//! last the result is compared with the whole, so that a fault shows both.
 use crate::children::handling::Handling;
 use crate::children::rows::{FOLLOWED, NESTED, PIPED, PLAIN};
 use crate::halls::opening::{Scene, in_new_halls};
@@ -12,7 +12,7 @@ use std::sync::Wait;
 use std::thread::Threads;
 use std::time::Clock;
 
-/// Plays the handling, whose steps are counted. A reply that is lost for want of memory takes no step, so what is told is not looked at.
+/// Plays the handling, whose steps are counted. A reply that is lost for lack of memory takes no step, so what was said is not looked at.
 fn counted<R: Wait + Abort + Threads + Clock + Sync>(
     rt: &R,
     alloc: Global,

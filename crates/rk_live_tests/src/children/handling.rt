@@ -1,4 +1,4 @@
-//! A handler from its start to its end, in halls of its own, and what its requester is told.
+//! A handler from its start to its end, in halls of its own, and what its requester is answered.
 use crate::answers::{Said, in_words};
 use crate::asks::{CLIENT, OTHER, add, hello_of};
 use crate::fakes::launcher::{Fake, Fuse, Program};
@@ -69,7 +69,7 @@ fn adds<N: Names, R: Wait + Abort>(
     drop(calls(rt, halls, seat, EventStep::Asked(client, ask)));
 }
 
-/// What is played, and what comes of it.
+/// What is played, and its result.
 #[derive(Clone, Copy)]
 pub struct Handling {
     /// The configuration, which says what is started for the client's request.
@@ -78,13 +78,13 @@ pub struct Handling {
     pub adder: Adder,
     /// What the programs do that are started one after the other.
     pub programs: &'static [Program],
-    /// How many bytes each puts out at most.
+    /// How many bytes each outputs at most.
     pub most: usize,
     /// The call of a program that fails, if there is one.
     pub fuse: Option<Fuse>,
     /// How the launch ended.
     pub driven: Driven,
-    /// What the client is told of its request for key 12.
+    /// What the client is answered to its request for key 12.
     pub outcome: Said,
     /// How many children were out at one time.
     pub deepest: u64,
@@ -116,7 +116,7 @@ impl Handling {
         is_as_wanted(rt, &came, &self, steps);
     }
 
-    /// The client, which has come, asks for its key, the launch is brought to its end, and the client is told what came of it. The seat comes back.
+    /// The client, which has come, asks for its key, the launch is brought to its end, and the client gets the outcome. The seat comes back.
     pub fn comes<'a, N: Names, R: Wait + Abort>(
         &self,
         rt: &'a R,
@@ -222,7 +222,7 @@ pub fn settles<N: Names>(
     total.steps
 }
 
-/// What came of it is what the handling says. What differs where memory was lacking is compared first, and told together.
+/// The result is what the handling says. What differs when memory ran out is compared first, and shown together.
 fn is_as_wanted<R: Abort>(rt: &R, came: &Came, handling: &Handling, steps: u64) {
     let fake = &came.fake;
     let wanted = handling.steps.unwrap_or(steps);
@@ -254,7 +254,7 @@ pub struct Reported {
     pub missing: u64,
 }
 
-/// Holds nobody, and counts what it is told of commands.
+/// Holds nobody, and counts what it learns of commands.
 #[derive(Drop)]
 pub struct Open {
     /// Commands that were to make a key.

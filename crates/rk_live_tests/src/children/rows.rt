@@ -58,7 +58,7 @@ const SILENT: Program = Program {
     ends: How::Exit(0),
 };
 
-/// Ten bytes, which are no frame.
+/// Ten bytes that don't make a frame.
 const FAILS: Program = Program {
     says: &[(10, b"a")],
     endless: false,
@@ -175,7 +175,7 @@ pub const FOLLOWED: Handling = Handling {
     ..PLAIN
 };
 
-/// A handler that asks for key 16, whose handler is told 0 and 0; the first one is told 0, 16 and 0.
+/// A handler that asks for key 16, whose handler is answered 0 and 0; the first one 0, 16 and 0.
 pub const NESTED: Handling = Handling {
     programs: &[NESTS, IS_NESTED],
     driven: Driven::Ended(How::Exit(6)),
@@ -187,7 +187,7 @@ pub const NESTED: Handling = Handling {
     ..PLAIN
 };
 
-/// What the program does, which call fails; how the launch ends, and what the client is told.
+/// What the program does, which call fails; how the launch ends, and what the client is answered.
 type Row = (&'static [Program], Option<Fuse>, Driven, Said);
 
 const PLAIN_ROWS: &[Row] = &[
@@ -402,7 +402,7 @@ const NO_WORD: Handling = Handling {
     ..NO_LINE
 };
 
-/// A handler is told what its hall answers, and a piped one the callout.
+/// A handler gets what its hall answers, and a piped one the callout.
 const TOLD: &[Handling] = &[
     Handling {
         told: Some(b"\0\0\0\x05\0\0\0\0\0\0\0\0\x05\0\0\0\0\0"),
@@ -456,7 +456,7 @@ const FIRST_ALONE: &[Handling] = &[
     },
 ];
 
-/// Whatever becomes of the handler of key 16, the first one is told whether that key was made, goes on and makes key 12.
+/// Whatever becomes of the handler of key 16, the first one learns whether that key was made, goes on and makes key 12.
 const OF_ANOTHER_KEY: &[Handling] = &[
     NESTED,
     Handling {
@@ -493,7 +493,7 @@ const OF_ANOTHER_KEY: &[Handling] = &[
     },
 ];
 
-/// What the first one is told where key 16 is not made, and nothing before: 0, ENOKEY, 0.
+/// What the first one is answered if key 16 is not made, and nothing before: 0, ENOKEY, 0.
 const OUTER_WITHOUT: &[u8] = b"\0\0\0\x05\0\0\0\0\0\0\0\0\x02\x03\x7e\0\0\0\x05\0\0\0\0\0";
 
 /// A call of the first one fails.
@@ -550,7 +550,7 @@ const NOT_NESTED: Handling = Handling {
     ..NESTED
 };
 
-/// A gate is told of each command, and of a start that failed why.
+/// A gate learns of each command, and why a start failed.
 const REPORTED: &[Handling] = &[
     Handling {
         reported: Some(CREATES_ONE),
@@ -627,7 +627,7 @@ fn frames_that_are_cut_are_no_asks(rt: HostRuntime) {
 
 const OFTEN: &[Program] = &[ASKS_OFTEN];
 
-/// What it is told: 0, thirty times `x`, 0.
+/// What it is answered: 0, thirty times `x`, 0.
 const TOLD_OFTEN: &[u8] = b"\0\0\0\x05\0\0\0\0\0\
     \0\0\0\x04\x01\0\x01x\0\0\0\x04\x01\0\x01x\0\0\0\x04\x01\0\x01x\0\0\0\x04\x01\0\x01x\0\0\0\x04\x01\0\x01x\0\0\0\x04\x01\0\x01x\
     \0\0\0\x04\x01\0\x01x\0\0\0\x04\x01\0\x01x\0\0\0\x04\x01\0\x01x\0\0\0\x04\x01\0\x01x\0\0\0\x04\x01\0\x01x\0\0\0\x04\x01\0\x01x\
@@ -667,14 +667,14 @@ fn volumes_are_handed_out_while_a_handler_asks(rt: HostRuntime) {
     }
 }
 
-/// It puts out bytes that are no frame, for ever.
+/// It outputs bytes that make no frame, for ever.
 const WRITES_ON: Program = Program {
     says: &[],
     endless: true,
     ends: How::Exit(0),
 };
 
-/// A handler that puts out bytes for ever is read a million times; its key is made where it has completed it before.
+/// A handler that outputs bytes for ever is read a million times; its key is made where it has completed it before.
 const FOR_EVER: &[Handling] = &[
     Handling {
         programs: &[WRITES_ON],

@@ -81,7 +81,7 @@ const NESTED: &[Speech] = &[
     },
 ];
 
-/// What passes with the first of them: all that it puts out is heard, the replies are the numbers 0, 16 and 0, and then its end is heard.
+/// What passes with the first of them: all of its output is heard, the replies are the numbers 0, 16 and 0, and then its end is heard.
 const PASSED: &[u8] =
     b"<\0\0\0\x05\x03\0\0\0\x0c\0\0\0\x12\x02\0\x04user\0\x01b\x01\0\x01x\0\0\0\0\0\0\0\x0d\x04\0\0\0\x0c\0\x02hi\0\0\0\0>\0\0\0\x05\0\0\0\0\0>\0\0\0\x05\0\0\0\0\x10>\0\0\0\x05\0\0\0\0\0<";
 
@@ -125,7 +125,7 @@ fn tried_text(alloc: Global, tried: &[Tried]) -> Result<Vec<u8>, AllocError> {
     Ok(text)
 }
 
-/// What is played, and what comes of it.
+/// What is played, and its result.
 #[derive(Clone, Copy)]
 struct Scene {
     /// What each program outputs, in the order of their starts.

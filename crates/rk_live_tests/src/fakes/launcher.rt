@@ -9,9 +9,9 @@ use std::alloc::{AllocError, Global};
 /// What a program does.
 #[derive(Clone, Copy)]
 pub struct Program {
-    /// What it puts out, each so many times.
+    /// Its output, each piece so many times.
     pub says: &'static [(usize, &'static [u8])],
-    /// Whether it then puts out one more byte for ever.
+    /// Whether it then outputs one more byte for ever.
     pub endless: bool,
     /// How it ends.
     pub ends: How,
@@ -37,7 +37,7 @@ pub struct Fuse(pub usize, pub Call, pub u64);
 /// A program as it is played.
 #[derive(Drop)]
 struct Played {
-    /// What it puts out.
+    /// Its output.
     bytes: Vec<u8>,
     /// Whether bytes go on after these.
     endless: bool,
@@ -46,7 +46,7 @@ struct Played {
 }
 
 impl Played {
-    /// The program, which puts out so many bytes at most. An `Err` is out of memory.
+    /// The program, which outputs so many bytes at most. An `Err` is out of memory.
     fn of(alloc: Global, program: &Program, most: usize) -> Result<Played, AllocError> {
         let mut bytes = spelled(alloc, program.says)?;
         bytes.truncate(most);
@@ -101,7 +101,7 @@ pub struct Fake {
 }
 
 impl Fake {
-    /// It starts these programs, each of which puts out so many bytes at most. An `Err` is out of memory. What is kept of a few programs takes no more of
+    /// It starts these programs, each of which outputs so many bytes at most. An `Err` is out of memory. What is kept of a few programs takes no more of
     /// it.
     pub fn new(
         alloc: Global,
@@ -135,7 +135,7 @@ impl Fake {
         })
     }
 
-    /// The program that is next, and room for what it is told; none where the start is to fail, or there is no memory.
+    /// The program that is next, and room for what is written to it; none where the start is to fail, or there is no memory.
     fn next(&self) -> Option<(Played, Vec<u8>)> {
         if burns(self.fuse, self.asked, Call::Start, 1) {
             return None;

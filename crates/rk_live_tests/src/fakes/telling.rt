@@ -11,7 +11,7 @@ use rk_macro::{Command, Words};
 use std::alloc::{AllocError, Global};
 use std::process::Abort;
 
-/// What a program puts out, and how it ends then.
+/// The output of a program, and how it ends then.
 #[derive(Clone, Copy)]
 pub struct Speech {
     /// What it outputs.
@@ -20,14 +20,14 @@ pub struct Speech {
     pub ends: How,
 }
 
-/// Starts the programs, one after the other, and then ones that put out nothing. Out of memory for what it keeps ends the process.
+/// Starts the programs, one after the other, and then ones without output. Out of memory for what it keeps ends the process.
 #[derive(Drop)]
 pub struct Telling<R> {
     /// The host, which ends the process when memory runs out.
     rt: R,
     /// Where memory for what is kept comes from.
     alloc: Global,
-    /// What each program puts out, and how it ends then.
+    /// The output of each program, and how it ends then.
     programs: Vec<(Vec<u8>, How)>,
     /// How many starts failed.
     pub failed: u64,
@@ -77,7 +77,7 @@ impl<R: Copy> Telling<R> {
     }
 }
 
-/// What these programs put out, copied.
+/// The outputs of these programs, copied.
 fn programs_of(alloc: Global, speeches: &[Speech]) -> Result<Vec<(Vec<u8>, How)>, AllocError> {
     let mut programs = Vec::new(alloc);
     for speech in speeches {
@@ -93,9 +93,9 @@ pub struct Speaking<R> {
     rt: R,
     /// Where memory for the story comes from.
     alloc: Global,
-    /// What it puts out.
+    /// Its output.
     bytes: Vec<u8>,
-    /// How much of that it has put out.
+    /// How much of that was read.
     given: usize,
     /// How it ends after its output.
     ends: How,

@@ -1,8 +1,8 @@
-//! A client from its coming to its end: what each step is answered, and what comes of growths that are refused: a call makes no step then, and nothing that
-//! is owed wants memory.
+//! A client from its coming to its end: what each step is answered, also where allocations are refused: a call makes no step then, and nothing that
+//! is owed needs memory.
 //!
-//! With ample memory it goes its whole path. tests/test_growths.py plays it with growths refused: at the first call that is refused the client goes.
-//! Whatever it came to, the records agree with the receipts; last the steps are compared with those of the whole path, so that both are told.
+//! With ample memory it goes its whole path. tests/test_growths.py plays it with allocations refused: at the first call that is refused the client goes.
+//! Whatever it came to, the records agree with the receipts; last the steps are compared with those of the whole path, so that a fault shows both.
 ghost use Rattle.rk_hall.specs.Seats.{IsCall};
 
 use crate::answers::Said;
@@ -32,7 +32,7 @@ pub struct Growths {
     answers: &'static [Said],
 }
 
-/// What wants memory on the path, beside the calls and the receipts.
+/// What takes memory on the path, beside the calls and the receipts.
 #[derive(Drop)]
 struct Needs {
     /// The client's request for the key.
@@ -171,7 +171,7 @@ fn is_made<N: Names, R: Wait + Abort>(
     }
 }
 
-/// A call; an `Err` is want of memory.
+/// A call; an `Err` is out of memory.
 fn tries<N: Names, R: Wait + Abort>(
     rt: &R,
     halls: &Halls<N>,

@@ -102,7 +102,7 @@ pub fn collects<N: Names, R: Wait + Abort>(
     keep(rt, receipts, receipt);
 }
 
-/// There is to be another handler, which is told to negate the key; it can't be started.
+/// There is to be another handler, which is to negate the key; it can't be started.
 pub fn negates<N: Names, R: Wait + Abort>(
     rt: &R,
     halls: &Halls<N>,

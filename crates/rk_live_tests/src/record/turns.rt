@@ -131,7 +131,7 @@ fn greets(rt: &impl Abort, alloc: Global, hall: &mut Hall) {
     same(rt, is_of(hall, &receipt, 1), true);
 }
 
-/// A receipt says the step, and is told from any other.
+/// A receipt says the step, and differs from that of any other.
 #[test]
 fn a_receipt_says_its_step(rt: HostRuntime) {
     let mut hall = hall(&rt, rt.alloc(), 64);

@@ -1,4 +1,4 @@
-//! One session: devices that fail, bytes that are cut, bytes that are no frame.
+//! One session: devices that fail, bytes that are cut, bytes that make no frame.
 
 use crate::fakes::launcher::{Call, Fuse};
 use crate::sessions::bytes::{

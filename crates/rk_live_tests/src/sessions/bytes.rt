@@ -58,13 +58,13 @@ pub const IS_NESTED: Program = Program {
     ..COMPLETES
 };
 
-/// It puts out ten bytes.
+/// It outputs ten bytes.
 pub const TEN: Program = Program {
     says: &[(10, b"a")],
     ..COMPLETES
 };
 
-/// It puts out ten bytes, and fails.
+/// It outputs ten bytes, and fails.
 pub const FAILS: Program = Program {
     ends: How::Exit(7),
     ..TEN

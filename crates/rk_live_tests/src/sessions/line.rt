@@ -65,7 +65,7 @@ pub struct Line<'a, R> {
 }
 
 impl<'a, R> Line<'a, R> {
-    /// The wire of this session, on which nothing has happened. An `Err` is want of memory. What is kept of a few messages wants no more of it.
+    /// The wire of this session, on which nothing has happened. An `Err` is out of memory. What is kept of a few messages needs no more of it.
     pub fn new(
         rt: &'a R,
         alloc: Global,

@@ -17,7 +17,7 @@ const JOIN_AND_REQUEST: &[u8] = b"\0\0\0\x0e\x01\0\0\x03\xe8\0\0\x03\xe8\0\0\0\0
 /// HELLO of uid and gid 1000, and a length that no frame has.
 const HELLO_AND_NO_FRAME: &[u8] = b"\0\0\0\x0e\x01\0\0\x03\xe8\0\0\x03\xe8\0\0\0\0\0\0\0\0\0";
 
-/// Ten bodies that are no ask.
+/// Ten invalid bodies.
 const TEN_INVALID: &[u8] = b"\0\0\0\x01\xff\0\0\0\x01\xff\0\0\0\x01\xff\0\0\0\x01\xff\0\0\0\x01\xff\
     \0\0\0\x01\xff\0\0\0\x01\xff\0\0\0\x01\xff\0\0\0\x01\xff\0\0\0\x01\xff";
 

@@ -35,7 +35,7 @@ fn serve_told<P: Platform, R: Abort>(
     serve(stage, crew, client, frames, wire)
 }
 
-/// HELLO of uid and gid 1000, and READ 12, which is no key.
+/// HELLO of uid and gid 1000, and READ 12, a key that doesn't exist.
 const HELLO_AND_READ: &[u8] =
     b"\0\0\0\x0e\x01\0\0\x03\xe8\0\0\x03\xe8\0\0\0\0\0\0\0\0\x05\x07\0\0\0\x0c";
 

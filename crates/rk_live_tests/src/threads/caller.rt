@@ -53,7 +53,7 @@ impl<N: Names> Caller<N> {
         }
     }
 
-    /// The handler can't be started, and the client is told so.
+    /// The handler can't be started, and the client gets that outcome.
     fn collects<R: Wait + Abort>(&mut self, rt: &R, halls: &Halls<N>, launch: Launch<N>) -> Said {
         let failed = fails(rt, halls, &mut self.seat, launch);
         keep(rt, &mut self.receipts, failed);

@@ -166,7 +166,7 @@ fn is_waited_for<R: Clock>(rt: &R, turns: &Turns) {
     let _ = thread::sleep(rt, Duration::from_millis(20));
 }
 
-/// The other client joins the first one's session ring and requests the same key. What it is told in the end.
+/// The other client joins the first one's session ring and requests the same key. What it is answered in the end.
 fn waits<N: Names, R: Wait + Abort + Clock>(
     rt: &R,
     alloc: Global,

@@ -146,7 +146,7 @@ count_in-requires c =
     let drawn : set.len c.self.inside.serials.used < 2147483648 = c.in-Some.ensures.few in
     omega (arith, counted, most, drawn)
 
--- nothing is counted, where memory is wanting
+-- nothing is counted, where memory runs out
 pub invariant_of-self-in_err-number : goal.invariant_of-self-in_err-number
 invariant_of-self-in_err-number c =
     let by_name : map.FinMap nat_cmp (List Named) = c.self.inside.by_name.facts in
