@@ -7,6 +7,7 @@ map-append : {A B : Type 0} (f : A → B) (xs ys : List A) → map f (xs ++ ys) 
 map-append f [] ys = refl
 map-append f (x ∷ xs) ys = ap (λ zs. f x ∷ zs) (map-append f xs ys)
 
+-- what is put among arguments is seen among them, in its place
 pub inserted : {A : Type 0} (view : A → List ℕ) (arguments : List (List ℕ)) (bytes : List A) (at : ℕ) (b : A) → map view bytes ≡ arguments
     → map view (insert bytes at b) ≡ insert arguments at (view b)
 inserted view arguments bytes at b e =

@@ -87,6 +87,7 @@ pub data FoundSaid : Type 0 where
   Turned : Errno → FoundSaid
   Told : List ℕ → FoundSaid
 
+-- what a search has found, seen by its text
 abbrev pub said_of : Found → FoundSaid
 said_of (found.Refused e) = Turned e
 said_of (found.Text text) = Told text.items

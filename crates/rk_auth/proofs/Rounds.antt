@@ -124,6 +124,7 @@ round_is_over f old now h at step end round le =
 
 -- ---- the round that takes each to another chain
 
+-- after so many steps of that round: the chains hold, who stands where is as before, and what is left of the chain fits in the steps to come
 pub record IsLoosened (old now : Slots) (h other step end : ℕ) : Type 0 where
   pub chained : AreChained now
   pub standing : (q : ℕ) → standing_at now q ≡ standing_at old q

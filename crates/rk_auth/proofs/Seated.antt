@@ -116,6 +116,7 @@ construction_who h (standing.Construction k c) = refl
 
 -- ---- what is seen of all
 
+-- the sessions that are seen through the slots and the two indexes
 abbrev pub View : Slots → Index → Index → Sessions
 View m clients constructions = record { constructions = seen construction_of m constructions; clients = seen client_of m clients }
 

@@ -32,6 +32,7 @@ none_said (Some v) t = absurd (both_ways _ t refl)
 
 -- ---- one is put in
 
+-- the slot of somebody who waits for nothing, and for whom nobody waits
 abbrev pub new_slot : Standing → Slot
 new_slot st = record { standing = st; first = None; link = None }
 

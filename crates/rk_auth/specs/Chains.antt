@@ -31,21 +31,27 @@ IsChain next before from at (x ∷ xs) = (at ≡ Some x) × (before x ≡ from) 
 
 -- ---- what the slots have
 
+-- who stands in the slot, if it is one
 abbrev pub standing_in : Option Slot → Option Standing
 standing_in o = option_map (λ s. s.standing) o
 
+-- the first of those who wait there, if it is a slot and somebody does
 abbrev pub first_in : Option Slot → Option ℕ
 first_in o = option_and_then (λ s. s.first) o
 
+-- its place in a chain, if it is a slot and waits
 abbrev pub link_in : Option Slot → Option Link
 link_in o = option_and_then (λ s. s.link) o
 
+-- the slot whose chain it stands in, if it does
 abbrev pub home_in : Option Slot → Option ℕ
 home_in o = option_map (λ l. l.home) (link_in o)
 
+-- the one after it in its chain, if there is one
 abbrev pub next_in : Option Slot → Option ℕ
 next_in o = option_and_then (λ l. l.next) (link_in o)
 
+-- the one before it in its chain, if there is one
 abbrev pub before_in : Option Slot → Option ℕ
 before_in o = option_and_then (λ l. l.before) (link_in o)
 
@@ -85,21 +91,27 @@ rehomed h other o = cond (names o h) (Some other) o
 
 -- ---- changes of slots
 
+-- this one is the first of those who wait there, or nobody is
 abbrev pub with_first : Option ℕ → Slot → Slot
 with_first o s = record s { first = o }
 
+-- it has this place in a chain, or none
 abbrev pub with_link : Option Link → Slot → Slot
 with_link l s = record s { link = l }
 
+-- this one stands before it in its chain, or none does
 abbrev pub with_before : Option ℕ → Slot → Slot
 with_before o s = record s { link = option_map {T = Link} (λ l. record l { before = o }) s.link }
 
+-- this one stands after it in its chain, or none does
 abbrev pub with_next : Option ℕ → Slot → Slot
 with_next o s = record s { link = option_map {T = Link} (λ l. record l { next = o }) s.link }
 
+-- its chain is that of another slot
 abbrev pub with_home : ℕ → Slot → Slot
 with_home h s = record s { link = option_map {T = Link} (λ l. record l { home = h }) s.link }
 
+-- who stands there is changed
 abbrev pub in_standing : (Standing → Standing) → Slot → Slot
 in_standing f s = record s { standing = f s.standing }
 

@@ -31,9 +31,11 @@ waited_of standing.Nobody = None
 waited_of (standing.Client n s) = waited_key s
 waited_of (standing.Construction k c) = option_and_then waited_key (handler_in c.stage)
 
+-- the key for which who stands there waits, if anybody does
 abbrev pub waited_in : Option Standing → Option ℕ
 waited_in o = option_and_then waited_of o
 
+-- who stands at the place: `None` for no slot, `Some None` for the slot that is nobody's
 abbrev pub who_at : map.FinMap nat_cmp Slot → ℕ → Option (Option SessionId)
 who_at m q = option_map who_of (standing_at m q)
 

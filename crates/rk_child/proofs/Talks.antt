@@ -106,6 +106,7 @@ all_ended key a b c f g h p q r talks (inr one) = ends_then key a b c f.bytes g.
 abbrev pub Stands : ℕ → SeatShown → ChildShown → ChildShown → List ℕ → Standing → Type 0
 Stands key begun old now held standing = (passed : List Passed) × (now.story ≡ and_then old.story passed) × Talking key begun passed held standing
 
+-- a handler that has just been started, and holds nothing, is at the beginning of its talk
 pub stands_first : (key : ℕ) (begun : SeatShown) (a : ChildShown) (held : List ℕ) → held ≡ [] → Stands key begun a a held (standing_of begun false)
 stands_first key begun a held none =
     ([], and_none a.story, subst (λ h. Talking key begun [] h (standing_of begun false)) (sym none) begins)

@@ -3,6 +3,7 @@ use Rattle.std.proofs.Common.{◌≢◌, ℕ, List, [], ◌∷◌, map, length, 
 use Rattle.rk_message.specs.declared.shape.Op.TheVariants as op
 use Rattle.rk_client.specs.Arguments.{in_order}
 
+-- without three or four arguments the fields of a REQUEST are not four
 pub no_request : {A : Type 0} (view : A → List ℕ) (args : List A) → length args ≢ 3 → length args ≢ 4 → length (in_order op.Request (map view args)) ≢ 4
 no_request view [] three four = λ e. omega (arith, e)
 no_request view (t ∷ []) three four = λ e. omega (arith, e)

@@ -42,6 +42,7 @@ within word v e l = let t : nat_le v 511 ≡ true = grind (arith, nat_tests) in 
 above : (word : List ℕ) (v : ℕ) → octal_said word ≡ Some v → 511 < v → permissions_said word ≡ None
 above word v e l = let t : nat_le v 511 ≡ false = grind (arith, nat_tests) in rw (e, t) refl
 
+-- what has another digit than 0 to 7 says no permissions
 pub not_octal : (word : List ℕ) → list_all is_octal_digit word ≡ false → None ≡ permissions_said word
 unfolding octal_said
 not_octal [] h = refl
@@ -51,10 +52,12 @@ read : (word : List ℕ) (n : ℕ) → list_all is_octal_digit word ≡ true →
 read [] n h p = absurd (omega (arith, p.0.0.0))
 read (b ∷ bs) n h p = let e = rw (plain (b ∷ bs) h) at p.1 in said b bs h ∙ ap Some (sym e)
 
+-- octal digits whose number is at most 511 say these permissions
 pub permitted : (word : List ℕ) (n : ℕ) → list_all is_octal_digit word ≡ true → ParsesUnsigned {E = ℕ} 32 8 word (Ok n) → n ≤ 511
     → Some n ≡ permissions_said word
 permitted word n h p l = sym (within word n (read word n h p) l)
 
+-- octal digits whose number is greater say none
 pub too_large : (word : List ℕ) (n : ℕ) → list_all is_octal_digit word ≡ true → ParsesUnsigned {E = ℕ} 32 8 word (Ok n) → 511 < n
     → None ≡ permissions_said word
 too_large word n h p l = sym (above word n (read word n h p) l)

@@ -23,6 +23,7 @@ pub no_ok : {A E : Type 0} (r : Result A E) → IsErr r → is_ok r ≡ false
 no_ok (Ok x) e = absurd (cc)
 no_ok (Err x) e = refl
 
+-- what was refused has no value
 pub no_value : {A E : Type 0} (r : Result A E) → IsErr r → result_ok r ≡ None
 no_value (Ok x) e = absurd (cc)
 no_value (Err x) e = refl

@@ -19,6 +19,7 @@ abbrev pub begins : Style → Option DateTime → Level → List ℕ
 begins Journal time level = codes "<" ++ decimal (priority level) ++ codes ">"
 begins Timed time level = time_text time ++ codes " " ++ level_text level ++ codes ": "
 
+-- the text before what a line of the log says
 abbrev pub prefix_text : Prefix → List ℕ
 prefix_text h = begins h.style h.time h.level
 

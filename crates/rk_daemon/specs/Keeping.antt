@@ -25,6 +25,7 @@ is_of_record name = starts_with nat_eq name (codes "hall-") || starts_with nat_e
 abbrev pub volume_path : List ℕ → Head → List ℕ
 volume_path folder h = folder ++ codes "/hall-" ++ volume_name h
 
+-- the path at which a volume is written before it has its name
 abbrev pub part_path : List ℕ → Head → List ℕ
 part_path folder h = folder ++ codes "/.hall-" ++ volume_name h ++ codes ".part"
 

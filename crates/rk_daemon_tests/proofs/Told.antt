@@ -7,6 +7,7 @@ acts_of : {A : Type 0} → Option (List A) → List A
 acts_of (Some acts) = acts
 acts_of None = []
 
+-- what is done by one that had told nothing and now has told all this, holds of all this
 pub all_told : {A : Type 0} (P : List A → Type 0) (s t : Option (List A)) (all : List A) → s ≡ Some [] → t ≡ Some all → Does P s t → P all
 unfolding acts_of
 all_told {A} P s t all begun told (acts, done, is) =

@@ -10,6 +10,7 @@ use Rattle.rk_lemmas.proofs.Lists.{IsBytes, IsBytes-take}
 use Rattle.rk_frame.specs.declared.fault.FrameFault.{FrameFault}
 use Rattle.rk_frame.specs.Framing.{IsBody, frame, HasNoFrame, fault_of}
 
+-- the length that the first four bytes say
 abbrev pub front_len : List ℕ → ℕ
 front_len bytes = from_be_bytes w32 (take 4 bytes)
 

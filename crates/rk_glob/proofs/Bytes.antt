@@ -13,6 +13,7 @@ abbrev pub Consumes : List ℕ → List ℕ → Type 0
 Consumes [] t = t ≡ []
 Consumes (c ∷ p) t = (r : List ℕ) × Takes c t r × Consumes p r
 
+-- no byte is the wildcard
 abbrev pub NoStar : List ℕ → Type 0
 NoStar = AllByRecursion (λ b. b ≢ star)
 

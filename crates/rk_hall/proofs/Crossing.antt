@@ -102,6 +102,7 @@ ask_send = search (sendable, crosses) depth 40 fits 20000
 pub ask_sync : IsSync asks
 ask_sync = search (sendable, crosses) depth 40 fits 20000
 
+-- a shared request may go to another thread
 pub shared_send : IsSend shared.the_row
 shared_send = let a = ask_send in let s = ask_sync in search (sendable, crosses) depth 40 fits 20000
 
@@ -120,6 +121,7 @@ event_send = let a = shared_send in search (sendable, crosses) depth 40 fits 200
 pub answer_send : IsSend answer.the_row
 answer_send = let r = reply_send in let s = subject_send in search (sendable, crosses) depth 40 fits 20000
 
+-- a recorded step may go to another thread
 pub recorded_send : IsSend recorded.the_row
 recorded_send = let s = shared_send in let e = event_send in let a = answer_send in search (sendable, crosses) depth 120 fits 20000
 

@@ -39,6 +39,7 @@ held_empty d = record {
   numbered = λ k n is. absurd (none-some n (sym (map.get-empty nat_cmp k) ∙ is));
 }
 
+-- a change of a key that leaves its name
 abbrev pub KeepsName : (Key → Key) → Type 0
 KeepsName f = (a : Key) → ((f a).typ ≡ a.typ) × ((f a).description ≡ a.description)
 

@@ -2,5 +2,6 @@
 use Rattle.rk_message.specs.Ask.{Ask}
 use Rattle.rk_machine.specs.declared.event.EventOf.{EventOf}
 
+-- an event whose request has names and a payload as bytes
 abbrev pub Event : Type 0
 Event = EventOf Ask

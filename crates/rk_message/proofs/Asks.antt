@@ -23,6 +23,7 @@ at [] i = U8 0
 at (v ∷ vs) zero = v
 at (v ∷ vs) (suc i) = at vs i
 
+-- the number of a field, 0 for one that has none
 abbrev pub number : Value → ℕ
 number (U8 n) = n
 number (U32 n) = n
@@ -32,6 +33,7 @@ abbrev signed : Value → ℤ
 signed (I32 z) = z
 signed _ = pos 0
 
+-- the bytes of a field, none for one that has none
 abbrev pub bytes : Value → List ℕ
 bytes (Blob b) = b
 bytes _ = []

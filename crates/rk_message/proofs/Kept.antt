@@ -6,12 +6,14 @@ use Rattle.rk_message.specs.Wire.{U8, U32, IsValue}
 use Rattle.rk_message.specs.Table as table
 use Rattle.rk_message.specs.Asks.{flag_bits, error_number}
 
+-- the flags of a HELLO keep the rule of their field
 pub flags_kept : (thread process : Bool) → IsValue table.flags (U8 (flag_bits thread process))
 flags_kept true true = (lit< tt, refl)
 flags_kept true false = (lit< tt, refl)
 flags_kept false true = (lit< tt, refl)
 flags_kept false false = (lit< tt, refl)
 
+-- so does the error of a REJECT
 pub error_kept : (e : KeyError) → IsValue table.error (U32 (error_number e))
 error_kept error.Revoked = (lit< tt, refl)
 error_kept error.Expired = (lit< tt, refl)

@@ -20,6 +20,7 @@ kinds o = (op_byte o, map form (ask_fields o))
 abbrev pub op_of : AskShape → Op
 op_of line = line.op
 
+-- the operation that was found has this byte, or there is none
 abbrev pub HasByte : ℕ → Option Op → Option (List Kind) → Type 0
 HasByte byte found others = MatchOption found (others ≡ None) (λ o. op_byte o ≡ byte)
 

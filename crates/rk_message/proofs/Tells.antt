@@ -7,6 +7,7 @@ use Rattle.std.specs.Ordering.{int_eq}
 use Rattle.std.specs.Option.{option_eq}
 use mathlib.Core.Logic.{⊎_elim}
 
+-- a test that holds of equal values alone
 abbrev pub Tells : {A : Type 0} → (A → A → Bool) → Type 0
 Tells {A} test = (x y : A) → test x y ≡ true → x ≡ y
 

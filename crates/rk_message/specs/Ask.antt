@@ -2,5 +2,6 @@
 use Rattle.std.specs.Prelude.{ℕ, List}
 use Rattle.rk_message.specs.declared.ask.AskOf.{AskOf}
 
+-- a request whose names, callout and payload are bytes
 abbrev pub Ask : Type 0
 Ask = AskOf (List ℕ) (List ℕ) (List ℕ) (List ℕ)

@@ -123,6 +123,7 @@ parts : (n : ℕ) (p : Bool) (path : List ℕ) (words : List (List ℕ)) → com
 parts n p path words =
     nested (codes "line ") (decimal n) (codes " ") (kind_text p) (codes "\n") (flat_map byte_text path) (codes "\n") (flat_map word_line words)
 
+-- two commands with one text are one
 pub one_reading : HasOneReading
 one_reading n m p q path path' words words' ln lm bp bp' bw bw' h =
     let a = append_cancel_left (codes "line ") _ _ (sym (parts n p path words) ∙ h ∙ parts m q path' words') in

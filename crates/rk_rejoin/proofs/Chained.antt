@@ -24,10 +24,12 @@ unfolding AreChained last_link
 chained_more link [] v chained tied = (tied, tt)
 chained_more link (w ∷ ws) v chained tied = (chained.0, chained_more (link_of w) ws v chained.1 tied)
 
+-- with no volume yet, the sum that the first one has to name is that of none
 pub first_link : last_link (Some no_sum) [] ≡ Some no_sum
 unfolding last_link
 first_link = refl
 
+-- no volumes are a chain
 pub none_chained : AreChained (Some no_sum) []
 unfolding AreChained
 none_chained = tt

@@ -18,6 +18,7 @@ use Rattle.rk_rejoin.specs.Judged.{steps_of, of_hall, joined, AreNext}
 pub take_volume : (vs : List Stored) (i : ℕ) (v : Stored) → i < length vs → v ≡ get_or vs i v → take (i + 1) vs ≡ take i vs ++ v ∷ []
 take_volume vs i v lt at = take_more vs i v lt ∙ ap (λ (x : Stored). take i vs ++ x ∷ []) (sym at)
 
+-- the volume is of this hall
 abbrev pub is_of : HallNo → Stored → Bool
 is_of h v = hall_number v.head.hall == hall_number h
 
@@ -47,6 +48,7 @@ next_more index before (w ∷ ws) v next at num =
     ap length (flat_map-cons steps_of w ws) ∙ length-append (steps_of w) (flat_map steps_of ws) in
     (next.0, next.1, next_more (index + 1) (before + length (steps_of w)) ws v next.2 (omega (arith, at)) (omega (arith, num, len)))
 
+-- no volumes follow one another from the first on
 pub next_none : AreNext 0 0 []
 unfolding AreNext
 next_none = tt
@@ -107,12 +109,14 @@ pub steps_more : (xs ys : List Stored) (v : Stored) (ls : List (List Recorded)) 
 steps_more xs ys v ls more is =
     ap (λ (l : List (List Recorded)). l ++ steps_of v ∷ []) is ∙ sym (map-append steps_of xs (v ∷ [])) ∙ ap (map steps_of) (sym more)
 
+-- with one volume more, the steps are as many more as it has
 pub count_more : (xs ys : List Stored) (v : Stored) (n : ℕ) → ys ≡ xs ++ v ∷ [] → n ≡ length (flat_map steps_of xs)
     → n + length (steps_of v) ≡ length (flat_map steps_of ys)
 count_more xs ys v n more is =
     ap (λ (k : ℕ). k + length (steps_of v)) is ∙ sym (length-append (flat_map steps_of xs) (steps_of v))
     ∙ ap length (sym (joined_more xs v) ∙ ap (flat_map steps_of) (sym more))
 
+-- a volume with the next index, and as many steps before it as there are, goes on
 pub next_on : (xs ys : List Stored) (v : Stored) (n before : ℕ) → ys ≡ xs ++ v ∷ [] → AreNext 0 0 xs → n ≡ length xs → before ≡ length (flat_map steps_of xs)
     → v.head.index ≡ n + 1 → v.head.before ≡ before → AreNext 0 0 ys
 next_on xs ys v n before more next len is at num =
@@ -145,6 +149,7 @@ other_number x y false e is = refl
 pub is_here : (h : HallNo) (v : Stored) (a b : ℕ) → a ≡ hall_number v.head.hall → b ≡ hall_number h → a ≡ b → is_of h v ≡ true
 is_here h v a b e f is = same_number (hall_number v.head.hall) (hall_number h) (is_of h v) refl (sym e ∙ is ∙ f)
 
+-- volumes whose halls have other numbers are not of this hall
 pub is_elsewhere : (h : HallNo) (v : Stored) (a b : ℕ) → a ≡ hall_number v.head.hall → b ≡ hall_number h → a ≢ b → is_of h v ≡ false
 is_elsewhere h v a b e f other = other_number (hall_number v.head.hall) (hall_number h) (is_of h v) refl (λ same. other (e ∙ same ∙ sym f))
 

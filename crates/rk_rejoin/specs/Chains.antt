@@ -21,6 +21,7 @@ abbrev pub link_by : Option Sealed → Option (List ℕ)
 link_by None = Some no_sum
 link_by (Some s) = if s.seal.closing then None else Some s.sum
 
+-- the sum that the next volume has to name, `None` after one that closes the record
 abbrev pub link_of : Stored → Option (List ℕ)
 link_of v = link_by v.seal
 
@@ -29,6 +30,7 @@ abbrev pub IsTiedBy : Option (List ℕ) → Option Sealed → Type 0
 IsTiedBy link None = Unit {0}
 IsTiedBy link (Some s) = link ≡ Some s.seal.previous
 
+-- the volume names the sum of the one before it
 abbrev pub IsTied : Option (List ℕ) → Stored → Type 0
 IsTied link v = IsTiedBy link v.seal
 

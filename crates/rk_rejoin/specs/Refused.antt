@@ -53,6 +53,7 @@ abbrev pub StandsBehindClosing : Option (List ℕ) → Option Sealed → Type 0
 StandsBehindClosing None (Some s) = Unit {0}
 StandsBehindClosing _ _ = ⊥
 
+-- this verdict says of the volume what is so: another sum comes before it, or the record was closed
 abbrev pub IsUntied : Option (List ℕ) → Stored → Verdict → Type 0
 IsUntied link v (Unchained hall index) = (hall ≡ hall_number v.head.hall) × (index ≡ v.head.index) × NamesAnother link v.seal
 IsUntied link v (Closed hall index) = (hall ≡ hall_number v.head.hall) × (index ≡ v.head.index) × StandsBehindClosing link v.seal

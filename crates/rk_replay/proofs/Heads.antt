@@ -70,6 +70,7 @@ no_seconds (Negative n ∷ rs) = no_seconds rs
 no_seconds (Wrong ∷ rs) = no_seconds rs
 no_seconds (Happens now h ∷ rs) = no_seconds rs
 
+-- the lines of the head, and then those behind it as they are said there
 abbrev pub parts : List ScriptLine → List ScriptLine → List ScriptLine
 parts lines rest = lines ++ map said_late rest
 

@@ -35,32 +35,39 @@ pub did_nothing : (w : Wanted) (here : Here) (path : List ℕ) (answer : Reply) 
     → InSession w here path answer [] r → HasRunIn w here path answer s s r
 did_nothing w here path answer s r i = ([], still s, i)
 
+-- HELLO was refused, or was answered by no reply, and nothing more was done
 pub was_turned_away : (w : Wanted) (here : Here) (path : List ℕ) (answer : Reply) (s : Option (List Event)) (e : RunFault)
     → Err e ≡ ring_in answer → HasRunIn w here path answer s s (Err e)
 was_turned_away w here path answer s e i = did_nothing w here path answer s (Err e) (turned_away e (sym i))
 
+-- there was a ring and no memory for the command
 pub had_no_room : (w : Wanted) (here : Here) (path : List ℕ) (answer : Reply) (s : Option (List Event)) (ring : ℕ)
     → Ok ring ≡ ring_in answer → HasRunIn w here path answer s s (Err fault.NoMemory)
 had_no_room w here path answer s ring i = did_nothing w here path answer s (Err fault.NoMemory) (crowded ring (sym i))
 
+-- there was a ring, and the command in it was tried
 pub did_try : (w : Wanted) (here : Here) (path : List ℕ) (answer : Reply) (ring : ℕ) (c : Start) (s t : Option (List Event)) (r : Result ℕ RunFault)
     → Ok ring ≡ ring_in answer → IsStartIn w here path ring c → HasTried c s t r → HasRunIn w here path answer s t r
 did_try w here path answer ring c s t r is i (events, told, tries) = (events, told, tried ring c events r (sym is) i tries)
 
 -- ---- a start
 
+-- a command that could not be started is a try
 pub did_not_start : (c : Start) (s t : Option (List Event)) (e : StartFault) → t ≡ and_then s (Started c (Err e) ∷ []) → HasTried c s t (Err (unstarted_by e))
 did_not_start c s t e told = (Started c (Err e) ∷ [], told, unstarted e)
 
+-- a command that was started and waited for is a try
 pub did_end : (c : Start) (s t u : Option (List Event)) (status : Option ExitStatus) (r : Result ℕ RunFault) → t ≡ and_then s (Started c (Ok tt) ∷ [])
     → u ≡ and_then t (Waited status ∷ []) → r ≡ ending status → HasTried c s u r
 did_end c s t u status r told waited e = (Started c (Ok tt) ∷ Waited status ∷ [], more s t u _ _ told waited, rw e (ended status))
 
 -- ---- by reqkey-trap
 
+-- there was no memory for the command of reqkey-trap
 pub did_choke : (w : Wanted) (here : Here) (path : List ℕ) (s : Option (List Event)) → HasTrapped w here path s s (Err fault.NoMemory)
 did_choke w here path s = ([], still s, choked)
 
+-- the command of reqkey-trap was tried
 pub did_leave : (w : Wanted) (here : Here) (path trap : List ℕ) (c : Start) (s t : Option (List Event)) (r : Result ℕ RunFault)
     → trap ≡ string_bytes here.trap → IsTrapped w trap path c → HasTried c s t r → HasTrapped w here path s t r
 did_leave w here path trap c s t r is i (events, told, tries) =
@@ -69,9 +76,11 @@ did_leave w here path trap c s t r is i (events, told, tries) =
 
 -- ---- of a run
 
+-- a look that was refused for lack of memory is a run
 pub saw_nothing : (w : Wanted) (s t : Option (List Event)) → t ≡ s → HasRun w s t (Err fault.NoMemory)
 saw_nothing w s t e = ([], e ∙ still s, blind)
 
+-- a run that looked and found no socket named
 pub knew_nobody : (w : Wanted) (here : Here) (s t : Option (List Event)) → t ≡ and_then s (Looked here ∷ []) → None ≡ socket_of w here
     → HasRun w s t (Err fault.Socket)
 knew_nobody w here s t e n = (Looked here ∷ [], e, nowhere here (sym n))

@@ -39,6 +39,7 @@ some_none (Some x) e = absurd (cc)
 
 -- ---- what the handler of a peer does
 
+-- what the handler of a peer does
 pub data Sort : Type 0 where
   starts_piped : Sort  -- it is to be started, and is piped
   starts_plain : Sort  -- it is to be started, and is not piped
@@ -46,14 +47,17 @@ pub data Sort : Type 0 where
   has_output : Sort  -- it runs, and is piped
   unmade : Sort  -- it was made for nothing
 
+-- the same, by its channel
 abbrev pub sort_in : Channel → Sort
 sort_in (Talks stream) = has_stream
 sort_in (Starts piped) = cond piped starts_piped starts_plain
 sort_in (Pipes bytes) = has_output
 
+-- the same, of a peer; one without a subject was made for nothing
 abbrev pub sort : Peer → Sort
 sort x = cond (is_some x.subject) (sort_in x.channel) unmade
 
+-- the sort of the first peer of this session, if there is one
 abbrev pub sort_at : List Peer → SessionId → Option Sort
 sort_at [] s = None
 sort_at (x ∷ xs) s = cond (same_session x.who s) (Some (sort x)) (sort_at xs s)

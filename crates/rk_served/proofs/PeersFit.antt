@@ -123,6 +123,7 @@ no_kind (Some unmade) h = absurd (cc)
 
 -- ---- the peers fit the world
 
+-- the peers are the clients and the constructions of the world, each once and in its sort
 pub record Fits (left : Left) : Type 0 where
   pub clients : (n : ℕ) → is_some (sort_at left.peers (Client n)) ≡ is_client left.world.sessions n
   pub kinds : (k : ℕ) → agree (kind_of left.world.sessions k) (sort_at left.peers (Handler k)) ≡ true

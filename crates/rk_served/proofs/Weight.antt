@@ -44,6 +44,7 @@ abbrev pub total : (Peer → ℕ) → List Peer → ℕ
 total f [] = 0
 total f (x ∷ xs) = f x + total f xs
 
+-- how much is left to do: bytes to be read, streams to be shut, waits to end
 abbrev pub weight : Left → ℕ
 weight left = total (peer_weight left.world) left.peers
 

@@ -20,18 +20,22 @@ same_counts old new count cut = record { least = omega (arith, count); whole = �
 cut_counts : (old new : WireShown) → Rose old.count new.count → new.cut ≡ true → Counts old new
 cut_counts old new rose cut = record { least = rose_up old.count new.count rose; whole = λ whole. absurd (false≢true (sym whole ∙ cut)) }
 
+-- nothing was done on the wire
 pub counts_same : (w : WireShown) → Counts w w
 counts_same w = same_counts w w refl refl
 
+-- one thing after another
 pub counts_then : (a b c : WireShown) → Counts a b → Counts b c → Counts a c
 counts_then a b c f g = record {
   least = omega (arith, f.least, g.least);
   whole = λ whole. let late = g.whole whole in let soon = f.whole late.0 in (soon.0, late.1 ∙ soon.1);
 }
 
+-- a receipt that is noted leaves the count of faults
 pub notes_counts : (n : Noted) (old new : WireShown) → Notes n old new → Counts old new
 notes_counts n old new is = same_counts old new (ap (λ (w : WireShown). w.count) is) (ap (λ (w : WireShown). w.cut) is)
 
+-- a write leaves it, or fails and cuts the wire
 pub writes_counts : (r : Result Unit DeviceFault) (bytes : List ℕ) (old new : WireShown) → Writes r bytes old new → Counts old new
 writes_counts (Ok u) bytes old new (whole, is) = same_counts old new (ap (λ (w : WireShown). w.count) is) (ap (λ (w : WireShown). w.cut) is)
 writes_counts (Err e) bytes old new (rose, first, others, parts, is) = cut_counts old new rose (ap (λ (w : WireShown). w.cut) is)
@@ -57,6 +61,7 @@ sends_pushes (Err e) old new (rose, is) = record {
   counts = sends_counts (Err e) old new (rose, is);
 }
 
+-- nothing had to be sent
 pub pushes_same : (w : WireShown) → Pushes w w
 pushes_same w = record { story = refl; reads = refl; counts = counts_same w }
 
@@ -79,6 +84,7 @@ IsToPart Behind w = Unit {0}
 IsToPart TurnsUsed w = Unit {0}
 IsToPart _ w = ⊥
 
+-- each end of a session in its turns is one to part by
 pub parts_in_turns : (served : Served) (w : WireShown) → IsEndInTurns served w → IsToPart served w
 parts_in_turns WriteFault w is = is
 parts_in_turns Malformed w is = tt
@@ -107,10 +113,12 @@ parts_ends served told begun old new is counts (inl (same, whole, sent)) =
 parts_ends served told begun old new is counts (inr (fault, rose, cut)) =
     subst (λ s. EndCounts s begun.count new.count) (sym fault) (rose_from begun.count old.count new.count counts.least rose)
 
+-- after the parting the wire keeps nothing back
 pub parts_kept : (served told : Served) (old new : WireShown) → Parts served told old new → new.kept ≡ false
 parts_kept served told old new (inl (same, whole, sent)) = ap (λ (w : WireShown). w.kept) sent
 parts_kept served told old new (inr (fault, rose, cut)) = ap (λ (w : WireShown). w.kept) cut
 
+-- parting reads nothing
 pub parts_reads : (served told : Served) (old new : WireShown) → Parts served told old new → new.reads ≡ old.reads
 parts_reads served told old new (inl (same, whole, sent)) = ap (λ (w : WireShown). w.reads) sent
 parts_reads served told old new (inr (fault, rose, cut)) = ap (λ (w : WireShown). w.reads) cut
@@ -152,6 +160,7 @@ pub parts_unused : (served told : Served) (old new : WireShown) → IsEndInTurns
 parts_unused served told old new is (inl (same, whole, sent)) used = subst (λ s. IsEndInTurns s old) (sym same ∙ used) is
 parts_unused served told old new is (inr (fault, rose, cut)) used = subst IsWriteFault (sym fault ∙ used) tt
 
+-- after a read that ended the session the wire keeps nothing back
 pub hears_kept : (served : Served) (buf : List ℕ) (old new : WireShown) → Hears (Err served) buf old new → new.kept ≡ false
 hears_kept Ended buf old new (whole, is) = ap (λ (w : WireShown). w.kept) is
 hears_kept ReadFault buf old new (whole, rose, is) = ap (λ (w : WireShown). w.kept) is

@@ -107,6 +107,7 @@ abbrev pub Stands : SessionId → SeatShown → WireShown → WireShown → List
 Stands session seat begun now held standing = (first : List Happened) → begun.story ≡ Some first → (story : List Happened) × (now.story ≡ Some story) ×
     Talking session (record { story = first; seat = seat }) story held standing
 
+-- a connection on which nothing happened is at the beginning of its talk
 pub stands_first : (session : SessionId) (seat : SeatShown) (w : WireShown) → Stands session seat w w [] (standing_of at_first seat)
 stands_first session seat w first is = (first, is, begins session (record { story = first; seat = seat }))
 
@@ -167,6 +168,7 @@ pub taken_goes : (session : SessionId) (old new : WireShown) (f f' : Unread) (fr
     → GoesOn session old f.bytes from new f'.bytes to
 taken_goes session old new f f' from to (body, takes, ends) = turn_goes session body old new f.bytes f'.bytes from to takes ends
 
+-- with a message taken, fewer bytes are held
 pub taken_fewer : (session : SessionId) (old new : WireShown) (f f' : Unread) (from to : Standing) → TakesOne session (Ok true) old f from new f' to
     → length f'.bytes < length f.bytes
 taken_fewer session old new f f' from to (body, takes, ends) = takes_fewer body f.bytes f'.bytes takes
@@ -243,6 +245,7 @@ raised_more k n = grind (arith, nat_tests)
 pub reads_more : (k old mid new first : ℕ) → old ≡ raised_by k first → mid ≡ raised old → new ≡ mid → new ≡ raised_by (k + 1) first
 reads_more k old mid new first so is same = same ∙ is ∙ ap raised so ∙ raised_more k first
 
+-- with one read more, the reads are at most one more
 pub most_more : (k old mid new first : ℕ) → old ≤ first + k → mid ≡ raised old → new ≡ mid → new ≤ first + (k + 1)
 most_more k old mid new first le is same = subst (λ n. n ≤ first + (k + 1)) (sym (same ∙ is)) (at (nat_lt old most))
   where

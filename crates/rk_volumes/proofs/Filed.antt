@@ -94,6 +94,7 @@ pub no_steps : (front : List ℕ) (ss : List Recorded) → front ++ flat_map ste
 no_steps front [] = append-nil front
 no_steps front (s ∷ ss) = append-nil front
 
+-- of no steps each is sound
 pub none_each : (ss : List Recorded) → AllByRecursion IsStep (take 0 ss)
 none_each [] = tt
 none_each (s ∷ ss) = tt

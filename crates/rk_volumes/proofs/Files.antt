@@ -95,6 +95,7 @@ same_file h g ss ts left more ish isg iss ist eq =
     let steps = same_steps ss ts left more iss ist head.1 head.2 in
     (head.0, steps.0, steps.1)
 
+-- a volume at the front of a file is all of it, and no other
 pub have_one_reading : HaveOneReading
 have_one_reading h g ss ts file other left is as-is eq =
     let both : file_bytes h ss ++ left ≡ file_bytes g ts ++ [] = ap (λ (x : List ℕ). x ++ left) (sym is.bytes) ∙ eq ∙ as-is.bytes
@@ -121,6 +122,7 @@ head_put o a b c d e f h count first second third fourth fifth sixth =
     ∙ append_assoc (o ++ title) k (l ++ (m ++ (n ++ p)))
     ∙ append_assoc o title (k ++ (l ++ (m ++ (n ++ p))))
 
+-- one thing appended and then another are both appended
 pub appended : (a b c : Option (List ℕ)) (x y : List ℕ) → Appends a b x → Appends b c y → Appends a c (x ++ y)
 appended None b c x y first next = tt
 appended (Some a) None c x y first next = absurd first

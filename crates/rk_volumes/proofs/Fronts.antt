@@ -23,6 +23,7 @@ long_is n m fits fitm e = sym (from_be_bytes-to_be_bytes_8 n fits) ∙ ap (from_
 pub same_word : (n m : ℕ) (x y : List ℕ) → n < 2 ^ 32 → m < 2 ^ 32 → to_be_bytes w32 n ++ x ≡ to_be_bytes w32 m ++ y → (n ≡ m) × (x ≡ y)
 same_word n m x y fits fitm e = let both = same_front (to_be_bytes w32 n) (to_be_bytes w32 m) x y refl e in (word_is n m fits fitm both.0, both.1)
 
+-- numbers of eight bytes at the front are equal where the bytes are, and so is the rest
 pub same_long : (n m : ℕ) (x y : List ℕ) → n < 2 ^ 64 → m < 2 ^ 64 → to_be_bytes w64 n ++ x ≡ to_be_bytes w64 m ++ y → (n ≡ m) × (x ≡ y)
 same_long n m x y fits fitm e = let both = same_front (to_be_bytes w64 n) (to_be_bytes w64 m) x y refl e in (long_is n m fits fitm both.0, both.1)
 
@@ -58,11 +59,13 @@ frame_read bytes rest n is enough =
 
 -- ---- numbers that were read
 
+-- bytes begin with the number of four bytes that is read from them
 pub word_read : (bytes : List ℕ) → IsBytes bytes → 4 ≤ length bytes → bytes ≡ to_be_bytes w32 (from_be_bytes w32 (take 4 bytes)) ++ drop 4 bytes
 word_read bytes fits long =
     let front = be_bytes_4 (take 4 bytes) (from_be_bytes w32 (take 4 bytes)) (omega (arith, length-take 4 bytes)) (IsBytes-take 4 bytes fits) refl in
     sym (ap (λ (h : List ℕ). h ++ drop 4 bytes) front ∙ take-append-drop 4 bytes)
 
+-- bytes begin with the number of eight bytes that is read from them
 pub long_read : (bytes : List ℕ) → IsBytes bytes → 8 ≤ length bytes → bytes ≡ to_be_bytes w64 (from_be_bytes w64 (take 8 bytes)) ++ drop 8 bytes
 long_read bytes fits long =
     let front = be_bytes_8 (take 8 bytes) (from_be_bytes w64 (take 8 bytes)) (omega (arith, length-take 8 bytes)) (IsBytes-take 8 bytes fits) refl in

@@ -38,6 +38,7 @@ use Rattle.rk_volumes.proofs.Fronts.{same_word}
 pub row_len : (r : Row) → length (row_bytes r) ≡ 6 + length r.rest
 row_len r = omega (arith, length-append (to_be_bytes w32 r.number) r.rest)
 
+-- equal lists have equal heads and equal rests
 pub second : (a b : ℕ) (x y : List ℕ) → a ∷ x ≡ b ∷ y → (a ≡ b) × (x ≡ y)
 second a b x y e = (cc, cc)
 
@@ -48,6 +49,7 @@ same_fields : (a b c x y z : ℕ) (r s : List ℕ) → a ≡ x → b ≡ y → c
 same_fields a b c x y z r s p q u v =
     ap (λ (k : ℕ). made k b c r) p ∙ ap (λ (k : ℕ). made x k c r) q ∙ ap (λ (k : ℕ). made x y k r) u ∙ ap (made x y z) v
 
+-- rows with the same bytes are equal
 pub same_row : (r s : Row) → IsWord r.number → IsWord s.number → row_bytes r ≡ row_bytes s → r ≡ s
 same_row r s fitr fits e =
     let one = second r.kind s.kind (r.how ∷ (to_be_bytes w32 r.number ++ r.rest)) (s.how ∷ (to_be_bytes w32 s.number ++ s.rest)) e in
@@ -55,6 +57,7 @@ same_row r s fitr fits e =
     let three = same_word r.number s.number r.rest s.rest fitr fits two.1 in
     same_fields r.kind r.how r.number s.kind s.how s.number r.rest s.rest one.0 two.0 three.0 three.1
 
+-- a serial fits four bytes
 pub serial_fits : (k : ℕ) → IsSerial k → IsWord k
 serial_fits k is = omega (arith, is.1)
 
@@ -62,6 +65,7 @@ session_fits : (s : SessionId) → IsSession s → IsWord (session_number s)
 session_fits (Client n) is = is
 session_fits (Handler k) is = serial_fits k is
 
+-- so does the number in the row of an event
 pub event_fits : (e : Event) → IsEvent e → IsWord (event_row e).number
 event_fits (event.Opened s) is = session_fits s is
 event_fits (event.Asked s a) is = session_fits s is.0
@@ -73,6 +77,7 @@ event_fits (event.Gone s) is = session_fits s is
 zero_fits : IsWord 0
 zero_fits = omega arith
 
+-- so does the number in the row of an answer
 pub answer_fits : (a : Answer) → IsAnswer a → IsWord (answer_row a).number
 answer_fits (answer.Done r) is = zero_fits
 answer_fits (answer.Start k s) is = serial_fits k is.0
@@ -242,21 +247,27 @@ subject key op typ desc callout uid gid thread process session = record {
   session = session;
 }
 
+-- the names of a subject, as the body of a REQUEST
 abbrev pub names_bytes : Subject → List ℕ
 names_bytes s = spelling (ask_message (request_of s))
 
+-- a subject's bytes from its session ring on
 abbrev pub from_session : Subject → List ℕ
 from_session s = to_be_bytes w32 s.session ++ names_bytes s
 
+-- from its process ring on
 abbrev pub from_process : Subject → List ℕ
 from_process s = to_be_bytes w32 s.process ++ from_session s
 
+-- from its thread ring on
 abbrev pub from_thread : Subject → List ℕ
 from_thread s = to_be_bytes w32 s.thread ++ from_process s
 
+-- from its gid on
 abbrev pub from_gid : Subject → List ℕ
 from_gid s = to_be_bytes w32 s.gid ++ from_thread s
 
+-- from its uid on
 abbrev pub from_uid : Subject → List ℕ
 from_uid s = to_be_bytes w32 s.uid ++ from_gid s
 

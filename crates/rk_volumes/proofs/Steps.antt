@@ -12,9 +12,11 @@ use Rattle.rk_volumes.specs.Reading.{HasNoEvent, HasNoAnswer}
 use Rattle.rk_volumes.proofs.Fronts.{same_long, same_frame, too_short}
 use Rattle.rk_volumes.proofs.Rows.{same_row, event_fits, answer_fits, same_event, same_answer}
 
+-- the event of a step, behind its length
 abbrev pub event_frame : Recorded → List ℕ
 event_frame s = frame (row_bytes (event_row s.event))
 
+-- the answer of a step, behind its length
 abbrev pub answer_frame : Recorded → List ℕ
 answer_frame s = frame (row_bytes (answer_row s.answer))
 
@@ -48,6 +50,7 @@ same_step s t x y is other eq =
 
 -- ---- no step at the front
 
+-- fewer than eight bytes begin with no step
 pub no_moment : (bytes : List ℕ) → length bytes < 8 → HasNoStep bytes
 no_moment bytes short s more is eq =
     too_short bytes (to_be_bytes w64 s.now) (event_frame s ++ (answer_frame s ++ more)) 8 short refl (eq ∙ in_parts s more)
@@ -55,11 +58,13 @@ no_moment bytes short s more is eq =
 abbrev HasNoFrame : List ℕ → Type 0
 HasNoFrame bytes = (body more : List ℕ) → length body < 2 ^ 32 → bytes ≢ frame body ++ more
 
+-- nor do a moment and then bytes that begin with no row
 pub no_event_frame : (bytes rest : List ℕ) (now : ℕ) → now < 2 ^ 64 → bytes ≡ to_be_bytes w64 now ++ rest → HasNoFrame rest → HasNoStep bytes
 no_event_frame bytes rest now fits is none s more step eq =
     let first = same_long now s.now rest (event_frame s ++ (answer_frame s ++ more)) fits step.now (sym is ∙ eq ∙ in_parts s more) in
     none (row_bytes (event_row s.event)) (answer_frame s ++ more) step.event_told first.1
 
+-- nor do a moment and a row that is no event
 pub no_event_there : (bytes rest body left : List ℕ) (now : ℕ) → now < 2 ^ 64 → length body < 2 ^ 32 → bytes ≡ to_be_bytes w64 now ++ rest
     → rest ≡ frame body ++ left
     → HasNoEvent body → HasNoStep bytes
@@ -68,6 +73,7 @@ no_event_there bytes rest body left now fits short is framed none s more step eq
     let event = same_frame body (row_bytes (event_row s.event)) left (answer_frame s ++ more) short step.event_told (sym framed ∙ first.1) in
     none s.event step.event event.0
 
+-- nor do a moment, an event and then bytes that begin with no row
 pub no_answer_frame : (bytes rest body left : List ℕ) (now : ℕ) → now < 2 ^ 64 → length body < 2 ^ 32 → bytes ≡ to_be_bytes w64 now ++ rest
     → rest ≡ frame body ++ left
     → HasNoFrame left → HasNoStep bytes
@@ -76,6 +82,7 @@ no_answer_frame bytes rest body left now fits short is framed none s more step e
     let event = same_frame body (row_bytes (event_row s.event)) left (answer_frame s ++ more) short step.event_told (sym framed ∙ first.1) in
     none (row_bytes (answer_row s.answer)) more step.answer_told event.1
 
+-- nor do a moment, an event and a row that is no answer
 pub no_answer_there : (bytes rest body left answer more-left : List ℕ) (now : ℕ) → now < 2 ^ 64 → length body < 2 ^ 32 → length answer < 2 ^ 32
     → bytes ≡ to_be_bytes w64 now ++ rest → rest ≡ frame body ++ left → left ≡ frame answer ++ more-left → HasNoAnswer answer → HasNoStep bytes
 no_answer_there bytes rest body left answer more-left now fits short small is framed behind none s more step eq =

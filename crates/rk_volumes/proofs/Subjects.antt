@@ -59,6 +59,7 @@ pub record AreWords (k u g t p s : ℕ) : Type 0 where
   pub process : IsWord p
   pub session : IsWord s
 
+-- six numbers that fit four bytes each
 pub words_of : (k u g t p s : ℕ) → IsWord k × IsWord u × IsWord g × IsWord t × IsWord p × IsWord s → AreWords k u g t p s
 words_of k u g t p s is = record { key = is.0; uid = is.1; gid = is.2; thread = is.3; process = is.4; session = is.5 }
 
@@ -84,6 +85,7 @@ no_subject_key bytes rest key uid gid thread process session fits is none s subj
     let parts = parts_of bytes rest key uid gid thread process session fits is s subject e in
     no_serial key none (omega (arith, subject.key.0, parts.0), omega (arith, subject.key.1, parts.0))
 
+-- six numbers and then bytes that spell no request are no subject
 pub no_subject_ask : (bytes rest : List ℕ) (key uid gid thread process session : ℕ) → AreWords key uid gid thread process session
     → bytes ≡ numbers key uid gid thread process session rest → ((a : Ask) → IsAsk a → rest ≢ spelling (ask_message a))
     → (s : Subject) → IsSubject s → bytes ≢ subject_bytes s
@@ -91,6 +93,7 @@ no_subject_ask bytes rest key uid gid thread process session fits is none s subj
     let parts = parts_of bytes rest key uid gid thread process session fits is s subject e in
     none (request_of s) subject.names parts.1
 
+-- nor are six numbers and a request other than one with a callout and destination 0
 pub no_subject_names : (bytes rest : List ℕ) (key uid gid thread process session : ℕ) (a : Ask) → AreWords key uid gid thread process session
     → bytes ≡ numbers key uid gid thread process session rest → IsAsk a → rest ≡ spelling (ask_message a)
     → ((typ description callout : List ℕ) → a ≢ ask.Request typ description (Some callout) (pos 0)) → (s : Subject) → IsSubject s → bytes ≢ subject_bytes s

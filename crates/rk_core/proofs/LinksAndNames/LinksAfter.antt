@@ -13,9 +13,11 @@ use Rattle.rk_rings.specs.Ring.{Ring, is_linked, has_link, with_link, without_li
 use Rattle.rk_rings.proofs.Finds.{any_value, some_entry, entry_found}
 use Rattle.rk_machine.proofs.Found.InMaps.{get_changed_at, get_removed}
 
+-- the live rings, by their serials
 abbrev pub Rings : Type 0
 Rings = map.FinMap nat_cmp Ring
 
+-- whether the key is linked in the ring; in none it is not
 abbrev pub has_key : ℕ → Option Ring → Bool
 has_key k o = option_map_or (λ (r : Ring). set.contains r.keys k) o false
 

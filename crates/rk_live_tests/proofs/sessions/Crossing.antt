@@ -28,9 +28,11 @@ fuse_sync = search (sendable, crosses) depth 40 fits 20000
 part_sync : (ℓ : NamedLft) → IsSync (part.the_field ℓ).row
 part_sync ℓ = let c = cut_sync in let s = served_sync in search (sendable, crosses) depth 40 fits 20000
 
+-- threads may share a scene
 pub scene_sync : (ℓ : NamedLft) → IsSync (scene.the_row ℓ)
 scene_sync ℓ = let p = part_sync ℓ in let o = program_sync in let f = fuse_sync in search (sendable, crosses) depth 40 fits 20000
 
+-- what is left of a thread may go to another one
 pub left_send : (N : RattleType) (g : names.Ghosts N.Denot) → IsSend N → IsSend (left.the_row N g)
 left_send N g n =
     let r = receipt_send in

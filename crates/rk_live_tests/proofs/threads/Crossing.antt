@@ -14,15 +14,18 @@ use Rattle.rk_hall.proofs.Crossing.{answer_send, book_send, recorded_send, reply
 use Rattle.rk_live_tests.specs.contracts.fakes.turns.Turns as turns
 use Rattle.rk_live_tests.specs.contracts.threads.caller.Caller as caller
 
+-- threads may share the allocator
 pub global_sync : IsSync global.the_row
 global_sync = search (sendable, crosses) depth 40 fits 20000
 
+-- threads may share the turns of a scene
 pub turns_sync : IsSync turns.the_row
 turns_sync = search (sendable, crosses) depth 40 fits 20000
 
 told_send : IsSend told.the_row
 told_send = let k = shared_send in search (sendable, crosses) depth 120 fits 20000
 
+-- a receipt may go to another thread
 pub receipt_send : IsSend receipt.the_row
 receipt_send =
     let k = shared_send in

@@ -34,6 +34,7 @@ use Rattle.rk_machine.proofs.Found.InMaps.{get_inserted, get_removed, get_change
 abbrev authority_in : Option Construction → Option Authority
 authority_in o = option_and_then (λ c. c.authority) o
 
+-- the construction has an authority that is not spent
 abbrev pub is_unspent : World → ℕ → Bool
 is_unspent w k = is_some (unspent w.sessions k)
 

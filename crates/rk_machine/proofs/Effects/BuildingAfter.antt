@@ -15,12 +15,15 @@ use Rattle.rk_machine.specs.World.{World}
 use Rattle.rk_machine.proofs.Found.InMaps.{get_inserted, get_changed_at, get_kept_where}
 use Rattle.rk_machine.proofs.Effects.KindsOfStep.{is_final, IsMild}
 
+-- the key is there and under construction
 abbrev pub built_at : map.FinMap nat_cmp Key → ℕ → Bool
 built_at keys k = key_passes keys k is_building
 
+-- the same, of the keys of a world
 abbrev pub is_built : World → ℕ → Bool
 is_built w k = built_at w.keys k
 
+-- the same, of what is found of a key
 abbrev pub built_in : Option Key → Bool
 built_in o = unwrap_or (option_map is_building o) false
 

@@ -59,6 +59,7 @@ use Rattle.rk_machine.proofs.Effects.WaitsAreTheWorlds.{after, step, tied, IdleF
 
 -- ---- clients
 
+-- a client of this number is there
 abbrev pub is_client : Sessions → ℕ → Bool
 is_client a n = map.contains_key a.clients n
 
@@ -100,6 +101,7 @@ went_in : (b : Bool) (o : Option Session) → is_some (cond b None o) ≡ (not b
 went_in true o = refl
 went_in false o = refl
 
+-- whether the client is there after a step, by whether it was before
 abbrev pub client_after : ℕ → Event → Answer → Bool → Bool
 client_after n (Opened (Client m)) a b = (is_done a && nat_eq m n) || b
 client_after n (Gone (Client m)) a b = not (is_done a && nat_eq m n) && b

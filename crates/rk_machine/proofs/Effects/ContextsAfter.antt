@@ -20,6 +20,7 @@ use Rattle.rk_machine.proofs.Found.InMaps.{get_inserted, get_removed, get_change
 abbrev context_in : Option Session → Option Context
 context_in o = option_and_then (λ one. one.context) o
 
+-- the context of a client that is there and has one
 abbrev pub context_at : Sessions → ℕ → Option Context
 context_at a n = context_in (map.get a.clients n)
 

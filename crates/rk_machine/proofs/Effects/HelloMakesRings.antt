@@ -159,6 +159,7 @@ module _ (c : Context) where
   user_made uid old new ring (inl h) s = unmoved c old new h.3 s
   user_made uid old new ring (inr h) s = one_made c kind.User uid old new ring h.1 s (inl refl)
 
+-- the context that a HELLO asks for, with these rings
 abbrev pub greeted_as : Greeting → Option ℕ → Option ℕ → ℕ → ℕ → Context
 greeted_as g thread process session user = record { uid = g.uid; gid = g.gid; thread = thread; process = process; session = session; user = user }
 

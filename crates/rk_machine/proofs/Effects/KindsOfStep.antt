@@ -101,6 +101,7 @@ pub record IsMild (f : Key → Key) : Type 0 where
   pub owner : (key : Key) → (f key).owner ≡ key.owner
   pub condition : (key : Key) → (f key).condition ≡ key.condition
 
+-- the authority of a construction that starts for this asker
 abbrev pub authority_for : Asker → List ℕ → List ℕ → ℕ → List ℕ → ℕ → Authority
 authority_for asker typ description now callout ring = new_authority (query asker typ description now) callout asker.depth ring
 

@@ -76,18 +76,23 @@ pub record IsCalm (e : Event) (a : Answer) : Type 0 where
   pub hello : (n : ℕ) → hello_in n e a ≡ None
   pub gone : (n : ℕ) → (is_done a && goes e (Client n)) ≡ false
 
+-- the step starts no construction
 abbrev pub NoStart : Event → Answer → Type 0
 NoStart e a = (k : ℕ) → starter_in k e a ≡ None
 
+-- each ring is there or not as before, and of the same kind
 abbrev pub SameRings : World → World → Type 0
 SameRings old new = (r : ℕ) → kind_at new r ≡ kind_at old r
 
+-- each client has the context that it had
 abbrev pub SameContexts : World → World → Type 0
 SameContexts old new = (n : ℕ) → context_at new.sessions n ≡ context_at old.sessions n
 
+-- each authority that is unspent now was so before
 abbrev pub NoNewAuthority : World → World → Type 0
 NoNewAuthority old new = (k : ℕ) (one : Authority) → unspent new.sessions k ≡ Some one → unspent old.sessions k ≡ Some one
 
+-- what a step is to contexts, rings and authorities, in few cases
 pub data Move (old : World) (e : Event) (a : Answer) (new : World) : Type 0 where
   -- nothing of it
   rests : IsCalm e a → NoStart e a → SameRings old new → SameContexts old new → NoNewAuthority old new → Move old e a new

@@ -85,6 +85,7 @@ use Rattle.rk_machine.proofs.Effects.StagesAfter.{
 
 -- ---- what the laws test of a step
 
+-- what the laws ask of a step, for one construction
 pub record Tests : Type 0 where
   pub start : Bool
   pub negate : Bool
@@ -93,6 +94,7 @@ pub record Tests : Type 0 where
   pub completion : Bool
   pub assumed : Option ℤ  -- what the handler named in an ASSUME that was answered Number 0
 
+-- the answers to that, of a step and this key
 abbrev pub tests : ℕ → Event → Answer → Tests
 tests q e a =
     record {
@@ -105,6 +107,7 @@ tests q e a =
       assumed = assumed_at q e a;
     }
 
+-- a step that is none of these to the construction
 abbrev pub none_of : Tests
 none_of = record { start = false; negate = false; launch = false; ending = false; completion = false; assumed = None }
 
@@ -176,6 +179,7 @@ no_completion q s x e a is co st idle = ap (λ (y : Event). tests q y a) is ∙ 
 
 -- ---- a turn of one construction
 
+-- what a step is to the construction of q, in few cases: from its shape before to that after
 pub data Turn (q : ℕ) (drawn drawn_after : Bool) (its_own : Type 0) (t : Tests) (o n : Option Shape) : Type 0 where
   quiet : t ≡ none_of → n ≡ o → Turn q drawn drawn_after its_own t o n
   starts : drawn ≡ false → drawn_after ≡ true → t ≡ record { start = true; negate = false; launch = false; ending = false; completion = false; assumed = None }
@@ -203,6 +207,7 @@ IsOwnAsk q e = (a : Ask) × (e ≡ Asked (Handler q) a)
 abbrev pub Good : ℕ → Option Shape → Type 0
 Good q o = (x : Shape) (k : ℕ) → o ≡ Some x → x.assumed ≡ Some k → (k ≡ q) × (x.unspent ≡ true) × (x.starting ≡ false)
 
+-- the same, of all constructions
 abbrev pub Goods : Sessions → Type 0
 Goods a = (q : ℕ) → Good q (shape_of a q)
 

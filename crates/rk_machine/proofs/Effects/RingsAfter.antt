@@ -19,6 +19,7 @@ kind_in o = option_map (λ r. r.kind) o
 abbrev pub kind_of : map.FinMap nat_cmp Ring → ℕ → Option RingKind
 kind_of rings r = kind_in (map.get rings r)
 
+-- the kind of a ring of the world, if it is there
 abbrev pub kind_at : World → ℕ → Option RingKind
 kind_at w r = kind_of w.rings r
 

@@ -46,9 +46,11 @@ is_first (Plain s) = false
 is_first Piped = true
 is_first Negating = false
 
+-- what the laws of one construction need to know of it
 abbrev pub shape : Construction → Shape
 shape c = record { starting = is_to_launch (Some c.stage); first = is_first c.stage; unspent = is_some c.authority; assumed = assumed_in c.stage }
 
+-- the shape of the construction of k, if there is one
 abbrev pub shape_of : Sessions → ℕ → Option Shape
 shape_of a k = option_map shape (map.get a.constructions k)
 
@@ -140,6 +142,7 @@ shape_assumed k o a q s is =
 
 -- ---- changes of it
 
+-- the same once its authority is spent
 abbrev pub as_spent : Shape → Shape
 as_spent s = record s { unspent = false; assumed = None }
 

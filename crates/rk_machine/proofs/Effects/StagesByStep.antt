@@ -73,21 +73,25 @@ use Rattle.rk_machine.proofs.Effects.HelloChanges.{greeted_sessions}
 
 -- ---- constructions, by their stages
 
+-- how far a construction is
 pub data Kind : Type 0 where
   to_start : Kind  -- its handler is to be started
   talks : Kind  -- a plain handler runs
   pipes : Kind  -- a piped one runs
   to_follow : Kind  -- a piped one failed, and another is to be started
 
+-- the kind of a stage
 abbrev pub kind : Stage → Kind
 kind Starting = to_start
 kind (Plain s) = talks
 kind Piped = pipes
 kind Negating = to_follow
 
+-- the same, of what is found of a construction
 abbrev pub kind_in : Option Construction → Option Kind
 kind_in o = option_map (λ c. kind c.stage) o
 
+-- the kind of the construction of k, if there is one
 abbrev pub kind_of : Sessions → ℕ → Option Kind
 kind_of a k = kind_in (map.get a.constructions k)
 
@@ -107,6 +111,7 @@ is_first_due (Some pipes) = false
 is_first_due (Some to_follow) = false
 is_first_due None = false
 
+-- the kind that a launch with this result may meet
 abbrev pub may_find : Ran → Option Kind → Bool
 may_find ran.Plain o = is_due o
 may_find ran.Piped o = is_first_due o
@@ -214,6 +219,7 @@ launched_kind ran.Plain = Some talks
 launched_kind ran.Piped = Some pipes
 launched_kind ran.Failed = None
 
+-- the kind of the construction of q after a step, by the one before
 abbrev pub kind_after : ℕ → Event → Answer → Option Kind → Option Kind
 kind_after q (Asked s x) (Start k subject) o = cond (nat_eq k q) (Some to_start) o
 kind_after q (Launched k r) a o = cond (is_done a && nat_eq k q) (launched_kind r) o

@@ -70,6 +70,7 @@ use Rattle.rk_machine.proofs.Effects.StagesByStep.{
   kinds,
 }
 
+-- a serial that was never drawn has no construction
 abbrev pub IsIdle : World → Type 0
 IsIdle w = (k : ℕ) → is_drawn w k ≡ false → kind_of w.sessions k ≡ None
 

@@ -54,9 +54,11 @@ flag w = (w.key, w.starter)
 abbrev wait_in : Option Session → Option Wait
 wait_in o = option_and_then (λ one. one.wait) o
 
+-- the key for which a session waits, and whether as its starter
 abbrev pub flag_in : Option Session → Option (ℕ × Bool)
 flag_in o = option_map flag (wait_in o)
 
+-- the same, of a session of the world
 abbrev pub flag_of : Sessions → SessionId → Option (ℕ × Bool)
 flag_of a s = flag_in (session_of a s)
 

@@ -80,6 +80,7 @@ use Rattle.rk_machine.proofs.Effects.WaitsAfter.{
   flag_went,
 }
 
+-- a step of the past
 abbrev pub step : ℕ → Event → Answer → Past
 step now e a = record { now = now; event = e; answer = a }
 

@@ -27,9 +27,11 @@ use Rattle.rk_machine.proofs.Found.Options.{none_some, some_same}
 
 -- ---- rings of a context, as HELLO was answered
 
+-- the ring is among those that the root's HELLO was answered
 abbrev pub has_ring : Root → ℕ → Bool
 has_ring root ring = is_one_of ring (root.thread ∷ root.process ∷ root.session ∷ [])
 
+-- the ring is among those of a context, if there is one
 abbrev pub holds_in : Option Context → ℕ → Bool
 holds_in o ring = option_map_or (λ c. has_ring (root_in c) ring) o false
 

@@ -31,6 +31,7 @@ Share c d r = ((c.thread ≡ Some r) × (d.thread ≡ Some r)) ⊎ ((c.process �
 abbrev pub IsHeld : World → ℕ → RingKind → Type 0
 IsHeld w r k = (n : ℕ) × (c : Context) × (context_at w.sessions n ≡ Some c) × Has c r k
 
+-- whose the rings are: those of a context live, in their kinds; no two clients have one thread or process ring; and each ring but a user ring is somebody's
 pub record Held (w : World) : Type 0 where
   pub sound : Sound w
   pub lives : (n : ℕ) (c : Context) → context_at w.sessions n ≡ Some c → (r : ℕ) (k : RingKind) → Has c r k → kind_at w r ≡ Some k

@@ -90,6 +90,7 @@ in_all q p (s ∷ before) h = by_test (is_negate q s) (λ g. in_all q p before g
 
 -- ---- what the past of a construction is, by how far it is
 
+-- the past of the construction of q agrees with how far it is in the world
 pub record Tied (q : ℕ) (past : List Past) (o : Option Shape) (drawn : Bool) : Type 0 where
   pub idle : drawn ≡ false → o ≡ None
   pub fresh : drawn ≡ false → never (is_start q) past × never (is_launch q) (since_negate q past) × never (is_completion q) past × never (is_ending q) past
@@ -357,6 +358,7 @@ goods_after old now e a new step good q =
 
 -- ---- every run
 
+-- what is known of a world and its past: that of each construction
 abbrev pub Knows : World → List Past → Type 0
 Knows w past = Goods w.sessions × ((q : ℕ) → Tied q past (shape_of w.sessions q) (is_drawn w q))
 

@@ -97,6 +97,7 @@ WaitsStay old new = (s : SessionId) (v : Wait) → wait_of new.sessions s ≡ So
 abbrev pub WaitsTold : ℕ → Outcome → World → World → Type 0
 WaitsTold k o old new = (s : SessionId) (v : Wait) → wait_of new.sessions s ≡ Some v → option_map (told_wait k o) (wait_of old.sessions s) ≡ Some v
 
+-- whether a step gives an outcome: to nobody, or to all who wait for one key
 pub data Telling (old new : World) : Type 0 where
   tells_none : ((k : ℕ) → Still old new k) → WaitsStay old new → Telling old new
   tells_all : (k : ℕ) (o : Outcome) → IsOutcome k (told_as o) → is_unspent old k ≡ true → is_unspent new k ≡ false → is_built new k ≡ false
