@@ -98,9 +98,8 @@ deb: $(addprefix $(BUILT)/,$(PROGRAMS)) $(IN_C)  ## Make a Debian package of the
 completion: $(addprefix $(BUILT)/,$(PROGRAMS)) $(BUILT)/reqkey-trap  ## Write packaging/completion/ anew, of what the programs say of themselves
 	@tools/completion.py $(BUILT) packaging/completion
 
-pictures:  ## Draw docs/pictures/ anew, of crates.txt and the tables of tools/picture.py, and bench/pictures/, of bench/README.md
+pictures:  ## Draw docs/pictures/ anew, of crates.txt and the tables of tools/picture.py
 	@tools/picture.py docs/pictures
-	@bench/run.py pictures
 
 # How long the soak takes.
 MINUTES = 10

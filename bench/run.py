@@ -14,7 +14,7 @@ hall     what a call costs behind a lock: `hall_bench` and bench/c/hall.c
 spawn    starts of programs: `spawn_bench` and bench/c/spawn.c
 serve    `reqkeyd serve` and bench/c/echo.c, both driven by bench/c/load.c over a socket; and, where they are installed, other services that look up
          one thing: redis-server, ssh-agent, the kernel's own keys, and the library of clients/keyutils
-pictures measures nothing: draws bench/pictures/ anew, of the tables of bench/README.md
+pictures measures nothing: draws the tables of bench/README.md, in FOLDER/readme/
 
 Where the project's program is not built, the peer is measured alone. What is measured is drawn in FOLDER/WHAT.svg, of the printed tables (build/bench/).
 
@@ -503,9 +503,12 @@ class Kept:
         self.shown.flush()
 
 
-def pictures():
+def pictures(options):
+    folder = options.folder / "readme"
+    folder.mkdir(parents=True, exist_ok=True)
     for name, text in figures.made().items():
-        (top / "bench" / "pictures" / name).write_text(text)
+        (folder / name).write_text(text)
+    print(f"run.py: {folder} is drawn", file=sys.stderr)
 
 
 def measured(what, options):
@@ -533,7 +536,7 @@ def main(words=None):
     try:
         for what in options.what:
             if what == "pictures":
-                pictures()
+                pictures(options)
             else:
                 measured(what, options)
     except (Wrong, costs.Failed, GaveUp) as wrong:

@@ -1,6 +1,6 @@
 #!/usr/bin/env python3
-"""Compares docs/pictures/ with what tools/picture.py draws, the states in it with those of the code, and its words with docs/MACHINE.md; and bench/pictures/
-with what bench/run.py draws of bench/README.md, and its bars with the figures of the tables there."""
+"""Compares docs/pictures/ with what tools/picture.py draws, the states in it with those of the code, and its words with docs/MACHINE.md; and the bars that
+bench/run.py draws of bench/README.md with the figures of the tables there."""
 import itertools
 import re
 import sys
@@ -65,9 +65,8 @@ def outside(drawn, drawing):
     return [it for it in drawn if not (0 <= it[0] and 0 <= it[1] and it[2] <= width and it[3] <= height)]
 
 
-def is_as_made(folder, made, shown):
-    """The files of a folder are those that are made, nothing in them is covered or cut, and a document shows each."""
-    count.same(f"files of {folder}", {path.name: path.read_text() for path in (top / folder).iterdir()}, made)
+def is_whole(made):
+    """Nothing in the pictures is covered or cut."""
     for name, text in made.items():
         drawing = xml.fromstring(text)
         drawn, words = boxes(drawing), list(text_boxes(drawing))
@@ -75,13 +74,15 @@ def is_as_made(folder, made, shown):
         count.same(f"boxes of {name} that meet", meetings(drawn), [])
         count.same(f"texts of {name} that meet", meetings(words), [])
         count.same(f"boxes and texts of {name} outside", outside(drawn + words, drawing), [])
-        count.same(f"where {name} is shown", f"(pictures/{name})" in shown[name], True)
 
 
 # ---- docs/pictures/
 
 made = picture.made()
-is_as_made("docs/pictures", made, {"crates.svg": architecture, "key.svg": machine, "construction.svg": machine})
+is_whole(made)
+count.same("files of docs/pictures", {path.name: path.read_text() for path in (top / "docs" / "pictures").iterdir()}, made)
+for name, document in {"crates.svg": architecture, "key.svg": machine, "construction.svg": machine}.items():
+    count.same(f"where {name} is shown", f"(pictures/{name})" in document, True)
 
 drawn = [it for it in texts(xml.fromstring(made["crates.svg"])) if it not in picture.LEGEND.values()]
 count.same("crates", sorted(drawn), sorted(set(crates.uses()) - picture.LEFT_OUT))
@@ -91,7 +92,7 @@ for table, path, name in [(picture.KEY, "rk_keys/src/key.rt", "Standing"), (pict
     count.same(f"words of {table.title} that are not in MACHINE.md", [it for it in sorted(words) if not re.search(rf"\b{it}\b", machine)], [])
 
 
-# ---- bench/pictures/
+# ---- the tables of bench/README.md
 
 
 def below(heads):
@@ -170,7 +171,7 @@ def on_wrong_side(drawing):
 
 
 made = figures.made()
-is_as_made("bench/pictures", made, dict.fromkeys(made, benches))
+is_whole(made)
 count.same("benches that are drawn", sorted(made), sorted(TOLD))
 for name, text in made.items():
     drawing = xml.fromstring(text)
