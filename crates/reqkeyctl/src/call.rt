@@ -34,7 +34,7 @@ pub struct Options<'a> {
 pub struct Call<'a> {
     /// What stands before the op.
     pub options: Options<'a>,
-    /// The op.
+    /// Which request is sent.
     pub op: Op,
     /// The words behind it.
     pub arguments: &'a [String],

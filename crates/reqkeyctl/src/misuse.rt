@@ -30,9 +30,9 @@ pub enum Leftover<'a> {
     /// A number with a sign.
     #[error("invalid value '{value}' for '{option} <N>': a number has digits alone")]
     Number {
-        /// The option.
+        /// The option, with its dashes.
         option: &'static str,
-        /// Its value.
+        /// The word that is no number up to its limit.
         value: &'a str,
     },
     /// A library that can't be preloaded.

@@ -13,7 +13,7 @@ use std::fmt;
 /// An invalid value, and why it is.
 #[derive(Clone, Copy, Debug)]
 pub struct Complaint<'a> {
-    /// The value.
+    /// The word as it was written, to be shown.
     value: &'a str,
     /// Which option or argument it is for.
     name: &'static str,

@@ -12,7 +12,7 @@ use std::alloc::AllocError;
 
 /// All that is made before a command is started.
 pub struct Prepared {
-    /// The command.
+    /// What is started: the path of the program, and its words.
     pub command: Command,
     /// The room for its output.
     pub room: Room,

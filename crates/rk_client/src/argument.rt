@@ -14,7 +14,7 @@ use rk_text::number;
 /// A word that stands for a number.
 #[derive(Clone, Copy, Debug, PartialEq, Eq)]
 pub struct Role {
-    /// The word.
+    /// The word on the command line.
     pub name: &'static str,
     /// The number on the wire.
     pub number: i32,

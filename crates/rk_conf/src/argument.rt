@@ -7,9 +7,9 @@ use rk_names::{Description, TypeName};
 /// The key whose payload an argument `%{type:description}` stands for.
 #[derive(Debug, Drop)]
 pub struct Wanted {
-    /// Its type.
+    /// The type, before the first colon.
     pub typ: TypeName,
-    /// Its description.
+    /// The description, after that colon.
     pub desc: Description,
 }
 

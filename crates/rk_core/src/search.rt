@@ -13,7 +13,7 @@ use rk_names::{Context, DescriptionView, KeyError, Moment, Serial, TypeView};
 /// The key of the name in a ring, and how it stands.
 #[derive(Clone, Copy, Debug)]
 pub struct Match {
-    /// The key.
+    /// The one key of that name in the ring.
     pub key: Serial,
     /// How it stands at the moment of the search.
     pub standing: Standing,

@@ -9,7 +9,7 @@ use std::alloc::{AllocError, Global};
 pub struct Wanted<'a> {
     /// The type of the key.
     pub typ: TypeView<'a>,
-    /// Its description.
+    /// Its description, to be equal byte by byte.
     pub description: DescriptionView<'a>,
     /// What its handler gets. Without it no handler is started.
     pub callout: Option<CalloutView<'a>>,
@@ -20,7 +20,7 @@ pub struct Wanted<'a> {
 pub struct Names {
     /// The type of the key.
     pub typ: TypeName,
-    /// Its description.
+    /// Its description, which the key keeps.
     pub description: Description,
     /// What its handler gets.
     pub callout: Callout,

@@ -18,7 +18,7 @@ const MOST: usize = 128;
 /// A handler that has ended, or was not started.
 #[derive(Clone, Copy)]
 pub struct End<'s, 'c> {
-    /// Its key.
+    /// The key that it was to make, by which the line names it.
     pub key: Serial,
     /// What it was started for, where that is still known.
     pub subject: Option<&'s Subject>,

@@ -26,7 +26,7 @@ impl Display for Running {
 /// How much there is at a moment.
 #[derive(Clone, Copy)]
 pub struct Figures {
-    /// The connections.
+    /// How many connections are open, those that wait for a worker too.
     pub connections: u32,
     /// How many of them a worker serves.
     pub served: u32,

@@ -26,9 +26,9 @@ const HANDLER: u64 = 32_767;
 /// logged, so that an operator learns why a request was answered that there is no key.
 #[derive(Drop)]
 pub struct Relief<'a, R, N: Names, S: Shelf> {
-    /// What makes the lines of the log.
+    /// Where memory for the lines of the log comes from.
     alloc: Global,
-    /// The log.
+    /// Where it warns of handlers.
     log: Reporter<'a, R>,
     /// The halls that are relieved.
     halls: &'a Halls<N>,

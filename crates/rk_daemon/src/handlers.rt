@@ -9,7 +9,7 @@ use std::sync::{Mutex, Wait};
 /// A handler that runs.
 #[derive(Clone, Copy, Debug, PartialEq, Eq)]
 pub struct Started {
-    /// Its key.
+    /// The key that it makes.
     pub key: Serial,
     /// When it was started, in seconds of the monotonic clock.
     pub since: u64,

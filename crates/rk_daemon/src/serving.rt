@@ -50,11 +50,11 @@ const READY: &[u8] = b"reqkeyd: ready\n";
 struct Opened {
     /// What was drawn at its start.
     drawn: Drawn,
-    /// The configuration.
+    /// The configuration, read once.
     conf: Conf,
     /// Where clients connect.
     listener: UnixListener,
-    /// The log.
+    /// How lines of the log look, and how many were written.
     log: LogState,
 }
 

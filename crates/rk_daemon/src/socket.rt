@@ -20,7 +20,7 @@ const ROOM: usize = 4_096;
 /// whether its client was silent for too long.
 #[derive(Drop)]
 pub struct Socket<'a> {
-    /// The connection.
+    /// The connection to the client.
     stream: UnixStream,
     /// Counts what the records hold.
     held: &'a Held,

@@ -102,7 +102,7 @@ pub struct Tallies {
     busy: Tally,
     /// Connections that can't be accepted.
     accept: Tally,
-    /// All else.
+    /// Volumes, and all that has no kind of its own.
     other: Tally,
 }
 

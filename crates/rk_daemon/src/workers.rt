@@ -36,16 +36,16 @@ use std::time::{Clock, Instant};
 pub struct Client {
     /// Which one, from 1.
     pub number: u32,
-    /// Its socket.
+    /// The socket over which it speaks.
     pub stream: UnixStream,
 }
 
 /// What all workers share.
 #[derive(Drop)]
 pub struct Shared<N: Names> {
-    /// The halls.
+    /// The four halls, each under a lock of its own.
     pub halls: Halls<N>,
-    /// The configuration.
+    /// The configuration, which nobody changes.
     pub conf: Conf,
     /// When the daemon has started.
     pub start: Instant,
@@ -55,7 +55,7 @@ pub struct Shared<N: Names> {
     pub held: Held,
     /// The handlers that run.
     pub handlers: Handlers,
-    /// The log.
+    /// How lines of the log look, and how many of each kind were written.
     pub log: LogState,
     /// The library that plain handlers preload.
     pub keyutils: Option<String>,

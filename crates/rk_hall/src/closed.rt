@@ -17,7 +17,7 @@ use std::sync::ledger::{Book, Share};
 /// Hall `H` out of its lock. Its share of the record is the turns of the seats that were given back and of those that were handed in.
 #[derive(Drop)]
 pub(crate) struct Closed<N: Names, const H: u64> {
-    /// The hall.
+    /// Its book and record, as the last turn left them.
     pub(crate) hall: Hall,
     /// The turns of the seats that were handed in.
     pub(crate) live: u64,
@@ -109,13 +109,13 @@ impl<N: Names, const H: u64> Closed<N, H> {
 /// All four halls.
 #[derive(Drop)]
 pub(crate) struct AllClosed<N: Names> {
-    /// Hall 0.
+    /// The hall of the uids that 4 divides.
     pub(crate) zero: Closed<N, 0>,
-    /// Hall 1.
+    /// That of the uids with the remainder 1.
     pub(crate) one: Closed<N, 1>,
-    /// Hall 2.
+    /// That of the uids with the remainder 2.
     pub(crate) two: Closed<N, 2>,
-    /// Hall 3.
+    /// That of the uids with the remainder 3.
     pub(crate) three: Closed<N, 3>,
 }
 

@@ -29,7 +29,7 @@ use std::sync::ledger::{Blank, Book, Share};
 /// other its constructions by the tickets that are out.
 #[derive(Drop)]
 pub(crate) struct Locked<N: Names, const H: u64> {
-    /// The hall.
+    /// Its book, with the record of its steps.
     pub(crate) hall: Hall,
     /// How many seats may still be made.
     pub(crate) left: u64,

@@ -66,9 +66,9 @@ impl Bucket {
 /// So many keys have the name.
 #[derive(Drop)]
 pub struct Recount<'a> {
-    /// The type.
+    /// The name's type, by which its entry is found.
     pub typ: &'a [u8],
-    /// The description.
+    /// The name's description, likewise.
     pub description: &'a [u8],
     /// How many keys have it now.
     pub keys: u32,
@@ -98,9 +98,9 @@ fn count_anew(names: &mut Vec<Named>, typ: &[u8], description: &[u8], keys: u32)
 /// No key has the name any more.
 #[derive(Drop)]
 pub struct Lose<'a> {
-    /// The type.
+    /// The name's type, by which its entry is found.
     pub typ: &'a [u8],
-    /// The description.
+    /// The name's description, likewise.
     pub description: &'a [u8],
 }
 

@@ -37,7 +37,7 @@ pub enum Standing {
     Revoked,
     /// Its expiry has come.
     Expired,
-    /// Under construction.
+    /// Its handler has not completed it, and has not ended.
     Building,
     /// Complete, with a payload that may be read.
     Positive,

@@ -6,7 +6,7 @@ use rk_names::{Description, NameNo, TypeName};
 pub struct Named {
     /// The type of the keys.
     pub typ: TypeName,
-    /// Their description.
+    /// Their description, in the bytes of the first of them.
     pub description: Description,
     /// The number that they share.
     pub number: NameNo,

@@ -27,6 +27,6 @@ pub enum Passed {
 pub struct Tried {
     /// How many children were out before.
     pub out: u64,
-    /// The command.
+    /// Its path and words, also if the start failed.
     pub command: Command,
 }

@@ -7,7 +7,7 @@ use std::marker::Model;
 /// The words of a command, in their order.
 #[derive(Debug, Drop)]
 pub struct Words {
-    /// The words.
+    /// Each is UTF-8 without a zero byte, as a program can get it.
     items: Vec<Word>,
 }
 

@@ -6,7 +6,7 @@ use rk_names::{Callout, Description, Serial, TypeName};
 /// What a command is to do with the key (request-key.conf(5), "op").
 #[derive(Clone, Copy, Debug, PartialEq, Eq)]
 pub enum Op {
-    /// Make it.
+    /// Make it: the first command of a construction.
     Create,
     /// Say that it cannot be made, after a piped command that was to make it failed.
     Negate,
@@ -38,9 +38,9 @@ pub struct Subject {
     pub key: Serial,
     /// What the command is to do with it.
     pub op: Op,
-    /// Its type.
+    /// The type of the key.
     pub typ: TypeName,
-    /// Its description.
+    /// The description of the key.
     pub desc: Description,
     /// What the requester passed to the handler.
     pub callout: Callout,

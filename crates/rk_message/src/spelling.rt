@@ -7,9 +7,9 @@ ghost use Rattle.rk_message.specs.Spellings.{field_bytes, all_bytes, IsTold, Are
 /// One field. A number has its highest byte first, a length has two bytes.
 #[derive(Clone, Copy)]
 pub enum Field<'a> {
-    /// One byte.
+    /// A number of one byte, or flags.
     Byte(u8),
-    /// Four bytes.
+    /// A number of four bytes, without a sign.
     Word(u32),
     /// Four bytes, in two's complement.
     Signed(i32),

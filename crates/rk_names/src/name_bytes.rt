@@ -42,7 +42,7 @@ impl NameBytes {
         })
     }
 
-    /// The bytes.
+    /// The bytes, wherever they lie.
     pub(crate) fn as_slice(&self) -> &[u8]
         ensures { result.now ≡ self.now }
     {

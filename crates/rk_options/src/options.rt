@@ -8,7 +8,7 @@ use rk_text::number;
 /// Words that are to say options, and the names of those that are flags.
 #[derive(Clone, Copy, Debug)]
 pub struct Options<'a> {
-    /// The words.
+    /// Names and values, as `--uid 5` or `--uid=5`.
     pub words: &'a [String],
     /// The names of the options that have no value.
     pub flags: &'a [&'a str],

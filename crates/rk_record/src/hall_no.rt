@@ -9,11 +9,11 @@ use rk_names::Serial;
 pub enum HallNo {
     /// Hall 0, in which clients are opened.
     Zero,
-    /// Hall 1.
+    /// Hall 1, of the uids with the remainder 1 by 4.
     One,
-    /// Hall 2.
+    /// Hall 2, of those with the remainder 2.
     Two,
-    /// Hall 3.
+    /// Hall 3, of those with the remainder 3.
     Three,
 }
 

@@ -54,7 +54,7 @@ impl Journal {
         }
     }
 
-    /// The steps.
+    /// The steps that were recorded, oldest first.
     pub(crate) fn steps(&self) -> &[Recorded]
         ensures { result.now ≡ self.now.steps }
     {

@@ -7,7 +7,7 @@ use rk_names::Moment;
 pub struct Recorded {
     /// The moment at which it was taken.
     pub now: Moment,
-    /// What happened.
+    /// What happened, with names and payloads of its own.
     pub event: Event,
     /// What was answered; never out of memory.
     pub answer: Answer,

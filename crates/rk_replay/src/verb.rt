@@ -41,7 +41,7 @@ pub enum Verb {
     Gone,
     /// A handler's start succeeded.
     Started,
-    /// It failed.
+    /// A handler's start failed.
     Unstarted,
     /// Bytes come from a handler.
     Out,

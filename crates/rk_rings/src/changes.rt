@@ -9,7 +9,7 @@ use rk_table::{ChangeOnce, Test};
 /// Links a key, where it is linked already or there is room for its name.
 #[derive(Clone, Copy)]
 pub struct Link {
-    /// The key.
+    /// The key that gets a link.
     pub key: Serial,
     /// The number of the key's name.
     pub name: NameNo,

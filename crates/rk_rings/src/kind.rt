@@ -17,7 +17,7 @@ pub enum RingKind {
 /// A ring to be made, under a serial that no other ring has.
 #[derive(Clone, Copy, Debug, PartialEq, Eq)]
 pub struct NewRing {
-    /// Its serial.
+    /// The serial by which it is found.
     pub serial: Serial,
     /// What it is for.
     pub kind: RingKind,

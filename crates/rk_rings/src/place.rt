@@ -6,7 +6,7 @@ use rk_names::Serial;
 /// A ring as an ask names it: 0 for none, a special number, or a serial (keyctl(2), "Key serial numbers"; keyrings(7), "Possession").
 #[derive(Clone, Copy, Debug, PartialEq, Eq)]
 pub enum Place {
-    /// 0.
+    /// 0: no ring.
     Nowhere,
     /// -1, `KEY_SPEC_THREAD_KEYRING`.
     Thread,

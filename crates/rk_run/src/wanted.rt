@@ -21,9 +21,9 @@ pub struct Wanted<'a> {
     pub library: Option<&'a str>,
     /// Whether `reqkey-trap` starts the program, and no library is preloaded.
     pub trap: bool,
-    /// The program.
+    /// The program, by its path, or by a name that is looked for in `PATH`.
     pub program: &'a str,
-    /// Its words.
+    /// What it is started with, its name not among them.
     pub words: &'a [String],
 }
 

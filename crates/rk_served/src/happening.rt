@@ -9,7 +9,7 @@ use rk_names::{Serial, SessionId};
 /// What became of a command that was to be started.
 #[derive(Clone, Copy, Debug, PartialEq, Eq)]
 pub enum StartResult {
-    /// It runs.
+    /// The program runs.
     Started,
     /// It could not be started.
     Failed,

@@ -11,7 +11,7 @@ use std::marker::Model;
 /// What a stream has next.
 #[derive(Debug, Drop)]
 pub enum Message {
-    /// An ask.
+    /// A whole body that spells an ask.
     Asks(Ask),
     /// An invalid body, by the error that it is answered.
     Refused(Errno),

@@ -16,7 +16,7 @@ use rk_talk::{Caller, Platform, Saying, Stage, open_in, refused};
 /// Where a client stands, and whether it has a context there.
 #[derive(Clone, Copy, Debug, PartialEq, Eq)]
 pub struct Place {
-    /// Its hall.
+    /// The hall in which its calls are made: hall 0 before HELLO, and then that of its uid.
     pub hall: HallNo,
     /// It has said HELLO, and that was done.
     pub greeted: bool,

@@ -14,7 +14,7 @@ use rk_wait::await_outcome;
 pub enum Saying {
     /// What this receipt's answer says.
     Noted(Receipt),
-    /// This errno.
+    /// This error, without a receipt: the body is invalid, or the call was refused.
     Short(Errno),
     /// Nothing: the session is at its end.
     Behind,

@@ -39,7 +39,7 @@ pub struct Stage<'a, P: Platform> {
     pub rt: &'a P::Runtime,
     /// Where memory comes from.
     pub alloc: Global,
-    /// The halls.
+    /// The four halls, in which all calls are made.
     pub halls: &'a Halls<P::Names>,
     /// Which command makes which key.
     pub conf: &'a Conf,
@@ -51,9 +51,9 @@ pub struct Stage<'a, P: Platform> {
 
 /// Who makes calls: its seat in the halls, and the clock by which it makes them.
 pub struct Caller<P: Platform> {
-    /// Its seat.
+    /// Counts its turns in each hall, and what it has seen there.
     pub seat: Seat<P::Names>,
-    /// Its clock.
+    /// Gives each call its moment.
     pub clock: P::Clock,
 }
 

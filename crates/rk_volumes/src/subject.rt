@@ -20,7 +20,7 @@ struct Party {
     key: u32,
     /// The user of whoever requests it.
     uid: u32,
-    /// The group.
+    /// The group of that user.
     gid: u32,
     /// The thread ring, 0 for none.
     thread: u32,

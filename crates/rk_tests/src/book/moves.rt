@@ -11,14 +11,14 @@ use std::alloc::{AllocError, Global};
 pub struct Line {
     /// Its moment, where it has one.
     pub moment: Option<Moment>,
-    /// What happens.
+    /// The event, or what is asked of the book.
     pub told: Move,
 }
 
 /// What a line says.
 #[derive(Drop)]
 pub enum Move {
-    /// This happens.
+    /// This event is one step of the book.
     Step(Event),
     /// May the session collect?
     Ready(SessionId),
