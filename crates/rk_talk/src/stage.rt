@@ -25,7 +25,7 @@ pub trait Platform {
     /// Tells the time.
     type Clock: Clock;
 
-    /// Is told what happens.
+    /// Learns of starts, ends and replies, and may hold a thread there.
     type Gate: Gate;
 
     /// Takes the volumes of full records.
@@ -35,7 +35,7 @@ pub trait Platform {
 /// What workers share.
 #[derive(Drop)]
 pub struct Stage<'a, P: Platform> {
-    /// What may wait.
+    /// The host, by which a thread may wait for a lock or an outcome.
     pub rt: &'a P::Runtime,
     /// Where memory comes from.
     pub alloc: Global,
@@ -43,7 +43,7 @@ pub struct Stage<'a, P: Platform> {
     pub halls: &'a Halls<P::Names>,
     /// Which command makes which key.
     pub conf: &'a Conf,
-    /// Is told what happens.
+    /// Learns of starts, ends and replies, and may hold a thread there.
     pub gate: &'a P::Gate,
     /// Takes the volumes of full records.
     pub shelf: &'a P::Shelf,
