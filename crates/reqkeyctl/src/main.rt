@@ -11,6 +11,7 @@
 //! `call` reads the words, `source` a file whose bytes stand for an argument, `asking` makes the ask of both; the library `rk_client` has what is
 //! said and heard. `daemon` is who is asked at a socket, and `sockets` how the system reaches it. `search` names the commands that look for keys, `survey`
 //! reads their words, `searching` is what they say to the daemon, and `looking` prints what is found. `running` runs a program, by the library `rk_run`.
+//! `around` says what the environment and the streams lead to. `telling` prints replies, and `trouble` says in words what stood in the way.
 //! `help` shows the manual to words that ask for it, and says what is wrong with words that can't be read, by `manual` and `misuse`. All that it does is one
 //! call, [`run::run_words`], over words, `streams`, a host and a daemon that are passed in.
 #![tactic(auto)]

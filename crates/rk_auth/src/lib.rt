@@ -21,6 +21,8 @@
 //!
 //! # How it is built
 //!
+//! `auths` has the calls, `session` and `construction` what is known of one, `fault` the refusals.
+//!
 //! One slab has a slot for each client and each construction (`slot`), the plain handler's session inside its construction's stage. A launch needs
 //! no room, and an ending is one removal. `places` is the slab as a finite map; the 64 clients' places are made by `new`, a construction's by
 //! `reserve`. `seats` finds a slot by the client's number or the key, and compares that with what stands there. A slot that is used again is never

@@ -30,7 +30,7 @@
 //! body moves no byte. What is left moves to the front of the buffer at `More`, which is once at most
 //! for each byte. It also moves where `feed` would have to grow the buffer though at least half of it
 //! has been handed out. So the work is in proportion to the bytes, for pieces of one byte too. `buffer`
-//! has that move, `front` reads the length at the front, `answer` and `fault` have what `next` answers.
+//! has that move, `front` reads the length at the front, `answer` and `fault` have what `next` answers, and `law` the one law.
 //!
 //! `specs/Framing.antt` says what a frame is and what the bodies of a stream are, `specs/Calls.antt`
 //! what one call does. The contracts of `feed` and `next` cite one relation, and [`any_cutting`]

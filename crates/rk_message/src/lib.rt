@@ -31,6 +31,8 @@
 //!
 //! # How it is built
 //!
+//! `ask` and `reply` are the messages, `greeting` what HELLO says, and `fault` why a body has no reading.
+//!
 //! The format stands once, as a table of first bytes and kinds of fields, in `specs/Table.antt`; the code's table of asks, in
 //! `shape`, is proved to be that one. Asks are read and written field by field, and each is proved to go along its line of the
 //! table. `ask_reading` reads a view of the body, `ask_writing` writes a view of the ask. `field` reads one field from the front

@@ -15,7 +15,7 @@
 //!
 //! # How it is built
 //!
-//! `numbers`, `names` and `preview` read the words, over the options of `rk_options`. `telling` picks and expands, `text` writes, `fault` says in words what
+//! `numbers`, `names` and `preview` read the words, over the options of `rk_options`. `telling` picks and expands, `text` writes, and `reading` has the law that it can be read back. `fault` says in words what
 //! is wrong, and `doubts` finds what is allowed and hardly meant.
 #![tactic(auto)]
 

@@ -18,6 +18,8 @@
 //!
 //! # How it is built
 //!
+//! `happening` has what happens to a replay, `output` what it outputs, over `bytes` that a contract sees, and `fault` what is refused.
+//!
 //! `stream` cuts frames and reads asks. A peer is a client, or a construction with its handler; `peer` and `peers` say who is there.
 //! `command` makes the words of a command, `replies` makes frames of answers. `server` is the machine with the peers, and moves
 //! sessions; `acting` takes the own step of a happening, and `replay` is what the crates above see. `queue` knows who may move, and who waits for
