@@ -19,9 +19,9 @@
 //!
 //! # How it is built
 //!
-//! `rk_text` cuts a text into lines and a line into fields. `borrowed_argument` reads one argument and `fields` one line on
-//! the borrowed bytes; both take no memory. `program` has the rules of what stands after the patterns, `fault` what a refusal says. `argument`, `arguments`, `line` and `word` are the values that are kept. `conf`
-//! reads the text twice: once for its first fault, and then, if it has none, for its lines.
+//! `rk_text` cuts a text into lines and a line into fields. `borrowed_argument` reads one argument and `fields` one line on the borrowed bytes; both take no
+//! memory. `program` has the rules of what stands after the patterns, `fault` what a refusal says. `argument`, `arguments`, `line` and `word` are the values
+//! that are kept. `conf` reads the text twice: once for its first fault, and then, if it has none, for its lines.
 #![tactic(auto)]
 
 mod argument;

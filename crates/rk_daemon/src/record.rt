@@ -16,7 +16,8 @@ use std::{fs, io};
 /// How the name of each volume begins.
 const PREFIX: &str = "hall-";
 
-/// How the name of one begins that is being written. It is hidden, so that who lists volumes does not take a part for one, which a daemon leaves that is killed.
+/// How the name of one begins that is being written. It is hidden, so that who lists volumes does not take a part for one, which a daemon leaves that is
+/// killed.
 const PART: &str = ".hall-";
 
 /// Whether a record may be written into a folder: it is there, and no file in it has a name that begins as those of volumes and their parts do.
@@ -70,9 +71,9 @@ impl<R: Files> Keeper for R {
     }
 }
 
-/// Writes a volume in its seal into the folder at this path, as `hall-2-volume-000001`, for nobody but the owner to read, and gives its sum. It is written under
-/// another name at first, so that a volume under its name is a whole one; where that fails, nothing of it stays. No file that is there is replaced, under
-/// either name. It is not waited for that the disk has it.
+/// Writes a volume in its seal into the folder at this path, as `hall-2-volume-000001`, for nobody but the owner to read, and gives its sum. It is written
+/// under another name at first, so that a volume under its name is a whole one; where that fails, nothing of it stays. No file that is there is replaced,
+/// under either name. It is not waited for that the disk has it.
 pub fn keep<F: Folder>(
     alloc: Global,
     files: &mut F,

@@ -16,9 +16,9 @@
 //!
 //! # How it is built
 //!
-//! A file for each name (`type_name`, `description`, `callout`) and for `payload`; `text` has the rule that all names share, `context` who acts, `numbers` what
-//! is a number, `errors` the refusals, `name_bytes` keeps the bytes of a description, `equality` tells whether two names have the same bytes. The rules stand once, in
-//! `specs/Rules.antt`, as functions from bytes to the first fault; a maker, its test on borrowed bytes and its reader all cite them.
+//! A file for each name (`type_name`, `description`, `callout`) and for `payload`; `text` has the rule that all names share, `context` who acts, `numbers`
+//! what is a number, `errors` the refusals, `name_bytes` keeps the bytes of a description, `equality` tells whether two names have the same bytes. The rules
+//! stand once, in `specs/Rules.antt`, as functions from bytes to the first fault; a maker, its test on borrowed bytes and its reader all cite them.
 #![tactic(auto)]
 
 mod callout;

@@ -15,8 +15,8 @@
 //!
 //! # How it is built
 //!
-//! `numbers`, `names` and `preview` read the words, over the options of `rk_options`. `telling` picks and expands, `text` writes, and `reading` has the law that it can be read back. `fault` says in words what
-//! is wrong, and `doubts` finds what is allowed and hardly meant.
+//! `numbers`, `names` and `preview` read the words, over the options of `rk_options`. `telling` picks and expands, `text` writes, and `reading` has the law
+//! that it can be read back. `fault` says in words what is wrong, and `doubts` finds what is allowed and hardly meant.
 #![tactic(auto)]
 
 mod doubts;

@@ -7,9 +7,9 @@
 //!
 //! # What it promises
 //!
-//! What happens on the wire is a talk, in this order and no other: bytes are read only where no whole message is held; the message at the front is taken;
-//! the receipt of its answer is noted; its reply is written, the one spelling of what that receipt says, before the next message is taken. A session that
-//! waits isn't read. In every exit the seat has as many clients, hall by hall, as before: the client is reported gone. A fault is reported only where the wire's
+//! What happens on the wire is a talk, in this order and no other: bytes are read only where no whole message is held; the message at the front is taken; the
+//! receipt of its answer is noted; its reply is written, the one spelling of what that receipt says, before the next message is taken. A session that waits
+//! isn't read. In every exit the seat has as many clients, hall by hall, as before: the client is reported gone. A fault is reported only where the wire's
 //! count of failures rose. It ends at 1,048,576 reads.
 //!
 //! *Sendings.* A wire may keep what is written, so that the replies to many messages go out together. It is sent in order, and all of it before the next

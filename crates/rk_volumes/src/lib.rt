@@ -21,10 +21,10 @@
 //!
 //! # How it is built
 //!
-//! `specs/Format.antt` is the format of a volume, `specs/Seals.antt` that of a seal, and `specs/Filed.antt` says what a file has. `numbers` reads numbers and what stands behind a length, `row` reads and writes rows, `kinds` has the numbers of
-//! sessions, starts, ends and uses. `event_reading`, `event_writing`, `answer_reading` and `answer_writing` make rows of steps and back, `subject` has what
-//! is started, and `seal` what ties volumes together. `step`, `head` and `stored` put them together. `fault` says why a file is no volume, and `law` has the law
-//! that it is one or none.
+//! `specs/Format.antt` is the format of a volume, `specs/Seals.antt` that of a seal, and `specs/Filed.antt` says what a file has. `numbers` reads numbers and
+//! what stands behind a length, `row` reads and writes rows, `kinds` has the numbers of sessions, starts, ends and uses. `event_reading`, `event_writing`,
+//! `answer_reading` and `answer_writing` make rows of steps and back, `subject` has what is started, and `seal` what ties volumes together. `step`, `head`
+//! and `stored` put them together. `fault` says why a file is no volume, and `law` has the law that it is one or none.
 #![tactic(auto)]
 
 mod answer_reading;

@@ -10,7 +10,8 @@ use rk_session::Wire;
 use std::alloc::Global;
 use std::process::Abort;
 
-/// A wire that gives these bytes, and then the end. What is written is kept for ever, and none of it is to be sent. Out of memory for what it keeps ends the process.
+/// A wire that gives these bytes, and then the end. What is written is kept for ever, and none of it is to be sent. Out of memory for what it keeps ends the
+/// process.
 #[derive(Drop)]
 pub struct Telling<'a, R> {
     /// The host, which ends the process when memory runs out.
