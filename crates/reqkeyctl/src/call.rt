@@ -40,7 +40,7 @@ pub struct Call<'a> {
     pub arguments: &'a [String],
 }
 
-/// The options that there are.
+/// All options, with their dashes.
 const OPTIONS: [&str; 8] = [
     "--socket",
     "--uid",

@@ -24,6 +24,6 @@ pub trait Daemon {
     fn search(&mut self, path: &str, greeting: &Ask, search: Search) -> Result<Found, PeerFault>
         ensures { story self.new ≡ and_then (story self.old) (Searched path.now greeting.now search (answer_said result)) };
 
-    /// What stood in the way of the last reply that there is not, where that is known: a text to be shown, with a path and what the system says of it.
+    /// Why the last ask got no reply, if that is known: a text to be shown, with a path and the system's reason.
     fn trouble(&self) -> Option<&str>;
 }

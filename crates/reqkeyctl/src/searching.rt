@@ -1,4 +1,4 @@
-//! Keys that are looked for by the asks that there are: each serial below that of the client's new session ring is described.
+//! Keys that are looked for without an ask of their own: each serial below that of the client's new session ring is described.
 ghost use Rattle.std.specs.Prelude.{◌≡◌, ◌≤◌, ◌<◌, ◌++◌, OnOk, IfOk, decimal};
 ghost use Rattle.rk_client.specs.Printed.{newline};
 ghost use Rattle.reqkeyctl.specs.Searching.{HasDescribed, HasEnded, HasSearched, HasSeen, HasSwept, HasTried, count_below, counted, is_dead, key_in, line_in, line_of, said_of, serial_at};

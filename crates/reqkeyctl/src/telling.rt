@@ -14,7 +14,7 @@ use std::io::Write;
 /// The status of a run that failed.
 const FAILED: u8 = 1;
 
-/// The status of words that ask for nothing that there is.
+/// The status of a usage error.
 const USAGE: u8 = 2;
 
 /// Out of memory.

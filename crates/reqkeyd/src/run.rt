@@ -31,7 +31,7 @@ use std::time::Clock;
 /// The status of a run that failed.
 pub const FAILED: u8 = 1;
 
-/// The status of words that ask for nothing that there is.
+/// The status of a usage error.
 const USAGE: u8 = 2;
 
 /// The answer to out of memory at the start.
@@ -105,9 +105,8 @@ fn is_replay(words: &[String]) -> bool
     }
 }
 
-/// Runs the program on these words and streams, and gives its status: 0; 1 where a script could not be run to its end or memory
-/// is lacking, with a line on `errors`, or where `writer` fails; 2 for words that ask for nothing that there is, with the usage on
-/// `errors`.
+/// Runs the program on these words and streams, and gives its status: 0; 1 if a script could not be run to its end or memory ran
+/// out, with a line on `errors`, or if `writer` fails; 2 for a usage error, with the usage on `errors`.
 ///
 /// The first word is the name of the program. Where `replay` is the only other one, a script is read from `reader` and played to
 /// `writer`. For all other words nothing is read. `serve` with its options runs the daemon, to its end: 1 where it could not begin, with the fault on

@@ -23,7 +23,7 @@ const MOST: u64 = 16 << 20;
 const HANDLER: u64 = 32_767;
 
 /// The gate of the daemon: it holds nobody. After each reply, the volume of a hall whose record holds much goes to the shelf. How a handler has ended is
-/// logged, so that an operator learns why a request was answered that there is no key.
+/// logged, so that an operator learns why a request was answered ENOKEY.
 #[derive(Drop)]
 pub struct Relief<'a, R, N: Names, S: Shelf> {
     /// Where memory for the lines of the log comes from.

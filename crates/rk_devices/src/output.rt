@@ -63,7 +63,7 @@ impl Output {
         }
     }
 
-    /// The payload that it is. What it does not need of the room is given back; where that takes memory that is lacking, the payload keeps the room.
+    /// The payload that it is. What it does not need of the room is given back; if that takes memory and there is none, the payload keeps the room.
     pub fn into_payload(self) -> Result<Payload, OutputFault>
         ensures { result ≡ payload_of self }
     {

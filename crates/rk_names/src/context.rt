@@ -22,8 +22,8 @@ pub struct Context {
     pub user: Serial,
 }
 
-/// Where a new key goes when a request names no ring. It is the first ring that there is from this one
-/// on, in the order requestor, thread, process, session, user (keyctl(2), `KEYCTL_SET_REQKEY_KEYRING`).
+/// Where a new key goes when a request names no ring. It is the first ring that the context has from
+/// this one on, in the order requestor, thread, process, session, user (keyctl(2), `KEYCTL_SET_REQKEY_KEYRING`).
 #[derive(Clone, Copy, Debug, PartialEq, Eq)]
 pub enum Setting {
     /// As it begins. The search starts at the requestor's ring.

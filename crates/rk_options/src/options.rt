@@ -35,7 +35,7 @@ fn is_among(names: &[&str], word: &str) -> bool
     }
 }
 
-/// The first option of the words: `Some(None)` where there are no words, `None` where its value is lacking.
+/// The first option of the words: `Some(None)` for no words, `None` if its value is missing.
 fn first_option<'a>(words: &'a [String], flags: &[&str]) -> Option<Option<Found<'a>>>
     ensures option { MatchOption result (options_of (map (λ s. s.now) flags.now) (map string_bytes words.now) ≡ None)
         (λ first. MatchOption first (options_of (map (λ s. s.now) flags.now) (map string_bytes words.now) ≡ Some [])

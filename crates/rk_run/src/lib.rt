@@ -16,7 +16,7 @@
 //! # How it is built
 //!
 //! `wanted` reads the words, `host` has the trait of what a run does outside of itself, `starting` makes the command, `paths` what it gets of the socket,
-//! `status` tells how a program has ended, and `running` puts it together. `fault` says why there is no status. `system` is the host that there is.
+//! `status` tells how a program has ended, and `running` puts it together. `fault` says why there is no status. `system` is the host of a real run.
 #![tactic(auto)]
 
 mod fault;

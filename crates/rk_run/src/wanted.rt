@@ -27,14 +27,14 @@ pub struct Wanted<'a> {
     pub words: &'a [String],
 }
 
-/// The options that there are.
+/// All options of `run`, with their dashes.
 const OPTIONS: [&str; 5] = ["--socket", "--uid", "--gid", "--library", "--trap"];
 
 impl<'a> Wanted<'a> {
     /// What the words say, of which the first is the name of the program that is called and the second `run`: options, each at most once, as `--uid 5` or
-    /// `--uid=5`, and behind the first `--` the program and its words, whatever they look like. `None` where they say none: where `--` or the program is
-    /// lacking, an option is unknown or there twice, a uid or gid is no number up to 4294967295, or the library is no absolute path, or one with a space or
-    /// a colon; and where `--trap` has a value, or stands beside a uid, a gid or a library, since each process acts for its own user then, by no library.
+    /// `--uid=5`, and behind the first `--` the program and its words, whatever they look like. `None` for a usage error: `--` or the program is
+    /// missing, an option is unknown or there twice, a uid or gid is no number up to 4294967295, the library is no absolute path or has a space or a colon,
+    /// or `--trap` has a value or stands beside a uid, a gid or a library, since each process acts for its own user then, by no library.
     pub fn read(words: &'a [String]) -> Option<Wanted<'a>>
         ensures { option_map said_by result ≡ wanted_said (map string_bytes words.now) }
     {

@@ -15,7 +15,7 @@ const NOT_MADE: &[&[u8]] = &[
     b"\0\0\0\x11\x02\0\0\0\0\0\0\0\0\0\0\0\x04\0\0\0\x08\0\0\0\x02\x03\x7e",
 ];
 
-/// The scene, of a session that may lack memory, and all that it is answered.
+/// The scene, of a session that may run out of memory, and all that it is answered.
 fn lacking(scene: Scene<'static>, replies: &'static [&'static [u8]]) -> Scene<'static> {
     Scene {
         first: Part {

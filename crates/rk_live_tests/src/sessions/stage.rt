@@ -93,7 +93,7 @@ pub struct Scene<'a> {
     pub crowd: u32,
     /// How many steps there are to be.
     pub steps: u64,
-    /// Whether the first session is alone, on this thread, and may lack memory.
+    /// Whether the first session is alone, on this thread, and may run out of memory.
     pub may_lack: bool,
 }
 

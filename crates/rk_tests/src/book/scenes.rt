@@ -71,7 +71,7 @@ pub(super) const BOTH_ARE_MADE: &[Row] = &[
     ("collect c1", "4"),
 ];
 
-/// Both keys went into the first ring of the client that there is, its thread ring.
+/// Both keys went into the first ring that the client has, its thread ring.
 pub(super) const BOTH_IN_THE_THREAD_RING: &[Row] = &[
     ("c1 unlink 4 thread", "0"),
     ("c1 read 4", "E126"),
