@@ -40,7 +40,7 @@ impl Around {
         })
     }
 
-    /// The socket for a call that names none: that of the environment, but none where the streams may be those of a handler.
+    /// The socket for a call that names none: that of the environment, but none if the streams may be those of a handler.
     pub fn socket(&self) -> Option<&str>
         ensures { option_map (λ s. s.now) result ≡ socket_around self.now }
     {

@@ -13,11 +13,11 @@ use rk_message::Op;
 pub struct Options<'a> {
     /// The socket of the daemon; without one it is at the other ends of the standard streams.
     pub socket: Option<&'a str>,
-    /// The user to act for, 0 where none is given.
+    /// The user to act for, 0 if none is given.
     pub uid: u32,
-    /// The group to act for, 0 where none is given.
+    /// The group to act for, 0 if none is given.
     pub gid: u32,
-    /// The session ring to join, 0 for a new one, and where none is given.
+    /// The session ring to join, 0 for a new one, and if none is given.
     pub join: u32,
     /// Whether the bytes of a reply are written as they are.
     pub raw: bool,
@@ -53,7 +53,7 @@ const OPTIONS: [&str; 8] = [
 ];
 
 impl<'a> Call<'a> {
-    /// The call that the words say, of which the first is the name of the program; `None` where they say none. Options come first, each at most
+    /// The call that the words say, of which the first is the name of the program; `None` if they say none. Options come first, each at most
     /// once, as `--uid 5` or `--uid=5`, and `--raw` and `--quiet` without a value, even an empty one; all words behind the op are its arguments, whatever they
     /// look like.
     pub fn read(words: &'a [String]) -> Option<Call<'a>>
@@ -92,7 +92,7 @@ pub fn or_around<'a>(named: Option<&'a str>, around: &'a Around) -> Option<&'a s
     }
 }
 
-/// The first op behind options, and the words behind it; `None` where there is no op, or a flag before it has a value.
+/// The first op behind options, and the words behind it; `None` if there is no op, or a flag before it has a value.
 pub fn op_and_more<'a>(words: &'a [String]) -> Option<(Op, &'a [String])>
     ensures found { option_map (λ x. (x.0, map string_bytes x.1.now)) result ≡ op_and_more (map string_bytes words.now) }
     ensures shorter { IfSome result (λ x. length x.1.now < length words.now) }
@@ -140,7 +140,7 @@ fn is_flag(name: &str) -> bool
 }
 
 impl<'a> Options<'a> {
-    /// What the words in front of an op say; `None` where an option is unknown, there twice, or has a value that is not allowed.
+    /// What the words in front of an op say; `None` if an option is unknown, there twice, or has a value that is not allowed.
     pub fn read(words: &'a [String]) -> Option<Options<'a>>
         ensures { option_map options_by result ≡ options_said (map string_bytes words.now) }
     {

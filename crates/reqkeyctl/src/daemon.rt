@@ -11,10 +11,10 @@ use rk_message::{Ask, Reply};
 
 /// Who is asked at a socket. It may tell what was said to it, as one for a test would; the system's tells nothing.
 pub trait Daemon {
-    /// What was said to it, first things first, where it tells that.
+    /// What was said to it, first things first, if it tells that.
     ghost story: { Self → Option (List Talk) };
 
-    /// Connects to the socket at this path, says the greeting, a HELLO, where one is given, asks, and reads the reply. Where the greeting is refused
+    /// Connects to the socket at this path, says the greeting, a HELLO, if one is given, asks, and reads the reply. If the greeting is refused
     /// the ask is not sent, and that refusal is the reply.
     fn ask(&mut self, path: &str, greeting: Option<&Ask>, ask: &Ask) -> Result<Reply, PeerFault>
         ensures { story self.new ≡ and_then (story self.old)

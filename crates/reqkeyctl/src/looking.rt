@@ -38,7 +38,7 @@ pub fn look<D: Daemon, W: Write, E: Write>(
     }
 }
 
-/// Prints a text, and says where that fails.
+/// Prints a text, and says so if that fails.
 fn print<W: Write, E: Write>(text: &[u8], writer: &mut W, errors: &mut E) -> u8
     ensures told { result ≡ 0 → Appends (W.contents writer.old) (W.contents writer.new) text.now }
     ensures status { result ≤ 1 }

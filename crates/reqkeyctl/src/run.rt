@@ -24,7 +24,7 @@ use std::alloc::Global;
 use std::fs::Files;
 use std::io::{Read, Write};
 
-/// Runs the program on these words and streams, and gives its status: 0 where a reply was printed; 1 where it was a refusal, or there is none, or
+/// Runs the program on these words and streams, and gives its status: 0 if a reply was printed; 1 if it was a refusal, or there is none, or
 /// a file can't be used, or memory ran out, with a line on `errors`; 2 for a usage error, with the usage on `errors`.
 ///
 /// Of `streams`, `reader` is standard input, `writer` standard output and `errors` standard error. The first word is the name of the program.
@@ -33,11 +33,11 @@ use std::io::{Read, Write};
 /// `writer`, and `reader` is read only for a file `-`. Without one the peer is at the streams: one ask is written to `writer`, unless that is a terminal,
 /// one reply read from `reader`, and it is printed on `errors`. Help and the version are written to `writer`.
 ///
-/// Where the last word is `list` or `sweep`, behind options alone, the daemon is searched for keys ([`crate::searching::search`]), and what is found is
+/// If the last word is `list` or `sweep`, behind options alone, the daemon is searched for keys ([`crate::searching::search`]), and what is found is
 /// printed on `writer`.
 ///
-/// Where the second word is `run`, and what follows are its options, `--` and a program, that program is run by `host` in a session ring of its own
-/// ([`rk_run::run`]), and the status is the program's; 127 where there is no such program and 126 where it can't be started; 1 where it was not run
+/// If the second word is `run`, and what follows are its options, `--` and a program, that program is run by `host` in a session ring of its own
+/// ([`rk_run::run`]), and the status is the program's; 127 if there is no such program and 126 if it can't be started; 1 if it was not run
 /// otherwise, with a line on `errors`.
 pub fn run_words<
     R: AllocGlobal + Files,

@@ -40,7 +40,7 @@ const USER_RING: i32 = -4;
 
 /// Says the greeting, a HELLO with a new session ring, whose serial is the newest of its hall. Then each serial of the hall below it is described, the least
 /// first: of each key that the client possesses there is a line with its serial and what DESCRIBE answers. Or, to sweep, each of these that is negative, has
-/// expired or was revoked is taken out of the user ring, and there is a line with their number. Refusals as of [`exchange`], and `Malformed` where HELLO is
+/// expired or was revoked is taken out of the user ring, and there is a line with their number. Refusals as of [`exchange`], and `Malformed` if HELLO is
 /// answered by something else than rings.
 pub fn search<R: Read, W: Write>(
     alloc: Global,
@@ -101,7 +101,7 @@ fn describe<R: Read, W: Write>(
     Ok(())
 }
 
-/// Notes a key that is described so; nothing where that is refused.
+/// Notes a key that is described so; nothing if that is refused.
 fn note(alloc: Global, serial: u32, answer: Reply, listed: &mut Listed) -> Result<(), AllocError>
     requires { serial < 2147483648 }
     ensures keys { OnOk result (listed.new.keys.items ≡ listed.old.keys.items ++ key_in serial answer) }
@@ -198,7 +198,7 @@ fn serial_at(newest: u32, place: u32) -> u32
     newest - STEP * (count_below(newest) - place)
 }
 
-/// Takes a key out of the user ring where it is dead, and says whether it was there.
+/// Takes a key out of the user ring if it is dead, and says whether it was there.
 fn try_to_sweep<R: Read, W: Write>(
     alloc: Global,
     reader: &mut R,

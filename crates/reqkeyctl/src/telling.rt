@@ -34,7 +34,7 @@ pub fn no_peer<E: Write>(trouble: Option<&str>, errors: &mut E) -> u8
     FAILED
 }
 
-/// What stood in the way, in a line of its own, where that is known.
+/// What stood in the way, in a line of its own, if that is known.
 fn detail<E: Write>(trouble: Option<&str>, errors: &mut E) {
     if let Some(text) = trouble {
         let _ = errors.write_all(b"  ");

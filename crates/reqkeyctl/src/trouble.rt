@@ -1,4 +1,4 @@
-//! What stood in the way of an ask, in words. Where there is no memory for them, there are none.
+//! What stood in the way of an ask, in words. If there is no memory for them, there are none.
 
 use crate::asking::AskFault;
 use crate::call::Call;

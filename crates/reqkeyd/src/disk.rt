@@ -13,7 +13,7 @@ pub enum ReadFault {
 
 /// Who reads files. It may tell which were read and what they had, as one for a test would; the system's tells nothing.
 pub trait Disk {
-    /// What was read, first things first, where it tells that.
+    /// What was read, first things first, if it tells that.
     ghost story: { Self → Option (List Reading) };
 
     /// All bytes of the file at this path.

@@ -108,10 +108,10 @@ fn is_replay(words: &[String]) -> bool
 /// Runs the program on these words and streams, and gives its status: 0; 1 if a script could not be run to its end or memory ran
 /// out, with a line on `errors`, or if `writer` fails; 2 for a usage error, with the usage on `errors`.
 ///
-/// The first word is the name of the program. Where `replay` is the only other one, a script is read from `reader` and played to
-/// `writer`. For all other words nothing is read. `serve` with its options runs the daemon, to its end: 1 where it could not begin, with the fault on
-/// `errors`. `check` and `pick` with theirs write what a configuration has to say: 1 where it can't be read, has a fault or chooses no line, with that on
-/// `errors`. `rejoin` with files has `disk` read them, and tells whether they are a run of the machine: 0 where they are, else 1, with why not on `errors`.
+/// The first word is the name of the program. If `replay` is the only other one, a script is read from `reader` and played to
+/// `writer`. For all other words nothing is read. `serve` with its options runs the daemon, to its end: 1 if it could not begin, with the fault on
+/// `errors`. `check` and `pick` with theirs write what a configuration has to say: 1 if it can't be read, has a fault or chooses no line, with that on
+/// `errors`. `rejoin` with files has `disk` read them, and tells whether they are a run of the machine: 0 if they are, else 1, with why not on `errors`.
 /// Help and the version are asked for, so they are written to `writer` with status 0.
 pub fn run_words<
     R: Files

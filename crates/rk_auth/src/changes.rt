@@ -92,7 +92,7 @@ impl ChangeOnce<Session> for EndWait {
     }
 }
 
-/// A change of the handler's session, where there is one.
+/// A change of the handler's session, if there is one.
 #[derive(Clone, Copy)]
 pub struct InHandler<C>(pub C);
 
@@ -106,7 +106,7 @@ impl<C: ChangeOnce<Session> + Copy> ChangeOnce<Construction> for InHandler<C> {
     }
 }
 
-/// A change of the session of who stands in a slot, where there is one.
+/// A change of the session of who stands in a slot, if there is one.
 #[derive(Clone, Copy)]
 pub struct InSession<C>(pub C);
 
@@ -122,7 +122,7 @@ impl<C: ChangeOnce<Session> + Copy> ChangeOnce<Standing> for InSession<C> {
     }
 }
 
-/// A change of the construction that stands in a slot, where there is one.
+/// A change of the construction that stands in a slot, if there is one.
 #[derive(Clone, Copy)]
 pub struct InConstruction<C>(pub C);
 

@@ -15,7 +15,7 @@
 //!
 //! # Use
 //!
-//! `enter` a client and give it its context. Where a key is to be made, `issue` its authority and let the session `wait` as the starter. When the
+//! `enter` a client and give it its context. If a key is to be made, `issue` its authority and let the session `wait` as the starter. When the
 //! handler runs, `enter` its session; it `assume`s the authority, `holder` says whether it may complete the key, `spend` gives everyone the
 //! outcome, and `end` takes the construction away. `collect` answers what a session waited for.
 //!

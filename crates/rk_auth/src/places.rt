@@ -43,7 +43,7 @@ impl<V> Places<V> {
         })
     }
 
-    /// Makes room for so many more. The values stay, also where an `Err` comes, and the room is not less.
+    /// Makes room for so many more. The values stay, also if an `Err` comes, and the room is not less.
     pub fn reserve(&mut self, more: usize) -> Result<(), AllocError>
         ensures facts { self.new.facts ≡ self.old.facts }
         ensures ok { OnOk result (more ≤ self.new.room) }

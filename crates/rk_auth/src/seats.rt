@@ -250,7 +250,7 @@ impl Seats {
         self.constructions.insert(key.get(), place);
     }
 
-    /// Changes a session, where it is there. It takes no memory, also where the session begins to wait.
+    /// Changes a session, if it is there. It takes no memory, also if the session begins to wait.
     pub fn change_session<C: ChangeOnce<Session> + Copy>(&mut self, id: &SessionId, change: C)
         ensures sessions { self.new.sessions ≡ session_changed id.now (C.changed change) self.old.sessions }
         ensures room { self.new.room ≡ self.old.room }
@@ -266,7 +266,7 @@ impl Seats {
         }
     }
 
-    /// Changes a construction, where it is there. It takes no memory.
+    /// Changes a construction, if it is there. It takes no memory.
     pub fn change_construction<C: ChangeOnce<Construction> + Copy>(
         &mut self,
         key: Serial,

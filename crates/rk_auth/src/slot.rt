@@ -46,7 +46,7 @@ pub struct Link {
 pub struct Slot {
     /// Who stands there.
     pub standing: Standing,
-    /// The slot of the first who waits for this construction; `None` where nobody does.
+    /// The slot of the first who waits for this construction; `None` if nobody does.
     pub first: Option<usize>,
     /// Where its session stands among waiters; `None` while it does not wait.
     pub link: Option<Link>,

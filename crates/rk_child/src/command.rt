@@ -19,7 +19,7 @@ pub struct Prepared {
 }
 
 // The command of the first line that fits the launch's subject, with `%{..}` looked up in the requester's rings. An `Err` is what is reported of the launch:
-// `NotStarted` where no line fits, and `NotMade` where the words of the first one can't be made, also for lack of memory.
+// `NotStarted` if no line fits, and `NotMade` if the words of the first one can't be made, also for lack of memory.
 fn command_for<P: Platform>(
     stage: &Stage<'_, P>,
     launch: &Launch<P::Names>,
@@ -55,8 +55,8 @@ fn command_for<P: Platform>(
     }
 }
 
-/// The command of a launch, and the room for its run. An `Err` is what is reported of the launch: `NotStarted` where no line fits, `NotMade` where one does and
-/// its command can't be made, and `NoMemory` where there is a command and no memory for the room.
+/// The command of a launch, and the room for its run. An `Err` is what is reported of the launch: `NotStarted` if no line fits, `NotMade` if one does and
+/// its command can't be made, and `NoMemory` if there is a command and no memory for the room.
 pub fn prepare<P: Platform>(
     stage: &Stage<'_, P>,
     launch: &Launch<P::Names>,

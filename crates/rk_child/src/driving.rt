@@ -61,7 +61,7 @@ pub fn drive<P: Platform>(
     later(first, second)
 }
 
-// One command, from its start to its end. A launch comes back where another command is to follow.
+// One command, from its start to its end. A launch comes back if another command is to follow.
 #[cycle(driving)]
 fn run<P: Platform>(
     stage: &Stage<'_, P>,

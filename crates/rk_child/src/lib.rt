@@ -3,22 +3,22 @@
 //! # Purpose
 //!
 //! A start in a hall hands out a `Launch`, which can't be dropped. [`drive`] brings it to its end: it picks the line for its subject, makes the
-//! command, starts it, serves what it says, waits for it, and tells the hall how it has ended. Where a piped command failed, it runs the one with the
+//! command, starts it, serves what it says, waits for it, and tells the hall how it has ended. If a piped command failed, it runs the one with the
 //! op `negate` next.
 //!
 //! # What it promises
 //!
 //! *No orphan.* Each launch is spent, its own and those of the starts that its handlers ask for, whichever start, write, read or wait fails; each
-//! child comes back to its launcher. Starts are nested at most eight deep, since a nested one is started only where it is deeper than its handler's
+//! child comes back to its launcher. Starts are nested at most eight deep, since a nested one is started only if it is deeper than its handler's
 //! own.
 //!
-//! *Faults.* What is returned (`Driven`) is how the child has ended that came back last. `StartFailed` and `WaitFailed` come only where the launcher's
+//! *Faults.* What is returned (`Driven`) is how the child has ended that came back last. `StartFailed` and `WaitFailed` come only if the launcher's
 //! count of failures rose, its children's counted, and `ReadFailed` only there or where the child that came back last was read 1,048,576 times. No child is
-//! read more often. After a read that failed a child is not waited for, and it was waited for only where a read had told the end of its output, and its
+//! read more often. After a read that failed a child is not waited for, and it was waited for only if a read had told the end of its output, and its
 //! input was closed. If no command was to be started, it says why:
-//! `NotStarted` only where no line fits, `NotMade` only where the words of the one that does fail so, and `NoMemory` only where there is a command.
+//! `NotStarted` only if no line fits, `NotMade` only if the words of the one that does fail so, and `NoMemory` only if there is a command.
 //!
-//! *A plain handler* has each ask answered in order, by the hall of its key. Its output is read only where no whole message is held; the message at the
+//! *A plain handler* has each ask answered in order, by the hall of its key. Its output is read only if no whole message is held; the message at the
 //! front is taken, asked, and replied to, before anything else passes. A reply that can't be written, a frame that none has, or an ask of which nothing can
 //! be said ends its asks: its input is closed, and what it still outputs is read and dropped. A child that tells what passes with it tells that and nothing
 //! else. The gate learns whether one of its asks completed its key. *A piped handler* is written the callout, and its output is the payload, where

@@ -7,7 +7,7 @@ use rk_names::{Errno, SessionId};
 use rk_talk::{Platform, Saying, Stage, answer_frame, refusal_frame};
 use std::alloc::Global;
 
-// Writes what is to be said, in one write; where there is no memory for the reply, it is out of memory. False where it can't be written, or nothing
+// Writes what is to be said, in one write; if there is no memory for the reply, it is out of memory. False if it can't be written, or nothing
 // is to be said.
 fn is_said<C: Child>(alloc: Global, child: &mut C, saying: Saying) -> bool
     ensures goes_on { GoesOn (C.shown child.old) (C.shown child.new) }
@@ -23,7 +23,7 @@ fn is_said<C: Child>(alloc: Global, child: &mut C, saying: Saying) -> bool
     }
 }
 
-/// Replies to the handler of this session, and tells the gate. False where its asks are at their end: the reply can't be written, or there is none.
+/// Replies to the handler of this session, and tells the gate. False if its asks are at their end: the reply can't be written, or there is none.
 pub fn reply<P: Platform, C: Child>(
     stage: &Stage<'_, P>,
     child: &mut C,

@@ -58,7 +58,7 @@ pub fn unstarted<P: Platform>(
     fail(stage, caller, launch);
 }
 
-/// Tells that a handler runs. Where its hall owes that no more, there is none.
+/// Tells that a handler runs. If its hall owes that no more, there is none.
 pub fn begin<P: Platform>(
     stage: &Stage<'_, P>,
     caller: &mut Caller<P>,
@@ -76,7 +76,7 @@ pub fn begin<P: Platform>(
     value
 }
 
-/// Reports what became of a handler, and whether it made its key, and tells its hall how it has ended. A launch comes back where another command is to
+/// Reports what became of a handler, and whether it made its key, and tells its hall how it has ended. A launch comes back if another command is to
 /// follow.
 pub fn finish<P: Platform>(
     stage: &Stage<'_, P>,

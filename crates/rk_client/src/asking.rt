@@ -15,7 +15,7 @@ use std::alloc::Global;
 /// The ask of this op with these arguments, which stand in the order of its fields, but for the callout: it comes last, and may be left out.
 /// HELLO takes no arguments and is never made here.
 ///
-/// Refusals: `Count` where the op takes more or fewer arguments; else `Bad` with the kind of the first field, in the order of the ask's fields, of which its
+/// Refusals: `Count` if the op takes more or fewer arguments; else `Bad` with the kind of the first field, in the order of the ask's fields, of which its
 /// argument is none; `NoMemory`, only for arguments that are an ask.
 pub fn ask_of(alloc: Global, op: Op, arguments: &[&[u8]]) -> Result<Ask, ArgumentFault>
     ensures { AsksOrNot op (map (λ s. s.now) arguments.now) result }

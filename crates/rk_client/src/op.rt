@@ -6,7 +6,7 @@ ghost use Rattle.rk_client.specs.Words.{op_said, op_word};
 
 use rk_message::{AskShape, Op};
 
-/// The op whose name in lower case is this word, as `read`; `None` where there is none.
+/// The op whose name in lower case is this word, as `read`; `None` if there is none.
 pub fn op_named(word: &str) -> Option<Op>
     ensures said { result ≡ op_said word.now }
     ensures word { IfSome result (λ op. word.now ≡ op_word op) }

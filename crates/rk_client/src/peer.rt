@@ -14,8 +14,8 @@ use std::io::{Read, Write};
 
 /// Writes the ask as one frame, in one write, and reads its reply.
 ///
-/// What is read is the frame of the reply and not a byte more. Refusals: `NoMemory`; `Lost` where a write or a read fails, or the reader is at
-/// its end before the reply is; `Malformed` where the reader begins with no reply. After a refusal nothing is said of what was written and read.
+/// What is read is the frame of the reply and not a byte more. Refusals: `NoMemory`; `Lost` if a write or a read fails, or the reader is at
+/// its end before the reply is; `Malformed` if the reader begins with no reply. After a refusal nothing is said of what was written and read.
 pub fn exchange<R: Read, W: Write>(
     alloc: Global,
     reader: &mut R,
@@ -29,7 +29,7 @@ pub fn exchange<R: Read, W: Write>(
     receive(alloc, reader)
 }
 
-/// Sends the greeting, a HELLO, and the ask behind it, as [`exchange`] does each. Where the greeting is refused the ask is not sent, and that
+/// Sends the greeting, a HELLO, and the ask behind it, as [`exchange`] does each. If the greeting is refused the ask is not sent, and that
 /// refusal is the reply.
 pub fn exchange_greeted<R: Read, W: Write>(
     alloc: Global,

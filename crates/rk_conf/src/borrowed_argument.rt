@@ -24,7 +24,7 @@ pub enum BorrowedArgument<'a> {
 }
 
 impl<'a> BorrowedArgument<'a> {
-    /// What the field stands for; `None` where it begins with `%` and is no macro. It takes no memory.
+    /// What the field stands for; `None` if it begins with `%` and is no macro. It takes no memory.
     pub fn read(field: &'a [u8]) -> Option<BorrowedArgument<'a>>
         ensures argument { option_map argument_from result ≡ argument_of field.now }
         ensures text { is_text field.now ≡ true → IfSome result HasText }
@@ -133,7 +133,7 @@ fn are_names(typ: &[u8], desc: &[u8]) -> bool
     TypeName::fault(typ).is_none() && Description::fault(desc).is_none()
 }
 
-/// The place of the first colon, or the length where there is none.
+/// The place of the first colon, or the length if there is none.
 fn colon_place(name: &[u8]) -> usize
     ensures within { result ≤ length name.now }
     ensures before { (k : ℕ) → k < result → slice_index name.now k ≢ 58 }

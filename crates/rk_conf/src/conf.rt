@@ -57,7 +57,7 @@ impl Conf {
         &self.lines
     }
 
-    /// The first line whose four patterns fit the operation, the type, the description and the callout; `None` where no
+    /// The first line whose four patterns fit the operation, the type, the description and the callout; `None` if no
     /// line does. It takes no memory. (The request-key(8) of keyutils takes the best match instead.)
     pub fn pick(
         &self,

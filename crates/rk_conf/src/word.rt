@@ -36,7 +36,7 @@ impl Word {
         Ok(Word { bytes })
     }
 
-    /// The bytes themselves, which it moves; `None` where they are no word. It takes no memory.
+    /// The bytes themselves, which it moves; `None` if they are no word. It takes no memory.
     pub fn from_bytes(bytes: Vec<u8>) -> Option<Word>
         ensures { result ≡ (if is_text bytes.items then Some bytes.items else None) }
     {

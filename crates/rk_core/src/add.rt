@@ -34,7 +34,7 @@ impl Tables {
     }
 
     /// Makes a key with its payload, and links it in a ring, in the place of one of that name (add_key(2)). The ring's error;
-    /// EDQUOT where the user has 200 keys, no serial is left or the ring is full. All allocations come before the first change.
+    /// EDQUOT if the user has 200 keys, no serial is left or the ring is full. All allocations come before the first change.
     #[tactic(auto, unfolding(rk_machine::specs::KeyAsks::Adds))]
     pub fn add(
         &mut self,

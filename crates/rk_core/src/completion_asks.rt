@@ -32,9 +32,9 @@ impl Tables {
         Ok((key, ring))
     }
 
-    /// The key is linked where it is wanted, and complete: its authority is spent, and all who wait get the outcome
-    /// (keyctl_instantiate(3)). It takes no memory. EPERM where its authority is not assumed, then the ring's error, then
-    /// EDQUOT where that is full.
+    /// The key is linked if it is wanted, and complete: its authority is spent, and all who wait get the outcome
+    /// (keyctl_instantiate(3)). It takes no memory. EPERM if its authority is not assumed, then the ring's error, then
+    /// EDQUOT if that is full.
     #[tactic(auto, unfolding(rk_machine::specs::Asks::Completes))]
     pub fn complete_key(
         &mut self,

@@ -23,7 +23,7 @@ impl Tables {
         self.rings.user_ring(uid)
     }
 
-    /// A ring to join is a session ring of the same uid. ENOKEY where there is no such ring, EACCES for any other.
+    /// A ring to join is a session ring of the same uid. ENOKEY if there is no such ring, EACCES for any other.
     fn may_join(&self, greeting: &Greeting) -> Result<(), Errno>
         ensures { Passes (join_refusal self.now greeting.now) result }
     {
@@ -37,7 +37,7 @@ impl Tables {
         }
     }
 
-    /// The error of the ring to join; EDQUOT where so many rings or serials are not left.
+    /// The error of the ring to join; EDQUOT if so many rings or serials are not left.
     fn may_greet(&self, greeting: &Greeting, made: u32, left: bool) -> Result<(), Errno>
         requires { made ≡ rings_made self.now greeting.now }
         ensures is { Passes (hello_refusal self.now greeting.now left) result }
@@ -136,7 +136,7 @@ fn rings_made(greeting: &Greeting, user: &Option<Serial>) -> u32
         + u32::from(user.is_none())
 }
 
-/// A ring that may be absent, 0 where it is.
+/// A ring that may be absent, 0 if it is.
 fn number(ring: &Option<Serial>) -> u32
     ensures { result ≡ unwrap_or ring.now 0 }
 {

@@ -70,7 +70,7 @@ fn description(alloc: Global, fact: &Key, now: Moment) -> Result<Vec<u8>, AllocE
 // ---- CALLOUT, READ, DESCRIBE
 
 impl Tables {
-    /// The callout of the authority that is assumed (keyctl_read(3), `KEY_SPEC_REQKEY_AUTH_KEY`). ENOKEY where none is.
+    /// The callout of the authority that is assumed (keyctl_read(3), `KEY_SPEC_REQKEY_AUTH_KEY`). ENOKEY if none is.
     pub fn callout(&self, id: &SessionId) -> Result<Answer, Errno>
         ensures { TellsCallout self.now id.now (answer_of result) self.now }
     {
@@ -81,7 +81,7 @@ impl Tables {
     }
 
     /// The payload of a key that is there and stands Positive. Its own error where it stands Revoked, Expired or Negative, and
-    /// EBUSY where it stands Building.
+    /// EBUSY if it stands Building.
     fn payload(&self, key: Serial, now: Moment) -> Result<&Payload, Errno>
         requires { map.contains_key self.now.keys key ≡ true }
         ensures { let refusal = first_of (use_refusal self.now key now ∷ refused_if (key_passes self.now.keys key is_building) Errno.Ebusy ∷ []) in
@@ -102,8 +102,8 @@ impl Tables {
         copied(self.alloc, payload.as_bytes())
     }
 
-    /// The payload of a key, or for -7 the callout (keyctl_read(3)). EINVAL, ENOKEY, EACCES where it is not possessed; the
-    /// key's own error; EBUSY where it is under construction.
+    /// The payload of a key, or for -7 the callout (keyctl_read(3)). EINVAL, ENOKEY, EACCES if it is not possessed; the
+    /// key's own error; EBUSY if it is under construction.
     pub fn read(
         &self,
         now: Moment,
@@ -120,7 +120,7 @@ impl Tables {
         }
     }
 
-    /// What a key is (keyctl_describe(3)). EINVAL, ENOKEY, EACCES where it is not possessed.
+    /// What a key is (keyctl_describe(3)). EINVAL, ENOKEY, EACCES if it is not possessed.
     pub fn describe(&self, now: Moment, asker: &Asker, number: i32) -> Result<Answer, Errno>
         ensures { Describes self.now now asker.now number (answer_of result) self.now }
     {
@@ -155,7 +155,7 @@ impl Tables {
         }
     }
 
-    /// Marks a key as revoked (keyctl_revoke(3)). EINVAL, ENOKEY, EACCES where it is not possessed; EKEYREVOKED where it is marked already.
+    /// Marks a key as revoked (keyctl_revoke(3)). EINVAL, ENOKEY, EACCES if it is not possessed; EKEYREVOKED if it is marked already.
     pub fn revoke(&mut self, asker: &Asker, number: i32) -> Result<Answer, Errno>
         ensures { Revokes self.old asker.now number (answer_of result) self.new }
     {
@@ -174,7 +174,7 @@ impl Tables {
         }
     }
 
-    /// Lets a key expire so many seconds on, or never for 0 (keyctl_set_timeout(3)). EINVAL, ENOKEY, EACCES where it is not
+    /// Lets a key expire so many seconds on, or never for 0 (keyctl_set_timeout(3)). EINVAL, ENOKEY, EACCES if it is not
     /// possessed; its own error where it stands revoked or expired.
     pub fn set_timeout(
         &mut self,

@@ -12,7 +12,7 @@
 //! book is then the world that the machine leaves. And whatever run led to the book, that run with this step is a run, and obeys the laws of every
 //! run, which [`every_run`] states. All other calls only look: they answer what `Views` of rk_machine defines, and take no memory.
 //!
-//! A refused step changes nothing. Out of memory is answered only where the machine allows it, and every allocation of a step comes
+//! A refused step changes nothing. Out of memory is answered only if the machine allows it, and every allocation of a step comes
 //! before its first change.
 //!
 //! # The definitions

@@ -34,7 +34,7 @@ impl Tables {
         }
     }
 
-    /// A key may be linked in a ring, where one is given, that has room for it. EDQUOT where that is full.
+    /// A key may be linked in a ring, if one is given, that has room for it. EDQUOT if that is full.
     pub fn may_link(&self, ring: &Option<Serial>, key: Serial) -> Result<(), Errno>
         ensures { Passes (full_refusal self.now ring.now key) result }
     {
@@ -58,7 +58,7 @@ impl Tables {
         }
     }
 
-    /// Links a key in a ring, where one is given.
+    /// Links a key in a ring, if one is given.
     pub fn add_link(&mut self, ring: &Option<Serial>, key: Serial)
         requires known { map.contains_key self.old.keys key ≡ true }
         requires room { full_refusal self.old ring.now key ≡ None }
@@ -119,7 +119,7 @@ impl Tables {
         }
     }
 
-    /// Links a key in a ring, where one is given. The key that gives way vanishes with its last link.
+    /// Links a key in a ring, if one is given. The key that gives way vanishes with its last link.
     pub fn link(&mut self, ring: &Option<Serial>, key: Serial)
         requires known { map.contains_key self.old.keys key ≡ true }
         requires room { full_refusal self.old ring.now key ≡ None }
@@ -151,7 +151,7 @@ impl Tables {
         }
     }
 
-    /// Drops a ring, where it is there. Keys vanish with their last links.
+    /// Drops a ring, if it is there. Keys vanish with their last links.
     pub fn drop_ring(&mut self, ring: Serial)
         requires tidy { StayBut (λ j. false) self.old }
         ensures { self.new ≡ tidied (without_ring ring self.old) }

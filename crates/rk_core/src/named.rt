@@ -23,7 +23,7 @@ pub fn serial_named(number: i32) -> Option<Serial>
 // ---- who acts
 
 impl Tables {
-    /// Who acts when the session asks; `None` where nobody does: a client that has no context, a handler that has assumed no
+    /// Who acts when the session asks; `None` if nobody does: a client that has no context, a handler that has assumed no
     /// authority (request-key.rst). EINVAL for a session that is not there, EBUSY for one that waits.
     pub fn asker(&self, id: &SessionId) -> Result<Option<Asker>, Errno>
         ensures { FindsAsker self.now id.now result }
@@ -117,7 +117,7 @@ impl Tables {
         self.is_reached(&asker.context, key) || asker.has_assumed(key)
     }
 
-    /// The key of a number, which has to be there: EINVAL for 0 and below, ENOKEY where there is none.
+    /// The key of a number, which has to be there: EINVAL for 0 and below, ENOKEY if there is none.
     pub fn key(&self, number: i32) -> Result<Serial, Errno>
         ensures { FindsKey self.now number result }
     {
@@ -130,7 +130,7 @@ impl Tables {
         Ok(key)
     }
 
-    /// The same, and EACCES where the key is not possessed.
+    /// The same, and EACCES if the key is not possessed.
     pub fn possessed_key(&self, asker: &Asker, number: i32) -> Result<Serial, Errno>
         ensures { FindsPossessed self.now asker.now number result }
     {

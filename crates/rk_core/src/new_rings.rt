@@ -46,7 +46,7 @@ impl NewRings {
         Ok(serial)
     }
 
-    /// One ring more, where it is wanted.
+    /// One ring more, if it is wanted.
     pub fn make_if(
         &mut self,
         wanted: bool,

@@ -26,8 +26,8 @@ impl Tables {
         Ok((key, ring))
     }
 
-    /// Links a key in a ring (keyctl_link(3)). It takes no memory. EINVAL, ENOKEY, EACCES where the key is not possessed; the
-    /// ring's error; the key's own error; EDQUOT where the ring is full.
+    /// Links a key in a ring (keyctl_link(3)). It takes no memory. EINVAL, ENOKEY, EACCES if the key is not possessed; the
+    /// ring's error; the key's own error; EDQUOT if the ring is full.
     pub fn link_key(
         &mut self,
         now: Moment,
@@ -55,7 +55,7 @@ impl Tables {
         Ok((key, ring))
     }
 
-    /// Takes the link of a key out of a ring (keyctl_unlink(3)). EINVAL, ENOKEY; the ring's error; ENOENT where the key is
+    /// Takes the link of a key out of a ring (keyctl_unlink(3)). EINVAL, ENOKEY; the ring's error; ENOENT if the key is
     /// not linked there.
     pub fn unlink_key(&mut self, asker: &Asker, number: i32, ring: i32) -> Result<Answer, Errno>
         requires sound { IsSound self.old }

@@ -22,7 +22,7 @@ pub struct Match {
 /// The key of the name in each ring of a context, in the order of search (request_key(2)).
 #[derive(Clone, Copy, Debug)]
 pub struct Sought {
-    /// In the thread ring; `None` where there is no such key, or no such ring.
+    /// In the thread ring; `None` if there is no such key, or no such ring.
     pub thread: Option<Match>,
     /// In the process ring.
     pub process: Option<Match>,
@@ -86,7 +86,7 @@ impl Sought {
         }
     }
 
-    /// The error where there is no hit: that of the negative keys before that of the others.
+    /// The error if there is no hit: that of the negative keys before that of the others.
     pub fn miss(&self) -> KeyError
         ensures { result ≡ unwrap_or (block_in self.now) (unwrap_or (stale_in self.now) KeyError.NoKey) }
     {

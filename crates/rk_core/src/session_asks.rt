@@ -12,7 +12,7 @@ use rk_names::{Errno, SessionId, Setting};
 
 impl Tables {
     /// A handler takes on the authority of its own key; 0 lays it down (keyctl_assume_authority(3)). ENOKEY for any other key,
-    /// EKEYREVOKED where it is spent.
+    /// EKEYREVOKED if it is spent.
     pub fn assume(&mut self, id: &SessionId, number: i32) -> Result<Answer, Errno>
         ensures { Assumes self.old id.now number (answer_of result) self.new }
     {

@@ -7,7 +7,7 @@ use std::sync::{Condvar, Mutex, Wait};
 /// The last volume of a hall that is done with.
 #[derive(Clone, Copy, Drop)]
 struct Last {
-    /// Its index, and 0 where there is none.
+    /// Its index, and 0 if there is none.
     index: u64,
     /// What the next one has to say of it.
     sum: Sum,

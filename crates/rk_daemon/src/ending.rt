@@ -28,7 +28,7 @@ pub struct End<'s, 'c> {
     pub driven: Driven,
     /// Whether it made its key.
     pub made: bool,
-    /// The system's error number of a start that failed, where it is known.
+    /// The system's error number of a start that failed, if it is known.
     pub error: Option<u32>,
 }
 
@@ -64,7 +64,7 @@ impl<'s, 'c> End<'s, 'c> {
     }
 }
 
-/// The line that was chosen for what a handler was started for, where that is known. It is picked anew: the configuration never changes.
+/// The line that was chosen for what a handler was started for, if that is known. It is picked anew: the configuration never changes.
 pub fn line_for<'a>(conf: &'a Conf, subject: Option<&Subject>) -> Option<&'a Line>
     ensures { IsLineFor conf.now (option_copied subject.entry) (option_copied result) }
 {
@@ -217,7 +217,7 @@ fn errno_text(number: u32) -> Option<&'static str>
     }
 }
 
-/// The first 128 bytes of a name or a path, and `..` where there are more.
+/// The first 128 bytes of a name or a path, and `..` if there are more.
 fn put_shown(text: &mut String, bytes: &[u8]) -> Result<(), AllocError>
     ensures { OnOk result (string_bytes text.new ≡ string_bytes text.old ++ shown_text bytes.now) }
 {

@@ -24,7 +24,7 @@ impl<'a> Entrance<'a> {
         }
     }
 
-    /// Counts one more connection, and warns where it is the first of several that find all workers busy. None of these workers may come free by itself: who
+    /// Counts one more connection, and warns if it is the first of several that find all workers busy. None of these workers may come free by itself: who
     /// has it may wait for what a program of its own asks over this connection. Only here a worker gets more to do, so that one who has come free meanwhile
     /// is found so by the next connection.
     pub fn come<R: Log>(&mut self, log: &R) {

@@ -9,13 +9,13 @@ use std::io::Write;
 
 /// Who does what is to be done with the files of a record. It may tell what was done, as one for a test would; the system's tells nothing.
 pub trait Folder {
-    /// What was done, first things first, where it tells that.
+    /// What was done, first things first, if it tells that.
     ghost story: { Self → Option (List Act) };
 
     /// A file that is written.
     type File: Write + Drop;
 
-    /// Makes a new file at the path, for nobody but the owner to read. Where one is there it is that of another daemon, which writes into this folder too,
+    /// Makes a new file at the path, for nobody but the owner to read. If one is there it is that of another daemon, which writes into this folder too,
     /// and is left to it.
     fn create(&mut self, path: &str) -> io::Result<Self::File>
         ensures { story self.new ≡ and_then (story self.old) (Created path.now (option_map Self.File.contents (result_ok result)) ∷ []) };

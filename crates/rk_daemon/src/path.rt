@@ -31,7 +31,7 @@ fn bound<P: Place>(place: &mut P, path: &str) -> io::Result<P::Socket>
     }
 }
 
-/// A socket that is bound in the place of one on which nobody listens any more. Where there is none such, the error is this one.
+/// A socket that is bound in the place of one on which nobody listens any more. If there is none such, the error is this one.
 fn bound_instead<P: Place>(place: &mut P, path: &str, error: io::Error) -> io::Result<P::Socket>
     ensures { Does (Replaces path.now (is_ok result)) (P.story place.old) (P.story place.new) }
 {
@@ -43,7 +43,7 @@ fn bound_instead<P: Place>(place: &mut P, path: &str, error: io::Error) -> io::R
     place.bind(path)
 }
 
-/// Has the socket of the file at the path listen. Where it can't, its file goes again.
+/// Has the socket of the file at the path listen. If it can't, its file goes again.
 fn opened<P: Place>(
     place: &mut P,
     socket: P::Socket,

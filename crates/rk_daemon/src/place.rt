@@ -22,7 +22,7 @@ pub struct FileId {
 
 /// Who does what is to be done at the path of a socket. It may tell what was done, as one for a test would; the system's tells nothing.
 pub trait Place {
-    /// What was done, first things first, where it tells that.
+    /// What was done, first things first, if it tells that.
     ghost story: { Self → Option (List Act) };
 
     /// A socket that is bound to a path, to which nobody can connect yet.
@@ -31,7 +31,7 @@ pub trait Place {
     /// A socket that listens.
     type Listener: Drop;
 
-    /// Makes a socket and its file at the path. The error is `AddrInUse` where a file stands there.
+    /// Makes a socket and its file at the path. The error is `AddrInUse` if a file stands there.
     fn bind(&mut self, path: &str) -> io::Result<Self::Socket>
         ensures { story self.new ≡ and_then (story self.old) (Bound path.now (failure result) ∷ []) };
 

@@ -72,7 +72,7 @@ impl<R: Files> Keeper for R {
 }
 
 /// Writes a volume in its seal into the folder at this path, as `hall-2-volume-000001`, for nobody but the owner to read, and gives its sum. It is written
-/// under another name at first, so that a volume under its name is a whole one; where that fails, nothing of it stays. No file that is there is replaced,
+/// under another name at first, so that a volume under its name is a whole one; if that fails, nothing of it stays. No file that is there is replaced,
 /// under either name. It is not waited for that the disk has it.
 pub fn keep<F: Folder>(
     alloc: Global,

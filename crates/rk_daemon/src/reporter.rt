@@ -57,7 +57,7 @@ impl<'a, R: Eprint + Clock + Wait> Reporter<'a, R> {
         Reporter { rt, state }
     }
 
-    /// Whole seconds of the monotonic clock, 0 where it can't be read.
+    /// Whole seconds of the monotonic clock, 0 if it can't be read.
     pub fn seconds(&self) -> u64 {
         match self.rt.monotonic() {
             Ok(passed) => passed.as_secs(),

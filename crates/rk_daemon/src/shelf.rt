@@ -10,7 +10,7 @@ use std::alloc::Global;
 use std::io::Eprint;
 use std::sync::Wait;
 
-/// Writes each volume into the folder of the record; where there is none, names it on standard error, as `volume HALL INDEX STEPS`, and drops it.
+/// Writes each volume into the folder of the record; if there is none, names it on standard error, as `volume HALL INDEX STEPS`, and drops it.
 #[derive(Drop)]
 pub struct Outlet<'a, R: Eprint + Log + Keeper> {
     /// What writes volumes and lines.

@@ -166,7 +166,7 @@ fn kept<R: Abort>(
     (files.done, sum)
 }
 
-/// What was done, one letter for each, in capitals where it failed: c for a file that is made, f for one that is handed to the system, l for one that gets a
+/// What was done, one letter for each, in capitals if it failed: c for a file that is made, f for one that is handed to the system, l for one that gets a
 /// second path, r for one that is removed.
 fn letters(alloc: Global, done: &[InFolder]) -> Result<Vec<u8>, AllocError> {
     let mut letters = Vec::new(alloc);

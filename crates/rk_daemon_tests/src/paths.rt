@@ -208,7 +208,7 @@ fn given_free<R: Abort>(
     place.done
 }
 
-/// What was done, one letter for each, in capitals where it failed: b for a socket that is bound, p for permissions, l for one that listens, s for a look
+/// What was done, one letter for each, in capitals if it failed: b for a socket that is bound, p for permissions, l for one that listens, s for a look
 /// whether it is left over, i for one which file it is, r for one that is removed.
 fn letters(alloc: Global, done: &[AtPath]) -> Result<Vec<u8>, AllocError> {
     let mut letters = Vec::new(alloc);

@@ -7,7 +7,7 @@ use rk_machine::How;
 use rk_macro::ExpandFault;
 use std::fmt;
 
-/// How a launch was brought to its end: what became of its command, or where another command followed it and was started, of that one.
+/// How a launch was brought to its end: what became of its command, or if another command followed it and was started, of that one.
 #[derive(Clone, Copy, Debug, PartialEq, Eq)]
 pub enum Driven {
     /// The command ran, and has ended so.

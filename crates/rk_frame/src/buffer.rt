@@ -3,7 +3,7 @@
 ghost use Rattle.std.specs.Prelude.{◌≡◌, ◌<◌, ◌≤◌, ◌+◌, ◌-◌, ◌↔◌, drop, vec_len, vec_capacity, IsTrue};
 ghost use Rattle.rk_frame.specs.Move.{IsWorthMoving};
 
-/// Takes the first `count` bytes away. Each byte behind them is moved once, and none where `count`
+/// Takes the first `count` bytes away. Each byte behind them is moved once, and none if `count`
 /// is 0.
 pub fn drop_front(bytes: &mut Vec<u8>, count: usize)
     requires { count ≤ vec_len bytes.old }

@@ -8,7 +8,7 @@ ghost use Rattle.rk_frame.specs.Laws.{HasOneReading, HasAReading, HandsOutInOrde
 ///
 /// A stream of bytes has one list of bodies and one rest. After any list of calls the bodies handed
 /// out are the first ones of the joined pieces, in order, and what is held has the others. `next`
-/// answers the first of those, and where none is left, the fault of the rest or else `More`. After a
+/// answers the first of those, and if none is left, the fault of the rest or else `More`. After a
 /// fault, whatever is fed, `next` answers that fault alone.
 pub fn any_cutting()
     ensures one_reading { HasOneReading }

@@ -10,7 +10,7 @@
 //!
 //! A stream has exactly one list of bodies, followed by a rest at whose front no whole frame stands.
 //! However the stream was cut into pieces, and whenever the bodies were asked for, `next` hands out
-//! the bodies of that list and nothing else. It answers [`Next::More`] or a fault exactly where no
+//! the bodies of that list and nothing else. It answers [`Next::More`] or a fault exactly if no
 //! body of the stream so far is left. A length of 0 or above 65,536 is a fault once its four bytes
 //! are there. It is answered after all bodies in front of it, and from then on for good.
 //!
@@ -20,7 +20,7 @@
 //! # Use
 //!
 //! Make a `Frames`, and ask for `next` until it answers `More`: each `Whole(body)` lends a body until
-//! the next call. Then read a piece and `feed` it, and ask again. Where it answers `Fault`, no frame
+//! the next call. Then read a piece and `feed` it, and ask again. If it answers `Fault`, no frame
 //! can be found behind it any more, so the stream is at its end. Fed the bytes `00 00 00 02 68 69
 //! 00`, it answers `Whole(b"hi")` and then `More`, and `held` says 1.
 //!

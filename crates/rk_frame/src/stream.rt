@@ -50,7 +50,7 @@ impl Frames {
         Ok(Frames { buffer, taken: 0 })
     }
 
-    /// How many bytes were fed and not handed out: at most 65,539 where `next` answers `More`. It
+    /// How many bytes were fed and not handed out: at most 65,539 if `next` answers `More`. It
     /// takes no memory.
     pub fn held(&self) -> usize
         ensures { result ≡ length self.now.bytes }
@@ -60,7 +60,7 @@ impl Frames {
 
     /// Takes the next piece of the stream, of any length.
     ///
-    /// It is refused only where an allocation failed, and then nothing has changed. Pieces that
+    /// It is refused only if an allocation failed, and then nothing has changed. Pieces that
     /// together have no more bytes than the room that is left are never refused; after `More`, and at
     /// first, that is [`MAX_PIECE`](crate::MAX_PIECE) bytes or more.
     pub fn feed(&mut self, piece: &[u8]) -> Result<(), AllocError>
@@ -79,7 +79,7 @@ impl Frames {
 
     /// The next body of the stream, lent until the next call.
     ///
-    /// Where no whole frame is left it is `More`, or the fault that stands there, which is answered
+    /// If no whole frame is left it is `More`, or the fault that stands there, which is answered
     /// from then on whatever is fed. It takes no memory.
     pub fn next(&mut self) -> Next<'_>
         ensures* after_borrow { sem 𝓛 (Rests the_row self.entry (λ new. Leaves result self.old new)) }

@@ -8,7 +8,7 @@
 //! `matches(b"a*b*", b"ba")` is not, and `*` fits the empty text.
 //!
 //! The part before the first `*` and the part after the last one are compared at the two ends of the text. What is
-//! between them is looked for from left to right by two places, one in the pattern and one in the text. Where a byte
+//! between them is looked for from left to right by two places, one in the pattern and one in the text. If a byte
 //! differs, only the last `*` takes one byte more: that an earlier `*` need never be tried again is what the proof of
 //! the scan shows. With no `*` or one the time is in proportion to the lengths, with more at most to their product.
 #![tactic(auto)]

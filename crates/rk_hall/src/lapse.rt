@@ -28,7 +28,7 @@ pub enum CallFault {
     NoMemory,
 }
 
-/// What a turn gives that was asked for as owed. It is made wherever the event is owed, also where there is no receipt.
+/// What a turn gives that was asked for as owed. It is made wherever the event is owed, also if there is no receipt.
 #[derive(Drop)]
 pub struct Owed<V> {
     /// What it gives back.

@@ -10,7 +10,7 @@
 //!
 //! A receipt is that of one step, with the moment and the event that were handed in. Its number is greater than all that the seat had seen in that
 //! hall, in its own receipts or by [`Seat::hear`]. The seat's turns are one more. A call that is refused changes nothing. What is owed is never
-//! refused: its step is taken wherever the locked hall owes it, also where the seat has seen a greater number (`Behind`). Where the hall owes nothing
+//! refused: its step is taken wherever the locked hall owes it, also if the seat has seen a greater number (`Behind`). If the hall owes nothing
 //! there is no step, the answer is `Stray`, and the token is spent and counted. `Behind` never comes to a seat that has seen nothing.
 //!
 //! *No orphan.* A `Launch` comes only from a call that is answered by a start, or from the end of a piped handler that another handler follows. It is
@@ -18,7 +18,7 @@
 //! out and strays. The steps are as many as the turns of all seats, those that were given back counted too.
 //!
 //! *Receipts.* When all is over, [`settle`] compares the records with the seats and with the receipts that their calls returned. It answers `Ok`
-//! exactly where the turns of the seats are all steps, and every receipt stands in the record of its hall, by rising number. Else it names what is
+//! exactly if the turns of the seats are all steps, and every receipt stands in the record of its hall, by rising number. Else it names what is
 //! missed, or the first receipt at fault. The records are those that stand under the locks then. No contract sees what a lock keeps, so no proof says
 //! that they are the records of the calls before, nor that all strays are counted: tests compare both. Whatever the records are, the live turns are
 //! those of the seats, receipts rise, and a fault names a receipt that was handed in.

@@ -176,7 +176,7 @@ impl<N: Names, const H: u64> Lock<N, H> {
         self.locked.lock(rt).gone(part, now, session)
     }
 
-    /// Where no ticket goes on, the construction has ended: those who wait for its key have their outcome, its starter too.
+    /// If no ticket goes on, the construction has ended: those who wait for its key have their outcome, its starter too.
     fn tell_if_over(&self, owed: &Owed<Option<Ticket<N, H>>>) {
         if owed.value.is_none() {
             self.told.notify_all();

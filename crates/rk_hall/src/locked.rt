@@ -222,7 +222,7 @@ impl<N: Names, const H: u64> Locked<N, H> {
         }
     }
 
-    /// Says how a handler ended. The ticket goes on where another handler is to be started.
+    /// Says how a handler ended. The ticket goes on if another handler is to be started.
     pub(crate) fn ended(
         &mut self,
         part: &mut Part<N, H>,
@@ -260,7 +260,7 @@ impl<N: Names, const H: u64> Locked<N, H> {
         }
     }
 
-    /// Collects the outcome of a wait, `Refused(Einval)` where none is there.
+    /// Collects the outcome of a wait, `Refused(Einval)` if none is there.
     pub(crate) fn collect(
         &mut self,
         part: &mut Part<N, H>,

@@ -42,7 +42,7 @@ pub enum SettleFault {
 /// Compares the records of four halls with the seats that made them and with the receipts that their calls returned. It takes no memory, and
 /// ends the halls either way.
 ///
-/// [`SettleFault::Uneven`] is returned exactly where the turns of the seats that are handed in, and of those that were given back, are not all
+/// [`SettleFault::Uneven`] is returned exactly if the turns of the seats that are handed in, and of those that were given back, are not all
 /// steps of the four halls. Else hall by hall, from hall 0 on, the first receipt at fault is sought. It is not numbered above those of its hall
 /// before it, or does not stand in its volume with its moment, event and answer. [`SettleFault::Missing`] is returned where its volume is neither
 /// the one that the hall records nor among those that are handed in; else [`SettleFault::Forged`]. Receipts of several halls may come in any

@@ -55,7 +55,7 @@ impl Bucket {
         self.names.is_empty()
     }
 
-    /// What is kept of a name; `None` where it is not among these.
+    /// What is kept of a name; `None` if it is not among these.
     pub fn find(&self, typ: &[u8], description: &[u8]) -> Option<&Named>
         ensures { option_copied result ≡ list_find (is_of typ.now description.now) self.now }
     {

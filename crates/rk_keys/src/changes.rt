@@ -3,7 +3,7 @@ use crate::key::{Condition, Key};
 use rk_names::Moment;
 use rk_table::ChangeOnce;
 
-/// The key gets its condition, and an expiry where one is given.
+/// The key gets its condition, and an expiry if one is given.
 #[derive(Drop)]
 pub struct Conclude {
     /// What the key has come to.

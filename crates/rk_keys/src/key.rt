@@ -91,7 +91,7 @@ impl Key {
         matches!(self.condition, Condition::Building)
     }
 
-    /// The payload of a key that stands Positive. `Busy` where it stands Building; `Own` with its
+    /// The payload of a key that stands Positive. `Busy` if it stands Building; `Own` with its
     /// error where it stands Revoked, Expired or Negative (request_key(2), "ERRORS").
     pub fn payload(&self, now: Moment) -> Result<&Payload, KeyFault>
         ensures { MatchResult result (λ payload. (self.now.condition ≡ condition.Positive payload.now) × (use_fault self.now now ≡ None))

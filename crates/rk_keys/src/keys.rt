@@ -89,21 +89,21 @@ impl Keys {
         })
     }
 
-    /// What is known of a key; `None` where there is none of that serial.
+    /// What is known of a key; `None` if there is none of that serial.
     pub fn fact(&self, key: Serial) -> Option<&Key>
         ensures { option_copied result ≡ map.get self.now.keys key }
     {
         self.facts.get(key.get())
     }
 
-    /// What the key is at this moment; `None` where there is none of that serial.
+    /// What the key is at this moment; `None` if there is none of that serial.
     pub fn state_at(&self, key: Serial, now: Moment) -> Option<Standing>
         ensures { result ≡ option_map (λ k. standing_of k now) (map.get self.now.keys key) }
     {
         Some(self.fact(key)?.standing(now))
     }
 
-    /// The payload of a key that stands Positive. `Busy` where it stands Building; `Own` with its
+    /// The payload of a key that stands Positive. `Busy` if it stands Building; `Own` with its
     /// error where it stands Revoked, Expired or Negative (request_key(2), "ERRORS").
     pub fn payload(&self, key: Serial, now: Moment) -> Result<&Payload, KeyFault>
         requires { map.contains_key self.now.keys key ≡ true }
@@ -117,7 +117,7 @@ impl Keys {
         }
     }
 
-    /// The number of the name: live keys share one exactly where their type and description are equal. `None` where no live key has that name.
+    /// The number of the name: live keys share one exactly if their type and description are equal. `None` if no live key has that name.
     pub fn name(&self, typ: &TypeView<'_>, description: &DescriptionView<'_>) -> Option<NameNo>
         ensures naming { IsNaming self.now.keys self.now.numbers }
         ensures none { result ≡ None → (k : ℕ) → has_name self.now.keys k typ.now description.now ≡ false }
@@ -126,7 +126,7 @@ impl Keys {
         number_of(&self.by_name, self.seed, typ, description)
     }
 
-    /// The number of the key's name; `None` where there is no key of that serial.
+    /// The number of the key's name; `None` if there is no key of that serial.
     pub fn number(&self, key: Serial) -> Option<NameNo>
         ensures naming { IsNaming self.now.keys self.now.numbers }
         ensures number { result ≡ map.get self.now.numbers key }
@@ -164,7 +164,7 @@ impl Keys {
     }
 
     /// Makes a key of this user under the least unused serial, without expiry: under construction, or with a payload. Its name has the number of
-    /// the live keys of that name, else its own serial. Refusals: `Quota` exactly where the user has 200 keys or no serial is left (add_key(2),
+    /// the live keys of that name, else its own serial. Refusals: `Quota` exactly if the user has 200 keys or no serial is left (add_key(2),
     /// EDQUOT); else `NoMemory`. A refusal changes nothing, and draws no serial.
     pub fn make(
         &mut self,
@@ -207,7 +207,7 @@ impl Keys {
         Ok(serial)
     }
 
-    /// Gives the key its condition, and an expiry where one is given; else the one that it has stays
+    /// Gives the key its condition, and an expiry if one is given; else the one that it has stays
     /// (keyctl_instantiate(3), keyctl_reject(3)). Of a serial that no key has nothing changes.
     pub fn complete(&mut self, key: Serial, condition: Condition, expiry: Option<Moment>)
         ensures { self.new ≡ with_key_changed key (concluded condition expiry) self.old }
@@ -215,7 +215,7 @@ impl Keys {
         self.facts.change(key.get(), Conclude { condition, expiry });
     }
 
-    /// Marks the key as revoked (keyctl_revoke(3)). `Own(Revoked)` exactly where it is marked already, and then nothing changes.
+    /// Marks the key as revoked (keyctl_revoke(3)). `Own(Revoked)` exactly if it is marked already, and then nothing changes.
     pub fn revoke(&mut self, key: Serial) -> Result<(), KeyFault>
         ensures { MatchBool (key_passes self.old.keys key is_revoked) ((result ≡ Err (KeyFault.Own KeyError.Revoked)) × (self.new ≡ self.old))
             (IsOk result × (self.new ≡ with_key_changed key marked self.old)) }
@@ -228,7 +228,7 @@ impl Keys {
     }
 
     /// Lets the key expire so many seconds from now, or never for 0 (keyctl_set_timeout(3)). `Own` with
-    /// its error exactly where it stands Revoked or Expired, and then nothing changes.
+    /// its error exactly if it stands Revoked or Expired, and then nothing changes.
     pub fn set_expiry(&mut self, key: Serial, now: Moment, seconds: u32) -> Result<(), KeyFault>
         ensures { MatchOption (change_fault self.old.keys key now) (IsOk result × (self.new ≡ with_key_changed key (timed now seconds) self.old))
             (λ fault. (result ≡ Err fault) × (self.new ≡ self.old)) }
@@ -240,7 +240,7 @@ impl Keys {
         Ok(())
     }
 
-    /// Forgets a key, where there is one. Its serial stays drawn.
+    /// Forgets a key, if there is one. Its serial stays drawn.
     pub fn forget(&mut self, key: Serial)
         ensures { self.new ≡ without_key key self.old }
     {

@@ -11,7 +11,7 @@
 //!
 //! Its clauses speak of one value: a finite map from serials to keys, a finite map from serials to numbers of names, and the set of serials that
 //! were drawn. Each call is one change of that value. A serial is never given again, also when its key is forgotten. Live keys share the number of
-//! a name exactly where their type and description are equal, so a ring can compare names without reading them. A refused call changes nothing.
+//! a name exactly if their type and description are equal, so a ring can compare names without reading them. A refused call changes nothing.
 //! Only `new` and `make` take memory, and room for the keys of one user is made by the first.
 //!
 //! # An example
@@ -26,7 +26,7 @@
 //! the serials to draw together. `named` has what is kept of a name, its number and how many live keys have it, and `by_name` the names with one
 //! hash. `naming` hashes names, looks up their numbers, and counts keys in and out. So they are an index from type and description to serials, since
 //! the number of a name is the serial of the key with which the name came. The index grows in `make` alone. `owners` counts the keys of each user,
-//! `changes` has what happens to one key. Where the specifications speak of a key in few words, as `standing_of`, they stand in `specs/Key.antt`; of
+//! `changes` has what happens to one key. What the specifications say of a key in few words, as `standing_of`, stands in `specs/Key.antt`, and of
 //! all keys in `specs/Known.antt`.
 #![tactic(auto)]
 

@@ -38,7 +38,7 @@ fn feed(hasher: &mut FoldHasher, bytes: &[u8])
     }
 }
 
-/// The number that the live keys of this name share; `None` where none is kept.
+/// The number that the live keys of this name share; `None` if none is kept.
 pub fn number_of(
     by_name: &HashTable<Bucket>,
     seed: u64,

@@ -68,7 +68,7 @@ impl Serials {
             .is_some()
     }
 
-    /// Draws the least unused serial. `None` exactly where none is left, and then nothing changes.
+    /// Draws the least unused serial. `None` exactly if none is left, and then nothing changes.
     pub fn draw(&mut self) -> Option<Serial>
         ensures cases { MatchOption result (¬ (HasSerials self.old 1) × (self.new ≡ self.old)) (λ k. IsNext self.old k × (self.new ≡ with_drawn k self.old)) }
         ensures fresh { IfSome result (IsFresh self.old) }
@@ -82,7 +82,7 @@ impl Serials {
     }
 }
 
-/// The serial of this index, from 0; `None` where it would pass 2,147,483,647.
+/// The serial of this index, from 0; `None` if it would pass 2,147,483,647.
 fn of_form(first: Serial, stride: u32, index: u32) -> Option<Serial>
     ensures { result ≡ serial_of (first + stride * index) }
 {

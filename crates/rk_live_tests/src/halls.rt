@@ -1,5 +1,5 @@
 //! Four halls and their seats: `opening` makes halls of new ledgers for a scene, `calls` has what a client and its handler do there, `paths` these steps
-//! with their receipts, `growths` a client from its coming to its end, also where memory is refused, `settling` whether seats and receipts agree with the
+//! with their receipts, `growths` a client from its coming to its end, also if memory is refused, `settling` whether seats and receipts agree with the
 //! records.
 pub mod calls;
 pub mod growths;

@@ -40,7 +40,7 @@ fn bytes(alloc: Global, payload: Option<Payload>) -> Option<Vec<u8>> {
     payload?.as_bytes().to_vec(alloc).ok()
 }
 
-/// Runs a program with this callout, as a piped handler. `None` where it was not started.
+/// Runs a program with this callout, as a piped handler. `None` if it was not started.
 fn run<L: Launcher>(
     launcher: &mut L,
     alloc: Global,

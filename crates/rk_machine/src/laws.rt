@@ -19,7 +19,7 @@ ghost use Rattle.rk_machine.specs.Laws.{EachOnce, EachOutcome, EachOwn, EachRoot
 /// that was answered 0 named that key. *First requester*: a handler gets the uid, the gid and the rings of the last HELLO before the client's ask
 /// that led to its start, over however many handlers. It gets 0 for a ring that no client has any more. *No circle*: at no point does a session
 /// wait, over the handlers of the keys on which others wait, for itself. *No deep chain*: at no point do more than 8 starts lead to a handler. A
-/// launch, an end or a client's end counts where it is effective; any other is answered as misuse, but for an end that another handler follows.
+/// launch, an end or a client's end counts if it is effective; any other is answered as misuse, but for an end that another handler follows.
 pub fn every_run()
     ensures one_construction { (from : Beginning) (past : List Past) (w : World) → Run from past w → EachOnce past }
     ensures one_outcome { (from : Beginning) (past : List Past) (w : World) → Run from past w → EachOutcome past }

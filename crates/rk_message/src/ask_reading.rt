@@ -76,7 +76,7 @@ fn read_body(body: &[u8]) -> Result<AskView<'_>, Fault>
     }
 }
 
-/// The ask of the op that has this byte, where there is one.
+/// The ask of the op that has this byte, if there is one.
 #[tactic(auto, unfolding(crate::specs::Reading::message_behind))]
 fn read_behind(op: u8, rest: &[u8]) -> Result<AskView<'_>, Fault>
     ensures { ReadsAsk result (message_behind asks op rest.now) }

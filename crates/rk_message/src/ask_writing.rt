@@ -33,7 +33,7 @@ impl Ask {
     }
 
     /// Appends the one spelling of the ask. Memory is taken once, before anything is written, and
-    /// only where there is no room; an `Err` leaves the bytes as they were.
+    /// only if there is no room; an `Err` leaves the bytes as they were.
     pub fn write_into(&self, out: &mut Vec<u8>) -> Result<(), AllocError>
         ensures ok { OnOk result (out.new.items ≡ out.old.items ++ spelling (ask_message self.now)) }
         ensures err { OnErr result (out.new.items ≡ out.old.items) }

@@ -76,7 +76,7 @@ impl Clone for ReplyBytes {
 /// What a session is answered.
 #[derive(Clone, Debug, Drop, PartialEq, Eq)]
 pub enum Reply {
-    /// The serial of a key, the setting before, or 0 where there is nothing to return.
+    /// The serial of a key, the setting before, or 0 if there is nothing to return.
     Number(u32),
     /// A payload, a description or a callout.
     Bytes(ReplyBytes),

@@ -150,7 +150,7 @@ impl Op {
         self as u8
     }
 
-    /// The op with this byte; `None` where the table has none.
+    /// The op with this byte; `None` if the table has none.
     pub fn from_byte(byte: u8) -> Option<Op>
         ensures { MatchOption result (kinds_of asks byte ≡ None) (λ op. op_byte op ≡ byte) }
     {

@@ -39,7 +39,7 @@ pub fn len(message: Spelling<'_>) -> usize
     1 + field_len(first) + field_len(second) + field_len(third) + field_len(fourth)
 }
 
-/// Appends the bytes of the message where there is room for them.
+/// Appends the bytes of the message if there is room for them.
 pub fn put(out: &mut Vec<u8>, message: Spelling<'_>)
     requires told { AreTold message }
     requires room { vec_len out.old + length (all_bytes message) ≤ vec_capacity out.old }

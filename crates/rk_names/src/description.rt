@@ -31,7 +31,7 @@ impl Description {
     /// The most bytes that it has.
     pub const MAX_LEN: usize = 4_095;
 
-    /// The first rule that the bytes break; `None` where `new` would make them a name. It takes no
+    /// The first rule that the bytes break; `None` if `new` would make them a name. It takes no
     /// memory.
     pub fn fault(bytes: &[u8]) -> Option<NameFault>
         ensures { result ≡ description_fault bytes.now }

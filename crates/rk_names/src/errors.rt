@@ -106,7 +106,7 @@ impl fmt::Display for Errno {
     }
 }
 
-/// Why a key can't be used. Where several keys match, the first in this order is returned
+/// Why a key can't be used. If several keys match, the first in this order is returned
 /// (request-key.rst, "The search algorithm").
 #[derive(Clone, Copy, Debug, PartialEq, Eq)]
 pub enum KeyError {

@@ -9,7 +9,7 @@
 //! # Making them
 //!
 //! A maker tests its rule and refuses by name, in one order: `Empty`, `TooLong`, `Dot`, `Byte`, and out of memory last. So `TypeName::new(b"user")`
-//! is made, `TypeName::new(b".x")` is refused with `Dot`. Where bytes are still borrowed, as in a message that is being read, a [`TypeView`] keeps
+//! is made, `TypeName::new(b".x")` is refused with `Dot`. If bytes are still borrowed, as in a message that is being read, a [`TypeView`] keeps
 //! the same rule and takes no memory, and `to_owned` copies it without another look. [`DescriptionView`], [`CalloutView`] and [`PayloadView`] do
 //! likewise. A type lies in its value and takes no memory, and so does a description of at most 31 bytes. The copies of a longer one, or of a callout,
 //! share its bytes. [`Payload::new`] moves the bytes that it is handed and takes no memory either.

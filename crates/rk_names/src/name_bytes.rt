@@ -12,9 +12,9 @@ const INLINE: usize = 31;
 /// The bytes of a description. At most 31 stand in the value, so that most copies take no memory; the copies of more share them.
 #[derive(Debug, Drop)]
 pub(crate) struct NameBytes {
-    /// At most 31 bytes; none where there are more.
+    /// At most 31 bytes; none if there are more.
     few: ArrayVec<u8, INLINE>,
-    /// All bytes, where there are more.
+    /// All bytes, if there are more.
     many: Option<Arc<Vec<u8>>>,
 }
 

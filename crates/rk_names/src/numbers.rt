@@ -73,7 +73,7 @@ impl Moment {
     }
 }
 
-/// The number of a name. Live keys share one exactly where their type and description are equal, so
+/// The number of a name. Live keys share one exactly if their type and description are equal, so
 /// that a ring can compare names without reading them.
 #[derive(Clone, Copy, Debug, PartialEq, Eq, PartialOrd, Ord, Hash)]
 pub struct NameNo(pub u32);

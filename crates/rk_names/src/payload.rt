@@ -28,7 +28,7 @@ impl Payload {
     /// The most bytes that it has.
     pub const MAX_LEN: usize = 32_767;
 
-    /// The first rule that the bytes break; `None` where `new` would make them a payload. It takes no
+    /// The first rule that the bytes break; `None` if `new` would make them a payload. It takes no
     /// memory.
     pub fn fault(bytes: &[u8]) -> Option<NameFault>
         ensures { result ≡ payload_fault bytes.now }

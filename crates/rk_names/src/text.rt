@@ -5,7 +5,7 @@ ghost use Rattle.rk_names.specs.Rules.{text_fault};
 use crate::errors::NameFault;
 use rk_text::is_text;
 
-/// The last rule of every name: `Byte` where the bytes are no text.
+/// The last rule of every name: `Byte` if the bytes are no text.
 pub fn text_fault(bytes: &[u8]) -> Option<NameFault>
     ensures { result ≡ text_fault bytes.now }
 {

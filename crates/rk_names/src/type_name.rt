@@ -31,7 +31,7 @@ impl TypeName {
     /// The most bytes that it has.
     pub const MAX_LEN: usize = 31;
 
-    /// The first rule that the bytes break; `None` where `new` makes them a name.
+    /// The first rule that the bytes break; `None` if `new` makes them a name.
     pub fn fault(bytes: &[u8]) -> Option<NameFault>
         ensures { result ≡ type_fault bytes.now }
     {

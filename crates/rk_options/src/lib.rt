@@ -9,7 +9,7 @@
 //! # What it promises
 //!
 //! What is found of a name is what the options that the words say give it (`options_of` and `value_in` of `specs/Options.antt`): its value, nothing
-//! where it isn't there, and no answer where it is there twice or the words are no options. Numbers are decimal digits without a sign, up to a limit.
+//! if it isn't there, and no answer if it is there twice or the words are no options. Numbers are decimal digits without a sign, up to a limit.
 //! No call takes memory, and none goes deeper with more words.
 #![tactic(auto)]
 

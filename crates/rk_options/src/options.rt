@@ -65,7 +65,7 @@ fn first_option<'a>(words: &'a [String], flags: &[&str]) -> Option<Option<Found<
     }))
 }
 
-/// The value that is found of a name with this option too, where `found` was found before it; `None` where it is the second of that name.
+/// The value that is found of a name with this option too, where `found` was found before it; `None` if it is the second of that name.
 fn found_with<'a>(found: Option<&'a str>, option: Found<'a>, name: &str) -> Option<Option<&'a str>>
     ensures { option_map (option_map (λ s. s.now)) result
         ≡ taken name.now (option_map (λ s. s.now) found.entry) (record { name = option.entry.name.now; value = option.entry.value.now }) }
@@ -85,7 +85,7 @@ impl<'a> Options<'a> {
     ghost use Rattle.rk_options.specs.Values.{number_in, number_up_to};
     ghost use Rattle.rk_options.specs.Said.{said_by};
 
-    /// The value of the option of this name, nothing for a flag that is there: `Some(None)` where it isn't there, `None` where it is there twice, or the
+    /// The value of the option of this name, nothing for a flag that is there: `Some(None)` if it isn't there, `None` if it is there twice, or the
     /// words are no options.
     pub fn value_of(&self, name: &str) -> Option<Option<&'a str>>
         ensures { option_map (option_map (λ s. s.now)) result ≡ value_in name.now (said_by self.now) }
@@ -116,7 +116,7 @@ impl<'a> Options<'a> {
         false
     }
 
-    /// The number that the option of this name gives, in decimal digits up to the limit, or the default where it isn't there. `None` where it is there
+    /// The number that the option of this name gives, in decimal digits up to the limit, or the default if it isn't there. `None` if it is there
     /// twice, says no such number, or the words are no options.
     pub fn number_or(&self, name: &str, limit: u32, default: u32) -> Option<u32>
         ensures { result ≡ number_in name.now default (number_up_to limit) (said_by self.now) }

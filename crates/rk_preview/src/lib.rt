@@ -11,7 +11,7 @@
 //! The text is that of the chosen line and of the words that its arguments stand for, by the very definitions by which a daemon picks and expands
 //! (`IsPicked` of `specs/Told.antt`); it is one line for each word, and no two commands have the same text (`commands_have_one_reading`). A fault comes exactly
 //! where those definitions say so (`IsRefused`): the first fault of the text, no line that fits, or the first argument that gives no word. Out of memory
-//! comes only where there is no fault of the text.
+//! comes only if there is no fault of the text.
 //!
 //! # How it is built
 //!

@@ -30,7 +30,7 @@ impl Numbers {
     ghost use Rattle.rk_preview.specs.Numbers.{numbers_in};
 
     /// The numbers that options give: `--key` from 1 to 2147483647 (1), `--uid` and `--gid` up to 4294967295 (0), and `--thread`, `--process` and `--session`
-    /// up to 2147483647 (0), each in decimal digits without a sign. `None` where one is none of these, or the words are no options.
+    /// up to 2147483647 (0), each in decimal digits without a sign. `None` if one is none of these, or the words are no options.
     pub fn read(options: &Options<'_>) -> Option<Numbers>
         ensures { result ≡ numbers_in (said_by options.now) }
     {

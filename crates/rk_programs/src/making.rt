@@ -9,7 +9,7 @@ use std::alloc::{AllocError, Global};
 use std::process::{self, Stdio};
 
 /// The program of this command and its words, with pipes for its standard input and output. A plain handler gets the library by which keyutils'
-/// calls are the daemon's, where there is one, and that they go over these pipes; a piped one doesn't. The only refusal is out of memory.
+/// calls are the daemon's, if there is one, and that they go over these pipes; a piped one doesn't. The only refusal is out of memory.
 pub fn made(
     alloc: Global,
     command: &Command,

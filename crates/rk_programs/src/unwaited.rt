@@ -18,7 +18,7 @@ impl<P: OpenProcess + Drop> Unwaited<P> {
         }
     }
 
-    /// Keeps one that still runs, its pipes closed. Where there is no memory for it, it is let go.
+    /// Keeps one that still runs, its pipes closed. If there is no memory for it, it is let go.
     pub fn keep(&mut self, child: Child<P>) {
         let mut child = child;
         drop(child.stdin.take());

@@ -36,7 +36,7 @@ pub(crate) fn place_for_subject(
     }
 }
 
-/// A copy of an answer for the record, which for a start takes no memory but the place. `None` where there is none: out of memory is no answer
+/// A copy of an answer for the record, which for a start takes no memory but the place. `None` if there is none: out of memory is no answer
 /// for a record, and for bytes there may be no memory. Neither has changed anything.
 pub(crate) fn recorded_answer(answer: &Answer, place: Option<BoxedSubject>) -> Option<Answer>
     requires { FitsStart (option_map names_in place) answer.now }

@@ -18,7 +18,7 @@ use std::alloc::Global;
 /// Steps an empty book through lists of steps that are joined, and compares every answer. `Ok` says how many steps there are, at most the greatest
 /// u64: they are a run from the empty world on, and obey the laws of every run.
 ///
-/// [`Rejoin::Broken`] has the number of the first step that is answered otherwise; [`Rejoin::NoMemory`] is returned where an allocation failed.
+/// [`Rejoin::Broken`] has the number of the first step that is answered otherwise; [`Rejoin::NoMemory`] is returned if an allocation failed.
 pub fn rejoin(alloc: Global, limits: Limits, volumes: &[&[Recorded]]) -> Result<u64, Rejoin>
     requires { 1 ≤ limits.stride }
     ensures count { IfOk result (λ n. n ≡ counted (length (flat_map (λ v. v.now) volumes.now))) }

@@ -14,7 +14,7 @@
 //!
 //! What the book owes is never refused: the launch and the end of a construction, the collect of a wait, the end of a client. From the moment on at
 //! which it is owed, a place in the record and room for the payload of an end are kept. So an owed turn takes no memory. An event that is not owed is
-//! refused as full exactly where it may need more places than are free.
+//! refused as full exactly if it may need more places than are free.
 //!
 //! A record is cut into volumes. [`Hall::roll`] hands out the volume that is being recorded, with exactly its steps, and the next one opens in the
 //! state in which this one closed. The numbers of the steps go on. So a run of as many steps as the volumes before it have leads to where a volume

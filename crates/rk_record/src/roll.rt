@@ -16,8 +16,8 @@ impl Hall {
     /// Hands out the volume that was being recorded, and begins the next. That one has no step, the book is as it was, and places and room are
     /// kept for all that is owed.
     ///
-    /// [`HallFault::Full`] is returned exactly where what is owed would fill the next volume, or where the volume's index is the
-    /// greatest u64; [`HallFault::NoMemory`] where an allocation failed. Neither changes anything.
+    /// [`HallFault::Full`] is returned exactly if what is owed would fill the next volume, or if the volume's index is the
+    /// greatest u64; [`HallFault::NoMemory`] if an allocation failed. Neither changes anything.
     pub fn roll(&mut self) -> Result<Volume, HallFault>
         ensures ok { IfOk result (λ v. (v ≡ volume_of self.old) × (self.new ≡ rolled self.old)) }
         ensures err { OnErr result (self.new ≡ self.old) }

@@ -22,8 +22,8 @@ use std::alloc::{AllocError, Global};
 impl Hall {
     /// Takes one step of the book at this moment, and records it. The receipt says the step.
     ///
-    /// [`HallFault::Full`] is returned exactly where an event that is not owed may need more places than are free: 2 for `Opened`, 6 for REQUEST, 1
-    /// for any other. [`HallFault::NoMemory`] is returned where an allocation failed. Neither takes a step or changes anything, and neither is
+    /// [`HallFault::Full`] is returned exactly if an event that is not owed may need more places than are free: 2 for `Opened`, 6 for REQUEST, 1
+    /// for any other. [`HallFault::NoMemory`] is returned if an allocation failed. Neither takes a step or changes anything, and neither is
     /// returned for what is owed, which takes no memory.
     pub fn turn(&mut self, now: Moment, event: EventStep<'_>) -> Result<Receipt, HallFault>
         ensures ok { IfOk result (λ r. Turned self.old now event.entry r self.new) }
@@ -44,7 +44,7 @@ impl Hall {
     }
 
     /// The same, with the subject of a start once more, for whoever starts the handler. The copies are of this event, so that they can be made before
-    /// the hall is locked. Where there are none, and the event is not owed, it is as if an allocation failed.
+    /// the hall is locked. If there are none, and the event is not owed, it is as if an allocation failed.
     pub fn turn_to_start(
         &mut self,
         now: Moment,

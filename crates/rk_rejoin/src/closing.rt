@@ -7,7 +7,7 @@ use crate::part::Total;
 use crate::verdict::Verdict;
 use rk_hall::HallNo;
 
-/// Whether all halls' records are closed, or none is. A refusal names one that is not where another is.
+/// Whether all halls' records are closed, or none is. A refusal names one that is not if another is.
 pub(crate) fn are_closed_alike(total: &Total) -> Result<(), Verdict>
     ensures alike { OnOk result (AreClosedAlike total.now) }
     ensures refused { IfErr result (λ f. IsOpenBeside (λ h. (part_of total.now h).closed) f) }

@@ -61,7 +61,7 @@ pub fn play(alloc: Global, text: &[u8], transcript: &mut Transcript) -> Result<(
     }
 }
 
-/// Writes the fault of a configuration. The result is `NoMemory` where that fault is out of memory, or where it could not be written.
+/// Writes the fault of a configuration. The result is `NoMemory` if that fault is out of memory, or if it could not be written.
 fn refuse(fault: ConfFault, transcript: &mut Transcript) -> ScriptFault
     ensures memory { fault.kind ≡ ConfKind.NoMemory → result ≡ ScriptFault.NoMemory }
     ensures conf { result ≡ ScriptFault.Conf → transcript.new ≡ transcript.old ++ conf_line fault }

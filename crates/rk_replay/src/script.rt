@@ -18,9 +18,9 @@ const PIECE: usize = 4096;
 /// Reads a script to its end, plays it, and writes what results from it: one line for each output, and one for each line
 /// that changed nothing.
 ///
-/// Refusals: `Read` where the reader fails; `TurnsUsed` where it was not at its end after 1,048,576 reads, which takes at least as
-/// many bytes; `NoMemory`. After these the writer is as it was. `Conf` where the configuration is refused: the bad lines before the
-/// first happening are written, and the last line names the line and the rule. `Write` where the writer fails, also as it is
+/// Refusals: `Read` if the reader fails; `TurnsUsed` if it was not at its end after 1,048,576 reads, which takes at least as
+/// many bytes; `NoMemory`. After these the writer is as it was. `Conf` if the configuration is refused: the bad lines before the
+/// first happening are written, and the last line names the line and the rule. `Write` if the writer fails, also as it is
 /// flushed; after it nothing is said of what was written.
 pub fn run_script<R: Read, W: Write>(
     alloc: Global,

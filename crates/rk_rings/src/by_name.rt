@@ -18,11 +18,11 @@ const PLACES: usize = 288;
 /// The key of each name that is linked in a ring, found by the hash of the name's number.
 ///
 /// A map does not promise that a removal gives its place back, and a link may take no memory. So a name whose key is unlinked stays,
-/// and holds none. It serves the next key of that name. Where such names have taken all places, `make_way` clears the map, which keeps
+/// and holds none. It serves the next key of that name. If such names have taken all places, `make_way` clears the map, which keeps
 /// its places, and puts the links back: at most once for 32 keys that were unlinked.
 #[derive(Drop)]
 pub struct ByName {
-    /// By the number of each name its key, or `None` where that is unlinked.
+    /// By the number of each name its key, or `None` if that is unlinked.
     keys: IndexMap<NameNo, Option<Serial>, DrawnNumbers>,
 }
 

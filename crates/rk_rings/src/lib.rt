@@ -3,7 +3,7 @@
 //! # Purpose
 //!
 //! [`Rings`] holds the live rings by their serials: whose each is (keyrings(7), "Anchoring keys"), and the keys that are linked in it. It knows a key
-//! by its serial and by the number of its name. Live keys share that number exactly where their type and description are equal, so names are compared
+//! by its serial and by the number of its name. Live keys share that number exactly if their type and description are equal, so names are compared
 //! without reading them. It answers where a key of a name is found in the rings of a context, which ring an ask means, and where a new key goes.
 //!
 //! # What it promises
@@ -11,7 +11,7 @@
 //! Its clauses speak of one value: a finite map from serials to rings, each with its kind, its user and a finite map from keys to numbers. No ring
 //! ever has two keys of one name, so the key of a name that a look-up finds is the only one there. A link takes the place of another key of that
 //! name in the ring, and changes nothing for a key that is there. A ring has at most 256 links, there are at most 1,024 rings, and `Full` comes
-//! exactly where a limit would be passed. Each refusal comes exactly in its case and changes nothing. Only `make` takes memory: it makes several
+//! exactly if a limit would be passed. Each refusal comes exactly in its case and changes nothing. Only `make` takes memory: it makes several
 //! rings or none, each with the room for its links, so no later call can want any. It uses the room of rings that were dropped first.
 //!
 //! # An example

@@ -57,7 +57,7 @@ impl LinkCounts {
         Ok(())
     }
 
-    /// The count of a key, 0 where it has none.
+    /// The count of a key, 0 if it has none.
     pub fn of(&self, key: u32) -> u32
         ensures { result ≡ count_at self.now.facts key }
     {

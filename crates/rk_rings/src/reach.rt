@@ -25,7 +25,7 @@ pub struct Matches {
 }
 
 impl Rings {
-    /// The one key of that name in each ring of the context; `None` where it has none, or the ring is absent
+    /// The one key of that name in each ring of the context; `None` if it has none, or the ring is absent
     /// or was dropped. It takes no memory, and is one look-up in each of the four rings.
     pub fn find(&self, context: &Context, name: NameNo) -> Matches
         ensures thread { IsMatch self.now name context.now.thread result.thread }

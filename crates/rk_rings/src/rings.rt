@@ -106,7 +106,7 @@ impl Rings {
         self.rows.get(ring.get())
     }
 
-    /// What the ring is for, and the user whose it is; `None` where there is no such ring.
+    /// What the ring is for, and the user whose it is; `None` if there is no such ring.
     pub fn kind(&self, ring: Serial) -> Option<(RingKind, u32)>
         ensures { result ≡ option_map (λ r. (r.kind, r.uid)) (map.get self.now ring) }
     {
@@ -114,7 +114,7 @@ impl Rings {
         Some((row.kind(), row.uid()))
     }
 
-    /// The user ring of a user; `None` where none is live (user-keyring(7)).
+    /// The user ring of a user; `None` if none is live (user-keyring(7)).
     pub fn user_ring(&self, uid: u32) -> Option<Serial>
         ensures { MatchOption result ((k : ℕ) (r : Numbered) → map.get self.now k ≡ Some r → is_user_ring uid r ≡ false)
             (λ k. option_map_or (is_user_ring uid) (map.get self.now k) false ≡ true) }
@@ -139,7 +139,7 @@ impl Rings {
         self.counts.of(key.get()) > 0
     }
 
-    /// A key that is linked in the ring; `None` where there is none, or no such ring.
+    /// A key that is linked in the ring; `None` if there is none, or no such ring.
     pub fn first_key(&self, ring: Serial) -> Option<Serial>
         ensures { MatchOption result ((k : ℕ) → holds self.now ring k ≡ false) (λ k. holds self.now ring k ≡ true) }
     {
@@ -159,7 +159,7 @@ impl Rings {
 
     /// Makes rings, each with room for its links, all of them or none. The serials have to be new.
     ///
-    /// `Full` exactly where there would be more than 1,024 rings; then `NoMemory`. A refusal changes
+    /// `Full` exactly if there would be more than 1,024 rings; then `NoMemory`. A refusal changes
     /// nothing: the room of each ring and that for the rings themselves is made before the first is put in.
     pub fn make(&mut self, alloc: Global, wanted: &[NewRing]) -> Result<(), RingFault>
         requires { AreNew wanted.now self.old }
@@ -188,7 +188,7 @@ impl Rings {
     /// Links a key in a ring, in the place of another key of that name. It takes no memory, and changes
     /// nothing where the key is linked there already (keyctl_link(3); keyctl(2), `KEYCTL_LINK`).
     ///
-    /// `NoRing` exactly where there is no such ring. `Full` exactly where the ring has 256 links, none of
+    /// `NoRing` exactly if there is no such ring. `Full` exactly if the ring has 256 links, none of
     /// them to the key nor to one of that name. A refusal changes nothing.
     pub fn link(&mut self, ring: Serial, key: Serial, name: NameNo) -> Result<(), RingFault>
         ensures ok { OnOk result (self.new ≡ changed_at ring (linked key name) self.old) }
@@ -215,7 +215,7 @@ impl Rings {
 
     /// Takes out the link of a key from a ring. It takes no memory (keyctl_unlink(3)).
     ///
-    /// `NoRing` exactly where there is no such ring, and `NotLinked` exactly where the ring is there and
+    /// `NoRing` exactly if there is no such ring, and `NotLinked` exactly if the ring is there and
     /// the key is not linked in it. A refusal changes nothing.
     pub fn unlink(&mut self, ring: Serial, key: Serial) -> Result<(), RingFault>
         ensures ok { OnOk result (self.new ≡ changed_at ring (unlinked key) self.old) }
@@ -244,7 +244,7 @@ impl Rings {
 
     /// Takes out all links of a ring. It takes no memory (keyctl_clear(3)).
     ///
-    /// `NoRing` exactly where there is no such ring, and then nothing changes.
+    /// `NoRing` exactly if there is no such ring, and then nothing changes.
     pub fn clear(&mut self, ring: Serial) -> Result<(), RingFault>
         ensures ok { OnOk result (self.new ≡ changed_at ring cleared self.old) }
         ensures err { OnErr result (self.new ≡ self.old) }
@@ -267,9 +267,9 @@ impl Rings {
         }
     }
 
-    /// Drops a ring with its links. It takes no memory. Where it is a user ring, it looks through all rings for another of that user.
+    /// Drops a ring with its links. It takes no memory. If it is a user ring, it looks through all rings for another of that user.
     ///
-    /// `NoRing` exactly where there is no such ring, and then nothing changes.
+    /// `NoRing` exactly if there is no such ring, and then nothing changes.
     pub fn drop_ring(&mut self, ring: Serial) -> Result<(), RingFault>
         ensures ok { OnOk result (self.new ≡ map.remove self.old ring) }
         ensures err { OnErr result (self.new ≡ self.old) }
@@ -287,14 +287,14 @@ impl Rings {
         Ok(())
     }
 
-    /// The user of a user ring; `None` for any other ring, and where there is no such ring.
+    /// The user of a user ring; `None` for any other ring, and if there is no such ring.
     fn user_of(&self, ring: Serial) -> Option<u32>
         ensures { MatchOption result ((uid : ℕ) → is_his self.now uid ring ≡ false) (λ uid. is_his self.now uid ring ≡ true) }
     {
         self.row(ring)?.user()
     }
 
-    /// The key of that name in the ring, which has no other; `None` where there is none, or no such ring. It takes no
+    /// The key of that name in the ring, which has no other; `None` if there is none, or no such ring. It takes no
     /// memory.
     pub fn find_in(&self, ring: Serial, name: NameNo) -> Option<Serial>
         ensures { IsMatch self.now name (Some ring) result }
@@ -303,7 +303,7 @@ impl Rings {
     }
 }
 
-/// Counts a link of a key that has given way, where one has.
+/// Counts a link of a key that has given way, if one has.
 fn count_gone(counts: &mut LinkCounts, rival: &Option<Serial>)
     ensures each { (k : ℕ) → count_at counts.new.facts k ≡ count_at counts.old.facts k - (if option_map_or (λ r. r == k) rival.now false then 1 else 0) }
     ensures positive { ArePositive counts.old.facts → ArePositive counts.new.facts }
@@ -343,7 +343,7 @@ fn row_for(alloc: Global, wanted: NewRing, unused: &mut Vec<Row>) -> Result<Row,
     }
 }
 
-/// Keeps a ring that was dropped, where there is room for it. It takes no memory.
+/// Keeps a ring that was dropped, if there is room for it. It takes no memory.
 fn keep(unused: &mut Vec<Row>, row: Option<Row>) {
     if let Some(row) = row
         && unused.len() < unused.capacity()
@@ -381,7 +381,7 @@ fn note_user(users: &mut Table<Serial>, serial: Serial, row: &Row)
     }
 }
 
-/// After a ring was dropped: another user ring of its user, where there is one.
+/// After a ring was dropped: another user ring of its user, if there is one.
 fn renew_user(rows: &Table<Row>, users: &mut Table<Serial>, user: Option<u32>)
     requires serials { AreSerials rows.now.facts }
     requires had { (uid : ℕ) → user ≡ Some uid → map.contains_key users.old.facts uid ≡ true }

@@ -125,7 +125,7 @@ impl Row {
         }
     }
 
-    /// The key of that name, if one is linked. Where there are few links, it looks at each, which takes less than to hash the name.
+    /// The key of that name, if one is linked. If there are few links, it looks at each, which takes less than to hash the name.
     pub fn find(&self, name: NameNo) -> Option<Serial>
         ensures { MatchOption result ((k : ℕ) → ¬ (map.get self.now.links k ≡ Some name)) (λ k. map.get self.now.links k ≡ Some name) }
     {
@@ -172,7 +172,7 @@ impl Row {
     }
 }
 
-/// Takes out the link of the key of a name, where there is one, so that another may take its place; by its name the other is found already.
+/// Takes out the link of the key of a name, if there is one, so that another may take its place; by its name the other is found already.
 fn give_way(links: &mut Table<NameNo>, by_name: &mut ByName, key: Serial, name: NameNo)
     requires serials { AreSerials links.old.facts }
     requires index { AreByName links.old.facts by_name.old.facts }

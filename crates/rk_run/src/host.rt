@@ -19,7 +19,7 @@ pub struct Here {
     pub preloaded: Option<String>,
     /// The socket of the caller's environment, `REQKEYD_SOCKET`.
     pub socket: Option<String>,
-    /// The folder in which it is run, where that is known.
+    /// The folder in which it is run, if that is known.
     pub folder: Option<String>,
     /// Where the library is installed.
     pub installed: String,
@@ -40,7 +40,7 @@ pub enum StartFault {
 
 /// What a run does outside of itself. It may tell what was done of it, as a test's does; the system's tells nothing.
 pub trait Host {
-    /// What was done, first things first, where it tells that.
+    /// What was done, first things first, if it tells that.
     ghost story: { Self → Option (List Event) };
 
     /// Looks who runs the program, and what is there. The only refusal is out of memory.
@@ -60,7 +60,7 @@ pub trait Host {
     fn start(&mut self, command: Command) -> Result<(), StartFault>
         ensures { story self.new ≡ and_then (story self.old) (Started (start_of command) result ∷ []) };
 
-    /// Waits until the program that was started has ended, and tells how; `None` where the system doesn't tell.
+    /// Waits until the program that was started has ended, and tells how; `None` if the system doesn't tell.
     fn wait(&mut self) -> Option<ExitStatus>
         ensures { story self.new ≡ and_then (story self.old) (Waited result ∷ []) };
 
@@ -68,6 +68,6 @@ pub trait Host {
     fn close(&mut self)
         ensures { story self.new ≡ and_then (story self.old) (Closed ∷ []) };
 
-    /// What stood in the way of the last call that failed, where that is known: a text to be shown, with a path and what the system says of it.
+    /// What stood in the way of the last call that failed, if that is known: a text to be shown, with a path and what the system says of it.
     fn trouble(&self) -> Option<&str>;
 }

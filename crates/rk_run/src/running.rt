@@ -17,10 +17,10 @@ use std::process::Command;
 /// Runs the program that is wanted in a session ring of its own, and gives its status as a shell tells it.
 ///
 /// The socket, the user, the group and the library are those that are named, or else those of the host. Refusals, in this order: `NoMemory`; `Socket`
-/// where none is named; `File` where the library is not there; `Socket` where nobody answers or the answer is none to HELLO; `Refused` where HELLO is;
-/// `NotFound` and `Unstartable` where the program is not started, and `Unknown` where its end is not told. The connection is closed behind each.
+/// if none is named; `File` if the library is not there; `Socket` if nobody answers or the answer is none to HELLO; `Refused` if HELLO is;
+/// `NotFound` and `Unstartable` if the program is not started, and `Unknown` if its end is not told. The connection is closed behind each.
 ///
-/// Where `reqkey-trap` is wanted, it is there in place of the library, and is started with the program; it makes a connection and a session ring itself.
+/// If `reqkey-trap` is wanted, it is there in place of the library, and is started with the program; it makes a connection and a session ring itself.
 pub fn run<H: Host>(alloc: Global, host: &mut H, wanted: &Wanted<'_>) -> Result<u8, RunFault>
     ensures { HasRun wanted.now (H.story host.old) (H.story host.new) result }
 {
@@ -156,7 +156,7 @@ fn tool_of<'a, 'w: 'a>(wanted: &Wanted<'w>, here: &'a Here) -> &'a str
     }
 }
 
-/// A text, where there is one.
+/// A text, if there is one.
 fn text_of(owned: &Option<String>) -> Option<&str>
     ensures { option_map (λ s. s.now) result ≡ option_map string_bytes owned.now }
 {

@@ -18,7 +18,7 @@ const LIBRARY: &str = "/lib/reqkeyd/libkeyutils.so.1";
 /// Where the program is that answers system calls, below that folder.
 const TRAP: &str = "/bin/reqkey-trap";
 
-/// That folder, where it can't be found.
+/// That folder, if it can't be found.
 const PREFIX: &str = "/usr/local";
 
 /// The system, with one connection and one program.
@@ -69,7 +69,7 @@ fn without_number(text: &str) -> &str {
     }
 }
 
-/// A variable of the environment; none where it is no text.
+/// A variable of the environment; none if it is no text.
 fn variable<R: Env + AllocGlobal>(rt: &R, name: &str) -> Result<Option<String>, AllocError> {
     match env::var(rt, name) {
         Ok(text) => Ok(Some(text)),
@@ -78,7 +78,7 @@ fn variable<R: Env + AllocGlobal>(rt: &R, name: &str) -> Result<Option<String>, 
     }
 }
 
-/// The folder of this process; none where it has been removed, or is no text.
+/// The folder of this process; none if it has been removed, or is no text.
 fn folder<R: Env + AllocGlobal>(rt: &R) -> Result<Option<String>, AllocError> {
     match env::current_dir(rt) {
         Ok(path) => Ok(Some(path.into_string())),

@@ -112,7 +112,7 @@ fn cut<'a>(words: &'a [String]) -> (&'a [String], &'a [String])
     }
 }
 
-/// Where the first `--` stands; the length where there is none.
+/// Where the first `--` stands; the length if there is none.
 fn place(words: &[String]) -> usize
     ensures is { result ≡ position_or_len is_dashes (map string_bytes words.now) }
     ensures bound { result ≤ length words.now }

@@ -204,7 +204,7 @@ impl Server {
         }
     }
 
-    /// A handler has ended, whose peer was taken away. Where another is to follow it, the command of that one is output,
+    /// A handler has ended, whose peer was taken away. If another is to follow it, the command of that one is output,
     /// for what the first was made for.
     fn end(
         &mut self,

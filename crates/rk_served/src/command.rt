@@ -25,7 +25,7 @@ fn look_up(
     }
 }
 
-/// The command of the chosen line. There is none where no line is chosen, or where its words can't be made, also
+/// The command of the chosen line. There is none if no line is chosen, or if its words can't be made, also
 /// when out of memory.
 pub fn command_for(
     alloc: Global,

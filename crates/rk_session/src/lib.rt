@@ -7,13 +7,13 @@
 //!
 //! # What it promises
 //!
-//! What happens on the wire is a talk, in this order and no other: bytes are read only where no whole message is held; the message at the front is taken; the
+//! What happens on the wire is a talk, in this order and no other: bytes are read only if no whole message is held; the message at the front is taken; the
 //! receipt of its answer is noted; its reply is written, the one spelling of what that receipt says, before the next message is taken. A session that waits
-//! isn't read. In every exit the seat has as many clients, hall by hall, as before: the client is reported gone. A fault is reported only where the wire's
+//! isn't read. In every exit the seat has as many clients, hall by hall, as before: the client is reported gone. A fault is reported only if the wire's
 //! count of failures rose. It ends at 1,048,576 reads.
 //!
 //! *Sendings.* A wire may keep what is written, so that the replies to many messages go out together. It is sent in order, and all of it before the next
-//! read, before the session waits for an outcome or a handler, and at every end. Where a write or a sending fails, the session ends as
+//! read, before the session waits for an outcome or a handler, and at every end. If a write or a sending fails, the session ends as
 //! [`Served::WriteFault`], and some of the replies since the last sending may be lost; in every other end none is.
 //!
 //! *Receipts.* A receipt that is noted is of a turn of the session's seat, and new to it; each message finds the seat as the one before left it. A reply

@@ -48,7 +48,7 @@ fn refusal_of(receipt: Receipt) -> Option<Saying>
     }
 }
 
-/// Opens the client in a hall. What is to be said where it can't be: the refusal of its receipt, or an errno, or nothing.
+/// Opens the client in a hall. What is to be said if it can't be: the refusal of its receipt, or an errno, or nothing.
 pub fn open<P: Platform>(
     stage: &Stage<'_, P>,
     caller: &mut Caller<P>,
@@ -89,7 +89,7 @@ pub fn leave<P: Platform>(
     last
 }
 
-/// Takes a client from the hall where it stands to this one: it is opened there, and then gone here. What is to be said where it can't be opened; then it
+/// Takes a client from the hall where it stands to this one: it is opened there, and then gone here. What is to be said if it can't be opened; then it
 /// stays.
 pub fn moved<P: Platform>(
     stage: &Stage<'_, P>,

@@ -20,7 +20,7 @@ use rk_names::{Errno, SessionId};
 use rk_talk::{Crew, Platform, Saying, Stage, answer_frame, refusal_frame};
 use std::alloc::Global;
 
-// Notes the receipt, and then writes the reply of its answer. Where there is no memory for the reply, it is out of memory, and nothing is noted.
+// Notes the receipt, and then writes the reply of its answer. If there is no memory for the reply, it is out of memory, and nothing is noted.
 fn tell<W: Wire>(alloc: Global, wire: &mut W, receipt: Receipt) -> Result<(), DeviceFault>
     requires { IsToWait receipt.answer → ⊥ }
     ensures speaks { Speaks (saying.Noted receipt) (ended result) (W.shown wire.old).story (W.shown wire.new) }

@@ -76,7 +76,7 @@ impl Counts {
         self.counts.reserve(more)
     }
 
-    /// The count of a number, 0 where it has none.
+    /// The count of a number, 0 if it has none.
     pub fn of(&self, number: u32) -> u32
         ensures { result ≡ count_at self.now.facts number }
     {

@@ -1,4 +1,4 @@
-//! Places of entries whose keys rise: the search by halves, and an insertion where there is room.
+//! Places of entries whose keys rise: the search by halves, and an insertion if there is room.
 ghost use Rattle.std.specs.Prelude.{◌≡◌, ◌≤◌, ◌<◌, IfOk, IfErr, vec_len, vec_capacity};
 ghost use Rattle.std.specs.List.{insert};
 ghost use Rattle.rk_table.specs.Entries.{KeysRise, IsAt, IsGapFor};

@@ -121,7 +121,7 @@ impl<V> Table<V> {
         any_entry(&self.entries, test)
     }
 
-    /// The key of an entry that passes the test; `None` where none does.
+    /// The key of an entry that passes the test; `None` if none does.
     pub fn find<T: Test<V>>(&self, test: &T) -> Option<u32>
         ensures { MatchOption result (list_any (λ e. T.passes test.now e.0 e.1) (map.entries self.now.facts) ≡ false)
             (λ k. (option_map_or (T.passes test.now k) (map.get self.now.facts k) false ≡ true)
@@ -131,7 +131,7 @@ impl<V> Table<V> {
     }
 
     /// Puts in a value at a new key, in a place that was reserved. It takes no memory. Its place is found as `get` finds, and then the entries of
-    /// greater keys move up: none where keys come rising.
+    /// greater keys move up: none if keys come rising.
     pub fn insert(&mut self, key: u32, value: V)
         requires new { map.get self.old.facts key ≡ None }
         requires room { 0 < self.old.room }

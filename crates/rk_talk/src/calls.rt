@@ -1,4 +1,4 @@
-//! Calls of the halls. Where the record is full, its volume is handed out and the call made once more.
+//! Calls of the halls. If the record is full, its volume is handed out and the call made once more.
 ghost use Rattle.std.specs.Prelude.{◌≡◌, ◌⊎◌, IfOk, IfErr, OnErr};
 ghost use Rattle.rk_message.specs.Bodies.{Spells};
 ghost use Rattle.rk_message.specs.Ask.{Ask as Asks};
@@ -57,7 +57,7 @@ fn ask_again<P: Platform>(
         .call(stage.rt, seat, hall, now, EventStep::Asked(session, ask))
 }
 
-/// Makes the ask of a message, as `Halls::call` does. Where the record is full, its volume goes to the shelf, the ask is read again from its body, since
+/// Makes the ask of a message, as `Halls::call` does. If the record is full, its volume goes to the shelf, the ask is read again from its body, since
 /// the refused call has it, and the call is made once more; only a refusal then is answered. Out of memory at the second reading is `NoMemory`. It may
 /// wait.
 pub fn ask_in<P: Platform>(
@@ -85,7 +85,7 @@ pub fn ask_in<P: Platform>(
     }
 }
 
-/// Opens the session there, as `Halls::call` does. Where the record is full, its volume goes to the shelf, and the call is made once more. It may wait.
+/// Opens the session there, as `Halls::call` does. If the record is full, its volume goes to the shelf, and the call is made once more. It may wait.
 pub fn open_in<P: Platform>(
     stage: &Stage<'_, P>,
     seat: &mut Seat<P::Names>,

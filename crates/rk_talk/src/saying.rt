@@ -64,7 +64,7 @@ pub fn settled<P: Platform>(
     }
 }
 
-/// What is to be said of an ask whose call was refused: EDQUOT where the record is full, ENOMEM where memory ran out, and nothing where the session's
+/// What is to be said of an ask whose call was refused: EDQUOT if the record is full, ENOMEM if memory ran out, and nothing if the session's
 /// seat has seen more than the hall has.
 pub fn refused(fault: CallFault) -> Saying
     ensures { IsRefusal fault result }

@@ -4,7 +4,7 @@ ghost use Rattle.std.specs.List.{list_all};
 ghost use Rattle.std.specs.Char.{is_ascii_digit};
 ghost use Rattle.rk_text.specs.Numbers.{number_of, up_to};
 
-/// The number that the bytes say in decimal digits, without a sign; `None` where they say none, or one above the limit. There may be any number of
+/// The number that the bytes say in decimal digits, without a sign; `None` if they say none, or one above the limit. There may be any number of
 /// leading zeros.
 pub fn number(bytes: &[u8], limit: u64) -> Option<u64>
     ensures { result ≡ up_to limit (number_of bytes.now) }

@@ -9,7 +9,7 @@
 //!
 //! What was written is read back as the same head, the same steps and the same seal. A volume in its seal has the sum of all its bytes before it, by SHA-256:
 //! a file that was cut or changed is refused, unless its sum is right by chance. A volume with nothing around it (version 1) is one or none, and no other one
-//! with more bytes behind it (`volumes_have_one_reading`). A [`Fault`] says what is wrong and at which step, and comes exactly where that is so; out of
+//! with more bytes behind it (`volumes_have_one_reading`). A [`Fault`] says what is wrong and at which step, and comes exactly if that is so; out of
 //! memory alone comes besides.
 //!
 //! # The format

@@ -29,7 +29,7 @@ pub(crate) fn long(bytes: &[u8]) -> Option<(u64, &[u8])>
     Some((number, rest))
 }
 
-/// Bytes behind their length of four bytes, and what stands behind them; `None` where they are not all there.
+/// Bytes behind their length of four bytes, and what stands behind them; `None` if they are not all there.
 pub(crate) fn framed(bytes: &[u8]) -> Option<(&[u8], &[u8])>
     ensures found { IfSome result (λ x. (bytes.now ≡ frame x.0.now ++ x.1.now) × (length x.0.now < 2 ^ 32)) }
     ensures only { IfNone result ((body more : List ℕ) → length body < 2 ^ 32 → bytes.now ≢ frame body ++ more) }

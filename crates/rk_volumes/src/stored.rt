@@ -31,8 +31,8 @@ pub struct Stored {
 }
 
 impl Stored {
-    /// The volume that all of the bytes are, of either version. A [`Fault`] comes exactly where they are none, with what is wrong first: of a volume in a
-    /// seal its sum, and then what is at the front. `NoMemory` comes where an allocation was refused, whatever the bytes are.
+    /// The volume that all of the bytes are, of either version. A [`Fault`] comes exactly if they are none, with what is wrong first: of a volume in a
+    /// seal its sum, and then what is at the front. `NoMemory` comes if an allocation was refused, whatever the bytes are.
     pub fn read(alloc: Global, file: &[u8]) -> Result<Stored, Fault>
         // What is read is what the file has.
         ensures found { IfOk result (λ v. IsFiled v.head v.steps.items v.seal file.now) }

@@ -9,7 +9,7 @@ use std::sync::Wait;
 
 /// Waits until the session's wait may be collected, and collects its outcome: the serial of the key, or an error. It takes no memory.
 ///
-/// Where the session does not wait, the answer is `Refused(Einval)`, with `Stray`. The answer is never `Waiting`.
+/// If the session does not wait, the answer is `Refused(Einval)`, with `Stray`. The answer is never `Waiting`.
 pub fn await_outcome<N: Names, R: Wait>(
     rt: &R,
     halls: &Halls<N>,

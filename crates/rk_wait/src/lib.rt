@@ -7,7 +7,7 @@
 //!
 //! # What it promises
 //!
-//! What is answered is the outcome that the session's hall gives, by one turn: a serial or an error, and never that the session waits. Where the
+//! What is answered is the outcome that the session's hall gives, by one turn: a serial or an error, and never that the session waits. If the
 //! session has no wait, the answer is EINVAL, with `Stray`. It takes no memory. Not promised: that an outcome ever comes.
 #![tactic(auto)]
 

@@ -90,15 +90,15 @@ pub struct Handling {
     pub deepest: u64,
     /// The commands that were started, a space behind each word.
     pub words: &'static [u8],
-    /// What the handlers were told, the innermost first, where it is looked at.
+    /// What the handlers were told, the innermost first, if it is looked at.
     pub told: Option<&'static [u8]>,
-    /// How many steps there are in the end, where it is looked at.
+    /// How many steps there are in the end, if it is looked at.
     pub steps: Option<u64>,
-    /// How often the one was read that was read most, where it is looked at.
+    /// How often the one was read that was read most, if it is looked at.
     pub reads: Option<u64>,
     /// How many volumes were handed out.
     pub volumes: u64,
-    /// What the gate was told, where it is looked at.
+    /// What the gate was told, if it is looked at.
     pub reported: Option<Reported>,
 }
 

@@ -252,7 +252,7 @@ const PIPED_ROWS: &[Row] = &[
     ),
 ];
 
-/// Whatever becomes of the first command, the second one is started, and decides; where that one says nothing, the key is not made.
+/// Whatever becomes of the first command, the second one is started, and decides; if that one says nothing, the key is not made.
 const FOLLOWED_ROWS: &[Row] = &[
     (FAILS_AND_NEGATES, None, NEGATED, NO_KEY),
     (&[SILENT, NEGATES], None, NEGATED, NO_KEY),

@@ -135,7 +135,7 @@ impl Fake {
         })
     }
 
-    /// The program that is next, and room for what is written to it; none where the start is to fail, or there is no memory.
+    /// The program that is next, and room for what is written to it; none if the start is to fail, or there is no memory.
     fn next(&self) -> Option<(Played, Vec<u8>)> {
         if burns(self.fuse, self.asked, Call::Start, 1) {
             return None;

@@ -1,4 +1,4 @@
-//! A client from its coming to its end: what each step is answered, also where allocations are refused: a call makes no step then, and nothing that
+//! A client from its coming to its end: what each step is answered, also if allocations are refused: a call makes no step then, and nothing that
 //! is owed needs memory.
 //!
 //! With ample memory it goes its whole path. tests/test_growths.py plays it with allocations refused: at the first call that is refused the client goes.
@@ -132,7 +132,7 @@ impl Growths {
     }
 }
 
-/// The other client comes to the session ring of the first one, and waits for its key. Whether it waits; where there was no memory for that it has gone.
+/// The other client comes to the session ring of the first one, and waits for its key. Whether it waits; if there was no memory for that it has gone.
 fn joins<N: Names, R: Wait + Abort>(
     rt: &R,
     halls: &Halls<N>,

@@ -73,7 +73,7 @@ pub fn runs<N: Names, R: Wait + Abort>(
     value.expect(rt, "a handler that runs")
 }
 
-/// The handler has ended, and put this out. Where it failed, another one is to follow.
+/// The handler has ended, and put this out. If it failed, another one is to follow.
 pub fn ends<N: Names, R: Wait + Abort>(
     rt: &R,
     halls: &Halls<N>,

@@ -61,7 +61,7 @@ fn turned<R: Abort>(rt: &R, hall: &mut Hall, number: u32, client: u32) -> Receip
 pub enum Change {
     /// They are handed in as they are.
     Nothing,
-    /// One numbered 7 is added, where there are six steps.
+    /// One numbered 7 is added, though there are six steps.
     Seventh,
     /// The second one comes once more.
     SecondTwice,
@@ -211,7 +211,7 @@ pub fn hears<N: Names, R: Wait + Abort>(rt: &R, alloc: Global, halls: Halls<N>) 
     same(rt, settle(halls, &none, seats, &receipts), Ok(total(2, 0)));
 }
 
-/// A seat that has heard of nine steps, where there are two, takes none.
+/// A seat that has heard of nine steps, while there are two, takes none.
 fn hears_of_nine<N: Names, R: Wait + Abort>(rt: &R, alloc: Global, halls: &Halls<N>) {
     let mut seat = halls.seat(rt).expect(rt, "a seat");
     seat.hear(&invented(rt, alloc, 9, 9));

@@ -93,7 +93,7 @@ fn a_device_fails(rt: HostRuntime) {
 }
 
 /// The call of the wire that fails, how the session ends, how many replies were written, and in what order; and so many steps were made where the key was
-/// not requested. Where it was, its construction has ended.
+/// not requested. If it was, its construction has ended.
 type Fails = (Cut, Served, usize, &'static [u8], Option<u64>);
 
 const FAILS_IN_TURN: &[Fails] = &[

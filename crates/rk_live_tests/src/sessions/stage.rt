@@ -44,7 +44,7 @@ pub struct Part<'a> {
     pub replies: &'a [&'a [u8]],
     /// How often it is to be told that.
     pub repeats: usize,
-    /// In what order, where it is looked at.
+    /// In what order, if it is looked at.
     pub story: Option<&'a [u8]>,
     /// The command that it is to start, a space behind each word.
     pub words: &'a [u8],

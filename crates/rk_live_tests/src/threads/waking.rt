@@ -43,7 +43,7 @@ enum Step {
 }
 
 impl Step {
-    /// The ask by which its handler completes the key, where it does.
+    /// The ask by which its handler completes the key, if it does.
     fn ask(self, alloc: Global, key: i32) -> Result<Option<AskStep<'static>>, AllocError> {
         Ok(match self {
             Step::Instantiate => Some(AskStep::Instantiate {

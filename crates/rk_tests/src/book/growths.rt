@@ -15,7 +15,7 @@ use crate::book::words::Fault;
 use crate::same::{same, same_text};
 use rk_core::{Event, EventStep};
 
-/// Reads a line, once more where memory was refused.
+/// Reads a line, once more if memory was refused.
 fn read_surely(alloc: Global, line: &str) -> Result<Line, Fault> {
     match read(alloc, line) {
         Err(Fault::NoMemory) => read(alloc, line),
@@ -23,7 +23,7 @@ fn read_surely(alloc: Global, line: &str) -> Result<Line, Fault> {
     }
 }
 
-/// An event as a step takes it, once more where memory was refused.
+/// An event as a step takes it, once more if memory was refused.
 fn step_surely(alloc: Global, event: &Event) -> Result<EventStep<'_>, AllocError> {
     match event.to_step(alloc) {
         Err(AllocError) => event.to_step(alloc),
@@ -31,7 +31,7 @@ fn step_surely(alloc: Global, event: &Event) -> Result<EventStep<'_>, AllocError
     }
 }
 
-/// Plays a line once, and prints the answer, once more where memory was refused for that.
+/// Plays a line once, and prints the answer, once more if memory was refused for that.
 fn said(alloc: Global, book: &mut Book, now: Moment, line: &str) -> Result<String, Fail> {
     match read_surely(alloc, line)?.told {
         Move::Step(event) => {
@@ -125,7 +125,7 @@ fn says(
     Ok(true)
 }
 
-/// Plays a line on one book. Where it answers ENOMEM it has to be like the other one, and the line is played again.
+/// Plays a line on one book. If it answers ENOMEM it has to be like the other one, and the line is played again.
 fn play_surely(
     rt: &impl Abort,
     alloc: Global,
@@ -160,7 +160,7 @@ fn follow(
     Ok(())
 }
 
-/// A new book, in the second attempt where memory was refused.
+/// A new book, in the second attempt if memory was refused.
 fn surely_new(rt: &impl Abort, alloc: Global) -> Result<Book, AllocError> {
     match new_book(rt, alloc, 1) {
         Ok(book) => Ok(book),

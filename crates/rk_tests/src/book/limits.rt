@@ -75,7 +75,7 @@ const EVERY_FOURTH_SERIAL: &[Row] = &[
     ("c1 request user a none x", "start 16"),
 ];
 
-/// Where a key is negative for no time, the next request starts a handler at once.
+/// If a key is negative for no time, the next request starts a handler at once.
 const NEGATIVE_FOR_NO_TIME: &[Row] = &[
     ("launched 16 failed", "0"),
     ("collect c1", "E126"),

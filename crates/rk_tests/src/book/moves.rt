@@ -9,7 +9,7 @@ use std::alloc::{AllocError, Global};
 /// A line that was read.
 #[derive(Drop)]
 pub struct Line {
-    /// Its moment, where it has one.
+    /// Its moment, if it has one.
     pub moment: Option<Moment>,
     /// The event, or what is asked of the book.
     pub told: Move,
