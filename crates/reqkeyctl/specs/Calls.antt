@@ -68,7 +68,7 @@ pub record FileAt : Type 0 where
   pub path : List ℕ
   pub at : ℕ
 
--- the file that is named, if one is: a payload stands in its place, a callout behind all arguments; none where an ask has no such field, or both are named
+-- the file that is named, if one is: a payload stands in its place, a callout behind all arguments; none if an ask has no such field, or both are named
 abbrev pub place_of : Option (List ℕ) → Option (List ℕ) → Op → ℕ → Option (Option FileAt)
 place_of None None o count = Some None
 place_of (Some path) None o count = option_map (λ at. Some (record { path = path; at = at })) (position is_payload (ask_fields o))

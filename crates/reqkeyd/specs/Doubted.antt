@@ -7,7 +7,7 @@ use Rattle.rk_preview.specs.declared.doubts.Doubt.{Doubt}
 use Rattle.rk_preview.specs.declared.doubts.Doubt.TheVariants.{Operation, Hidden, Comment}
 use Rattle.rk_preview.specs.Doubts.{IsHiddenBy, begins_with_hash}
 
--- that no request has its operation, exactly where that is so
+-- that no request has its operation, exactly if that is so
 abbrev pub IsOperation : Line → Option Doubt → Type 0
 IsOperation line (Some (Operation n)) = (n ≡ line.number) × (Fits line.op (codes "create") → ⊥) × (Fits line.op (codes "negate") → ⊥)
 IsOperation line None = ((Fits line.op (codes "create") → ⊥) × (Fits line.op (codes "negate") → ⊥)) → ⊥
@@ -19,6 +19,6 @@ IsHidden before line (Some (Hidden n m)) = (n ≡ line.number) × ((earlier : Li
 IsHidden before line None = All (λ earlier. IsHiddenBy earlier line → ⊥) before
 IsHidden before line _ = ⊥
 
--- that an argument looks as a comment, exactly where one does
+-- that an argument looks as a comment, exactly if one does
 abbrev pub comment_of : Line → Option Doubt
 comment_of line = if list_any begins_with_hash line.args then Some (Comment line.number) else None

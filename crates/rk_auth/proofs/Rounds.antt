@@ -146,7 +146,7 @@ is_standing : (o : Option Slot) → is_some (standing_in o) ≡ is_some o
 is_standing None = refl
 is_standing (Some s) = refl
 
--- where the same one stands at a place, its slot is still there
+-- if the same one stands at a place, its slot is still there
 pub there_still : (m n : Slots) (q : ℕ) → standing_at n q ≡ standing_at m q → is_some (get m q) ≡ true → is_some (get n q) ≡ true
 there_still m n q same t = sym (is_standing (get n q)) ∙ ap is_some same ∙ is_standing (get m q) ∙ t
 
@@ -194,14 +194,14 @@ nobody_left : (old now : Slots) (h other step end : ℕ) → IsLoosened old now 
 nobody_left old now h other step end was nobody q =
     sym (ap (λ b. cond b (Some other) (home_at now q)) (not_named (home_at now q) h (nobody q))) ∙ was.homes q
 
--- where the chain has no first place any more, all that were in it are in the other
+-- if the chain has no first place any more, all that were in it are in the other
 pub loosened : (old now : Slots) (h other step end : ℕ) → IsLoosened old now h other step end → None ≡ first_at now h → (q : ℕ) → home_at now q ≡ rehomed h other (home_at old q)
 loosened old now h other step end was none =
     let all = was.chained h in
     nobody_left old now h other step end was (empty_chain now h all.0 all.1 (at_end (next_at now) all.0
     (subst (λ o. IsWay (next_at now) o all.0) (sym none) (way_of (next_at now) (before_at now) None (first_at now h) all.0 all.1.linked))))
 
--- where the steps are used, all that were in the chain are in the other
+-- if the steps are used, all that were in the chain are in the other
 pub loosened_at_last : (old now : Slots) (h other step end : ℕ) → IsLoosened old now h other step end → end ≤ step → (q : ℕ) → home_at now q ≡ rehomed h other (home_at old q)
 loosened_at_last old now h other step end was le =
     let all = was.chained h in

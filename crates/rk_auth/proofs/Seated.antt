@@ -305,7 +305,7 @@ module _ (m n : Slots) (p : ℕ) (stands : (q : ℕ) → standing_at n q ≡ con
     nobody_there = ap (option_map who_of) (out_elsewhere nobody (not_nobody m p nobody (id.Client k) who tied.nobody_there)) ∙ tied.nobody_there;
   }
 
--- where a chain was taken over from p, none is in the chain of p
+-- if a chain was taken over from p, none is in the chain of p
 pub not_homed : (p nobody : ℕ) (o : Option ℕ) → (nobody ≡ p → ⊥) → rehomed p nobody o ≡ Some p → ⊥
 not_homed p nobody o ne e = elim (names o p) as (λ b. names o p ≡ b → cond b (Some nobody) o ≡ Some p → ⊥) [
   | true ↦ λ t e. ne (same_Some nobody p e)

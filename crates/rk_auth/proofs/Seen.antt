@@ -110,7 +110,7 @@ module _ {V : Type 0} where
         (once_named (λ i. pick (standing_at m i)) (entries index) (once_sorted (entries index) (entries_sorted index)))
         ∙ length_named (λ i. pick (standing_at m i)) (entries index) ∙ sym (len-entries index)
 
-    -- a test passes one of what is seen exactly where it passes what stands in one of the index's slots
+    -- a test passes one of what is seen exactly if it passes what stands in one of the index's slots
     pub seen_any : (p : ℕ × V → Bool) (m : Slots) (index : Index)
         → list_any p (entries (seen pick m index)) ≡ list_any (λ (e : ℕ × ℕ). p (e.0, pick (standing_at m e.1))) (entries index)
     seen_any p m index =

@@ -94,7 +94,7 @@ module _ {T : Type 0} where
       let within : length ps ≤ length (keys (entries s)) = not_more ps (keys (entries s)) once (λ q t. has_key q (entries s) ∙ ap is_some (sym (get_in (entries s) q)) ∙ there q t) in
       omega (arith, within, length_keys (entries s), length-entries s, is)
 
-  -- taking a value out gives one place back, where there was one
+  -- taking a value out gives one place back, if there was one
   pub room_again : (s t : Slab T) (k : ℕ) (o : Option T) → o ≡ get s k → (t.capacity ≡ s.capacity) → OnSome o (slab_len t + 1 ≡ slab_len s) → OnSome o (slab_len t + 1 ≤ t.capacity)
       → IfNone o (t ≡ s)
       → t.capacity - slab_len t ≡ cond (is_some (map.get (facts_of s) k)) (s.capacity - slab_len s + 1) (s.capacity - slab_len s)

@@ -93,7 +93,7 @@ out_stands m p q = elim (cases_eq p q) [
   | inr ne ↦ ap standing_in (left_in m p q (λ e. ne (sym e))) ∙ sym (at_apart p q None (standing_at m q) ne)
 ]
 
--- where nobody was in the chain of p, nobody is in it once the place p is taken out of its own
+-- if nobody was in the chain of p, nobody is in it once the place p is taken out of its own
 pub still_alone : (p q : ℕ) (o : Option ℕ) → (o ≡ Some p → ⊥) → cond (nat_eq p q) None o ≡ Some p → ⊥
 still_alone p q o h e = elim (cases_eq p q) [
   | inl same ↦ none-some p (sym (at_same p q None o same) ∙ e)
@@ -175,7 +175,7 @@ module _ (f : Standing → Standing) where
 
 -- ---- who waits stands in a chain
 
--- a change that leaves who somebody is does so also where it is made by a condition
+-- a change that leaves who somebody is does so also if it is made by a condition
 pub who_kept : (f : Standing → Standing) → ((s : Standing) → who_of (f s) ≡ who_of s) → (b : Bool) (o : Option Standing) → option_map who_of (cond b (option_map f o) o) ≡ option_map who_of o
 who_kept f same true None = refl
 who_kept f same true (Some s) = ap (λ x. Some x) (same s)

@@ -115,12 +115,12 @@ with_home h s = record s { link = option_map {T = Link} (λ l. record l { home =
 abbrev pub in_standing : (Standing → Standing) → Slot → Slot
 in_standing f s = record s { standing = f s.standing }
 
--- the slot at the place is changed, where there is a place
+-- the slot at the place is changed, if there is a place
 abbrev pub changed_if : Option ℕ → (Slot → Slot) → map.FinMap nat_cmp Slot → map.FinMap nat_cmp Slot
 changed_if None f m = m
 changed_if (Some q) f m = changed_at q f m
 
--- what follows the place before is next; where there is none before, it is the first of h
+-- what follows the place before is next; if there is none before, it is the first of h
 abbrev pub led_to : ℕ → Option ℕ → Option ℕ → map.FinMap nat_cmp Slot → map.FinMap nat_cmp Slot
 led_to h None next m = changed_at h (with_first next) m
 led_to h (Some q) next m = changed_at q (with_next next) m

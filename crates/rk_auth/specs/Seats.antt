@@ -61,13 +61,13 @@ construction_named k _ = None
 
 -- ---- changes of who stands there
 
--- the session is changed by f, where there is one
+-- the session is changed by f, if there is one
 abbrev pub in_session : (Session → Session) → Standing → Standing
 in_session f standing.Nobody = standing.Nobody
 in_session f (standing.Client n s) = standing.Client n (f s)
 in_session f (standing.Construction k c) = standing.Construction k (in_handler f c)
 
--- the construction is changed by f, where there is one
+-- the construction is changed by f, if there is one
 abbrev pub in_construction : (Construction → Construction) → Standing → Standing
 in_construction f standing.Nobody = standing.Nobody
 in_construction f (standing.Client n s) = standing.Client n s

@@ -20,7 +20,7 @@ unprepared_tells StartFailed a h = absurd h
 unprepared_tells ReadFailed a h = absurd h
 unprepared_tells WaitFailed a h = absurd h
 
--- where one command followed another, the first one alone can tell why none was to be started
+-- if one command followed another, the first one alone can tell why none was to be started
 pub later_why : (conf : List Line) (s : Subject) (first second : Driven) → TellsWhy conf s first → TellsWhy conf s (later_of first second)
 later_why conf s first NotStarted h = h
 later_why conf s first (NotMade fault) h = h

@@ -31,7 +31,7 @@ pub record Runs (depth : ℕ) (old new : LauncherShown) : Type 0 where
   pub deepest : new.deepest ≤ max old.deepest (old.out + (9 - depth))
   pub tried : TriesMore old new
 
--- a fault comes only where the count of failures rose, or the child that came back last was read as often as it may be
+-- a fault comes only if the count of failures rose, or the child that came back last was read as often as it may be
 abbrev pub FaultRose : Driven → LauncherShown → LauncherShown → Type 0
 FaultRose StartFailed old new = Rose old.count new.count
 FaultRose ReadFailed old new = Rose old.count new.count ⊎ (new.reads ≡ 1048576)
@@ -66,7 +66,7 @@ HasRun NoMemory = ⊥
 HasRun StartFailed = ⊥
 HasRun _ = Unit {0}
 
--- what was to be started for one command of a launch while so many children were out: nothing where none was prepared; else the command of the line that is
+-- what was to be started for one command of a launch while so many children were out: nothing if none was prepared; else the command of the line that is
 -- chosen for the subject, once, and then what its handler's own starts are, each while it is out
 abbrev pub Tries : List Line → Subject → ℕ → Driven → List Tried → Type 0
 Tries conf subject out NotStarted tried = tried ≡ []

@@ -37,7 +37,7 @@ pub data Passes (conf : List Line) (launch : TokenShown) (old new : SeatShown) (
       → command.piped ≡ true → IsSaid launch.subject.callout said → ArePieces pieces → story ≡ said ++ (map Heard pieces ++ end_heard read)
       → Passes conf launch old new story
 
--- what passed with the child that came back last, where one ran, and its launcher tells it
+-- what passed with the child that came back last, if one ran, and its launcher tells it
 abbrev pub HasPassed : List Line → TokenShown → Driven → SeatShown → SeatShown → LauncherShown → Type 0
 HasPassed conf launch driven old new l = HasRun driven
     → (story : List Passed) × (tells : Bool) × Passes conf launch old new story × (l.story ≡ told_if tells story)

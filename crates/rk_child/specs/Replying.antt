@@ -18,7 +18,7 @@ use Rattle.rk_talk.specs.declared.saying.Saying.TheVariants.{Noted, Short, Behin
 abbrev pub SaysOf : ℕ → List ℕ → SeatShown → SeatShown → Saying → Type 0
 SaysOf key body old new s = (hall : HallNo) × (hall_number hall ≡ key % 4) × Says (Handler key) hall body old new s
 
--- the reply to what is to be said: that of the receipt's answer, or ENOMEM where that has no frame; or the errno
+-- the reply to what is to be said: that of the receipt's answer, or ENOMEM if that has no frame; or the errno
 abbrev pub IsReplyTo : Saying → Reply → Type 0
 IsReplyTo (Noted n) r = (reply_of n.answer ≡ Some r) ⊎ ((r ≡ Refused Enomem) × LacksFrame n.answer)
 IsReplyTo (Short e) r = r ≡ Refused e

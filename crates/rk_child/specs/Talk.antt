@@ -42,7 +42,7 @@ IsTurn key from t to = IsBody t.body × (s : Saying) × IsAsked key from t.body 
 pub data Talking (key : ℕ) (begun : SeatShown) : List Passed → List ℕ → Standing → Type 0 where
   -- nothing has passed
   begins : Talking key begun [] [] (standing_of begun false)
-  -- bytes are heard only where no whole message is held
+  -- bytes are heard only if no whole message is held
   hears : (story : List Passed) (held piece : List ℕ) (standing : Standing) → Talking key begun story held standing → IsPartial held → piece ≢ []
       → Talking key begun (story ++ Heard piece ∷ []) (held ++ piece) standing
   -- the message at the front is taken, and its reply written, before anything else passes; it finds the seat as the message before it left it

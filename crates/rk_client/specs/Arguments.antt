@@ -57,7 +57,7 @@ abbrev pub unless : Option NameFault → Value → Option Value
 unless None v = Some v
 unless (Some f) v = None
 
--- the field of a kind that an argument says, None where it says none; uid, gid, flags and join are no arguments
+-- the field of a kind that an argument says, None if it says none; uid, gid, flags and join are no arguments
 unfoldable pub value_said : FieldKind → List ℕ → Option Value
 value_said field.Type word = unless (type_fault word) (Blob word)
 value_said field.Description word = unless (description_fault word) (Blob word)

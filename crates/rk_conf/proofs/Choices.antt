@@ -24,7 +24,7 @@ module _ (op typ desc callout : List ℕ) where
   same_first (c ∷ before) after [] after' a b e fa fb na nb = let same : c ≡ b = cc in let P : Line → Type 0 = λ l. IsFor l op typ desc callout in absurd (na.0 (subst P (sym same) fb))
   same_first (c ∷ before) after (d ∷ before') after' a b e fa fb na nb = same_first before after before' after' a b (cc) fa fb na.1 nb.1
 
-  -- where none is for it, no part of the lines is
+  -- if none is for it, no part of the lines is
   not_within : (before after : List Line) (a : Line) → Others (before ++ a ∷ after) → IsFor a op typ desc callout → ⊥
   not_within [] after a n f = n.0 f
   not_within (c ∷ before) after a n f = not_within before after a n.1 f

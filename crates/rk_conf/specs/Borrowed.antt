@@ -12,7 +12,7 @@ argument_from (borrowed.Macro a) = a
 argument_from (borrowed.Payload typ desc) = argument.Payload (record { typ = typ.now; desc = desc.now })
 argument_from (borrowed.Literal text) = argument.Literal text.now
 
--- where it is a literal, it is text
+-- if it is a literal, it is text
 abbrev pub HasText : BorrowedArgument → Type 0
 HasText (borrowed.Macro a) = Unit {0}
 HasText (borrowed.Payload typ desc) = Unit {0}

@@ -26,7 +26,7 @@ fields_fault _ = Some TooFewFields
 unfoldable pub refusal_of : List ℕ → Option ConfKind
 refusal_of line = if nat_lt 8192 (length line) then Some TooLong else (if not (is_text line) then Some BadByte else fields_fault (fields_of line))
 
--- the line of these fields; nothing where there are fewer than five
+-- the line of these fields; nothing if there are fewer than five
 abbrev pub line_of : ℕ → List (List ℕ) → Option Line
 line_of n (op ∷ typ ∷ desc ∷ callout ∷ prog ∷ args) =
     Some (record {

@@ -26,11 +26,11 @@ abbrev pub answer_of : Result Answer Errno → Answer
 answer_of (Ok answer) = answer
 answer_of (Err error) = Refused error
 
--- the call passes where there is no refusal, and is refused else
+-- the call passes if there is no refusal, and is refused else
 abbrev pub Passes : {A : Type 0} → Option Errno → Result A Errno → Type 0
 Passes refusal result = MatchResult result (λ _. refusal ≡ None) (λ error. refusal ≡ Some error)
 
--- where there is no refusal something is found, of which this holds
+-- if there is no refusal something is found, of which this holds
 abbrev pub Finds : {A : Type 0} → Option Errno → (A → Type 0) → Result A Errno → Type 0
 Finds refusal found result = MatchResult result (λ one. found one × (refusal ≡ None)) (λ error. refusal ≡ Some error)
 

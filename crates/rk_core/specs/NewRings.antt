@@ -40,7 +40,7 @@ abbrev pub MakesOr : Option ℕ → RingKind → ℕ → World → World → ℕ
 MakesOr None kind uid old new ring = Makes kind uid old new ring
 MakesOr (Some there) kind uid old new ring = (ring ≡ there) × (new ≡ old)
 
--- the user ring of this uid, None where it has none
+-- the user ring of this uid, None if it has none
 abbrev pub IsUserRing : World → ℕ → Option ℕ → Type 0
 IsUserRing w uid None = has_user_ring w uid ≡ false
 IsUserRing w uid (Some ring) = (r : Ring) × (map.get w.rings ring ≡ Some r) × (is_users r.kind r.uid uid ≡ true)

@@ -43,7 +43,7 @@ any_stands p s = list_any (stands p) (in_order s)
 abbrev pub live_key : Option Match → Option ℕ
 live_key m = option_and_then (λ one. if is_live one.standing then Some one.key else None) m
 
--- the first, and where there is none the second
+-- the first, and if there is none the second
 abbrev pub or_else : Option ℕ → Option ℕ → Option ℕ
 or_else a b = option_map_or (λ k. Some k) a b
 

@@ -28,15 +28,15 @@ without_ring ring w = record w { rings = map.remove w.rings ring }
 abbrev pub rival_in : World → Option ℕ → ℕ → ℕ → Bool
 rival_in w ring k j = option_map_or (λ r. (not (is_linked w.rings r k) && is_linked w.rings r j) && is_rival w.keys k j) ring false
 
--- the rings without this one, where one is given
+-- the rings without this one, if one is given
 abbrev pub removed_if : Option ℕ → map.FinMap nat_cmp Ring → map.FinMap nat_cmp Ring
 removed_if None rings = rings
 removed_if (Some ring) rings = map.remove rings ring
 
--- the world without this ring, where one is given
+-- the world without this ring, if one is given
 abbrev pub without_if : Option ℕ → World → World
 without_if ring w = record w { rings = removed_if ring w.rings }
 
--- the session ring that goes with a client: none where another client has it
+-- the session ring that goes with a client: none if another client has it
 abbrev pub session_goes : Bool → ℕ → Option ℕ
 session_goes shared ring = if shared then None else Some ring

@@ -28,7 +28,7 @@ if_false : (b : Bool) → false ≡ not b → b ≡ true
 if_false true e = refl
 if_false false e = absurd (cc)
 
--- the test of two files passes where they are equal, and only there
+-- the test of two files passes if they are equal, and only then
 are_same : (a b : FileId) → of_files.ghosts.eq a b ≡ true → a ≡ b
 are_same a b = search rules
 

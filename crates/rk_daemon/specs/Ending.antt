@@ -21,7 +21,7 @@ abbrev pub natural : ℤ → Option ℕ
 natural (pos n) = Some n
 natural (negsuc n) = None
 
--- the line is the one that these lines' configuration picks for what a handler was started for; there is none where that is not known
+-- the line is the one that these lines' configuration picks for what a handler was started for; there is none if that is not known
 abbrev pub IsLineFor : List Line → Option Subject → Option Line → Type 0
 IsLineFor lines None line = IsNone line
 IsLineFor lines (Some s) line = IsChosen lines (op_name s.op) s.typ s.desc s.callout line
@@ -38,7 +38,7 @@ octal n = 48 + n % 8
 abbrev pub byte_text : ℕ → List ℕ
 byte_text b = if is_plain b then b ∷ [] else 92 ∷ 48 ∷ octal (b / 64) ∷ octal (b / 8) ∷ octal b ∷ []
 
--- the first 128 bytes of a name or a path, and `..` where there are more
+-- the first 128 bytes of a name or a path, and `..` if there are more
 abbrev pub shown_text : List ℕ → List ℕ
 shown_text bytes = if nat_lt 128 (length bytes) then flat_map byte_text (take 128 bytes) ++ codes ".." else flat_map byte_text bytes
 

@@ -9,7 +9,7 @@ use Rattle.rk_daemon.specs.declared.style.Style.{Style}
 use Rattle.rk_daemon.specs.declared.style.Style.TheVariants.{Journal, Timed}
 use Rattle.rk_daemon.specs.Log.{level_text, priority}
 
--- the time of day, and `-` where there is none
+-- the time of day, and `-` if there is none
 abbrev pub time_text : Option DateTime → List ℕ
 time_text None = codes "-"
 time_text (Some time) = iso_datetime_text time ++ codes "Z"
@@ -23,6 +23,6 @@ begins Timed time level = time_text time ++ codes " " ++ level_text level ++ cod
 abbrev pub prefix_text : Prefix → List ℕ
 prefix_text h = begins h.style h.time h.level
 
--- that, and what it says, where that is known
+-- that, and what it says, if that is known
 abbrev pub entry_text : Prefix → Option (List ℕ) → Option (List ℕ)
 entry_text prefix text = option_append (Some (prefix_text prefix)) text

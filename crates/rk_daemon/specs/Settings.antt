@@ -78,12 +78,12 @@ octal_said (b ∷ bs) = if list_all is_octal_digit (b ∷ bs) then Some (digits_
 abbrev pub permissions_said : List ℕ → Option ℕ
 permissions_said bytes = up_to 0o777 (octal_said bytes)
 
--- the number, where there is one and it is not 0
+-- the number, if there is one and it is not 0
 abbrev pub unless_zero : Option ℕ → Option ℕ
 unless_zero None = None
 unless_zero (Some n) = if n == 0 then None else Some n
 
--- a path that can be preloaded, or none where there is no value
+-- a path that can be preloaded, or none if there is no value
 abbrev pub library_or_none : Option (List ℕ) → Option (Option (List ℕ))
 library_or_none None = Some None
 library_or_none (Some path) = if is_library path then Some (Some path) else None
@@ -109,7 +109,7 @@ level_said word = if bytes_eq word (codes "error") then Some level.Error
     else (if bytes_eq word (codes "info") then Some level.Info
     else (if bytes_eq word (codes "debug") then Some level.Debug else None)))
 
--- the level that a value names, that of warnings where there is none
+-- the level that a value names, that of warnings if there is none
 abbrev pub level_or_warn : Option (List ℕ) → Option Level
 level_or_warn None = Some level.Warn
 level_or_warn (Some word) = level_said word
@@ -148,7 +148,7 @@ together (Some socket) (Some conf) (Some negative) (Some sessions) (Some clients
     })
 together _ _ _ _ _ _ _ _ _ _ _ = None
 
--- what options set: each is known and there once at most, the paths are there, the numbers are numbers within their bounds, the library, where there is
+-- what options set: each is known and there once at most, the paths are there, the numbers are numbers within their bounds, the library, if there is
 -- one, can be preloaded, and the level is one of the four
 abbrev pub set_in : Option (List Given) → Option Set
 set_in options = if all_named is_known options then together

@@ -1,4 +1,4 @@
--- What was done outside of the daemon, first things first, where that is told.
+-- What was done outside of the daemon, first things first, if that is told.
 use Rattle.std.specs.Prelude.{◌≡◌, List, ◌++◌, Option, option_map}
 
 -- this was done, too

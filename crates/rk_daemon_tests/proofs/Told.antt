@@ -2,7 +2,7 @@
 use Rattle.std.proofs.Common.{◌≡◌, List, [], Option, Some, None, sym, ap, subst, ◌∙◌}
 use Rattle.rk_daemon.specs.Story.{Does, and_then}
 
--- what was told; nothing where it is not
+-- what was told; nothing if it is not
 acts_of : {A : Type 0} → Option (List A) → List A
 acts_of (Some acts) = acts
 acts_of None = []

@@ -8,7 +8,7 @@ abbrev pub put_out : Option (List ℕ) → List ℕ → Option (List ℕ)
 put_out (Some bytes) piece = if nat_lt 32767 (length (bytes ++ piece)) then None else Some (bytes ++ piece)
 put_out None piece = None
 
--- the bytes, where there are any, and not more
+-- the bytes, if there are any, and not more
 abbrev pub payload_of : Option (List ℕ) → Result (List ℕ) OutputFault
 payload_of (Some bytes) = if length bytes == 0 then Err Empty else Ok bytes
 payload_of None = Err TooLong

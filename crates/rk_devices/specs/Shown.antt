@@ -15,7 +15,7 @@ pub data Passed : Type 0 where
   Said : List ℕ → Passed
 
 -- a child: how often a call failed; how often it was read; whether the read that came last told the end of its output; what has passed, first things first,
--- where it tells that; whether its input was closed; `None` before it was waited for, then how it has ended, or `None` where the wait failed; and whether its
+-- if it tells that; whether its input was closed; `None` before it was waited for, then how it has ended, or `None` if the wait failed; and whether its
 -- input was open when it was waited for
 pub record ChildShown : Type 0 where
   pub count : ℕ
@@ -33,7 +33,7 @@ pub record Tried : Type 0 where
 
 -- a launcher: how often a call failed, its own and those of children that came back; the most reads of a child that came back; how many children are out; the
 -- most that were out at one time; `reads`, `at_end`, `waited` and `story` of the child that came back last; whether one came back that was waited for while its
--- input was open; and the commands that were to be started, first things first, where it tells them
+-- input was open; and the commands that were to be started, first things first, if it tells them
 pub record LauncherShown : Type 0 where
   pub count : ℕ
   pub longest : ℕ
@@ -70,7 +70,7 @@ new_launcher = record { count = 0; longest = 0; out = 0; deepest = 0; reads = 0;
 abbrev pub and_then : {A : Type 0} → Option (List A) → List A → Option (List A)
 and_then told more = option_map (λ t. t ++ more) told
 
--- how a child has ended that was waited for, `None` where the wait failed
+-- how a child has ended that was waited for, `None` if the wait failed
 abbrev pub end_of : Result How DeviceFault → Option How
 end_of (Ok how) = Some how
 end_of (Err e) = None
@@ -90,7 +90,7 @@ Writes (Err e) bytes old new = Rose old.count new.count × (first others : List 
 abbrev pub closed : ChildShown → ChildShown
 closed c = record c { closed = true }
 
--- what a read has heard: the bytes at the front of its buffer, or nothing where it failed
+-- what a read has heard: the bytes at the front of its buffer, or nothing if it failed
 abbrev pub heard_by : Result ℕ DeviceFault → List ℕ → List Passed
 heard_by (Ok n) buf = Heard (take n buf) ∷ []
 heard_by (Err e) buf = []

@@ -19,7 +19,7 @@ abbrev pub HandsOutInOrder : Type 0
 HandsOutInOrder = (calls : List Call) (held : List ℕ) → Make calls [] held → (bodies : List (List ℕ)) (rest : List ℕ) →
     Splits (stream_of calls) bodies rest → (later : List (List ℕ)) × (bodies ≡ bodies_of calls ++ later) × Splits held later rest
 
--- where what is held begins with no frame, as after More and after a fault, all bodies have been handed out
+-- if what is held begins with no frame, as after More and after a fault, all bodies have been handed out
 abbrev pub HasHandedOutAll : Type 0
 HasHandedOutAll = (calls : List Call) (held : List ℕ) → Make calls [] held → HasNoFrame held → Splits (stream_of calls) (bodies_of calls) held
 
@@ -40,7 +40,7 @@ abbrev pub answer_owed : List (List ℕ) → List ℕ → Call
 answer_owed (body ∷ _) rest = Gave body
 answer_owed [] rest = answer_at_end (fault_of rest)
 
--- `next` answers the first body of what is held, and More and a fault exactly where there is none
+-- `next` answers the first body of what is held, and More and a fault exactly if there is none
 abbrev pub AnswersTheNext : Type 0
 AnswersTheNext = (held new : List ℕ) (bodies : List (List ℕ)) (rest : List ℕ) (call : Call) →
     Splits held bodies rest → IsAnswer call → Makes call held new → call ≡ answer_owed bodies rest

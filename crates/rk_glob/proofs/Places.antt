@@ -10,7 +10,7 @@ use Rattle.rk_glob.proofs.Scan.{Track, Track-here, Track-next, star_forgets, non
 abbrev pub left_at : List ℕ → ℕ → List ℕ
 left_at middle at = drop at middle ++ star ∷ []
 
--- the whole fits exactly where the last `*` and what is behind it take the text from `from` on, and the bytes since then stand in it
+-- the whole fits exactly if the last `*` and what is behind it take the text from `from` on, and the bytes since then stand in it
 pub record Scans (middle text : List ℕ) (after from at reached : ℕ) : Type 0 where
   pub whole : Fits (star ∷ middle ++ star ∷ []) text ↔ Consumes (star ∷ left_at middle after) (drop from text)
   pub track : Track (left_at middle after) (drop from text) (left_at middle at) (drop reached text)

@@ -107,7 +107,7 @@ later_text c d p left rest text since l n apart e x after first =
       | o ∷ os ↦ λ h. (os, let k : x ∷ after ≡ o ∷ (os ++ (since ++ l.rest)) = sym first ∙ h in cc)
     ] l.text_is
 
--- where a byte differs, the last `*` takes one byte more
+-- if a byte differs, the last `*` takes one byte more
 pub one_more : (pattern text : List ℕ) (c d : ℕ) (left rest : List ℕ) → c ≢ star → (c ≡ d → ⊥) → Track pattern text (c ∷ left) (d ∷ rest) → (x : ℕ) (after : List ℕ) → text ≡ x ∷ after
     → Consumes (star ∷ pattern) text ↔ Consumes (star ∷ pattern) after
 one_more pattern text c d left rest n apart t x after first = (

@@ -212,13 +212,13 @@ handed_in_before P volumes r i v at other u m lt holds =
     absurd (other (subst (λ (x : VolumeShown). (x.hall ≡ r.hall) × (x.index ≡ r.volume)) same (m.hall, m.index)) (subst P same holds)))
     (here_or_before m.place i lt)
 
--- where no volume so far is the receipt's, nor the next, none up to that one is
+-- if no volume so far is the receipt's, nor the next, none up to that one is
 pub none_named_more : (volumes : List VolumeShown) (r : Noted) (i : ℕ) (v : VolumeShown) → NoneNamed volumes r i → slice_get volumes i ≡ Some v
     → ((v.hall ≡ r.hall) × (v.index ≡ r.volume) → ⊥) → NoneNamed volumes r (i + 1)
 none_named_more volumes r i v none at other u m lt =
     none u m (handed_in_before (λ x. Unit {0}) volumes r i v at (λ n t. other n) u m lt tt)
 
--- where none of all volumes is the receipt's, none is handed in for it
+-- if none of all volumes is the receipt's, none is handed in for it
 pub none_named_end : (volumes : List VolumeShown) (r : Noted) (i : ℕ) → NoneNamed volumes r i → length volumes ≤ i
     → (v : VolumeShown) × IsHandedIn volumes r v → ⊥
 none_named_end volumes r i none le w = let lt = slice_get_within volumes w.1.place w.0 w.1.found in none w.0 w.1 (omega (arith, lt, le))
@@ -227,13 +227,13 @@ none_named_end volumes r i none le w = let lt = slice_get_within volumes w.1.pla
 abbrev pub StandsInNone : List VolumeShown → Noted → ℕ → Type 0
 StandsInNone volumes r i = (v : VolumeShown) (m : IsHandedIn volumes r v) → m.place < i → StandsIn v.before v.steps r → ⊥
 
--- where the receipt stands in none of the volumes so far, nor in the next, it stands in none up to that one
+-- if the receipt stands in none of the volumes so far, nor in the next, it stands in none up to that one
 pub stands_in_none_more : (volumes : List VolumeShown) (r : Noted) (i : ℕ) (v : VolumeShown) → StandsInNone volumes r i → slice_get volumes i ≡ Some v
     → (((v.hall ≡ r.hall) × (v.index ≡ r.volume)) × StandsIn v.before v.steps r → ⊥) → StandsInNone volumes r (i + 1)
 stands_in_none_more volumes r i v none at other u m lt stands =
     none u m (handed_in_before (λ x. StandsIn x.before x.steps r) volumes r i v at (λ n t. other (n, t)) u m lt stands) stands
 
--- where the receipt stands in none of all volumes, it stands in none that is handed in
+-- if the receipt stands in none of all volumes, it stands in none that is handed in
 pub stands_in_none_end : (volumes : List VolumeShown) (r : Noted) (i : ℕ) → StandsInNone volumes r i → length volumes ≤ i
     → (v : VolumeShown) × IsHandedIn volumes r v × StandsIn v.before v.steps r → ⊥
 stands_in_none_end volumes r i none le w =

@@ -77,7 +77,7 @@ OwedTurn old now e p p' new (Err (Behind seen found)) IsAnswer =
     × (seen ≡ p.seen) × (1 ≤ found) × (found ≤ seen) × (p' ≡ record p { calls = p.calls + 1 })
 OwedTurn old now e p p' new (Err Stray) IsAnswer = (is_owed old.world e ≡ false) × (new ≡ old) × (p' ≡ p)
 
--- one stray more where the event was not owed
+-- one stray more if the event was not owed
 abbrev pub strays_of : Result Noted Lapse → ℕ
 strays_of (Ok r) = 0
 strays_of (Err (Behind seen found)) = 0
@@ -89,7 +89,7 @@ Heard p r p' (Ok s) = (s ≡ r) × (p.seen < r.number) × (p' ≡ record p { see
 Heard p r p' (Err (Behind seen found)) = (seen ≡ p.seen) × (found ≡ r.number) × (found ≤ seen) × (p' ≡ p)
 Heard p r p' (Err Stray) = ⊥
 
--- a step was taken only where the event was owed
+-- a step was taken only if the event was owed
 abbrev pub IsOwedOr : HallShown → Event → Result Noted Lapse → Type 0
 IsOwedOr h e (Ok r) = is_owed h.world e ≡ true
 IsOwedOr h e (Err (Behind seen found)) = is_owed h.world e ≡ true

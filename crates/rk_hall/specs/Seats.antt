@@ -138,6 +138,6 @@ IsOutcome (Done (Number n)) = Unit {0}
 IsOutcome (Refused e) = Unit {0}
 IsOutcome _ = ⊥
 
--- the outcome of a wait, or EINVAL where there is none
+-- the outcome of a wait, or EINVAL if there is none
 abbrev pub IsOutcomeOrNone : Answer → Type 0
 IsOutcomeOrNone a = ((o : Outcome) × (a ≡ told_as o)) ⊎ (a ≡ Refused errno.Einval)

@@ -40,7 +40,7 @@ less_by s a b h = elim (ltb a b) as (λ t. ltb a b ≡ t → a < b) [
   ))
 ] refl
 
--- where what may be drawn from low on has an index of at least c, n + 1 of them reach first + stride * (c + n)
+-- if what may be drawn from low on has an index of at least c, n + 1 of them reach first + stride * (c + n)
 upper : (d : Drawn) (n c low : ℕ) → ((i : ℕ) → low ≤ d.first + d.stride * i → contains d.used (d.first + d.stride * i) ≡ false → c ≤ i)
     → HasFrom d low (suc n) → d.first + d.stride * (c + n) < 2 ^ 31
 upper d zero c low least h =
@@ -75,7 +75,7 @@ least_left first stride count i unused =
       | false ↦ λ e. ltb-false i count e
     ] refl
 
--- n + 1 serials are left exactly where the last of them is small enough
+-- n + 1 serials are left exactly if the last of them is small enough
 reaches : (first stride count n : ℕ) → HasSerials (drawn_in_order first stride count) (suc n) → first + stride * (count + n) < 2 ^ 31
 reaches first stride count n h = upper (drawn_in_order first stride count) n count 0 (λ i _ unused. least_left first stride count i unused) h
 
@@ -95,7 +95,7 @@ serial_of-positive n pos =
       ] refl
     ] refl
 
--- the serial at the count is the next, and where there is none no serial is left
+-- the serial at the count is the next, and if there is none no serial is left
 abbrev pub IsNextOrNone : ℕ → ℕ → ℕ → Option ℕ → Type 0
 IsNextOrNone first stride count o = MatchOption o (¬ (HasSerials (drawn_in_order first stride count) 1)) (λ k. IsNext (drawn_in_order first stride count) k ×
     (k ≡ first + stride * count) × (count + 1 < 2 ^ 31))
@@ -141,7 +141,7 @@ pub drawn_next : (first stride count k : ℕ) → k ≡ first + stride * count �
     drawn_in_order first stride (count + 1) ≡ with_drawn k (drawn_in_order first stride count)
 drawn_next first stride count k e = rw (e, add-one)
 
--- so many are left exactly where the last of them is a serial
+-- so many are left exactly if the last of them is a serial
 pub left_in_order : (first stride count n i : ℕ) (o : Option ℕ) → 1 ≤ first → 1 ≤ stride → i ≡ min (count + n) (2 ^ 32 - 1) → o ≡ serial_of (first + stride * i)
     → Says (is_some o) (HasSerials (drawn_in_order first stride count) (suc n))
 left_in_order first stride count n i o f s is e =

@@ -11,7 +11,7 @@ use Rattle.rk_keys.specs.Serials.{Drawn, IsDrawable, IsFresh, HasFrom, HasSerial
 pub IsNext-IsFresh : (d : Drawn) (k : ℕ) → 1 ≤ d.first → IsNext d k → IsFresh d k
 IsNext-IsFresh d k first next = record { positive = omega (arith, next.drawable.form); small = next.drawable.small; unused = next.drawable.unused }
 
--- where there is a next serial, one is left
+-- if there is a next serial, one is left
 pub IsNext-HasSerials : (d : Drawn) (k : ℕ) → IsNext d k → HasSerials d 1
 IsNext-HasSerials d k next = (k, omega arith, next.drawable, tt)
 
@@ -47,7 +47,7 @@ HasSerials-with_drawn d k n next h =
     let least : k ≤ all.0 = next.least all.0 all.2 in
     HasFrom-below (with_drawn k d) n 0 (all.0 + 1) (omega arith) (HasFrom-with_drawn d k n (all.0 + 1) (omega (arith, least)) all.3)
 
--- where one more is left, so many are
+-- if one more is left, so many are
 pub HasSerials-fewer : (d : Drawn) (n : ℕ) → HasSerials d (n + 1) → HasSerials d n
 HasSerials-fewer d n h = fewer d n 0 (subst (HasSerials d) (add-one n) h) where
   fewer : (d : Drawn) (n low : ℕ) → HasFrom d low (suc n) → HasFrom d low n

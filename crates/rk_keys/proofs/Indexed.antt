@@ -89,7 +89,7 @@ few_named known typ description held =
     no_more _ (kept_where (of_name typ description) known.keys) known.serials.used refl
     (λ k out. none_kept (of_name typ description) known.keys k (held.drawn k out))
 
--- where none has it, no key has it
+-- if none has it, no key has it
 none_named : (keys : Keys) (typ description : List ℕ) → keys_named keys typ description ≡ 0 → (k : ℕ) → has_name keys k typ description ≡ false
 none_named keys typ description none k = false_from_ne_true _ (λ named.
     let key = passing (is_named typ description) (map.get keys k) named in
@@ -102,7 +102,7 @@ none_named keys typ description none k = false_from_ne_true _ (λ named.
     ∙ ap (λ b. cond b (Some key.0) None) key.2
     ))
 
--- where some has it, there is one
+-- if some has it, there is one
 some_named : (keys : Keys) (typ description : List ℕ) → 0 < keys_named keys typ description → (k : ℕ) × (has_name keys k typ description ≡ true)
 some_named keys typ description some = first (map.entries kept) refl where
   p : ℕ → Key → Bool
@@ -126,14 +126,14 @@ some_named keys typ description some = first (map.entries kept) refl where
 -- ---- what is known of a name
 
 module _ (seed : ℕ) (keys : Keys) (numbers : Numbers) (buckets : Buckets) (index : IsIndex seed keys numbers buckets) (typ description : List ℕ) where
-  -- where no number is kept for a name, no key has it
+  -- if no number is kept for a name, no key has it
   pub none_of : number_in (kept_of seed buckets typ description) ≡ None → (k : ℕ) → has_name keys k typ description ≡ false
   none_of none = none_named keys typ description (sym (index.counted typ description) ∙ not_kept (kept_of seed buckets typ description) none) where
     not_kept : (o : Option Named) → number_in o ≡ None → count_of o ≡ 0
     not_kept None e = refl
     not_kept (Some n) e = absurd (none-some n.number (sym e))
 
-  -- where a number is kept for a name, some key has that name and that number
+  -- if a number is kept for a name, some key has that name and that number
   pub some_of : IfSome (number_in (kept_of seed buckets typ description)) (λ n. (k : ℕ) × (has_name keys k typ description ≡ true) ×
       (map.get numbers k ≡ Some n))
   some_of = by_name (kept_of seed buckets typ description) refl where
@@ -148,7 +148,7 @@ module _ (seed : ℕ) (keys : Keys) (numbers : Numbers) (buckets : Buckets) (ind
 
 -- ---- what keeps it
 
--- where there are no keys, the index is empty
+-- if there are no keys, the index is empty
 pub index_empty : (seed : ℕ) → IsIndex seed map.empty map.empty map.empty
 index_empty seed = record {
   counted = λ t d. ap count_of (nothing t d) ∙ sym (kept_len-empty (of_name t d));

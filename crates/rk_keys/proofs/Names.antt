@@ -89,7 +89,7 @@ number_of_new known key k (Some n) held unused none some = (
   stays_drawn known.serials k n (held.numbered some.0 n some.2),
 )
 
--- a new key gets the number of the keys of its name, or its own serial where there are none
+-- a new key gets the number of the keys of its name, or its own serial if there are none
 pub number_for_new : (known : Known) (typ description : List ℕ) (k : ℕ) (o : Option ℕ) → (o ≡ None → (q : ℕ) → has_name known.keys q typ description ≡ false)
     → IfSome o (λ n. (q : ℕ) × (has_name known.keys q typ description ≡ true) × (map.get known.numbers q ≡ Some n))
     → IsNumberFor known typ description k (Some (unwrap_or o k))

@@ -42,7 +42,7 @@ few keys counts uid is not_all = let same = is.each uid in let below : keys_of k
 
 -- ---- the counts hold through each change
 
--- where there are no keys, there are no counts
+-- if there are no keys, there are no counts
 pub counts_empty : AreCounts map.empty map.empty
 counts_empty = record { each = λ uid. ap (λ o. unwrap_or o 0) (map.get-empty nat_cmp uid) ∙ sym (kept_len-empty (owned_by uid)) }
 

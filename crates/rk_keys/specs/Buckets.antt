@@ -63,7 +63,7 @@ abbrev pub counted_in : List ℕ → List ℕ → ℕ → Option Named → Named
 counted_in typ description serial None = record { typ = typ; description = description; number = serial; keys = 1 }
 counted_in typ description serial (Some n) = record n { keys = n.keys + 1 }
 
--- with one fewer, and nothing where none is left
+-- with one fewer, and nothing if none is left
 abbrev pub counted_out : Option Named → Option Named
 counted_out None = None
 counted_out (Some n) = if nat_le n.keys 1 then None else Some (record n { keys = n.keys - 1 })

@@ -28,7 +28,7 @@ standing_fault standing.Revoked = Some (Own error.Revoked)
 standing_fault standing.Expired = Some (Own error.Expired)
 standing_fault (standing.Negative e) = Some (Own e)
 
--- why a key can't be used at this moment; none where it stands Positive
+-- why a key can't be used at this moment; none if it stands Positive
 abbrev pub use_fault : Key → ℕ → Option KeyFault
 use_fault key now = standing_fault (standing_of key now)
 

@@ -26,7 +26,7 @@ known_code =
     (coded× (map.code coded_ℕ key.the_row.coded) (coded× (map.code coded_ℕ coded_ℕ) drawn_code))
     (λ n. (n.keys, (n.numbers, n.serials))) (λ p. record { keys = p.0; numbers = p.1.0; serials = p.1.1 }) (λ _. refl)
 
--- each key has a number, and keys share one exactly where their type and description are equal
+-- each key has a number, and keys share one exactly if their type and description are equal
 pub record IsNaming (keys : map.FinMap nat_cmp Key) (numbers : map.FinMap nat_cmp ℕ) : Type 0 where
   pub each : (k : ℕ) → map.contains_key numbers k ≡ map.contains_key keys k
   pub shared : (j k : ℕ) (a b : Key) (m n : ℕ) → map.get keys j ≡ Some a → map.get keys k ≡ Some b
@@ -65,7 +65,7 @@ pub record Makes (old : Known) (k : ℕ) (key : Key) (new : Known) : Type 0 wher
 
 -- ---- changes of a key
 
--- the key with its condition, and an expiry where one is given: keyctl_instantiate(3), keyctl_reject(3)
+-- the key with its condition, and an expiry if one is given: keyctl_instantiate(3), keyctl_reject(3)
 abbrev pub concluded : Condition → Option ℕ → Key → Key
 concluded condition None key = record key { condition = condition }
 concluded condition (Some end) key = record key { condition = condition; expiry = Some end }

@@ -46,6 +46,6 @@ AreTried conf subject driven all = Tries conf subject 0 driven all
     ⊎ ((first second : Driven) × (one two : List shown.Tried) × HasRun first × Tries conf subject 0 first one
     × Tries conf (record subject { op = Negate }) 0 second two × (driven ≡ later_of first second) × (all ≡ one ++ two))
 
--- all that passed with the child of a launch that came back last, where one ran
+-- all that passed with the child of a launch that came back last, if one ran
 abbrev pub HasPassedWith : List Line → TokenShown → Driven → SeatShown → SeatShown → List shown.Passed → Type 0
 HasPassedWith conf launch driven old new story = HasRun driven → Passes conf launch old new story ⊎ Passes conf (negated launch) old new story

@@ -37,7 +37,7 @@ Tells given old answer new = Leaves given old answer new
 abbrev pub Settles : Answer → World → Answer → World → Type 0
 Settles given left answer new = Leaves given (tidied left) answer new
 
--- refused, where there is a refusal, and nothing changes; else the last argument holds
+-- refused, if there is a refusal, and nothing changes; else the last argument holds
 abbrev pub Unless : Option Errno → World → Answer → World → Type 0 → Type 0
 Unless None old answer new P = P
 Unless (Some error) old answer new P = Tells (Refused error) old answer new

@@ -67,7 +67,7 @@ has_assumed asker k = option_map_or (λ j. j == k) asker.assumed false
 abbrev pub ring_for : World → Asker → ℤ → Option ℕ
 ring_for w asker r = option_and_then (ring_at w.rings asker.context asker.requestor) (place_named r)
 
--- the error where there is none: EINVAL for a number that names no place of a ring, EACCES for a live ring that is not one's own,
+-- the error if there is none: EINVAL for a number that names no place of a ring, EACCES for a live ring that is not one's own,
 -- else ENOKEY
 abbrev pub no_ring : World → Option Place → Errno
 no_ring w None = errno.Einval

@@ -46,7 +46,7 @@ abbrev pub completion_refusal : World → Asker → ℤ → ℤ → Option Errno
 completion_refusal w asker key r =
     first_of (own_refusal asker (serial_named key) ∷ ring_or_none_refusal w asker r ∷ full_refusal w (ring_for w asker r) (serial_in key) ∷ [])
 
--- the key is linked where it is wanted, and complete
+-- the key is linked if it is wanted, and complete
 unfoldable pub Completes : World → ℕ → Asker → ℤ → ℤ → Condition → Option ℕ → Answer → World → Type 0
 Completes old now asker key r condition end answer new =
     Unless (completion_refusal old asker key r) old answer new
@@ -75,7 +75,7 @@ is_acting (ask.Assume key) = false
 is_acting ask.Callout = false
 is_acting _ = true
 
--- who acts is given to P; where nobody does, EACCES
+-- who acts is given to P; if nobody does, EACCES
 abbrev pub Acting : World → SessionId → Answer → World → (Asker → Type 0) → Type 0
 Acting old s answer new P = MatchOption (asker_of old s) (Tells (Refused errno.Eacces) old answer new) P
 

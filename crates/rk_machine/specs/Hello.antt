@@ -48,7 +48,7 @@ abbrev pub Makes : RingKind → ℕ → World → World → ℕ → Type 0
 Makes kind uid old new ring =
     IsFresh old.serials ring × (new ≡ record (drawn ring old) { rings = map.insert old.rings ring (empty_ring kind uid) })
 
--- a ring is made where it is wanted
+-- a ring is made if it is wanted
 abbrev pub MakesIf : Bool → RingKind → ℕ → World → World → Option ℕ → Type 0
 MakesIf false kind uid old new ring = (ring ≡ None) × (new ≡ old)
 MakesIf true kind uid old new ring = (r : ℕ) × (ring ≡ Some r) × Makes kind uid old new r

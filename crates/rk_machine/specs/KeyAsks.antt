@@ -203,7 +203,7 @@ Defaults old s asker number answer new =
 
 -- ---- ADD: add_key(2)
 
--- ADD: the ring, then EDQUOT where the uid has its 200 keys, no serial is left (`left` says whether one is), or the ring is full
+-- ADD: the ring, then EDQUOT if the uid has its 200 keys, no serial is left (`left` says whether one is), or the ring is full
 abbrev pub add_refusal : World → Asker → List ℕ → List ℕ → ℤ → Bool → Option Errno
 add_refusal w asker typ description r left =
     first_of (ring_refusal w asker r

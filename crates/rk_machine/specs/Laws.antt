@@ -117,7 +117,7 @@ negates_by _ k = false
 abbrev pub is_negate : ℕ → Past → Bool
 is_negate k s = negates_by s.answer k
 
--- the steps after the one by which another handler was to be started for k; all of them where there is none
+-- the steps after the one by which another handler was to be started for k; all of them if there is none
 abbrev pub since_negate : ℕ → List Past → List Past
 since_negate k [] = []
 since_negate k (s ∷ before) = if is_negate k s then [] else s ∷ since_negate k before
@@ -159,7 +159,7 @@ is_gone s p = is_effective p && goes p.event s
 
 -- ---- who waits
 
--- the key on which s begins to wait in this step, and whether as its starter; None where no wait of s begins
+-- the key on which s begins to wait in this step, and whether as its starter; None if no wait of s begins
 abbrev pub wait_begun : SessionId → Event → Answer → Option (ℕ × Bool)
 wait_begun s (Asked t a) (Start k subject) = if same_session t s then Some (k, true) else None
 wait_begun s (Asked t a) (Waiting k) = if same_session t s then Some (k, false) else None
@@ -179,7 +179,7 @@ is_ended (Handler k) p = is_ending k p
 abbrev pub is_wait_ended : SessionId → Past → Bool
 is_wait_ended s p = collects s p.event && not (is_waiting p.answer) || is_gone s p || is_ended s p
 
--- the key on which s waits after these steps, and whether as its starter; None where it does not wait
+-- the key on which s waits after these steps, and whether as its starter; None if it does not wait
 abbrev pub waited : SessionId → List Past → Option (ℕ × Bool)
 waited s [] = None
 waited s (p ∷ before) =
@@ -195,9 +195,9 @@ pub record OnceFor (k : ℕ) (s : Past) (before : List Past) : Type 0 where
   pub launch : is_launch k s ≡ true → happened (is_start k) before × never (is_launch k) (since_negate k before) × never (is_ending k) before
   -- another handler is to be started after a launch, once, and before completion and ending
   pub negate : is_negate k s ≡ true → happened (is_launch k) before × never (is_negate k) before × never (is_completion k) before × never (is_ending k) before
-  -- a completion is after a launch, of the later handler where there are two; it is the only one, and before the ending
+  -- a completion is after a launch, of the later handler if there are two; it is the only one, and before the ending
   pub completion : is_completion k s ≡ true → happened (is_launch k) (since_negate k before) × never (is_completion k) before × never (is_ending k) before
-  -- an ending is after a launch, of the later handler where there are two, or is itself a launch that failed; it is the only one
+  -- an ending is after a launch, of the later handler if there are two, or is itself a launch that failed; it is the only one
   pub ending : is_ending k s ≡ true → happened (is_launch k) (since_negate k (s ∷ before)) × never (is_ending k) before
 
 -- each construction happens once, in order
@@ -207,7 +207,7 @@ EachOnce (s ∷ before) = ((k : ℕ) → OnceFor k s before) × EachOnce before
 
 -- ---- one outcome, for all who wait
 
--- the key of the wait that this step ends by a collect; None where it ends none so
+-- the key of the wait that this step ends by a collect; None if it ends none so
 abbrev pub wait_collected : Past → List Past → Option ℕ
 wait_collected p before =
     elim p.event as (λ _. Option ℕ) [
@@ -239,7 +239,7 @@ EachOutcome (s ∷ before) = OneOutcome s before × EachOutcome before
 
 -- ---- own authority: a completion is its own handler's
 
--- the number that an ASSUME of Handler k names, where it is answered 0; None in any other step. ASSUME of 0 gives up: keyctl_assume_authority(3)
+-- the number that an ASSUME of Handler k names, if it is answered 0; None in any other step. ASSUME of 0 gives up: keyctl_assume_authority(3)
 abbrev pub assumed_at : ℕ → Event → Answer → Option ℤ
 assumed_at k (Asked s (ask.Assume key)) answer = if same_session s (Handler k) && is_done answer then Some key else None
 assumed_at k _ answer = None
@@ -265,7 +265,7 @@ EachOwn (s ∷ before) = OwnCompletion s before × EachOwn before
 
 -- ---- first requester: a start has the context of its root
 
--- what a HELLO that was answered with rings gave; a ring is 0 where it gave none
+-- what a HELLO that was answered with rings gave; a ring is 0 if it gave none
 pub record Root : Type 0 where
   pub uid : ℕ
   pub gid : ℕ
@@ -284,7 +284,7 @@ abbrev pub root_at : Past → (SessionId → Option Root) → SessionId → Opti
 root_at p before (Client n) = option_map_or (λ r. Some r) (hello_in n p.event p.answer) (before (Client n))
 root_at p before (Handler k) = option_map_or (λ s. before s) (starter_of k p) (before (Handler k))
 
--- of a client its latest HELLO, of a handler the root of the session that asked for its key; None where there is none
+-- of a client its latest HELLO, of a handler the root of the session that asked for its key; None if there is none
 abbrev pub root_of : List Past → SessionId → Option Root
 root_of [] s = None
 root_of (p ∷ before) s = root_at p (root_of before) s
@@ -296,7 +296,7 @@ holds n ring (p ∷ before) =
     if is_gone (Client n) p then false
     else option_map_or (λ r. is_one_of ring (r.thread ∷ r.process ∷ r.session ∷ [])) (hello_in n p.event p.answer) (holds n ring before)
 
--- what is shown of a ring: its number while some client holds it, and 0 where none does
+-- what is shown of a ring: its number while some client holds it, and 0 if none does
 abbrev pub Shows : List Past → ℕ → ℕ → Type 0
 Shows before ring shown =
     (((n : ℕ) × (holds n ring before ≡ true)) × (shown ≡ ring)) ⊎ (((n : ℕ) → holds n ring before ≡ false) × (shown ≡ 0))
@@ -357,7 +357,7 @@ NeverDeep (s ∷ before) = NotDeep (s ∷ before) × NeverDeep before
 
 -- ---- what is not effective is misuse
 
--- a launch, the end of a handler and the end of a client are answered 0, or EINVAL as misuse; or Negate, where another handler follows the one that ended
+-- a launch, the end of a handler and the end of a client are answered 0, or EINVAL as misuse; or Negate, if another handler follows the one that ended
 abbrev pub EffectiveOrMisuse : Event → Answer → Type 0
 EffectiveOrMisuse (Launched k r) a = (is_done a ≡ true) ⊎ (a ≡ Refused errno.Einval)
 EffectiveOrMisuse (Ended k how payload) a = (is_done a ≡ true) ⊎ ((a ≡ Negate k) ⊎ (a ≡ Refused errno.Einval))

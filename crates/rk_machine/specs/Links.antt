@@ -14,12 +14,12 @@ use Rattle.rk_rings.specs.Ring.{Ring, with_link, without_link, without_links}
 use Rattle.rk_machine.specs.World.{World}
 use Rattle.rk_machine.specs.Allowed.{refused_if}
 
--- the ring is changed, where there is one
+-- the ring is changed, if there is one
 abbrev pub rings_changed : Option ℕ → (Ring → Ring) → map.FinMap nat_cmp Ring → map.FinMap nat_cmp Ring
 rings_changed None f rings = rings
 rings_changed (Some ring) f rings = changed_at ring f rings
 
--- k is linked in the ring. It displaces a key of the same name, and nothing changes where it is there: request-key.rst
+-- k is linked in the ring. It displaces a key of the same name, and nothing changes if it is there: request-key.rst
 abbrev pub linked_in : Option ℕ → ℕ → World → World
 linked_in ring k w = record w { rings = rings_changed ring (with_link (is_rival w.keys k) k) w.rings }
 
@@ -47,7 +47,7 @@ is_full_at w ring typ description = option_map_or (is_full w.keys typ descriptio
 abbrev pub is_full_for : World → ℕ → ℕ → Bool
 is_full_for w ring k = key_passes w.keys k (λ key. is_full_at w ring key.typ key.description)
 
--- EDQUOT where a ring is named that is full for k
+-- EDQUOT if a ring is named that is full for k
 abbrev pub full_refusal : World → Option ℕ → ℕ → Option Errno
 full_refusal w None k = None
 full_refusal w (Some ring) k = refused_if (is_full_for w ring k) errno.Edquot

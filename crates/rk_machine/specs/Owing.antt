@@ -42,7 +42,7 @@ stage_owes Negating = 2
 abbrev pub construction_owes : Construction → ℕ
 construction_owes c = stage_owes c.stage
 
--- what is owed to one client, or to one construction with its handler; nothing where it is not there
+-- what is owed to one client, or to one construction with its handler; nothing if it is not there
 abbrev pub places : Sessions → SessionId → ℕ
 places a (Client n) = option_map_or client_owes (map.get a.clients n) 0
 places a (Handler k) = option_map_or construction_owes (map.get a.constructions k) 0
@@ -94,7 +94,7 @@ abbrev pub begun : Answer → ℕ
 begun (Start k subject) = 1
 begun _ = 0
 
--- how many an event ends, where it is answered 0
+-- how many an event ends, if it is answered 0
 abbrev pub closes : Event → ℕ
 closes (Launched k ran.Failed) = 1
 closes (Ended k how payload) = 1
@@ -136,7 +136,7 @@ abbrev pub start_ends : Answer → ℕ
 start_ends (Start k subject) = 2
 start_ends _ = 0
 
--- how many of them an event takes, where it is owed
+-- how many of them an event takes, if it is owed
 abbrev pub takes : Event → ℕ
 takes (Ended k how payload) = 1
 takes _ = 0

@@ -51,7 +51,7 @@ Hits w q (ring ∷ rings) None = ((k : ℕ) → is_hit w q ring k ≡ false) × 
 Hits w q (ring ∷ rings) (Some found) =
     (is_hit w q ring found ≡ true) ⊎ (((k : ℕ) → is_hit w q ring k ≡ false) × Hits w q rings (Some found))
 
--- ---- the errors where there is no hit
+-- ---- the errors if there is no hit
 
 -- some key in this ring has the name, and its standing passes the test
 abbrev pub has_match : World → Query → (Standing → Bool) → ℕ → Bool
@@ -88,6 +88,6 @@ errors = error.Revoked ∷ error.Expired ∷ error.Rejected ∷ error.NoKey ∷ 
 abbrev pub block_of : World → Query → Option KeyError
 block_of w q = find (λ e. some_match w q (blocks e)) errors
 
--- the stale error: the first error of the expired and revoked keys, ENOKEY where there are none
+-- the stale error: the first error of the expired and revoked keys, ENOKEY if there are none
 abbrev pub stale_of : World → Query → KeyError
 stale_of w q = unwrap_or (find (λ e. some_match w q (is_stale e)) errors) error.NoKey

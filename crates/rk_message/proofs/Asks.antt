@@ -17,7 +17,7 @@ use Rattle.rk_message.proofs.Numbers.{IsBytes}
 use Rattle.rk_message.proofs.Messages.{message_takes, message_again}
 use Rattle.rk_message.proofs.Faults.{fault_of_body}
 
--- the field at a place, whatever stands there where there is none
+-- the field at a place, whatever stands there if there is none
 abbrev pub at : List Value → ℕ → Value
 at [] i = U8 0
 at (v ∷ vs) zero = v

@@ -57,6 +57,6 @@ told a b is = sym (the_eta T D C P a) ∙ ap (the_make T D C P) (same_values a b
 alike : (a : Ask) → IsTrue (test a a)
 alike a = search rules
 
--- the test of two asks passes exactly where they are equal
+-- the test of two asks passes exactly if they are equal
 pub tells : (a b : Ask) → IsTrue (test a b) ↔ (a ≡ b)
 tells a b = (told a b, λ same. subst (λ (x : Ask). IsTrue (test a x)) same (alike a))

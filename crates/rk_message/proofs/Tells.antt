@@ -46,7 +46,7 @@ passed : (x y : Bool) → x && y ≡ true → (x ≡ true) × (y ≡ true)
 passed true y is = (refl, is)
 passed false y is = absurd cc
 
--- the tests of one field and of the others pass only where both are equal
+-- the tests of one field and of the others pass only if both are equal
 pub and : {A B : Type 0} {test : A → A → Bool} {others : B → B → Bool} → Tells test → Tells others
     → Tells {A = A × B} (λ p q. test p.0 q.0 && others p.1 q.1)
 and {A} {B} {test} {others} one more (x, xs) (y, ys) is =
@@ -60,7 +60,7 @@ and {A} {B} {test} {others} one more (x, xs) (y, ys) is =
 abbrev by_variant : {A B : Type 0} → (A → A → Bool) → (B → B → Bool) → A ⊎ B → A ⊎ B → Bool
 by_variant test others s t = ⊎_elim (λ x. ⊎_elim (λ y. test x y) (λ _. false) t) (λ x. ⊎_elim (λ _. false) (λ y. others x y) t) s
 
--- the tests of one variant and of the others pass only where both are equal
+-- the tests of one variant and of the others pass only if both are equal
 pub or : {A B : Type 0} {test : A → A → Bool} {others : B → B → Bool} → Tells test → Tells others → Tells (by_variant test others)
 or one more (inl x) (inl y) is = ap inl (one x y is)
 or one more (inl x) (inr y) is = absurd cc

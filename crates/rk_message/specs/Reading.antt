@@ -85,7 +85,7 @@ all_values ks bytes = do
   vs ← values_at ks bytes
   if length vs.1 == 0 then Ok vs.0 else Err Trailing
 
--- a message of the kinds, where there are any
+-- a message of the kinds, if there are any
 abbrev pub message_with : Option (List Kind) → ℕ → List ℕ → Result Message Fault
 message_with None op rest = Err UnknownOp
 message_with (Some ks) op rest = do

@@ -29,7 +29,7 @@ callout_fault bytes = if nat_lt 4095 (length bytes) then Some TooLong else text_
 abbrev pub payload_fault : List ℕ → Option NameFault
 payload_fault bytes = if length bytes == 0 then Some Empty else (if nat_lt 32767 (length bytes) then Some TooLong else None)
 
--- the refusal is the rule's fault; out of memory is answered only where there is none
+-- the refusal is the rule's fault; out of memory is answered only if there is none
 abbrev pub IsRefusedFor : NameFault → Option NameFault → Type 0
 IsRefusedFor NoMemory fault = fault ≡ None
 IsRefusedFor Empty fault = fault ≡ Some Empty

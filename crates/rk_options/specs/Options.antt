@@ -32,7 +32,7 @@ flag word = record { name = word; value = [] }
 abbrev pub led_by : Given → Option (List Given) → Option (List Given)
 led_by g = option_map (λ gs. g ∷ gs)
 
--- the options that words say: a flag is its name alone, any other stands in one word or in two; none where the last name has no value
+-- the options that words say: a flag is its name alone, any other stands in one word or in two; none if the last name has no value
 unfoldable pub options_of : List (List ℕ) → List (List ℕ) → Option (List Given)
 options_of flags [] = Some []
 options_of flags (word ∷ []) = if is_joined word then Some (joined word ∷ []) else (if is_among flags word then Some (flag word ∷ []) else None)
@@ -44,7 +44,7 @@ options_of flags (word ∷ next ∷ words) = if is_joined word then led_by (join
 unfoldable pub values_of : List ℕ → List Given → List (List ℕ)
 values_of name gs = map (λ g. g.value) (filter (λ g. bytes_eq g.name name) gs)
 
--- no value, or the only one; none where there are more
+-- no value, or the only one; none if there are more
 abbrev pub at_most_one : List (List ℕ) → Option (Option (List ℕ))
 at_most_one [] = Some None
 at_most_one (v ∷ []) = Some (Some v)

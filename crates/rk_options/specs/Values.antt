@@ -12,7 +12,7 @@ number_up_to limit bytes = up_to limit (number_of bytes)
 abbrev pub path_in : List ℕ → Option (List Given) → Option (List ℕ)
 path_in name options = option_flatten (value_in name options)
 
--- what a value says, or the default where there is none
+-- what a value says, or the default if there is none
 abbrev pub or_default : ℕ → (List ℕ → Option ℕ) → Option (List ℕ) → Option ℕ
 or_default default said None = Some default
 or_default default said (Some value) = said value

@@ -41,7 +41,7 @@ op_flagged (Some None) = Some Create
 op_flagged (Some (Some [])) = Some Negate
 op_flagged _ = None
 
--- negate where the flag is there, else create
+-- negate if the flag is there, else create
 abbrev pub op_in : Option (List Given) → Option Op
 op_in options = op_flagged (value_in (codes "--negate") options)
 

@@ -6,15 +6,15 @@ use Rattle.rk_options.specs.Options.{Given}
 use Rattle.rk_options.specs.Values.{number_in, number_up_to}
 use Rattle.rk_preview.specs.declared.numbers.Numbers.{Numbers}
 
--- the key that options give, 1 where they give none
+-- the key that options give, 1 if they give none
 abbrev pub key_in : Option (List Given) → Option ℕ
 key_in options = option_and_then serial_of (number_in (codes "--key") 1 (number_up_to 4294967295) options)
 
--- the user or the group that options give a name, 0 where they give none
+-- the user or the group that options give a name, 0 if they give none
 abbrev pub id_in : List ℕ → Option (List Given) → Option ℕ
 id_in name options = number_in name 0 (number_up_to 4294967295) options
 
--- the ring that options give a name, 0 where they give none
+-- the ring that options give a name, 0 if they give none
 abbrev pub ring_in : List ℕ → Option (List Given) → Option ℕ
 ring_in name options = number_in name 0 (number_up_to 2147483647) options
 

@@ -35,7 +35,7 @@ length-past_of : (ss : List Recorded) (past : List Past) → length (past_of ss 
 length-past_of [] past = omega arith
 length-past_of (s ∷ ss) past = let n = length-past_of ss (past_step s ∷ past) in omega arith
 
--- where a run leads, it goes on with the steps that lead on from there
+-- if a run leads, it goes on with the steps that lead on from there
 pub reached_on : (before : ℕ) (w v : World) (ss : List Recorded) → IsReached before w → Runs w ss v → IsReached (before + length ss) v
 reached_on before w v ss r on = record {
   from = r.from;
@@ -69,7 +69,7 @@ sound_none negative first stride places most = record {
   most = most;
 }
 
--- by a step, where there is room for it and for what is owed after it
+-- by a step, if there is room for it and for what is owed after it
 pub sound_next : (o : World) (before limit places : ℕ) (w v : World) (steps : List Recorded) (reserved ends room now : ℕ) (e : Event) (a : Answer)
     → IsSound o before limit places w steps reserved ends → Step w now e a v
     → reserved + owed_to v (whose e) + start_owes a - owed_to w (whose e) ≤ room - 1 → 1 ≤ room → length steps + room ≤ places

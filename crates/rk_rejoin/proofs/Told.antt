@@ -37,7 +37,7 @@ no_next h vs i v n before f lt at is next len count wrong =
       subst (λ (k : ℕ). IsNoNext v.head k (length (flat_map steps_of first)) f) len (subst (λ (k : ℕ). IsNoNext v.head n k f) count wrong),
     )
 
--- where a volume of the hall stands, whose volumes follow one another
+-- if a volume of the hall stands, whose volumes follow one another
 pub stands_at : (h : HallNo) (vs : List Stored) (i : ℕ) (v : Stored) → i < length vs → v ≡ get_or vs i v → is_of h v ≡ true → AreNext 0 0 (of_hall h vs)
     → v.head.before ≡ length (flat_map steps_of (of_hall h (take i vs)))
 stands_at h vs i v lt at is next =

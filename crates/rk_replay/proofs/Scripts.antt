@@ -149,7 +149,7 @@ module _ (input : List ℕ) (head : Head) (text : List ℕ) (h : IsHead input he
       ap (λ (n : ℕ). beginning n) (h.negative ∙ ap (last_of 60) (sym (seconds_parts h.lines rest)))
       ∙ ap beginning_of (sym said_is)
 
-  -- where the configuration has no fault, what the body plays is written
+  -- if the configuration has no fault, what the body plays is written
   pub written : (conf : List Line) (text' : List ℕ) → faults_in (configured head.settings.conf) ≡ [] → conf ≡ lines_in (configured head.settings.conf)
       → PlaysBody conf head text text' → IsWritten input text'
   written conf text' sound lines p =
@@ -180,7 +180,7 @@ module _ (input : List ℕ) (head : Head) (text : List ℕ) (h : IsHead input he
   first_of fault [] f n = absurd (n f)
   first_of fault (first ∷ others) f n = (others, ap (λ (x : ConfFault). x ∷ others) (sym f))
 
-  -- where the configuration has a fault, it is the last line that is written
+  -- if the configuration has a fault, it is the last line that is written
   pub refused : (fault : ConfFault) (text' : List ℕ) → IsFaultFor fault (faults_in (configured head.settings.conf)) → fault.kind ≢ NoMemory → text' ≡ text
       ++ conf_line fault → IsRefused input text'
   refused fault text' f n t =

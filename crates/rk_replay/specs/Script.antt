@@ -56,7 +56,7 @@ seconds_in Wrong = None
 abbrev pub default_conf : List ℕ
 default_conf = codes "create * * * /bin/handler %o %k %u %g %T %P %S"
 
--- the lines that are set, each with a newline; where there are none, the default
+-- the lines that are set, each with a newline; if there are none, the default
 abbrev pub conf_by : List (List ℕ) → List ℕ
 conf_by [] = default_conf
 conf_by (line ∷ lines) = flat_map line_text (line ∷ lines)

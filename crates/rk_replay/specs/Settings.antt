@@ -8,7 +8,7 @@ use Rattle.rk_replay.specs.declared.transcript.LineFault.TheVariants.{NotALine}
 use Rattle.rk_replay.specs.Writing.{line_text, fault_line}
 use Rattle.rk_replay.specs.Script.{default_conf}
 
--- the configuration of these lines, or the default where there are none
+-- the configuration of these lines, or the default if there are none
 abbrev pub configured : List ℕ → List ℕ
 configured conf = if has_bytes conf then conf else default_conf
 

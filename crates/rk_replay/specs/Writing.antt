@@ -63,7 +63,7 @@ output_text (output.ShutHandler k) = shut_text (codes "shuthandler") k
 abbrev pub output_line : Output → List ℕ
 output_line o = line_text (output_text o)
 
--- the code of a fault of a line: S1 where it is no line of a script, S2 where its happening was out of place
+-- the code of a fault of a line: S1 if it is no line of a script, S2 if its happening was out of place
 abbrev pub fault_code : LineFault → List ℕ
 fault_code NotALine = codes "S1"
 fault_code Unknown = codes "S2"

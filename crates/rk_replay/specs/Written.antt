@@ -35,7 +35,7 @@ text_from number (Happens now h ∷ rs) (outputs ∷ told) = turn_text number ou
 abbrev pub moment_of : Turn → ℕ × Happening
 moment_of turn = (turn.now, turn.happening)
 
--- what was output for a turn; None where its happening was out of place
+-- what was output for a turn; None if its happening was out of place
 abbrev pub outputs_in : Turn → Option (List Output)
 outputs_in turn = turn.outputs
 

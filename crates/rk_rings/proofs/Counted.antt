@@ -197,7 +197,7 @@ counted_fit m c few h =
 
 -- ---- what the counts tell
 
--- a key is in some ring exactly where it counts
+-- a key is in some ring exactly if it counts
 pub held_by_count : (m : Rings) (k : ℕ) → ltb 0 (links_of m k) ≡ is_held m k
 held_by_count m k = by_held (is_held m k) refl
   where
@@ -500,7 +500,7 @@ few_made (w ∷ ws) m few = few_made ws (insert m w.serial (new_ring w)) (λ q r
 
 -- ---- no ring
 
--- where there are no rings, there are no counts
+-- if there are no rings, there are no counts
 pub counted_empty : (m : Rings) (c : Stored ℕ) → m ≡ empty → c.facts ≡ empty → AreCounted m c
 counted_empty m c is none = record {
   few = λ ring r there. absurd (none-some r (sym (ap (λ n. get n ring) is ∙ get-empty nat_cmp ring) ∙ there));
@@ -589,7 +589,7 @@ counted_dropped m n c ring is counted = record {
   room = omega (arith, counted.room, no_more_rings n ring);
 }
 
--- the same counts are those of the rings after empty ones are made, where there are places for their links
+-- the same counts are those of the rings after empty ones are made, if there are places for their links
 pub counted_made : (wanted : List NewRing) (m n : Rings) (old new : Stored ℕ) → n ≡ with_rings wanted m → AreNew wanted m → AreCounted m old →
     new.facts ≡ old.facts
     → 256 * (len m + length wanted) ≤ places new → AreCounted n new

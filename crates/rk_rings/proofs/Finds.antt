@@ -83,15 +83,15 @@ module _ {X : Type 0} where
 
   -- ---- of a map
 
-  -- where the entry at a key passes a test, some entry passes it
+  -- if the entry at a key passes a test, some entry passes it
   pub some_entry : (p : ℕ × X → Bool) (m : FinMap nat_cmp X) (q : ℕ) (v : X) → get m q ≡ Some v → p (q, v) ≡ true → list_any p (entries m) ≡ true
   some_entry p m q v there is = any_at p (entries m) q v (sym (get-entries m q) ∙ there) is
 
-  -- where no entry passes a test, that at a key does not
+  -- if no entry passes a test, that at a key does not
   pub no_entry : (p : ℕ × X → Bool) (m : FinMap nat_cmp X) (q : ℕ) (v : X) → list_any p (entries m) ≡ false → get m q ≡ Some v → p (q, v) ≡ true → ⊥
   no_entry p m q v none there is = both_ways _ none (some_entry p m q v there is)
 
-  -- where some entry passes a test, there is one at a key that passes
+  -- if some entry passes a test, there is one at a key that passes
   pub entry_found : (p : ℕ × X → Bool) (m : FinMap nat_cmp X) → list_any p (entries m) ≡ true → Found p (get m)
   entry_found p m is =
       let f = any_in p (entries m) (entries_once m) is in
@@ -101,6 +101,6 @@ module _ {X : Type 0} where
   any_mapped p [] = refl
   any_mapped p (e ∷ es) = ap (λ b. p e.1 || b) (any_mapped p es)
 
-  -- a test passes a value of the map exactly where it passes the value of an entry
+  -- a test passes a value of the map exactly if it passes the value of an entry
   pub any_value : (p : X → Bool) (m : FinMap nat_cmp X) → list_any p (values m) ≡ list_any (λ e. p e.1) (entries m)
   any_value p m = any_mapped p (entries m)

@@ -85,7 +85,7 @@ fewer_rivals links n h =
     let at = entry_found (λ (e : ℕ × ℕ). nat_eq e.1 n) links (sym (any_value (λ m. nat_eq m n) links) ∙ h) in
     fewer_kept (λ j m. not (nat_eq m n)) links at.0 at.1 at.2 (ap not at.3)
 
--- where a ring is not full for a name, the rivals leave room
+-- if a ring is not full for a name, the rivals leave room
 pub room_left : (r : Numbered) (n kept room : ℕ) → is_full (Some n) r ≡ false → len r.links ≤ 256 → kept ≡ len (kept_where (λ j m. not (nat_eq m n)) r.links) →
     kept + room ≡ 256 → 0 < room
 room_left r n kept room h most is sum =
@@ -102,7 +102,7 @@ still_new p links k h =
       | Some v ↦ λ e. absurd (both_ways _ h (kept_within p links k (ap is_some e)))
     ] refl
 
--- a walk over the links finds no key of a name where there is none
+-- a walk over the links finds no key of a name if there is none
 pub walked_none : (m : FinMap nat_cmp ℕ) (n : ℕ) → FindsEntry (λ k v. nat_eq v n) m None → (k : ℕ) → ¬ (get m k ≡ Some n)
 walked_none m n h k there = no_entry (λ (e : ℕ × ℕ). nat_eq e.1 n) m k n h there (eq-eqb n n refl)
 

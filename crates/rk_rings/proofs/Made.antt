@@ -13,12 +13,12 @@ use Rattle.rk_rings.proofs.Changed.{AreRows}
 
 -- ---- the entries that are left to put in
 
--- where the first ring is put in, those that are left lead to the same rings
+-- if the first ring is put in, those that are left lead to the same rings
 pub left_facts : (items rest : List (ℕ × Numbered)) (k : ℕ) (v : Numbered) (m n w : Rings) → items ≡ (k, v) ∷ rest → n ≡ insert m k v →
     with_entries items m ≡ w → with_entries rest n ≡ w
 left_facts items rest k v m n w e is h = ap (with_entries rest) is ∙ sym (ap (λ es. with_entries es m) e) ∙ h
 
--- where the first ring is put in, each that is left is still new
+-- if the first ring is put in, each that is left is still new
 pub left_new : (items rest : List (ℕ × Numbered)) (k : ℕ) (v : Numbered) (m n : Rings) → items ≡ (k, v) ∷ rest → n ≡ insert m k v → HasEachNew items m →
     HasEachNew rest n
 left_new items rest k v m n e is h =
@@ -30,7 +30,7 @@ pub next_new : (items rest : List (ℕ × Numbered)) (k : ℕ) (v : Numbered) (m
 next_new items rest k v m e h =
     let now : HasEachNew ((k, v) ∷ rest) m = subst (λ es. HasEachNew es m) e h in now.0
 
--- where no ring is left, all are made
+-- if no ring is left, all are made
 pub none_left : (items : List (ℕ × Numbered)) (m w : Rings) → length items ≡ 0 → with_entries items m ≡ w → m ≡ w
 none_left [] m w e h = h
 none_left (x ∷ xs) m w e h = absurd (omega arith)

@@ -49,7 +49,7 @@ named_put old new n o h = same_map nat_cmp_total nat_cmp-IsAntisymmetric _ _ (λ
     get_named new q ∙ ap held (h q) ∙ sym (held_if (nat_eq n q) o (lookup (nat_eq q) old))
     ∙ ap (cond (nat_eq n q) o) (sym (get_named old q)) ∙ sym (get_with_name (named old) n o q))
 
--- where there is no place, there is no key
+-- if there is no place, there is no key
 pub named_without : (es : List (ℕ × Option ℕ)) (n : ℕ) → lookup (nat_eq n) es ≡ None → named es ≡ remove (named es) n
 named_without es n none = nothing_out (named es) n (get_named es n ∙ ap held none)
 

@@ -56,7 +56,7 @@ contains_key-rings_seen m q = ap is_some (get-rings_seen m q) ∙ is_some-option
 same_rings : (m n : map.FinMap nat_cmp Ring) → ((q : ℕ) → map.get m q ≡ map.get n q) → m ≡ n
 same_rings m n h = map.same_map nat_cmp_total map.nat_cmp-IsAntisymmetric m n h
 
--- where there are no rings, none is seen
+-- if there are no rings, none is seen
 pub rings_seen-empty : rings_seen map.empty ≡ map.empty
 rings_seen-empty = same_rings _ _ (λ q. get-rings_seen map.empty q ∙ ap (option_map ring_seen) (map.get-empty nat_cmp q) ∙ sym (map.get-empty nat_cmp q))
 
@@ -93,11 +93,11 @@ rings_seen-changed_at k f g m h =
 
 -- ---- what is linked
 
--- a key is seen in a ring exactly where it has a link
+-- a key is seen in a ring exactly if it has a link
 pub contains-ring_seen : (r : Numbered) (k : ℕ) → set.contains (ring_seen r).keys k ≡ map.contains_key r.links k
 contains-ring_seen r k = set.contains-from_list nat_cmp_total (map.keys r.links) k ∙ sym (map.contains_key-keys r.links k)
 
--- a key is seen as linked in a ring exactly where the ring holds it
+-- a key is seen as linked in a ring exactly if the ring holds it
 pub is_linked-rings_seen : (m : Rings) (ring k : ℕ) → is_linked (rings_seen m) ring k ≡ holds m ring k
 is_linked-rings_seen m ring k =
     ap (λ o. option_map_or (λ (r : Ring). set.contains r.keys k) o false) (get-rings_seen m ring)
@@ -118,7 +118,7 @@ any-rings_seen p t alike m =
     some_entry (λ (e : ℕ × Ring). p e.1) (rings_seen m) f.0 (ring_seen f.1) (get-rings_seen m f.0 ∙ ap (option_map ring_seen) f.2) (alike f.1 ∙ f.3))
     ∙ sym (any_value t m)
 
--- a key is seen as linked somewhere exactly where some ring holds it
+-- a key is seen as linked somewhere exactly if some ring holds it
 pub has_link-rings_seen : (m : Rings) (k : ℕ) → has_link (rings_seen m) k ≡ is_held m k
 has_link-rings_seen m k = any-rings_seen (λ (r : Ring). set.contains r.keys k) (λ (r : Numbered). map.contains_key r.links k) (λ r. contains-ring_seen r k) m
 

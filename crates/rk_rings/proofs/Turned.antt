@@ -30,7 +30,7 @@ pub named : (links by_name : FinMap nat_cmp ℕ) (n : ℕ) (o : Option ℕ) → 
 named links by_name n None index is = λ k there. none-some k (is ∙ index.found k n there)
 named links by_name n (Some k) index is = index.linked n k (sym is)
 
--- some key has a name exactly where one stands at its number
+-- some key has a name exactly if one stands at its number
 pub number_known : (links by_name : FinMap nat_cmp ℕ) (n : ℕ) → AreByName links by_name → contains_key by_name n ≡ list_any (λ m. nat_eq m n) (values links)
 number_known links by_name n index = by_entry (get by_name n) refl ∙ sym (any_value (λ m. nat_eq m n) links)
   where

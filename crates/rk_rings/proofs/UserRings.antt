@@ -117,7 +117,7 @@ not_of m s whose uid his ne = by_ring (get m s) his
       | false ↦ λ _. refl
     ] refl
 
--- where a user's ring is removed, and the places stay, one is free
+-- if a user's ring is removed, and the places stay, one is free
 pub place_left : (u : FinMap nat_cmp ℕ) (uid room left : ℕ) → contains_key u uid ≡ true → len (remove u uid) + left ≡ len u + room → 0 < left
 place_left u uid room left there sum =
     let fewer : len (remove u uid) ≡ len u - 1 = len-remove nat_cmp_total u uid ∙ ap (λ b. cond b (len u - 1) (len u)) there in

@@ -85,7 +85,7 @@ is_user_ring uid r = is_users r.kind r.uid uid
 
 -- ---- changes
 
--- k, whose name has this number, takes the place of another key of that name. Nothing changes where it is there
+-- k, whose name has this number, takes the place of another key of that name. Nothing changes if it is there
 abbrev pub links_with : ℕ → ℕ → map.FinMap nat_cmp ℕ → map.FinMap nat_cmp ℕ
 links_with k n links = if map.contains_key links k then links else map.insert (kept_where (λ j m. not (m == n)) links) k n
 

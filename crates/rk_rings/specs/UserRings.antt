@@ -9,7 +9,7 @@ use Rattle.rk_rings.specs.Numbered.{Rings, is_user_ring}
 abbrev pub is_his : Rings → ℕ → ℕ → Bool
 is_his rings uid ring = option_map_or (is_user_ring uid) (map.get rings ring) false
 
--- a user ring of this uid, or None where there is none
+-- a user ring of this uid, or None if there is none
 abbrev pub IsHis : Rings → ℕ → Option ℕ → Type 0
 IsHis rings uid found = MatchOption found ((ring : ℕ) → is_his rings uid ring ≡ false) (λ ring. is_his rings uid ring ≡ true)
 

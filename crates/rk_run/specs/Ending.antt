@@ -3,7 +3,7 @@ use Rattle.std.specs.Prelude.{ℕ, ◌+◌, ℤ, pos, negsuc, Option, Some, None
 use Rattle.std.specs.declared.process.status.ExitStatus.{ExitStatus}
 use Rattle.std.specs.Process.{exit_code, exit_signal}
 
--- its own, or 128 and the number of a signal (sh(1)); 255 where it is neither
+-- its own, or 128 and the number of a signal (sh(1)); 255 if it is neither
 abbrev pub status_by : Option ℤ → Option ℤ → ℕ
 status_by (Some (pos code)) signal = code
 status_by (Some (negsuc n)) signal = 255

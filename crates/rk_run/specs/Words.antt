@@ -8,7 +8,7 @@ use Rattle.rk_variables.specs.Library.{is_library}
 use Rattle.rk_options.specs.Options.{Given, all_named, is_among, is_joined, joined, options_of, value_in}
 use Rattle.rk_run.specs.declared.wanted.Wanted.{Wanted}
 
--- the socket, who acts, and the library, each where it is given; whether reqkey-trap starts the program; the program and its words
+-- the socket, who acts, and the library, each if it is given; whether reqkey-trap starts the program; the program and its words
 pub record Said : Type 0 where
   pub socket : Option (List ℕ)
   pub uid : Option ℕ
@@ -54,7 +54,7 @@ unless_contrary said = if is_contrary said then None else Some said
 abbrev pub is_dashes : List ℕ → Bool
 is_dashes word = bytes_eq word (codes "--")
 
--- what a value says, where there is one
+-- what a value says, if there is one
 abbrev pub or_nothing : {X : Type 0} → (List ℕ → Option X) → Option (List ℕ) → Option (Option X)
 or_nothing said None = Some None
 or_nothing said (Some value) = option_map Some (said value)

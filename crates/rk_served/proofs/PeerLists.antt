@@ -27,7 +27,7 @@ both false b e = absurd (cc)
 pub both_of : (a b : Bool) → a ≡ true → b ≡ true → (a && b) ≡ true
 both_of a b e f = (λ i. e i && f i)
 
--- where a negation is true, what it negates is false
+-- if a negation is true, what it negates is false
 pub not_false : (b : Bool) → not b ≡ true → b ≡ false
 not_false true e = absurd (cc)
 not_false false e = refl
@@ -75,7 +75,7 @@ has_sort : (o : Option Peer) → is_some o ≡ is_some (option_map sort o)
 has_sort None = refl
 has_sort (Some x) = refl
 
--- a session has a peer exactly where there is a sort at it
+-- a session has a peer exactly if there is a sort at it
 pub has_peer_is : (xs : List Peer) (s : SessionId) → has_peer xs s ≡ is_some (sort_at xs s)
 has_peer_is xs s = has_sort (peer_of xs s) ∙ ap is_some (sort_at_is xs s)
 
@@ -258,7 +258,7 @@ apart_set (z ∷ zs) (suc i) s p q m e apart =
 
 -- ---- a peer is taken by its place
 
--- where nobody has two, the peer at a place is the only one of its own
+-- if nobody has two, the peer at a place is the only one of its own
 sort_none : (xs : List Peer) (s : SessionId) → sort_at xs s ≡ None → without s xs ≡ xs
 sort_none [] s none = refl
 sort_none (x ∷ xs) s none =

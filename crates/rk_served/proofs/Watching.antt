@@ -572,7 +572,7 @@ all_both P Q (x ∷ xs) p q =
 abbrev Rests : World → Peer → Type 0
 Rests w x = CannotMove w x.who x.channel
 
--- where the one who was taken out can't move, and is put among those who wait, the queue knows all
+-- if the one who was taken out can't move, and is put among those who wait, the queue knows all
 pub watched_parked : (who : SessionId) (q q' : Queue) (left : Left) → are_apart left.peers ≡ true → IsWatchedBut who q left
     → MatchOption (peer_of left.peers who) (Unit {0}) (λ x. CannotMove left.world x.who x.channel) → Parks left.world who q q' → IsWatched q' left
 watched_parked who q q' left apart w rests parks = record {
@@ -593,7 +593,7 @@ watched_parked who q q' left apart w rests parks = record {
 
 -- ---- at rest, and who is first
 
--- where the queue knows all who may move, and has none, no session can move
+-- if the queue knows all who may move, and has none, no session can move
 pub at_rest : (q : Queue) (left : Left) → IsWatched q left → ((s : SessionId) → IsMover q s → ⊥) → IsAtRest left
 at_rest q left w none =
     All-weaker (Known (IsMover q) left.world) (Rests left.world) (λ x h. elim h [ inl e ↦ absurd (none x.who e) | inr e ↦ e ]) left.peers w.movers
@@ -665,7 +665,7 @@ wakes_one w Keys key old new only h = record {
   woken = λ k is spent s waits. h.woken (ap (unspent w.sessions) (only k is) ∙ spent) s (subst (λ j. IsWaiter old j s) (sym (only k is)) waits);
 }
 
--- where no key is in question, nobody has to be woken
+-- if no key is in question, nobody has to be woken
 pub wakes_none : (w : World) (Keys : ℕ → Type 0) (q : Queue) → ((k : ℕ) → Keys k → ⊥) → WakesFor w Keys q q
 wakes_none w Keys q none = record {
   movers = λ s h. h;

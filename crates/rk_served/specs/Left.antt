@@ -73,7 +73,7 @@ reply_of (Start k subject) = None
 reply_of (Waiting k) = None
 reply_of (Negate k) = None
 
--- the reply to a session, as the one output; no output where there is no reply
+-- the reply to a session, as the one output; no output if there is no reply
 abbrev pub told_to : SessionId → Option Reply → List Output
 told_to who None = []
 told_to who (Some r) = reply_to who r ∷ []

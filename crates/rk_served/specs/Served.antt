@@ -10,7 +10,7 @@ use Rattle.rk_served.specs.Left.{Left, Part, nothing}
 use Rattle.rk_served.specs.Moves.{Moves, IsAtRest}
 use Rattle.rk_served.specs.OwnStep.{is_misplaced, OwnStep}
 
--- a happening at a moment, and what was output for it; None where it was out of place
+-- a happening at a moment, and what was output for it; None if it was out of place
 pub record Turn : Type 0 where
   pub now : ℕ
   pub happening : Happening

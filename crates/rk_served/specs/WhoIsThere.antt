@@ -34,7 +34,7 @@ pub record Sits (s : SessionId) (x : Peer) (peers : List Peer) : Type 0 where
   pub who_is : x.who ≡ s
   pub peer_is : peer_of peers s ≡ Some x
 
--- what the handler of a construction in this stage has: a command that was output, which is piped only where it is the first, a stream, or an output
+-- what the handler of a construction in this stage has: a command that was output, which is piped only if it is the first, a stream, or an output
 abbrev pub has_channel : Stage → Channel → Bool
 has_channel Starting (Starts piped) = true
 has_channel Negating (Starts piped) = not piped

@@ -133,7 +133,7 @@ more_reads n = by_test (nat_lt n most)
 one_more : (old new : ℕ) → new ≡ raised old → new ≤ old + 1
 one_more old new is = subst (λ n. n ≤ old + 1) (sym is) (more_reads old)
 
--- at most one read where a session ends at one
+-- at most one read if a session ends at one
 pub hears_reads : (served : Served) (buf : List ℕ) (old new : WireShown) → Hears (Err served) buf old new → new.reads ≤ old.reads + 1
 hears_reads Ended buf old new (whole, is) = one_more old.reads new.reads (ap (λ (w : WireShown). w.reads) is)
 hears_reads ReadFault buf old new (whole, rose, is) = one_more old.reads new.reads (ap (λ (w : WireShown). w.reads) is)

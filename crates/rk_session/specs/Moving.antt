@@ -20,7 +20,7 @@ abbrev pub HasOpened : SessionId → HallNo → SeatShown → SeatShown → Opti
 HasOpened session hall old new None = IsOpened session hall old new
 HasOpened session hall old new (Some s) = Stays old new × IsShutOut session hall old new s
 
--- a client that was to move stands there and nothing is to be said yet; or it stays, where there is another hall
+-- a client that was to move stands there and nothing is to be said yet; or it stays, if there is another hall
 abbrev pub HasMoved : SessionId → HallNo → HallNo → SeatShown → SeatShown → Option Saying → Type 0
 HasMoved session here to old new None = IsMoved session here to old new
 HasMoved session here to old new (Some s) = Stays old new × (to ≢ here) × IsShutOut session to old new s

@@ -61,8 +61,8 @@ pub data Says (session : SessionId) (from : Standing) (body : List ℕ) : Saying
   -- its ask is made where the client stands
   AsksHere : (a : Ask) (s : Saying) (seat : SeatShown) → Spells a body → (IsHello a → from.place.greeted ≡ true)
       → IsAnswered session from.place.hall a from.seat seat s → Says session from body s (standing_of from.place seat)
-  -- the HELLO of a client without a context is asked in the hall of its uid, to which the client moves before, where that is another one: there it stands
-  -- then, with a context where the HELLO was done
+  -- the HELLO of a client without a context is asked in the hall of its uid, to which the client moves before, if that is another one: there it stands
+  -- then, with a context if the HELLO was done
   Greets : (a : Ask) (s : Saying) (mid : SeatShown) (to : Standing) → Spells a body → from.place.greeted ≡ false → IsHelloOf to.place.hall a
       → IsMoved session from.place.hall to.place.hall from.seat mid → IsAnswered session to.place.hall a mid to.seat s
       → to.place.greeted ≡ says_done s → Says session from body s to

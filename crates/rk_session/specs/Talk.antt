@@ -27,7 +27,7 @@ pub record Turn : Type 0 where
   pub note : Option Noted
   pub reply : Reply
 
--- the note and the reply of what is to be said; ENOMEM and no note, where there was no memory for a reply that takes it
+-- the note and the reply of what is to be said; ENOMEM and no note, if there was no memory for a reply that takes it
 abbrev pub Tells : Saying → Option Noted → Reply → Type 0
 Tells (saying.Noted n) (Some m) r = (m ≡ n) × (reply_of n.answer ≡ Some r)
 Tells (saying.Noted n) None r = (r ≡ reply.Refused Enomem) × TakesMemory (reply_of n.answer)
@@ -51,7 +51,7 @@ pub record Begun : Type 0 where
   pub story : List Happened
   pub seat : SeatShown
 
--- what has happened since a session began, what it holds of the bytes that came, and how its client stands: bytes come only where it holds no whole message;
+-- what has happened since a session began, what it holds of the bytes that came, and how its client stands: bytes come only if it holds no whole message;
 -- the message at the front is taken, its receipt noted and its reply written, before anything else happens; each message finds the seat as the one before
 -- left it. What is said is written to the wire, which may keep it. It is sent in this order, and all of it before the next bytes are heard, before the session
 -- waits for an outcome or a handler, and at its end
@@ -104,7 +104,7 @@ abbrev pub Talked : SessionId → Served → SeatShown → Standing → WireShow
 Talked session served seat last old new = (begun : List Happened) → old.story ≡ Some begun
     → (story : List Happened) × (new.story ≡ Some story) × Ends session served (record { story = begun; seat = seat }) story last
 
--- a fault of the wire comes where its count rose; else the count is as before
+-- a fault of the wire comes if its count rose; else the count is as before
 abbrev pub EndCounts : Served → ℕ → ℕ → Type 0
 EndCounts WriteFault before after = Rose before after
 EndCounts ReadFault before after = Rose before after

@@ -11,7 +11,7 @@ pub data Happened : Type 0 where
   Said : List ℕ → Happened
 
 -- a wire: how often a call failed; how often it was read; whether some of what was written may be kept, and is still to be sent; whether it is cut, since a write
--- or a sending failed, after which none succeeds; and what happened on it, first things first, where it tells that
+-- or a sending failed, after which none succeeds; and what happened on it, first things first, if it tells that
 pub record WireShown : Type 0 where
   pub count : ℕ
   pub reads : ℕ

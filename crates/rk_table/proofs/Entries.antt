@@ -10,7 +10,7 @@ use Rattle.rk_table.specs.Maps.{changed_all}
 use Rattle.std.specs.Option.{option_map}
 use Rattle.std.specs.FinMap.Entries.{find-where_key}
 
--- keys tie in the order of a map exactly where they are equal
+-- keys tie in the order of a map exactly if they are equal
 pub tie : (q k : ℕ) → eq_by_cmp nat_cmp q k ≡ nat_eq k q
 tie q k = unsigned_tied q k ∙ nat_eq_equiv.symm q k
 

@@ -69,6 +69,6 @@ module _ {V : Type 0} where
       let test : ℕ → Bool = λ k. option_map_or (p k) (get m k) false in
       get-retain_keys m test q (λ x t. ap test (sym (nat_cmp-IsAntisymmetric q x t)))
 
-  -- where there was nothing, nothing is kept
+  -- if there was nothing, nothing is kept
   pub none_kept : (p : ℕ → V → Bool) (m : FinMap nat_cmp V) (q : ℕ) → get m q ≡ None → get (kept_where p m) q ≡ None
   none_kept p m q none = get_kept_where p m q ∙ ap (λ (o : Option V). cond (option_map_or (p q) o false) o None) none

@@ -25,7 +25,7 @@ module _ {X : Type 0} where
   abbrev pub LooksUp : ℕ → Option X → List (ℕ × X) → List (ℕ × X) → Type 0
   LooksUp k w old new = (q : ℕ) → lookup (nat_eq q) new ≡ cond (nat_eq k q) w (lookup (nat_eq q) old)
 
-  -- where a value is looked up at k, and all else as before, it is inserted in the map
+  -- if a value is looked up at k, and all else as before, it is inserted in the map
   pub put_hashed : (old new : List (ℕ × X)) (k : ℕ) (v : X) → LooksUp k (Some v) old new → from_entries {R = nat_cmp} new ≡ insert (from_entries old) k v
   put_hashed old new k v h = same_map nat_cmp_total nat_cmp-IsAntisymmetric _ _ (λ q.
       get_hashed new q ∙ h q ∙ ap (cond (nat_eq k q) (Some v)) (sym (get_hashed old q)) ∙ sym (get_inserted (from_entries old) k v q))
@@ -38,7 +38,7 @@ module _ {X : Type 0} where
   at_key : (f : X → X) (m : FinMap nat_cmp X) (k : ℕ) (o : Option X) → get m k ≡ o → option_map_or (λ v. insert m k (f v)) o m ≡ changed_at k f m
   at_key f m k o is = ap (λ p. option_map_or (λ v. insert m k (f v)) p m) (sym is)
 
-  -- where the changed value is looked up at k, and all else as before, it is changed in the map
+  -- if the changed value is looked up at k, and all else as before, it is changed in the map
   pub changed_hashed : (f : X → X) (old new : List (ℕ × X)) (k : ℕ) (v : X) → lookup (nat_eq k) old ≡ Some v → LooksUp k (Some (f v)) old new
       → from_entries {R = nat_cmp} new ≡ changed_at k f (from_entries old)
   changed_hashed f old new k v is h = put_hashed old new k (f v) h ∙ at_key f (from_entries old) k (Some v) (get_hashed old k ∙ is)

@@ -50,7 +50,7 @@ module _ {X : Type 0} where
         | Greater ↦ λ r. ap (λ b. p e || b) (any_put p k v es (sym (ap (λ o. cond (is_eq o) (Some e.1) (find nat_cmp k es)) r) ∙ h)) ∙ or_swap (p e) (p (k, v)) _
       ] refl
 
-  -- a test passes an entry of the map exactly where it passes one of the list
+  -- a test passes an entry of the map exactly if it passes one of the list
   pub any_once : (p : ℕ × X → Bool) (es : List (ℕ × X)) → HasEachOnce es → list_any p (entries (from_entries {R = nat_cmp} es)) ≡ list_any p es
   any_once p [] h = ap (list_any p) (no_entries)
   any_once p (e ∷ es) h =

@@ -3,7 +3,7 @@ use Rattle.std.specs.Prelude.{◌≡◌, ◌<◌, ℕ, Some, unwrap_or}
 use Rattle.std.specs.Ordering.{nat_cmp}
 use Rattle.std.specs.FinMap as map
 
--- the count at this number, and 0 where none is held
+-- the count at this number, and 0 if none is held
 abbrev pub count_at : map.FinMap nat_cmp ℕ → ℕ → ℕ
 count_at counts k = unwrap_or (map.get counts k) 0
 

@@ -45,7 +45,7 @@ pub none_started : (hall : HallNo) (a : Answer) (launch : Option TokenShown) →
 none_started hall a (Some l) has is = absurd (subst is_there (sym (ap started has.1) ∙ is) tt)
 none_started hall a None has is = refl
 
--- where its call gave this receipt
+-- if its call gave this receipt
 pub receipt_answers : (session : SessionId) (hall : HallNo) (now : ℕ) (a : Ask) (old called mid new : SeatShown) (n : Noted) (launch : Option TokenShown)
     (s : Saying) → IsCalled hall now (told.Asked session a) (part hall old) n → called ≡ with_part hall old (after_call (part hall old) (Asked session a) n)
     → HasLaunch hall n.answer launch → Stays called mid → (launch ≡ None → mid ≡ called) → Settles hall session n mid new s
@@ -53,7 +53,7 @@ pub receipt_answers : (session : SessionId) (hall : HallNo) (now : ℕ) (a : Ask
 receipt_answers session hall now a old called mid new n launch s noted is has stays idle settles =
     HasSettled now n mid noted (subst (λ seat. Stays seat mid) is stays) (λ none. idle (none_started hall n.answer launch has none) ∙ is) settles
 
--- where its call was refused
+-- if its call was refused
 pub refusal_settled : (f : CallFault) (s : Saying) → IsRefusal f s → IsSettled s
 refusal_settled (fault.Behind seen found) s is = subst IsSettled (sym is) tt
 refusal_settled fault.Full s is = subst IsSettled (sym is) tt
@@ -68,7 +68,7 @@ collected_settled hall now session old new (saying.Noted n) is = λ waits. outco
 collected_settled hall now session old new (saying.Short e) is = tt
 collected_settled hall now session old new saying.Behind is = tt
 
--- where its call gave this receipt
+-- if its call gave this receipt
 receipt_settled : (hall : HallNo) (session : SessionId) (old new : SeatShown) (r : Noted) (s : Saying) → Settles hall session r old new s → IsSettled s
 receipt_settled hall session old new r s (inl is) = subst IsSettled (sym is.0) is.1
 receipt_settled hall session old new r s (inr waits) = collected_settled hall waits.1 session old new s waits.2

@@ -24,7 +24,7 @@ reply_of (Waiting k) = None
 abbrev pub ReplyFramed : Answer → List ℕ → Type 0
 ReplyFramed answer bytes = (r : Reply) × (reply_of answer ≡ Some r) × (bytes ≡ reply_bytes r)
 
--- whether memory is asked for to make a reply: for bytes and for the serials of rings; where there is none, it is for none
+-- whether memory is asked for to make a reply: for bytes and for the serials of rings; if there is none, it is for none
 abbrev pub TakesMemory : Option Reply → Type 0
 TakesMemory None = ⊥
 TakesMemory (Some (reply.Number n)) = ⊥

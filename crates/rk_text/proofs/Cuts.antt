@@ -132,7 +132,7 @@ module _ (s : Space) where
   no_bytes [] e = no_fields
   no_bytes (c ∷ text) e = absurd (omega arith)
 
-  -- where the first byte is no white space, a field has bytes
+  -- if the first byte is no white space, a field has bytes
   pub pos_len : (text : List ℕ) (n : ℕ) → 0 < length text → (0 < length text → is_space s (get_or text 0 0) ≡ false) → (n < length text → is_space s (get_or text n 0) ≡ true) → 0 < n
   pos_len text zero some first at = absurd (let a = first some in let b = at some in cc)
   pos_len text (suc n) some first at = omega arith

@@ -4,7 +4,7 @@ use Rattle.std.specs.declared.process.command.Command.{Command}
 use Rattle.std.specs.Process.{command_program, command_args, command_var, command_dir, clears_env}
 
 -- the program and its words; what a variable is set to; whether all others are removed; and in which folder, if another. A variable is `Some None`
--- where it is removed, and `None` where it stays as it is
+-- if it is removed, and `None` if it stays as it is
 pub record Start : Type 0 where
   pub program : List ℕ
   pub words : List (List ℕ)

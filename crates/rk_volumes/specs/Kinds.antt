@@ -31,7 +31,7 @@ how_kind (Exit c) = 0
 how_kind Signal = 1
 how_kind Fault = 2
 
--- the status with which it exited, and 0 where it did not
+-- the status with which it exited, and 0 if it did not
 abbrev pub status_of : How → ℕ
 status_of (Exit c) = c
 status_of Signal = 0

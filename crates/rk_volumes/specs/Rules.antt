@@ -27,7 +27,7 @@ abbrev pub IsSession : SessionId → Type 0
 IsSession (Client n) = IsWord n
 IsSession (Handler k) = IsSerial k
 
--- a payload keeps its rule, where there is one
+-- a payload keeps its rule, if there is one
 abbrev pub IsPutOut : Option (List ℕ) → Type 0
 IsPutOut None = Unit {0}
 IsPutOut (Some payload) = payload_fault payload ≡ None

@@ -15,7 +15,7 @@ use Rattle.rk_machine.proofs.Found.Refusals.{unless_none}
 pub serial_is : (key : ℤ) (k : ℕ) → serial_named key ≡ Some k → serial_in key ≡ k
 serial_is key k is = ap (λ (o : Option ℕ). unwrap_or o 0) is
 
--- a key that is linked where it is wanted, completed and tidied is completed as the machine completes it
+-- a key that is linked if it is wanted, completed and tidied is completed as the machine completes it
 pub completes_so : (old : World) (now : ℕ) (asker : Asker) (key r : ℤ) (condition : Condition) (end : Option ℕ) (new : World) (k : ℕ)
     → completion_refusal old asker key r ≡ None → serial_named key ≡ Some k
     → new ≡ tidied (completed now k condition end (linked_in (ring_for old asker r) k old)) → Completes old now asker key r condition end done new

@@ -54,7 +54,7 @@ user_seen m uid (Some k) found w e =
     let x = passed (is_user_ring uid) (map.get m k) found in
     (ring_seen x.0, sym (ap (λ (n : map.FinMap nat_cmp Ring). map.get n k) e) ∙ get-rings_seen m k ∙ ap (option_map ring_seen) x.1, x.2)
 
--- it is made where there is none
+-- it is made if there is none
 made_or_there : (w : World) (uid : ℕ) (o : Option ℕ) → IsUserRing w uid o → ◌≡◌ {A = ℕ} (cond (is_none o) 1 0) (cond (has_user_ring w uid) 0 1)
 made_or_there w uid None none = ap (λ b. cond b 0 1) (sym none)
 made_or_there w uid (Some k) found = ap (λ b. cond b 0 1) (sym (user_there w uid k found.0 found.1 found.2))
@@ -102,7 +102,7 @@ made kind uid other old mid new ring m h = same_world uid old _ new m.1 (record 
         absurd (both_ways _ other (ap (λ (r : Ring). is_users r.kind r.uid uid) same ∙ is))
     by_key k r false e is = h.users k r e is
 
--- making a ring of another kind, where it is wanted, keeps the user rings
+-- making a ring of another kind, if it is wanted, keeps the user rings
 pub keeps_if : (b : Bool) (kind : RingKind) (uid : ℕ) → is_users kind uid uid ≡ false → (old mid new : World) (ring : Option ℕ)
     → MakesIf b kind uid mid new ring → KeepsUsers uid old mid
     → KeepsUsers uid old new

@@ -43,7 +43,7 @@ pub links_kept : (old new : Rings) (k : ℕ) → ((ring : ℕ) → is_linked old
     → has_link new k ≡ true
 links_kept old new k keeps h = let l = linked_somewhere old k h in link_somewhere new l.0 k (keeps l.0 l.1)
 
--- two tests of which each passes where the other does are the same
+-- two tests of which each passes if the other does are the same
 pub same_answer : (a b : Bool) → (a ≡ true → b ≡ true) → (b ≡ true → a ≡ true) → a ≡ b
 same_answer true b f g = sym (f refl)
 same_answer false true f g = g refl

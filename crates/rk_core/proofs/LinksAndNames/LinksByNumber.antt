@@ -43,7 +43,7 @@ seen_linked known rings ring k n naming kept number =
     rings_seen-changed_at ring (linked k n) (with_link (is_rival known.keys k) k) rings
     (λ r there. ring_seen-linked (is_rival known.keys k) k n r (way known rings ring k n r naming kept number there))
 
--- ---- where there is room
+-- ---- if there is room
 
 or_true : (b : Bool) → (b || true) ≡ true
 or_true true = refl
@@ -70,7 +70,7 @@ one_of p (j ∷ ks) h =
       | false ↦ λ t h. let f = one_of p ks h in (f.0, ap (λ b. eq_by_cmp nat_cmp f.0 j || b) f.1 ∙ or_true (eq_by_cmp nat_cmp f.0 j), f.2)
     ] refl h
 
--- where some item of a set passes a test, there is one in the set that passes
+-- if some item of a set passes a test, there is one in the set that passes
 pub passing_item : (p : ℕ → Bool) (s : set.FinSet nat_cmp) → list_any p (set.items s) ≡ true → (k : ℕ) × (set.contains s k ≡ true) × (p k ≡ true)
 passing_item p s h = let f = one_of p (set.items s) h in (f.0, set.contains-items s f.0 ∙ f.1, f.2)
 
@@ -121,7 +121,7 @@ not_there rings ring k f h =
     none None h = refl
     none (Some r) h = absurd (both_ways _ h refl)
 
--- where the ring has room for the key, the key is linked, or there is no ring
+-- if the ring has room for the key, the key is linked, or there is no ring
 pub link_seen : (known : Known) (rings new : Rings) (ring k n : ℕ) (key : Key) (r : Result ⊤ RingFault)
     → IsNaming known.keys known.numbers → NumbersAgree known rings
     → map.get known.keys k ≡ Some key → map.get known.numbers k ≡ Some n
@@ -142,7 +142,7 @@ link_seen known rings new ring k n key (Err f) naming kept there number room ok 
 
 -- ---- the key that gives way
 
--- a key is seen as linked in a ring exactly where the ring has its number
+-- a key is seen as linked in a ring exactly if the ring has its number
 pub linked_is : (rings : Rings) (ring k : ℕ) (r : Numbered) (o : Option ℕ) → map.get rings ring ≡ Some r → map.get r.links k ≡ o
     → is_linked (rings_seen rings) ring k ≡ is_some o
 linked_is rings ring k r o there is =

@@ -1,4 +1,4 @@
--- The gate, for one who acts and where nobody does.
+-- The gate, for one who acts and for nobody.
 use Rattle.std.proofs.Common.{◌≡◌, ℕ, Bool, true, false, not, [], ◌∷◌, refl, sym, ap, ◌∙◌, subst}
 use Rattle.std.specs.Prelude.{ℤ, Option, Some, None, is_some, is_none, MatchOption, if◌then◌else◌}
 use Rattle.std.specs.Bool.{MatchBool}
@@ -69,7 +69,7 @@ gate_of_acting w (Handler k) (ask.Default setting) asker is = ap for_who_acts is
 gate_of_acting w (Handler k) (ask.Add typ description payload ring) asker is = ap for_who_acts is
 gate_of_acting w (Handler k) ask.Callout asker is = ap for_who_acts is
 
--- where nobody acts, a client may ask HELLO and a handler ASSUME
+-- if nobody acts, a client may ask HELLO and a handler ASSUME
 gate_of_nobody : (w : World) (s : SessionId) (x : Ask) → asker_of w s ≡ None → gate w s x ≡ refused_if (not (is_first s x)) errno.Eacces
 gate_of_nobody w (Client n) (ask.Hello hello) is = ap greeted_already is
 gate_of_nobody w (Client n) (ask.Request typ description callout destination) is = ap for_who_acts is
@@ -145,7 +145,7 @@ acts_so old now s x asker a new free acts h =
     subst (λ (o : Option Errno). Unless o old a new (Asking old now s x a new)) (sym (the_gate old s x free ∙ gate_of_acting old s x asker acts))
     (unless_so (is_hello x) errno.Einval old a new (Asking old now s x a new) h)
 
--- where nobody acts, a client's HELLO and a handler's ASSUME are steps, and any other ask is refused with EACCES
+-- if nobody acts, a client's HELLO and a handler's ASSUME are steps, and any other ask is refused with EACCES
 pub asks_first : (old : World) (now : ℕ) (s : SessionId) (x : Ask) (a : Answer) (new : World) → session_refusal old s ≡ None
     → asker_of old s ≡ None → MatchBool (is_first s x) (Asking old now s x a new) (Tells (Refused errno.Eacces) old a new)
     → Step old now (Asked s x) a new

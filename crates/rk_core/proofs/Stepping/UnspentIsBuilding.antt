@@ -32,7 +32,7 @@ use Rattle.rk_machine.proofs.Effects.BuildingAfter.{built_at, built_in, built_ti
 use Rattle.rk_machine.proofs.Effects.AuthoritiesAfter.{unspent_changed, unspent_launched, unspent_concluded, unspent_ended, unspent_issued}
 use Rattle.rk_core.proofs.Vanishing.WhichMayVanish.{other_key}
 
--- where the authority of k alone is spent, and the condition of k alone changes
+-- if the authority of k alone is spent, and the condition of k alone changes
 spent_one : (k q : ℕ) (o : Option Authority) (old new : Bool) → (nat_eq k q ≡ false → new ≡ old) → (is_some o ≡ true → old ≡ true)
     → is_some (cond (nat_eq k q) None o) ≡ true → new ≡ true
 spent_one k q o old new same h = by_key (nat_eq k q) refl

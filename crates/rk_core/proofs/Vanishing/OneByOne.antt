@@ -26,7 +26,7 @@ tidied_at true None = refl
 tidied_at false None = refl
 tidied_at a (Some key) = refl
 
--- a tidied world has a key exactly where it stays
+-- a tidied world has a key exactly if it stays
 pub get_tidied : (w : World) (q : ℕ) → map.get (tidied w).keys q ≡ cond (stays w q) (map.get w.keys q) None
 get_tidied w q = get_kept_where (λ k one. has_link w.rings k || is_building one) w.keys q ∙ tidied_at (has_link w.rings q) (map.get w.keys q)
 

@@ -11,7 +11,7 @@ use Rattle.rk_child.specs.Driving.{Drives, Tries}
 use Rattle.rk_child.specs.Passing.{EitherPassed, Passes}
 use Rattle.rk_live_tests.specs.Telling.{AreTried, HasPassedWith}
 
--- what was told; nothing where it is not
+-- what was told; nothing if it is not
 abbrev list_of : {A : Type 0} → Option (List A) → List A
 list_of (Some all) = all
 list_of None = []

@@ -8,7 +8,7 @@ use Rattle.rk_session.specs.Talk.{Ends, Serves}
 use Rattle.rk_session.specs.Wires.{Happened, WireShown}
 use Rattle.rk_live_tests.specs.Telling.{IsTalk}
 
--- what a wire has told; nothing where it does not tell
+-- what a wire has told; nothing if it does not tell
 abbrev story_of : Option (List Happened) → List Happened
 story_of (Some s) = s
 story_of None = []

@@ -94,7 +94,7 @@ twice : {A : Type 0} (b : Bool) (o : Option A) → cond b None (cond b None o) �
 twice true o = refl
 twice false o = refl
 
--- where the handler of k ends its authority is spent, and every other stays
+-- if the handler of k ends its authority is spent, and every other stays
 pub unspent_ended : (now k : ℕ) (condition : Condition) (w : World) (q : ℕ)
     → unspent (ended now k condition w).sessions q ≡ cond (nat_eq k q) None (unspent w.sessions q)
 unspent_ended now k condition w q = unspent_removed k (sessions_ended now k condition w) q ∙ spent_or_not (is_some (unspent w.sessions k))

@@ -15,7 +15,7 @@ use Rattle.rk_machine.proofs.Found.InMaps.{get_inserted, get_changed_at, get_kep
 abbrev kind_in : Option Ring → Option RingKind
 kind_in o = option_map (λ r. r.kind) o
 
--- the kind of a ring, where there is one
+-- the kind of a ring, if there is one
 abbrev pub kind_of : map.FinMap nat_cmp Ring → ℕ → Option RingKind
 kind_of rings r = kind_in (map.get rings r)
 

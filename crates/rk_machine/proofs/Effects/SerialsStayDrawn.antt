@@ -52,7 +52,7 @@ same_world old mid new e h q n = h q (ap (λ (w : World). is_drawn w q) (sym e) 
 made : (kind : RingKind) (uid : ℕ) (old new : World) (ring : ℕ) → Makes kind uid old new ring → KeepsDrawn old new
 made kind uid old new ring h = same_world old _ new h.1 (draws ring old)
 
--- making a ring, where it is wanted, leaves all drawn serials drawn
+-- making a ring, if it is wanted, leaves all drawn serials drawn
 pub if_drawn : (b : Bool) (kind : RingKind) (uid : ℕ) (old new : World) (ring : Option ℕ) → MakesIf b kind uid old new ring → KeepsDrawn old new
 if_drawn false kind uid old new ring h = same_world old old new h.1 (λ q n. n)
 if_drawn true kind uid old new ring h = made kind uid old new h.0 h.2

@@ -74,7 +74,7 @@ use Rattle.rk_machine.proofs.Effects.StagesByStep.{
 abbrev pub IsIdle : World → Type 0
 IsIdle w = (k : ℕ) → is_drawn w k ≡ false → kind_of w.sessions k ≡ None
 
--- where serials that were never drawn are idle, none of them has a construction
+-- if serials that were never drawn are idle, none of them has a construction
 pub idle_fresh : (w : World) → IsIdle w → IdleFresh w
 idle_fresh w idle k h = none (map.get w.sessions.constructions k) (idle k h)
   where

@@ -166,7 +166,7 @@ launched_in st h true None = refl
 launched_in st h true (Some c) = h
 launched_in st h false o = refl
 
--- where the handler of k is launched it waits for nothing, and every other wait stays
+-- if the handler of k is launched it waits for nothing, and every other wait stays
 pub wait_launched : (k : ℕ) (st : Stage) → wait_in (handler_in st) ≡ None → (a : Sessions) (s : SessionId)
     → wait_of (launched k st a) s ≡ cond (same_session (Handler k) s) None (wait_of a s)
 wait_launched k st h a (Client n) = refl
@@ -265,7 +265,7 @@ pub flag_launched : (k : ℕ) (st : Stage) → flag_in (handler_in st) ≡ None 
     → flag_of (launched k st a) s ≡ cond (same_session (Handler k) s) None (flag_of a s)
 flag_launched k st h a s = ap (option_map flag) (wait_launched k st (no_wait_in st h) a s) ∙ cleared (same_session (Handler k) s) (wait_of a s)
 
--- where a construction is removed its handler waits for no key, and every other session as before
+-- if a construction is removed its handler waits for no key, and every other session as before
 pub flag_removed : (k : ℕ) (a : Sessions) (s : SessionId) → flag_of (without_construction k a) s ≡ cond (same_session (Handler k) s) None (flag_of a s)
 flag_removed k a s = ap (option_map flag) (wait_removed k a s) ∙ cleared (same_session (Handler k) s) (wait_of a s)
 

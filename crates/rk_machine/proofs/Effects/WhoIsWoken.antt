@@ -92,7 +92,7 @@ module _ (old : World) (e : Event) (new : World) (s : SessionId) where
       let other : same_session t s ≡ false = ap (λ x. same_session x s) (sym is ∙ ap whose (sym ev)) ∙ apart in
       wait_at mid w (h ∙ ap (λ b. cond b o (wait_of old.sessions s)) other)
 
-  -- every wait on k gets the outcome, where there is such a key
+  -- every wait on k gets the outcome, if there is such a key
   announces : (now k : ℕ) (keys : map.FinMap nat_cmp Key) (a : Sessions) → whose e ≡ Handler k → unspent new.sessions k ≡ None
       → wait_of new.sessions s ≡ wait_of (announced now k keys a) s → wait_of a s ≡ wait_of old.sessions s → Others old e new s
   announces now k keys a by none is same = told_or_not (map.get keys k) is

@@ -162,7 +162,7 @@ shared_by a n m c r other is same = by_shared (is_shared a n r) refl
         ((λ i. not (nat_eq_equiv.symm m n i) && option_map_or (λ (x : Context). x.session == r) (there.2 i) false)
         ∙ (λ i. not (other i) && eq-eqb c.session r same i)))
 
--- where it is shared, another client has it
+-- if it is shared, another client has it
 sharer : (a : Sessions) (n r : ℕ) → is_shared a n r ≡ true → (m : ℕ) × (c : Context) × (nat_eq n m ≡ false) × (context_at a m ≡ Some c) × (c.session ≡ r)
 sharer a n r is = by_entry found.0 found.1 found.2 found.3
   where

@@ -67,6 +67,6 @@ module _ {V : Type 0} where
   pub some_entry : (p : ℕ × V → Bool) (m : FinMap nat_cmp V) → list_any p (entries m) ≡ true → (k : ℕ) × (v : V) × (get m k ≡ Some v) × (p (k, v) ≡ true)
   some_entry p m h = let f = passes p (entries m) (entries_sorted m) h in (f.0, f.1, get-entries m f.0 ∙ f.2, f.3)
 
-  -- where no entry of a map passes a test, none that is found does
+  -- if no entry of a map passes a test, none that is found does
   pub no_entry : (p : ℕ × V → Bool) (m : FinMap nat_cmp V) → list_any p (entries m) ≡ false → (k : ℕ) (v : V) → get m k ≡ Some v → p (k, v) ≡ false
   no_entry p m h k v is = fails p (entries m) h k v (sym (get-entries m k) ∙ is)

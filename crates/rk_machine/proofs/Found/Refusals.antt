@@ -10,17 +10,17 @@ use Rattle.rk_machine.specs.Allowed.{first_of, refused_if, Unless, OrNoMemory}
 
 -- ---- tests
 
--- where a negation is false, what it negates is true
+-- if a negation is false, what it negates is true
 pub not_not : (b : Bool) → not b ≡ false → b ≡ true
 not_not true h = refl
 not_not false h = absurd (cc)
 
--- where a disjunction is false, its first part is
+-- if a disjunction is false, its first part is
 pub or_left : (a b : Bool) → (a || b) ≡ false → a ≡ false
 or_left true b h = absurd (cc)
 or_left false b h = refl
 
--- where a disjunction is false, its second part is
+-- if a disjunction is false, its second part is
 pub or_right : (a b : Bool) → (a || b) ≡ false → b ≡ false
 or_right true b h = absurd (cc)
 or_right false b h = h
@@ -42,7 +42,7 @@ some_is (Some x) h = (x, refl)
 
 -- ---- lists of refusals
 
--- where there is no first refusal, there is none at the head and none in the rest
+-- if there is no first refusal, there is none at the head and none in the rest
 pub first_none : (o : Option Errno) (rest : List (Option Errno)) → first_of (o ∷ rest) ≡ None → (o ≡ None) × (first_of rest ≡ None)
 first_none None rest h = (refl, h)
 first_none (Some error) rest h = absurd (cc)
@@ -73,11 +73,11 @@ by_option (Some x) P N X none some h = some x refl h
 
 -- ---- what a step does, where a refusal applies or none does
 
--- where there is no refusal, the rest may be answered
+-- if there is no refusal, the rest may be answered
 pub unless_none : (r : Option Errno) (old : World) (a : Answer) (new : World) (P : Type 0) → r ≡ None → P → Unless r old a new P
 unless_none r old a new P e p = subst (λ (o : Option Errno). Unless o old a new P) (sym e) p
 
--- where there is a refusal, it is answered and nothing changes
+-- if there is a refusal, it is answered and nothing changes
 pub unless_some : (r : Option Errno) (error : Errno) (old : World) (P : Type 0) → r ≡ Some error → Unless r old (Refused error) old P
 unless_some r error old P e = subst (λ (o : Option Errno). Unless o old (Refused error) old P) (sym e) (refl, refl)
 

@@ -782,7 +782,7 @@ idle_run from (s ∷ before) w run = idle_step run.0 s.now s.event s.answer w ru
 pub reached_empty : (negative first stride : ℕ) → Reached (empty_world negative first stride)
 reached_empty negative first stride = (record { negative = negative; first = first; stride = stride }, [], refl)
 
--- where a run leads to a world, one leads to every world that a step leaves
+-- if a run leads to a world, one leads to every world that a step leaves
 pub reached_next : (old : World) (now : ℕ) (e : Event) (a : Answer) (new : World) → Reached old → Step old now e a new → Reached new
 reached_next old now e a new r h = (r.0, record { now = now; event = e; answer = a } ∷ r.1, (old, r.2, h))
 
