@@ -58,7 +58,7 @@ abbrev pub is_payload : FieldKind → Bool
 is_payload field.Payload = true
 is_payload _ = false
 
--- what a handler is told
+-- what a handler gets
 abbrev pub is_callout : FieldKind → Bool
 is_callout field.Callout = true
 is_callout _ = false

@@ -7,14 +7,14 @@ use Rattle.rk_client.specs.Peer.{HasAsked, HasGreeted}
 use Rattle.reqkeyctl.specs.declared.search.Search.{Search}
 use Rattle.reqkeyctl.specs.Searching.{FoundSaid}
 
--- one connection: the path of the socket, the HELLO that is said first, where one is, what is asked behind it, and what comes of it
+-- one connection: the path of the socket, the HELLO that is said first, if one is, what is asked after it, and the result
 pub record Conversation : Type 0 where
   pub path : List ℕ
   pub greeting : Option Ask
   pub ask : Ask
   pub answer : Result Reply PeerFault
 
--- what is said to it: an ask; or a search for keys, by the path of the socket, the HELLO, what they are looked for, for, and what comes of it
+-- what is said to it: an ask; or a search for keys, by the path of the socket, the HELLO, what they are looked for, for, and the result
 pub data Talk : Type 0 where
   Asked : Conversation → Talk
   Searched : List ℕ → Ask → Search → Result FoundSaid PeerFault → Talk

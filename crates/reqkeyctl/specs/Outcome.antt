@@ -16,7 +16,7 @@ use Rattle.rk_names.specs.declared.errors.Errno.{Errno}
 use Rattle.reqkeyctl.specs.Around.{call_in, is_lost}
 use Rattle.reqkeyctl.specs.declared.around.Around.{Around}
 
--- how a reply is told: nothing of it where it is to be quiet, or else as it is printed
+-- what is printed of a reply: nothing if it is to be quiet, and else its text
 abbrev pub told_reply : OptionsSaid → Reply → List ℕ
 told_reply options reply = if options.quiet then [] else printed options.raw reply
 

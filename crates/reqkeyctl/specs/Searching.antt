@@ -76,7 +76,7 @@ pub data HasSwept (written unread : Option (List ℕ)) : List ℤ → Option (Li
   onward : (keys : List ℤ) (key : ℤ) (w w' u u' : Option (List ℕ)) (count : ℕ) (swept : Bool) → HasSwept written unread keys w u count
       → HasTried w w' u u' key swept → HasSwept written unread (keys ++ key ∷ []) w' u' (counted count swept)
 
--- what is told of the keys: their lines; or, where they are swept, how many were taken out
+-- what is printed of the keys: their lines; or, if they are swept, how many were taken out
 pub data HasEnded (written written' unread unread' : Option (List ℕ)) (keys : List ℤ) (lines text : List ℕ) : Search → Type 0 where
   listed : written' ≡ written → unread' ≡ unread → text ≡ lines → HasEnded written written' unread unread' keys lines text search.List
   swept : (count : ℕ) → HasSwept written unread keys written' unread' count → text ≡ decimal count ++ newline

@@ -36,14 +36,14 @@ pub record FailsFor (conf : List Line) (subject : Subject) (fault : ExpandFault)
   pub chosen : IsChosen conf (op_name subject.op) subject.typ subject.desc subject.callout (Some line)
   pub fails : FailsAt any_answer subject line.args fault
 
--- why no command was to be started, by what is told: no line is for the subject; the words of the one that is can't be made; or there is a command
+-- why no command was to be started, by what is returned: no line is for the subject; the words of the one that is can't be made; or there is a command
 abbrev pub TellsWhy : List Line → Subject → Driven → Type 0
 TellsWhy conf subject NotStarted = IsChosen conf (op_name subject.op) subject.typ subject.desc subject.callout None
 TellsWhy conf subject (NotMade fault) = FailsFor conf subject fault
 TellsWhy conf subject NoMemory = (command : Command) × IsCommandFor conf subject command
 TellsWhy conf subject _ = Unit {0}
 
--- it is told that no command was to be started
+-- it says that no command was to be started
 abbrev pub IsUnprepared : Driven → Type 0
 IsUnprepared NotStarted = Unit {0}
 IsUnprepared (NotMade fault) = Unit {0}

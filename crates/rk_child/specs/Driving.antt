@@ -38,7 +38,7 @@ FaultRose ReadFailed old new = Rose old.count new.count ⊎ (new.reads ≡ 10485
 FaultRose WaitFailed old new = Rose old.count new.count
 FaultRose _ old new = Unit {0}
 
--- how the child that came back last has ended is what is told, and it was waited for only at the end of its output; where a start failed, nothing is new but the
+-- how the child that came back last has ended is what is returned, and it was waited for only at the end of its output; if a start failed, nothing is new but the
 -- count and the command, and where none was to be, nothing
 abbrev pub TellsEnd : Driven → LauncherShown → LauncherShown → Type 0
 TellsEnd (Ended how) old new = (new.last ≡ Some (Some how)) × (new.at_end ≡ true)
@@ -50,7 +50,7 @@ TellsEnd NotStarted old new = new ≡ old
 TellsEnd (NotMade fault) old new = new ≡ old
 TellsEnd NoMemory old new = new ≡ old
 
--- what is told where one command followed another: of the later one, where it was started
+-- what is returned if one command followed another: of the later one, if it was started
 abbrev pub later_of : Driven → Driven → Driven
 later_of first NotStarted = first
 later_of first (NotMade fault) = first
@@ -79,8 +79,8 @@ Tries conf subject out _ tried = (command : Command) × (nested : List Tried) ×
 abbrev pub HasTried : List Line → Subject → Driven → LauncherShown → LauncherShown → Type 0
 HasTried conf subject driven old new = (tried : List Tried) × (new.tried ≡ and_then old.tried tried) × Tries conf subject old.out driven tried
 
--- what was to be started for a launch: what makes the key; and then, where the hall hands out the construction once more, what says that it can't be made. What
--- is told is how the later one has ended, where it was started
+-- what was to be started for a launch: what makes the key; and then, if the hall hands out the construction once more, what says that it can't be made. What
+-- is returned is how the later one has ended, if it was started
 abbrev pub Drives : List Line → Subject → Driven → LauncherShown → LauncherShown → Type 0
 Drives conf subject driven old new = HasTried conf subject driven old new
     ⊎ ((first second : Driven) × (mid : LauncherShown) × HasRun first × HasTried conf subject first old mid × (mid.out ≡ old.out)
@@ -93,12 +93,12 @@ EndsAs (Ok u) (Ended how) old new = (new ≡ record old { closed = true; waited 
 EndsAs (Ok u) WaitFailed old new = Rose old.count new.count × (new ≡ record old { count = new.count; closed = true; waited = Some None; hasty = false })
 EndsAs (Ok u) _ old new = ⊥
 
--- what is told of a command whose output is no payload: that, where it has ended with 0
+-- what is returned of a command whose output is no payload: that, if it has ended with 0
 abbrev pub without_payload : Driven → OutputFault → Driven
 without_payload (Ended (Exit status)) fault = if status == 0 then NoPayload fault else Ended (Exit status)
 without_payload ended fault = ended
 
--- what is told of a command with this output, or none
+-- what is returned of a command with this output, or none
 abbrev pub told_with : Driven → Option (Result (List ℕ) OutputFault) → Driven
 told_with ended (Some (Err fault)) = without_payload ended fault
 told_with ended _ = ended

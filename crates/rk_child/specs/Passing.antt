@@ -26,13 +26,13 @@ IsSaid callout said = (said ≡ callout_said callout) ⊎ ((first others : List 
 
 -- what passed with the child that was started for a launch, of a seat before and after
 pub data Passes (conf : List Line) (launch : TokenShown) (old new : SeatShown) (story : List Passed) : Type 0 where
-  -- its hall did not owe its start any more: what it has put out was heard and dropped
+  -- its hall did not owe its start any more: its output was heard and dropped
   IsDropped : (read : Result Unit ReadFault) (pieces : List (List ℕ)) → ArePieces pieces → story ≡ map Heard pieces ++ end_heard read
       → Passes conf launch old new story
   -- it is the plain handler of a line for the launch: its asks were answered, each in its turn
   IsServed : (command : Command) (read : Result Unit ReadFault) (first : SeatShown) (last : Standing) → IsCommandFor conf launch.subject command
       → command.piped ≡ false → Stays old first → Ends launch.key read first story last → Stays last.seat new → Passes conf launch old new story
-  -- it is the piped handler of a line for the launch: the callout was written, and then what it has put out was heard
+  -- it is the piped handler of a line for the launch: the callout was written, and then its output was heard
   IsFed : (command : Command) (read : Result Unit ReadFault) (said : List Passed) (pieces : List (List ℕ)) → IsCommandFor conf launch.subject command
       → command.piped ≡ true → IsSaid launch.subject.callout said → ArePieces pieces → story ≡ said ++ (map Heard pieces ++ end_heard read)
       → Passes conf launch old new story

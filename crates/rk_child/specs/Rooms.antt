@@ -1,4 +1,4 @@
--- The room for what a handler puts out.
+-- The room for the output of a handler.
 use Rattle.std.specs.Prelude.{◌≡◌, ◌≤◌, Bool, true, false, [], Some}
 use Rattle.rk_frame.specs.Unread.{Unread}
 use Rattle.rk_machine.specs.declared.event.Ran.{Ran}

@@ -60,7 +60,7 @@ pub data AreEnded (key : ℕ) (begun : SeatShown) (story : List Passed) (last : 
   IsCutShort : (before : List Passed) (t : Turn) (from : Standing) (rest first others : List ℕ) → Talking key begun before (frame t.body ++ rest) from
       → IsTurn key from t last → reply_bytes t.reply ≡ first ++ others → story ≡ before ++ Said first ∷ [] → AreEnded key begun story last
 
--- a handler is to be read: no whole message is held; or the asks are at their end, and what it has put out since then was heard and dropped
+-- a handler is to be read: no whole message is held; or the asks are at their end, and its output since then was heard and dropped
 abbrev pub IsToRead : ℕ → SeatShown → List Passed → Standing → Type 0
 IsToRead key begun story last = ((held : List ℕ) × Talking key begun story held last × IsPartial held)
     ⊎ ((before : List Passed) × (pieces : List (List ℕ)) × AreEnded key begun before last × ArePieces pieces × (story ≡ before ++ map Heard pieces))

@@ -1,4 +1,4 @@
--- How a reply is told.
+-- How a reply is printed.
 use Rattle.std.specs.Prelude.{ℕ, List, [], ◌∷◌, ◌++◌, codes, decimal, Bool, if◌then◌else◌}
 use Rattle.rk_names.specs.Numbers.{errno_number}
 use Rattle.rk_message.specs.declared.reply.Reply.{Reply}

@@ -1,4 +1,4 @@
--- What is told of the end of a launch.
+-- What is reported of the end of a launch.
 use Rattle.rk_machine.specs.declared.event.How.{How}
 use Rattle.rk_machine.specs.declared.event.How.TheVariants.{Exit, Fault}
 use Rattle.rk_devices.specs.declared.driven.Driven.{Driven}

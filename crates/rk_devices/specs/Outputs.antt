@@ -1,4 +1,4 @@
--- What a piped handler puts out.
+-- The output of a piped handler.
 use Rattle.std.specs.Prelude.{ℕ, List, ◌++◌, length, nat_lt, ◌==◌, Option, Some, None, Result, Ok, Err, if◌then◌else◌}
 use Rattle.rk_devices.specs.declared.output.OutputFault.{OutputFault}
 use Rattle.rk_devices.specs.declared.output.OutputFault.TheVariants.{Empty, TooLong}

@@ -39,7 +39,7 @@ fails_here look s arguments words i a f lt e made room fails =
       fails = fails;
     }
 
--- behind the last argument only memory can be wanting
+-- after the last argument only memory can run out
 pub fails_behind : (look : Lookup) (s : Subject) (arguments : List Argument) (words : List (List ℕ)) → AreWords look s arguments words → size_of words ≤ 65536 → FailsAt look s arguments NoMemory
 fails_behind look s arguments words made room = record {
   before = arguments;

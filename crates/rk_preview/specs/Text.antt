@@ -2,7 +2,7 @@
 use Rattle.std.specs.Prelude.{ℕ, ◌+◌, ◌/◌, ◌%◌, List, [], ◌∷◌, ◌++◌, codes, decimal, Bool, true, false, ◌&&◌, not, ◌==◌, nat_le, if◌then◌else◌}
 use Rattle.std.specs.List.{flat_map}
 
--- a byte that is no control and no backslash
+-- a byte other than control bytes and the backslash
 abbrev pub is_shown : ℕ → Bool
 is_shown b = nat_le 32 b && not (b == 92) && not (b == 127)
 
@@ -18,7 +18,7 @@ byte_text b = if is_shown b then b ∷ [] else 92 ∷ 48 ∷ octal (b / 64) ∷ 
 abbrev pub word_line : List ℕ → List ℕ
 word_line word = flat_map byte_text word ++ codes "\n"
 
--- whether what a command puts out is the payload, or it asks for itself: request-key.conf(5), "|"
+-- whether the output of a command is the payload, or it asks for itself: request-key.conf(5), "|"
 abbrev pub kind_text : Bool → List ℕ
 kind_text true = codes "piped"
 kind_text false = codes "plain"

@@ -1,4 +1,4 @@
--- What is told of a configuration.
+-- What is printed of a configuration.
 use Rattle.std.specs.Prelude.{◌≡◌, ℕ, List, [], length, Option, Some, None, Ok}
 use Rattle.rk_conf.specs.declared.line.Line.{Line}
 use Rattle.rk_conf.specs.Choice.{IsChosen}
@@ -40,7 +40,7 @@ FailsLine line subject (fault.NoWords number why) = (number ≡ line.number) × 
 FailsLine line subject fault.NoMemory = Unit {0}
 FailsLine line subject _ = ⊥
 
--- why no command is told: a fault of the configuration, no line, or no words
+-- why no command is printed: a fault of the configuration, no line, or no words
 abbrev pub IsNotPicked : Subject → List ℕ → Fault → Type 0
 IsNotPicked subject input (fault.Conf why) = IsFaultFor why (faults_in input)
 IsNotPicked subject input fault.NoLine = (faults_in input ≡ []) × IsLineFor input subject None

@@ -11,7 +11,7 @@ pub record IsCalled (command : Command) (s : Start) : Type 0 where
   pub keeps : s.clears ≡ false
   pub folder : s.folder ≡ None
 
--- the variables of a handler that is told no library, and of one that is: it is preloaded, and finds the daemon at standard input and output. All others are
+-- the variables of a handler that gets no library, and of one that does: it is preloaded, and finds the daemon at standard input and output. All others are
 -- the daemon's
 abbrev pub Told : Option (List ℕ) → (List ℕ → Option (Option (List ℕ))) → Type 0
 Told None variable = (name : List ℕ) → variable name ≡ None
@@ -22,7 +22,7 @@ Told (Some library) variable = (variable (codes "LD_PRELOAD") ≡ Some (Some lib
 abbrev pub library_for : Command → Option (List ℕ) → Option (List ℕ)
 library_for command keyutils = if command.piped then None else keyutils
 
--- the program at the command's path, with its words, in the daemon's folder, and with what it is told
+-- the program at the command's path, with its words, in the daemon's folder, and with these variables
 pub record IsOf (command : Command) (keyutils : Option (List ℕ)) (s : Start) : Type 0 where
   pub program : s.program ≡ command.path
   pub words : s.words ≡ command.words

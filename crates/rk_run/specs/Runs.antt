@@ -1,4 +1,4 @@
--- What is done of a run, and what comes of it.
+-- What is done of a run, and its result.
 use Rattle.std.specs.Prelude.{◌≡◌, ℕ, true, false, List, [], ◌∷◌, ◌++◌, Option, Some, None, Result, Ok, Err, option_map, string_bytes, if◌then◌else◌}
 use Rattle.std.specs.Option.{unwrap_or}
 use Rattle.std.specs.declared.process.status.ExitStatus.{ExitStatus}
@@ -29,7 +29,7 @@ abbrev pub or_else : {X : Type 0} → Option X → Option X → Option X
 or_else (Some x) other = Some x
 or_else None other = other
 
--- the socket that is named, or else the one that is told already
+-- the socket that is named, or else that of the environment
 abbrev pub socket_of : Wanted → Here → Option (List ℕ)
 socket_of w here = or_else (option_map (λ s. s.now) w.socket) (option_map string_bytes here.socket)
 
@@ -60,7 +60,7 @@ unstarted_by start.NotFound = fault.NotFound
 unstarted_by start.Unstartable = fault.Unstartable
 unstarted_by start.NoMemory = fault.NoMemory
 
--- what is started in this ring of the daemon at this path, which the program is told so that it finds it from any folder
+-- what is started in this ring of the daemon at this path, as the program gets it to find it from any folder
 abbrev pub IsStartIn : Wanted → Here → List ℕ → ℕ → Start → Type 0
 IsStartIn w here socket ring s =
     IsStart w (library_of w here) (option_map string_bytes here.preloaded) (from_anywhere (option_map string_bytes here.folder) socket) ring s
@@ -70,25 +70,25 @@ abbrev pub ending : Option ExitStatus → Result ℕ RunFault
 ending (Some status) = Ok (status_of status)
 ending None = Err fault.Unknown
 
--- a start, the wait behind it, and what comes of it
+-- a start, the wait after it, and the result
 pub data Tries (s : Start) : List Event → Result ℕ RunFault → Type 0 where
   unstarted : (e : StartFault) → Tries s (Started s (Err e) ∷ []) (Err (unstarted_by e))
   ended : (status : Option ExitStatus) → Tries s (Started s (Ok tt) ∷ Waited status ∷ []) (ending status)
 
--- what is done while the connection is open, HELLO having been answered so, and what comes of it
+-- what is done while the connection is open, HELLO having been answered so, and the result
 pub data InSession (w : Wanted) (here : Here) (socket : List ℕ) (answer : Reply) : List Event → Result ℕ RunFault → Type 0 where
   turned_away : (e : RunFault) → ring_in answer ≡ Err e → InSession w here socket answer [] (Err e)
   crowded : (ring : ℕ) → ring_in answer ≡ Ok ring → InSession w here socket answer [] (Err fault.NoMemory)
   tried : (ring : ℕ) (s : Start) (events : List Event) (r : Result ℕ RunFault) → ring_in answer ≡ Ok ring → IsStartIn w here socket ring s
       → Tries s events r → InSession w here socket answer events r
 
--- what is done where reqkey-trap is to start the program, which makes a connection of its own, and what comes of it
+-- what is done if reqkey-trap is to start the program, which makes a connection of its own, and the result
 pub data Traps (w : Wanted) (here : Here) (socket : List ℕ) : List Event → Result ℕ RunFault → Type 0 where
   choked : Traps w here socket [] (Err fault.NoMemory)
   left : (s : Start) (events : List Event) (r : Result ℕ RunFault) → IsTrapped w (string_bytes here.trap) socket s
       → Tries s events r → Traps w here socket events r
 
--- what is done of a run, first things first, and what comes of it. The library, or reqkey-trap, is there before anybody is asked. With the library, HELLO is
+-- what is done of a run, first things first, and its result. The library, or reqkey-trap, is there before anybody is asked. With the library, HELLO is
 -- the first that is asked, and all else is done before the connection is closed; reqkey-trap is started at once
 pub data Runs (w : Wanted) : List Event → Result ℕ RunFault → Type 0 where
   blind : Runs w [] (Err fault.NoMemory)

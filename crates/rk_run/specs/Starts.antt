@@ -17,7 +17,7 @@ pub record IsCalled (path : List ℕ) (arguments : List (List ℕ)) (s : Start) 
   pub keeps : s.clears ≡ false
   pub folder : s.folder ≡ None
 
--- the program that is wanted, with its words, in the folder where it is called. It preloads the library, and is told the daemon's socket and its session
+-- the program that is wanted, with its words, in the folder where it is called. It preloads the library, and gets the daemon's socket and its session
 -- ring; it is not told that it is a handler; all other variables are as they are
 pub record IsStart (w : Wanted) (library : List ℕ) (before : Option (List ℕ)) (path : List ℕ) (ring : ℕ) (s : Start) : Type 0 where
   pub program : s.program ≡ w.program.now

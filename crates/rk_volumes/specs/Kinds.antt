@@ -37,7 +37,7 @@ status_of (Exit c) = c
 status_of Signal = 0
 status_of Fault = 0
 
--- what a handler put out; a payload has at least one byte
+-- the output of a handler; a payload has at least one byte
 abbrev pub put_out : Option (List ℕ) → List ℕ
 put_out None = []
 put_out (Some payload) = payload

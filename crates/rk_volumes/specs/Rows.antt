@@ -25,7 +25,7 @@ pub record Row : Type 0 where
 abbrev pub row_bytes : Row → List ℕ
 row_bytes r = r.kind ∷ r.how ∷ (to_be_bytes w32 r.number ++ r.rest)
 
--- the row of an event: a session or a key, and what it asks, or has put out behind its status
+-- the row of an event: a session or a key, and what it asks, or has output, after its status
 abbrev pub event_row : Event → Row
 event_row (event.Opened s) = record { kind = 1; how = session_kind s; number = session_number s; rest = [] }
 event_row (event.Asked s a) = record { kind = 2; how = session_kind s; number = session_number s; rest = spelling (ask_message a) }
