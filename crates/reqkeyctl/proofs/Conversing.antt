@@ -1,4 +1,4 @@
--- What the daemon was asked, and the status behind its answer.
+-- What the daemon was asked, and the status after its answer.
 use Rattle.std.proofs.Common.{◌≡◌, ◌≤◌, ℕ, zero, suc, Bool, true, false, List, Option, Some, Result, refl, sym, subst, arith}
 use Rattle.rk_message.specs.Ask.{Ask}
 use Rattle.rk_message.specs.declared.reply.Reply.{Reply}
@@ -10,7 +10,7 @@ use Rattle.reqkeyctl.specs.Said.{CallSaid}
 use Rattle.reqkeyctl.specs.Around.{call_in}
 use Rattle.reqkeyctl.specs.declared.around.Around.{Around}
 
--- a conversation of the call at its socket, behind its greeting
+-- a conversation of the call at its socket, after its greeting
 pub asked_as : (call : CallSaid) (around : Around) (words : List (List ℕ)) (path : List ℕ) (ask : Ask) (answer : Result Reply PeerFault) (greeting : Option Ask)
     (said said' : Option (List Talk)) → Some call ≡ call_in around words → call.options.socket ≡ Some path → Asks call ask → greeting ≡ greeting_before call
     → said' ≡ and_then said (Asked (record { path = path; greeting = greeting; ask = ask; answer = answer })) → HasAskedAs call ask answer around words said said'

@@ -29,12 +29,12 @@ abbrev pub is_help_alone : List (List ℕ) → Bool
 is_help_alone (word ∷ []) = is_help word
 is_help_alone _ = false
 
--- it stands in front of the op, or is all that is behind it
+-- it stands before the op, or is all that is after it
 abbrev pub asks_of : List (List ℕ) → Option (Op × List (List ℕ)) → Bool
 asks_of words None = asks_in_front words
 asks_of words (Some (o, arguments)) = is_help_alone arguments || asks_in_front (in_front words arguments)
 
--- the words, of which the first is the name of the program, ask for help; all that is behind an op are its arguments
+-- the words, of which the first is the name of the program, ask for help; all that is after an op are its arguments
 abbrev pub asks_help : List (List ℕ) → Bool
 asks_help [] = false
 asks_help (program ∷ []) = false
@@ -68,7 +68,7 @@ pub record FileAt : Type 0 where
   pub path : List ℕ
   pub at : ℕ
 
--- the file that is named, if one is: a payload stands in its place, a callout behind all arguments; none if an ask has no such field, or both are named
+-- the file that is named, if one is: a payload stands in its place, a callout after all arguments; none if an ask has no such field, or both are named
 abbrev pub place_of : Option (List ℕ) → Option (List ℕ) → Op → ℕ → Option (Option FileAt)
 place_of None None o count = Some None
 place_of (Some path) None o count = option_map (λ at. Some (record { path = path; at = at })) (position is_payload (ask_fields o))

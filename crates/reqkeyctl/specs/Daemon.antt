@@ -23,7 +23,7 @@ pub data Talk : Type 0 where
 abbrev pub and_then : Option (List Talk) → Talk → Option (List Talk)
 and_then story talk = option_map (λ s. s ++ talk ∷ []) story
 
--- the ask was written and its reply read, behind the greeting if there is one: what was written and what was left to read, before and after
+-- the ask was written and its reply read, after the greeting if there is one: what was written and what was left to read, before and after
 abbrev pub HasConversed : Option (List ℕ) → Option (List ℕ) → Option (List ℕ) → Option (List ℕ) → Option Ask → Ask → Reply → Type 0
 HasConversed written written' unread unread' None ask reply = HasAsked written written' unread unread' ask reply
 HasConversed written written' unread unread' (Some greeting) ask reply = HasGreeted written written' unread unread' greeting ask reply

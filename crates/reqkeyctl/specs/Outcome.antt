@@ -24,8 +24,8 @@ told_reply options reply = if options.quiet then [] else printed options.raw rep
 abbrev pub HasTold : Option (List ℕ) → Option (List ℕ) → Type 0
 HasTold contents contents' = (text : List ℕ) × Appends contents contents' text
 
--- the ask of the words went to the socket that they name, or else to that of the environment, once, behind the HELLO of their options, and this is the answer: what was said to the daemon,
--- before and after
+-- the ask of the words went to the socket that they name, or else to that of the environment, once, after the HELLO of their options, and this is the answer:
+-- what was said to the daemon, before and after
 pub record HasAskedAs (call : CallSaid) (ask : Ask) (answer : Result Reply PeerFault) (around : Around) (words : List (List ℕ)) (said said' : Option (List Talk)) : Type 0 where
   pub is_call : call_in around words ≡ Some call
   pub path : List ℕ

@@ -1,4 +1,4 @@
--- What the words of a call say: its options, its op, and the arguments behind it.
+-- What the words of a call say: its options, its op, and the arguments after it.
 use Rattle.std.specs.Prelude.{ℕ, ◌-◌, Bool, is_some, ◌&&◌, ◌||◌, List, [], ◌∷◌, length, take, map, string_bytes, codes, Option, Some, None, option_map, if◌then◌else◌}
 use Rattle.std.specs.Str.{bytes_eq}
 use Rattle.rk_options.specs.Options.{Given, all_named, is_among, is_joined, joined, options_of, value_in}
@@ -20,7 +20,7 @@ pub record OptionsSaid : Type 0 where
   pub payload_from : Option (List ℕ)
   pub callout_from : Option (List ℕ)
 
--- a call: the options, the op, and all words behind it
+-- a call: the options, the op, and all words after it
 pub record CallSaid : Type 0 where
   pub options : OptionsSaid
   pub op : Op
@@ -65,12 +65,12 @@ is_flag_with_value word = is_joined word && is_flag (joined word).name
 abbrev pub is_alone : List ℕ → Bool
 is_alone word = is_joined word || is_flag word || is_some (search_named word)
 
--- the op of a first word, with the words behind it; where it is none, the op of other words
+-- the op of a first word, with the words after it; where it is none, the op of other words
 abbrev pub or_op : Option Op → List (List ℕ) → Option (Op × List (List ℕ)) → Option (Op × List (List ℕ))
 or_op (Some o) words later = Some (o, words)
 or_op None words later = later
 
--- the first op behind options, each in one word or in two, and the words behind it; none behind a flag that is given a value
+-- the first op after options, each in one word or in two, and the words after it; none after a flag that is given a value
 unfoldable pub op_and_more : List (List ℕ) → Option (Op × List (List ℕ))
 op_and_more [] = None
 op_and_more (word ∷ []) = or_op (op_said word) [] None
@@ -105,15 +105,15 @@ options_in options = if all_named is_option options then together
     (value_in (codes "--callout-from") options)
     else None
 
--- what the words in front of an op say
+-- what the words before an op say
 abbrev pub options_said : List (List ℕ) → Option OptionsSaid
 options_said words = options_in (options_of flags words)
 
--- the words in front of an op, behind which these are left
+-- the words before an op, after which these are left
 abbrev pub in_front : List (List ℕ) → List (List ℕ) → List (List ℕ)
 in_front words arguments = take (length words - length arguments - 1) words
 
--- a call of an op with its arguments, behind the words in front
+-- a call of an op with its arguments, after the words in front
 abbrev pub called : List (List ℕ) → Option (Op × List (List ℕ)) → Option CallSaid
 called words None = None
 called words (Some (o, arguments)) = option_map (λ options. record { options = options; op = o; arguments = arguments })

@@ -36,7 +36,7 @@ pub struct Call<'a> {
     pub options: Options<'a>,
     /// Which request is sent.
     pub op: Op,
-    /// The words behind it.
+    /// The words after it.
     pub arguments: &'a [String],
 }
 
@@ -54,7 +54,7 @@ const OPTIONS: [&str; 8] = [
 
 impl<'a> Call<'a> {
     /// The call that the words say, of which the first is the name of the program; `None` if they say none. Options come first, each at most
-    /// once, as `--uid 5` or `--uid=5`, and `--raw` and `--quiet` without a value, even an empty one; all words behind the op are its arguments, whatever they
+    /// once, as `--uid 5` or `--uid=5`, and `--raw` and `--quiet` without a value, even an empty one; all words after the op are its arguments, whatever they
     /// look like.
     pub fn read(words: &'a [String]) -> Option<Call<'a>>
         ensures { option_map call_by result ≡ call_said (map string_bytes words.now) }
@@ -92,7 +92,7 @@ pub fn or_around<'a>(named: Option<&'a str>, around: &'a Around) -> Option<&'a s
     }
 }
 
-/// The first op behind options, and the words behind it; `None` if there is no op, or a flag before it has a value.
+/// The first op after options, and the words after it; `None` if there is no op, or a flag before it has a value.
 pub fn op_and_more<'a>(words: &'a [String]) -> Option<(Op, &'a [String])>
     ensures found { option_map (λ x. (x.0, map string_bytes x.1.now)) result ≡ op_and_more (map string_bytes words.now) }
     ensures shorter { IfSome result (λ x. length x.1.now < length words.now) }
@@ -140,7 +140,7 @@ fn is_flag(name: &str) -> bool
 }
 
 impl<'a> Options<'a> {
-    /// What the words in front of an op say; `None` if an option is unknown, there twice, or has a value that is not allowed.
+    /// What the words before an op say; `None` if an option is unknown, there twice, or has a value that is not allowed.
     pub fn read(words: &'a [String]) -> Option<Options<'a>>
         ensures { option_map options_by result ≡ options_said (map string_bytes words.now) }
     {

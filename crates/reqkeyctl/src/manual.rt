@@ -21,7 +21,7 @@ input, and prints it on standard error. It is that too without --socket where st
 
 Options stand before the command, and all words after the command are its arguments. But run starts a program, and its options stand after it.";
 
-/// What `--help` says behind its lists, before the arguments.
+/// What `--help` says after its lists, before the arguments.
 const AFTER: &str =
     "A reply is printed as a number, as bytes, or as the serials of the thread, process, session and user ring (0 for none). A newline follows.
 
@@ -45,7 +45,7 @@ Arguments:";
 /// What `run --help` says before its lists.
 const RUN: &str = "Run a program whose calls of keyutils the daemon answers, in a new session ring";
 
-/// What `run --help` says behind its lists.
+/// What `run --help` says after its lists.
 const AFTER_RUN: &str =
     "keyutils' programs, such as keyctl, reach the daemon by a library that is preloaded. The program and all that it starts share one session ring, which \
 lasts until the program has ended. The program gets the standard streams, and the caller's environment with LD_PRELOAD, REQKEYD_SOCKET and REQKEYD_JOIN.
@@ -141,7 +141,7 @@ pub fn fault_of_arguments(alloc: Global, call: &Call<'_>) -> Result<Option<Error
     fault_in(alloc, words.as_slice(), field_from_file(call))
 }
 
-/// The words of a call without its options. The arguments stand behind `--`, so that none is taken for an option.
+/// The words of a call without its options. The arguments stand after `--`, so that none is taken for an option.
 fn plain_words(alloc: Global, call: &Call<'_>) -> Result<Vec<String>, AllocError> {
     let mut words = Vec::new(alloc);
     words.push(String::from_str(alloc, "reqkeyctl")?)?;
@@ -238,7 +238,7 @@ fn top<'a>(alloc: Global, after: &'a str) -> Result<Command<'a>, AllocError> {
         .arg(quiet.help("Print no reply, except for a refusal"))
 }
 
-/// `run` with its options, and the program behind `--`.
+/// `run` with its options, and the program after `--`.
 fn run<'a>(alloc: Global) -> Result<Command<'a>, AllocError> {
     let run = Command::new(alloc, "run").about(RUN).after_help(AFTER_RUN);
     let trap = Arg::new(alloc, "trap")

@@ -44,7 +44,7 @@ pub enum Leftover<'a> {
     /// No socket for `list` or `sweep`.
     #[error("neither '--socket <PATH>' nor REQKEYD_SOCKET says where the daemon is")]
     Nowhere,
-    /// Options in front of `run`.
+    /// Options before `run`.
     #[error("the options of 'run' stand behind it, as in 'reqkeyctl run --uid 1000 -- PROGRAM'")]
     Run,
 }
@@ -81,7 +81,7 @@ fn searches(words: &[String]) -> bool {
     }
 }
 
-/// The words that are to be options: those behind `run` up to the first `--`, or those in front of the op.
+/// The words that are to be options: those after `run` up to the first `--`, or those before the op.
 fn options_in(words: &[String]) -> &[String] {
     match words {
         [] => words,

@@ -29,11 +29,11 @@ use std::io::{Read, Write};
 ///
 /// Of `streams`, `reader` is standard input, `writer` standard output and `errors` standard error. The first word is the name of the program.
 ///
-/// With `--socket`, or else with the socket of what is around, the `daemon` there is asked, behind the HELLO of the options; the reply is printed on
+/// With `--socket`, or else with the socket of what is around, the `daemon` there is asked, after the HELLO of the options; the reply is printed on
 /// `writer`, and `reader` is read only for a file `-`. Without one the peer is at the streams: one ask is written to `writer`, unless that is a terminal,
 /// one reply read from `reader`, and it is printed on `errors`. Help and the version are written to `writer`.
 ///
-/// If the last word is `list` or `sweep`, behind options alone, the daemon is searched for keys ([`crate::searching::search`]), and what is found is
+/// If the last word is `list` or `sweep`, after options alone, the daemon is searched for keys ([`crate::searching::search`]), and what is found is
 /// printed on `writer`.
 ///
 /// If the second word is `run`, and what follows are its options, `--` and a program, that program is run by `host` in a session ring of its own

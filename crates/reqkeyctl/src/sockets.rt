@@ -85,7 +85,7 @@ impl<'a, R: Net> Daemon for Sockets<'a, R> {
     }
 }
 
-/// Asks over a connection that has just been made, behind the greeting if one is given.
+/// Asks over a connection that has just been made, after the greeting if one is given.
 fn converse<I: Read, W: Write>(
     alloc: Global,
     reader: &mut I,

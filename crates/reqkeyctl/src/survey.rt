@@ -22,7 +22,7 @@ pub struct Survey<'a> {
 }
 
 impl<'a> Survey<'a> {
-    /// What the words say, of which the first is the name of the program: `--socket`, `--uid` and `--gid`, each at most once, and `list` or `sweep` behind
+    /// What the words say, of which the first is the name of the program: `--socket`, `--uid` and `--gid`, each at most once, and `list` or `sweep` after
     /// them. `None` if they say none, or no socket, and what is around names none either.
     pub fn read(words: &'a [String], around: &'a Around) -> Option<Survey<'a>>
         ensures { option_map survey_by result ≡ survey_said around.now (map string_bytes words.now) }

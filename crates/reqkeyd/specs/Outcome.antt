@@ -15,7 +15,7 @@ asks_replay (name ∷ []) = false
 asks_replay (name ∷ word ∷ []) = bytes_eq word (codes "replay")
 asks_replay (name ∷ word ∷ more ∷ words) = false
 
--- what the words set for the daemon: behind the name of the program stands `serve`, and behind that are options
+-- what the words set for the daemon: after the name of the program stands `serve`, and after that are options
 abbrev pub asks_serve : List (List ℕ) → Option Set
 asks_serve [] = None
 asks_serve (name ∷ []) = None
@@ -29,7 +29,7 @@ HasPlayed unread contents contents' = IfSome unread (λ input. (text : List ℕ)
 abbrev pub HasTold : Option (List ℕ) → Option (List ℕ) → Type 0
 HasTold contents contents' = (text : List ℕ) × Appends contents contents' text
 
--- what the words behind the name of the program ask of a configuration
+-- what the words after the name of the program ask of a configuration
 abbrev pub asks_preview : List (List ℕ) → Option Asked
 asks_preview [] = None
 asks_preview (name ∷ words) = asked_said words

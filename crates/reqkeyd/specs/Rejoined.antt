@@ -22,7 +22,7 @@ abbrev pub are_files : List (List ℕ) → Bool
 are_files [] = false
 are_files (word ∷ words) = list_all is_file (word ∷ words)
 
--- the words behind the name of the program are `rejoin` and at least one file
+-- the words after the name of the program are `rejoin` and at least one file
 abbrev pub asks_rejoin : List (List ℕ) → Bool
 asks_rejoin [] = false
 asks_rejoin (name ∷ []) = false

@@ -1,4 +1,4 @@
-//! What may stand on the command line behind `check` and `pick`.
+//! What may stand on the command line after `check` and `pick`.
 use clap::builder::ValueParser;
 use clap::{Arg, ArgAction, Command};
 use std::alloc::{AllocError, Global};

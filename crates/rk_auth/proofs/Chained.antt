@@ -246,7 +246,7 @@ module _ (m n : Slots) (j h : ℕ) (chained : AreChained m) (idle : home_at m j 
     ];
   }
 
-  -- slots stay chained where one is put in front of a chain
+  -- slots stay chained where one is put before a chain
   pub chained_put : AreChained n
   chained_put g = elim (cases_eq h g) [
     | inl e ↦ subst (λ x. (xs : List ℕ) × IsChainOf n x xs) e (j ∷ (chained h).0, put_here)
@@ -314,7 +314,7 @@ module _ (m : Slots) (j h : ℕ) (chained : AreChained m) (idle : home_at m j �
             ∙ sym (at_apart h q (Some j) (first_at m q) ne)
       ]
 
-  -- the three changes put j in front of the chain that h heads
+  -- the three changes put j before the chain that h heads
   pub is_put : (n : Option ℕ) → n ≡ first_at m h → IsPut m (put_3 n) j h
   is_put n is = record {
     next = last_left next_in (before_next (Some j)) n j ∙ next_2 j ∙ touched next_in j (with_link (Some put_link)) m j refl ∙ next_linked put_link (get m j) there;
@@ -334,7 +334,7 @@ module _ (m : Slots) (j h : ℕ) (chained : AreChained m) (idle : home_at m j �
     ];
   }
 
-  -- putting a slot in front of a chain leaves who stands at each place
+  -- putting a slot before a chain leaves who stands at each place
   pub put_standing : (n : Option ℕ) (q : ℕ) → standing_at (put_3 n) q ≡ standing_at m q
   put_standing n q =
       last_left standing_in (before_standing (Some j)) n q ∙ untouched standing_in h (with_first (Some j)) (first_standing (Some j)) put_1 q

@@ -60,7 +60,7 @@ frame nx bf nx' bf' from at (x ∷ xs) sn sb h = (
 
 -- ---- one in front
 
--- a place put in front of a chain makes a chain, where the old first has it before it and nothing else changes
+-- a place put before a chain makes a chain, where the old first has it before it and nothing else changes
 pub in_front : (nx bf nx' bf' : ℕ → Option ℕ) (j : ℕ) (at : Option ℕ) (xs : List ℕ) → EachOnce xs → nx' j ≡ at → bf' j ≡ None
     → ((q : ℕ) → has xs q ≡ true → nx' q ≡ nx q) → ((q : ℕ) → has xs q ≡ true → bf' q ≡ cond (names at q) (Some j) (bf q))
     → IsChain nx bf None at xs → IsChain nx' bf' None (Some j) (j ∷ xs)

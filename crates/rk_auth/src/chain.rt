@@ -104,7 +104,7 @@ fn set_next(slots: &mut Places<Slot>, home: usize, before: Option<usize>, next: 
     }
 }
 
-/// The one at the place waits, in front of all who wait for what stands at home. It takes no memory.
+/// The one at the place waits, before all who wait for what stands at home. It takes no memory.
 pub fn push(slots: &mut Places<Slot>, place: usize, home: usize)
     requires chained { AreChained slots.old.facts }
     requires place { is_some (map.get slots.old.facts place) ≡ true }

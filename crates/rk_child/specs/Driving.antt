@@ -38,8 +38,8 @@ FaultRose ReadFailed old new = Rose old.count new.count ⊎ (new.reads ≡ 10485
 FaultRose WaitFailed old new = Rose old.count new.count
 FaultRose _ old new = Unit {0}
 
--- how the child that came back last has ended is what is returned, and it was waited for only at the end of its output; if a start failed, nothing is new but the
--- count and the command, and where none was to be, nothing
+-- how the child that came back last has ended is what is returned, and it was waited for only at the end of its output; if a start failed, nothing is new but
+-- the count and the command, and where none was to be, nothing
 abbrev pub TellsEnd : Driven → LauncherShown → LauncherShown → Type 0
 TellsEnd (Ended how) old new = (new.last ≡ Some (Some how)) × (new.at_end ≡ true)
 TellsEnd (NoPayload fault) old new = (new.last ≡ Some (Some (Exit 0))) × (new.at_end ≡ true)

@@ -1,4 +1,4 @@
--- What is to be said of a message of a handler, and when its asks go on behind the reply.
+-- What is to be said of a message of a handler, and when its asks go on after the reply.
 use Rattle.std.specs.Prelude.{◌≡◌, ◌⊎◌, ◌%◌, ℕ, List, [], ◌∷◌, ◌++◌, Some, Bool, true, false}
 use Rattle.rk_names.specs.declared.errors.Errno.TheVariants.{Enomem}
 use Rattle.rk_names.specs.declared.numbers.SessionId.TheVariants.{Handler}

@@ -15,8 +15,8 @@ abbrev pub TakesOne : ℕ → Bool → ChildShown → Unread → Standing → Ch
 TakesOne key replied old frames from new frames' to = (body : List ℕ) × TakesBody body frames.bytes frames'.bytes
     × (s : Saying) × IsAsked key from body s to × EndsAsks replied s old new
 
--- a message that got its reply was taken; there is none yet where no frame is whole, and the next piece finds its room; the asks are at their end where a length
--- stands that no frame has, or behind a message
+-- a message that got its reply was taken; there is none yet where no frame is whole, and the next piece finds its room; the asks are at their end where a
+-- length stands that no frame has, or after a message
 abbrev pub Turns : ℕ → Turned → ChildShown → Unread → Standing → ChildShown → Unread → Standing → Type 0
 Turns key Replied old frames from new frames' to = TakesOne key true old frames from new frames' to
 Turns key NoneYet old frames from new frames' to =

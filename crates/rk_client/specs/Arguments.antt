@@ -76,7 +76,7 @@ field_said k (Some word) = value_said k word
 field_said field.Callout None = Some (Maybe None)
 field_said _ None = None
 
--- a first field and those behind it
+-- a first field and those after it
 abbrev pub joined : Option Value → Option (List Value) → Option (List Value)
 joined (Some v) (Some vs) = Some (v ∷ vs)
 joined _ _ = None

@@ -30,7 +30,7 @@ is_refusal (reply.Bytes _) = false
 is_refusal (reply.Rings _ _ _ _) = false
 is_refusal (reply.Refused _) = true
 
--- the greeting was refused, and that is the answer; or it was not, and the ask was written and its reply read behind that
+-- the greeting was refused, and that is the answer; or it was not, and the ask was written and its reply read after that
 pub data HasGreeted (written written' unread unread' : Option (List ℕ)) (greeting ask : Ask) (answer : Reply) : Type 0 where
   refused : HasAsked written written' unread unread' greeting answer → is_refusal answer ≡ true → HasGreeted written written' unread unread' greeting ask answer
   greeted : (between unread_between : Option (List ℕ)) (welcome : Reply) → HasAsked written between unread unread_between greeting welcome

@@ -11,7 +11,7 @@
 //!
 //! Arguments are taken where the format allows them and refused otherwise; out of memory comes only for arguments that are taken. What is
 //! written is the frame of the ask and nothing else. A reply is what the bytes at the front of the reader spell, and they alone are read, so
-//! that another program may read on behind them from the same pipe. Bytes that begin with no reply are refused as such.
+//! that another program may read on after them from the same pipe. Bytes that begin with no reply are refused as such.
 //!
 //! # How it is built
 //!

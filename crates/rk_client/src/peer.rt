@@ -29,7 +29,7 @@ pub fn exchange<R: Read, W: Write>(
     receive(alloc, reader)
 }
 
-/// Sends the greeting, a HELLO, and the ask behind it, as [`exchange`] does each. If the greeting is refused the ask is not sent, and that
+/// Sends the greeting, a HELLO, and the ask after it, as [`exchange`] does each. If the greeting is refused the ask is not sent, and that
 /// refusal is the reply.
 pub fn exchange_greeted<R: Read, W: Write>(
     alloc: Global,
@@ -70,7 +70,7 @@ fn send<W: Write>(alloc: Global, writer: &mut W, ask: &Ask) -> Result<(), PeerFa
     }
 }
 
-/// The ask behind its length.
+/// The ask with its length before it.
 fn ask_frame(alloc: Global, ask: &Ask) -> Result<Vec<u8>, AllocError>
     ensures { IfOk result (λ v. v.items ≡ ask_frame ask.now) }
 {

@@ -57,7 +57,7 @@ pub argument-literal : (field : List ℕ) → begins_with 37 field ≡ false →
 unfolding argument_of
 argument-literal field e = rw e
 
--- what stands behind a first ASCII byte of a text is text
+-- what follows a first ASCII byte of a text is text
 pub after_byte : (b : ℕ) (field : List ℕ) → b < 128 → begins_with b field ≡ true → is_text field ≡ true → is_text (drop 1 field) ≡ true
 after_byte b [] lt e t = absurd (cc)
 after_byte b (c ∷ field) lt e t =

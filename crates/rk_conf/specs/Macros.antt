@@ -7,7 +7,7 @@ use Rattle.rk_conf.specs.declared.argument.Argument.{Argument}
 use Rattle.rk_conf.specs.declared.argument.Argument.TheVariants as argument
 use Rattle.rk_text.specs.Text.{begins_with}
 
--- the macro of one letter, which stands behind a `%`
+-- the macro of one letter, which stands after a `%`
 abbrev pub letter_macro : ℕ → Option Argument
 letter_macro c =
     if c == 111 then Some argument.Operation
@@ -39,7 +39,7 @@ in_braces text =
 abbrev pub payload_macro : List ℕ → Option Argument
 payload_macro text = option_map argument.Payload (option_and_then wanted_of (in_braces text))
 
--- what stands behind the first `%`: one more `%` begins a literal, and a macro is one letter or braces
+-- what follows the first `%`: one more `%` begins a literal, and a macro is one letter or braces
 abbrev pub macro_of : List ℕ → Option Argument
 macro_of rest =
     if begins_with 37 rest then Some (argument.Literal rest)

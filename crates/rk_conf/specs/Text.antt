@@ -9,7 +9,7 @@ use Rattle.rk_text.specs.Text.{begins_with, lines_of}
 abbrev pub fields_of : List ℕ → List (List ℕ)
 fields_of line = text.fields_of space.Any line
 
--- a blank line, or one whose first byte behind white space is `#`
+-- a blank line, or one whose first byte after white space is `#`
 abbrev pub is_comment : List (List ℕ) → Bool
 is_comment [] = true
 is_comment (field ∷ fields) = begins_with 35 field

@@ -53,7 +53,7 @@ impl<'a> BorrowedArgument<'a> {
     }
 }
 
-/// What stands behind the first `%`: a literal that begins with `%`, a letter, or braces.
+/// What follows the first `%`: a literal that begins with `%`, a letter, or braces.
 fn borrowed_macro(rest: &[u8]) -> Option<BorrowedArgument<'_>>
     ensures argument { option_map argument_from result ≡ macro_of rest.now }
     ensures text { is_text rest.now ≡ true → IfSome result HasText }

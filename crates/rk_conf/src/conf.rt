@@ -38,7 +38,7 @@ impl Conf {
     ///
     /// Refusals: the first line that breaks a rule, with the first rule that it breaks, in the order `TooLong`, `BadByte`,
     /// `TooFewFields`, `ProgNotAbsolute`, `BadMacro`. `NoMemory` comes only for a text in which no line breaks one.
-    /// Blank lines and lines that begin with `#` behind white space are counted, and not read.
+    /// Blank lines and lines that begin with `#` after white space are counted, and not read.
     pub fn read(alloc: Global, text: &[u8]) -> Result<Conf, ConfFault>
         ensures ok { OnOk result (faults_in text.now ≡ []) }
         ensures lines { IfOk result (λ conf. conf ≡ lines_in text.now) }
@@ -110,7 +110,7 @@ fn no_memory(line: usize) -> ConfFault
     }
 }
 
-/// A blank line, or one whose first byte behind white space is `#`.
+/// A blank line, or one whose first byte after white space is `#`.
 fn is_comment(line: &[u8]) -> bool
     ensures { result ≡ is_comment (fields_of line.now) }
 {

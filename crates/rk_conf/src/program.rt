@@ -1,4 +1,4 @@
-//! The program of a line and what stands behind it.
+//! The program of a line and what follows it.
 ghost use Rattle.std.specs.Prelude.{◌≡◌, true};
 ghost use Rattle.std.specs.List.{list_any};
 ghost use Rattle.rk_text.specs.Text.{is_text, begins_with};

@@ -68,11 +68,11 @@ pub struct Settings<'a> {
 }
 
 impl<'a> Settings<'a> {
-    /// The settings that the words say: options with their values, as `--clients 2` or `--clients=2`, in any order. `None` for a usage error: a name has no value,
-    /// is unknown or there twice, a path is missing, or a value is no number within its bounds. `--negative` (60) and `--clients` (0) are
-    /// decimal digits up to 4294967295, `--sessions` (64) from 1 to 64, and `--mode` (600) octal digits up to 777; none has a sign. `--keyutils` is an
-    /// absolute path without a space or a colon, and there is none unless it is given; neither is there a `--record`. `--until-eof` is a flag. `--log` is
-    /// `error`, `warn`, `info` or `debug` (`warn`), and `--idle` (0), `--slow` (60) and `--status` (0) are seconds up to 4294967295.
+    /// The settings that the words say: options with their values, as `--clients 2` or `--clients=2`, in any order. `None` for a usage error: a name has no
+    /// value, is unknown or there twice, a path is missing, or a value is no number within its bounds. `--negative` (60) and `--clients` (0) are decimal
+    /// digits up to 4294967295, `--sessions` (64) from 1 to 64, and `--mode` (600) octal digits up to 777; none has a sign. `--keyutils` is an absolute path
+    /// without a space or a colon, and there is none unless it is given; neither is there a `--record`. `--until-eof` is a flag. `--log` is `error`, `warn`,
+    /// `info` or `debug` (`warn`), and `--idle` (0), `--slow` (60) and `--status` (0) are seconds up to 4294967295.
     pub fn read(words: &'a [String]) -> Option<Settings<'a>>
         ensures { option_map set_by result ≡ settings_said (map string_bytes words.now) }
     {

@@ -10,7 +10,7 @@ pub data Call : Type 0 where
   Waited : Call
   Failed : FrameFault → Call
 
--- a piece goes behind the old bytes. A body was in the frame at their front, and the new ones are behind it. The others find no whole frame there,
+-- a piece goes after the old bytes. A body was in the frame at their front, and the new ones are after it. The others find no whole frame there,
 -- and change nothing
 abbrev pub Makes : Call → List ℕ → List ℕ → Type 0
 Makes (Fed piece) old new = new ≡ old ++ piece

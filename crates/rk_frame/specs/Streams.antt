@@ -3,7 +3,7 @@ use Rattle.std.specs.Prelude.{◌≡◌, ℕ, List, ◌++◌, Some, None}
 use Rattle.rk_frame.specs.declared.fault.FrameFault.{FrameFault}
 use Rattle.rk_frame.specs.Framing.{IsBody, frame, HasNoFrame, fault_of}
 
--- the next body of the stream, which goes on behind it
+-- the next body of the stream, which goes on after it
 pub record TakesBody (body : List ℕ) (old new : List ℕ) : Type 0 where
   pub is_body : IsBody body
   pub front : old ≡ frame body ++ new

@@ -3,7 +3,7 @@
 ghost use Rattle.std.specs.Prelude.{◌≡◌, ◌<◌, ◌≤◌, ◌+◌, ◌-◌, ◌↔◌, drop, vec_len, vec_capacity, IsTrue};
 ghost use Rattle.rk_frame.specs.Move.{IsWorthMoving};
 
-/// Takes the first `count` bytes away. Each byte behind them is moved once, and none if `count`
+/// Takes the first `count` bytes away. Each byte after them is moved once, and none if `count`
 /// is 0.
 pub fn drop_front(bytes: &mut Vec<u8>, count: usize)
     requires { count ≤ vec_len bytes.old }
@@ -16,7 +16,7 @@ pub fn drop_front(bytes: &mut Vec<u8>, count: usize)
     }
 }
 
-/// Whether `more` bytes find no room behind the others, but do once the first `taken` are away, and
+/// Whether `more` bytes find no room after the others, but do once the first `taken` are away, and
 /// those are at least half of all. So each byte that moves is paid by one that was handed out.
 pub fn is_worth_moving(bytes: &Vec<u8>, taken: usize, more: usize) -> bool
     requires { taken ≤ vec_len bytes.now }

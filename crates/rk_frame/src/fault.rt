@@ -2,7 +2,7 @@
 
 use thiserror::Error;
 
-/// A length that no frame has. No frame can be found behind it, so it is answered from then on.
+/// A length that no frame has. No frame can be found after it, so it is answered from then on.
 #[derive(Clone, Copy, Debug, PartialEq, Eq, Error)]
 pub enum FrameFault {
     /// The length is greater than [`MAX_BODY`](crate::MAX_BODY).

@@ -12,7 +12,7 @@
 //! However the stream was cut into pieces, and whenever the bodies were asked for, `next` hands out
 //! the bodies of that list and nothing else. It answers [`Next::More`] or a fault exactly if no
 //! body of the stream so far is left. A length of 0 or above 65,536 is a fault once its four bytes
-//! are there. It is answered after all bodies in front of it, and from then on for good.
+//! are there. It is answered after all bodies before it, and from then on for good.
 //!
 //! `next` takes no memory. After `More` less than one frame is held, at most 65,539 bytes, and a
 //! piece of at most 4,096 bytes finds its room made before. A failed allocation changes nothing.
@@ -21,7 +21,7 @@
 //!
 //! Make a `Frames`, and ask for `next` until it answers `More`: each `Whole(body)` lends a body until
 //! the next call. Then read a piece and `feed` it, and ask again. If it answers `Fault`, no frame
-//! can be found behind it any more, so the stream is at its end. Fed the bytes `00 00 00 02 68 69
+//! can be found after it any more, so the stream is at its end. Fed the bytes `00 00 00 02 68 69
 //! 00`, it answers `Whole(b"hi")` and then `More`, and `held` says 1.
 //!
 //! # How it is built
@@ -56,5 +56,5 @@ pub const MAX_BODY: usize = 65_536;
 pub const MAX_PIECE: usize = 4_096;
 
 /// The bytes that [`Frames::new`] reserves: a frame that lacks one byte, of 65,539 bytes, and the
-/// longest piece behind it.
+/// longest piece after it.
 pub const RESERVED: usize = 69_635;

@@ -57,6 +57,6 @@ star_then text tail n = (
   λ s. (tail_is_read (star ∷ tail) text (star ∷ []) tail s.0 refl n s.1).1 (star_fits_everything s.0),
 )
 
--- the part after the first `*`, cut once more behind its last `*`
+-- the part after the first `*`, cut once more after its last `*`
 pub cut_behind : (rest middle tail : List ℕ) → rest ≡ middle ++ star ∷ tail → star ∷ rest ≡ (star ∷ middle ++ star ∷ []) ++ tail
 cut_behind rest middle tail e = ap (λ (x : List ℕ). star ∷ x) (e ∙ sym (append_assoc middle (star ∷ []) tail))

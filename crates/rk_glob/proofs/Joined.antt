@@ -6,7 +6,7 @@ use Rattle.rk_glob.specs.Wildcard.{star, Fits}
 use Rattle.rk_glob.specs.Laws.{PlainFitsItselfAlone, StarFitsEverything, JoinedFitJoined}
 use Rattle.rk_glob.proofs.Bytes.{Takes, Consumes, NoStar, Consumes-plain, Consumes-star, Consumes-from_Fits, Fits-from_Consumes}
 
--- what is put behind the text stays behind what is left of it
+-- what is put after the text stays after what is left of it
 Takes-behind : (c : ℕ) (t r more : List ℕ) → Takes c t r → Takes c (t ++ more) (r ++ more)
 Takes-behind c t r more (inl s) = inl (s.0, (s.1.0, ap (λ (x : List ℕ). x ++ more) s.1.1 ∙ append_assoc s.1.0 r more))
 Takes-behind c t r more (inr s) = inr (s.0, ap (λ (x : List ℕ). x ++ more) s.1)

@@ -10,7 +10,7 @@ use Rattle.rk_glob.proofs.Scan.{Track, Track-here, Track-next, star_forgets, non
 abbrev pub left_at : List ℕ → ℕ → List ℕ
 left_at middle at = drop at middle ++ star ∷ []
 
--- the whole fits exactly if the last `*` and what is behind it take the text from `from` on, and the bytes since then stand in it
+-- the whole fits exactly if the last `*` and what follows it take the text from `from` on, and the bytes since then stand in it
 pub record Scans (middle text : List ℕ) (after from at reached : ℕ) : Type 0 where
   pub whole : Fits (star ∷ middle ++ star ∷ []) text ↔ Consumes (star ∷ left_at middle after) (drop from text)
   pub track : Track (left_at middle after) (drop from text) (left_at middle at) (drop reached text)
@@ -60,7 +60,7 @@ scans_next middle text after from at reached h k n e s =
       track = Track-next (left_at middle after) (drop from text) (get_or middle at 0) (left_at middle (at + 1)) (drop (reached + 1) text) n (subst P (sym e) (at_both middle text after from at reached h k s));
     }
 
--- after a different byte the scan goes on behind the last `*`, one place later in the text
+-- after a different byte the scan goes on after the last `*`, one place later in the text
 pub scans_retry : (middle text : List ℕ) (after from at reached : ℕ) → at < length middle → reached < length text → from ≤ reached → get_or middle at 0 ≢ star → (get_or middle at 0 ≡ get_or text reached 0 → ⊥)
     → Scans middle text after from at reached → Scans middle text after (from + 1) after (from + 1)
 scans_retry middle text after from at reached h k le n apart s =

@@ -64,7 +64,7 @@ fn cut_at_last(pattern: &[u8]) -> Option<(&[u8], &[u8])>
 
 /// Whether `middle` between two `*` fits the text.
 ///
-/// `after` is the place in `middle` behind the last `*` read, and `from` where that `*` leaves the text for now.
+/// `after` is the place in `middle` after the last `*` read, and `from` where that `*` leaves the text for now.
 /// From there on the bytes of the text were found equal up to `at` and `reached`.
 fn fits_within(middle: &[u8], text: &[u8]) -> bool
     ensures { IsTrue result ↔ Fits (star ∷ middle.now ++ star ∷ []) text.now }
@@ -92,8 +92,8 @@ fn fits_within(middle: &[u8], text: &[u8]) -> bool
 
 /// The laws of patterns, for those who write them; running it does nothing.
 ///
-/// A pattern without `*` fits itself alone. `*` fits every text. Two patterns, one written behind the other, fit
-/// exactly a text that one fits with a text that the other fits behind it.
+/// A pattern without `*` fits itself alone. `*` fits every text. Two patterns, one written after the other, fit
+/// exactly a text that one fits with a text that the other fits after it.
 pub fn laws()
     ensures plain { PlainFitsItselfAlone }
     ensures anything { StarFitsEverything }

@@ -35,7 +35,7 @@ impl Words {
     }
 }
 
-/// A command: the path of a program and the words behind it.
+/// A command: the path of a program and the words after it.
 #[derive(Debug, Drop)]
 pub struct Command {
     /// The path, which begins with `/`.

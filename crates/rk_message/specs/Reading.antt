@@ -92,7 +92,7 @@ message_with (Some ks) op rest = do
   vs ← all_values ks rest
   Ok (record { op = op; values = vs })
 
--- the message of the table with this first byte and these bytes behind it
+-- the message of the table with this first byte and these bytes after it
 unfoldable pub message_behind : Fields → ℕ → List ℕ → Result Message Fault
 message_behind lines op rest = message_with (kinds_of lines op) op rest
 

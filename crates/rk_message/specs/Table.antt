@@ -1,4 +1,4 @@
--- The format: each ask by its op byte, each reply by its kind byte, and the fields behind it.
+-- The format: each ask by its op byte, each reply by its kind byte, and the fields after it.
 use Rattle.std.specs.Prelude.{ℕ, List, [], ◌∷◌, length, map, codes, true, Option, Some, None, is_some, nat_lt, if◌then◌else◌}
 use Rattle.rk_names.specs.declared.errors.Errno.{Errno}
 use Rattle.rk_names.specs.declared.errors.Errno.TheVariants.{Einval}
@@ -97,7 +97,7 @@ field_name field.Seconds = codes "seconds"
 field_name field.Error = codes "error"
 field_name field.Setting = codes "setting"
 
--- the table of asks: the op byte, the name, and the fields behind the byte
+-- the table of asks: the op byte, the name, and the fields after the byte
 abbrev pub ask_line : Op → ℕ × List ℕ × List FieldKind
 ask_line op.Hello = (1, codes "HELLO", field.Uid ∷ field.Gid ∷ field.Flags ∷ field.Join ∷ [])
 ask_line op.Request = (2, codes "REQUEST", field.Type ∷ field.Description ∷ field.Callout ∷ field.Ring ∷ [])
@@ -130,7 +130,7 @@ ops =
     op.Hello ∷ op.Request ∷ op.Assume ∷ op.Instantiate ∷ op.Negate ∷ op.Reject ∷ op.Read ∷ op.Describe ∷ op.Revoke ∷ op.Timeout ∷ op.Link ∷ op.Unlink
     ∷ op.Clear ∷ op.Default ∷ op.Add ∷ op.Callout ∷ []
 
--- the first bytes of asks, and the kinds of the fields behind each
+-- the first bytes of asks, and the kinds of the fields after each
 abbrev pub asks : Fields
 asks = map (λ o. (op_byte o, map form (ask_fields o))) ops
 

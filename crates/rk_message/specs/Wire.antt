@@ -20,12 +20,12 @@ pub data Kind : Type 0 where
   Block : (List ℕ → Option Errno) → Kind
   Optional : (List ℕ → Option Errno) → Kind
 
--- a first byte, which says what the message is, and the fields behind it
+-- a first byte, which says what the message is, and the fields after it
 pub record Message : Type 0 where
   pub op : ℕ
   pub values : List Value
 
--- bytes behind their length
+-- bytes with their length before them
 abbrev pub block : List ℕ → List ℕ
 block bytes = to_be_bytes w16 (length bytes) ++ bytes
 
@@ -62,11 +62,11 @@ AreValues [] [] = Unit {0}
 AreValues (k ∷ ks) (v ∷ vs) = IsValue k v × AreValues ks vs
 AreValues _ _ = ⊥
 
--- a table: first bytes, and the kinds of the fields behind each
+-- a table: first bytes, and the kinds of the fields after each
 abbrev pub Fields : Type 0
 Fields = List (ℕ × List Kind)
 
--- the kinds behind a first byte, if the table has it
+-- the kinds after a first byte, if the table has it
 abbrev pub kinds_of : Fields → ℕ → Option (List Kind)
 kinds_of [] op = None
 kinds_of (line ∷ lines) op = if op == line.0 then Some line.1 else kinds_of lines op

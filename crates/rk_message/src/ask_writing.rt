@@ -48,7 +48,7 @@ impl Ask {
 }
 
 impl<'a> AskView<'a> {
-    /// The op byte and the fields behind it.
+    /// The op byte and the fields after it.
     fn spelled(&self) -> Spelling<'a>
         ensures bytes { all_bytes result ≡ spelling (ask_message self.now) }
         ensures told { AreTold result }
@@ -172,7 +172,7 @@ fn failed<'a>(error: KeyError) -> Field<'a>
     Field::Word(u32::from(error.errno().number()))
 }
 
-/// A type behind its length.
+/// A type with its length before it.
 fn typed<'a>(name: &TypeView<'a>) -> Field<'a>
     ensures bytes { field_bytes result ≡ spelled (Blob name.now) }
     ensures told { IsTold result }
@@ -181,7 +181,7 @@ fn typed<'a>(name: &TypeView<'a>) -> Field<'a>
     Field::Block(name.as_bytes())
 }
 
-/// A description behind its length.
+/// A description with its length before it.
 fn described<'a>(name: &DescriptionView<'a>) -> Field<'a>
     ensures bytes { field_bytes result ≡ spelled (Blob name.now) }
     ensures told { IsTold result }
@@ -190,7 +190,7 @@ fn described<'a>(name: &DescriptionView<'a>) -> Field<'a>
     Field::Block(name.as_bytes())
 }
 
-/// A payload behind its length.
+/// A payload with its length before it.
 fn held<'a>(payload: &PayloadView<'a>) -> Field<'a>
     ensures bytes { field_bytes result ≡ spelled (Blob payload.now) }
     ensures told { IsTold result }

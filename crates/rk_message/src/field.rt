@@ -16,7 +16,7 @@ use rk_names::{CalloutView, DescriptionView, Errno, KeyError, PayloadView, TypeV
 
 const INVALID: Fault = Fault::Bad(Errno::Einval);
 
-/// Nothing is left behind the last field.
+/// Nothing is left after the last field.
 pub fn end(rest: &[u8]) -> Result<(), Fault>
     ensures { result ≡ (if length rest.now == 0 then Ok tt else Err trailing) }
 {
@@ -164,7 +164,7 @@ fn callout_text(bytes: &[u8]) -> Result<(CalloutView<'_>, &[u8]), Fault>
     }
 }
 
-/// A callout behind a byte 1, or a byte 0 for none; still borrowed.
+/// A callout after a byte 1, or a byte 0 for none; still borrowed.
 #[tactic(auto, unfolding(crate::specs::Reading::value_at))]
 pub fn callout(bytes: &[u8]) -> Result<(Option<CalloutView<'_>>, &[u8]), Fault>
     ensures { Reads (λ x. (Maybe x.0, x.1.now)) result (value_at callout bytes.now) }

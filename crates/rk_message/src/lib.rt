@@ -4,8 +4,8 @@
 //!
 //! A session sends an [`Ask`] as the body of a frame and gets a [`Reply`] as the body of another. A
 //! body is a first byte, which says what the message is, and then fields. A number has one or four
-//! bytes with the highest first, `i32` in two's complement. Texts and payloads stand behind their
-//! length of two bytes, a callout behind a byte 0 (none) or 1. Each ask and each reply has one
+//! bytes with the highest first, `i32` in two's complement. Texts and payloads stand after their
+//! length of two bytes, a callout after a byte 0 (none) or 1. Each ask and each reply has one
 //! spelling, and each body has at most one reading.
 //!
 //! # Reading and writing
@@ -20,7 +20,7 @@
 //! and takes no memory. An [`AskStep`] borrows its names and owns its payload: that is what a step takes, since the payload becomes a key's.
 //! `AskView::read(body)` and `AskStep::read(alloc, body)` read as `Ask::read` does, and `to_owned`, `to_step` and `view` lead from one to another.
 //!
-//! To write a reply behind its length into one buffer, ask `body_len` for the length and call `write_into`, which
+//! To write a reply with its length before it into one buffer, ask `body_len` for the length and call `write_into`, which
 //! reserves once and then appends. `Reply::refusal(errno)` is the body of a refusal and takes no
 //! memory, so that ENOMEM can always be answered.
 //!

@@ -53,15 +53,15 @@ pub enum FieldKind {
     Flags,
     /// The session ring to join: a `u32`, 0 for a new one, at most 2,147,483,647.
     Join,
-    /// A type: a text of 1 to 31 bytes behind its length, the first no dot.
+    /// A type: a text of 1 to 31 bytes after its length, the first no dot.
     Type,
-    /// A description: a text of 1 to 4,095 bytes behind its length.
+    /// A description: a text of 1 to 4,095 bytes after its length.
     Description,
-    /// The callout for the handler: a byte 0 for none, or a byte 1 and a text of at most 4,095 bytes behind its length.
+    /// The callout for the handler: a byte 0 for none, or a byte 1 and a text of at most 4,095 bytes after its length.
     Callout,
     /// A key, by its serial or its role: an `i32`.
     Key,
-    /// What a key holds: 1 to 32,767 bytes behind their length.
+    /// What a key holds: 1 to 32,767 bytes with their length before them.
     Payload,
     /// A ring, by its serial or its role: an `i32`.
     Ring,
@@ -96,7 +96,7 @@ impl FieldKind {
     }
 }
 
-/// A line of the table: the name of an ask, and the fields behind its op byte in their order.
+/// A line of the table: the name of an ask, and the fields after its op byte in their order.
 #[derive(Clone, Copy, Debug, PartialEq, Eq)]
 pub struct AskShape {
     /// What it asks.

@@ -13,7 +13,7 @@ pub enum Field<'a> {
     Word(u32),
     /// Four bytes, in two's complement.
     Signed(i32),
-    /// Bytes behind their length.
+    /// Bytes with their length before them.
     Block(&'a [u8]),
     /// A byte 0 for none, or a byte 1 before the bytes.
     Optional(Option<&'a [u8]>),
@@ -26,7 +26,7 @@ pub enum Field<'a> {
 pub struct Spelling<'a> {
     /// What the message is.
     pub op: u8,
-    /// What stands behind it; the absent ones come last.
+    /// What follows it; the absent ones come last.
     pub fields: (Field<'a>, Field<'a>, Field<'a>, Field<'a>),
 }
 
@@ -91,7 +91,7 @@ fn put_field(out: &mut Vec<u8>, field: Field<'_>)
     }
 }
 
-/// Bytes behind their length.
+/// Bytes with their length before them.
 fn put_block(out: &mut Vec<u8>, bytes: &[u8])
     requires told { length bytes.now < 2 ^ 16 }
     requires room { vec_len out.old + length (block bytes.now) ≤ vec_capacity out.old }

@@ -120,11 +120,11 @@ module _ (name : List ℕ) (found : Option (List ℕ)) (g : Given) (whole option
   takes : answer ≡ going_on (taken name found g) (value_in name options)
   takes = sofar ∙ ap (λ o. with_found found (value_in name o)) parts ∙ step name found g options _ refl
 
-  -- what is found behind an option that was taken
+  -- what is found after an option that was taken
   pub behind : (found' : Option (List ℕ)) → Some found' ≡ taken name found g → answer ≡ with_found found' (value_in name options)
   behind found' t = takes ∙ ap (λ r. going_on r (value_in name options)) (sym t)
 
-  -- there is no answer behind a second option of the name
+  -- there is no answer after a second option of the name
   pub given_up : None ≡ taken name found g → None ≡ answer
   given_up t = sym (takes ∙ ap (λ r. going_on r (value_in name options)) (sym t))
 

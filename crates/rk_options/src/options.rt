@@ -14,7 +14,7 @@ pub struct Options<'a> {
     pub flags: &'a [&'a str],
 }
 
-/// An option, and the words behind it.
+/// An option, and the words after it.
 #[derive(Clone, Copy)]
 struct Found<'a> {
     /// Its name, with the dashes.

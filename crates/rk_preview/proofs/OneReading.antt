@@ -37,7 +37,7 @@ no_slash b e h = false≢true (subst (λ (x : ℕ). is_shown x ≡ true) h e)
 no_newline : (b : ℕ) → is_shown b ≡ true → b ≡ 10 → ⊥
 no_newline b e h = false≢true (subst (λ (x : ℕ). is_shown x ≡ true) h e)
 
--- the first byte of a text and what is behind it
+-- the first byte of a text and what follows it
 byte_cut : (a b : ℕ) (s t : List ℕ) (p q : Bool) → is_shown a ≡ p → is_shown b ≡ q → a < 256 → b < 256 → byte_text a ++ s ≡ byte_text b ++ t
     → (a ≡ b) × (s ≡ t)
 byte_cut a b s t true true ep eq la lb h = let k : a ∷ s ≡ b ∷ t = rw (plain a ep, plain b eq) at h in (ap first k, ap others k)
@@ -59,7 +59,7 @@ byte_is_no_newline b x t false e h = let k = rw (escaped b e) at h in let n : 10
 behind_byte : (b : ℕ) (w x : List ℕ) → flat_map byte_text (b ∷ w) ++ (10 ∷ x) ≡ byte_text b ++ (flat_map byte_text w ++ (10 ∷ x))
 behind_byte b w x = rw (flat_map-cons byte_text b w) (append_assoc (byte_text b) (flat_map byte_text w) (10 ∷ x))
 
--- the first word of a text and what is behind its newline
+-- the first word of a text and what follows its newline
 word_cut : (w v x y : List ℕ) → IsBytes w → IsBytes v → flat_map byte_text w ++ (10 ∷ x) ≡ flat_map byte_text v ++ (10 ∷ y) → (w ≡ v) × (x ≡ y)
 word_cut [] [] x y p q h = (refl, ap others h)
 word_cut [] (b ∷ v) x y p q h = absurd (byte_is_no_newline b x _ _ refl (h ∙ behind_byte b v y))

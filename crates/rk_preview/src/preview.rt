@@ -81,7 +81,7 @@ impl<'a> Preview<'a> {
     }
 }
 
-/// The words behind `check`.
+/// The words after `check`.
 fn check<'a>(words: &'a [String]) -> Option<Preview<'a>>
     ensures { option_map asked_by result ≡ checked_in (options_of [] (map string_bytes words.now)) }
 {
@@ -92,7 +92,7 @@ fn check<'a>(words: &'a [String]) -> Option<Preview<'a>>
     Some(Preview::Check(options.value_of("--conf")??))
 }
 
-/// The words behind `pick`.
+/// The words after `pick`.
 fn pick<'a>(alloc: Global, words: &'a [String]) -> Result<Option<Preview<'a>>, AllocError>
     ensures said { IfOk result (λ r. option_map asked_by r ≡ pick_said (map string_bytes words.now)) }
     ensures memory { OnErr result (IsSome (pick_said (map string_bytes words.now))) }

@@ -66,7 +66,7 @@ same_joined f g (x ∷ xs) (y ∷ ys) e =
 
 -- ---- a volume in the midst of others
 
--- a list, cut before and behind one of its elements
+-- a list, cut before and after one of its elements
 pub cut_at : (vs : List Stored) (i : ℕ) (v : Stored) → i < length vs → v ≡ get_or vs i v → vs ≡ take i vs ++ (v ∷ drop (i + 1) vs)
 cut_at vs i v lt at =
     sym (take-append-drop i vs) ∙ ap (λ (x : List Stored). take i vs ++ x) (drop_more vs i v lt ∙ ap (λ (x : Stored). x ∷ drop (i + 1) vs) (sym at))

@@ -39,7 +39,7 @@ unfoldable pub AreChained : Option (List ℕ) → List Stored → Type 0
 AreChained link [] = Unit {0}
 AreChained link (v ∷ vs) = IsTied link v × AreChained (link_of v) vs
 
--- what a volume behind them would have to say
+-- what a volume after them would have to say
 unfoldable pub last_link : Option (List ℕ) → List Stored → Option (List ℕ)
 last_link link [] = link
 last_link link (v ∷ vs) = last_link (link_of v) vs

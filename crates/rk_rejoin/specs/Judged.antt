@@ -28,7 +28,7 @@ of_hall h vs = filter (λ v. hall_number v.head.hall == hall_number h) vs
 abbrev pub joined : HallNo → List Stored → List Recorded
 joined h vs = flat_map steps_of (of_hall h vs)
 
--- behind so many volumes with so many steps, each volume has the next index, and as many steps before it as there are
+-- after so many volumes with so many steps, each volume has the next index, and as many steps before it as there are
 unfoldable pub AreNext : ℕ → ℕ → List Stored → Type 0
 AreNext index before [] = Unit {0}
 AreNext index before (v ∷ vs) = (v.head.index ≡ index + 1) × (v.head.before ≡ before) × AreNext (index + 1) (before + length (steps_of v)) vs

@@ -28,7 +28,7 @@ pub(crate) fn chain_of_hall(hall: HallNo, volumes: &[Stored]) -> Result<bool, Ve
     Ok(link.is_none())
 }
 
-/// What the volume behind this one has to say of it, and nothing where it closes the record; where this one says so much of the one before it.
+/// What the volume after this one has to say of it, and nothing where it closes the record; where this one says so much of the one before it.
 fn next(link: Option<Sum>, volume: &Stored) -> Result<Option<Sum>, Verdict>
     ensures tied { IfOk result (λ next. IsTied link volume.now × (next ≡ link_of volume.now)) }
     ensures refused { IfErr result (λ f. IsUntied link volume.now f) }

@@ -9,7 +9,7 @@
 //!
 //! An `Ok` of `judge` says of each hall that its volumes are all there up to the last one that is handed in, each once and in order, that all are of one
 //! run and each says which sum the one before it has, and that their steps, joined, are a run from the empty world on, which obeys the laws of every run.
-//! That no volume came behind the last one it says where the records are closed, all of them. A [`Verdict`] names the hall and the volume, and the step
+//! That no volume came after the last one it says where the records are closed, all of them. A [`Verdict`] names the hall and the volume, and the step
 //! where one is answered otherwise.
 //!
 //! # How it is built

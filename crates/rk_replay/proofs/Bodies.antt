@@ -1,4 +1,4 @@
--- The lines behind a script's head, played one after the other, and a whole script.
+-- The lines after a script's head, played one after the other, and a whole script.
 use Rattle.std.proofs.Common.{◌≡◌, ℕ, ◌+◌, List, [], ◌∷◌, ◌++◌, map, Option, Some, None, refl, sym, ap, ◌∙◌, subst, append_assoc}
 use Rattle.std.proofs.lemmas.List.{append-nil}
 use Rattle.rk_conf.specs.declared.line.Line.{Line}

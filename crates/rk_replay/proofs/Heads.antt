@@ -1,4 +1,4 @@
--- What a script says, from its head and what is behind it.
+-- What a script says, from its head and what follows it.
 use Rattle.std.proofs.Common.{◌≡◌, ℕ, suc, ◌+◌, List, [], ◌∷◌, ◌++◌, length, take, map, Bool, true, false, not, refl, sym, ap, ◌∙◌, arith}
 use Rattle.std.proofs.Common.{append_assoc, Option, Some, None}
 use Rattle.std.specs.List.{flat_map, filter_map, list_all, prefix_len}
@@ -25,12 +25,12 @@ abbrev happens_first : List ScriptLine → Bool
 happens_first [] = true
 happens_first (r ∷ rs) = happens r
 
--- what is behind the head is nothing, or begins with a happening
+-- what follows the head is nothing, or begins with a happening
 pub from_first : (first : Option First) → happens_first (readings_from first) ≡ true
 from_first None = refl
 from_first (Some first) = refl
 
--- ---- one behind the other
+-- ---- one after the other
 
 pub said_head : (lines rest : List ScriptLine) → Quiet lines → said_by (lines ++ rest) ≡ lines ++ said_by rest
 said_head [] rest q = refl
@@ -52,7 +52,7 @@ said_rest (Happens now h ∷ rs) e = refl
 pub said_parts : (lines rest : List ScriptLine) → Quiet lines → happens_first rest ≡ true → said_by (lines ++ rest) ≡ lines ++ map said_late rest
 said_parts lines rest q e = said_head lines rest q ∙ ap (λ (xs : List ScriptLine). lines ++ xs) (said_rest rest e)
 
--- ---- what is behind the head sets nothing
+-- ---- what follows the head sets nothing
 
 no_conf : (rs : List ScriptLine) → filter_map conf_in (map said_late rs) ≡ []
 no_conf [] = refl
@@ -70,7 +70,7 @@ no_seconds (Negative n ∷ rs) = no_seconds rs
 no_seconds (Wrong ∷ rs) = no_seconds rs
 no_seconds (Happens now h ∷ rs) = no_seconds rs
 
--- the lines of the head, and then those behind it as they are said there
+-- the lines of the head, and then those after it as they are said there
 abbrev pub parts : List ScriptLine → List ScriptLine → List ScriptLine
 parts lines rest = lines ++ map said_late rest
 
@@ -100,12 +100,12 @@ quiet_happenings (Negative n ∷ rs) q = quiet_happenings rs q
 quiet_happenings (Wrong ∷ rs) q = quiet_happenings rs q
 quiet_happenings (Happens now h ∷ rs) q = absurd (cc)
 
--- the happenings of a script are those behind its head
+-- the happenings of a script are those after its head
 pub happenings_parts : (lines rest : List ScriptLine) → Quiet lines → happenings_of (parts lines rest) ≡ happenings_of (map said_late rest)
 happenings_parts lines rest q = filter_map-append happening_in lines (map said_late rest)
     ∙ ap (λ (hs : List (ℕ × Happening)). hs ++ happenings_of (map said_late rest)) (quiet_happenings lines q)
 
--- the text of a script is that of its head and then that of what is behind it
+-- the text of a script is that of its head and then that of what follows it
 pub text_parts : (number : ℕ) (lines rest : List ScriptLine) (told : List (Option (List Output))) → Quiet lines
     → text_from number (lines ++ rest) told ≡ text_from number lines [] ++ text_from (number + length lines) rest told
 text_parts number [] rest told q = ap (λ (n : ℕ). text_from n rest told) (omega arith)

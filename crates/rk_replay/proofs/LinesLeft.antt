@@ -7,7 +7,7 @@ use Rattle.rk_replay.specs.Reading.{reading_of}
 use Rattle.rk_replay.specs.declared.playing.First.{First}
 use Rattle.rk_replay.specs.Playing.{readings_left, bytes_left, bytes_from}
 
--- a line that is cut off is read, and then the lines behind it
+-- a line that is cut off is read, and then the lines after it
 pub line_cut : (text line : List ℕ) (after : Option (Bor (List ℕ)))
     → MatchOption after (lines_of text ≡ line ∷ []) (λ rest. lines_of text ≡ line ∷ lines_of rest.now)
     → map reading_of (lines_of text) ≡ reading_of line ∷ readings_left after
@@ -20,7 +20,7 @@ pub number_fits : (text : List ℕ) (after : Option (Bor (List ℕ))) (number : 
 number_fits text None number shorter few = omega arith
 number_fits text (Some rest) number shorter few = omega arith
 
--- the number of the line after the first happening and the bytes behind it fit in 64 bits together
+-- the number of the line after the first happening and the bytes after it fit in 64 bits together
 pub number_follows : (number : ℕ) (first : First) → number + bytes_from (Some first) < 2 ^ 64 → number + 1 + bytes_left first.rest < 2 ^ 64
 number_follows number first few = omega arith
 

@@ -9,7 +9,7 @@ abbrev pub ◌>>=◌ : {A B : Type 0} → Option A → (A → Option B) → Opti
 (Some x) >>= f = f x
 None >>= f = None
 
--- the first field, and the fields behind it
+-- the first field, and the fields after it
 abbrev pub first_as : {A : Type 0} → (List ℕ → Option A) → List (List ℕ) → Option (A × List (List ℕ))
 first_as read [] = None
 first_as read (field ∷ fields) = option_map (λ x. (x, fields)) (read field)

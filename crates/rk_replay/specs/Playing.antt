@@ -1,4 +1,4 @@
--- How a script is played: its head, one line behind it, and all of them.
+-- How a script is played: its head, one line after it, and all of them.
 use Rattle.std.specs.Prelude.{◌≡◌, ℕ, ◌+◌, suc, List, [], ◌∷◌, ◌++◌, map, length, not, true, Option, Some, None}
 use Rattle.std.specs.Borrow.{Bor}
 use Rattle.std.specs.List.{flat_map, filter_map, list_all}
@@ -51,7 +51,7 @@ pub record IsHead (input : List ℕ) (head : Head) (text : List ℕ) : Type 0 wh
   pub negative : head.settings.negative ≡ last_of 60 (filter_map seconds_in lines)
   pub text_is : text ≡ text_from 1 lines []
 
--- ---- what is behind it
+-- ---- what follows it
 
 -- the line changes nothing, and is written to be none
 abbrev pub Refuses : ℕ → Left → List ℕ → Left → List ℕ → Type 0

@@ -30,7 +30,7 @@ ending_of fields = do
   how ← how_of key.1
   Some (happening.HandlerEnded key.0 how)
 
--- what happens, by the verb and the fields behind it
+-- what happens, by the verb and the fields after it
 abbrev pub happening_by : Verb → List (List ℕ) → Option Happening
 happening_by verb.Accept fields = option_map happening.Accept (sole client_of fields)
 happening_by verb.Bytes fields = both client_of bytes_of happening.Bytes fields
@@ -42,7 +42,7 @@ happening_by verb.OutFault fields = option_map happening.HandlerReadFault (sole 
 happening_by verb.Ended fields = ending_of fields
 happening_by verb.WaitFault fields = option_map happening.WaitFault (sole key_of fields)
 
--- the same by the word behind the moment
+-- the same by the word after the moment
 abbrev pub happening_of : List ℕ → List (List ℕ) → Option Happening
 happening_of word fields = option_and_then (λ v. happening_by v fields) (verb_of word)
 
@@ -59,7 +59,7 @@ abbrev pub told_by : List (List ℕ) → Option ScriptLine
 told_by [] = Some Blank
 told_by (word ∷ fields) = if bytes_eq word (codes "negative") then option_map Negative (sole seconds_of fields) else event_of (word ∷ fields)
 
--- the text of a configuration line: all that is behind `conf` and one space
+-- the text of a configuration line: all that is after `conf` and one space
 abbrev pub conf_text : List ℕ → Option (List ℕ)
 conf_text line = let rest = past_space line in if bytes_eq (take 5 rest) (codes "conf ") then Some (drop 5 rest) else None
 

@@ -17,7 +17,7 @@ happens (Negative n) = false
 happens (Happens now h) = true
 happens Wrong = false
 
--- behind the first happening nothing can be set any more
+-- after the first happening nothing can be set any more
 abbrev pub said_late : ScriptLine → ScriptLine
 said_late Blank = Blank
 said_late (Conf text) = Wrong
@@ -25,7 +25,7 @@ said_late (Negative n) = Wrong
 said_late (Happens now h) = Happens now h
 said_late Wrong = Wrong
 
--- what the lines say one behind the other, by what each says alone
+-- what the lines say one after the other, by what each says alone
 abbrev pub said_by : List ScriptLine → List ScriptLine
 said_by [] = []
 said_by (r ∷ rs) = r ∷ (if happens r then map said_late rs else said_by rs)

@@ -3,7 +3,7 @@ use Rattle.std.specs.Prelude.{ℕ, List}
 use Rattle.rk_text.specs.declared.space.Space.TheVariants as space
 use Rattle.rk_text.specs.Text as text
 
--- what is behind leading spaces and tabs
+-- what follows leading spaces and tabs
 abbrev pub past_space : List ℕ → List ℕ
 past_space line = text.past_space space.Blank line
 

@@ -20,7 +20,7 @@ is_plain b = nat_le 33 b && nat_le b 126 && not (b == 37)
 abbrev pub byte_text : ℕ → List ℕ
 byte_text b = if is_plain b then b ∷ [] else 37 ∷ slice_index upper_digits (b / 16) ∷ slice_index upper_digits (b % 16) ∷ []
 
--- a word behind a space and `=`
+-- a word after a space and `=`
 abbrev pub word_text : List ℕ → List ℕ
 word_text word = codes " =" ++ flat_map byte_text word
 

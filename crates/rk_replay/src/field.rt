@@ -1,4 +1,4 @@
-//! The first of the fields of a line: what it says, and the fields behind it.
+//! The first of the fields of a line: what it says, and the fields after it.
 ghost use Rattle.std.specs.Prelude.{◌≡◌, ◌≤◌, Some, IfOk};
 ghost use Rattle.std.specs.Str.{bytes_eq};
 ghost use Rattle.rk_replay.specs.Text.{fields_of};

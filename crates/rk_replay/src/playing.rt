@@ -25,7 +25,7 @@ pub struct Head<'a> {
     settings: Settings,
     /// The first line on which something happens, if there is one.
     first: Option<First<'a>>,
-    /// The number of that line, or of the line behind the last one.
+    /// The number of that line, or of the line after the last one.
     number: u64,
 }
 
@@ -36,7 +36,7 @@ pub struct First<'a> {
     now: Moment,
     /// What happens then.
     happening: Happening,
-    /// The text behind the line, if there is more.
+    /// The text after the line, if there is more.
     rest: Option<&'a [u8]>,
 }
 
@@ -130,7 +130,7 @@ fn play_body(
     play_from(alloc, &mut replay, head, first, transcript)
 }
 
-/// Plays the first happening and the lines behind it.
+/// Plays the first happening and the lines after it.
 fn play_from(
     alloc: Global,
     replay: &mut Replay,

@@ -53,7 +53,7 @@ impl ScriptLine {
     }
 }
 
-/// The text behind `conf` and one space, if it is such a line. It takes no memory.
+/// The text after `conf` and one space, if it is such a line. It takes no memory.
 fn conf_text(line: &[u8]) -> Option<&[u8]>
     ensures { option_copied result ≡ conf_text line.now }
 {

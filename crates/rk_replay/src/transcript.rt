@@ -153,7 +153,7 @@ fn put_command(text: &mut String, command: &Command) -> Result<(), AllocError>
     Ok(())
 }
 
-/// A word behind a space and `=`.
+/// A word after a space and `=`.
 fn put_word(text: &mut String, word: &Word) -> Result<(), AllocError>
     ensures { OnOk result (string_bytes text.new ≡ string_bytes text.old ++ word_text word.now) }
 {

@@ -13,7 +13,7 @@ use rk_names::Serial;
 use rk_served::{Bytes, Happening, StartResult};
 use std::alloc::Global;
 
-/// What happens, by the word behind the moment and the fields behind that word.
+/// What happens, by the word after the moment and the fields after that word.
 pub fn happening(alloc: Global, word: &[u8], fields: &[u8]) -> Result<Happening, Misread>
     ensures { Gives (λ h. h) result (happening_of word.now (fields_of fields.now)) }
 {

@@ -1,4 +1,4 @@
--- What is behind a place in a list.
+-- What follows a place in a list.
 use Rattle.std.proofs.Common.{◌≡◌, ℕ, zero, suc, ◌+◌, List, [], ◌∷◌, map, drop, sym, ap, ◌∙◌, arith}
 use Rattle.std.proofs.lemmas.List.{drop-map}
 
@@ -8,7 +8,7 @@ one_behind (suc n) [] x more e = absurd (cc)
 one_behind zero (y ∷ ys) x more e = cc
 one_behind (suc n) (y ∷ ys) x more e = one_behind n ys x more e
 
--- what is seen behind the n-th of a list is what is behind it, seen
+-- what is seen after the n-th of a list is what follows it, seen
 pub map_behind : {A B : Type 0} (f : A → B) (n : ℕ) (xs : List A) (x : A) (more : List A) → drop n xs ≡ x ∷ more → map f more ≡ drop (n + 1) (map f xs)
 map_behind f n xs x more e =
     let one : n + 1 ≡ suc n = omega arith in

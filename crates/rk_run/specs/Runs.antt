@@ -103,7 +103,7 @@ pub data Runs (w : Wanted) : List Event → Result ℕ RunFault → Type 0 where
       → w.trap ≡ false → InSession w here socket answer events r
       → Runs w (Looked here ∷ Sought (tool_of w here) true ∷ Greeted socket (hello_of w here) (Ok answer) ∷ events ++ Closed ∷ []) r
 
--- the same, done behind what was done before
+-- the same, done after what was done before
 abbrev pub HasRun : Wanted → Option (List Event) → Option (List Event) → Result ℕ RunFault → Type 0
 HasRun w before after r = (events : List Event) × (after ≡ and_then before events) × Runs w events r
 

@@ -3,7 +3,7 @@ use Rattle.std.specs.Prelude.{◌≡◌, ◌≢◌, ℕ, false, List, [], ◌∷
 use Rattle.rk_run.specs.declared.wanted.Wanted.{Wanted}
 use Rattle.rk_variables.specs.Starts.{Start}
 
--- a library, and behind it what was to be preloaded before; a colon stands between them (ld.so(8))
+-- a library, and after it what was to be preloaded before; a colon stands between them (ld.so(8))
 abbrev pub preloads : List ℕ → Option (List ℕ) → List ℕ
 preloads library None = library
 preloads library (Some []) = library
@@ -31,7 +31,7 @@ pub record IsStart (w : Wanted) (library : List ℕ) (before : Option (List ℕ)
   pub keeps : s.clears ≡ false
   pub folder : s.folder ≡ None
 
--- reqkey-trap, the program at a path, with the socket of the daemon, and behind `--` the program that is wanted with its words; all variables are as they are
+-- reqkey-trap, the program at a path, with the socket of the daemon, and after `--` the program that is wanted with its words; all variables are as they are
 abbrev pub IsTrapped : Wanted → List ℕ → List ℕ → Start → Type 0
 IsTrapped w trap socket s =
     IsCalled trap (codes "--socket" ∷ socket ∷ codes "--" ∷ w.program.now ∷ map string_bytes w.words.now) s

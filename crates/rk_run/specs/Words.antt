@@ -97,12 +97,12 @@ wanted_by options (program ∷ words) = if all_named is_option options then toge
     program words
     else None
 
--- options up to the first `--`, and the program behind it
+-- options up to the first `--`, and the program after it
 abbrev pub behind_run : List (List ℕ) → Option Said
 behind_run words = if list_any is_trap_with_value (before_first is_dashes words) then None
     else wanted_by (options_of flags (before_first is_dashes words)) (after_first is_dashes words)
 
--- the name of the program that is called, `run`, and what is behind it
+-- the name of the program that is called, `run`, and what follows it
 abbrev pub wanted_said : List (List ℕ) → Option Said
 wanted_said [] = None
 wanted_said (name ∷ []) = None

@@ -9,7 +9,7 @@
 //! # What it promises
 //!
 //! Whatever its [`Host`] answers, what is done of it is a run as `specs/Runs.antt` says: HELLO is asked first; the program is started with its own words,
-//! and with exactly the variables of `specs/Starts.antt` besides those that are there; the connection is closed behind the wait for its end, and not
+//! and with exactly the variables of `specs/Starts.antt` besides those that are there; the connection is closed after the wait for its end, and not
 //! before; and what is answered is its status, as a shell tells it, or why there is none. What a host does out there no contract can say: [`System`] is
 //! the one that calls the system.
 //!

@@ -18,7 +18,7 @@ use std::process::Command;
 ///
 /// The socket, the user, the group and the library are those that are named, or else those of the host. Refusals, in this order: `NoMemory`; `Socket`
 /// if none is named; `File` if the library is not there; `Socket` if nobody answers or the answer is none to HELLO; `Refused` if HELLO is;
-/// `NotFound` and `Unstartable` if the program is not started, and `Unknown` if its end is not told. The connection is closed behind each.
+/// `NotFound` and `Unstartable` if the program is not started, and `Unknown` if its end is not told. The connection is closed after each.
 ///
 /// If `reqkey-trap` is wanted, it is there in place of the library, and is started with the program; it makes a connection and a session ring itself.
 pub fn run<H: Host>(alloc: Global, host: &mut H, wanted: &Wanted<'_>) -> Result<u8, RunFault>

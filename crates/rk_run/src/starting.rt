@@ -63,7 +63,7 @@ pub fn trapped(
     Ok(command)
 }
 
-/// The library, and behind it what was to be preloaded before.
+/// The library, and after it what was to be preloaded before.
 fn preloads(alloc: Global, library: &str, others: Option<&str>) -> Result<String, AllocError>
     ensures { IfOk result (λ s. string_bytes s ≡ preloads library.now (option_map (λ s. s.now) others.entry)) }
 {

@@ -61,7 +61,7 @@ pub fn told(alloc: Global, path: &str, error: &io::Error) -> Result<String, Allo
     format!(in alloc; "{path}: {reason}")
 }
 
-/// The words of an error of the system, without its number behind them.
+/// The words of an error of the system, without its number after them.
 fn without_number(text: &str) -> &str {
     match text.split_once(" (os error ") {
         Some((words, _)) => words,
@@ -99,7 +99,7 @@ fn installed<R: Files + AllocGlobal>(rt: &R, file: &str) -> Result<String, Alloc
     Ok(path)
 }
 
-/// What is in front of the last two parts of a path.
+/// What is before the last two parts of a path.
 fn prefix_of(path: &str) -> &str {
     match path.rsplit_once('/') {
         Some((folder, _)) => match folder.rsplit_once('/') {

@@ -32,7 +32,7 @@ const OPTIONS: [&str; 5] = ["--socket", "--uid", "--gid", "--library", "--trap"]
 
 impl<'a> Wanted<'a> {
     /// What the words say, of which the first is the name of the program that is called and the second `run`: options, each at most once, as `--uid 5` or
-    /// `--uid=5`, and behind the first `--` the program and its words, whatever they look like. `None` for a usage error: `--` or the program is
+    /// `--uid=5`, and after the first `--` the program and its words, whatever they look like. `None` for a usage error: `--` or the program is
     /// missing, an option is unknown or there twice, a uid or gid is no number up to 4294967295, the library is no absolute path or has a space or a colon,
     /// or `--trap` has a value or stands beside a uid, a gid or a library, since each process acts for its own user then, by no library.
     pub fn read(words: &'a [String]) -> Option<Wanted<'a>>
@@ -45,7 +45,7 @@ impl<'a> Wanted<'a> {
     }
 }
 
-/// What the words behind `run` say.
+/// What the words after `run` say.
 fn behind_run<'a>(words: &'a [String]) -> Option<Wanted<'a>>
     ensures { option_map said_by result ≡ behind_run (map string_bytes words.now) }
 {
@@ -100,7 +100,7 @@ fn is_trap_with_value(word: &str) -> bool
     }
 }
 
-/// The words up to the first `--`, and those behind it.
+/// The words up to the first `--`, and those after it.
 fn cut<'a>(words: &'a [String]) -> (&'a [String], &'a [String])
     ensures before { map string_bytes result.0.now ≡ before_first is_dashes (map string_bytes words.now) }
     ensures behind { map string_bytes result.1.now ≡ after_first is_dashes (map string_bytes words.now) }

@@ -16,7 +16,7 @@ use Rattle.rk_served.proofs.PeerLists.{both, some_peer}
 
 -- ---- a test that splits a list
 
--- of a list in which none that passes stands behind one that fails
+-- of a list in which none that passes stands after one that fails
 falls : (p : Peer → Bool) (x : Peer) (xs : List Peer) → IsPartitionedBy p (x ∷ xs) → IsPartitionedBy p xs
 falls p x xs h i j d le within pass = h (suc i) (suc j) d (omega arith) (omega arith) pass
 
@@ -47,7 +47,7 @@ all_at p (x ∷ xs) all (suc j) d within = all_at p xs (both (p x) (list_all p x
 
 -- ---- those who come before one
 
--- who comes before one that does not come behind another comes before that one, or they are the same
+-- who comes before one that does not come after another comes before that one, or they are the same
 cuts : (s t u : SessionId) → not (comes_before t s) ≡ true → comes_before t u ≡ true → comes_before s u ≡ true
 cuts (Client l) (Client m) (Client n) e f = grind (arith, nat_tests)
 cuts (Client l) (Client m) (Handler k) e f = refl
@@ -65,7 +65,7 @@ before_splits who (x ∷ xs) order =
     splits (λ x. comes_before x.who who) xs (before_splits who xs parts.1) x
     (λ j d within pass. cuts x.who (get_or xs j d).who who (all_at (λ y. not (comes_before y.who x.who)) xs parts.0 j d within) pass)
 
--- who does not come before another does not come before those behind which that one does not stand
+-- who does not come before another does not come before those after which that one does not stand
 pub behind_splits : (who : SessionId) (xs : List Peer) → are_in_order xs ≡ true → IsPartitionedBy (λ x. not (comes_before who x.who)) xs
 behind_splits who [] order = λ i j d le within pass. absurd (omega arith)
 behind_splits who (x ∷ xs) order =
@@ -109,13 +109,13 @@ neither (Handler j) (Handler k) e f = grind (arith, nat_tests)
 abbrev count : SessionId → List Peer → ℕ
 count who xs = prefix_len (λ y. comes_before y.who who) xs
 
--- behind one who comes before it
+-- after one who comes before it
 next : (who : SessionId) (z : Peer) (zs : List Peer) → comes_before z.who who ≡ true → slice_get zs (count who zs) ≡ slice_get (z ∷ zs) (count who (z ∷ zs))
 next who z zs e =
     let one : suc (count who zs) ≡ 1 + count who zs = omega arith in
     ap (slice_get (z ∷ zs)) one ∙ ap (λ b. slice_get (z ∷ zs) (cond b (1 + count who zs) 0)) (sym e)
 
--- it stands behind all who come before it, if it is there
+-- it stands after all who come before it, if it is there
 pub found_there : (who : SessionId) (xs : List Peer) (x : Peer) → slice_get xs (count who xs) ≡ Some x
     → same_session x.who who ≡ true → peer_of xs who ≡ Some x
 found_there who [] x at same = absurd (cc)
@@ -132,7 +132,7 @@ found_there who (z ∷ zs) x at same = by_test (comes_before z.who who) refl (fo
         let is : z ≡ x = some_peer at' in
         ap (λ b. cond b (Some z) (peer_of zs who)) (ap (λ (y : Peer). same_session y.who who) is ∙ same) ∙ ap (λ (y : Peer). Some y) is
 
--- none is there of those that stand behind one that comes behind this
+-- none is there of those that stand after one that comes after this
 none_behind : (who : SessionId) (z : Peer) (zs : List Peer) → comes_before who z.who ≡ true → list_all (λ y. not (comes_before y.who z.who)) zs ≡ true
     → peer_of zs who ≡ None
 none_behind who z [] before all = refl

@@ -35,7 +35,7 @@ module _ {X : Type 0} where
   pub others_kept : (x : X) (xs ys : List X) → IsPermutation (x ∷ xs) ys → (y : X) → Contains xs y → Contains ys y
   others_kept x xs ys perm y has = Contains-permutation (x ∷ xs) ys y perm (suc has.0, (let h = has.1 in omega arith), has.2)
 
-  -- some were put behind them
+  -- some were put after them
   pub first_kept : (xs ys zs : List X) → IsPermutation (xs ++ ys) zs → (y : X) → Contains xs y → Contains zs y
   first_kept xs ys zs perm y has = Contains-permutation (xs ++ ys) zs y perm (Contains-append_left xs ys y has)
 

@@ -32,7 +32,7 @@ pub before_self : (s : SessionId) → comes_before s s ≡ false
 before_self (Client n) = grind (arith, nat_tests)
 before_self (Handler k) = grind (arith, nat_tests)
 
--- who does not come before one does not come before those that it comes behind
+-- who does not come before one does not come before those that it comes after
 pub not_before : (s t u : SessionId) → comes_before t u ≡ true → not (comes_before s u) ≡ true → not (comes_before s t) ≡ true
 not_before s t u e f = by_test (comes_before s t) refl
   where
@@ -74,7 +74,7 @@ all_set p (z ∷ zs) (suc i) x y at who = ap (λ (b : Bool). p z.who && b) (all_
 
 -- ---- one peer more
 
--- from the first one on that comes behind it, no peer comes before it
+-- from the first one on that comes after it, no peer comes before it
 behind : (who : SessionId) (z : Peer) (zs : List Peer) → comes_before who z.who ≡ true → are_in_order (z ∷ zs) ≡ true
     → list_all (λ x. not (comes_before x.who who)) (z ∷ zs) ≡ true
 behind who z zs e order =
@@ -85,7 +85,7 @@ behind who z zs e order =
 all_inserted : (p : Peer → Bool) (xs : List Peer) (i : ℕ) (y : Peer) → list_all p xs ≡ true → p y ≡ true → list_all p (insert xs i y) ≡ true
 all_inserted p xs i y all own = all_added p (take i xs) (drop i xs) y (ap (list_all p) (take-append-drop i xs) ∙ all) own
 
--- in front of the first that it comes before, or behind all
+-- before the first that it comes before, or after all
 pub order_inserted : (xs : List Peer) (y : Peer) → are_in_order xs ≡ true
     → are_in_order (insert xs (position_or_len (λ x. comes_before y.who x.who) xs) y) ≡ true
 order_inserted [] y order = refl

@@ -309,7 +309,7 @@ module _ (who : SessionId) (old new : Left) (frees : Frees who (IsKeyOf new.worl
     peers = λ P own starts all. subst (All P) (sym same) (all_added P before after _ (subst (All P) others all) (starts k piped m));
   }
 
--- behind a change of its own peer
+-- after a change of its own peer
 moved_then : (who : SessionId) (old mid new : Left) (i : ℕ) (x : Peer) → x.who ≡ who → mid.world ≡ old.world → mid.peers ≡ slice_set old.peers i x
     → Moved who mid new → Moved who old new
 moved_then who old mid new i x is world set m = record {

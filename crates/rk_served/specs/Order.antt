@@ -24,7 +24,7 @@ abbrev pub MovesInOrder : List Line → ℕ → Left → List Part → Left → 
 MovesInOrder conf now old [] new = new ≡ old
 MovesInOrder conf now old (part ∷ parts) new = (mid : Left) × MovesFirst conf now old part mid × MovesInOrder conf now mid parts new
 
--- a happening is served, and the moves behind its own step are made in order
+-- a happening is served, and the moves after its own step are made in order
 pub record ActsInOrder (conf : List Line) (old : Left) (now : ℕ) (h : Happening) (outputs : List Output) (steps : List Past) (new : Left) : Type 0 where
   pub acts : Acts conf old now h outputs steps new
   pub in_order : MovesInOrder conf now acts.begun acts.parts new

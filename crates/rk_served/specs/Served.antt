@@ -16,11 +16,11 @@ pub record Turn : Type 0 where
   pub happening : Happening
   pub outputs : Option (List Output)
 
--- the steps of all parts, those of one part behind those of the other
+-- the steps of all parts, those of one part after those of the other
 abbrev pub steps_of : List Part → List Past
 steps_of parts = flat_map (λ p. p.steps) parts
 
--- what all parts output, that of one part behind that of the other
+-- what all parts output, that of one part after that of the other
 abbrev pub outputs_of : List Part → List Output
 outputs_of parts = flat_map (λ p. p.outputs) parts
 

@@ -12,7 +12,7 @@ comes_before (Client m) (Handler k) = true
 comes_before (Handler j) (Client n) = false
 comes_before (Handler j) (Handler k) = nat_lt j k
 
--- no peer stands behind one that it comes before
+-- no peer stands after one that it comes before
 abbrev pub are_in_order : List Peer → Bool
 are_in_order [] = true
 are_in_order (x ∷ xs) = list_all (λ y. not (comes_before y.who x.who)) xs && are_in_order xs

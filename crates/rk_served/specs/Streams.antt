@@ -19,7 +19,7 @@ lengthened more u = if u.is_shut then u else with_bytes (u.bytes ++ more) u
 abbrev pub closed : Unused → Unused
 closed u = record { bytes = u.bytes; is_shut = true }
 
--- the next body of the stream, which goes on behind it
+-- the next body of the stream, which goes on after it
 pub record Takes (body : List ℕ) (old new : Unused) : Type 0 where
   pub bytes : TakesBody body old.bytes new.bytes
   pub open_still : new.is_shut ≡ old.is_shut

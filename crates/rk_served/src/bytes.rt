@@ -42,7 +42,7 @@ impl Bytes {
         &self.held
     }
 
-    /// Puts more bytes behind them. The only refusal is out of memory, after which they are as they were.
+    /// Puts more bytes after them. The only refusal is out of memory, after which they are as they were.
     pub fn extend(&mut self, more: &[u8]) -> Result<(), AllocError>
         ensures ok { OnOk result (self.new ≡ self.old ++ more.now) }
         ensures err { OnErr result (self.new ≡ self.old) }

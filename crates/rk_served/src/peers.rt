@@ -72,7 +72,7 @@ pub fn index_of(peers: &[Peer], who: &SessionId) -> Option<usize>
     }
 }
 
-/// Where a peer of this one is to stand: in front of the first that it comes before, or behind all. It looks at as many peers as their number can
+/// Where a peer of this one is to stand: before the first that it comes before, or after all. It looks at as many peers as their number can
 /// be halved.
 fn rank(peers: &[Peer], who: &SessionId) -> usize
     requires { are_in_order peers.now ≡ true }

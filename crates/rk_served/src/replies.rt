@@ -12,7 +12,7 @@ use rk_message::Reply;
 use rk_names::SessionId;
 use std::alloc::{AllocError, Global};
 
-/// A reply behind its length.
+/// A reply with its length before it.
 fn reply_frame(alloc: Global, reply: &Reply) -> Result<Bytes, AllocError>
     ensures { IfOk result (λ b. b ≡ frame (spelling (reply_message reply.now))) }
 {

@@ -70,7 +70,7 @@ impl Stream {
         }
     }
 
-    /// The next message, after which the stream goes on behind it. The only refusal is out of memory for an ask.
+    /// The next message; the stream goes on after it. The only refusal is out of memory for an ask.
     pub fn next(&mut self, alloc: Global) -> Result<Message, AllocError>
         ensures { IfOk result (λ m. IsNext m self.old self.new) }
     {
@@ -104,7 +104,7 @@ fn fed(alloc: Global, bytes: &[u8]) -> Result<Frames, AllocError>
     Ok(frames)
 }
 
-/// The next message of some frames, which go on behind it. The only refusal is out of memory for an ask.
+/// The next message of some frames, which go on after it. The only refusal is out of memory for an ask.
 fn next_in(alloc: Global, frames: &mut Frames) -> Result<Message, AllocError>
     ensures { (is_shut : Bool) → IfOk result (λ m. IsNext m (record { bytes = frames.old.bytes; is_shut = is_shut })
         (record { bytes = frames.new.bytes; is_shut = is_shut })) }

@@ -143,7 +143,7 @@ stands_read session seat begun old mid held held' buf standing n size s none le 
     stands_heard session seat begun old mid held held' (take n buf) standing s none (some_taken n size buf some le same)
     (ap (λ (w : WireShown). w.story) read) fed
 
--- the end behind them
+-- the end after them
 pub stands_ends : (session : SessionId) (served : Served) (seat : SeatShown) (last : Standing) (begun old new : WireShown) (held : List ℕ) (standing : Standing)
     → Stands session seat begun old held standing → EndsHere session served old held standing new last → Talked session served seat last begun new
 stands_ends session served seat last begun old new held standing s ends first is =

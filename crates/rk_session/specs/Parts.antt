@@ -78,7 +78,7 @@ abbrev pub ended : Result Unit DeviceFault → Result Unit Served
 ended (Ok u) = Ok u
 ended (Err e) = Err WriteFault
 
--- behind what had happened it was noted and written; or written in part, and the wire is cut; or there was nothing to be said. The last two end the session
+-- after what had happened it was noted and written; or written in part, and the wire is cut; or there was nothing to be said. The last two end the session
 abbrev pub Speaks : Saying → Result Unit Served → Option (List Happened) → WireShown → Type 0
 Speaks x (Ok u) story new = (note : Option Noted) × (r : Reply) × Tells x note r × (new.story ≡ and_then story (told_in note (reply_bytes r)))
 Speaks x (Err WriteFault) story new = (note : Option Noted) × (r : Reply) × (first others : List ℕ) × Tells x note r

@@ -10,8 +10,8 @@ pub data Happened : Type 0 where
   HasNoted : Noted → Happened
   Said : List ℕ → Happened
 
--- a wire: how often a call failed; how often it was read; whether some of what was written may be kept, and is still to be sent; whether it is cut, since a write
--- or a sending failed, after which none succeeds; and what happened on it, first things first, if it tells that
+-- a wire: how often a call failed; how often it was read; whether some of what was written may be kept, and is still to be sent; whether it is cut, since a
+-- write or a sending failed, after which none succeeds; and what happened on it, first things first, if it tells that
 pub record WireShown : Type 0 where
   pub count : ℕ
   pub reads : ℕ

@@ -19,7 +19,7 @@ pub trait Wire {
         ensures same { length buf.new ≡ length buf.old }
         ensures reads { Reads result buf.new (shown self.old) (shown self.new) };
 
-    /// Writes all bytes, behind those that were written before. It may keep them. Once a write or a sending has failed, none succeeds.
+    /// Writes all bytes, after those that were written before. It may keep them. Once a write or a sending has failed, none succeeds.
     fn write(&mut self, bytes: &[u8]) -> Result<(), DeviceFault>
         ensures { Writes result bytes.now (shown self.old) (shown self.new) };
 

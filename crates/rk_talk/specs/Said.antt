@@ -63,8 +63,8 @@ IsRefusal fault.NoMemory s = s ≡ saying.Short Enomem
 pub data IsAnswered (session : SessionId) (hall : HallNo) (a : Ask) (old new : SeatShown) (s : Saying) : Type 0 where
   -- its call was refused, and the seat is as before
   IsNotAsked : (f : CallFault) → CallRefused (part hall old) f → IsRefusal f s → new ≡ old → IsAnswered session hall a old new s
-  -- its call was one turn of the seat; what that started was brought to its end, and the seat made no other turn where nothing was started; and then its receipt
-  -- settled
+  -- its call was one turn of the seat; what that started was brought to its end, and the seat made no other turn where nothing was started; and then its
+  -- receipt settled
   HasSettled : (now : ℕ) (n : Noted) (mid : SeatShown) → IsCalled hall now (told.Asked session a) (part hall old) n
       → Stays (with_part hall old (after_call (part hall old) (event.Asked session a) n)) mid
       → (started n.answer ≡ None → mid ≡ with_part hall old (after_call (part hall old) (event.Asked session a) n))

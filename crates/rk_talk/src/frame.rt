@@ -3,7 +3,7 @@ ghost use Rattle.std.specs.Prelude.{◌≡◌};
 
 use std::marker::Model;
 
-/// A reply behind its length. Those of a number and of a refusal lie in their value, so that they take no memory.
+/// A reply with its length before it. Those of a number and of a refusal lie in their value, so that they take no memory.
 #[derive(Debug, Drop)]
 pub struct Frame {
     /// The reply's length and body.

@@ -9,7 +9,7 @@ use rk_message::Reply;
 use rk_names::Errno;
 use std::alloc::{AllocError, Global};
 
-/// A reply behind its length, in memory of its own.
+/// A reply with its length before it, in memory of its own.
 #[tactic(auto, unfolding(crate::specs::Replies::reply_bytes))]
 fn reply_frame(alloc: Global, reply: &Reply) -> Result<Vec<u8>, AllocError>
     ensures { IfOk result (λ b. b.items ≡ reply_bytes reply.now) }
@@ -21,7 +21,7 @@ fn reply_frame(alloc: Global, reply: &Reply) -> Result<Vec<u8>, AllocError>
     Ok(bytes)
 }
 
-/// A number behind its length, as most replies are. It takes no memory.
+/// A number with its length before it, as most replies are. It takes no memory.
 #[tactic(auto, unfolding(crate::specs::Replies::reply_bytes, rk_message::specs::Wire::spelled))]
 fn number_frame(number: u32) -> [u8; 9]
     ensures { result ≡ reply_bytes (reply.Number number) }
@@ -30,7 +30,7 @@ fn number_frame(number: u32) -> [u8; 9]
     [0, 0, 0, 5, 0, first, second, third, fourth]
 }
 
-/// A refusal behind its length. It takes no memory, so that ENOMEM can be replied too.
+/// A refusal with its length before it. It takes no memory, so that ENOMEM can be replied too.
 #[tactic(auto, unfolding(crate::specs::Replies::reply_bytes))]
 pub fn refusal_frame(errno: Errno) -> [u8; 6]
     ensures { result ≡ reply_bytes (reply.Refused errno) }
@@ -39,7 +39,7 @@ pub fn refusal_frame(errno: Errno) -> [u8; 6]
     [0, 0, 0, 2, kind, number]
 }
 
-/// A reply behind its length. Only bytes and the serials of rings take memory.
+/// A reply with its length before it. Only bytes and the serials of rings take memory.
 fn framed(alloc: Global, reply: &Reply) -> Result<Frame, AllocError>
     ensures framed { IfOk result (λ b. b ≡ reply_bytes reply.now) }
     ensures memory { IfErr result (λ e. TakesMemory (Some reply.now)) }
@@ -51,7 +51,7 @@ fn framed(alloc: Global, reply: &Reply) -> Result<Frame, AllocError>
     }
 }
 
-/// What an answer says to the session that asked, behind its length. A number and a refusal take no memory. An `Err` is out of memory; an answer that
+/// What an answer says to the session that asked, with its length before it. A number and a refusal take no memory. An `Err` is out of memory; an answer that
 /// says nothing, of a session that waits, is refused as that too.
 pub fn answer_frame(alloc: Global, answer: &Answer) -> Result<Frame, AllocError>
     ensures framed { IfOk result (λ b. ReplyFramed answer.now b) }

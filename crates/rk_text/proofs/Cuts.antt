@@ -32,7 +32,7 @@ last_line text n e h =
     let P : List ℕ → Type 0 = λ t. All (λ b. nat_eq b 10 ≡ false) t in
     slice_split_none (λ b. nat_eq b 10) text (subst P whole (front_all (λ b. nat_eq b 10 ≡ false) text n (λ k lt. ne_eqb (get_or text k 0) 10 (h k lt))))
 
--- a text up to its first newline is its first line, and the rest are the lines behind it
+-- a text up to its first newline is its first line, and the rest are the lines after it
 pub first_line : (text : List ℕ) (n : ℕ) → n < length text → ((k : ℕ) → k < n → get_or text k 0 ≢ 10) → get_or text n 0 ≡ 10 → lines_of text ≡ take n text ∷ lines_of (drop (n + 1) text)
 first_line text n lt h e =
     let apart = front_all (λ b. nat_eq b 10 ≡ false) text n (λ k lt. ne_eqb (get_or text k 0) 10 (h k lt)) in
@@ -56,7 +56,7 @@ space_ascii Any b h = grind (arith, nat_tests)
 -- ---- fields, whichever bytes are white space
 
 module _ (s : Space) where
-  -- what is behind the white space that stands first
+  -- what follows the white space that stands first
   pub space_before : (text : List ℕ) (n : ℕ) → n ≤ length text → ((k : ℕ) → k < n → is_space s (get_or text k 0) ≡ true) → (n < length text → is_space s (get_or text n 0) ≡ false) → drop n text ≡ past_space s text
   space_before text n le before at = ap (λ (k : ℕ). drop k text) (sym (prefix_len_is (is_space s) text n 0 le before at))
 
@@ -89,7 +89,7 @@ module _ (s : Space) where
       let keep = filter has_bytes in
       ap keep (slice_split_at (is_space s) field b more apart e) ∙ kept field (slice_split (is_space s) more) h ∙ ap (λ (t : List (List ℕ)). field ∷ t) (sym (ap keep (slice_split-cons_yes (is_space s) b more e)))
 
-  -- a text up to its first space is its first field, and the rest are the fields behind it
+  -- a text up to its first space is its first field, and the rest are the fields after it
   pub first_field : (text : List ℕ) (n : ℕ) → n ≤ length text → 0 < n → ((k : ℕ) → k < n → is_space s (get_or text k 0) ≡ false) → (n < length text → is_space s (get_or text n 0) ≡ true)
       → fields_of s text ≡ take n text ∷ fields_of s (drop n text)
   first_field text n le pos before at =
@@ -119,7 +119,7 @@ module _ (s : Space) where
         | inr ge ↦ let P : ℕ → Type 0 = λ i. IsCharBoundary text i in let e : length text ≡ n = omega arith in subst P e (IsCharBoundary-end text)
       ]
 
-  -- behind white space, and before it, stands text
+  -- after white space, and before it, stands text
   pub skipped_text : (text : List ℕ) (n : ℕ) → n ≤ length text → ((k : ℕ) → k < n → is_space s (get_or text k 0) ≡ true) → is_text text ≡ true → is_text (drop n text) ≡ true
   skipped_text text n le h t = (is_text-parts text n (λ utf8. skipped_boundary text n le h utf8) t).1
 

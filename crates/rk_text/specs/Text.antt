@@ -28,7 +28,7 @@ is_space Any b = b == 32 || b == 9 || b == 11 || b == 12 || b == 13
 abbrev pub lines_of : List ℕ → List (List ℕ)
 lines_of text = slice_split (λ b. b == 10) text
 
--- what is behind leading white space
+-- what follows leading white space
 abbrev pub past_space : Space → List ℕ → List ℕ
 past_space space line = drop (prefix_len (is_space space) line) line
 

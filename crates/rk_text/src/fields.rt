@@ -4,7 +4,7 @@ ghost use Rattle.rk_text.specs.Text.{is_text, is_space, fields_of, past_space};
 
 use crate::space::Space;
 
-/// The first field, and what is behind it; `None` if there is only white space.
+/// The first field, and what follows it; `None` if there is only white space.
 pub fn cut_field(text: &[u8], space: Space) -> Option<(&[u8], &[u8])>
     ensures cut { MatchOption result (fields_of space text.now ≡ []) (λ cut. fields_of space text.now ≡ cut.0.now ∷ fields_of space cut.1.now) }
     ensures shorter { IfSome result (λ cut. length cut.1.now < length text.now) }
@@ -18,7 +18,7 @@ pub fn cut_field(text: &[u8], space: Space) -> Option<(&[u8], &[u8])>
     Some(text.split_at(field_len(text, space)))
 }
 
-/// What is behind leading white space.
+/// What follows leading white space.
 pub fn skip_space(text: &[u8], space: Space) -> &[u8]
     ensures past { result.now ≡ past_space space text.now }
     ensures same { fields_of space result.now ≡ fields_of space text.now }

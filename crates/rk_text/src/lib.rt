@@ -3,7 +3,7 @@
 //! # Purpose
 //!
 //! Names, a configuration and a script are texts. [`is_text`] says which bytes are: UTF-8 without a zero byte, as a C string can hold them.
-//! [`cut_line`] cuts a text at its first newline, and [`cut_field`] a line behind its first field. So `cut_field(b" a b", Space::Blank)` is
+//! [`cut_line`] cuts a text at its first newline, and [`cut_field`] a line after its first field. So `cut_field(b" a b", Space::Blank)` is
 //! `a` and the rest ` b`, and a loop over the rests meets every field of the line. [`number`] is what a field of decimal digits says.
 //!
 //! # What it promises

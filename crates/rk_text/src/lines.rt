@@ -2,7 +2,7 @@
 ghost use Rattle.std.specs.Prelude.{◌≡◌, ◌≢◌, ◌<◌, ◌≤◌, ℕ, [], ◌∷◌, length, slice_index, MatchOption, IfSome};
 ghost use Rattle.rk_text.specs.Text.{lines_of};
 
-/// The first line, and what is behind its newline, if it has one. An empty text is one empty line.
+/// The first line, and what follows its newline, if it has one. An empty text is one empty line.
 pub fn cut_line(text: &[u8]) -> (&[u8], Option<&[u8]>)
     ensures cut { MatchOption result.1 (lines_of text.now ≡ result.0.now ∷ []) (λ rest. lines_of text.now ≡ result.0.now ∷ lines_of rest.now) }
     ensures shorter { IfSome result.1 (λ rest. length rest.now < length text.now) }

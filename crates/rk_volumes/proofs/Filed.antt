@@ -63,7 +63,7 @@ module _ (file front sum volume : List ℕ) (seal : Seal) where
 
 -- ---- what a file that is a volume can't have
 
--- a file of which no front has its sum behind it
+-- a file of which no front has its sum after it
 pub no_sum_filed : (file : List ℕ) → HasNoSum file → BeginsSealed file → (h : Head) (ss : List Recorded) (s : Option Sealed) → IsFiled h ss s file → ⊥
 no_sum_filed file none begins h ss None filed = not_sealed h ss file filed begins
 no_sum_filed file none begins h ss (Some s) filed =
@@ -107,7 +107,7 @@ lead_in_parts seal h ss =
     ∙ ap (λ (x : List ℕ). (sealed_title ++ seal_bytes seal) ++ x) (append_assoc title head steps)
     ∙ append_assoc sealed_title (seal_bytes seal) (title ++ (head ++ steps))
 
--- all steps were written, and the sum of all behind them
+-- all steps were written, and the sum of all after them
 pub filed_written : (a b c : Option (List ℕ)) (seal : Seal) (h : Head) (ss ts : List Recorded) (sum : List ℕ) → ts ≡ ss → IsSeal seal → IsHead h (length ss)
     → AllByRecursion IsStep ts → Appends a b (lead seal h (length ss) ++ flat_map step_bytes ts)
     → sum ≡ sha256 (lead seal h (length ss) ++ flat_map step_bytes ts) → Appends b c sum → HasFiled h ss seal sum a c

@@ -104,7 +104,7 @@ have_one_reading h g ss ts file other left is as-is eq =
 
 -- ---- writers
 
--- six writes, one behind the other
+-- six writes, one after the other
 pub head_put : (o a b c d e f : List ℕ) (h : Head) (count : ℕ) → a ≡ o ++ title → b ≡ a ++ (hall_number h.hall ∷ []) → c ≡ b ++ to_be_bytes w32 h.negative
     → d ≡ c ++ to_be_bytes w64 h.index → e ≡ d ++ to_be_bytes w64 h.before → f ≡ e ++ to_be_bytes w64 count → f ≡ o ++ (title ++ head_bytes h count)
 head_put o a b c d e f h count first second third fourth fifth sixth =
@@ -208,7 +208,7 @@ read_of file rest more left h count ss is eq len steps =
     is ∙ ap (λ (x : List ℕ). title ++ x) (eq ∙ ap (λ (n : ℕ). head_bytes h n ++ more) (sym len) ∙ ap (λ (x : List ℕ). head_bytes h (length ss) ++ x) steps)
     ∙ sym (file_in_parts h ss left)
 
--- bytes behind the last step
+-- bytes after the last step
 pub trailing_of : (file rest more left : List ℕ) (h : Head) (count : ℕ) (ss : List Recorded) → IsHead h count → file ≡ title ++ rest
     → rest ≡ head_bytes h count ++ more → length ss ≡ count → AllByRecursion IsStep ss → more ≡ flat_map step_bytes ss ++ left → 0 < length left
     → IsFaultOf file fault.Trailing
@@ -219,7 +219,7 @@ no_bytes : (xs : List ℕ) → length xs ≤ 0 → xs ≡ []
 no_bytes [] none = refl
 no_bytes (x ∷ xs) none = absurd (omega (arith, none))
 
--- no byte behind the last step
+-- no byte after the last step
 pub stored_of : (file rest more left : List ℕ) (h : Head) (count : ℕ) (ss : List Recorded) → IsHead h count → file ≡ title ++ rest
     → rest ≡ head_bytes h count ++ more → length ss ≡ count → AllByRecursion IsStep ss → more ≡ flat_map step_bytes ss ++ left → length left ≤ 0
     → IsStored h ss file
@@ -230,7 +230,7 @@ stored_of file rest more left h count ss is at eq len all steps none = record {
       ∙ append-nil (file_bytes h ss);
 }
 
--- one step more was put behind what there was
+-- one step more was put after what there was
 pub step_more : (front : List ℕ) (ss : List Recorded) (i : ℕ) (s : Recorded) (text : List ℕ) → text ≡ step_bytes s → i < length ss → s ≡ get_or ss i s
     → (front ++ flat_map step_bytes (take i ss)) ++ text ≡ front ++ flat_map step_bytes (take (i + 1) ss)
 step_more front ss i s text is lt at =

@@ -1,4 +1,4 @@
--- What stands at the front of bytes, and what is left behind it.
+-- What stands at the front of bytes, and what is left after it.
 use Rattle.std.proofs.Common.{◌≡◌, ◌≢◌, ℕ, ◌+◌, ◌<◌, ◌≤◌, ◌^◌, List, ◌++◌, length, take, drop, refl, sym, ap, ◌∙◌, append_assoc, length-append, arith}
 use Rattle.std.specs.Int.{w32, w64, to_be_bytes, from_be_bytes}
 use Rattle.std.proofs.lemmas.List.{take_at, drop_at, take-append-drop, length-take}
@@ -27,7 +27,7 @@ same_word n m x y fits fitm e = let both = same_front (to_be_bytes w32 n) (to_be
 pub same_long : (n m : ℕ) (x y : List ℕ) → n < 2 ^ 64 → m < 2 ^ 64 → to_be_bytes w64 n ++ x ≡ to_be_bytes w64 m ++ y → (n ≡ m) × (x ≡ y)
 same_long n m x y fits fitm e = let both = same_front (to_be_bytes w64 n) (to_be_bytes w64 m) x y refl e in (long_is n m fits fitm both.0, both.1)
 
--- what stands behind a length at the front, and what is left
+-- what follows a length at the front, and what is left
 pub same_frame : (a b x y : List ℕ) → length a < 2 ^ 32 → length b < 2 ^ 32 → frame a ++ x ≡ frame b ++ y → (a ≡ b) × (x ≡ y)
 same_frame a b x y fits fitm e =
     let spread : to_be_bytes w32 (length a) ++ (a ++ x) ≡ to_be_bytes w32 (length b) ++ (b ++ y) =
@@ -39,7 +39,7 @@ same_frame a b x y fits fitm e =
 pub too_short : (bytes a x : List ℕ) (n : ℕ) → length bytes < n → length a ≡ n → bytes ≢ a ++ x
 too_short bytes a x n short len e = absurd (omega (arith, short, len, ap length e, length-append a x))
 
--- what stands behind a length is not all there
+-- what follows a length is not all there
 pub no_frame_short : (bytes : List ℕ) → length bytes < 4 → (body more : List ℕ) → length body < 2 ^ 32 → bytes ≢ frame body ++ more
 no_frame_short bytes short body more fits e =
     too_short bytes (to_be_bytes w32 (length body)) (body ++ more) 4 short refl (e ∙ append_assoc (to_be_bytes w32 (length body)) body more)

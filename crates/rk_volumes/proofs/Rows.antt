@@ -353,7 +353,7 @@ no_short_answer body short a is eq = omega (arith, short, ap length eq, row_len 
 
 -- ---- rows that are written
 
--- four writes, one behind the other: a length, two bytes, a number and the rest
+-- four writes, one after the other: a length, two bytes, a number and the rest
 pub row_put : (o a b c d : List ℕ) (len : ℕ) (r : Row) → len ≡ 6 + length r.rest → a ≡ o ++ to_be_bytes w32 len → b ≡ a ++ (r.kind ∷ r.how ∷ [])
     → c ≡ b ++ to_be_bytes w32 r.number
     → d ≡ c ++ r.rest → d ≡ o ++ frame (row_bytes r)

@@ -1,4 +1,4 @@
--- A seal, and the sum behind what it is of.
+-- A seal, and the sum after what it is of.
 use Rattle.std.proofs.Common.{◌≡◌, ◌≢◌, ℕ, ◌+◌, ◌<◌, Bool, true, false, List, [], ◌∷◌, ◌++◌, length, take, drop, refl, sym, ap, ◌∙◌}
 use Rattle.std.proofs.Common.{append_assoc, length-append, arith}
 use Rattle.std.proofs.lemmas.List.{take-append-drop}
@@ -36,11 +36,11 @@ same_seal s t x y is other eq =
       previous.1,
     )
 
--- the same, behind the line
+-- the same, after the line
 pub same_summed : (s t : Seal) (x y : List ℕ) → IsSeal s → IsSeal t → summed s x ≡ summed t y → (s ≡ t) × (x ≡ y)
 same_summed s t x y is other eq = same_seal s t x y is other (same_front sealed_title sealed_title (seal_bytes s ++ x) (seal_bytes t ++ y) refl eq).1
 
--- four writes, one behind the other
+-- four writes, one after the other
 pub seal_put : (o a b c d : List ℕ) (s : Seal) → a ≡ o ++ sealed_title → b ≡ a ++ (mark s.closing ∷ []) → c ≡ b ++ s.run → d ≡ c ++ s.previous
     → d ≡ o ++ (sealed_title ++ seal_bytes s)
 seal_put o a b c d s first next third fourth =
@@ -60,12 +60,12 @@ seal_read bytes rest more left number s is closing run previous =
 
 -- ---- sums at the end
 
--- what is before and behind a place from the end
+-- what is before and after a place from the end
 pub cut_at : (file front sum : List ℕ) (n : ℕ) → front ≡ take n file → sum ≡ drop n file → file ≡ front ++ sum
 cut_at file front sum n is other =
     sym (take-append-drop n file) ∙ ap (λ (x : List ℕ). x ++ drop n file) (sym is) ∙ ap (λ (x : List ℕ). front ++ x) (sym other)
 
--- a file has one front that may have its sum behind it
+-- a file has one front that may have its sum after it
 pub same_sum : (front sum other : List ℕ) → length sum ≡ 32 → front ++ sum ≡ other ++ sha256 other → (front ≡ other) × (sum ≡ sha256 other)
 same_sum front sum other len eq =
     same_front front other sum (sha256 other)

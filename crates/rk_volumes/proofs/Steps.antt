@@ -12,11 +12,11 @@ use Rattle.rk_volumes.specs.Reading.{HasNoEvent, HasNoAnswer}
 use Rattle.rk_volumes.proofs.Fronts.{same_long, same_frame, too_short}
 use Rattle.rk_volumes.proofs.Rows.{same_row, event_fits, answer_fits, same_event, same_answer}
 
--- the event of a step, behind its length
+-- the event of a step, after its length
 abbrev pub event_frame : Recorded → List ℕ
 event_frame s = frame (row_bytes (event_row s.event))
 
--- the answer of a step, behind its length
+-- the answer of a step, after its length
 abbrev pub answer_frame : Recorded → List ℕ
 answer_frame s = frame (row_bytes (answer_row s.answer))
 
@@ -100,7 +100,7 @@ step_is bytes rest left more body answer s is framed behind event given =
     ∙ ap (λ (x : List ℕ). frame x ++ left) event ∙ ap (λ (x : List ℕ). event_frame s ++ x) (behind ∙ ap (λ (x : List ℕ). frame x ++ more) given))
     ∙ sym (in_parts s more)
 
--- three writes, one behind the other
+-- three writes, one after the other
 pub step_put : (o a b d : List ℕ) (s : Recorded) → a ≡ o ++ to_be_bytes w64 s.now → b ≡ a ++ event_frame s → d ≡ b ++ answer_frame s → d ≡ o ++ step_bytes s
 step_put o a b d s first second third =
     let n = to_be_bytes w64 s.now in

@@ -19,7 +19,7 @@ use Rattle.rk_volumes.proofs.Fronts.{same_word}
 use Rattle.rk_volumes.proofs.NumbersOfKinds.{no_serial}
 use Rattle.rk_volumes.proofs.Rows.{serial_fits, from_uid, from_gid, from_thread, from_process, from_session, names_bytes}
 
--- six numbers of four bytes, and what stands behind them
+-- six numbers of four bytes, and what follows them
 abbrev pub numbers : ℕ → ℕ → ℕ → ℕ → ℕ → ℕ → List ℕ → List ℕ
 numbers key uid gid thread process session rest =
     to_be_bytes w32 key ++ (to_be_bytes w32 uid ++ (to_be_bytes w32 gid ++ (to_be_bytes w32 thread ++ (to_be_bytes w32 process
@@ -108,7 +108,7 @@ subject_is bytes rest key a s is same spelt asked =
     is ∙ ap (λ (k : ℕ). numbers k s.uid s.gid s.thread s.process s.session rest) same
     ∙ ap (numbers s.key s.uid s.gid s.thread s.process s.session) (spelt ∙ ap (λ (x : Ask). spelling (ask_message x)) asked)
 
--- seven writes, one behind the other
+-- seven writes, one after the other
 pub subject_put : (a b c d e f g : List ℕ) (s : Subject) → a ≡ to_be_bytes w32 s.key → b ≡ a ++ to_be_bytes w32 s.uid → c ≡ b ++ to_be_bytes w32 s.gid
     → d ≡ c ++ to_be_bytes w32 s.thread → e ≡ d ++ to_be_bytes w32 s.process → f ≡ e ++ to_be_bytes w32 s.session → g ≡ f ++ names_bytes s → g ≡ subject_bytes s
 subject_put a b c d e f g s first second third fourth fifth sixth seventh =

@@ -17,7 +17,7 @@ IsFiled h steps None file = IsStored h steps file
 IsFiled h steps (Some s) file = (volume : List ℕ) × IsStored h steps volume × IsSeal s.seal × (s.sum ≡ sha256 (summed s.seal volume))
     × (file ≡ summed s.seal volume ++ s.sum)
 
--- why there is no volume in a front: no line and seal, or it is none that stands behind them
+-- why there is no volume in a front: no line and seal, or it is none that stands after them
 abbrev pub IsFaultIn : List ℕ → Fault → Type 0
 IsFaultIn front f = ((f ≡ fault.Head) × ((s : Seal) (volume : List ℕ) → IsSeal s → front ≡ summed s volume → ⊥))
     ⊎ ((s : Seal) × (volume : List ℕ) × IsSeal s × (front ≡ summed s volume) × IsFaultOf volume f)
@@ -27,7 +27,7 @@ abbrev pub IsUnfiled : List ℕ → Fault → Type 0
 IsUnfiled file f = ((BeginsSealed file → ⊥) × IsFaultOf file f)
     ⊎ (BeginsSealed file × (((f ≡ fault.Sum) × HasNoSum file) ⊎ ((front : List ℕ) × (file ≡ front ++ sha256 front) × IsFaultIn front f)))
 
--- a volume was written in a seal with a sum, behind what was written before
+-- a volume was written in a seal with a sum, after what was written before
 abbrev pub HasFiled : Head → List Recorded → Seal → List ℕ → Option (List ℕ) → Option (List ℕ) → Type 0
 HasFiled h steps seal sum contents contents' = (file : List ℕ) × IsFiled h steps (Some (record { seal = seal; sum = sum })) file
     × Appends contents contents' file

@@ -20,7 +20,7 @@ abbrev pub head_bytes : Head → ℕ → List ℕ
 head_bytes h count =
     hall_number h.hall ∷ (to_be_bytes w32 h.negative ++ (to_be_bytes w64 h.index ++ (to_be_bytes w64 h.before ++ to_be_bytes w64 count)))
 
--- a step: its moment, and its event and its answer as rows, each behind its length
+-- a step: its moment, and its event and its answer as rows, each after its length
 unfoldable pub step_bytes : Recorded → List ℕ
 step_bytes s = to_be_bytes w64 s.now ++ (frame (row_bytes (event_row s.event)) ++ frame (row_bytes (answer_row s.answer)))
 
@@ -52,7 +52,7 @@ IsMissing bytes count (fault.Step number) = (steps : List Recorded) × (left : L
 IsMissing bytes count fault.NoMemory = Unit {0}
 IsMissing bytes count _ = ⊥
 
--- why a file is no volume: another line, no head behind it, a step that is not there, or bytes behind the last one
+-- why a file is no volume: another line, no head after it, a step that is not there, or bytes after the last one
 abbrev pub IsFaultOf : List ℕ → Fault → Type 0
 IsFaultOf file fault.Title = (more : List ℕ) → file ≡ title ++ more → ⊥
 IsFaultOf file fault.Head = (more : List ℕ) × (file ≡ title ++ more)

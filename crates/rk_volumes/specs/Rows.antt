@@ -14,7 +14,7 @@ use Rattle.rk_machine.specs.declared.event.Answer.{Answer}
 use Rattle.rk_machine.specs.declared.event.Answer.TheVariants as answer
 use Rattle.rk_volumes.specs.Kinds.{session_kind, session_number, ran_kind, how_kind, status_of, put_out, op_kind}
 
--- two bytes, a number of four bytes, and what stands behind them
+-- two bytes, a number of four bytes, and what follows them
 pub record Row : Type 0 where
   pub kind : ℕ
   pub how : ℕ

@@ -29,6 +29,6 @@ pub record IsSeal (s : Seal) : Type 0 where
 abbrev pub BeginsSealed : List ℕ → Type 0
 BeginsSealed file = (more : List ℕ) × (file ≡ sealed_title ++ more)
 
--- the sum of no front of the file is all that stands behind it
+-- the sum of no front of the file is all that stands after it
 abbrev pub HasNoSum : List ℕ → Type 0
 HasNoSum file = (front : List ℕ) → file ≡ front ++ sha256 front → ⊥

@@ -10,7 +10,7 @@ use crate::subject::subject_text;
 use rk_machine::Answer;
 use std::alloc::{AllocError, Global};
 
-/// Appends the row of an answer behind its length. An `Err` is out of memory, and a part of it may have been appended.
+/// Appends the row of an answer with its length before it. An `Err` is out of memory, and a part of it may have been appended.
 pub(crate) fn put_answer(
     alloc: Global,
     out: &mut Vec<u8>,

@@ -55,7 +55,7 @@ fn event_of(alloc: Global, row: &Row<'_>) -> Result<Event, Unread>
     }
 }
 
-/// The session that a row names with nothing behind it.
+/// The session that a row names with nothing after it.
 fn lone_session(row: &Row<'_>) -> Option<SessionId>
     ensures { MatchOption result (row.now.rest.now ≡ [] → NamesNone (row_by row.now))
         (λ s. IsSession s × NamesSession (row_by row.now) s × (row.now.rest.now ≡ [])) }

@@ -11,7 +11,7 @@ use rk_machine::{Event, How};
 use rk_names::{Payload, SessionId};
 use std::alloc::{AllocError, Global};
 
-/// Appends the row of an event behind its length. An `Err` is out of memory, and a part of it may have been appended.
+/// Appends the row of an event with its length before it. An `Err` is out of memory, and a part of it may have been appended.
 pub(crate) fn put_event(alloc: Global, out: &mut Vec<u8>, event: &Event) -> Result<(), AllocError>
     ensures bytes { OnOk result (out.new.items ≡ out.old.items ++ frame (row_bytes (event_row event.now))) }
     ensures is { OnOk result (IsEvent event.now) }
@@ -34,7 +34,7 @@ pub(crate) fn put_event(alloc: Global, out: &mut Vec<u8>, event: &Event) -> Resu
     }
 }
 
-/// Appends a row that names a session, behind its length.
+/// Appends a row that names a session, after its length.
 fn put_session(out: &mut Vec<u8>, kind: u8, id: &SessionId, rest: &[u8]) -> Result<(), AllocError>
     requires { length rest.now ≤ 131072 }
     ensures bytes { OnOk result (out.new.items ≡ out.old.items

@@ -14,13 +14,13 @@ pub enum Fault {
     /// It does not begin with the line that names the format and its version.
     #[error("it does not begin as a volume of this version")]
     Title,
-    /// No seal or no head stands behind the line: it is cut, or there is no such mark or hall.
+    /// No seal or no head stands after the line: it is cut, or there is no such mark or hall.
     #[error("its head is cut or bad")]
     Head,
     /// The step of this number, from 1 within the volume, is cut or bad.
     #[error("its step {0} is cut or bad")]
     Step(u64),
-    /// Bytes are left behind the last step.
+    /// Bytes are left after the last step.
     #[error("bytes are left behind its last step")]
     Trailing,
     /// There was no memory for it.

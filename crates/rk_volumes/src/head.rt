@@ -25,7 +25,7 @@ pub struct Head {
     pub before: u64,
 }
 
-/// What stands behind the line that a file begins with.
+/// What follows the line that a file begins with.
 pub(crate) fn behind_title(bytes: &[u8]) -> Option<&[u8]>
     ensures found { IfSome result (λ rest. bytes.now ≡ title ++ rest.now) }
     ensures only { IfNone result ((more : List ℕ) → bytes.now ≢ title ++ more) }
@@ -50,7 +50,7 @@ fn hall_of(number: u8) -> Option<HallNo>
     }
 }
 
-/// The head at the front of the bytes, the number of the volume's steps, and what stands behind them.
+/// The head at the front of the bytes, the number of the volume's steps, and what follows them.
 pub(crate) fn read_head(bytes: &[u8]) -> Option<(Head, u64, &[u8])>
     ensures found { IfSome result (λ x. IsHead x.0 x.1 × (bytes.now ≡ head_bytes x.0 x.1 ++ x.2.now)) }
     ensures only { IfNone result ((h : Heads) (count : ℕ) (left : List ℕ) → IsHead h count → bytes.now ≢ head_bytes h count ++ left) }

@@ -7,7 +7,7 @@ ghost use Rattle.rk_volumes.specs.Rules.{IsTold};
 use crate::numbers::word;
 use std::alloc::AllocError;
 
-/// Two bytes, a number of four bytes, and what stands behind them. What they say is for the kind to tell.
+/// Two bytes, a number of four bytes, and what follows them. What they say is for the kind to tell.
 #[derive(Clone, Copy, Debug)]
 pub(crate) struct Row<'a> {
     /// Which event or answer it is.
@@ -16,7 +16,7 @@ pub(crate) struct Row<'a> {
     pub how: u8,
     /// A client, a key, or 0.
     pub number: u32,
-    /// What stands behind them.
+    /// What follows them.
     pub rest: &'a [u8],
 }
 
@@ -43,7 +43,7 @@ impl<'a> Row<'a> {
     }
 }
 
-/// Appends a row behind its length. An `Err` is out of memory, and a part of it may have been appended.
+/// Appends a row with its length before it. An `Err` is out of memory, and a part of it may have been appended.
 pub(crate) fn put_row(
     out: &mut Vec<u8>,
     kind: u8,

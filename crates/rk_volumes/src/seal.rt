@@ -37,7 +37,7 @@ pub struct Sealed {
     pub sum: Sum,
 }
 
-/// What stands behind the line of a volume in a seal.
+/// What follows the line of a volume in a seal.
 pub(crate) fn behind_sealed(bytes: &[u8]) -> Option<&[u8]>
     ensures found { IfSome result (λ rest. bytes.now ≡ sealed_title ++ rest.now) }
     ensures only { IfNone result ((more : List ℕ) → bytes.now ≢ sealed_title ++ more) }
@@ -67,7 +67,7 @@ fn mark(closing: bool) -> u8
     if closing { 1 } else { 0 }
 }
 
-/// The seal at the front of the bytes, and what stands behind it.
+/// The seal at the front of the bytes, and what follows it.
 fn read_seal(bytes: &[u8]) -> Option<(Seal, &[u8])>
     ensures found { IfSome result (λ x. IsSeal x.0 × (bytes.now ≡ seal_bytes x.0 ++ x.1.now)) }
     ensures only { IfNone result ((s : Seals) (left : List ℕ) → IsSeal s → bytes.now ≢ seal_bytes s ++ left) }
@@ -84,7 +84,7 @@ fn read_seal(bytes: &[u8]) -> Option<(Seal, &[u8])>
     Some((seal, rest))
 }
 
-/// The seal at the front of what a sum is of, and the volume behind it.
+/// The seal at the front of what a sum is of, and the volume after it.
 pub(crate) fn split_seal(front: &[u8]) -> Option<(Seal, &[u8])>
     ensures found { IfSome result (λ x. IsSeal x.0 × (front.now ≡ summed x.0 x.1.now)) }
     ensures only { IfNone result ((s : Seals) (volume : List ℕ) → IsSeal s → front.now ≢ summed s volume) }

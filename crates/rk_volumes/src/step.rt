@@ -13,7 +13,7 @@ use rk_names::Moment;
 use rk_record::Recorded;
 use std::alloc::{AllocError, Global};
 
-/// The step at the front of the bytes, and what stands behind it.
+/// The step at the front of the bytes, and what follows it.
 pub(crate) fn read_step(alloc: Global, bytes: &[u8]) -> Result<(Recorded, &[u8]), Unread>
     ensures is { IfOk result (λ x. IsStep x.0 × (bytes.now ≡ step_bytes x.0 ++ x.1.now)) }
     ensures none { result ≡ Err Unread.Bad → HasNoStep bytes.now }

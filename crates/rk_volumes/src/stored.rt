@@ -98,7 +98,7 @@ fn read_volume(alloc: Global, file: &[u8]) -> Result<(Head, Vec<Recorded>), Faul
     Ok((head, steps))
 }
 
-/// So many steps at the front of the bytes, and what stands behind them; or the first that is not there.
+/// So many steps at the front of the bytes, and what follows them; or the first that is not there.
 fn read_steps(alloc: Global, count: u64, bytes: &[u8]) -> Result<(Vec<Recorded>, &[u8]), Fault>
     ensures found { IfOk result (λ x. (length x.0.items ≡ count) × AllByRecursion IsStep x.0.items
         × (bytes.now ≡ flat_map step_bytes x.0.items ++ x.1.now)) }

@@ -30,7 +30,7 @@ struct Party {
     session: u32,
 }
 
-/// The numbers at the front, and what stands behind them; `None` for fewer bytes.
+/// The numbers at the front, and what follows them; `None` for fewer bytes.
 fn party_at(bytes: &[u8]) -> Option<(Party, &[u8])>
     ensures found { IfSome result (λ x. bytes.now ≡ to_be_bytes w32 x.0.key ++ (to_be_bytes w32 x.0.uid ++ (to_be_bytes w32 x.0.gid
         ++ (to_be_bytes w32 x.0.thread ++ (to_be_bytes w32 x.0.process ++ (to_be_bytes w32 x.0.session ++ x.1.now)))))) }

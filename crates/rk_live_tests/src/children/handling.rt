@@ -88,7 +88,7 @@ pub struct Handling {
     pub outcome: Said,
     /// How many children were out at one time.
     pub deepest: u64,
-    /// The commands that were started, a space behind each word.
+    /// The commands that were started, a space after each word.
     pub words: &'static [u8],
     /// What the handlers were told, the innermost first, if it is looked at.
     pub told: Option<&'static [u8]>,

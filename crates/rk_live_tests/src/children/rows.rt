@@ -636,7 +636,7 @@ const TOLD_OFTEN: &[u8] = b"\0\0\0\x05\0\0\0\0\0\
     \0\0\0\x04\x01\0\x01x\0\0\0\x04\x01\0\x01x\0\0\0\x04\x01\0\x01x\0\0\0\x04\x01\0\x01x\0\0\0\x04\x01\0\x01x\0\0\0\x04\x01\0\x01x\
     \0\0\0\x05\0\0\0\0\0";
 
-/// How many steps a volume has, and how many volumes are handed out. Of the 32 asks the first volume has those for which there are places behind its four
+/// How many steps a volume has, and how many volumes are handed out. Of the 32 asks the first volume has those for which there are places after its four
 /// steps, and each other one as many as it has places but for three, which are owed: to the client its end and its outcome, to the construction its end.
 const VOLUMES: &[(usize, u64)] = &[
     (9, 5),

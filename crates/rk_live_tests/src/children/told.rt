@@ -109,7 +109,7 @@ fn story_text(alloc: Global, story: &[Passed]) -> Result<Vec<u8>, AllocError> {
     Ok(text)
 }
 
-/// The commands: how many children were out, and the words, each behind a space.
+/// The commands: how many children were out, and the words, each after a space.
 fn tried_text(alloc: Global, tried: &[Tried]) -> Result<Vec<u8>, AllocError> {
     let mut text = Vec::new(alloc);
     for one in tried {

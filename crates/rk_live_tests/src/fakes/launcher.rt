@@ -80,7 +80,7 @@ pub struct Fake {
     asked: usize,
     /// What the children were written, one after the other, as they came back.
     pub told: Vec<u8>,
-    /// The path and the words of each command, a space behind each.
+    /// The path and the words of each command, a space after each.
     pub words: Vec<u8>,
     /// How many calls failed, those of children that came back too.
     pub failed: u64,

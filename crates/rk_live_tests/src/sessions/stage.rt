@@ -46,7 +46,7 @@ pub struct Part<'a> {
     pub repeats: usize,
     /// In what order, if it is looked at.
     pub story: Option<&'a [u8]>,
-    /// The command that it is to start, a space behind each word.
+    /// The command that it is to start, a space after each word.
     pub words: &'a [u8],
 }
 
