@@ -95,8 +95,8 @@ uninstall:  ## Remove what make install has put there
 deb: $(addprefix $(BUILT)/,$(PROGRAMS)) $(IN_C)  ## Make a Debian package of the same, into build/
 	@BUILT='$(BUILT)' PACKAGES='$(PACKAGES)' packaging/debian/build.sh
 
-completion: $(addprefix $(BUILT)/,$(PROGRAMS)) $(BUILT)/reqkey-trap  ## Write packaging/completion/ anew, of what the programs say of themselves
-	@tools/completion.py $(BUILT) packaging/completion
+completion: $(addprefix $(BUILT)/,$(PROGRAMS)) $(BUILT)/reqkey-trap  ## Write what completes words in a shell, as make install has it, into build/completion/
+	@tools/completion.py $(BUILT) build/completion
 
 pictures:  ## Draw docs/pictures/ anew, of crates.txt and the tables of tools/picture.py
 	@tools/picture.py docs/pictures

@@ -38,9 +38,9 @@ everything() {
 
     for name in reqkeyd reqkeyctl reqkey-trap; do
         put 755 "$BUILT/$name" "$PREFIX/bin/$name"
-        put 644 "packaging/completion/$name.bash" "$share/bash-completion/completions/$name"
-        put 644 "packaging/completion/$name.fish" "$share/fish/vendor_completions.d/$name.fish"
-        put 644 "packaging/completion/_$name" "$ZSH_DIR/_$name"
+        put 644 "$room/completion/$name.bash" "$share/bash-completion/completions/$name"
+        put 644 "$room/completion/$name.fish" "$share/fish/vendor_completions.d/$name.fish"
+        put 644 "$room/completion/_$name" "$ZSH_DIR/_$name"
     done
     for name in man/*; do
         put_text "$name" "$share/man/man${name##*.}/${name##*/}"
@@ -75,6 +75,10 @@ everything() {
 }
 
 act=$1
+if [[ $act == install ]]; then
+    # what completes words in a shell is made of what the programs say of themselves
+    python3 -B tools/completion.py "$BUILT" "$room/completion"
+fi
 everything
 if [[ $act == uninstall ]]; then
     for folder in lib/reqkeyd share/reqkeyd share/doc/reqkeyd/{examples,docs/pictures,docs} share/doc/reqkeyd; do

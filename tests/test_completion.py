@@ -1,5 +1,5 @@
 #!/usr/bin/env python3
-"""Compares packaging/completion/ with what tools/completion.py makes of the built programs, and completes words by it in bash and fish, as who types them."""
+"""Completes words in bash and fish by what tools/completion.py makes of the built programs, as who types them. Both builds of a program give the same."""
 import pathlib
 import shutil
 import subprocess
@@ -14,7 +14,6 @@ import completion
 from program_help import option, part, said, subcommands
 
 count = Counted()
-stored = top / "packaging" / "completion"
 
 RINGS = ["none", "thread", "process", "session", "user", "requestor"]
 SETTINGS = ["keep", "default", "thread", "process", "session", "user", "requestor"]
@@ -88,7 +87,7 @@ STARTED = [
 DRIVER = """\
 source {0}/reqkeyd.bash
 source {0}/reqkeyctl.bash
-source {0}/reqkey-trap.bash
+[ ! -e {0}/reqkey-trap.bash ] || source {0}/reqkey-trap.bash
 tried() {{
     COMP_WORDS=("$@") COMP_CWORD=$(($# - 1)) COMPREPLY=()
     "_${{1//-/_}}" "$1" "${{@: -1}}" "${{@: -2:1}}"
@@ -129,22 +128,21 @@ def found(words, wanted):
     return set(words) & set(wanted) if "bash" in wanted else words
 
 
-def in_bash(calls):
+def in_bash(made, calls):
     divided = [(f"reqkeyctl --payload-from{end}", ["some.file"]) for end in [" =", " = so"]]
     divided += [("reqkeyctl --uid = 1000 revo", ["revoke"]), ("reqkeyctl --payload-from = f add user d n", ["none"])]
-    rows = [*calls, *divided, *STARTED]
+    rows = [*calls, *divided]
     lines = [f"tried {' '.join(words if words else repr('') for words in typed.split(' '))}" for typed, _ in rows]
-    got = run(["bash", "--noprofile", "--norc"], DRIVER.format(stored) + "\n".join(lines))
+    got = run(["bash", "--noprofile", "--norc"], DRIVER.format(made) + "\n".join(lines))
     for (typed, wanted), line in zip(rows, got):
         count.same(f"bash: {typed!r}", sorted(found(line.split(), wanted)), sorted(wanted))
 
 
-def in_fish(calls):
+def in_fish(made, calls):
     if not shutil.which("fish"):
         print("completion in fish: not tried, there is no fish")
         return
-    lines = [f"source {stored}/{name}.fish" for name in [*completion.PROGRAMS, completion.STARTER]]
-    calls = [*calls, *STARTED]
+    lines = [f"source {path}" for path in sorted(made.glob("*.fish"))]
     lines += [f"complete -C '{typed}'; printf '%s\\n' ==" for typed, _ in calls]
     blocks = "\n".join(run(["fish", "--no-config"], "\n".join(lines))).split("==\n")
     for (typed, wanted), block in zip(calls, blocks):
@@ -152,36 +150,45 @@ def in_fish(calls):
         count.same(f"fish: {typed!r}", sorted(found(words, wanted)), sorted(wanted))
 
 
-def in_zsh():
+def in_zsh(made):
     if not shutil.which("zsh"):
         print("completion in zsh: not tried, there is no zsh")
         return
-    for name in [*completion.PROGRAMS, completion.STARTER]:
-        ran = subprocess.run(["zsh", "-f", "-n", stored / f"_{name}"], capture_output=True, text=True, timeout=LIMIT)
+    for path in sorted(made.glob("_*")):
+        name = path.name[1:]
+        ran = subprocess.run(["zsh", "-f", "-n", path], capture_output=True, text=True, timeout=LIMIT)
         count.same(f"zsh reads _{name}", (ran.returncode, ran.stderr), (0, ""))
 
 
 def starter():
-    """The files for reqkey-trap, which is built for that; those that are kept where there is no compiler."""
-    kept = {path.name: path.read_text() for path in stored.iterdir() if completion.STARTER in path.name}
+    """The files for reqkey-trap, which is built for that; none where there is no compiler."""
     if not shutil.which("gcc") or not shutil.which("make"):
         print("completion of reqkey-trap: not tried, there is no gcc and make")
-        return kept
+        return {}
     with tempfile.TemporaryDirectory() as room:
         subprocess.run(["make", "-s", "-C", top / "clients" / "trap", f"OUT={room}"], check=True, timeout=LIMIT)
         return completion.starter_of(pathlib.Path(room) / completion.STARTER)
 
 
-starters = starter()
+def tried(daemon, client, made):
+    """Words are completed by these files, in a folder of their own."""
+    with tempfile.TemporaryDirectory() as room:
+        folder = pathlib.Path(room)
+        completion.write(folder, made)
+        calls = typed_calls(daemon, client) + (STARTED if f"{completion.STARTER}.bash" in made else [])
+        in_bash(folder, calls)
+        in_fish(folder, calls)
+        in_zsh(folder)
+
+
+starters, first = starter(), None
 for daemon in PROGRAMS:
     client = client_of(daemon)
     count.same(f"{daemon} and {client} are built", (daemon.exists(), client.exists()), (True, True))
     if daemon.exists() and client.exists():
         made = {name: text for program in [daemon, client] for name, text in completion.made_of(completion.read_program(program)).items()}
-        count.same(f"files of {daemon.name}", {path.name: path.read_text() for path in stored.iterdir()}, {**made, **starters})
-        if daemon == PROGRAMS[0]:
-            calls = typed_calls(daemon, client)
-            in_bash(calls)
-            in_fish(calls)
-in_zsh()
+        if first is None:
+            first = made
+            tried(daemon, client, {**made, **starters})
+        count.same(f"files of {daemon.name}", made, first)
 count.end()

@@ -1,7 +1,7 @@
 #!/usr/bin/env python3
 """Makes what completes the words of reqkeyd, reqkeyctl and reqkey-trap in bash, zsh and fish, of what the programs say of themselves.
 
-Use: completion.py FOLDER OUT, with the folder of the programs and the one to write to; `make completion` calls it. The programs make their help of the
+Use: completion.py FOLDER OUT, with the folder of the programs and the one to write to; `make install` calls it. The programs make their help of the
 table by which they read their words, so a command, an option or a name that is new there is completed once this has run.
 """
 import pathlib
@@ -396,11 +396,17 @@ def made_of(program):
     return {file.format(program.name): make(program) for file, make in SHELLS.items()}
 
 
+def write(out, made):
+    """Writes these files into a folder."""
+    for file, text in made.items():
+        (out / file).write_text(text)
+
+
 if __name__ == "__main__":
     if len(sys.argv) != 3:
         sys.exit("usage: completion.py FOLDER OUT")
+    folder, out = map(pathlib.Path, sys.argv[1:])
+    out.mkdir(parents=True, exist_ok=True)
     for name in PROGRAMS:
-        for file, text in made_of(read_program(pathlib.Path(sys.argv[1]) / name)).items():
-            (pathlib.Path(sys.argv[2]) / file).write_text(text)
-    for file, text in starter_of(pathlib.Path(sys.argv[1]) / STARTER).items():
-        (pathlib.Path(sys.argv[2]) / file).write_text(text)
+        write(out, made_of(read_program(folder / name)))
+    write(out, starter_of(folder / STARTER))
