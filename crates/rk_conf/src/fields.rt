@@ -27,17 +27,17 @@ pub struct Fields<'a> {
     pub piped: bool,
     /// The arguments, with white space between them.
     pub args: &'a [u8],
-    /// The pattern of the operation is text: UTF-8 without NUL.
+    // The pattern of the operation is text: UTF-8 without NUL.
     ghost op_text: { is_text op.now ≡ true },
-    /// So is the type's pattern.
+    // So is the type's pattern.
     ghost typ_text: { is_text typ.now ≡ true },
-    /// So is the description's.
+    // So is the description's.
     ghost desc_text: { is_text desc.now ≡ true },
-    /// So is the callout's.
+    // So is the callout's.
     ghost callout_text: { is_text callout.now ≡ true },
-    /// So is the program's path.
+    // So is the program's path.
     ghost prog_text: { is_text prog.now ≡ true },
-    /// So are the arguments.
+    // So are the arguments.
     ghost args_text: { is_text args.now ≡ true },
 }
 

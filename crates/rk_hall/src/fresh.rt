@@ -10,9 +10,9 @@ pub struct Ledgers {
     pub calls: Blank,
     /// Counts the constructions, by the tokens that are out.
     pub out: Blank,
-    /// A part for each seat that the hall can hand out.
+    // A part for each seat that the hall can hand out.
     pub ghost call_parts: { calls.parts ≡ 4294967296 },
-    /// A part for each token that can be out at a time.
+    // A part for each token that can be out at a time.
     pub ghost out_parts: { out.parts ≡ 4294967296 },
 }
 

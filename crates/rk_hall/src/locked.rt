@@ -69,7 +69,7 @@ pub(crate) struct Begun<N: Names, const H: u64> {
     pub(crate) depth: u8,
     /// The right to say what becomes of it.
     pub(crate) ticket: Ticket<N, H>,
-    /// The depth is 1 to 8.
+    // The depth is 1 to 8.
     ghost deep: { IsDepth depth },
 }
 

@@ -9,9 +9,9 @@ use std::sync::ledger::Share;
 pub(crate) struct Ticket<N: Names, const H: u64> {
     /// One part of the hall's ledger of tickets, with the amount 1.
     pub(crate) share: Share<Out<N, H>>,
-    /// It is one part, so that no two tickets are one.
+    // It is one part, so that no two tickets are one.
     ghost part: { share.parts ≡ 1 },
-    /// It counts for one construction.
+    // It counts for one construction.
     ghost one: { share.amount ≡ 1 },
 }
 

@@ -19,7 +19,7 @@ pub struct Launch<N: Names> {
     pub(crate) depth: u8,
     /// The right to say what becomes of it.
     pub(crate) ticket: AnyTicket<N>,
-    /// The depth is 1 to 8.
+    // The depth is 1 to 8.
     ghost deep: { IsDepth depth },
 }
 
@@ -42,7 +42,7 @@ pub struct Running<N: Names> {
     pub(crate) depth: u8,
     /// The right to say what becomes of it.
     pub(crate) ticket: AnyTicket<N>,
-    /// The depth is 1 to 8.
+    // The depth is 1 to 8.
     ghost deep: { IsDepth depth },
 }
 

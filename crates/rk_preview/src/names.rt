@@ -13,11 +13,11 @@ pub struct Names<'a> {
     pub desc: &'a str,
     /// The callout: at most 4,095 bytes.
     pub callout: &'a str,
-    /// The type keeps its rule.
+    // The type keeps its rule.
     ghost typ_rule: { type_fault typ.now ≡ None },
-    /// So does the description.
+    // So does the description.
     ghost desc_rule: { description_fault desc.now ≡ None },
-    /// So does the callout.
+    // So does the callout.
     ghost callout_rule: { callout_fault callout.now ≡ None },
 }
 

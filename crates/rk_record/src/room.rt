@@ -9,9 +9,9 @@ use std::alloc::{AllocError, Global};
 pub(crate) struct Room {
     /// An empty buffer with room for 32,767 bytes.
     bytes: Vec<u8>,
-    /// Nothing lies in it yet.
+    // Nothing lies in it yet.
     ghost empty: { bytes.items ≡ [] },
-    /// The longest payload fits without memory.
+    // The longest payload fits without memory.
     ghost large: { 32767 ≤ vec_capacity bytes },
 }
 

@@ -20,7 +20,7 @@ pub struct Queue {
     movers: BinaryHeap<Reverse<SessionId>>,
     /// By the serial of a key the sessions that wait for it.
     waiting: HashTable<Vec<Reverse<SessionId>>>,
-    /// The heap keeps its order, so its top is the first session that may move.
+    // The heap keeps its order, so its top is the first session that may move.
     ghost in_order: { IsHeap first_is_greatest (heap_items movers) } by { Prim.hlevel props },
 }
 

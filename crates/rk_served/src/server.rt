@@ -31,7 +31,7 @@ pub struct Server {
     pub book: Book,
     /// The peers, clients by number and then handlers by key.
     pub peers: Vec<Peer>,
-    /// The peers are in that order, so that one is found by halving.
+    // The peers are in that order, so that one is found by halving.
     ghost in_order: { are_in_order peers.items ≡ true },
 }
 
