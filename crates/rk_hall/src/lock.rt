@@ -82,8 +82,8 @@ impl<N: Names, const H: u64> Lock<N, H> {
         self.locked.lock(rt).retire(part);
     }
 
-    /// A request or an opening, as one turn. The payload is copied before the lock is taken, and a completed key wakes those who wait for it. An `Err` leaves
-    /// the hall and the part as they were.
+    /// A request or an opening, as one turn. What the record keeps of the event is copied before the lock is taken, and a completed key wakes those who wait
+    /// for it. An `Err` leaves the hall and the part as they were.
     pub(crate) fn call<R: Wait>(
         &self,
         rt: &R,
@@ -192,7 +192,8 @@ impl<N: Names, const H: u64> Lock<N, H> {
         );
     }
 
-    /// A copy of the payload that a `%{..}` of a command finds for the handler of this key; `None` if no key of that name stands positive. It takes no turn.
+    /// A copy of the payload that a `%{..}` of a command finds for the handler of this key; `None` if its search finds no key that stands Positive. It takes
+    /// no turn.
     pub(crate) fn peek<R: Wait>(
         &self,
         rt: &R,
