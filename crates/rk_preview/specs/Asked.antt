@@ -24,10 +24,12 @@ path_of (pick path subject) = path
 abbrev pub check_names : List (List ℕ)
 check_names = codes "--conf" ∷ []
 
+-- the options of `pick`, with their dashes
 abbrev pub pick_names : List (List ℕ)
 pick_names =
     codes "--conf" ∷ codes "--negate" ∷ codes "--uid" ∷ codes "--gid" ∷ codes "--key" ∷ codes "--thread" ∷ codes "--process" ∷ codes "--session" ∷ []
 
+-- those of them that have no value
 abbrev pub pick_flags : List (List ℕ)
 pick_flags = codes "--negate" ∷ []
 

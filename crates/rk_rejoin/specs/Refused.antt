@@ -49,6 +49,7 @@ abbrev pub NamesAnother : Option (List ℕ) → Option Sealed → Type 0
 NamesAnother (Some sum) (Some s) = s.seal.previous ≢ sum
 NamesAnother _ _ = ⊥
 
+-- the volume in a seal comes after one that closed the record
 abbrev pub StandsBehindClosing : Option (List ℕ) → Option Sealed → Type 0
 StandsBehindClosing None (Some s) = Unit {0}
 StandsBehindClosing _ _ = ⊥
