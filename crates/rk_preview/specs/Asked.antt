@@ -20,7 +20,7 @@ abbrev pub path_of : Asked → List ℕ
 path_of (check path) = path
 path_of (pick path subject) = path
 
--- the option of `check`, those of `pick`, and of them the flag
+-- the one option of `check`
 abbrev pub check_names : List (List ℕ)
 check_names = codes "--conf" ∷ []
 

@@ -44,7 +44,7 @@ abbrev pub CannotJoin : HallNo → List Stored → Verdict → Type 0
 CannotJoin h vs f = (f ≡ NoMemory) ⊎ ((first : List Stored) × (v : Stored) × StandsBehind h vs first v × AreNext 0 0 first
     × IsNoNext v.head (length first) (length (flat_map steps_of first)) f)
 
--- the seal names another sum than that of the volume before it, or a volume that closes the record is before it
+-- the seal names another sum than that of the volume before it
 abbrev pub NamesAnother : Option (List ℕ) → Option Sealed → Type 0
 NamesAnother (Some sum) (Some s) = s.seal.previous ≢ sum
 NamesAnother _ _ = ⊥
