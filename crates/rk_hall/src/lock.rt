@@ -10,6 +10,7 @@ ghost use Rattle.rk_record.specs.declared.hall_no.HallNo.{HallNo};
 ghost use Rattle.rk_hall.specs.Seats.{no_calls, after_call, IsCall, CallRefused, runs_on, without_client, IsOutcomeOrNone, OwedPart};
 
 use crate::closed::Closed;
+use crate::counts::Counts;
 use crate::end::End;
 use crate::fresh::Ledgers;
 use crate::lapse::{CallFault, Lapse, Owed};
@@ -193,6 +194,10 @@ impl<N: Names, const H: u64> Lock<N, H> {
         now: Moment,
     ) -> Result<Option<Vec<u8>>, AllocError> {
         self.locked.lock(rt).peek(alloc, key, typ, description, now)
+    }
+
+    pub(crate) fn counts<R: Wait>(&self, rt: &R) -> Counts {
+        self.locked.lock(rt).counts()
     }
 
     pub(crate) fn roll<R: Wait>(&self, rt: &R) -> Result<Volume, HallFault>
