@@ -45,15 +45,16 @@ build/%: build/proved
 		echo "$* is not proved: build/$*.log says why." >&2; exit 1; }
 	@cp crates/$*/out/$* $@
 
-# The program as it was built, or else as the toolchain runs it before its proofs.
-REQKEYD = $(if $(wildcard build/reqkeyd),build/reqkeyd,bash -c 'cd crates/reqkeyd && exec rt try -- "$$@" 2> ../../build/try.log' reqkeyd)
+# The program that `make demo` shows. Where it is not built, the toolchain builds it for once, without its proofs.
+REQKEYD = build/reqkeyd
 
 demo: toolchain  ## Run the example script and the daemon, and show what they do
 	@mkdir -p build
-	@[ -x build/reqkeyd ] || echo "Running reqkeyd before its proofs, twice about a minute (build/try.log); make proves and builds it first."
-	@examples/demo.py examples/first-path.script $(REQKEYD) replay
-	@echo
-	@examples/serve.py $(REQKEYD)
+	@if [ -x $(REQKEYD) ]; then \
+		examples/demo.py examples/first-path.script $(REQKEYD) replay && echo && examples/serve.py $(REQKEYD); \
+	else \
+		examples/unproved.py examples/first-path.script build/try.log; \
+	fi
 
 quick: toolchain  ## Check what changed since the last time, over kept work, in minutes; no verdict
 	@tests/quick.py

@@ -36,16 +36,21 @@ class Failed(Exception):
     """The command did not run the script."""
 
 
-def run(command, lines, errors=None):
-    """What came of each line, and last at the end, as far as the script was run; and the status.
+def marked(lines):
+    """The copy of a script that is run: a mark stands behind each line. It is none, and its fault tells where the next line begins."""
+    return "".join(f"{line}\n{MARK}\n" for line in lines).encode("latin-1")
 
-    A mark stands behind each line in the copy that is run. It is none, and its fault tells where the next line begins. `errors` is where
-    the command's standard error goes.
-    """
-    copy = "".join(f"{line}\n{MARK}\n" for line in lines).encode("latin-1")
-    ran = subprocess.run(command, input=copy, stdout=subprocess.PIPE, stderr=errors)
+
+def run(command, lines, errors=None):
+    """What came of each line, and last at the end, as far as the script was run; and the status. `errors` is where the command's standard error goes."""
+    ran = subprocess.run(command, input=marked(lines), stdout=subprocess.PIPE, stderr=errors)
+    return taken_apart(ran.stdout, lines, ran.returncode), ran.returncode
+
+
+def taken_apart(output, lines, status):
+    """What came of each line, and last at the end, of the output of a marked script."""
     came = [[]]
-    for answer in lines_of(ran.stdout):
+    for answer in lines_of(output):
         if not ANSWER.fullmatch(answer):
             raise Failed(f"{answer[:80]!r} is no output of a script")
         verb, number, *rest = answer.split(" ")
@@ -57,8 +62,8 @@ def run(command, lines, errors=None):
             came[-1].append(answer)
     refused = any(answer.startswith("conf ") for answer in came[-1])
     if len(came) <= len(lines) and not refused:
-        raise Failed(f"it did not come to the end of the script, and its status was {ran.returncode}")
-    return came, ran.returncode
+        raise Failed(f"it did not come to the end of the script, and its status was {status}")
+    return came
 
 
 def told(answer, lines):

@@ -19,7 +19,7 @@ from messages import bodies, frame, read_reply, write_ask
 CONF = """create  user  debug:*  *  |/bin/cat
 create  user  mail:*   *  ../examples/handler.py %k %d told
 """
-PATIENCE = 600  # seconds, since the program may have to be compiled before
+PATIENCE = 600  # seconds, since the program may have to be compiled before (unproved.py)
 
 # What is done, in words; what the client then asks; and what it has to be answered.
 SHOWN = [
@@ -38,12 +38,16 @@ class Failed(Exception):
     """The daemon did not do as is shown here."""
 
 
+def words_in(room):
+    """The words of a daemon for one client, with this folder for its files, where its configuration is written."""
+    (room / "conf").write_text(CONF.replace("..", str(top), 1).replace(" told", f" {room}/told"))
+    return ["serve", "--socket", str(room / "socket"), "--conf", str(room / "conf"), "--clients", "1"]
+
+
 def started(command, room):
     """The daemon, with this folder for its files."""
-    (room / "conf").write_text(CONF.replace("..", str(top), 1).replace(" told", f" {room}/told"))
-    words = [*command, "serve", "--socket", room / "socket", "--conf", room / "conf", "--clients", "1"]
     with (room / "errors").open("w") as errors:
-        return subprocess.Popen(words, stdin=subprocess.DEVNULL, stdout=subprocess.DEVNULL, stderr=errors)
+        return subprocess.Popen([*command, *words_in(room)], stdin=subprocess.DEVNULL, stdout=subprocess.DEVNULL, stderr=errors)
 
 
 def connected(daemon, path):
@@ -89,16 +93,21 @@ def run(command, room):
     """Starts the daemon, shows what it does, and waits for its end."""
     daemon = started(command, room)
     try:
-        with connected(daemon, room / "socket") as client, client.makefile("rwb") as stream:
-            print(f"The configuration of the daemon:\n\n{CONF}")
-            show(stream, room / "told")
-        if daemon.wait(PATIENCE) != 0:
-            raise Failed(f"the daemon ended with status {daemon.returncode}")
+        show_all(daemon, room)
     except Failed as failed:
         raise Failed(f"{failed}\n{(room / 'errors').read_text()}".rstrip()) from None
     finally:
         daemon.kill()
         daemon.wait()
+
+
+def show_all(daemon, room):
+    """Shows what a daemon in this folder does that was started, and waits for its end."""
+    with connected(daemon, room / "socket") as client, client.makefile("rwb") as stream:
+        print(f"The configuration of the daemon:\n\n{CONF}")
+        show(stream, room / "told")
+    if daemon.wait(PATIENCE) != 0:
+        raise Failed(f"the daemon ended with status {daemon.returncode}")
     print("\nThe client has disconnected. The daemon was started for one client, and ends.")
 
 

@@ -1,6 +1,6 @@
 #!/usr/bin/env python3
-"""Tries examples/demo.py on scripts of every kind, with tests/fake_replay.py in place of the program, and on the built daemon examples/serve.py and the
-commands that README.md, docs/RECORD.md and docs/TUTORIAL.md show."""
+"""Tries examples/demo.py on scripts of every kind, with tests/fake_replay.py in place of the program, and on the built daemon examples/serve.py,
+examples/unproved.py, and the commands that README.md, docs/RECORD.md and docs/TUTORIAL.md show."""
 import os
 import pathlib
 import shutil
@@ -109,6 +109,15 @@ No line is for this key.
 The client has disconnected. The daemon was started for one client, and ends.
 """
 
+# In the place of `rt try --cases FOLDER`: it runs each case by this program, where `rt` builds one.
+FAKE_RT = """#!/bin/sh
+test "$1 $2" = "try --cases" || exit 2
+for it in "$3"/*-script "$3"/*-daemon; do
+    echo "== ${it##*/}"
+    xargs -d '\\n' -a "$it.args" %s < "$it" || exit 4
+done
+"""
+
 # A command that is not as the program is, what is said of it, and the status.
 FAULTS = [
     (["/nothing/there"], "No such file", 1),
@@ -173,6 +182,19 @@ def by_make(program):
     """`make demo` shows the script, and then the daemon."""
     ran = subprocess.run(["make", "--no-print-directory", "-C", top, "demo", f"REQKEYD={program}"], capture_output=True, text=True, timeout=LIMIT)
     count.same(f"make demo, {program.name}", (ran.returncode, FIRST_PATH in ran.stdout, ran.stdout.endswith(SERVED)), (0, True, True))
+
+
+def unproved(program):
+    """`make demo` where nothing is built: both parts in one run of `rt`, and one that fails."""
+    for what, want in [(program, (0, True, True, True, "")), ("false", (2, False, False, True, "unproved.py: the daemon did not start"))]:
+        with tempfile.TemporaryDirectory() as room:
+            fake_rt = pathlib.Path(room) / "rt"
+            fake_rt.write_text(FAKE_RT % what)
+            fake_rt.chmod(0o755)
+            words = ["make", "--no-print-directory", "-C", top, "demo", f"REQKEYD={room}/none"]
+            ran = subprocess.run(words, env={**os.environ, "PATH": f"{room}:{os.environ['PATH']}"}, capture_output=True, text=True, timeout=LIMIT)
+        got = ran.returncode, FIRST_PATH in ran.stdout, ran.stdout.endswith(SERVED), ran.stdout.startswith("Building reqkeyd before its proofs"), ran.stderr.partition(" (")[0]
+        count.same(f"make demo of what is not built, {program.name}, {what}", got, want)
 
 
 def shown_runs(document):
@@ -254,6 +276,7 @@ for program in PROGRAMS:
     ran = subprocess.run([serve, program], capture_output=True, text=True, timeout=LIMIT)
     count.same(f"{serve.name} {program.name}", (ran.stdout, ran.returncode, ran.stderr), (SERVED, 0, ""))
     by_make(program)
+    unproved(program)
     for name in DOCUMENTS:
         by_hand(program, name)
 for command, told in [(["/nothing/there"], "No such file"), (["false"], "did not start"), (["echo"], "did not start"), ([], "usage: serve.py COMMAND ..")]:

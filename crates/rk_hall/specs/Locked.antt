@@ -1,9 +1,11 @@
 -- What is under the lock of a hall, and what a call does to it.
-use Rattle.std.specs.Prelude.{◌≡◌, ℕ, ◌+◌, ◌<◌, ◌≤◌, true, false, length, refl, Some, Result, Ok, Err}
+use Rattle.std.specs.Prelude.{◌≡◌, ℕ, ◌+◌, ◌-◌, ◌^◌, ◌<◌, ◌≤◌, true, false, length, min, refl, Some, Result, Ok, Err}
 use Rattle.std.specs.Coded.{Coded, code_by, coded×, coded_ℕ}
+use Rattle.std.specs.FinMap as map
+use Rattle.rk_names.specs.declared.errors.Errno.TheVariants as errno
 use Rattle.rk_machine.specs.Event.{Event}
 use Rattle.rk_machine.specs.declared.event.Answer.{Answer}
-use Rattle.rk_machine.specs.declared.event.Answer.TheVariants.{Start}
+use Rattle.rk_machine.specs.declared.event.Answer.TheVariants.{Start, Refused}
 use Rattle.rk_machine.specs.World.{World}
 use Rattle.rk_machine.specs.Views.{is_owed, depth_of}
 use Rattle.rk_machine.specs.Owing.{constructions}
@@ -12,24 +14,28 @@ use Rattle.rk_record.specs.declared.hall_no.HallNo.TheVariants.{Zero, One, Two, 
 use Rattle.rk_record.specs.HallNumbers.{hall_number}
 use Rattle.rk_record.specs.Record.{HallShown, hall_code, IsFull}
 use Rattle.rk_record.specs.Turns.{Noted, Turned}
+use Rattle.rk_hall.specs.declared.counts.Counts.{Counts}
 use Rattle.rk_hall.specs.declared.lapse.Lapse.{Lapse}
 use Rattle.rk_hall.specs.declared.lapse.Lapse.TheVariants.{Behind, Stray}
 use Rattle.rk_hall.specs.declared.lapse.CallFault.{CallFault}
 use Rattle.rk_hall.specs.declared.lapse.CallFault.TheVariants as fault
 use Rattle.rk_hall.specs.Seats.{PartShown, IsDepth}
 
--- what is under the lock: a hall, how many seats may still be made, the turns of seats that were given back, and the strays
+-- what is under the lock: a hall, how many seats may still be made, the turns of seats that were given back, the strays, and the calls that were
+-- answered EDQUOT
 pub record LockedShown : Type 0 where
   pub hall : HallShown
   pub left : ℕ
   pub retired : ℕ
   pub strays : ℕ
+  pub edquots : ℕ
 
--- what is under the lock as its four parts in a row, the form in which a model of a struct sees it
+-- what is under the lock as its five parts in a row, the form in which a model of a struct sees it
 abbrev pub locked_code : Coded LockedShown
 locked_code =
-    code_by (HallShown × (ℕ × (ℕ × ℕ))) (coded× hall_code (coded× coded_ℕ (coded× coded_ℕ coded_ℕ)))
-    (λ k. (k.hall, (k.left, (k.retired, k.strays)))) (λ p. record { hall = p.0; left = p.1.0; retired = p.1.1.0; strays = p.1.1.1 }) (λ _. refl)
+    code_by (HallShown × (ℕ × (ℕ × (ℕ × ℕ)))) (coded× hall_code (coded× coded_ℕ (coded× coded_ℕ (coded× coded_ℕ coded_ℕ))))
+    (λ k. (k.hall, (k.left, (k.retired, (k.strays, k.edquots)))))
+    (λ p. record { hall = p.0; left = p.1.0; retired = p.1.1.0; strays = p.1.1.1.0; edquots = p.1.1.1.1 }) (λ _. refl)
 
 -- the first serial of a hall: its number, and 4 for hall 0
 abbrev pub first_serial : HallNo → ℕ
@@ -94,3 +100,12 @@ abbrev pub IsOwedOr : HallShown → Event → Result Noted Lapse → Type 0
 IsOwedOr h e (Ok r) = is_owed h.world e ≡ true
 IsOwedOr h e (Err (Behind seen found)) = is_owed h.world e ≡ true
 IsOwedOr h e (Err Stray) = Unit {0}
+
+-- so many EDQUOTs, and one more where an answer is one: at most the greatest u64
+abbrev pub counted : Answer → ℕ → ℕ
+counted (Refused errno.Edquot) n = min (n + 1) (2 ^ 64 - 1)
+counted _ n = n
+
+-- how much there is: the keys and constructions of the world, and the EDQUOTs
+abbrev pub counts_of : LockedShown → Counts
+counts_of k = record { keys = map.len k.hall.world.keys; constructions = constructions k.hall.world; edquots = k.edquots }

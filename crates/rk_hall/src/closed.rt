@@ -53,6 +53,7 @@ impl<N: Names, const H: u64> Closed<N, H> {
             left: _,
             retired,
             strays,
+            edquots: _,
             mut calls,
             mut pool,
             mut out,

@@ -6,6 +6,7 @@ ghost use Rattle.rk_record.specs.Copies.{told_of, started};
 ghost use Rattle.rk_hall.specs.Seats.{new_seat, part, with_part, after_call, IsCall, CallRefused, negated, runs_on, without_client, IsOutcomeOrNone};
 ghost use Rattle.rk_hall.specs.Seats.{OwedPart, OwedSeen};
 
+use crate::counts::Counts;
 use crate::end::End;
 use crate::fresh::Fresh;
 use crate::lapse::{CallFault, Lapse, Owed};
@@ -398,6 +399,17 @@ impl<N: Names> Halls<N> {
             OneOfFour::One(_) => self.one.peek(rt, alloc, key, typ, description, now),
             OneOfFour::Two(_) => self.two.peek(rt, alloc, key, typ, description, now),
             OneOfFour::Three(_) => self.three.peek(rt, alloc, key, typ, description, now),
+        }
+    }
+
+    /// How much there is in a hall at this moment: its keys and its constructions; and how many calls it has answered EDQUOT. It makes no step. It may
+    /// wait, and takes no memory.
+    pub fn counts<R: Wait>(&self, rt: &R, hall: HallNo) -> Counts {
+        match hall {
+            HallNo::Zero => self.zero.counts(rt),
+            HallNo::One => self.one.counts(rt),
+            HallNo::Two => self.two.counts(rt),
+            HallNo::Three => self.three.counts(rt),
         }
     }
 

@@ -35,7 +35,7 @@
 //! `names` and `fresh` have the ledgers of a `Halls`. `part` is a seat's part in one hall, `ticket` the right to say what becomes of one
 //! construction: each has a share of a ledger. `opening` makes a hall without a step. `locked` is what is under the lock of a hall, with the whole
 //! contract of each call, `lock` takes the lock, and `halls` chooses the hall. `seat` and `token` have what callers hold, `volume` a volume that was
-//! handed out, `end` how a handler has ended, `lapse` why there is no receipt. `closed` is a hall that was taken out of its lock, `genuine` looks for
+//! handed out, `end` how a handler has ended, `lapse` why there is no receipt, `counts` how much there is in a hall. `closed` is a hall that was taken out of its lock, `genuine` looks for
 //! receipts in it, and `settling` puts the four together.
 //!
 //! In `specs/`, `Seats` says what a call does to a seat, and `Locked` what the lock keeps and what a call does under it. `Tickets` says of which hall
@@ -43,6 +43,7 @@
 #![tactic(auto)]
 
 mod closed;
+mod counts;
 mod end;
 mod fresh;
 mod genuine;
@@ -59,6 +60,7 @@ mod ticket;
 mod token;
 mod volume;
 
+pub use counts::Counts;
 pub use fresh::{Fresh, Ledgers};
 pub use halls::{Called, Halls};
 pub use lapse::{CallFault, Lapse, Owed};

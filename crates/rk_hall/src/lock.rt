@@ -10,6 +10,7 @@ ghost use Rattle.rk_record.specs.declared.hall_no.HallNo.{HallNo};
 ghost use Rattle.rk_hall.specs.Seats.{no_calls, after_call, IsCall, CallRefused, runs_on, without_client, IsOutcomeOrNone, OwedPart};
 
 use crate::closed::Closed;
+use crate::counts::Counts;
 use crate::end::End;
 use crate::fresh::Ledgers;
 use crate::lapse::{CallFault, Lapse, Owed};
@@ -204,6 +205,11 @@ impl<N: Names, const H: u64> Lock<N, H> {
         now: Moment,
     ) -> Result<Option<Vec<u8>>, AllocError> {
         self.locked.lock(rt).peek(alloc, key, typ, description, now)
+    }
+
+    /// What the hall holds, and how often a quota has refused (EDQUOT).
+    pub(crate) fn counts<R: Wait>(&self, rt: &R) -> Counts {
+        self.locked.lock(rt).counts()
     }
 
     /// The full volume, in exchange for an empty one that goes on from the hall's state. An `Err` leaves the hall as it was.

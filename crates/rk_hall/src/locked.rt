@@ -10,8 +10,9 @@ ghost use Rattle.rk_record.specs.Turns.{Turned};
 ghost use Rattle.rk_record.specs.Copies.{started, AreCopies};
 ghost use Rattle.rk_record.specs.Volumes.{volume_of, rolled, CannotRoll};
 ghost use Rattle.rk_hall.specs.Seats.{no_calls, after_call, IsCall, runs_on, without_client, IsOutcomeOrNone, IsOutcome, IsDepth};
-ghost use Rattle.rk_hall.specs.Locked.{taken, HasDepth, RefusedUnder, OwedTurn, IsOwedOr, strays_of};
+ghost use Rattle.rk_hall.specs.Locked.{taken, HasDepth, RefusedUnder, OwedTurn, IsOwedOr, strays_of, counted, counts_of};
 
+use crate::counts::Counts;
 use crate::end::End;
 use crate::lapse::{CallFault, Lapse, Owed};
 use crate::names::{Calls, Names, Out};
@@ -37,6 +38,8 @@ pub(crate) struct Locked<N: Names, const H: u64> {
     pub(crate) retired: u64,
     /// The tickets that were spent though nothing was owed.
     pub(crate) strays: u64,
+    /// The calls that were answered EDQUOT, at most the greatest u64.
+    pub(crate) edquots: u64,
     /// The book of the ledger of turns.
     pub(crate) calls: Book<Calls<N, H>>,
     /// What the lock keeps of the ledger of turns: those of seats that were given back.
@@ -54,7 +57,7 @@ impl<N: Names, const H: u64> Model for Locked<N, H> {
 
     ghost coded = { locked_code };
 
-    ghost view = { λ k. record { hall = k.hall; left = k.left; retired = k.retired; strays = k.strays } };
+    ghost view = { λ k. record { hall = k.hall; left = k.left; retired = k.retired; strays = k.strays; edquots = k.edquots } };
 
     ghost invariant = { λ k. IsLocked H k.hall k.left k.retired k.strays k.calls.total k.pool.parts k.pool.amount k.out.total k.home.parts k.home.amount };
 }
@@ -81,7 +84,7 @@ impl<N: Names, const H: u64> Locked<N, H> {
         requires number { hall_number hall.no ≡ H }
         requires steps { taken hall ≡ 0 }
         requires constructions { constructions hall.world ≡ 0 }
-        ensures { result ≡ record { hall = hall; left = 4294967295; retired = 0; strays = 0 } }
+        ensures { result ≡ record { hall = hall; left = 4294967295; retired = 0; strays = 0; edquots = 0 } }
     {
         let (calls, pool) = calls.open::<Calls<N, H>>();
         let (out, home) = out.open::<Out<N, H>>();
@@ -90,6 +93,7 @@ impl<N: Names, const H: u64> Locked<N, H> {
             left: 4_294_967_295,
             retired: 0,
             strays: 0,
+            edquots: 0,
             calls,
             pool,
             out,
@@ -148,7 +152,7 @@ impl<N: Names, const H: u64> Locked<N, H> {
         ensures part { IfOk result (λ d. part.new ≡ after_call part.old event.entry d.0) }
         ensures begun { IfOk result (λ d. MatchOption d.1 (started d.0.answer ≡ None)
             (λ b. (d.0.answer ≡ Answer.Start b.key b.subject) × (depth_of self.new.hall.world b.key ≡ Some b.depth))) }
-        ensures kept { OnOk result (self.new ≡ record self.old { hall = self.new.hall }) }
+        ensures kept { IfOk result (λ d. self.new ≡ record self.old { hall = self.new.hall; edquots = counted d.0.answer self.old.edquots }) }
         ensures err { IfErr result (λ f. RefusedUnder self.old.hall event.entry part.old f) }
         ensures full { (result ≡ Err CallFault.Full) ↔ ((part.old.seen ≤ taken self.old.hall) × IsFull self.old.hall event.entry) }
         ensures same { OnErr result ((self.new ≡ self.old) × (part.new ≡ part.old)) }
@@ -178,6 +182,7 @@ impl<N: Names, const H: u64> Locked<N, H> {
                     receipt.answer(),
                     subject,
                 );
+                count_edquot(&mut self.edquots, receipt.answer());
                 Ok((receipt, begun))
             }
             Err(HallFault::Full) => Err(CallFault::Full),
@@ -340,6 +345,17 @@ impl<N: Names, const H: u64> Locked<N, H> {
         }
     }
 
+    /// How much there is at this moment.
+    pub(crate) fn counts(&self) -> Counts
+        ensures { result ≡ counts_of self.now }
+    {
+        Counts {
+            keys: self.hall.keys() as u64,
+            constructions: self.hall.constructions() as u64,
+            edquots: self.edquots,
+        }
+    }
+
     /// Hands out the volume that was being recorded, and begins the next.
     pub(crate) fn roll(&mut self) -> Result<Volume, HallFault>
         ensures ok { IfOk result (λ v. (v ≡ volume_of self.old.hall) × (self.new ≡ record self.old { hall = rolled self.old.hall })) }
@@ -359,6 +375,15 @@ impl<N: Names, const H: u64> Locked<N, H> {
         self.home.merge(share);
         self.out.audit(&mut self.home);
         self.strays += 1;
+    }
+}
+
+/// Counts an answer that is EDQUOT.
+fn count_edquot(edquots: &mut u64, answer: &Answer)
+    ensures { edquots.new ≡ counted answer.now edquots.old }
+{
+    if let Answer::Refused(Errno::Edquot) = answer {
+        *edquots = edquots.saturating_add(1);
     }
 }
 

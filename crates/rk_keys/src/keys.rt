@@ -89,6 +89,13 @@ impl Keys {
         })
     }
 
+    /// How many keys there are, however they stand: those under construction too, and those that are revoked or expired and were not forgotten yet.
+    pub fn len(&self) -> usize
+        ensures { result ≡ map.len self.now.keys }
+    {
+        self.facts.len()
+    }
+
     /// What is known of a key; `None` if there is none of that serial.
     pub fn fact(&self, key: Serial) -> Option<&Key>
         ensures { option_copied result ≡ map.get self.now.keys key }

@@ -1,6 +1,8 @@
 //! A hall: a book, and the record of its steps.
 ghost use Rattle.std.specs.Prelude.{◌≡◌, ◌+◌, ◌≤◌, [], length, IfOk, option_map};
+ghost use Rattle.std.specs.FinMap as map;
 ghost use Rattle.rk_machine.specs.World.{empty_world};
+ghost use Rattle.rk_machine.specs.Owing.{constructions};
 ghost use Rattle.rk_machine.specs.Views.{is_owed, is_ready, has_wait, depth_of, Peeks};
 ghost use Rattle.rk_record.specs.Record.{IsRecord};
 
@@ -123,6 +125,20 @@ impl Hall {
         ensures { result.now ≡ self.now.steps }
     {
         self.journal.steps()
+    }
+
+    /// How many keys there are, however they stand: those under construction too.
+    pub fn keys(&self) -> usize
+        ensures { result ≡ map.len self.now.world.keys }
+    {
+        self.book.keys()
+    }
+
+    /// How many constructions have not ended.
+    pub fn constructions(&self) -> usize
+        ensures { result ≡ constructions self.now.world }
+    {
+        self.book.constructions()
     }
 
     /// Whether the event is owed: nothing may refuse it.
