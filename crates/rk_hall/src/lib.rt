@@ -34,7 +34,7 @@
 //!
 //! `names` and `fresh` have the ledgers of a `Halls`. `part` is a seat's part in one hall, `ticket` the right to say what becomes of one
 //! construction: each has a share of a ledger. `opening` makes a hall without a step. `locked` is what is under the lock of a hall, with the whole
-//! contract of each call, `lock` takes the lock, and `halls` chooses the hall. `seat` and `token` have what callers hold, `volume` a volume that was
+//! contract of each call, `lock` takes the lock, and `halls` chooses the hall, by the macros of `four`. `seat` and `token` have what callers hold, `volume` a volume that was
 //! handed out, `end` how a handler has ended, `lapse` why there is no receipt. `closed` is a hall that was taken out of its lock, `genuine` looks for
 //! receipts in it, and `settling` puts the four together.
 //!
@@ -44,6 +44,7 @@
 
 mod closed;
 mod end;
+mod four;
 mod fresh;
 mod genuine;
 mod halls;

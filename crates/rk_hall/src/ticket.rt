@@ -2,6 +2,7 @@
 ghost use Rattle.std.specs.Prelude.{◌≡◌};
 
 use crate::names::{Names, Out};
+use rk_names::Serial;
 use std::sync::ledger::Share;
 
 /// The right to say what becomes of one construction of hall `H`. There is one for each construction, and it can't be dropped: it is spent where the
@@ -11,6 +12,14 @@ pub(crate) struct Ticket<N: Names, const H: u64> {
     pub(crate) share: Share<Out<N, H>>,
     ghost part: { share.parts ≡ 1 },
     ghost one: { share.amount ≡ 1 },
+}
+
+/// A construction of hall `H` to which a start or an end is due.
+pub(crate) struct Due<N: Names, const H: u64> {
+    /// The key to be made.
+    pub(crate) key: Serial,
+    /// The right to say what becomes of it.
+    pub(crate) ticket: Ticket<N, H>,
 }
 
 /// A ticket of one of the four halls.
