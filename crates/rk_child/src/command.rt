@@ -40,14 +40,9 @@ fn command_for<P: Platform>(
         return Err(Driven::NotStarted);
     };
     let look = |wanted: &Wanted| -> Result<Option<Vec<u8>>, AllocError> {
-        stage.halls.peek(
-            stage.rt,
-            stage.alloc,
-            launch,
-            &wanted.typ,
-            &wanted.desc,
-            now,
-        )
+        stage
+            .halls
+            .peek(stage.rt, launch, &wanted.typ, &wanted.desc, now)
     };
     match expand(stage.alloc, line, subject, look) {
         Ok(command) => Ok(command),

@@ -1,8 +1,9 @@
 -- Receipts and volumes that are looked at one by one.
-use Rattle.std.proofs.Common.{◌≡◌, ◌⊎◌, inl, inr, ⊎_elim, ℕ, ◌+◌, ◌<◌, ◌≤◌, List, length, get_or, refl, sym, ap, subst, ◌∙◌, arith}
-use Rattle.std.specs.Prelude.{slice_get, Option, Some, None, MatchOption, Err}
+use Rattle.std.proofs.Common.{◌≡◌, ◌⊎◌, inl, inr, ⊎_elim, ℕ, zero, suc, ◌+◌, ◌<◌, ◌≤◌, List, [], ◌∷◌, length, get_or, refl, sym, ap, subst, ◌∙◌, arith}
+use Rattle.std.specs.Prelude.{slice_get, Some, Err}
 use Rattle.std.proofs.lemmas.Bool.{cases_lt}
 use Rattle.std.proofs.lemmas.Option.{slice_get_read, slice_get_within}
+use Rattle.rk_record.specs.HallNumbers.{hall_number}
 use Rattle.rk_record.specs.Record.{HallShown}
 use Rattle.rk_record.specs.Turns.{Noted}
 use Rattle.rk_record.specs.Volumes.{VolumeShown}
@@ -10,6 +11,7 @@ use Rattle.rk_record.specs.declared.hall_no.HallNo.TheVariants.{Zero, One, Two, 
 use Rattle.rk_hall.specs.declared.settling.SettleFault.{SettleFault}
 use Rattle.rk_hall.specs.declared.settling.SettleFault.TheVariants.{Uneven, Missing, Forged}
 use Rattle.rk_record.specs.declared.hall_no.HallNo.{HallNo}
+use Rattle.rk_hall.proofs.WhatIsSeen.{same_hall}
 use Rattle.rk_hall.specs.Seats.{SeatShown}
 use Rattle.rk_hall.specs.Closed.{FourShown, closed_of, turns_of, with_seats}
 use Rattle.rk_hall.specs.Settle.{StandsIn, IsHandedIn, Stands, IsGenuine, AreGenuine, FirstAtFault, HasFault, AreGenuineBelow, HasFirstFault, total_of, IsEven, Settles}
@@ -116,44 +118,27 @@ genuine_end h volumes receipts i last heard le k s lt found hall = heard.genuine
 pub below_none : (k : FourShown) (volumes : List VolumeShown) (receipts : List Noted) → AreGenuineBelow k volumes receipts 0
 below_none k volumes receipts hall lt = absurd (omega (arith, lt))
 
--- the receipts below hall 1 are genuine where those of hall 0 are
-pub below_one : (k : FourShown) (volumes : List VolumeShown) (receipts : List Noted) → AreGenuine k.zero.hall volumes receipts (length receipts)
-    → AreGenuineBelow k volumes receipts 1
-below_one k volumes receipts in_zero Zero lt = in_zero
-below_one k volumes receipts in_zero One lt = absurd (omega (arith, lt))
-below_one k volumes receipts in_zero Two lt = absurd (omega (arith, lt))
-below_one k volumes receipts in_zero Three lt = absurd (omega (arith, lt))
+-- the receipts of the halls up to this one are genuine, where its own and those of the halls below it are
+pub below_more : (k : FourShown) (volumes : List VolumeShown) (receipts : List Noted) (n : ℕ) (hall : HallNo) → hall_number hall ≡ n
+    → AreGenuineBelow k volumes receipts n → AreGenuine (closed_of hall k).hall volumes receipts (length receipts)
+    → AreGenuineBelow k volumes receipts (n + 1)
+below_more k volumes receipts n hall is below here other lt =
+    ⊎_elim (λ (b : hall_number other < n). below other b)
+    (λ (e : hall_number other ≡ n).
+    subst (λ (h : HallNo). AreGenuine (closed_of h k).hall volumes receipts (length receipts)) (same_hall hall other (is ∙ sym e)) here)
+    (here_or_before (hall_number other) n lt)
 
--- the receipts below hall 2 are genuine where those of halls 0 and 1 are
-pub below_two : (k : FourShown) (volumes : List VolumeShown) (receipts : List Noted) → AreGenuine k.zero.hall volumes receipts (length receipts)
-    → AreGenuine k.one.hall volumes receipts (length receipts) → AreGenuineBelow k volumes receipts 2
-below_two k volumes receipts in_zero in_one Zero lt = in_zero
-below_two k volumes receipts in_zero in_one One lt = in_one
-below_two k volumes receipts in_zero in_one Two lt = absurd (omega (arith, lt))
-below_two k volumes receipts in_zero in_one Three lt = absurd (omega (arith, lt))
+-- all four, by rising number
+abbrev pub all_halls : List HallNo
+all_halls = Zero ∷ One ∷ Two ∷ Three ∷ []
 
-pub below_three : (k : FourShown) (volumes : List VolumeShown) (receipts : List Noted) → AreGenuine k.zero.hall volumes receipts (length receipts)
-    → AreGenuine k.one.hall volumes receipts (length receipts) → AreGenuine k.two.hall volumes receipts (length receipts)
-    → AreGenuineBelow k volumes receipts 3
-below_three k volumes receipts in_zero in_one in_two Zero lt = in_zero
-below_three k volumes receipts in_zero in_one in_two One lt = in_one
-below_three k volumes receipts in_zero in_one in_two Two lt = in_two
-below_three k volumes receipts in_zero in_one in_two Three lt = absurd (omega (arith, lt))
-
--- what is found in hall 3, where the halls below it have no fault
-pub found_last : (k : FourShown) (volumes : List VolumeShown) (receipts : List Noted) (found : Option SettleFault)
-    → AreGenuine k.zero.hall volumes receipts (length receipts) → AreGenuine k.one.hall volumes receipts (length receipts)
-    → AreGenuine k.two.hall volumes receipts (length receipts)
-    → MatchOption found (AreGenuine k.three.hall volumes receipts (length receipts)) (λ fault. HasFault k.three.hall volumes receipts fault)
-    → MatchOption found (AreGenuineBelow k volumes receipts 4) (λ fault. HasFirstFault k volumes receipts fault)
-found_last k volumes receipts (Some fault) in_zero in_one in_two in_three = (Three, below_three k volumes receipts in_zero in_one in_two, in_three)
-found_last k volumes receipts None in_zero in_one in_two in_three = all_four
-  where
-    all_four : AreGenuineBelow k volumes receipts 4
-    all_four Zero lt = in_zero
-    all_four One lt = in_one
-    all_four Two lt = in_two
-    all_four Three lt = in_three
+-- the number of the hall at a place among all four is that place
+pub number_at : (i : ℕ) (other : HallNo) → i < 4 → hall_number (get_or all_halls i other) ≡ i
+number_at zero other lt = refl
+number_at (suc zero) other lt = refl
+number_at (suc (suc zero)) other lt = refl
+number_at (suc (suc (suc zero))) other lt = refl
+number_at (suc (suc (suc (suc i)))) other lt = absurd (omega (arith, lt))
 
 -- what is said of one hall is said of another that is the same
 pub genuine_there : (h h' : HallShown) (volumes : List VolumeShown) (receipts : List Noted) → h ≡ h' → AreGenuine h volumes receipts (length receipts)
@@ -164,13 +149,6 @@ genuine_there h h' volumes receipts is all = subst (λ (x : HallShown). AreGenui
 pub fault_there : (h h' : HallShown) (volumes : List VolumeShown) (receipts : List Noted) (fault : SettleFault) → h ≡ h'
     → HasFault h volumes receipts fault → HasFault h' volumes receipts fault
 fault_there h h' volumes receipts fault is has = subst (λ (x : HallShown). HasFault x volumes receipts fault) is has
-
--- what was found of the receipts of a hall holds of an equal hall
-pub found_there : (h h' : HallShown) (volumes : List VolumeShown) (receipts : List Noted) (found : Option SettleFault) → h ≡ h'
-    → MatchOption found (AreGenuine h volumes receipts (length receipts)) (λ fault. HasFault h volumes receipts fault)
-    → MatchOption found (AreGenuine h' volumes receipts (length receipts)) (λ fault. HasFault h' volumes receipts fault)
-found_there h h' volumes receipts found is what =
-    subst (λ (x : HallShown). MatchOption found (AreGenuine x volumes receipts (length receipts)) (λ fault. HasFault x volumes receipts fault)) is what
 
 -- a fault of a receipt is one of two kinds
 pub settles_fault : (k : FourShown) (volumes : List VolumeShown) (receipts : List Noted) (fault : SettleFault) → IsEven (total_of k)

@@ -5,6 +5,7 @@ ghost use Rattle.rk_record.specs.Record.{IsRecord};
 ghost use Rattle.rk_hall.specs.Locked.{taken};
 ghost use Rattle.rk_hall.specs.Closed.{closed_of, with_seats};
 
+use crate::four::{by_hall, of_hall};
 use crate::halls::Halls;
 use crate::locked::Locked;
 use crate::names::{Calls, Names};
@@ -171,11 +172,6 @@ impl<N: Names> AllClosed<N> {
     pub(crate) fn hall(&self, hall: HallNo) -> &Hall
         ensures { result.now ≡ (closed_of hall self.now).hall }
     {
-        match hall {
-            HallNo::Zero => self.zero.hall(),
-            HallNo::One => self.one.hall(),
-            HallNo::Two => self.two.hall(),
-            HallNo::Three => self.three.hall(),
-        }
+        by_hall!(hall, HallNo, of_hall!(self.hall()))
     }
 }

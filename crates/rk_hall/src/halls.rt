@@ -8,13 +8,14 @@ ghost use Rattle.rk_hall.specs.Seats.{OwedPart, OwedSeen};
 
 use crate::counts::Counts;
 use crate::end::End;
+use crate::four::{by_hall, of_hall, turn};
 use crate::fresh::Fresh;
 use crate::lapse::{CallFault, Lapse, Owed};
 use crate::lock::Lock;
 use crate::locked::Begun;
 use crate::names::Names;
 use crate::seat::Seat;
-use crate::ticket::OneOfFour;
+use crate::ticket::{Due, OneOfFour};
 use crate::token::{Launch, Running};
 use crate::volume::Volume;
 use rk_machine::{Answer, EventOf, EventStep, How, Ran};
@@ -45,10 +46,10 @@ pub struct Called<N: Names> {
     pub launch: Option<Launch<N>>,
 }
 
-/// What the call of one hall gives, for a caller that knows of all halls.
+/// What a call of one hall gives, for a caller that knows of all halls.
 macro_rules! called {
-    ($call:expr, $of:ident) => {{
-        let (receipt, begun) = $call?;
+    ($hall:ident, $name:ident, $($call:tt)*) => {{
+        let (receipt, begun) = turn!($hall, $name, $($call)*)?;
         let launch = match begun {
             None => None,
             Some(begun) => {
@@ -62,7 +63,7 @@ macro_rules! called {
                     key,
                     subject,
                     depth,
-                    ticket: OneOfFour::$of(ticket),
+                    ticket: OneOfFour::$name(ticket),
                 })
             }
         };
@@ -70,17 +71,17 @@ macro_rules! called {
     }};
 }
 
-/// A token that goes on where its ticket does.
+/// What a call of one hall gives for a construction, with a token of it that goes on where its ticket does.
 macro_rules! goes_on {
-    ($owed:expr, $token:ident, $of:ident, $key:ident, $subject:ident, $depth:ident) => {{
-        let Owed { value, receipt } = $owed;
+    ($hall:ident, $name:ident, $token:ident($key:ident, $subject:ident, $depth:ident), $($call:tt)*) => {{
+        let Owed { value, receipt } = turn!($hall, $name, $($call)*);
         let token = match value {
             None => None,
             Some(ticket) => Some($token {
                 key: $key,
                 subject: $subject,
                 depth: $depth,
-                ticket: OneOfFour::$of(ticket),
+                ticket: OneOfFour::$name(ticket),
             }),
         };
         Owed {
@@ -201,12 +202,7 @@ impl<N: Names> Halls<N> {
         ensures err { IfErr result (λ f. CallRefused (part hall seat.old) f) }
         ensures same { OnErr result (seat.new ≡ seat.old) }
     {
-        match hall {
-            HallNo::Zero => called!(self.zero.call(rt, &mut seat.zero, now, event), Zero),
-            HallNo::One => called!(self.one.call(rt, &mut seat.one, now, event), One),
-            HallNo::Two => called!(self.two.call(rt, &mut seat.two, now, event), Two),
-            HallNo::Three => called!(self.three.call(rt, &mut seat.three, now, event), Three),
-        }
+        by_hall!(hall, HallNo, called!(self.call(rt, seat, now, event)))
     }
 
     /// Says that the handler of a construction runs, or could not be started. It may wait, and takes no memory.
@@ -230,42 +226,14 @@ impl<N: Names> Halls<N> {
             depth,
             ticket,
         } = launch;
-        match ticket {
-            OneOfFour::Zero(ticket) => goes_on!(
-                self.zero
-                    .launched(rt, &mut seat.zero, now, key, ticket, ran),
-                Running,
-                Zero,
-                key,
-                subject,
-                depth
-            ),
-            OneOfFour::One(ticket) => goes_on!(
-                self.one.launched(rt, &mut seat.one, now, key, ticket, ran),
-                Running,
-                One,
-                key,
-                subject,
-                depth
-            ),
-            OneOfFour::Two(ticket) => goes_on!(
-                self.two.launched(rt, &mut seat.two, now, key, ticket, ran),
-                Running,
-                Two,
-                key,
-                subject,
-                depth
-            ),
-            OneOfFour::Three(ticket) => goes_on!(
-                self.three
-                    .launched(rt, &mut seat.three, now, key, ticket, ran),
-                Running,
-                Three,
-                key,
-                subject,
-                depth
-            ),
-        }
+        by_hall!(
+            ticket,
+            OneOfFour(ticket),
+            goes_on!(
+                Running(key, subject, depth),
+                self.launched(rt, seat, now, Due { key, ticket }, ran)
+            )
+        )
     }
 
     /// Says how a handler has ended, and what a piped one has output. It may wait, and takes no memory.
@@ -294,40 +262,14 @@ impl<N: Names> Halls<N> {
         } = running;
         let subject = subject.negated();
         let end = End { how, payload };
-        match ticket {
-            OneOfFour::Zero(ticket) => goes_on!(
-                self.zero.ended(rt, &mut seat.zero, now, key, ticket, end),
-                Launch,
-                Zero,
-                key,
-                subject,
-                depth
-            ),
-            OneOfFour::One(ticket) => goes_on!(
-                self.one.ended(rt, &mut seat.one, now, key, ticket, end),
-                Launch,
-                One,
-                key,
-                subject,
-                depth
-            ),
-            OneOfFour::Two(ticket) => goes_on!(
-                self.two.ended(rt, &mut seat.two, now, key, ticket, end),
-                Launch,
-                Two,
-                key,
-                subject,
-                depth
-            ),
-            OneOfFour::Three(ticket) => goes_on!(
-                self.three.ended(rt, &mut seat.three, now, key, ticket, end),
-                Launch,
-                Three,
-                key,
-                subject,
-                depth
-            ),
-        }
+        by_hall!(
+            ticket,
+            OneOfFour(ticket),
+            goes_on!(
+                Launch(key, subject, depth),
+                self.ended(rt, seat, now, Due { key, ticket }, end)
+            )
+        )
     }
 
     /// Collects the outcome of a session's wait: its key's serial, or an error. `Refused(Einval)` with `Stray` where none may be collected. It may
@@ -345,12 +287,7 @@ impl<N: Names> Halls<N> {
         ensures outcome { IsOutcomeOrNone result.value }
         ensures stray { result.receipt ≡ Err Lapse.Stray → result.value ≡ Answer.Refused Errno.Einval }
     {
-        match hall {
-            HallNo::Zero => self.zero.collect(rt, &mut seat.zero, now, session),
-            HallNo::One => self.one.collect(rt, &mut seat.one, now, session),
-            HallNo::Two => self.two.collect(rt, &mut seat.two, now, session),
-            HallNo::Three => self.three.collect(rt, &mut seat.three, now, session),
-        }
+        by_hall!(hall, HallNo, turn!(self.collect(rt, seat, now, session)))
     }
 
     /// Says that a client is gone. The seat has one client fewer, also where nothing is owed. It may wait, and takes no memory.
@@ -364,22 +301,12 @@ impl<N: Names> Halls<N> {
     ) -> Owed<()>
         ensures { OwedSeen hall now (EventOf.Gone session) (with_part hall seat.old (without_client (part hall seat.old))) seat.new result.receipt }
     {
-        match hall {
-            HallNo::Zero => self.zero.gone(rt, &mut seat.zero, now, session),
-            HallNo::One => self.one.gone(rt, &mut seat.one, now, session),
-            HallNo::Two => self.two.gone(rt, &mut seat.two, now, session),
-            HallNo::Three => self.three.gone(rt, &mut seat.three, now, session),
-        }
+        by_hall!(hall, HallNo, turn!(self.gone(rt, seat, now, session)))
     }
 
     /// Waits while the session has a wait that may not be collected yet. It takes no memory, and changes nothing.
     pub fn until_ready<R: Wait>(&self, rt: &R, hall: HallNo, session: SessionId) {
-        match hall {
-            HallNo::Zero => self.zero.until_ready(rt, session),
-            HallNo::One => self.one.until_ready(rt, session),
-            HallNo::Two => self.two.until_ready(rt, session),
-            HallNo::Three => self.three.until_ready(rt, session),
-        }
+        by_hall!(hall, HallNo, of_hall!(self.until_ready(rt, session)))
     }
 
     /// The payload of the key that a search in the context of a construction's unspent authority hits, where it is Positive. It makes no step. An
@@ -387,42 +314,30 @@ impl<N: Names> Halls<N> {
     pub fn peek<R: Wait>(
         &self,
         rt: &R,
-        alloc: Global,
         launch: &Launch<N>,
         typ: &TypeName,
         description: &Description,
         now: Moment,
     ) -> Result<Option<Vec<u8>>, AllocError> {
         let key = launch.key;
-        match &launch.ticket {
-            OneOfFour::Zero(_) => self.zero.peek(rt, alloc, key, typ, description, now),
-            OneOfFour::One(_) => self.one.peek(rt, alloc, key, typ, description, now),
-            OneOfFour::Two(_) => self.two.peek(rt, alloc, key, typ, description, now),
-            OneOfFour::Three(_) => self.three.peek(rt, alloc, key, typ, description, now),
-        }
+        by_hall!(
+            &launch.ticket,
+            OneOfFour(_),
+            of_hall!(self.peek(rt, key, typ, description, now))
+        )
     }
 
     /// How much there is in a hall at this moment: its keys and its constructions; and how many calls it has answered EDQUOT. It makes no step. It may
     /// wait, and takes no memory.
     pub fn counts<R: Wait>(&self, rt: &R, hall: HallNo) -> Counts {
-        match hall {
-            HallNo::Zero => self.zero.counts(rt),
-            HallNo::One => self.one.counts(rt),
-            HallNo::Two => self.two.counts(rt),
-            HallNo::Three => self.three.counts(rt),
-        }
+        by_hall!(hall, HallNo, of_hall!(self.counts(rt)))
     }
 
     /// Hands out the volume that a hall was recording, and begins the next. Refused as `Hall::roll` is, with nothing changed. It may wait.
     pub fn roll<R: Wait>(&self, rt: &R, hall: HallNo) -> Result<Volume<N>, HallFault>
         ensures { IfOk result (λ v. v.hall ≡ hall) }
     {
-        let rolled = match hall {
-            HallNo::Zero => self.zero.roll(rt),
-            HallNo::One => self.one.roll(rt),
-            HallNo::Two => self.two.roll(rt),
-            HallNo::Three => self.three.roll(rt),
-        };
+        let rolled = by_hall!(hall, HallNo, of_hall!(self.roll(rt)));
         match rolled {
             Ok(volume) => Ok(Volume {
                 volume,

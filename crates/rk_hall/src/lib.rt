@@ -32,11 +32,11 @@
 //!
 //! # How it is built
 //!
-//! `names` and `fresh` have the ledgers of a `Halls`. `part` is a seat's part in one hall, `ticket` the right to say what becomes of one
-//! construction: each has a share of a ledger. `opening` makes a hall without a step. `locked` is what is under the lock of a hall, with the whole
-//! contract of each call, `lock` takes the lock, and `halls` chooses the hall. `seat` and `token` have what callers hold, `volume` a volume that was
-//! handed out, `end` how a handler has ended, `lapse` why there is no receipt, `counts` how much there is in a hall. `closed` is a hall that was taken out of its lock, `genuine` looks for
-//! receipts in it, and `settling` puts the four together.
+//! `names` and `fresh` have the ledgers of a `Halls`. `part` is a seat's part in one hall, `ticket` the right to say what becomes of one construction: each
+//! has a share of a ledger. `opening` makes a hall without a step. `locked` is what is under the lock of a hall, with the whole contract of each call, `lock`
+//! takes the lock, and `halls` chooses the hall, by the macros of `four`. `seat` and `token` have what callers hold, `volume` a volume that was handed out,
+//! `end` how a handler has ended, `lapse` why there is no receipt, `counts` how much there is in a hall. `closed` is a hall that was taken out of its lock,
+//! `genuine` looks for receipts in it, and `settling` puts the four together.
 //!
 //! In `specs/`, `Seats` says what a call does to a seat, and `Locked` what the lock keeps and what a call does under it. `Tickets` says of which hall
 //! a ticket is, `Closed` what is known of a hall without its lock, `Settle` what a settlement answers.
@@ -45,6 +45,7 @@
 mod closed;
 mod counts;
 mod end;
+mod four;
 mod fresh;
 mod genuine;
 mod halls;

@@ -18,7 +18,7 @@ use crate::locked::{Begun, Locked};
 use crate::names::Names;
 use crate::opening::empty_hall;
 use crate::part::Part;
-use crate::ticket::Ticket;
+use crate::ticket::{Due, Ticket};
 use rk_machine::{Answer, EventOf, EventStep, Ran};
 use rk_message::AskStep;
 use rk_names::{Description, Errno, Moment, Serial, SessionId, TypeName};
@@ -117,13 +117,13 @@ impl<N: Names, const H: u64> Lock<N, H> {
         rt: &R,
         part: &mut Part<N, H>,
         now: Moment,
-        key: Serial,
-        ticket: Ticket<N, H>,
+        due: Due<N, H>,
         ran: Ran,
     ) -> Owed<Option<Ticket<N, H>>>
-        ensures step { (hall : HallNo) → hall_number hall ≡ H → OwedPart hall now (EventOf.Launched key ran) part.old part.new result.receipt }
+        ensures step { (hall : HallNo) → hall_number hall ≡ H → OwedPart hall now (EventOf.Launched due.key ran) part.old part.new result.receipt }
         ensures value { is_some result.value ≡ runs_on ran result.receipt }
     {
+        let Due { key, ticket } = due;
         let owed = self.locked.lock(rt).launched(part, now, key, ticket, ran);
         self.tell_if_over(&owed);
         owed
@@ -135,14 +135,14 @@ impl<N: Names, const H: u64> Lock<N, H> {
         rt: &R,
         part: &mut Part<N, H>,
         now: Moment,
-        key: Serial,
-        ticket: Ticket<N, H>,
+        due: Due<N, H>,
         end: End,
     ) -> Owed<Option<Ticket<N, H>>>
-        ensures step { (hall : HallNo) → hall_number hall ≡ H → OwedPart hall now (EventOf.Ended key end.how end.payload) part.old part.new result.receipt }
+        ensures step { (hall : HallNo) → hall_number hall ≡ H → OwedPart hall now (EventOf.Ended due.key end.how end.payload) part.old part.new result.receipt }
         ensures answer { IfOk result.receipt (λ r. is_some result.value ≡ is_followed r.answer) }
         ensures stray { result.receipt ≡ Err Lapse.Stray → result.value ≡ None }
     {
+        let Due { key, ticket } = due;
         let owed = self.locked.lock(rt).ended(part, now, key, ticket, end);
         self.tell_if_over(&owed);
         owed
@@ -198,13 +198,14 @@ impl<N: Names, const H: u64> Lock<N, H> {
     pub(crate) fn peek<R: Wait>(
         &self,
         rt: &R,
-        alloc: Global,
         key: Serial,
         typ: &TypeName,
         description: &Description,
         now: Moment,
     ) -> Result<Option<Vec<u8>>, AllocError> {
-        self.locked.lock(rt).peek(alloc, key, typ, description, now)
+        self.locked
+            .lock(rt)
+            .peek(self.alloc, key, typ, description, now)
     }
 
     /// What the hall holds, and how often a quota has refused (EDQUOT).

@@ -2,6 +2,7 @@
 ghost use Rattle.std.specs.Prelude.{◌≡◌, ◌+◌};
 ghost use Rattle.rk_hall.specs.Seats.{part, with_part, heard, clients_of};
 
+use crate::four::{by_hall, in_all, of_hall};
 use crate::names::Names;
 use crate::part::Part;
 use rk_record::{HallNo, Receipt};
@@ -35,7 +36,7 @@ impl<N: Names> Seat<N> {
     pub fn clients(&self) -> u64
         ensures { result ≡ clients_of self.now }
     {
-        self.zero.clients() + self.one.clients() + self.two.clients() + self.three.clients()
+        in_all!(self.clients())
     }
 
     /// Counts the receipt's number as seen, in its hall: later calls there have greater numbers. It takes no memory.
@@ -43,11 +44,6 @@ impl<N: Names> Seat<N> {
         ensures { self.new ≡ with_part receipt.now.hall self.old (heard (part receipt.now.hall self.old) receipt.now.number) }
     {
         let number = receipt.number();
-        match receipt.hall() {
-            HallNo::Zero => self.zero.hear(number),
-            HallNo::One => self.one.hear(number),
-            HallNo::Two => self.two.hear(number),
-            HallNo::Three => self.three.hear(number),
-        }
+        by_hall!(receipt.hall(), HallNo, of_hall!(self.hear(number)))
     }
 }

@@ -3,6 +3,7 @@ ghost use Rattle.std.specs.Prelude.{◌≡◌, ◌+◌, ◌≤◌, ◌^◌, Matc
 ghost use Rattle.rk_hall.specs.Settle.{total_of, AreGenuineBelow, HasFirstFault, AreSound, Settles, SettlesSome, Says};
 
 use crate::closed::AllClosed;
+use crate::four::in_all;
 use crate::genuine::first_fault;
 use crate::halls::Halls;
 use crate::names::Names;
@@ -93,10 +94,10 @@ impl<N: Names> AllClosed<N> {
         ensures sound { AreSound self.now }
     {
         Total {
-            steps: self.zero.steps() + self.one.steps() + self.two.steps() + self.three.steps(),
-            live: self.zero.live + self.one.live + self.two.live + self.three.live,
-            retired: self.zero.retired + self.one.retired + self.two.retired + self.three.retired,
-            strays: self.zero.strays + self.one.strays + self.two.strays + self.three.strays,
+            steps: in_all!(self.steps()),
+            live: in_all!(self.live),
+            retired: in_all!(self.retired),
+            strays: in_all!(self.strays),
         }
     }
 
@@ -105,18 +106,12 @@ impl<N: Names> AllClosed<N> {
         ensures { MatchOption result (AreGenuineBelow self.now volumes.now receipts.now 4)
             (λ fault. HasFirstFault self.now volumes.now receipts.now fault) }
     {
-        match first_fault(self.hall(HallNo::Zero), volumes, receipts) {
-            Some(fault) => return Some(fault),
-            None => {}
+        for hall in HallNo::ALL {
+            match first_fault(self.hall(hall), volumes, receipts) {
+                Some(fault) => return Some(fault),
+                None => {}
+            }
         }
-        match first_fault(self.hall(HallNo::One), volumes, receipts) {
-            Some(fault) => return Some(fault),
-            None => {}
-        }
-        match first_fault(self.hall(HallNo::Two), volumes, receipts) {
-            Some(fault) => return Some(fault),
-            None => {}
-        }
-        first_fault(self.hall(HallNo::Three), volumes, receipts)
+        None
     }
 }

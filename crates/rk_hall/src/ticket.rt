@@ -2,6 +2,7 @@
 ghost use Rattle.std.specs.Prelude.{◌≡◌};
 
 use crate::names::{Names, Out};
+use rk_names::Serial;
 use std::sync::ledger::Share;
 
 /// The right to say what becomes of one construction of hall `H`. There is one for each construction, and it can't be dropped: it is spent where the
@@ -13,6 +14,14 @@ pub(crate) struct Ticket<N: Names, const H: u64> {
     ghost part: { share.parts ≡ 1 },
     // It counts for one construction.
     ghost one: { share.amount ≡ 1 },
+}
+
+/// A construction of hall `H` to which a start or an end is due.
+pub(crate) struct Due<N: Names, const H: u64> {
+    /// The key to be made.
+    pub(crate) key: Serial,
+    /// The right to say what becomes of it.
+    pub(crate) ticket: Ticket<N, H>,
 }
 
 /// A ticket of one of the four halls.
