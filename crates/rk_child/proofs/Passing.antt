@@ -4,6 +4,7 @@ use Rattle.std.specs.Prelude.{Option, Result, Ok, Err}
 use Rattle.rk_conf.specs.declared.line.Line.{Line}
 use Rattle.rk_frame.specs.Unread.{Unread}
 use Rattle.rk_macro.specs.declared.command.Command.{Command}
+use Rattle.rk_devices.specs.declared.report.Course.{Course}
 use Rattle.rk_devices.specs.declared.driven.Driven.{Driven}
 use Rattle.rk_devices.specs.declared.driven.Driven.TheVariants.{Ended, NoPayload, NotStarted, NotMade, NoMemory, StartFailed, ReadFailed, WaitFailed}
 use Rattle.rk_devices.specs.declared.reading.ReadFault.{ReadFault}
@@ -19,18 +20,7 @@ use Rattle.rk_child.specs.Driving.{EndsAs, HasRun, TellsEnd}
 use Rattle.rk_child.specs.Passing.{Attends, EitherPassed, HasPassed, IsDropped, IsFed, IsSaid, IsServed, Passes}
 use Rattle.rk_child.specs.Rooms.{IsNewRoom}
 use Rattle.rk_child.specs.Talk.{Ends, standing_of}
-
--- the wait says nothing, and hears nothing
-same_story : (c e : ChildShown) (read : Result Unit ReadFault) (driven : Driven) → EndsAs read driven c e → e.story ≡ c.story
-same_story c e (Err f) driven ends = ap (λ (x : ChildShown). x.story) ends.1
-same_story c e (Ok u) (Ended how) ends = ap (λ (x : ChildShown). x.story) ends
-same_story c e (Ok u) WaitFailed ends = ap (λ (x : ChildShown). x.story) ends.1
-same_story c e (Ok u) (NoPayload fault) ends = absurd ends
-same_story c e (Ok u) NotStarted ends = absurd ends
-same_story c e (Ok u) (NotMade fault) ends = absurd ends
-same_story c e (Ok u) NoMemory ends = absurd ends
-same_story c e (Ok u) StartFailed ends = absurd ends
-same_story c e (Ok u) ReadFailed ends = absurd ends
+use Rattle.rk_child.proofs.Running.{same_waited}
 
 -- all that is told of a new child
 told_all : (tells : Bool) (passed : List Passed) → and_then (told_if tells []) passed ≡ told_if tells passed
@@ -41,7 +31,7 @@ told_all false passed = refl
 came_back : (tells : Bool) (n c e : ChildShown) (b new : LauncherShown) (read : Result Unit ReadFault) (ended : Driven) (passed : List Passed)
     → n ≡ new_child tells → c.story ≡ and_then n.story passed → EndsAs read ended c e → new ≡ taken_back b e → new.story ≡ told_if tells passed
 came_back tells n c e b new read ended passed fresh told ends back =
-    ap (λ (l : LauncherShown). l.story) back ∙ same_story c e read ended ends ∙ told ∙ ap (λ (x : ChildShown). and_then x.story passed) fresh
+    ap (λ (l : LauncherShown). l.story) back ∙ (same_waited c e read ended ends).1 ∙ told ∙ ap (λ (x : ChildShown). and_then x.story passed) fresh
     ∙ told_all tells passed
 
 is_plain : (piped : Bool) (frames : Unread) → IsNewRoom piped (Plain frames) → piped ≡ false
@@ -60,18 +50,18 @@ said_of callout old new (shut, inr (rose, first, others, cut, told)) = (Said fir
 
 -- a child that was attended to came back
 pub passed_on : (conf : List Line) (t r : TokenShown) (command : Command) (room : Room) (read : Result Unit ReadFault) (ended driven : Driven) (tells : Bool)
-    (n c e : ChildShown) (b new : LauncherShown) (s0 s1 s2 s3 : SeatShown) (made : Bool) → IsPrepared conf t.subject command room → r ≡ t → Stays s0 s1
-    → Attends room r.key r.subject read s1 (standing_of s2 made) n c → Stays s2 s3 → n ≡ new_child tells → EndsAs read ended c e → new ≡ taken_back b e
+    (n c e : ChildShown) (b new : LauncherShown) (s0 s1 s2 s3 : SeatShown) (course : Course) → IsPrepared conf t.subject command room → r ≡ t → Stays s0 s1
+    → Attends room r.key r.subject read s1 (standing_of s2 course) n c → Stays s2 s3 → n ≡ new_child tells → EndsAs read ended c e → new ≡ taken_back b e
     → HasPassed conf t driven s0 s3 new
-passed_on conf t r command (Plain frames) read ended driven tells n c e b new s0 s1 s2 s3 made (is, fit) same before (passed, ends, told) after fresh waited back
+passed_on conf t r command (Plain frames) read ended driven tells n c e b new s0 s1 s2 s3 course (is, fit) same before (passed, ends, told) after fresh waited back
     run = (
       passed,
       tells,
-      IsServed command read s1 (standing_of s2 made) is (is_plain command.piped frames fit) before
-          (subst (λ (x : TokenShown). Ends x.key read s1 passed (standing_of s2 made)) same ends) after,
+      IsServed command read s1 (standing_of s2 course) is (is_plain command.piped frames fit) before
+          (subst (λ (x : TokenShown). Ends x.key read s1 passed (standing_of s2 course)) same ends) after,
       came_back tells n c e b new read ended passed fresh told waited back,
     )
-passed_on conf t r command (Piped output) read ended driven tells n c e b new s0 s1 s2 s3 made (is, fit) same before ((mid, given, goes, heard), idle) after
+passed_on conf t r command (Piped output) read ended driven tells n c e b new s0 s1 s2 s3 course (is, fit) same before ((mid, given, goes, heard), idle) after
     fresh waited back run =
     let gave = said_of r.subject.callout n mid given in
     let pieces : List (List ℕ) = heard.1 in

@@ -5,6 +5,7 @@ use Rattle.rk_frame.specs.Streams.{HasFault, IsPartial}
 use Rattle.rk_frame.specs.Unread.{Unread}
 use Rattle.rk_devices.specs.declared.device.DeviceFault.{DeviceFault}
 use Rattle.rk_devices.specs.declared.reading.ReadFault.{ReadFault}
+use Rattle.rk_devices.specs.declared.report.Course.{Course}
 use Rattle.rk_devices.specs.declared.reading.ReadFault.TheVariants.{Failed}
 use Rattle.rk_devices.specs.Shown.{ChildShown, Heard, IsHeard, Passed, Reads, Said, and_then, closed, end_heard}
 use Rattle.rk_devices.proofs.Hearing.{some_heard}
@@ -12,7 +13,7 @@ use Rattle.rk_devices.proofs.Rising.{and_more, and_none}
 use Rattle.rk_hall.specs.Seats.{SeatShown}
 use Rattle.rk_talk.specs.Replies.{reply_bytes}
 use Rattle.rk_child.specs.declared.asks.Turned.TheVariants.{NoneYet, AtEnd}
-use Rattle.rk_child.specs.Talk.{AreEnded, HasNoReply, IsAsked, IsCutShort, IsMalformed, Standing, Talked, Talking, Turn, begins, hears, standing_of, turns}
+use Rattle.rk_child.specs.Talk.{AreEnded, HasNoReply, IsAsked, IsCutShort, IsMalformed, Standing, Talked, Talking, Turn, at_first, begins, hears, malformed_then, standing_of, turns}
 use Rattle.rk_child.specs.Turned.{EndsTalk, TakesAll, TakesOne, TalksOn, Turns}
 
 -- ---- one message
@@ -58,12 +59,12 @@ turn_talks key old new f f' from to (body, takes, s, asked, (r, is, wrote)) =
     )
 
 -- a length that no frame has
-fault_ends : (key : ℕ) (old new : ChildShown) (held : List ℕ) (from to : Standing) → HasFault held → new ≡ old → to ≡ from → EndsTalk key old held from new to
+fault_ends : (key : ℕ) (old new : ChildShown) (held : List ℕ) (from to : Standing) → HasFault held → new ≡ old → to ≡ malformed_then from
+    → EndsTalk key old held from new to
 fault_ends key old new held from to bad same stayed = (
   [],
   ap (λ (c : ChildShown). c.story) same ∙ and_none old.story,
-  λ begun story t.
-      subst (λ s. AreEnded key begun s to) (sym (append-nil story)) (IsMalformed held (subst (Talking key begun story held) (sym stayed) t) bad),
+  λ begun story t. subst (λ s. AreEnded key begun s to) (sym (append-nil story)) (IsMalformed held from t bad stayed),
 )
 
 -- a message of which nothing can be said, or whose reply could not be written
@@ -107,9 +108,13 @@ abbrev pub Stands : ℕ → SeatShown → ChildShown → ChildShown → List ℕ
 Stands key begun old now held standing = (passed : List Passed) × (now.story ≡ and_then old.story passed) × Talking key begun passed held standing
 
 -- a handler that has just been started, and holds nothing, is at the beginning of its talk
-pub stands_first : (key : ℕ) (begun : SeatShown) (a : ChildShown) (held : List ℕ) → held ≡ [] → Stands key begun a a held (standing_of begun false)
-stands_first key begun a held none =
-    ([], and_none a.story, subst (λ h. Talking key begun [] h (standing_of begun false)) (sym none) begins)
+pub stands_first : (key : ℕ) (begun : SeatShown) (a : ChildShown) (held : List ℕ) (course : Course) → held ≡ [] → course ≡ at_first
+    → Stands key begun a a held (standing_of begun course)
+stands_first key begun a held course none first = (
+  [],
+  and_none a.story,
+  subst (λ x. Talking key begun [] held (standing_of begun x)) (sym first) (subst (λ h. Talking key begun [] h (standing_of begun at_first)) (sym none) begins),
+)
 
 -- messages got their replies
 pub stands_on : (key : ℕ) (begun : SeatShown) (a b c : ChildShown) (x y : List ℕ) (p q : Standing) → Stands key begun a b x p → TalksOn key b x p c y q

@@ -12,13 +12,13 @@ use Rattle.rk_child.specs.declared.room.Room.{Room}
 use Rattle.rk_child.specs.declared.room.Room.TheVariants.{Plain, Piped}
 use Rattle.rk_child.specs.Commands.{IsCommandFor}
 use Rattle.rk_child.specs.Driving.{HasRun}
-use Rattle.rk_child.specs.Talk.{Ends, Standing, Talked}
+use Rattle.rk_child.specs.Talk.{Ends, Standing, Talked, at_first, standing_of}
 
 -- what passed with a child whose output has this room: a plain handler's asks were answered; a piped one was given the callout, and read
 abbrev pub Attends : Room → ℕ → Subject → Result Unit ReadFault → SeatShown → Standing → ChildShown → ChildShown → Type 0
 Attends (Plain frames) key subject read begun last old new = Talked key read begun last old new
 Attends (Piped output) key subject read begun last old new =
-    IsPiped subject.callout read old new × (last ≡ record { seat = begun; made = false })
+    IsPiped subject.callout read old new × (last ≡ standing_of begun at_first)
 
 -- all of the callout was written, or the first bytes of it
 abbrev pub IsSaid : List ℕ → List Passed → Type 0

@@ -1,9 +1,10 @@
 -- What passes with a plain handler, message by message.
-use Rattle.std.specs.Prelude.{◌≡◌, ◌≢◌, ◌⊎◌, ◌||◌, ℕ, Bool, false, List, [], ◌∷◌, ◌++◌, map, Result, Ok, Err}
+use Rattle.std.specs.Prelude.{◌≡◌, ◌≢◌, ◌⊎◌, ◌||◌, ℕ, Bool, true, false, List, [], ◌∷◌, ◌++◌, map, Result, Ok, Err}
 use Rattle.rk_frame.specs.Framing.{IsBody, frame}
 use Rattle.rk_frame.specs.Streams.{IsPartial, HasFault}
 use Rattle.rk_message.specs.declared.reply.Reply.{Reply}
 use Rattle.rk_devices.specs.declared.reading.ReadFault.{ReadFault}
+use Rattle.rk_devices.specs.declared.report.Course.{Course}
 use Rattle.rk_devices.specs.Shown.{ArePieces, ChildShown, Heard, Passed, Said, and_then}
 use Rattle.rk_hall.specs.Seats.{SeatShown}
 use Rattle.rk_talk.specs.Replies.{reply_bytes}
@@ -14,18 +15,26 @@ use Rattle.rk_child.specs.Replying.{IsReplyTo, SaysOf}
 
 -- ---- one message
 
--- what the seat of a handler's asks shows, and whether one of them has completed the handler's key
+-- what the seat of a handler's asks shows, and what they have come to: whether one has completed the key, and whether they ended at a malformed frame
 pub record Standing : Type 0 where
   pub seat : SeatShown
-  pub made : Bool
+  pub course : Course
 
 -- a handler that stands so
-abbrev pub standing_of : SeatShown → Bool → Standing
-standing_of seat made = record { seat = seat; made = made }
+abbrev pub standing_of : SeatShown → Course → Standing
+standing_of seat course = record { seat = seat; course = course }
+
+-- asks that have come to nothing yet
+abbrev pub at_first : Course
+at_first = record { made = false; malformed = false }
+
+-- the same handler, whose asks ended at a malformed frame
+abbrev pub malformed_then : Standing → Standing
+malformed_then from = standing_of from.seat (record from.course { malformed = true })
 
 -- that is to be said of the message with this body, of the handler of this key; it found the handler standing so, and leaves it standing so
 abbrev pub IsAsked : ℕ → Standing → List ℕ → Saying → Standing → Type 0
-IsAsked key from body s to = SaysOf key body from.seat to.seat s × (to.made ≡ (from.made || says_made key s))
+IsAsked key from body s to = SaysOf key body from.seat to.seat s × (to.course ≡ record from.course { made = from.course.made || says_made key s })
 
 -- a message that was taken, and its reply
 pub record Turn : Type 0 where
@@ -41,7 +50,7 @@ IsTurn key from t to = IsBody t.body × (s : Saying) × IsAsked key from t.body 
 -- what has passed since the asks of the handler of this key began with this seat, what is held of the bytes that came, and how the handler stands
 pub data Talking (key : ℕ) (begun : SeatShown) : List Passed → List ℕ → Standing → Type 0 where
   -- nothing has passed
-  begins : Talking key begun [] [] (standing_of begun false)
+  begins : Talking key begun [] [] (standing_of begun at_first)
   -- bytes are heard only if no whole message is held
   hears : (story : List Passed) (held piece : List ℕ) (standing : Standing) → Talking key begun story held standing → IsPartial held → piece ≢ []
       → Talking key begun (story ++ Heard piece ∷ []) (held ++ piece) standing
@@ -52,7 +61,7 @@ pub data Talking (key : ℕ) (begun : SeatShown) : List Passed → List ℕ → 
 -- the asks are at their end
 pub data AreEnded (key : ℕ) (begun : SeatShown) (story : List Passed) (last : Standing) : Type 0 where
   -- a length stands there that no frame has
-  IsMalformed : (held : List ℕ) → Talking key begun story held last → HasFault held → AreEnded key begun story last
+  IsMalformed : (held : List ℕ) (from : Standing) → Talking key begun story held from → HasFault held → last ≡ malformed_then from → AreEnded key begun story last
   -- a message was taken of which nothing can be said: it gets no reply
   HasNoReply : (body rest : List ℕ) (from : Standing) → Talking key begun story (frame body ++ rest) from → IsBody body → IsAsked key from body Behind last
       → AreEnded key begun story last

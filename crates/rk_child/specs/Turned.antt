@@ -8,7 +8,7 @@ use Rattle.rk_talk.specs.declared.saying.Saying.{Saying}
 use Rattle.rk_child.specs.declared.asks.Turned.{Turned}
 use Rattle.rk_child.specs.declared.asks.Turned.TheVariants.{Replied, NoneYet, AtEnd}
 use Rattle.rk_child.specs.Replying.{EndsAsks}
-use Rattle.rk_child.specs.Talk.{AreEnded, IsAsked, Standing, Talking}
+use Rattle.rk_child.specs.Talk.{AreEnded, IsAsked, Standing, Talking, malformed_then}
 
 -- the message at the front was taken, and its reply written, or tried, or there is none
 abbrev pub TakesOne : ℕ → Bool → ChildShown → Unread → Standing → ChildShown → Unread → Standing → Type 0
@@ -21,7 +21,7 @@ abbrev pub Turns : ℕ → Turned → ChildShown → Unread → Standing → Chi
 Turns key Replied old frames from new frames' to = TakesOne key true old frames from new frames' to
 Turns key NoneYet old frames from new frames' to =
     IsPartial frames'.bytes × (frames'.bytes ≡ frames.bytes) × (4096 ≤ frames'.room) × (new ≡ old) × (to ≡ from)
-Turns key AtEnd old frames from new frames' to = (HasFault frames.bytes × (new ≡ old) × (to ≡ from)) ⊎ TakesOne key false old frames from new frames' to
+Turns key AtEnd old frames from new frames' to = (HasFault frames.bytes × (new ≡ old) × (to ≡ malformed_then from)) ⊎ TakesOne key false old frames from new frames' to
 
 -- whatever talk led here, with this held and the handler standing so, goes on with what has passed
 abbrev pub TalksOn : ℕ → ChildShown → List ℕ → Standing → ChildShown → List ℕ → Standing → Type 0

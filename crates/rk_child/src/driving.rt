@@ -18,8 +18,8 @@ use crate::making::gives_payload;
 use crate::room::Room;
 use crate::spent::{begin, finish, spend, unstarted};
 use rk_devices::{
-    Child, Clock, Driven, Gate, Launcher, OutputFault, ReadFault, Report, StartFault, pipe_through,
-    read_out,
+    Child, Clock, Course, Driven, Gate, Launcher, OutputFault, ReadFault, Report, StartFault,
+    pipe_through, read_out,
 };
 use rk_hall::{Launch, Running};
 use rk_names::Payload;
@@ -105,23 +105,26 @@ fn run<P: Platform>(
             key,
             subject: None,
             driven,
-            made: false,
+            course: Course::new(),
             os_error: None,
         };
         stage.gate.driven(stage.rt, report);
         return (driven, None);
     };
     stage.gate.started(stage.rt, running.key());
-    let (read, output, made) = attend(stage, crew, &running, room, &mut child);
+    let (read, output, course) = attend(stage, crew, &running, room, &mut child);
     let ended = wait_for(&mut child, read);
     crew.launcher.back(child);
     let (driven, payload) = with_output(ended, output);
-    let made = made || gives_payload(driven, &payload);
-    let next = finish(stage, &mut crew.caller, running, driven, made, payload);
+    let course = Course {
+        made: course.made || gives_payload(driven, &payload),
+        malformed: course.malformed,
+    };
+    let next = finish(stage, &mut crew.caller, running, driven, course, payload);
     (driven, next)
 }
 
-// Serves the asks of a plain handler, and tells whether one of them completed its key; or pipes the callout through a piped one, which has an output.
+// Serves the asks of a plain handler, and tells what they have come to; or pipes the callout through a piped one, which has an output.
 #[cycle(driving)]
 fn attend<P: Platform>(
     stage: &Stage<'_, P>,
@@ -132,7 +135,7 @@ fn attend<P: Platform>(
 ) -> (
     Result<(), ReadFault>,
     Option<Result<Payload, OutputFault>>,
-    bool,
+    Course,
 )
     requires bound { (P.Launcher.shown crew.old.launcher).count ≤ most }
     requires empty { IsEmptyRoom room }
@@ -148,13 +151,13 @@ fn attend<P: Platform>(
     match room {
         Room::Plain(frames) => {
             let (key, depth) = (running.key(), running.depth());
-            let (read, made) = serve_asks(stage, crew, key, depth, frames, child);
-            (read, None, made)
+            let (read, course) = serve_asks(stage, crew, key, depth, frames, child);
+            (read, None, course)
         }
         Room::Piped(output) => {
             let mut output = output;
             let read = pipe_through(child, running.subject().callout.as_bytes(), &mut output);
-            (read, Some(output.into_payload()), false)
+            (read, Some(output.into_payload()), Course::new())
         }
     }
 }

@@ -1,9 +1,9 @@
 //! Launches and handlers that are at their end.
-ghost use Rattle.std.specs.Prelude.{◌≡◌, IfSome};
+ghost use Rattle.std.specs.Prelude.{◌≡◌, IfSome, None};
 ghost use Rattle.rk_hall.specs.Seats.{negated};
 ghost use Rattle.rk_talk.specs.Stays.{Stays};
 
-use rk_devices::{Clock, Driven, Gate, Report};
+use rk_devices::{Clock, Course, Driven, Gate, Report};
 use rk_hall::{Launch, Owed, Running};
 use rk_machine::Ran;
 use rk_names::Payload;
@@ -24,13 +24,14 @@ pub fn fail<P: Platform>(stage: &Stage<'_, P>, caller: &mut Caller<P>, launch: L
     }
 }
 
-/// Ends a launch of which nothing is to come, if there is one.
+/// Ends a launch of which nothing is to come, if there is one: its hall is told that no command was started. Without a launch nothing is done.
 pub fn spend<P: Platform>(
     stage: &Stage<'_, P>,
     caller: &mut Caller<P>,
     launch: Option<Launch<P::Names>>,
 )
-    ensures { Stays caller.old.seat caller.new.seat }
+    ensures stays { Stays caller.old.seat caller.new.seat }
+    ensures idle { launch ≡ None → caller.new.seat ≡ caller.old.seat }
 {
     if let Some(launch) = launch {
         fail(stage, caller, launch);
@@ -51,7 +52,7 @@ pub fn unstarted<P: Platform>(
         key: launch.key(),
         subject: Some(launch.subject()),
         driven,
-        made: false,
+        course: Course::new(),
         os_error,
     };
     stage.gate.driven(stage.rt, report);
@@ -76,14 +77,14 @@ pub fn begin<P: Platform>(
     value
 }
 
-/// Reports what became of a handler, and whether it made its key, and tells its hall how it has ended. A launch comes back if another command is to
+/// Reports what became of a handler, with what it has done by its output, and tells its hall how it has ended. A launch comes back if another command is to
 /// follow.
 pub fn finish<P: Platform>(
     stage: &Stage<'_, P>,
     caller: &mut Caller<P>,
     running: Running<P::Names>,
     driven: Driven,
-    made: bool,
+    course: Course,
     payload: Option<Payload>,
 ) -> Option<Launch<P::Names>>
     ensures token { IfSome result (λ l. l ≡ negated running) }
@@ -93,7 +94,7 @@ pub fn finish<P: Platform>(
         key: running.key(),
         subject: Some(running.subject()),
         driven,
-        made,
+        course,
         os_error: None,
     };
     stage.gate.driven(stage.rt, report);

@@ -33,4 +33,4 @@ pub use device::{Child, DeviceFault, Launcher, StartFault};
 pub use driven::Driven;
 pub use output::{Output, OutputFault};
 pub use reading::{MAX_READS, PIECE, ReadFault, pipe_through, read_out};
-pub use report::Report;
+pub use report::{Course, Report};
