@@ -439,17 +439,25 @@ def told_whole(program):
 
 
 def made_or_not(program):
-    """A plain handler that exits with 0 and has not made its key is a warning; one that has made it, or has said that it can't be made, is none."""
-    conf = "create user m:* * %room/makes %k\ncreate user n:* * %room/negates %k\ncreate user l:* * /bin/true\n"
+    """A plain handler that exits with 0 and has not made its key is a warning; one that has made it, or has said that it can't be made, is none. The warning
+    says if its output was no request."""
+    conf = "create user m:* * %room/makes %k\ncreate user n:* * %room/negates %k\ncreate user l:* * /bin/true\ncreate user g:* * /bin/echo text\n" \
+        "create user s:* * %room/says\ncreate user b:* * %room/both %k\n"
     with Daemon(program, conf, "--clients", "1") as daemon:
         daemon.script("makes", '#!/bin/sh\n%ctl assume "$1" && %ctl instantiate "$1" made none\n')
         daemon.script("negates", '#!/bin/sh\n%ctl assume "$1" && %ctl negate "$1" 9 none\n')
+        daemon.script("says", '#!/bin/sh\necho text\nexit 3\n')
+        daemon.script("both", '#!/bin/sh\n%ctl assume "$1" && %ctl instantiate "$1" made none && echo text\n')
         with daemon.client() as client:
-            replies = client.ask(want(b"m:1"), want(b"n:1"), want(b"l:1"))
+            replies = client.ask(want(b"m:1"), want(b"n:1"), want(b"l:1"), want(b"g:1"), want(b"s:1"), want(b"b:1"))
         status, lines = daemon.end()
         told = [text_of(line) for line in lines if "handler of key" in line]
-        warning = 'warn: handler of key 20 (create user "l:1", uid 1000; line 3, /bin/true): exit status 0, and the key was not made'
-        return differs((replies, status, told), ([12, "E126", "E126"], 0, [warning]))
+        wanted = [
+            'warn: handler of key 20 (create user "l:1", uid 1000; line 3, /bin/true): exit status 0, and the key was not made',
+            'warn: handler of key 24 (create user "g:1", uid 1000; line 4, /bin/echo): exit status 0, and the key was not made; its output is no request',
+            f'warn: handler of key 28 (create user "s:1", uid 1000; line 5, {daemon.room}/says): exit status 3; its output is no request',
+        ]
+        return differs((replies, status, told), ([12, "E126", "E126", "E126", "E126", 32], 0, wanted))
 
 
 def piped(program, name, script, want_payload, callout=b"x", warning=None):
