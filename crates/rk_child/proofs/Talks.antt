@@ -161,7 +161,7 @@ stands_used key begun f a b held standing (passed, told, t) none = (passed, inl 
 -- the asks are at their end, and what is still output is heard and dropped
 pub stands_out : (key : ℕ) (begun : SeatShown) (read : Result Unit ReadFault) (a b c d e : ChildShown) (held : List ℕ) (from last : Standing)
     → Stands key begun a b held from → EndsTalk key b held from c last → d ≡ closed c → IsHeard read d e → Talked key read begun last a e
-stands_out key begun read a b c d e held from last (one, told, t) (two, more, ends) shut (same, pieces, all, heard) = at read heard
+stands_out key begun read a b c d e held from last (one, told, t) (two, more, ends) shut (pieces, (same, all, heard)) = at read heard
   where
     before : List Passed
     before = one ++ two

@@ -5,4 +5,5 @@ pub mod Passing
 pub mod Replying
 pub mod Rooms
 pub mod Talk
+pub mod Telling
 pub mod Turned

@@ -1,46 +1,64 @@
 -- What passes with the child of a launch.
-use Rattle.std.specs.Prelude.{◌≡◌, ◌⊎◌, ℕ, Bool, true, false, List, [], ◌∷◌, ◌++◌, map, Result}
+use Rattle.std.specs.Prelude.{◌≡◌, ◌⊎◌, ℕ, Bool, true, false, List, [], ◌∷◌, ◌++◌, map, Option, None, Some, Result}
+use Rattle.std.specs.List.{concat}
 use Rattle.rk_conf.specs.declared.line.Line.{Line}
 use Rattle.rk_macro.specs.declared.command.Command.{Command}
 use Rattle.rk_macro.specs.declared.subject.Subject.{Subject}
 use Rattle.rk_devices.specs.declared.driven.Driven.{Driven}
+use Rattle.rk_devices.specs.declared.driven.Driven.TheVariants.{Ended, ReadFailed, WaitFailed}
+use Rattle.rk_devices.specs.declared.output.OutputFault.{OutputFault}
 use Rattle.rk_devices.specs.declared.reading.ReadFault.{ReadFault}
+use Rattle.rk_devices.specs.Outputs.{payload_of, put_out}
 use Rattle.rk_devices.specs.Shown.{ArePieces, ChildShown, Heard, IsPiped, LauncherShown, Passed, Said, callout_said, end_heard, told_if}
 use Rattle.rk_hall.specs.Seats.{SeatShown, TokenShown, negated}
 use Rattle.rk_talk.specs.Stays.{Stays}
 use Rattle.rk_child.specs.declared.room.Room.{Room}
 use Rattle.rk_child.specs.declared.room.Room.TheVariants.{Plain, Piped}
 use Rattle.rk_child.specs.Commands.{IsCommandFor}
-use Rattle.rk_child.specs.Driving.{HasRun}
+use Rattle.rk_child.specs.Driving.{HasRun, told_with}
 use Rattle.rk_child.specs.Talk.{Ends, Standing, Talked, at_first, standing_of}
 
--- what passed with a child whose output has this room: a plain handler's asks were answered; a piped one was given the callout, and read
-abbrev pub Attends : Room → ℕ → Subject → Result Unit ReadFault → SeatShown → Standing → ChildShown → ChildShown → Type 0
-Attends (Plain frames) key subject read begun last old new = Talked key read begun last old new
-Attends (Piped output) key subject read begun last old new =
-    IsPiped subject.callout read old new × (last ≡ standing_of begun at_first)
+-- what passed with a child whose output has this room, and what was kept of that: a plain handler's asks were answered; a piped one was given the callout, and its
+-- output kept
+abbrev pub Attends : Room → ℕ → Subject → Result Unit ReadFault → Option (Result (List ℕ) OutputFault) → SeatShown → Standing → ChildShown → ChildShown → Type 0
+Attends (Plain frames) key subject read output begun last old new = Talked key read begun last old new × (output ≡ None)
+Attends (Piped before) key subject read output begun last old new = (after : Option (List ℕ)) × IsPiped subject.callout read old new before after
+    × (output ≡ Some (payload_of after)) × (last ≡ standing_of begun at_first)
 
 -- all of the callout was written, or the first bytes of it
 abbrev pub IsSaid : List ℕ → List Passed → Type 0
 IsSaid callout said = (said ≡ callout_said callout) ⊎ ((first others : List ℕ) × (callout ≡ first ++ others) × (said ≡ Said first ∷ []))
 
--- what passed with the child that was started for a launch, of a seat before and after
-pub data Passes (conf : List Line) (launch : TokenShown) (old new : SeatShown) (story : List Passed) : Type 0 where
+-- what is reported is how the child has ended, whatever its output was
+abbrev pub IsOfChild : Driven → Type 0
+IsOfChild (Ended how) = Unit {0}
+IsOfChild ReadFailed = Unit {0}
+IsOfChild WaitFailed = Unit {0}
+IsOfChild _ = ⊥
+
+-- what is reported of a piped handler, of whose output these pieces were heard: how it has ended; or if that is well, and all the bytes together are no
+-- payload, that
+abbrev pub IsJudged : List (List ℕ) → Driven → Type 0
+IsJudged pieces driven = (ended : Driven) × IsOfChild ended × (driven ≡ told_with ended (Some (payload_of (put_out (Some []) (concat pieces)))))
+
+-- what passed with the child that was started for a launch, of a seat before and after, and what is reported of it
+pub data Passes (conf : List Line) (launch : TokenShown) (driven : Driven) (old new : SeatShown) (story : List Passed) : Type 0 where
   -- its hall did not owe its start any more: its output was heard and dropped
   IsDropped : (read : Result Unit ReadFault) (pieces : List (List ℕ)) → ArePieces pieces → story ≡ map Heard pieces ++ end_heard read
-      → Passes conf launch old new story
+      → IsOfChild driven → Passes conf launch driven old new story
   -- it is the plain handler of a line for the launch: its asks were answered, each in its turn
   IsServed : (command : Command) (read : Result Unit ReadFault) (first : SeatShown) (last : Standing) → IsCommandFor conf launch.subject command
-      → command.piped ≡ false → Stays old first → Ends launch.key read first story last → Stays last.seat new → Passes conf launch old new story
-  -- it is the piped handler of a line for the launch: the callout was written, and then its output was heard
+      → command.piped ≡ false → Stays old first → Ends launch.key read first story last → Stays last.seat new → IsOfChild driven
+      → Passes conf launch driven old new story
+  -- it is the piped handler of a line for the launch: the callout was written, and then its output was heard, and judged
   IsFed : (command : Command) (read : Result Unit ReadFault) (said : List Passed) (pieces : List (List ℕ)) → IsCommandFor conf launch.subject command
       → command.piped ≡ true → IsSaid launch.subject.callout said → ArePieces pieces → story ≡ said ++ (map Heard pieces ++ end_heard read)
-      → Passes conf launch old new story
+      → IsJudged pieces driven → Passes conf launch driven old new story
 
 -- what passed with the child that came back last, if one ran, and its launcher tells it
 abbrev pub HasPassed : List Line → TokenShown → Driven → SeatShown → SeatShown → LauncherShown → Type 0
 HasPassed conf launch driven old new l = HasRun driven
-    → (story : List Passed) × (tells : Bool) × Passes conf launch old new story × (l.story ≡ told_if tells story)
+    → (story : List Passed) × (tells : Bool) × Passes conf launch driven old new story × (l.story ≡ told_if tells story)
 
 -- of the two commands that a launch may have it is that of the one or the other
 abbrev pub EitherPassed : List Line → TokenShown → Driven → SeatShown → SeatShown → LauncherShown → Type 0

@@ -141,7 +141,7 @@ fn attend<P: Platform>(
     requires empty { IsEmptyRoom room }
     ensures runs { Runs (running.now.depth + 1) (P.Launcher.shown crew.old.launcher) (P.Launcher.shown crew.new.launcher) }
     ensures child { GoesOn (P.Launcher.Started.shown child.old) (P.Launcher.Started.shown child.new) }
-    ensures attends { Attends room running.now.key running.now.subject result.0 crew.old.caller.seat (standing_of crew.new.caller.seat result.2)
+    ensures attends { Attends room running.now.key running.now.subject result.0 result.1 crew.old.caller.seat (standing_of crew.new.caller.seat result.2)
         (P.Launcher.Started.shown child.old) (P.Launcher.Started.shown child.new) }
     ensures reads { ReadsUpTo 1048576 result.0 (P.Launcher.Started.shown child.old) (P.Launcher.Started.shown child.new) }
     ensures end { OnOk result.0 ((P.Launcher.Started.shown child.new).at_end ≡ true) }

@@ -1,7 +1,9 @@
 //! Launches and handlers that are at their end.
 ghost use Rattle.std.specs.Prelude.{◌≡◌, IfSome, None};
+ghost use Rattle.rk_devices.specs.Ends.{told_end};
 ghost use Rattle.rk_hall.specs.Seats.{negated};
 ghost use Rattle.rk_talk.specs.Stays.{Stays};
+ghost use Rattle.rk_child.specs.Telling.{HasBegun, HasFinished};
 
 use rk_devices::{Clock, Course, Driven, Gate, Report};
 use rk_hall::{Launch, Owed, Running};
@@ -11,7 +13,8 @@ use rk_talk::{Caller, Platform, Stage};
 
 /// Tells that no command was started for a launch.
 pub fn fail<P: Platform>(stage: &Stage<'_, P>, caller: &mut Caller<P>, launch: Launch<P::Names>)
-    ensures { Stays caller.old.seat caller.new.seat }
+    ensures told { HasBegun launch Ran.Failed caller.old.seat caller.new.seat None }
+    ensures stays { Stays caller.old.seat caller.new.seat }
 {
     let now = caller.clock.now();
     let Owed { value, receipt } = stage
@@ -66,6 +69,7 @@ pub fn begin<P: Platform>(
     launch: Launch<P::Names>,
     ran: Ran,
 ) -> Option<Running<P::Names>>
+    ensures begins { HasBegun launch ran caller.old.seat caller.new.seat result }
     ensures token { IfSome result (λ r. r ≡ launch) }
     ensures stays { Stays caller.old.seat caller.new.seat }
 {
@@ -87,6 +91,7 @@ pub fn finish<P: Platform>(
     course: Course,
     payload: Option<Payload>,
 ) -> Option<Launch<P::Names>>
+    ensures ends { HasFinished running (told_end driven) payload caller.old.seat caller.new.seat result }
     ensures token { IfSome result (λ l. l ≡ negated running) }
     ensures stays { Stays caller.old.seat caller.new.seat }
 {

@@ -8,6 +8,7 @@ use Rattle.rk_devices.specs.declared.device.StartFault.{StartFault}
 use Rattle.rk_devices.specs.declared.reading.ReadFault.{ReadFault}
 use Rattle.rk_devices.specs.declared.reading.ReadFault.TheVariants.{Failed, UsedUp}
 use Rattle.rk_devices.specs.Counts.{Rose, both, raised, raised_by, IsRaised}
+use Rattle.rk_devices.specs.Outputs.{kept_of}
 
 -- what passes between a child and who runs it: bytes of its output are heard, none at its end; bytes are written to its input
 pub data Passed : Type 0 where
@@ -131,14 +132,21 @@ abbrev pub end_heard : Result Unit ReadFault → List Passed
 end_heard (Ok u) = Heard [] ∷ []
 end_heard (Err f) = []
 
--- a child was read, and nothing else passed: pieces of its output were heard, and then its end, where it was read to that
-abbrev pub IsHeard : Result Unit ReadFault → ChildShown → ChildShown → Type 0
-IsHeard read old new = (new.closed ≡ old.closed)
-    × (pieces : List (List ℕ)) × ArePieces pieces × (new.story ≡ and_then old.story (map Heard pieces ++ end_heard read))
+-- a child was read, and nothing else passed: these pieces of its output were heard, and then its end, where it was read to that
+abbrev pub HearsPieces : List (List ℕ) → Result Unit ReadFault → ChildShown → ChildShown → Type 0
+HearsPieces pieces read old new = (new.closed ≡ old.closed) × ArePieces pieces × (new.story ≡ and_then old.story (map Heard pieces ++ end_heard read))
 
--- a piped handler was given the callout, and then read
-abbrev pub IsPiped : List ℕ → Result Unit ReadFault → ChildShown → ChildShown → Type 0
-IsPiped callout read old new = (given : ChildShown) × IsGiven callout old given × GoesOn given new × IsHeard read given new
+-- some pieces of its output were
+abbrev pub IsHeard : Result Unit ReadFault → ChildShown → ChildShown → Type 0
+IsHeard read old new = (pieces : List (List ℕ)) × HearsPieces pieces read old new
+
+-- and they were kept, behind what was kept before
+abbrev pub IsKept : Result Unit ReadFault → ChildShown → ChildShown → Option (List ℕ) → Option (List ℕ) → Type 0
+IsKept read old new before after = (pieces : List (List ℕ)) × HearsPieces pieces read old new × (after ≡ kept_of before pieces)
+
+-- a piped handler was given the callout, and then its output read and kept
+abbrev pub IsPiped : List ℕ → Result Unit ReadFault → ChildShown → ChildShown → Option (List ℕ) → Option (List ℕ) → Type 0
+IsPiped callout read old new before after = (given : ChildShown) × IsGiven callout old given × GoesOn given new × IsKept read given new before after
 
 -- why a child was not read to its end: a read failed, and the count rose; or it was read as often as it may be
 abbrev pub FailsReading : ReadFault → ChildShown → ChildShown → Type 0

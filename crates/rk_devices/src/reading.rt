@@ -1,6 +1,6 @@
 //! Reading a child's output to its end.
 ghost use Rattle.std.specs.Prelude.{◌≡◌, ◌≤◌, ◌-◌, OnOk, IfErr, true};
-ghost use Rattle.rk_devices.specs.Shown.{FailsReading, GoesOn, IsGiven, IsHeard, IsPiped, ReadsUpTo};
+ghost use Rattle.rk_devices.specs.Shown.{FailsReading, GoesOn, IsGiven, IsHeard, IsKept, IsPiped, ReadsUpTo};
 
 use crate::device::Child;
 use crate::output::Output;
@@ -58,7 +58,7 @@ fn give<C: Child>(child: &mut C, callout: &[u8])
 // Keeps the output of a child, to its end.
 fn keep<C: Child>(child: &mut C, output: &mut Output) -> Result<(), ReadFault>
     ensures goes_on { GoesOn (C.shown child.old) (C.shown child.new) }
-    ensures heard { IsHeard result (C.shown child.old) (C.shown child.new) }
+    ensures kept { IsKept result (C.shown child.old) (C.shown child.new) output.old output.new }
     ensures reads { ReadsUpTo 1048576 result (C.shown child.old) (C.shown child.new) }
     ensures end { OnOk result ((C.shown child.new).at_end ≡ true) }
     ensures fault { IfErr result (λ f. FailsReading f (C.shown child.old) (C.shown child.new)) }
@@ -82,7 +82,7 @@ pub fn pipe_through<C: Child>(
     output: &mut Output,
 ) -> Result<(), ReadFault>
     ensures goes_on { GoesOn (C.shown child.old) (C.shown child.new) }
-    ensures piped { IsPiped callout.now result (C.shown child.old) (C.shown child.new) }
+    ensures piped { IsPiped callout.now result (C.shown child.old) (C.shown child.new) output.old output.new }
     ensures reads { ReadsUpTo 1048576 result (C.shown child.old) (C.shown child.new) }
     ensures end { OnOk result ((C.shown child.new).at_end ≡ true) }
     ensures fault { IfErr result (λ f. FailsReading f (C.shown child.old) (C.shown child.new)) }

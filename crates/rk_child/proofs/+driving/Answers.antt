@@ -190,12 +190,12 @@ driving::drive-returns-clause-passed g t c =
     either_passed c.args.stage.now.conf.now c.args.launch c.in-Some.launch c.args.crew.now.caller.seat c.run-first.new.crew.caller.seat
     c.run-second.new.crew.caller.seat c.spend.new.caller.seat (shown c.run-first.new.crew.launcher) (shown c.run-second.new.crew.launcher)
     c.run-first.result.0 c.run-second.result.0 c.later.result next c.run-first.ensures.passed c.run-second.ensures.passed c.run-second.ensures.end
-    c.run-first.ensures.stays c.run-second.ensures.stays c.spend.ensures.stays
+    c.run-first.ensures.stays c.run-second.ensures.stays c.spend.ensures.stays c.later.ensures
 
 pub driving::run-returns-in_default-clause-passed : goal.driving::run-returns-in_default-clause-passed
 driving::run-returns-in_default-clause-passed g t c =
     let child = g.P.Launcher.Started.Child.shown in
-    dropped_on c.args.stage.now.conf.now c.args.launch c.read_out-read.result c.wait_for-driven.result c.wait_for-driven.result _
+    dropped_on c.args.stage.now.conf.now c.args.launch c.read_out-read.result c.wait_for-driven.result _
     (child c.in-Ok-start.child) (child c.close_input.new.self) (child c.read_out-read.new.child) (child c.wait_for-driven.new.child)
     (g.P.Launcher.Launcher.shown c.start.new.self) (g.P.Launcher.Launcher.shown c.back.new.self) c.args.crew.now.caller.seat c.begin.new.caller.seat
     c.in-Ok-start.ensures.fresh c.close_input.ensures c.read_out-read.ensures.heard c.wait_for-driven.ensures c.back.ensures
@@ -260,11 +260,11 @@ driving::run-returns g t c =
       why = run_why c.args.stage.now.conf.now c.args.launch.subject driven h.3;
       commands = tried_it c.args.stage.now.conf.now c.args.launch.subject driven a s b new _ (child c.wait_for-ended.new.child) c.in-Ok.ensures.ok.0 h.3
           c.in-Ok-start.ensures.starts c.attend-read.ensures.runs.tried c.back-2.ensures;
-      passed = passed_on c.args.stage.now.conf.now c.args.launch _ _ _ c.attend-read.result.0 c.wait_for-ended.result driven _
+      passed = passed_on c.args.stage.now.conf.now c.args.launch _ _ _ c.attend-read.result.0 c.attend-read.result.1 c.wait_for-ended.result driven _
           (child c.in-Ok-start.child) (child c.attend-read.new.child) (child c.wait_for-ended.new.child) b new c.args.crew.now.caller.seat
           c.begin.new.caller.seat c.attend-read.new.crew.caller.seat c.finish-next.new.caller.seat c.attend-read.result.2 c.in-Ok.ensures.ok
           c.in-Some.ensures.token c.in-Some.ensures.stays c.attend-read.ensures.attends c.finish-next.ensures.stays c.in-Ok-start.ensures.fresh
-          c.wait_for-ended.ensures c.back-2.ensures;
+          c.wait_for-ended.ensures c.back-2.ensures c.with_output-driven.ensures.told;
       next = search rules;
       stays = search rules;
     }
