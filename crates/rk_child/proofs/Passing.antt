@@ -1,6 +1,6 @@
 -- What passes with the child of a launch.
 use Rattle.std.proofs.Common.{◌≡◌, ℕ, Bool, true, false, inl, inr, List, [], ◌∷◌, ◌++◌, map, refl, ap, subst, ◌∙◌}
-use Rattle.std.specs.Prelude.{Option, Result, Ok, Err}
+use Rattle.std.specs.Prelude.{Option, Result}
 use Rattle.rk_conf.specs.declared.line.Line.{Line}
 use Rattle.rk_frame.specs.Unread.{Unread}
 use Rattle.rk_macro.specs.declared.command.Command.{Command}
@@ -19,18 +19,7 @@ use Rattle.rk_child.specs.Driving.{EndsAs, HasRun, TellsEnd}
 use Rattle.rk_child.specs.Passing.{Attends, EitherPassed, HasPassed, IsDropped, IsFed, IsSaid, IsServed, Passes}
 use Rattle.rk_child.specs.Rooms.{IsNewRoom}
 use Rattle.rk_child.specs.Talk.{Ends, standing_of}
-
--- the wait says nothing, and hears nothing
-same_story : (c e : ChildShown) (read : Result Unit ReadFault) (driven : Driven) → EndsAs read driven c e → e.story ≡ c.story
-same_story c e (Err f) driven ends = ap (λ (x : ChildShown). x.story) ends.1
-same_story c e (Ok u) (Ended how) ends = ap (λ (x : ChildShown). x.story) ends
-same_story c e (Ok u) WaitFailed ends = ap (λ (x : ChildShown). x.story) ends.1
-same_story c e (Ok u) (NoPayload fault) ends = absurd ends
-same_story c e (Ok u) NotStarted ends = absurd ends
-same_story c e (Ok u) (NotMade fault) ends = absurd ends
-same_story c e (Ok u) NoMemory ends = absurd ends
-same_story c e (Ok u) StartFailed ends = absurd ends
-same_story c e (Ok u) ReadFailed ends = absurd ends
+use Rattle.rk_child.proofs.Running.{same_waited}
 
 -- all that is told of a new child
 told_all : (tells : Bool) (passed : List Passed) → and_then (told_if tells []) passed ≡ told_if tells passed
@@ -41,7 +30,7 @@ told_all false passed = refl
 came_back : (tells : Bool) (n c e : ChildShown) (b new : LauncherShown) (read : Result Unit ReadFault) (ended : Driven) (passed : List Passed)
     → n ≡ new_child tells → c.story ≡ and_then n.story passed → EndsAs read ended c e → new ≡ taken_back b e → new.story ≡ told_if tells passed
 came_back tells n c e b new read ended passed fresh told ends back =
-    ap (λ (l : LauncherShown). l.story) back ∙ same_story c e read ended ends ∙ told ∙ ap (λ (x : ChildShown). and_then x.story passed) fresh
+    ap (λ (l : LauncherShown). l.story) back ∙ (same_waited c e read ended ends).1 ∙ told ∙ ap (λ (x : ChildShown). and_then x.story passed) fresh
     ∙ told_all tells passed
 
 is_plain : (piped : Bool) (frames : Unread) → IsNewRoom piped (Plain frames) → piped ≡ false

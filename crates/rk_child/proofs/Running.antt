@@ -188,17 +188,17 @@ few_reads t c (Ok u) reads = reads
 few_reads t c (Err Failed) reads = reads
 few_reads t c (Err UsedUp) reads = let is : c.reads ≡ 1048576 = reads in omega (arith, is)
 
--- the wait reads nothing
-same_reads : (c e : ChildShown) (read : Result Unit ReadFault) (driven : Driven) → EndsAs read driven c e → e.reads ≡ c.reads
-same_reads c e (Err f) driven ends = ap (λ (x : ChildShown). x.reads) ends.1
-same_reads c e (Ok u) (Ended how) ends = ap (λ (x : ChildShown). x.reads) ends
-same_reads c e (Ok u) WaitFailed ends = ap (λ (x : ChildShown). x.reads) ends.1
-same_reads c e (Ok u) (NoPayload fault) ends = absurd ends
-same_reads c e (Ok u) NotStarted ends = absurd ends
-same_reads c e (Ok u) (NotMade fault) ends = absurd ends
-same_reads c e (Ok u) NoMemory ends = absurd ends
-same_reads c e (Ok u) StartFailed ends = absurd ends
-same_reads c e (Ok u) ReadFailed ends = absurd ends
+-- the wait reads nothing, and nothing passes meanwhile
+pub same_waited : (c e : ChildShown) (read : Result Unit ReadFault) (driven : Driven) → EndsAs read driven c e → (e.reads ≡ c.reads) × (e.story ≡ c.story)
+same_waited c e (Err f) driven ends = (ap (λ (x : ChildShown). x.reads) ends.1, ap (λ (x : ChildShown). x.story) ends.1)
+same_waited c e (Ok u) (Ended how) ends = (ap (λ (x : ChildShown). x.reads) ends, ap (λ (x : ChildShown). x.story) ends)
+same_waited c e (Ok u) WaitFailed ends = (ap (λ (x : ChildShown). x.reads) ends.1, ap (λ (x : ChildShown). x.story) ends.1)
+same_waited c e (Ok u) (NoPayload fault) ends = absurd ends
+same_waited c e (Ok u) NotStarted ends = absurd ends
+same_waited c e (Ok u) (NotMade fault) ends = absurd ends
+same_waited c e (Ok u) NoMemory ends = absurd ends
+same_waited c e (Ok u) StartFailed ends = absurd ends
+same_waited c e (Ok u) ReadFailed ends = absurd ends
 
 -- it is waited for once its input is closed
 shut_first : (t : Bool) (c e : ChildShown) (read : Result Unit ReadFault) (driven : Driven) → GoesOn (new_child t) c → EndsAs read driven c e
@@ -220,7 +220,7 @@ pub came_back : (d : ℕ) (a b : LauncherShown) (command : Command) (t : Bool) (
     → Runs d a (taken_back b e) × FaultRose driven a (taken_back b e) × TellsEnd driven a (taken_back b e) × HasRun driven
 came_back d a b command t c e read driven deep f goes reads end fails ends =
     let told = told_back a b t c e read driven f.rises f.bound goes reads end fails ends in
-    let few : e.reads ≤ 1048576 = subst (λ n. n ≤ 1048576) (sym (same_reads c e read driven ends)) (few_reads t c read reads) in
+    let few : e.reads ≤ 1048576 = subst (λ n. n ≤ 1048576) (sym (same_waited c e read driven ends).0) (few_reads t c read reads) in
     (runs_child d a b command e deep few (shut_first t c e read driven goes ends) f, told.0, told.1, told.2)
 
 -- a fault that came later

@@ -31,6 +31,15 @@ pub enum Turned {
     AtEnd,
 }
 
+/// The asks of a plain handler, as far as they have come.
+#[derive(Drop)]
+struct Asks {
+    /// What it has put out and was not yet taken as a message.
+    frames: Frames,
+    /// Whether one of them completed the key.
+    made: bool,
+}
+
 /// Reads what a plain handler puts out to its end, and answers each ask in it. A reply that can't be written, a length that no frame has, or an ask of
 /// which nothing can be said ends the asks: then the input is closed, and the rest is read and dropped. Also whether one of the asks completed the key.
 #[cycle(driving)]
@@ -53,27 +62,29 @@ pub fn serve_asks<P: Platform>(
     ensures fault { IfErr result.0 (λ f. FailsReading f (P.Launcher.Started.shown child.old) (P.Launcher.Started.shown child.new)) }
     ensures stays { Stays crew.old.caller.seat crew.new.caller.seat }
 {
-    let mut frames = frames;
-    let mut made = false;
+    let mut asks = Asks {
+        frames,
+        made: false,
+    };
     let mut piece = [0u8; PIECE];
     for reads in 0..MAX_READS {
         let count = match child.read(&mut piece) {
-            Ok(0) => return (Ok(()), made),
+            Ok(0) => return (Ok(()), asks.made),
             Ok(count) => count,
-            Err(_) => return (Err(ReadFault::Failed), made),
+            Err(_) => return (Err(ReadFault::Failed), asks.made),
         };
-        match frames.feed(&piece[..count]) {
+        match asks.frames.feed(&piece[..count]) {
             Ok(()) => {}
             Err(_) => unreachable!(),
         }
-        let goes_on = answer_all(stage, crew, key, depth, &mut frames, &mut made, child);
+        let goes_on = answer_all(stage, crew, key, depth, &mut asks, child);
         if !goes_on {
             child.close_input();
             let read = read_out(child, reads + 1);
-            return (read, made);
+            return (read, asks.made);
         }
     }
-    (Err(ReadFault::UsedUp), made)
+    (Err(ReadFault::UsedUp), asks.made)
 }
 
 // Answers all messages that are there. False where the asks are at their end.
@@ -83,20 +94,19 @@ fn answer_all<P: Platform>(
     crew: &mut Crew<P>,
     key: Serial,
     depth: u8,
-    frames: &mut Frames,
-    made: &mut bool,
+    asks: &mut Asks,
     child: &mut <P::Launcher as Launcher>::Started,
 ) -> bool
     requires bound { (P.Launcher.shown crew.old.launcher).count ≤ most }
-    ensures takes { TakesAll key result (P.Launcher.Started.shown child.old) frames.old (standing_of crew.old.caller.seat made.old)
-        (P.Launcher.Started.shown child.new) frames.new (standing_of crew.new.caller.seat made.new) }
+    ensures takes { TakesAll key result (P.Launcher.Started.shown child.old) asks.old.frames (standing_of crew.old.caller.seat asks.old.made)
+        (P.Launcher.Started.shown child.new) asks.new.frames (standing_of crew.new.caller.seat asks.new.made) }
     ensures runs { Runs (depth + 1) (P.Launcher.shown crew.old.launcher) (P.Launcher.shown crew.new.launcher) }
     ensures child { GoesOn (P.Launcher.Started.shown child.old) (P.Launcher.Started.shown child.new) }
     ensures reads { (P.Launcher.Started.shown child.new).reads ≡ (P.Launcher.Started.shown child.old).reads }
     ensures stays { Stays crew.old.caller.seat crew.new.caller.seat }
 {
     loop {
-        match answer_next(stage, crew, key, depth, frames, made, child) {
+        match answer_next(stage, crew, key, depth, asks, child) {
             Turned::Replied => {}
             Turned::NoneYet => return true,
             Turned::AtEnd => return false,
@@ -111,23 +121,22 @@ fn answer_next<P: Platform>(
     crew: &mut Crew<P>,
     key: Serial,
     depth: u8,
-    frames: &mut Frames,
-    made: &mut bool,
+    asks: &mut Asks,
     child: &mut <P::Launcher as Launcher>::Started,
 ) -> Turned
     requires bound { (P.Launcher.shown crew.old.launcher).count ≤ most }
-    ensures takes { Turns key result (P.Launcher.Started.shown child.old) frames.old (standing_of crew.old.caller.seat made.old)
-        (P.Launcher.Started.shown child.new) frames.new (standing_of crew.new.caller.seat made.new) }
+    ensures takes { Turns key result (P.Launcher.Started.shown child.old) asks.old.frames (standing_of crew.old.caller.seat asks.old.made)
+        (P.Launcher.Started.shown child.new) asks.new.frames (standing_of crew.new.caller.seat asks.new.made) }
     ensures runs { Runs (depth + 1) (P.Launcher.shown crew.old.launcher) (P.Launcher.shown crew.new.launcher) }
     ensures child { GoesOn (P.Launcher.Started.shown child.old) (P.Launcher.Started.shown child.new) }
     ensures reads { (P.Launcher.Started.shown child.new).reads ≡ (P.Launcher.Started.shown child.old).reads }
     ensures stays { Stays crew.old.caller.seat crew.new.caller.seat }
 {
-    match frames.next() {
+    match asks.frames.next() {
         Next::Whole(body) => {
             let saying = answered(stage, crew, key, depth, body);
             let completed = says_made(&saying, key);
-            *made = *made || completed;
+            asks.made = asks.made || completed;
             if reply(stage, child, SessionId::Handler(key), saying) {
                 Turned::Replied
             } else {

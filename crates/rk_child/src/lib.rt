@@ -50,4 +50,4 @@ mod spent;
 pub use driving::drive;
 pub use rk_devices::{Child, Clock, Driven, Gate, Launcher};
 pub use rk_talk::{Caller, Crew, Platform, Shelf, Stage};
-pub use spent::fail;
+pub use spent::spend;

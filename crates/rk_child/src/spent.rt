@@ -1,5 +1,5 @@
 //! Launches and handlers that are at their end.
-ghost use Rattle.std.specs.Prelude.{◌≡◌, IfSome};
+ghost use Rattle.std.specs.Prelude.{◌≡◌, IfSome, None};
 ghost use Rattle.rk_hall.specs.Seats.{negated};
 ghost use Rattle.rk_talk.specs.Stays.{Stays};
 
@@ -24,13 +24,14 @@ pub fn fail<P: Platform>(stage: &Stage<'_, P>, caller: &mut Caller<P>, launch: L
     }
 }
 
-/// Ends a launch of which nothing is to come, if there is one.
+/// Ends a launch of which nothing is to come, if there is one: its hall is told that no command was started. Without a launch nothing is done.
 pub fn spend<P: Platform>(
     stage: &Stage<'_, P>,
     caller: &mut Caller<P>,
     launch: Option<Launch<P::Names>>,
 )
-    ensures { Stays caller.old.seat caller.new.seat }
+    ensures stays { Stays caller.old.seat caller.new.seat }
+    ensures idle { launch ≡ None → caller.new.seat ≡ caller.old.seat }
 {
     if let Some(launch) = launch {
         fail(stage, caller, launch);

@@ -23,13 +23,13 @@ asks::answer_all-loop-preserved g t c =
     let child = g.P.Launcher.Started.Child.shown in
     let i = c.loop.invariant in
     let e = c.in-Replied.ensures in
-    let begun = standing_of c.args.crew.now.caller.seat c.args.made.now in
-    let here = standing_of c.loop.crew.caller.seat c.loop.made in
-    let there = standing_of c.answer_next.new.crew.caller.seat c.answer_next.new.made in
+    let begun = standing_of c.args.crew.now.caller.seat c.args.asks.now.made in
+    let here = standing_of c.loop.crew.caller.seat c.loop.asks.made in
+    let there = standing_of c.answer_next.new.crew.caller.seat c.answer_next.new.asks.made in
     record {
-      talks = talks_then c.args.key (child c.args.child.now) (child c.loop.child) (child c.answer_next.new.child) c.args.frames.now.bytes c.loop.frames.bytes
-          c.answer_next.new.frames.bytes begun here there i.talks
-          (turn_talks c.args.key (child c.loop.child) (child c.answer_next.new.child) c.loop.frames c.answer_next.new.frames here there e.takes);
+      talks = talks_then c.args.key (child c.args.child.now) (child c.loop.child) (child c.answer_next.new.child) c.args.asks.now.frames.bytes c.loop.asks.frames.bytes
+          c.answer_next.new.asks.frames.bytes begun here there i.talks
+          (turn_talks c.args.key (child c.loop.child) (child c.answer_next.new.child) c.loop.asks.frames c.answer_next.new.asks.frames here there e.takes);
       runs = runs_further (c.args.depth + 1) (shown c.args.crew.now.launcher) (shown c.loop.crew.launcher) (shown c.answer_next.new.crew.launcher) i.runs e.runs;
       child = goes_further (child c.args.child.now) (child c.loop.child) (child c.answer_next.new.child) i.child e.child;
       reads = e.reads ∙ i.reads;
@@ -39,9 +39,9 @@ asks::answer_all-loop-preserved g t c =
 pub asks::answer_all-loop-init : goal.asks::answer_all-loop-init
 asks::answer_all-loop-init g t c =
     let child = g.P.Launcher.Started.Child.shown c.args.child.now in
-    let here = standing_of c.args.crew.now.caller.seat c.args.made.now in
+    let here = standing_of c.args.crew.now.caller.seat c.args.asks.now.made in
     record {
-      talks = talks_nowhere c.args.key child child c.args.frames.now.bytes c.args.frames.now.bytes here here refl refl refl;
+      talks = talks_nowhere c.args.key child child c.args.asks.now.frames.bytes c.args.asks.now.frames.bytes here here refl refl refl;
       runs = runs_same (c.args.depth + 1) (g.P.Launcher.Launcher.shown c.args.crew.now.launcher) c.requires.bound;
       child = goes_same child;
       reads = refl;
@@ -50,21 +50,21 @@ asks::answer_all-loop-init g t c =
 
 pub asks::answer_all-loop-smaller : goal.asks::answer_all-loop-smaller
 asks::answer_all-loop-smaller g t c =
-    let e = c.in-Replied.ensures.takes in takes_fewer e.0 c.loop.frames.bytes c.answer_next.new.frames.bytes e.1
+    let e = c.in-Replied.ensures.takes in takes_fewer e.0 c.loop.asks.frames.bytes c.answer_next.new.asks.frames.bytes e.1
 
 pub asks::answer_all-returns-in-NoneYet-clause-takes : goal.asks::answer_all-returns-in-NoneYet-clause-takes
 asks::answer_all-returns-in-NoneYet-clause-takes g t c =
     let child = g.P.Launcher.Started.Child.shown in
-    all_taken c.args.key (child c.args.child.now) (child c.loop.child) (child c.answer_next.new.child) c.args.frames.now c.loop.frames
-    c.answer_next.new.frames (standing_of c.args.crew.now.caller.seat c.args.made.now) (standing_of c.loop.crew.caller.seat c.loop.made)
-    (standing_of c.answer_next.new.crew.caller.seat c.answer_next.new.made) c.loop.invariant.talks c.in-NoneYet.ensures.takes
+    all_taken c.args.key (child c.args.child.now) (child c.loop.child) (child c.answer_next.new.child) c.args.asks.now.frames c.loop.asks.frames
+    c.answer_next.new.asks.frames (standing_of c.args.crew.now.caller.seat c.args.asks.now.made) (standing_of c.loop.crew.caller.seat c.loop.asks.made)
+    (standing_of c.answer_next.new.crew.caller.seat c.answer_next.new.asks.made) c.loop.invariant.talks c.in-NoneYet.ensures.takes
 
 pub asks::answer_all-returns-in-AtEnd-clause-takes : goal.asks::answer_all-returns-in-AtEnd-clause-takes
 asks::answer_all-returns-in-AtEnd-clause-takes g t c =
     let child = g.P.Launcher.Started.Child.shown in
-    all_ended c.args.key (child c.args.child.now) (child c.loop.child) (child c.answer_next.new.child) c.args.frames.now c.loop.frames
-    c.answer_next.new.frames (standing_of c.args.crew.now.caller.seat c.args.made.now) (standing_of c.loop.crew.caller.seat c.loop.made)
-    (standing_of c.answer_next.new.crew.caller.seat c.answer_next.new.made) c.loop.invariant.talks c.in-AtEnd.ensures.takes
+    all_ended c.args.key (child c.args.child.now) (child c.loop.child) (child c.answer_next.new.child) c.args.asks.now.frames c.loop.asks.frames
+    c.answer_next.new.asks.frames (standing_of c.args.crew.now.caller.seat c.args.asks.now.made) (standing_of c.loop.crew.caller.seat c.loop.asks.made)
+    (standing_of c.answer_next.new.crew.caller.seat c.answer_next.new.asks.made) c.loop.invariant.talks c.in-AtEnd.ensures.takes
 
 pub asks::answer_all-returns-in-NoneYet-clause-runs : goal.asks::answer_all-returns-in-NoneYet-clause-runs
 asks::answer_all-returns-in-NoneYet-clause-runs g t c =
@@ -114,13 +114,13 @@ asks::serve_asks-loop-reads-preserved g t c =
     let e = c.if-not-goes_on.ensures in
     let takes = e.takes in
     let some : c.in-Ok.count ≢ 0 = search rules in
-    let here = standing_of c.loop-reads.crew.caller.seat c.loop-reads.made in
-    let there = standing_of c.answer_all-goes_on.new.crew.caller.seat c.answer_all-goes_on.new.made in
+    let here = standing_of c.loop-reads.crew.caller.seat c.loop-reads.asks.made in
+    let there = standing_of c.answer_all-goes_on.new.crew.caller.seat c.answer_all-goes_on.new.asks.made in
     record {
       stands = stands_on c.args.key c.args.crew.now.caller.seat (child c.args.child.now) (child c.read.new.self) (child c.answer_all-goes_on.new.child)
-          c.feed.new.self.bytes c.answer_all-goes_on.new.frames.bytes here there
+          c.feed.new.self.bytes c.answer_all-goes_on.new.asks.frames.bytes here there
           (stands_read c.args.key c.args.crew.now.caller.seat (child c.args.child.now) (child c.loop-reads.child) (child c.read.new.self)
-          c.loop-reads.frames.bytes c.feed.new.self.bytes c.read.new.buf here c.in-Ok.count _ i.stands i.is_partial some
+          c.loop-reads.asks.frames.bytes c.feed.new.self.bytes c.read.new.buf here c.in-Ok.count _ i.stands i.is_partial some
           c.in-Ok.ensures.bound c.in-Ok.ensures.same c.in-Ok.ensures.reads c.in-Ok-feed.ensures.ok)
           takes.0;
       is_partial = takes.1;
@@ -138,8 +138,8 @@ pub asks::serve_asks-returns-in-Ok-eq0-clause-talked : goal.asks::serve_asks-ret
 asks::serve_asks-returns-in-Ok-eq0-clause-talked g t c =
     let child = g.P.Launcher.Started.Child.shown in
     let i = c.loop-reads.invariant in
-    stands_end c.args.key c.args.crew.now.caller.seat (child c.args.child.now) (child c.loop-reads.child) (child c.read.new.self) c.loop-reads.frames.bytes
-    c.read.new.buf (standing_of c.loop-reads.crew.caller.seat c.loop-reads.made) c.in-Ok-eq0.field-0 (length c.loop-reads.piece) i.stands i.is_partial
+    stands_end c.args.key c.args.crew.now.caller.seat (child c.args.child.now) (child c.loop-reads.child) (child c.read.new.self) c.loop-reads.asks.frames.bytes
+    c.read.new.buf (standing_of c.loop-reads.crew.caller.seat c.loop-reads.asks.made) c.in-Ok-eq0.field-0 (length c.loop-reads.piece) i.stands i.is_partial
     c.in-Ok-eq0.field-0-test c.in-Ok-eq0.ensures.reads
 
 pub asks::serve_asks-returns-then-not-goes_on-clause-talked : goal.asks::serve_asks-returns-then-not-goes_on-clause-talked
@@ -147,12 +147,12 @@ asks::serve_asks-returns-then-not-goes_on-clause-talked g t c =
     let child = g.P.Launcher.Started.Child.shown in
     let i = c.loop-reads.invariant in
     let some : c.in-Ok.count ≢ 0 = search rules in
-    let here = standing_of c.loop-reads.crew.caller.seat c.loop-reads.made in
-    let last = standing_of c.answer_all-goes_on.new.crew.caller.seat c.answer_all-goes_on.new.made in
+    let here = standing_of c.loop-reads.crew.caller.seat c.loop-reads.asks.made in
+    let last = standing_of c.answer_all-goes_on.new.crew.caller.seat c.answer_all-goes_on.new.asks.made in
     stands_out c.args.key c.args.crew.now.caller.seat c.read_out-read.result (child c.args.child.now) (child c.read.new.self)
     (child c.answer_all-goes_on.new.child) (child c.close_input.new.self) (child c.read_out-read.new.child) c.feed.new.self.bytes here last
     (stands_read c.args.key c.args.crew.now.caller.seat (child c.args.child.now) (child c.loop-reads.child) (child c.read.new.self)
-    c.loop-reads.frames.bytes c.feed.new.self.bytes c.read.new.buf here c.in-Ok.count _ i.stands i.is_partial some c.in-Ok.ensures.bound c.in-Ok.ensures.same
+    c.loop-reads.asks.frames.bytes c.feed.new.self.bytes c.read.new.buf here c.in-Ok.count _ i.stands i.is_partial some c.in-Ok.ensures.bound c.in-Ok.ensures.same
     c.in-Ok.ensures.reads c.in-Ok-feed.ensures.ok)
     c.if-not-goes_on.ensures.takes c.close_input.ensures c.read_out-read.ensures.heard
 
@@ -189,7 +189,7 @@ driving::drive-returns-clause-passed g t c =
     either_passed c.args.stage.now.conf.now c.args.launch c.in-Some.launch c.args.crew.now.caller.seat c.run-first.new.crew.caller.seat
     c.run-second.new.crew.caller.seat c.spend.new.caller.seat (shown c.run-first.new.crew.launcher) (shown c.run-second.new.crew.launcher)
     c.run-first.result.0 c.run-second.result.0 c.later.result next c.run-first.ensures.passed c.run-second.ensures.passed c.run-second.ensures.end
-    c.run-first.ensures.stays c.run-second.ensures.stays c.spend.ensures
+    c.run-first.ensures.stays c.run-second.ensures.stays c.spend.ensures.stays
 
 pub driving::run-returns-in_default-clause-passed : goal.driving::run-returns-in_default-clause-passed
 driving::run-returns-in_default-clause-passed g t c =

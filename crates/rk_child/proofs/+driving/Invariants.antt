@@ -35,8 +35,8 @@ decreases-driving::run g l = 8 * (256 - l.launch.depth) + 6
 
 abbrev pub invariant-asks::answer_all-loop : goal.invariant-asks::answer_all-loop
 invariant-asks::answer_all-loop g l = record {
-  talks : TalksOn l.key (g.P.Launcher.Started.Child.shown l.fn.child) l.fn.frames.bytes (standing_of l.fn.crew.caller.seat l.fn.made)
-      (g.P.Launcher.Started.Child.shown l.child) l.frames.bytes (standing_of l.crew.caller.seat l.made);
+  talks : TalksOn l.key (g.P.Launcher.Started.Child.shown l.fn.child) l.fn.asks.frames.bytes (standing_of l.fn.crew.caller.seat l.fn.asks.made)
+      (g.P.Launcher.Started.Child.shown l.child) l.asks.frames.bytes (standing_of l.crew.caller.seat l.asks.made);
   runs : Runs (l.depth + 1) (g.P.Launcher.Launcher.shown l.fn.crew.launcher) (g.P.Launcher.Launcher.shown l.crew.launcher);
   child : GoesOn (g.P.Launcher.Started.Child.shown l.fn.child) (g.P.Launcher.Started.Child.shown l.child);
   reads : (g.P.Launcher.Started.Child.shown l.child).reads ≡ (g.P.Launcher.Started.Child.shown l.fn.child).reads;
@@ -44,14 +44,14 @@ invariant-asks::answer_all-loop g l = record {
 }
 
 abbrev pub decreases-asks::answer_all-loop : goal.decreases-asks::answer_all-loop
-decreases-asks::answer_all-loop g l = length l.frames.bytes
+decreases-asks::answer_all-loop g l = length l.asks.frames.bytes
 
 abbrev pub invariant-asks::serve_asks-loop-reads : goal.invariant-asks::serve_asks-loop-reads
 invariant-asks::serve_asks-loop-reads g l = record {
-  stands : Stands l.key l.fn.crew.caller.seat (g.P.Launcher.Started.Child.shown l.fn.child) (g.P.Launcher.Started.Child.shown l.child) l.frames.bytes
-      (standing_of l.crew.caller.seat l.made);
-  is_partial : IsPartial l.frames.bytes;
-  room : 4096 ≤ l.frames.room;
+  stands : Stands l.key l.fn.crew.caller.seat (g.P.Launcher.Started.Child.shown l.fn.child) (g.P.Launcher.Started.Child.shown l.child) l.asks.frames.bytes
+      (standing_of l.crew.caller.seat l.asks.made);
+  is_partial : IsPartial l.asks.frames.bytes;
+  room : 4096 ≤ l.asks.frames.room;
   reads : l.reads ≤ (g.P.Launcher.Started.Child.shown l.child).reads;
   times : (g.P.Launcher.Started.Child.shown l.child).reads ≡ raised_by l.reads (g.P.Launcher.Started.Child.shown l.fn.child).reads;
   runs : Runs (l.depth + 1) (g.P.Launcher.Launcher.shown l.fn.crew.launcher) (g.P.Launcher.Launcher.shown l.crew.launcher);
