@@ -1,10 +1,12 @@
 -- What is said of a message, and how it is told.
-use Rattle.std.proofs.Common.{◌≡◌, ℕ, List, [], ◌∷◌, refl, sym, ap, ◌∙◌, subst, append_assoc}
+use Rattle.std.proofs.Common.{ℕ, List, [], ◌∷◌, refl, sym, ap, ◌∙◌, subst}
 use Rattle.std.specs.Prelude.{Option, Some, None, Result, Ok, Err}
 use Rattle.rk_names.specs.declared.numbers.SessionId.{SessionId}
 use Rattle.rk_names.specs.declared.errors.Errno.{Errno}
 use Rattle.rk_names.specs.declared.errors.Errno.TheVariants.{Enomem}
 use Rattle.rk_devices.specs.declared.device.DeviceFault.{DeviceFault}
+use Rattle.rk_devices.specs.Shown.{and_then}
+use Rattle.rk_devices.proofs.Rising.{and_more}
 use Rattle.rk_message.specs.declared.reply.Reply.TheVariants as reply
 use Rattle.rk_machine.specs.declared.event.Answer.{Answer}
 use Rattle.rk_machine.specs.declared.event.Answer.TheVariants as answer
@@ -16,7 +18,7 @@ use Rattle.rk_talk.specs.declared.saying.Saying.{Saying}
 use Rattle.rk_talk.specs.declared.saying.Saying.TheVariants as saying
 use Rattle.rk_talk.specs.Replies.{LacksFrame, ReplyFramed, TakesMemory, reply_bytes, reply_of}
 use Rattle.rk_talk.proofs.Sayings.{answered_settled, refusal_settled}
-use Rattle.rk_session.specs.Wires.{Happened, HasNoted, Said, WireShown, and_then, Notes, Writes}
+use Rattle.rk_session.specs.Wires.{Happened, HasNoted, Said, WireShown, Notes, Writes}
 use Rattle.rk_session.specs.Parts.{Speaks, ended}
 use Rattle.rk_session.specs.Opening.{IsNotCalled, IsNotOpened, IsRefused, IsShutOut, Refuses}
 use Rattle.rk_session.specs.Talk.{told_in}
@@ -54,10 +56,6 @@ settled_takes (answer.Negate k) settled lacks = settled tt
 settled_takes (answer.Waiting k) settled lacks = settled tt
 settled_takes (answer.Refused e) settled lacks = lacks
 
-two_more : (story : Option (List Happened)) (x y : Happened) → and_then (and_then story (x ∷ [])) (y ∷ []) ≡ and_then story (x ∷ y ∷ [])
-two_more None x y = refl
-two_more (Some s) x y = ap Some (append_assoc s (x ∷ []) (y ∷ []))
-
 -- a receipt was noted, and then its reply written, or tried
 pub noted_speaks : (n : Noted) (result : Result Unit DeviceFault) (bytes : List ℕ) (old mid new : WireShown) → ReplyFramed n.answer bytes → Notes n old mid
     → Writes result bytes mid new → Speaks (saying.Noted n) (ended result) old.story new
@@ -66,7 +64,7 @@ noted_speaks n (Ok u) bytes old mid new (r, replied, spelt) noted (whole, wrote)
   r,
   (refl, replied),
   ap (λ (w : WireShown). w.story) wrote ∙ ap (λ (w : WireShown). and_then w.story (Said bytes ∷ [])) noted
-      ∙ two_more old.story (HasNoted n) (Said bytes) ∙ ap (λ b. and_then old.story (told_in (Some n) b)) spelt,
+      ∙ and_more old.story (HasNoted n ∷ []) (Said bytes ∷ []) ∙ ap (λ b. and_then old.story (told_in (Some n) b)) spelt,
 )
 noted_speaks n (Err e) bytes old mid new (r, replied, spelt) noted (rose, first, others, parts, wrote) = (
   Some n,
@@ -77,7 +75,7 @@ noted_speaks n (Err e) bytes old mid new (r, replied, spelt) noted (rose, first,
   sym spelt ∙ parts,
   ap (λ (w : WireShown). w.cut) wrote,
   ap (λ (w : WireShown). w.story) wrote ∙ ap (λ (w : WireShown). and_then w.story (Said first ∷ [])) noted
-      ∙ two_more old.story (HasNoted n) (Said first),
+      ∙ and_more old.story (HasNoted n ∷ []) (Said first ∷ []),
 )
 
 -- an errno was written, or tried

@@ -18,28 +18,9 @@ use Rattle.rk_hall.specs.declared.lapse.Lapse.{Lapse}
 use Rattle.rk_hall.specs.Seats.{PartShown, SeatShown, TokenShown, part, with_part, after_call, without_client, opens, OwedSeen}
 use Rattle.rk_talk.specs.Stays.{Clients, Stays, SeesOn, clients_at, with_one, without_one}
 use Rattle.rk_talk.proofs.Sayings.{none_started}
-use Rattle.rk_talk.proofs.Seats.{call_stays, owed_stays, stays_on, stays_same}
+use Rattle.rk_talk.proofs.Seats.{call_stays, owed_stays, sees_part, stays_on, stays_same}
 use Rattle.rk_session.specs.Opening.{HasGone, IsMoved, IsNotOpened, IsOpened, IsRefused, Refuses}
 use Rattle.rk_session.specs.Moving.{HasOpened, Leaves, Moves}
-
--- a part that has seen no less
-sees_part : (h : HallNo) (s : SeatShown) (p : PartShown) → (part h s).seen ≤ p.seen → SeesOn s (with_part h s p)
-sees_part Zero s p le Zero = le
-sees_part Zero s p le One = omega arith
-sees_part Zero s p le Two = omega arith
-sees_part Zero s p le Three = omega arith
-sees_part One s p le Zero = omega arith
-sees_part One s p le One = le
-sees_part One s p le Two = omega arith
-sees_part One s p le Three = omega arith
-sees_part Two s p le Zero = omega arith
-sees_part Two s p le One = omega arith
-sees_part Two s p le Two = le
-sees_part Two s p le Three = omega arith
-sees_part Three s p le Zero = omega arith
-sees_part Three s p le One = omega arith
-sees_part Three s p le Two = omega arith
-sees_part Three s p le Three = le
 
 more_part : (h : HallNo) (s : SeatShown) (p : PartShown) → p.clients ≡ (part h s).clients + 1 → clients_at (with_part h s p) ≡ with_one h (clients_at s)
 more_part Zero s p e = ap (λ n. record (clients_at s) { zero = n }) e

@@ -1,16 +1,17 @@
 -- A talk, message by message.
-use Rattle.std.proofs.Common.{◌≡◌, ◌≢◌, inl, inr, ℕ, suc, ◌<◌, ◌≤◌, ◌+◌, List, [], ◌∷◌, ◌++◌, length, refl, sym, ap, ◌∙◌, subst, arith}
+use Rattle.std.proofs.Common.{◌≡◌, ◌≢◌, inl, inr, ℕ, ◌<◌, ◌≤◌, ◌+◌, List, [], ◌∷◌, ◌++◌, length, refl, sym, ap, ◌∙◌, subst, arith}
 use Rattle.std.specs.Prelude.{Option, Some, Ok, Err, Bool, true, false, take, nat_lt, if◌then◌else◌}
 use Rattle.std.proofs.lemmas.Bool.Decides.{nat_tests}
-use Rattle.std.proofs.lemmas.List.{length-append, length-take-le}
+use Rattle.std.proofs.lemmas.List.{length-take-le}
 use Rattle.rk_names.specs.declared.numbers.SessionId.{SessionId}
-use Rattle.rk_frame.specs.Framing.{frame}
 use Rattle.rk_frame.specs.Streams.{TakesBody, IsPartial, HasFault}
 use Rattle.rk_frame.specs.Unread.{Unread}
 use Rattle.rk_hall.specs.Seats.{SeatShown}
 use Rattle.rk_talk.specs.Replies.{reply_bytes}
 use Rattle.rk_devices.specs.Counts.{most, raised, raised_by}
-use Rattle.rk_session.specs.Wires.{Happened, Heard, WireShown, and_then}
+use Rattle.rk_devices.specs.Shown.{and_then}
+use Rattle.rk_child.proofs.Taking.{takes_fewer}
+use Rattle.rk_session.specs.Wires.{Happened, Heard, WireShown}
 use Rattle.rk_session.specs.declared.serving.Served.{Served}
 use Rattle.rk_session.specs.declared.serving.Served.TheVariants.{Ended, NotOpened, ReadFault, WriteFault, Malformed, TurnsUsed, Behind}
 use Rattle.rk_session.specs.Places.{Says, Standing, at_first, standing_of}
@@ -148,20 +149,6 @@ pub stands_ends : (session : SessionId) (served : Served) (seat : SeatShown) (la
     → Stands session seat begun old held standing → EndsHere session served old held standing new last → Talked session served seat last begun new
 stands_ends session served seat last begun old new held standing s ends first is =
     let one = s first is in ends (record { story = first; seat = seat }) one.0 one.1 one.2
-
--- a body that is taken leaves fewer bytes
-pub takes_fewer : (body old new : List ℕ) → TakesBody body old new → length new < length old
-takes_fewer body old new t =
-    let e : length old ≡ suc (suc (suc (suc (length (body ++ new))))) = ap length t.front in
-    let f : length (body ++ new) ≡ length body + length new = length-append body new in
-    omega (arith, e, f)
-
--- no bytes have no frame
-pub nothing_held : IsPartial []
-nothing_held = (λ body more is e. absurd (none body more e), refl)
-  where
-    none : (body more : List ℕ) → [] ≡ frame body ++ more → ⊥
-    none body more e = let f : 0 ≡ suc (suc (suc (suc (length (body ++ more))))) = ap length e in omega (arith, f)
 
 -- one message was taken, and got its reply
 pub taken_goes : (session : SessionId) (old new : WireShown) (f f' : Unread) (from to : Standing) → TakesOne session (Ok true) old f from new f' to

@@ -6,6 +6,7 @@ use Rattle.rk_frame.specs.Unread.{Unread}
 use Rattle.rk_message.specs.declared.reply.Reply.{Reply}
 use Rattle.rk_devices.specs.declared.device.DeviceFault.{DeviceFault}
 use Rattle.rk_devices.specs.Counts.{Rose, raised}
+use Rattle.rk_devices.specs.Shown.{and_then}
 use Rattle.rk_record.specs.declared.hall_no.HallNo.{HallNo}
 use Rattle.rk_record.specs.Turns.{Noted}
 use Rattle.rk_hall.specs.Seats.{SeatShown, TokenShown}
@@ -18,7 +19,7 @@ use Rattle.rk_session.specs.declared.serving.Served.{Served}
 use Rattle.rk_session.specs.declared.serving.Served.TheVariants.{Ended, ReadFault, WriteFault, Malformed, Behind}
 use Rattle.rk_session.specs.Places.{Says, Standing}
 use Rattle.rk_session.specs.Talk.{Begun, Ends, Talking, Tells, told_in}
-use Rattle.rk_session.specs.Wires.{Counts, Happened, Heard, WireShown, and_then}
+use Rattle.rk_session.specs.Wires.{Counts, Happened, Heard, WireShown}
 
 -- whatever talk led here, with this held and the client there, goes on so, and then that is held and the client stands there
 abbrev pub GoesOn : SessionId → WireShown → List ℕ → Standing → WireShown → List ℕ → Standing → Type 0

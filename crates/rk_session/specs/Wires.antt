@@ -1,7 +1,8 @@
 -- What is seen of a client's wire, and what a call does to it.
-use Rattle.std.specs.Prelude.{◌≡◌, ◌≤◌, ℕ, Bool, true, false, List, [], ◌∷◌, ◌++◌, take, Option, option_map, Result, Ok, Err}
+use Rattle.std.specs.Prelude.{◌≡◌, ◌≤◌, ℕ, Bool, true, false, List, [], ◌∷◌, ◌++◌, take, Option, Result, Ok, Err}
 use Rattle.rk_devices.specs.declared.device.DeviceFault.{DeviceFault}
 use Rattle.rk_devices.specs.Counts.{Rose, raised}
+use Rattle.rk_devices.specs.Shown.{and_then}
 use Rattle.rk_record.specs.Turns.{Noted}
 
 -- what happens on a wire: bytes come, none at the end of the input; a receipt is noted; bytes are written, which the wire sends in this order, at once or later
@@ -18,10 +19,6 @@ pub record WireShown : Type 0 where
   pub kept : Bool
   pub cut : Bool
   pub story : Option (List Happened)
-
--- this happened, too
-abbrev pub and_then : Option (List Happened) → List Happened → Option (List Happened)
-and_then story more = option_map (λ s. s ++ more) story
 
 -- a read: the bytes at the front of the buffer came, or it failed and the count rose
 abbrev pub Reads : Result ℕ DeviceFault → List ℕ → WireShown → WireShown → Type 0

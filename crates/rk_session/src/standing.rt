@@ -1,14 +1,14 @@
 //! Where a client stands: it comes, moves and leaves.
-ghost use Rattle.std.specs.Prelude.{◌≡◌, None, IfOk};
+ghost use Rattle.std.specs.Prelude.{◌≡◌, IfOk};
 ghost use Rattle.rk_names.specs.declared.numbers.SessionId.TheVariants.{Client};
 ghost use Rattle.rk_record.specs.declared.told.Told.TheVariants as told;
 ghost use Rattle.rk_talk.specs.Stays.{Stays};
 ghost use Rattle.rk_session.specs.Opening.{HasGone, Refuses};
 ghost use Rattle.rk_session.specs.Moving.{HasMoved, HasOpened};
 
-use rk_child::fail;
+use rk_child::spend;
 use rk_devices::Clock;
-use rk_hall::{Called, HallNo, Lapse, Launch, Owed, Receipt};
+use rk_hall::{Called, HallNo, Lapse, Owed, Receipt};
 use rk_machine::Answer;
 use rk_names::SessionId;
 use rk_talk::{Caller, Platform, Saying, Stage, open_in, refused};
@@ -20,20 +20,6 @@ pub struct Place {
     pub hall: HallNo,
     /// It has said HELLO, and that was done.
     pub greeted: bool,
-}
-
-// Ends a launch of which nothing is to come.
-fn spend<P: Platform>(
-    stage: &Stage<'_, P>,
-    caller: &mut Caller<P>,
-    launch: Option<Launch<P::Names>>,
-)
-    ensures stays { Stays caller.old.seat caller.new.seat }
-    ensures idle { launch ≡ None → caller.new.seat ≡ caller.old.seat }
-{
-    if let Some(launch) = launch {
-        fail(stage, caller, launch);
-    }
 }
 
 // What is to be said of an opening with this receipt: nothing yet, where it was done; its refusal; or nothing at all, of an answer that no opening has,

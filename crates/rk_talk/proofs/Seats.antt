@@ -21,36 +21,31 @@ stays_on a b c f g = record {
   seen = λ h. let one = f.seen h in let two = g.seen h in omega arith;
 }
 
+-- a part that has seen no less
+pub sees_part : (h : HallNo) (s : SeatShown) (p : PartShown) → (part h s).seen ≤ p.seen → SeesOn s (with_part h s p)
+sees_part Zero s p le Zero = le
+sees_part Zero s p le One = omega arith
+sees_part Zero s p le Two = omega arith
+sees_part Zero s p le Three = omega arith
+sees_part One s p le Zero = omega arith
+sees_part One s p le One = le
+sees_part One s p le Two = omega arith
+sees_part One s p le Three = omega arith
+sees_part Two s p le Zero = omega arith
+sees_part Two s p le One = omega arith
+sees_part Two s p le Two = le
+sees_part Two s p le Three = omega arith
+sees_part Three s p le Zero = omega arith
+sees_part Three s p le One = omega arith
+sees_part Three s p le Two = omega arith
+sees_part Three s p le Three = le
+
 -- a part with as many clients, which has seen no less
 pub stays_part : (h : HallNo) (s : SeatShown) (p : PartShown) → p.clients ≡ (part h s).clients → (part h s).seen ≤ p.seen → Stays s (with_part h s p)
-stays_part Zero s p e le = record { clients = ap (λ n. record (clients_at s) { zero = n }) e; seen = seen }
-  where
-    seen : SeesOn s (with_part Zero s p)
-    seen Zero = le
-    seen One = omega arith
-    seen Two = omega arith
-    seen Three = omega arith
-stays_part One s p e le = record { clients = ap (λ n. record (clients_at s) { one = n }) e; seen = seen }
-  where
-    seen : SeesOn s (with_part One s p)
-    seen Zero = omega arith
-    seen One = le
-    seen Two = omega arith
-    seen Three = omega arith
-stays_part Two s p e le = record { clients = ap (λ n. record (clients_at s) { two = n }) e; seen = seen }
-  where
-    seen : SeesOn s (with_part Two s p)
-    seen Zero = omega arith
-    seen One = omega arith
-    seen Two = le
-    seen Three = omega arith
-stays_part Three s p e le = record { clients = ap (λ n. record (clients_at s) { three = n }) e; seen = seen }
-  where
-    seen : SeesOn s (with_part Three s p)
-    seen Zero = omega arith
-    seen One = omega arith
-    seen Two = omega arith
-    seen Three = le
+stays_part Zero s p e le = record { clients = ap (λ n. record (clients_at s) { zero = n }) e; seen = sees_part Zero s p le }
+stays_part One s p e le = record { clients = ap (λ n. record (clients_at s) { one = n }) e; seen = sees_part One s p le }
+stays_part Two s p e le = record { clients = ap (λ n. record (clients_at s) { two = n }) e; seen = sees_part Two s p le }
+stays_part Three s p e le = record { clients = ap (λ n. record (clients_at s) { three = n }) e; seen = sees_part Three s p le }
 
 plus_none : (n : ℕ) → n + 0 ≡ n
 plus_none n = omega arith

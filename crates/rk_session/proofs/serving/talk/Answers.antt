@@ -9,7 +9,8 @@ use Rattle.rk_session.specs.Places.{at_first, standing_of}
 use Rattle.rk_talk.proofs.Seats.{stays_same}
 use Rattle.rk_session.proofs.Seats.{moves_then, stays_moves}
 use Rattle.rk_session.proofs.Sendings.{counts_same, counts_then, hears_counts, hears_ends, hears_kept, hears_more, hears_reads, parts_ends, parts_in_turns, parts_kept, parts_reads, parts_unused}
-use Rattle.rk_session.proofs.Talks.{Stands, hears_talked, most_more, nothing_held, parts_talked, raised_none, reads_more, stands_ends, stands_first, stands_on, stands_read, used_ends}
+use Rattle.rk_child.proofs.Taking.{nothing_held}
+use Rattle.rk_session.proofs.Talks.{Stands, hears_talked, most_more, parts_talked, raised_none, reads_more, stands_ends, stands_first, stands_on, stands_read, used_ends}
 use Rattle.rk_session.proofs.serving.talk.Goals as goal
 
 pub loop-init : goal.loop-init
