@@ -150,7 +150,7 @@ Example:
   reqkeyd rejoin /var/log/reqkeyd/hall-*
 
 Status: 0 (ok, 4 halls, 68000 steps: a run of the machine); 2 for a usage error; 1 for a file that can't be read or is no volume \
-(reqkeyd: FILE: its step 3 is cut or bad), for volumes that are no such run (reqkeyd: hall 2, volume 1: it is missing), if it is out of memory \
+(reqkeyd: FILE: its step 3 is cut or bad), for volumes that make no such run (reqkeyd: hall 2, volume 1: it is missing), if it is out of memory \
 (reqkeyd: memory), or if the output can't be written (reqkeyd: output).";
 
 /// `rejoin` with its files.
