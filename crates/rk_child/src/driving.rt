@@ -111,7 +111,7 @@ fn run<P: Platform>(
         stage.gate.driven(stage.rt, report);
         return (driven, None);
     };
-    stage.gate.started(stage.rt, running.key());
+    stage.gate.started(stage.rt, key, running.subject());
     let (read, output, made) = attend(stage, crew, &running, room, &mut child);
     let ended = wait_for(&mut child, read);
     crew.launcher.back(child);
