@@ -60,7 +60,7 @@ ALLOWED = {
 
 # what the daemon may say, whole lines: that it is ready, a volume that is not kept, clients that have vanished, handlers that failed, and a client that has come before a worker knew that another one had gone
 FAILED = r"session [1-9][0-9]*: (ReadFault|WriteFault)|handler of key [1-9][0-9]* [^:]*\(.*\): (exit status [1-9][0-9]*|killed by a signal|start failed: .*|no memory for its start|its output could not be read|the system does not say how it ended)"
-WARNED = rf"\S+Z warn: ({FAILED}|all {SESSIONS} workers are busy, connections wait|handler of key [0-9]+ has run for [0-9]+ seconds|[a-z ]+: and [0-9]+ more)"
+WARNED = rf"\S+Z warn: ({FAILED}|all {SESSIONS} workers are busy, connections wait|handler of key [0-9]+ \([^)]*\) has run for [0-9]+ seconds|[a-z ]+: and [0-9]+ more)"
 TOLD = re.compile(rf"reqkeyd: ready|volume [0-3] [1-9][0-9]* [1-9][0-9]*|{WARNED}")
 
 

@@ -1,5 +1,6 @@
 """The log: its levels and its two styles, how many lines of a kind there are, a file that may not grow, handlers that run for long, figures; clients that are
 silent, and a clean end."""
+import re
 import signal
 import subprocess
 
@@ -69,10 +70,10 @@ def full(program, is_ignored):
 
 
 def slow(program):
-    """A handler that runs for long is a warning, once; it goes on, and makes its key."""
+    """A handler that runs for long is a warning, once, which tells what it was started for and not its callout; it goes on, and makes its key."""
     with Daemon(program, HELD, "--slow", "1", "--clients", "1") as daemon:
         client = daemon.client()
-        client.send(ask.request(b"user", b"h:1", b"x", -4))
+        client.send(ask.request(b"user", b"h:1", b"callout", -4))
         handler = daemon.handler()
         until(lambda: len(daemon.lines) > 1, "a warning")
         done = handler.ask(ask.on_key(3, handler.key)), handler.ask(ask.instantiate(handler.key, b"v", 0))
@@ -80,7 +81,8 @@ def slow(program):
         reply = client.reply()
         client.socket.close()
         status, lines = daemon.end()
-        fit = len(lines) == 1 and text_of(lines[0]).startswith("warn: handler of key 12 has run for ") and lines[0].endswith(" seconds")
+        text = r'warn: handler of key 12 \(create user "h:1", uid 1000; line 1, \S+\) has run for [0-9]+ seconds'
+        fit = len(lines) == 1 and re.fullmatch(text, text_of(lines[0])) is not None
         return differs((done, reply, status, fit), ((0, 0), 12, 0, True)) and f"{done} {reply} {status} {lines}"
 
 
@@ -90,13 +92,40 @@ def figures(program):
         client, other = daemon.client(), daemon.client()
         client.send(ask.request(b"user", b"h:1", b"x", -4))
         handler = daemon.handler()
-        text = "info: status: connections 2, workers busy 2, handlers 1, the oldest of key 16 for "
-        until(lambda: sum(text_of(line).startswith(text) for line in daemon.lines) > 1, "two lines of figures")
+        text = r"info: status: connections 2, workers busy 2, handlers 1, the oldest of key 16 for [0-9]+ s, " + in_halls([1], [1], [0])
+        until(lambda: sum(re.fullmatch(text, text_of(line)) is not None for line in daemon.lines) > 1, "two lines of figures")
         handler.ends()
         reply = client.reply()
         other.socket.close()
-        until(lambda: any("status: connections 1, workers busy 1, handlers 0, volumes 0" in line for line in daemon.lines), "another line")
+        until(lambda: is_told(daemon, "connections 1, workers busy 1, handlers 0, " + in_halls([1], [0], [0])), "another line")
         return differs(reply, "E126") or daemon.lives()
+
+
+def in_halls(*counts):
+    """How figures of the halls are told, of keys, constructions and EDQUOTs: those of the first halls, and 0 of the others."""
+    keys, constructions, edquots = ["/".join(map(str, [*count, 0, 0, 0, 0][:4])) for count in counts]
+    return f"keys {keys}, constructions {constructions}, EDQUOTs {edquots}, volumes 0"
+
+
+def is_told(daemon, figures):
+    """Whether a line tells these figures."""
+    return any(text_of(line) == f"info: status: {figures}" for line in daemon.lines)
+
+
+def edquots(program):
+    """EDQUOTs are counted, those of clients and those of handlers, in the hall of the user that has its 200 keys."""
+    with Daemon(program, HELD, "--status", "1", "--log", "error") as daemon:
+        client = daemon.client(1001)
+        added = client.ask(*[ask.add(b"user", b"k:%d" % at, b"v", -4) for at in range(199)])
+        client.send(ask.request(b"user", b"h:1", b"x", -4))
+        handler = daemon.handler()
+        one_more = ask.add(b"user", b"k", b"v", -4)
+        got = handler.ask(ask.on_key(3, handler.key)), handler.ask(one_more), handler.ask(ask.instantiate(handler.key, b"v", 0))
+        until(lambda: any(in_halls([0, 200], [0, 1], [0, 1]) in line for line in daemon.lines), "figures of the handler")
+        handler.ends()
+        got = got, client.reply() == handler.key, client.ask(one_more, ask.request(b"user", b"h:2", b"x", -4))
+        until(lambda: is_told(daemon, "connections 1, workers busy 1, handlers 0, " + in_halls([0, 200], [0, 0], [0, 3])), "figures of the client")
+        return differs((len(added), got), (199, ((0, "E122", 0), True, ["E122", "E122"]))) or daemon.lives()
 
 
 def idle(program):
@@ -151,6 +180,7 @@ def cases():
         yield f"a log that may not grow, and its signal is {'' if is_ignored else 'not '}ignored", full, is_ignored
     yield "a slow handler", slow
     yield "figures", figures
+    yield "EDQUOTs among the figures", edquots
     yield "silent clients", idle
     for what in ["nothing", "bytes", "a client"]:
         yield f"the end of standard input after {what}", until_eof, what

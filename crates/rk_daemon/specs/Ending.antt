@@ -1,11 +1,9 @@
 -- How a handler has ended, as a line of the log.
-use Rattle.std.specs.Prelude.{ℕ, Bool, ◌+◌, ◌/◌, ◌%◌, ◌&&◌, not, ◌==◌, nat_le, nat_lt, if◌then◌else◌}
-use Rattle.std.specs.Prelude.{ℤ, pos, negsuc, List, [], ◌∷◌, ◌++◌, codes, decimal, length, take, Option, Some, None, option_map, IsNone}
-use Rattle.std.specs.List.{flat_map}
+use Rattle.std.specs.Prelude.{ℕ, Bool, ◌&&◌, not, ◌==◌, if◌then◌else◌}
+use Rattle.std.specs.Prelude.{ℤ, pos, negsuc, List, [], ◌++◌, codes, decimal, Option, Some, None, option_map}
 use Rattle.log.specs.declared.level.Level.{Level}
 use Rattle.log.specs.declared.level.Level.TheVariants as level
 use Rattle.rk_conf.specs.declared.line.Line.{Line}
-use Rattle.rk_conf.specs.Choice.{IsChosen}
 use Rattle.rk_devices.specs.declared.driven.Driven.{Driven}
 use Rattle.rk_devices.specs.declared.driven.Driven.TheVariants as driven
 use Rattle.rk_devices.specs.declared.output.OutputFault.TheVariants as output
@@ -13,56 +11,18 @@ use Rattle.rk_machine.specs.declared.event.How.TheVariants as how
 use Rattle.rk_macro.specs.declared.fault.ExpandFault.{ExpandFault}
 use Rattle.rk_macro.specs.declared.fault.ExpandFault.TheVariants as fault
 use Rattle.rk_macro.specs.declared.subject.Subject.{Subject}
-use Rattle.rk_macro.specs.Ops.{op_name}
 use Rattle.rk_daemon.specs.declared.ending.End.{End}
+use Rattle.rk_daemon.specs.Purpose.{purpose_text}
 
 -- a number that is not below 0
 abbrev pub natural : ℤ → Option ℕ
 natural (pos n) = Some n
 natural (negsuc n) = None
 
--- the line is the one that these lines' configuration picks for what a handler was started for; there is none if that is not known
-abbrev pub IsLineFor : List Line → Option Subject → Option Line → Type 0
-IsLineFor lines None line = IsNone line
-IsLineFor lines (Some s) line = IsChosen lines (op_name s.op) s.typ s.desc s.callout line
-
--- printable ASCII, and neither `"` nor a backslash
-abbrev pub is_plain : ℕ → Bool
-is_plain b = nat_le 32 b && nat_lt b 127 && not (b == 34) && not (b == 92)
-
--- the last octal digit
-abbrev pub octal : ℕ → ℕ
-octal n = 48 + n % 8
-
--- a byte: itself, or `\0` and its three octal digits, which the %b of printf(1) reads
-abbrev pub byte_text : ℕ → List ℕ
-byte_text b = if is_plain b then b ∷ [] else 92 ∷ 48 ∷ octal (b / 64) ∷ octal (b / 8) ∷ octal b ∷ []
-
--- the first 128 bytes of a name or a path, and `..` if there are more
-abbrev pub shown_text : List ℕ → List ℕ
-shown_text bytes = if nat_lt 128 (length bytes) then flat_map byte_text (take 128 bytes) ++ codes ".." else flat_map byte_text bytes
-
--- the line that was chosen, and its program
-abbrev pub line_text : Option Line → List ℕ
-line_text None = []
-line_text (Some line) = codes "; line " ++ decimal line.number ++ codes ", " ++ shown_text line.prog
-
--- the operation, and the type of the key
-abbrev pub operation_text : Subject → List ℕ
-operation_text s = codes " (" ++ shown_text (op_name s.op) ++ codes " " ++ shown_text s.typ
-
--- the description of the key, and the requester
-abbrev pub key_text : Subject → List ℕ
-key_text s = codes " \"" ++ shown_text s.desc ++ codes "\", uid " ++ decimal s.uid
-
--- what the handler was started for, and by which line
-abbrev pub for_text : Subject → Option Line → List ℕ
-for_text s line = operation_text s ++ key_text s ++ line_text line ++ codes ")"
-
--- the same, where that is still known
+-- what the handler was started for, and by which line, if that is still known
 abbrev pub subject_text : Option Subject → Option Line → List ℕ
 subject_text None line = []
-subject_text (Some s) line = for_text s line
+subject_text (Some s) line = purpose_text s line
 
 -- why the words of a command can't be made
 abbrev pub words_text : ExpandFault → List ℕ
@@ -114,10 +74,14 @@ how_text driven.StartFailed made error = error_text error
 how_text driven.ReadFailed made error = codes "its output could not be read"
 how_text driven.WaitFailed made error = codes "the system does not say how it ended"
 
+-- that its output was no request, if it was none
+abbrev pub output_text : Bool → List ℕ
+output_text malformed = if malformed then codes "; its output is no request" else []
+
 -- the whole line
 abbrev pub end_text : End → List ℕ
 end_text e = codes "handler of key " ++ decimal e.key ++ subject_text (option_map (λ s. s.now) e.subject) (option_map (λ l. l.now) e.line)
-    ++ codes ": " ++ how_text e.driven e.made e.error
+    ++ codes ": " ++ how_text e.driven e.made e.error ++ output_text e.malformed
 
 -- how important it is: a handler that has exited with 0 and made its key is what is to be
 abbrev pub level_of : Driven → Bool → Level

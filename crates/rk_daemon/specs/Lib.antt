@@ -8,6 +8,7 @@ pub mod Held
 pub mod Keeping
 pub mod Log
 pub mod Place
+pub mod Purpose
 pub mod Settings
 pub mod Story
 pub mod Taking

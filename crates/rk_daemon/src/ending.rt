@@ -1,19 +1,16 @@
 //! How a handler has ended, as a line of the log.
-ghost use Rattle.std.specs.Prelude.{◌≡◌, ◌++◌, ◌<◌, None, Some, MatchOption, OnOk, option_copied, option_map, string_bytes};
-ghost use Rattle.std.specs.List.{flat_map};
+ghost use Rattle.std.specs.Prelude.{◌≡◌, ◌++◌, None, Some, MatchOption, OnOk, string_bytes};
 ghost use Rattle.std.specs.Option.{option_and_then};
-ghost use Rattle.rk_daemon.specs.Ending.{byte_text, errno_text, error_text, for_text, how_text, is_plain, key_text, line_text, named_text, natural, octal, operation_text, shown_text, words_text, IsLineFor};
+ghost use Rattle.rk_daemon.specs.Ending.{errno_text, error_text, how_text, named_text, natural, output_text, words_text};
 
+use crate::purpose::put_purpose;
 use log::Level;
-use rk_conf::{Conf, Line};
+use rk_conf::Line;
 use rk_devices::{Driven, OutputFault};
 use rk_machine::How;
 use rk_macro::{ExpandFault, Subject};
 use rk_names::Serial;
 use std::alloc::{AllocError, Global};
-
-/// The most bytes of a name or a path that are shown.
-const MOST: usize = 128;
 
 /// A handler that has ended, or was not started.
 #[derive(Clone, Copy)]
@@ -28,6 +25,8 @@ pub struct End<'s, 'c> {
     pub driven: Driven,
     /// Whether it made its key.
     pub made: bool,
+    /// Whether it is a plain one whose output was no request.
+    pub malformed: bool,
     /// The system's error number of a start that failed, if it is known.
     pub error: Option<u32>,
 }
@@ -45,10 +44,11 @@ impl<'s, 'c> End<'s, 'c> {
         let key = self.key.get();
         write!(text, "handler of key {key}")?;
         if let Some(subject) = self.subject {
-            put_subject(&mut text, subject, self.line)?;
+            put_purpose(&mut text, subject, self.line)?;
         }
         text.push_str(": ")?;
         put_how(&mut text, self.driven, self.made, self.error)?;
+        put_output(&mut text, self.malformed)?;
         Ok(text)
     }
 
@@ -64,19 +64,6 @@ impl<'s, 'c> End<'s, 'c> {
     }
 }
 
-/// The line that was chosen for what a handler was started for, if that is known. It is picked anew: the configuration never changes.
-pub fn line_for<'a>(conf: &'a Conf, subject: Option<&Subject>) -> Option<&'a Line>
-    ensures { IsLineFor conf.now (option_copied subject.entry) (option_copied result) }
-{
-    match subject {
-        Some(subject) => {
-            let (typ, desc, callout) = (&subject.typ, &subject.desc, &subject.callout);
-            conf.pick(subject.op.as_bytes(), typ, desc, callout)
-        }
-        None => None,
-    }
-}
-
 /// The system's error number; none is below 0.
 pub fn error_number(error: Option<i32>) -> Option<u32>
     ensures { result ≡ option_and_then natural error }
@@ -85,48 +72,6 @@ pub fn error_number(error: Option<i32>) -> Option<u32>
         Some(number) => u32::try_from(number).ok(),
         None => None,
     }
-}
-
-/// What the handler was started for, and by which line.
-fn put_subject(text: &mut String, subject: &Subject, line: Option<&Line>) -> Result<(), AllocError>
-    ensures { OnOk result (string_bytes text.new ≡ string_bytes text.old ++ for_text subject.now (option_map (λ l. l.now) line.entry)) }
-{
-    put_operation(text, subject)?;
-    put_key(text, subject)?;
-    put_line(text, line)?;
-    text.push_str(")")
-}
-
-/// The operation, and the type of the key.
-fn put_operation(text: &mut String, subject: &Subject) -> Result<(), AllocError>
-    ensures { OnOk result (string_bytes text.new ≡ string_bytes text.old ++ operation_text subject.now) }
-{
-    text.push_str(" (")?;
-    put_shown(text, subject.op.as_bytes())?;
-    text.push_str(" ")?;
-    put_shown(text, subject.typ.as_bytes())
-}
-
-/// The description of the key, and the requester.
-fn put_key(text: &mut String, subject: &Subject) -> Result<(), AllocError>
-    ensures { OnOk result (string_bytes text.new ≡ string_bytes text.old ++ key_text subject.now) }
-{
-    let uid = subject.uid;
-    text.push_str(" \"")?;
-    put_shown(text, subject.desc.as_bytes())?;
-    write!(text, "\", uid {uid}")
-}
-
-/// The line that was chosen, and its program.
-fn put_line(text: &mut String, line: Option<&Line>) -> Result<(), AllocError>
-    ensures { OnOk result (string_bytes text.new ≡ string_bytes text.old ++ line_text (option_map (λ l. l.now) line.entry)) }
-{
-    let Some(line) = line else {
-        return Ok(());
-    };
-    let number = line.number;
-    write!(text, "; line {number}, ")?;
-    put_shown(text, line.prog.as_bytes())
 }
 
 /// How it has ended.
@@ -158,6 +103,16 @@ fn put_how(
         Driven::ReadFailed => text.push_str("its output could not be read"),
         Driven::WaitFailed => text.push_str("the system does not say how it ended"),
     }
+}
+
+/// That its output was no request.
+fn put_output(text: &mut String, malformed: bool) -> Result<(), AllocError>
+    ensures { OnOk result (string_bytes text.new ≡ string_bytes text.old ++ output_text malformed) }
+{
+    if malformed {
+        return text.push_str("; its output is no request");
+    }
+    Ok(())
 }
 
 /// Why a start failed.
@@ -215,54 +170,4 @@ fn errno_text(number: u32) -> Option<&'static str>
         40 => Some("ELOOP, too many levels of symbolic links"),
         _ => None,
     }
-}
-
-/// The first 128 bytes of a name or a path, and `..` if there are more.
-fn put_shown(text: &mut String, bytes: &[u8]) -> Result<(), AllocError>
-    ensures { OnOk result (string_bytes text.new ≡ string_bytes text.old ++ shown_text bytes.now) }
-{
-    if bytes.len() > MOST {
-        let front = &bytes[..MOST];
-        put_bytes(text, front)?;
-        return text.push_str("..");
-    }
-    put_bytes(text, bytes)
-}
-
-/// Bytes.
-fn put_bytes(text: &mut String, bytes: &[u8]) -> Result<(), AllocError>
-    ensures { OnOk result (string_bytes text.new ≡ string_bytes text.old ++ flat_map byte_text bytes.now) }
-{
-    for byte in bytes {
-        put_byte(text, *byte)?;
-    }
-    Ok(())
-}
-
-/// A byte.
-fn put_byte(text: &mut String, byte: u8) -> Result<(), AllocError>
-    ensures { OnOk result (string_bytes text.new ≡ string_bytes text.old ++ byte_text byte) }
-{
-    if is_plain(byte) {
-        return text.push(char::from(byte));
-    }
-    text.push_str("\\0")?;
-    text.push(octal(byte / 64))?;
-    text.push(octal(byte / 8))?;
-    text.push(octal(byte))
-}
-
-/// Whether the byte is printable ASCII, and neither `"` nor `\`.
-fn is_plain(byte: u8) -> bool
-    ensures { result ≡ is_plain byte }
-{
-    byte >= 32 && byte < 127 && byte != b'"' && byte != b'\\'
-}
-
-/// The last octal digit.
-fn octal(number: u8) -> char
-    ensures value { result ≡ octal number }
-    ensures small { result < 128 }
-{
-    char::from(b'0' + number % 8)
 }

@@ -1,14 +1,16 @@
 //! What is done between a session's asks.
 
-use crate::ending::{End, error_number, line_for};
+use crate::ending::{End, error_number};
 use crate::handlers::Handlers;
 use crate::held::Held;
+use crate::purpose::{line_for, purpose_of};
 use crate::reporter::Reporter;
 use crate::workers::Shared;
 use log::{log, warn};
 use rk_conf::Conf;
 use rk_devices::{Gate, Report};
 use rk_hall::{HallNo, Halls, Names};
+use rk_macro::Subject;
 use rk_names::{Serial, SessionId};
 use rk_talk::Shelf;
 use std::alloc::{AllocError, Global};
@@ -63,6 +65,15 @@ impl<'a, R, N: Names, S: Shelf> Relief<'a, R, N, S> {
 }
 
 impl<'a, R: Wait + Eprint + Clock, N: Names, S: Shelf> Relief<'a, R, N, S> {
+    /// What a handler was started for, as the log says it. Out of memory, it is nothing.
+    fn purpose(&self, subject: &Subject) -> String {
+        let line = line_for(self.conf, Some(subject));
+        match purpose_of(self.alloc, subject, line) {
+            Ok(purpose) => purpose,
+            Err(AllocError) => String::new(self.alloc),
+        }
+    }
+
     /// Logs how a handler has ended.
     fn tell(&self, end: &End<'_, '_>) {
         let level = end.level();
@@ -77,9 +88,10 @@ impl<'a, R: Wait + Eprint + Clock, N: Names, S: Shelf> Relief<'a, R, N, S> {
 }
 
 impl<'a, E: Wait + Eprint + Clock, N: Names, S: Shelf> Gate for Relief<'a, E, N, S> {
-    fn started<R: Wait>(&self, rt: &R, key: Serial) {
+    fn started<R: Wait>(&self, rt: &R, key: Serial, subject: &Subject) {
         self.held.add(HallNo::of_serial(key), HANDLER);
-        self.handlers.start(rt, key, self.log.seconds());
+        let purpose = self.purpose(subject);
+        self.handlers.start(rt, key, purpose, self.log.seconds());
     }
 
     fn driven<R: Wait>(&self, rt: &R, report: Report<'_>) {
@@ -87,7 +99,7 @@ impl<'a, E: Wait + Eprint + Clock, N: Names, S: Shelf> Gate for Relief<'a, E, N,
             key,
             subject,
             driven,
-            made,
+            course,
             os_error,
         } = report;
         self.handlers.end(rt, key);
@@ -96,7 +108,8 @@ impl<'a, E: Wait + Eprint + Clock, N: Names, S: Shelf> Gate for Relief<'a, E, N,
             subject,
             line: line_for(self.conf, subject),
             driven,
-            made,
+            made: course.made,
+            malformed: course.malformed,
             error: error_number(os_error),
         });
     }

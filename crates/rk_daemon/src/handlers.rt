@@ -1,20 +1,22 @@
 //! The handlers that run.
 ghost use Rattle.std.specs.Prelude.{◌≡◌, ◌<◌, IfSome, length, position};
-ghost use Rattle.rk_daemon.specs.Handlers.{is_slow, IsTaken};
+ghost use Rattle.rk_daemon.specs.Handlers.{is_slow, oldest_of, IsTaken};
 
+use crate::figures::{InRun, Oldest};
 use rk_names::Serial;
 use std::alloc::Global;
+use std::mem::replace;
 use std::sync::{Mutex, Wait};
 
 /// A handler that runs.
-#[derive(Clone, Copy, Debug, PartialEq, Eq)]
+#[derive(Debug, Drop)]
 pub struct Started {
     /// The key that it makes.
     pub key: Serial,
     /// When it was started, in seconds of the monotonic clock.
     pub since: u64,
-    /// Whether an operator was told that it runs for long.
-    pub is_told: bool,
+    /// What it was started for, as the log says it, until an operator is told that it runs for long; then `None`.
+    pub purpose: Option<String>,
 }
 
 impl Started {
@@ -32,7 +34,7 @@ impl Started {
     fn is_slow(&self, now: u64, seconds: u64) -> bool
         ensures { result ≡ is_slow now seconds self.now }
     {
-        !self.is_told && self.passed(now) >= seconds
+        self.purpose.is_some() && self.passed(now) >= seconds
     }
 }
 
@@ -52,15 +54,26 @@ fn take_slow(running: &mut [Started], now: u64, seconds: u64) -> Option<Started>
 {
     match first_slow(running, now, seconds) {
         Some(at) => {
-            let started = running[at];
-            running[at] = Started {
-                is_told: true,
-                ..started
+            let told = Started {
+                key: running[at].key,
+                since: running[at].since,
+                purpose: None,
             };
-            Some(started)
+            Some(replace(&mut running[at], told))
         }
         None => None,
     }
+}
+
+/// The first of these.
+fn oldest_of(running: &[Started], now: u64) -> Option<Oldest>
+    ensures { result ≡ oldest_of now running.now }
+{
+    let started = running.first()?;
+    Some(Oldest {
+        key: started.key.get(),
+        seconds: started.passed(now),
+    })
 }
 
 /// The handlers that run, in the order in which they were started.
@@ -78,12 +91,12 @@ impl Handlers {
         }
     }
 
-    /// The handler of this key was started now. Out of memory, it is not looked after.
-    pub fn start<R: Wait>(&self, rt: &R, key: Serial, now: u64) {
+    /// The handler of this key was started now, for this purpose. Out of memory, it is not looked after.
+    pub fn start<R: Wait>(&self, rt: &R, key: Serial, purpose: String, now: u64) {
         let started = Started {
             key,
             since: now,
-            is_told: false,
+            purpose: Some(purpose),
         };
         let _ = self.running.lock(rt).push(started);
     }
@@ -99,8 +112,11 @@ impl Handlers {
     }
 
     /// How many run, and the one that was started first.
-    pub fn oldest<R: Wait>(&self, rt: &R) -> (usize, Option<Started>) {
+    pub fn in_run<R: Wait>(&self, rt: &R, now: u64) -> InRun {
         let running = self.running.lock(rt);
-        (running.len(), running.first().copied())
+        InRun {
+            count: running.len(),
+            oldest: oldest_of(&running, now),
+        }
     }
 }

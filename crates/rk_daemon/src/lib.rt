@@ -26,7 +26,7 @@
 //! system's, of `system_place` and `system_folder`, or by those of a test.
 //!
 //! `reporter` makes each line of the log: an `entry` in the `style` of the journal or with the time, of a `kind` of which `tally` counts the lines. `ending`
-//! has the line of a handler that has ended.
+//! has the line of a handler that has ended, and `purpose` what one was started for.
 #![tactic(auto)]
 
 mod accepting;
@@ -47,6 +47,7 @@ mod kind;
 mod path;
 mod place;
 mod platform;
+mod purpose;
 mod record;
 mod reporter;
 mod serving;

@@ -1,7 +1,7 @@
 //! What the daemon looks after by the clock.
 ghost use Rattle.std.specs.Prelude.{◌≡◌, ◌-◌};
 
-use crate::figures::{Figures, Running};
+use crate::figures::{Clients, Figures, InHalls, Running};
 use crate::handlers::Started;
 use crate::record::Keeper;
 use crate::reporter::Reporter;
@@ -9,7 +9,7 @@ use crate::settings::LogSettings;
 use crate::workers::Shared;
 use crossbeam_channel::Receiver;
 use log::warn;
-use rk_hall::Names;
+use rk_hall::{HallNo, Names};
 use std::io::Eprint;
 use std::sync::Wait;
 use std::time::{Clock, Duration};
@@ -64,23 +64,37 @@ fn tell_figures<N: Names, R: Wait + Clock + Eprint>(
     shared: &Shared<N>,
     now: u64,
 ) {
-    let (handlers, oldest) = shared.handlers.oldest(rt);
     log.tell(&Figures {
-        connections: shared.connections.open(),
-        served: shared.connections.served(),
-        handlers,
-        oldest: oldest.map(|started| running(started, now)),
+        clients: Clients {
+            open: shared.connections.open(),
+            served: shared.connections.served(),
+        },
+        handlers: shared.handlers.in_run(rt, now),
+        halls: in_halls(rt, shared),
         volumes: shared.held.volumes(),
     });
 }
 
+/// How much there is in each hall. Each is looked at by itself.
+fn in_halls<N: Names, R: Wait>(rt: &R, shared: &Shared<N>) -> InHalls {
+    let halls = &shared.halls;
+    InHalls::of(
+        halls.counts(rt, HallNo::Zero),
+        halls.counts(rt, HallNo::One),
+        halls.counts(rt, HallNo::Two),
+        halls.counts(rt, HallNo::Three),
+    )
+}
+
 /// A handler that was started, now.
 fn running(started: Started, now: u64) -> Running
-    ensures key { result.key ≡ started.key }
-    ensures seconds { result.seconds ≡ now - started.since }
+    ensures { result ≡ record { key = started.key; purpose = started.purpose; seconds = now - started.since } }
 {
+    let seconds = started.passed(now);
+    let Started { key, purpose, .. } = started;
     Running {
-        key: started.key.get(),
-        seconds: started.passed(now),
+        key: key.get(),
+        purpose,
+        seconds,
     }
 }

@@ -11,7 +11,7 @@ use rk_conf::Conf;
 use rk_devices::Report;
 use rk_hall::{HallNo, Halls, Names, Seat, Volume, settle};
 use rk_machine::EventStep;
-use rk_macro::Op;
+use rk_macro::{Op, Subject};
 use rk_names::{Serial, SessionId};
 use rk_wait::await_outcome;
 use std::alloc::Global;
@@ -286,9 +286,9 @@ impl Open {
 }
 
 impl Gate for Open {
-    fn started<R: Wait>(&self, rt: &R, key: Serial) {
+    fn started<R: Wait>(&self, rt: &R, key: Serial, subject: &Subject) {
         let _ = rt;
-        let _ = key;
+        let _ = (key, subject);
     }
 
     fn driven<R: Wait>(&self, rt: &R, report: Report<'_>) {

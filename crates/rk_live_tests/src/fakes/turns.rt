@@ -3,6 +3,7 @@
 use crate::fakes::still::NOW;
 use rk_devices::{Gate, Report};
 use rk_hall::{Halls, Names};
+use rk_macro::Subject;
 use rk_names::{Moment, Serial, SessionId};
 use std::sync::Wait;
 use std::sync::atomic::AtomicU64;
@@ -86,9 +87,9 @@ pub struct Held<'a, N: Names, R> {
 }
 
 impl<'a, N: Names, R: Clock> Gate for Held<'a, N, R> {
-    fn started<W: Wait>(&self, rt: &W, key: Serial) {
+    fn started<W: Wait>(&self, rt: &W, key: Serial, subject: &Subject) {
         let _ = rt;
-        let _ = key;
+        let _ = (key, subject);
         self.turns.next();
         self.turns.wait(self.rt, self.until);
         self.turns.pass(self.takes);
