@@ -10,7 +10,7 @@ use crate::asks::{CLIENT, OTHER, hello, joining, payload, request};
 use crate::fakes::still::NOW;
 use crate::halls::calls::refuse_launch;
 use crate::halls::opening::{Scene, in_new_halls};
-use crate::halls::paths::{all, collects, ends, goes, keep, negates, runs, say, strays};
+use crate::halls::paths::{End, all, collects, ends, goes, keep, negates, runs, say, strays};
 use crate::record::events::key;
 use crate::same::same;
 use rk_hall::{CallFault, Called, HallNo, Halls, Launch, Names, Receipt, Seat, Volume, settle};
@@ -100,36 +100,36 @@ impl Growths {
         if let Ok(launch) = tries(rt, halls, seat, receipts, request) {
             let launch = launch.expect(rt, "a launch");
             let waits = self.two && joins(rt, halls, seat, receipts, other);
-            self.finish(rt, halls, seat, receipts, launch, put_out);
+            let how = How::Exit(self.status);
+            finish(rt, halls, seat, receipts, launch, End { how, put_out });
             if waits {
                 collects(rt, halls, seat, receipts, OTHER);
                 goes(rt, halls, seat, receipts, OTHER);
             }
         }
     }
+}
 
-    /// All that is owed to a start, and the outcome; a seat is given back, too.
-    fn finish<N: Names, R: Wait + Abort>(
-        self,
-        rt: &R,
-        halls: &Halls<N>,
-        seat: &mut Seat<N>,
-        receipts: &mut Vec<Receipt>,
-        launch: Launch<N>,
-        put_out: Payload,
-    ) {
-        let other = halls.seat(rt).expect(rt, "a seat");
-        let running = runs(rt, halls, seat, receipts, launch);
-        let how = How::Exit(self.status);
-        let next = ends(rt, halls, seat, receipts, running, how, put_out);
-        if self.status == 0 {
-            refuse_launch(rt, halls, seat, next);
-        } else {
-            negates(rt, halls, seat, receipts, next);
-        }
-        collects(rt, halls, seat, receipts, CLIENT);
-        halls.retire(rt, other);
+/// All that is owed to a start, and the outcome; a seat is given back, too.
+fn finish<N: Names, R: Wait + Abort>(
+    rt: &R,
+    halls: &Halls<N>,
+    seat: &mut Seat<N>,
+    receipts: &mut Vec<Receipt>,
+    launch: Launch<N>,
+    end: End,
+) {
+    let other = halls.seat(rt).expect(rt, "a seat");
+    let running = runs(rt, halls, seat, receipts, launch);
+    let is_made = end.how == How::Exit(0);
+    let next = ends(rt, halls, seat, receipts, running, end);
+    if is_made {
+        refuse_launch(rt, halls, seat, next);
+    } else {
+        negates(rt, halls, seat, receipts, next);
     }
+    collects(rt, halls, seat, receipts, CLIENT);
+    halls.retire(rt, other);
 }
 
 /// The other client comes to the session ring of the first one, and waits for its key. Whether it waits; if there was no memory for that it has gone.

@@ -73,16 +73,25 @@ pub fn runs<N: Names, R: Wait + Abort>(
     value.expect(rt, "a handler that runs")
 }
 
-/// The handler has ended, and put this out. If it failed, another one is to follow.
+/// How a piped handler ends.
+#[derive(Drop)]
+pub struct End {
+    /// By which status or signal.
+    pub how: How,
+    /// Its output.
+    pub put_out: Payload,
+}
+
+/// The handler has ended, with this output. If it failed, another one is to follow.
 pub fn ends<N: Names, R: Wait + Abort>(
     rt: &R,
     halls: &Halls<N>,
     seat: &mut Seat<N>,
     receipts: &mut Vec<Receipt>,
     running: Running<N>,
-    how: How,
-    put_out: Payload,
+    end: End,
 ) -> Option<Launch<N>> {
+    let End { how, put_out } = end;
     let Owed { value, receipt } = halls.ended(rt, seat, NOW, running, how, Some(put_out));
     keep(rt, receipts, receipt.expect(rt, "a receipt"));
     value

@@ -97,6 +97,14 @@ pub struct Scene<'a> {
     pub may_lack: bool,
 }
 
+/// A scene that is played: what its sessions share.
+#[derive(Drop)]
+struct Played<'a, N: Names> {
+    halls: &'a Halls<N>,
+    scene: &'a Scene<'a>,
+    turns: &'a Turns,
+}
+
 /// What is left of a thread: its seat, the receipts that were noted, and the volumes that were handed out.
 #[derive(Drop)]
 struct Left<N: Names> {
@@ -217,13 +225,16 @@ fn serves_with<'a, N: Names, R: Wait + Abort + Clock>(
 fn serves<'a, N: Names, R: Wait + Abort + Clock>(
     rt: &'a R,
     alloc: Global,
-    halls: &'a Halls<N>,
+    played: &Played<'a, N>,
     seat: Seat<N>,
     client: u32,
     part: &Part<'a>,
-    scene: &Scene,
-    turns: &'a Turns,
 ) -> (Seat<N>, Came) {
+    let Played {
+        halls,
+        scene,
+        turns,
+    } = *played;
     let launcher = Fake::new(alloc, scene.programs, 1_000, scene.fuse);
     let own = Own {
         seat,
@@ -278,15 +289,13 @@ fn is_as_wanted(rt: &impl Abort, part: &Part, came: &Came) {
 fn may_serve<N: Names, R: Wait + Abort + Clock>(
     rt: &R,
     alloc: Global,
-    halls: &Halls<N>,
+    played: &Played<N>,
     client: u32,
     part: Option<Part>,
-    scene: &Scene,
-    turns: &Turns,
 ) -> Option<Left<N>> {
     let part = part?;
-    let seat = halls.seat(rt)?;
-    let (seat, came) = serves(rt, alloc, halls, seat, client, &part, scene, turns);
+    let seat = played.halls.seat(rt)?;
+    let (seat, came) = serves(rt, alloc, played, seat, client, &part);
     is_as_wanted(rt, &part, &came);
     let Came { noted, .. } = came;
     Some(Left {
@@ -334,15 +343,13 @@ fn watches<N: Names, R: Wait + Abort + Clock>(
 fn third_serves<N: Names, R: Wait + Abort + Clock>(
     rt: &R,
     alloc: Global,
-    halls: &Halls<N>,
-    scene: &Scene,
-    turns: &Turns,
+    played: &Played<N>,
 ) -> Option<Left<N>> {
-    match scene.watched {
-        None => may_serve(rt, alloc, halls, 3, scene.third, scene, turns),
+    match played.scene.watched {
+        None => may_serve(rt, alloc, played, 3, played.scene.third),
         Some(turn) => {
-            turns.wait(rt, turn);
-            watches(rt, alloc, halls, turns)
+            played.turns.wait(rt, turn);
+            watches(rt, alloc, played.halls, played.turns)
         }
     }
 }
@@ -401,14 +408,12 @@ fn crowd<N: Names, R: Wait + Abort>(rt: &R, halls: &Halls<N>, count: u32) -> Sea
 fn others_serve<N: Names + Send + Sync, R: Wait + Abort + Threads + Clock + Sync>(
     rt: &R,
     alloc: Global,
-    halls: &Halls<N>,
-    scene: &Scene,
-    turns: &Turns,
+    played: &Played<N>,
 ) -> (Option<Left<N>>, Option<Left<N>>) {
     join(
         rt,
-        move || may_serve(rt, alloc, halls, 2, scene.second, scene, turns),
-        move || third_serves(rt, alloc, halls, scene, turns),
+        move || may_serve(rt, alloc, played, 2, played.scene.second),
+        move || third_serves(rt, alloc, played),
     )
 }
 
@@ -416,14 +421,12 @@ fn others_serve<N: Names + Send + Sync, R: Wait + Abort + Threads + Clock + Sync
 fn all_serve<N: Names + Send + Sync, R: Wait + Abort + Threads + Clock + Sync>(
     rt: &R,
     alloc: Global,
-    halls: &Halls<N>,
-    scene: &Scene,
-    turns: &Turns,
+    played: &Played<N>,
 ) -> (Option<Left<N>>, (Option<Left<N>>, Option<Left<N>>)) {
     join(
         rt,
-        move || may_serve(rt, alloc, halls, 1, Some(scene.first), scene, turns),
-        move || others_serve(rt, alloc, halls, scene, turns),
+        move || may_serve(rt, alloc, played, 1, Some(played.scene.first)),
+        move || others_serve(rt, alloc, played),
     )
 }
 
@@ -442,7 +445,12 @@ fn all_left<N: Names + Send + Sync, R: Wait + Abort + Threads + Clock + Sync>(
     };
     let others = crowd(rt, halls, scene.crowd);
     all.seats.push(others).expect(rt, "memory");
-    let (first, (second, third)) = all_serve(rt, alloc, halls, scene, &made);
+    let played = Played {
+        halls,
+        scene,
+        turns: &made,
+    };
+    let (first, (second, third)) = all_serve(rt, alloc, &played);
     same(rt, made.late(), 0);
     gather(rt, scene, first, &mut all);
     gather(rt, scene, second, &mut all);
@@ -479,7 +487,12 @@ fn lacks<N: Names, R: Wait + Abort + Clock>(
     let part = scene.first;
     let mut seats = Vec::with_capacity(alloc, 1).expect(rt, "memory");
     let seat = halls.seat(rt).expect(rt, "a seat");
-    let (seat, came) = serves(rt, alloc, &halls, seat, 1, &part, scene, turns);
+    let played = Played {
+        halls: &halls,
+        scene,
+        turns,
+    };
+    let (seat, came) = serves(rt, alloc, &played, seat, 1, &part);
     same(rt, (came.out, seat.clients(), turns.late()), (0, 0, 0));
     seats.push(seat).expect(rt, "memory");
     let none: Vec<Volume<N>> = Vec::new(alloc);

@@ -111,40 +111,39 @@ impl Waking {
             is_waited_for(rt, turns);
             drop(fails(rt, halls, &mut seat, launch));
         } else {
-            self.handles(rt, alloc, halls, &mut seat, launch, turns);
+            let ask = self.step.ask(alloc, 12).expect(rt, "memory");
+            handles(rt, halls, &mut seat, launch, ask, turns);
         }
     }
+}
 
-    /// The handler runs, completes the key or not, and ends once the other client was told.
-    fn handles<N: Names, R: Wait + Abort + Clock>(
-        self,
-        rt: &R,
-        alloc: Global,
-        halls: &Halls<N>,
-        seat: &mut Seat<N>,
-        launch: Launch<N>,
-        turns: &Turns,
-    ) {
-        let Owed { value, receipt } = halls.launched(rt, seat, NOW, launch, Ran::Plain);
-        drop(receipt);
-        let running = value.expect(rt, "a handler that runs");
-        let key = running.key();
-        drop(calls(
-            rt,
-            halls,
-            seat,
-            EventStep::Asked(SessionId::Handler(key), AskStep::Assume { key: 12 }),
-        ));
-        is_waited_for(rt, turns);
-        let ask = self.step.ask(alloc, 12).expect(rt, "memory");
-        if let Some(ask) = ask {
-            completes(rt, halls, seat, key, ask);
-            turns.wait(rt, TOLD);
-        }
-        let Owed { value, receipt } = halls.ended(rt, seat, NOW, running, How::Exit(0), None);
-        drop(receipt);
-        refuse_launch(rt, halls, seat, value);
+/// The handler runs, completes the key where this is its ask for it, and ends once the other client was told.
+fn handles<N: Names, R: Wait + Abort + Clock>(
+    rt: &R,
+    halls: &Halls<N>,
+    seat: &mut Seat<N>,
+    launch: Launch<N>,
+    ask: Option<AskStep<'static>>,
+    turns: &Turns,
+) {
+    let Owed { value, receipt } = halls.launched(rt, seat, NOW, launch, Ran::Plain);
+    drop(receipt);
+    let running = value.expect(rt, "a handler that runs");
+    let key = running.key();
+    drop(calls(
+        rt,
+        halls,
+        seat,
+        EventStep::Asked(SessionId::Handler(key), AskStep::Assume { key: 12 }),
+    ));
+    is_waited_for(rt, turns);
+    if let Some(ask) = ask {
+        completes(rt, halls, seat, key, ask);
+        turns.wait(rt, TOLD);
     }
+    let Owed { value, receipt } = halls.ended(rt, seat, NOW, running, How::Exit(0), None);
+    drop(receipt);
+    refuse_launch(rt, halls, seat, value);
 }
 
 /// The handler of the key completes it by this ask.

@@ -125,16 +125,16 @@ fn says(
     Ok(true)
 }
 
-/// Plays a line on one book. If it answers ENOMEM it has to be like the other one, and the line is played again.
+/// Plays a row's line on one book. If it answers ENOMEM it has to be like the other one, and the line is played again.
 fn play_surely(
     rt: &impl Abort,
     alloc: Global,
     one: &mut Book,
     other: &mut Book,
     now: Moment,
-    line: &str,
-    answer: &str,
+    row: &Row,
 ) -> Result<(), Fail> {
+    let (line, answer) = *row;
     if says(rt, alloc, one, now, line, answer)? {
         return Ok(());
     }
@@ -178,9 +178,10 @@ fn play_on_both(
     rows: &[Row],
 ) -> Result<Moment, Fail> {
     let mut now = now;
-    for (line, answer) in rows {
+    for row in rows {
+        let (line, answer) = *row;
         now = read_surely(alloc, line)?.moment.unwrap_or(now);
-        play_surely(rt, alloc, one, other, now, line, answer)?;
+        play_surely(rt, alloc, one, other, now, row)?;
         follow(rt, alloc, other, now, line, answer)?;
     }
     Ok(now)
