@@ -1,3 +1,7 @@
+pub mod Accepting
+pub mod Binding
+pub mod ByHall
+pub mod Door
 pub mod Ending
 pub mod Entry
 pub mod Faults
@@ -10,5 +14,6 @@ pub mod Log
 pub mod Place
 pub mod Settings
 pub mod Story
+pub mod Streams
 pub mod Taking
 pub mod Tally
