@@ -1,3 +1,7 @@
+pub mod Accepting
+pub mod Binding
+pub mod ByHall
+pub mod Door
 pub mod Ending
 pub mod Entry
 pub mod Faults
@@ -11,5 +15,6 @@ pub mod Place
 pub mod Purpose
 pub mod Settings
 pub mod Story
+pub mod Streams
 pub mod Taking
 pub mod Tally

@@ -1,23 +1,11 @@
 //! Accepting connections.
-ghost use Rattle.std.specs.Prelude.{◌≡◌, pos};
+ghost use Rattle.std.specs.Prelude.{◌≡◌};
+ghost use Rattle.rk_daemon.specs.Accepting.{Accepts, LetsIn, Watches, goes_on};
+ghost use Rattle.rk_daemon.specs.Story.{Does};
 
-use crate::entrance::Entrance;
-use crate::workers::Client;
-use crossbeam_channel::Sender;
-use libc::net::{POLLIN, poll};
-use libc::types::pollfd;
+use crate::door::Door;
 use log::{Log, warn};
-use std::os::fd::AsRawFd;
-use std::os::unix::net::UnixListener;
 use std::sync::Wait;
-use std::thread;
-use std::time::{Clock, Duration};
-
-/// How many milliseconds it waits after an accept that failed, as where no descriptor is left.
-const PAUSE: u64 = 100;
-
-/// How many bytes of standard input are read and dropped at a time.
-const PIECE: usize = 4_096;
 
 /// When no more connections are accepted.
 #[derive(Clone, Copy, Debug, PartialEq, Eq)]
@@ -29,66 +17,53 @@ pub struct Until {
 }
 
 /// Accepts connections and hands them out, numbered from 1, until no more are to be accepted. It waits where the workers are behind.
-pub fn accept<R: Wait + Clock, L: Log>(
-    rt: &R,
-    log: &L,
-    listener: &UnixListener,
-    mut entrance: Entrance<'_>,
-    workers: &Sender<Client>,
-    until: Until,
-) {
+pub fn accept<R: Wait, L: Log, D: Door>(rt: &R, log: &L, door: &mut D, until: Until)
+    ensures { Does (Accepts until 0) (D.story door.old) (D.story door.new) }
+{
     let mut last = 0;
     for _ in rt.forever() {
-        if until.eof && has_ended_first(rt, listener) {
-            return;
-        }
-        match listener.accept() {
-            Ok((stream, _)) => {
-                let Some(number) = u32::checked_add(last, 1) else {
-                    return;
-                };
-                last = number;
-                entrance.come(log);
-                if workers.send(rt, Client { number, stream }).is_err() || number == until.clients {
-                    return;
-                }
-            }
-            Err(error) => {
-                warn!(log; "accept: {error}");
-                thread::sleep(rt, Duration::from_millis(PAUSE));
-            }
+        match let_in(log, door, until, last) {
+            Some(number) => last = number,
+            None => return,
         }
     }
 }
 
-/// Waits for a connection, or the end of standard input; whether that has come first. What standard input has is dropped.
-fn has_ended_first<R: Wait>(rt: &R, listener: &UnixListener) -> bool {
-    for _ in rt.forever() {
-        let mut asked = [asked_of(libc::STDIN_FILENO), asked_of(listener.as_raw_fd())];
-        poll(&mut asked, -1);
-        if asked[0].revents != 0 && has_ended() {
-            return true;
-        }
-        if asked[1].revents != 0 {
-            return false;
-        }
-    }
-    false
-}
-
-/// Asks whether a descriptor can be read (`poll(2)`).
-fn asked_of(descriptor: i32) -> pollfd
-    ensures { result ≡ record { fd = descriptor; events = POLLIN; revents = pos 0 } }
+/// Accepts a connection behind so many, and hands it out; how many have come then, if more are to be accepted.
+fn let_in<L: Log, D: Door>(log: &L, door: &mut D, until: Until, last: u32) -> Option<u32>
+    ensures { Does (LetsIn until last result) (D.story door.old) (D.story door.new) }
 {
-    pollfd {
-        fd: descriptor,
-        events: POLLIN,
-        revents: 0,
+    if is_over(door, until.eof) {
+        return None;
+    }
+    match door.accept() {
+        Ok(connection) => {
+            let number = last.checked_add(1)?;
+            let is_taken = door.hand_out(number, connection);
+            goes_on(until, number, is_taken)
+        }
+        Err(error) => {
+            warn!(log; "accept: {error}");
+            door.pause();
+            Some(last)
+        }
     }
 }
 
-/// Reads some of standard input, which can be read; whether there is no more, or no more can be read.
-fn has_ended() -> bool {
-    let mut piece = [0u8; PIECE];
-    libc::read(libc::STDIN_FILENO, &mut piece) <= 0
+/// Whether standard input has ended, where that is the end.
+fn is_over<D: Door>(door: &mut D, eof: bool) -> bool
+    ensures { Does (Watches eof result) (D.story door.old) (D.story door.new) }
+{
+    eof && door.is_over()
+}
+
+/// How many connections have come, if workers are left and the one with this number was not the last.
+fn goes_on(until: Until, number: u32, is_taken: bool) -> Option<u32>
+    ensures { result ≡ goes_on until number is_taken }
+{
+    if is_taken && number != until.clients {
+        Some(number)
+    } else {
+        None
+    }
 }

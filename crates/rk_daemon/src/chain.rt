@@ -1,6 +1,7 @@
 //! The order in which the volumes of a record are written.
+ghost use Rattle.std.specs.Prelude.{◌≤◌};
 
-use rk_hall::HallNo;
+use crate::by_hall::ByHall;
 use rk_volumes::{RunNumber, Sum};
 use std::sync::{Condvar, Mutex, Wait};
 
@@ -35,11 +36,17 @@ impl Chain {
 
     /// What the volume with this index has to say of the one before it. It waits until that one is done with.
     pub fn before<R: Wait>(&self, rt: &R, index: u64) -> Sum {
-        let before = index.saturating_sub(1);
+        self.awaited(rt, index.saturating_sub(1)).sum
+    }
+
+    /// The last volume that is done with, once the one with this index is.
+    fn awaited<R: Wait>(&self, rt: &R, index: u64) -> Last
+        ensures { index ≤ result.index }
+    {
         let last = self
             .moved
-            .wait_while(rt, self.last.lock(rt), |last| last.index < before);
-        last.sum
+            .wait_while(rt, self.last.lock(rt), |last| last.index < index);
+        *last
     }
 
     /// The volume with this index is done with, and the next one has to say this of it.
@@ -58,14 +65,8 @@ pub struct Run {
     pub folder: String,
     /// Its number, which was drawn at the start.
     pub number: RunNumber,
-    /// The volumes of hall 0.
-    zero: Chain,
-    /// Those of hall 1.
-    one: Chain,
-    /// Those of hall 2.
-    two: Chain,
-    /// Those of hall 3.
-    three: Chain,
+    /// The volumes of each hall.
+    pub chains: ByHall<Chain>,
 }
 
 impl Run {
@@ -74,20 +75,12 @@ impl Run {
         Run {
             folder,
             number,
-            zero: Chain::new(),
-            one: Chain::new(),
-            two: Chain::new(),
-            three: Chain::new(),
-        }
-    }
-
-    /// The volumes of this hall.
-    pub fn chain(&self, hall: HallNo) -> &Chain {
-        match hall {
-            HallNo::Zero => &self.zero,
-            HallNo::One => &self.one,
-            HallNo::Two => &self.two,
-            HallNo::Three => &self.three,
+            chains: ByHall {
+                zero: Chain::new(),
+                one: Chain::new(),
+                two: Chain::new(),
+                three: Chain::new(),
+            },
         }
     }
 }

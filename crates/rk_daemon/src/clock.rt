@@ -17,6 +17,8 @@ pub struct Seconds<'a, R: time::Clock> {
 }
 
 impl<'a, R: time::Clock> Seconds<'a, R> {
+    ghost use Rattle.std.specs.Prelude.{◌≡◌, unwrap_or};
+
     /// The seconds since this instant.
     pub fn since(rt: &'a R, start: Instant) -> Seconds<'a, R> {
         Seconds {
@@ -25,14 +27,26 @@ impl<'a, R: time::Clock> Seconds<'a, R> {
             last: Moment(0),
         }
     }
+
+    /// So many seconds have passed; or that can't be told, and it is the moment of the last call.
+    fn read(&mut self, passed: Option<u64>) -> Moment
+        ensures moment { result ≡ unwrap_or passed self.old.last }
+        ensures last { self.new.last ≡ result }
+    {
+        if let Some(seconds) = passed {
+            self.last = Moment(seconds);
+        }
+        self.last
+    }
 }
 
 impl<'a, R: time::Clock> Clock for Seconds<'a, R> {
     /// The moment now; that of the last call where the clock can't be read.
     fn now(&mut self) -> Moment {
-        if let Ok(passed) = self.start.elapsed(self.rt) {
-            self.last = Moment(passed.as_secs());
-        }
-        self.last
+        let passed = match self.start.elapsed(self.rt) {
+            Ok(passed) => Some(passed.as_secs()),
+            Err(_) => None,
+        };
+        self.read(passed)
     }
 }

@@ -1,4 +1,5 @@
 //! What connections find.
+ghost use Rattle.std.specs.Prelude.{◌≡◌, ◌&&◌, nat_le, not};
 
 use crate::connections::Connections;
 use log::{Log, warn};
@@ -15,6 +16,8 @@ pub struct Entrance<'a> {
 }
 
 impl<'a> Entrance<'a> {
+    ghost use Rattle.std.specs.Prelude.{◌≡◌, ◌&&◌, nat_le, not};
+
     /// So many workers, of which none is busy, for these connections.
     pub fn new(connections: &'a Connections, workers: u32) -> Entrance<'a> {
         Entrance {
@@ -28,10 +31,21 @@ impl<'a> Entrance<'a> {
     /// has it may wait for what a program of its own asks over this connection. Only here a worker gets more to do, so that one who has come free meanwhile
     /// is found so by the next connection.
     pub fn come<R: Log>(&mut self, log: &R) {
-        let (workers, were_busy) = (self.workers, self.are_busy);
-        self.are_busy = self.connections.come() >= workers;
-        if self.are_busy && !were_busy {
+        let others = self.connections.come();
+        if self.finds(others) {
+            let workers = self.workers;
             warn!(log; "all {workers} workers are busy, connections wait");
         }
+    }
+
+    /// A connection finds so many others; whether it is the first of several that find all workers busy.
+    fn finds(&mut self, others: u32) -> bool
+        ensures busy { self.new.are_busy ≡ nat_le self.old.workers others }
+        ensures workers { self.new.workers ≡ self.old.workers }
+        ensures first { result ≡ (nat_le self.old.workers others && not self.old.are_busy) }
+    {
+        let were_busy = self.are_busy;
+        self.are_busy = others >= self.workers;
+        self.are_busy && !were_busy
     }
 }

@@ -2,6 +2,7 @@
 ghost use Rattle.std.specs.Prelude.{◌≡◌};
 ghost use Rattle.rk_daemon.specs.Held.{bytes_of, taken_by};
 
+use crate::by_hall::ByHall;
 use rk_hall::{HallNo, Receipt, Told};
 use rk_machine::Answer;
 use rk_message::{Ask, Reply};
@@ -11,14 +12,8 @@ use std::sync::atomic::{AtomicU64, Ordering};
 /// here without a lock.
 #[derive(Drop)]
 pub struct Held {
-    /// The bytes of hall 0.
-    zero: AtomicU64,
-    /// Those of hall 1.
-    one: AtomicU64,
-    /// Those of hall 2.
-    two: AtomicU64,
-    /// Those of hall 3.
-    three: AtomicU64,
+    /// The bytes of each hall.
+    bytes: ByHall<AtomicU64>,
     /// The volumes that were handed out, of all halls.
     volumes: AtomicU64,
 }
@@ -27,27 +22,19 @@ impl Held {
     /// Nothing is held.
     pub fn new() -> Held {
         Held {
-            zero: AtomicU64::new(0),
-            one: AtomicU64::new(0),
-            two: AtomicU64::new(0),
-            three: AtomicU64::new(0),
+            bytes: ByHall {
+                zero: AtomicU64::new(0),
+                one: AtomicU64::new(0),
+                two: AtomicU64::new(0),
+                three: AtomicU64::new(0),
+            },
             volumes: AtomicU64::new(0),
-        }
-    }
-
-    /// That of a hall.
-    fn of(&self, hall: HallNo) -> &AtomicU64 {
-        match hall {
-            HallNo::Zero => &self.zero,
-            HallNo::One => &self.one,
-            HallNo::Two => &self.two,
-            HallNo::Three => &self.three,
         }
     }
 
     /// Counts so many bytes more in the record of this hall.
     pub fn add(&self, hall: HallNo, bytes: u64) {
-        self.of(hall).fetch_add(bytes, Ordering::Relaxed);
+        self.bytes.of(hall).fetch_add(bytes, Ordering::Relaxed);
     }
 
     /// Counts a volume that was handed out.
@@ -63,7 +50,7 @@ impl Held {
     /// Whether the record of this hall has taken more than so many bytes. Then its volume is to be handed out, and it is counted from 0 again, so that one
     /// of several threads gets it.
     pub fn is_over(&self, hall: HallNo, most: u64) -> bool {
-        let bytes = self.of(hall);
+        let bytes = self.bytes.of(hall);
         bytes.load(Ordering::Relaxed) > most && bytes.swap(0, Ordering::Relaxed) > most
     }
 }

@@ -17,22 +17,27 @@
 //! `settings` has what an operator sets by options, `fault` why nothing is served. `socket`, `clock`, `gate` and `shelf` are the devices of a session:
 //! the wire over an accepted socket, seconds of the system's monotonic clock, a gate that holds nobody, warns of handlers that could not be run, and hands
 //! out volumes of which `held` counts much, and a shelf that writes a volume into the folder of the `record`, or names it and drops it. `chain` has the
-//! volumes of a hall written in their order, and `drawn` the random numbers of a run. `path` takes the socket's path and gives it free, and `streams` takes
+//! volumes of each hall, `by_hall`, written in their order, and `drawn` the random numbers of a run. `path` takes the socket's path and gives it free, and `streams` takes
 //! the places of standard streams that are closed. `platform` names the types of all these for a worker's sessions. `workers` serves the `connections` that
 //! `accepting` hands out, `entrance` warns where they wait, and `serving` puts it all together. `watching` looks after the `handlers` that run, and tells the
 //! `figures`.
 //!
 //! What `path` and `record` do to files is done by a `place` and a `folder`, traits that may tell it, so that contracts can say in which order: by the
-//! system's, of `system_place` and `system_folder`, or by those of a test.
+//! system's, of `system_place` and `system_folder`, or by those of a test. So connections come in by a `door`, `streams` are taken in `standard` places, and
+//! `binding` ties a volume to the one before it in a `bindery`.
 //!
 //! `reporter` makes each line of the log: an `entry` in the `style` of the journal or with the time, of a `kind` of which `tally` counts the lines. `ending`
 //! has the line of a handler that has ended, and `purpose` what one was started for.
 #![tactic(auto)]
 
 mod accepting;
+mod bindery;
+mod binding;
+mod by_hall;
 mod chain;
 mod clock;
 mod connections;
+mod door;
 mod drawn;
 mod ending;
 mod entrance;
@@ -54,14 +59,21 @@ mod serving;
 mod settings;
 mod shelf;
 mod socket;
+mod standard;
 mod streams;
 mod style;
+mod system_door;
 mod system_folder;
 mod system_place;
+mod system_standard;
 mod tally;
 mod watching;
 mod workers;
 
+pub use accepting::{Until, accept};
+pub use bindery::Bindery;
+pub use binding::bind;
+pub use door::Door;
 pub use fault::Fault;
 pub use folder::Folder;
 pub use path::{give_free, take};
@@ -69,3 +81,5 @@ pub use place::{FileId, Place};
 pub use record::{Keeper, keep};
 pub use serving::serve;
 pub use settings::{LogSettings, Settings};
+pub use standard::{Standard, Stream};
+pub use streams::{StandIns, fill};

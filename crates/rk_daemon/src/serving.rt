@@ -14,9 +14,11 @@ use crate::path::{give_free, take};
 use crate::record::{Keeper, is_free};
 use crate::reporter::{LogState, Reporter};
 use crate::settings::Settings;
-use crate::streams::StandIns;
+use crate::streams::fill;
 use crate::style::Style;
+use crate::system_door::SystemDoor;
 use crate::system_place::SystemPlace;
+use crate::system_standard::SystemStandard;
 use crate::workers::{Shared, start, start_watch};
 use log::warn;
 use rk_conf::Conf;
@@ -150,9 +152,9 @@ fn serve_out<
     let _ = errors.write_all(READY);
     let entrance = Entrance::new(&shared.connections, settings.sessions);
     let log = Reporter::new(rt, &shared.log);
-    accept(rt, &log, &listener, entrance, &to, until(settings));
-    drop(listener);
-    drop(to);
+    let mut door = SystemDoor::new(rt, &log, listener, entrance, to);
+    accept(rt, &log, &mut door, until(settings));
+    drop(door);
     for worker in workers {
         worker.join(rt);
     }
@@ -288,7 +290,7 @@ pub fn serve<
     {
         return Err(Fault::Keyutils(error));
     }
-    let _stand_ins = match StandIns::take(rt) {
+    let _stand_ins = match fill(&mut SystemStandard::new(rt)) {
         Ok(taken) => taken,
         Err(error) => return Err(Fault::Stream(error)),
     };

@@ -1,12 +1,16 @@
 //! Where the daemon's volumes go.
+ghost use Rattle.std.specs.Prelude.{None};
 
-use crate::chain::Run;
+use crate::bindery::Bindery;
+use crate::binding::{bind, head_of};
+use crate::chain::{Chain, Run};
 use crate::record::Keeper;
-use log::{Log, warn};
-use rk_hall::{Names, Volume};
+use log::Log;
+use rk_hall::{Names, Recorded, Volume};
 use rk_talk::Shelf;
 use rk_volumes::{Head, Seal, Sum};
 use std::alloc::Global;
+use std::io;
 use std::io::Eprint;
 use std::sync::Wait;
 
@@ -39,7 +43,7 @@ impl<'a, R: Eprint + Log + Keeper> Outlet<'a, R> {
         self.hand_out(rt, volume, true);
     }
 
-    /// Writes a volume once the one before it in its hall is done with, since it says which sum that has.
+    /// Writes or names a volume, and drops it.
     fn hand_out<N: Names, W: Wait>(&self, rt: &W, volume: Volume<N>, closing: bool) {
         match self.run {
             None => {
@@ -48,41 +52,19 @@ impl<'a, R: Eprint + Log + Keeper> Outlet<'a, R> {
                 let _ = eprintln!(self.rt; "volume {hall} {index} {steps}");
             }
             Some(run) => {
-                let chain = run.chain(volume.hall());
-                let previous = chain.before(rt, volume.index());
-                let seal = Seal {
-                    run: run.number,
-                    closing,
-                    previous,
+                let head = head_of(&volume, self.negative);
+                let mut pages = Pages {
+                    rt,
+                    keeper: self.rt,
+                    alloc: self.alloc,
+                    folder: run.folder.as_str(),
+                    chain: run.chains.of(head.hall),
+                    steps: volume.steps(),
                 };
-                let sum = self.write(run, &seal, &volume);
-                chain.done(rt, volume.index(), sum);
+                bind(self.rt, &mut pages, run.number, closing, &head);
             }
         }
         drop(volume);
-    }
-
-    /// Writes a volume, and gives its sum. One that can't be written is a warning; then the record lacks it, and the next one is tied to the one
-    /// before it.
-    fn write<N: Names>(&self, run: &Run, seal: &Seal, volume: &Volume<N>) -> Sum {
-        let head = Head {
-            hall: volume.hall(),
-            negative: self.negative,
-            index: volume.index(),
-            before: volume.before(),
-        };
-        let folder = run.folder.as_str();
-        match self
-            .rt
-            .keep(self.alloc, folder, seal, &head, volume.steps())
-        {
-            Ok(sum) => sum,
-            Err(error) => {
-                let (hall, index) = (head.hall.number(), head.index);
-                warn!(self.rt; "volume {hall} {index}: {error}");
-                seal.previous
-            }
-        }
     }
 }
 
@@ -90,5 +72,39 @@ impl<'a, E: Eprint + Log + Keeper> Shelf for Outlet<'a, E> {
     /// A volume that can't be written is a warning, and dropped; then the record lacks it.
     fn put<N: Names, R: Wait>(&self, rt: &R, volume: Volume<N>) {
         self.hand_out(rt, volume, false);
+    }
+}
+
+/// A volume, and those before it in its hall, in the folder of a record.
+#[derive(Drop)]
+struct Pages<'a, W, K> {
+    /// What waits.
+    rt: &'a W,
+    /// What writes volumes.
+    keeper: &'a K,
+    /// What makes the names of files.
+    alloc: Global,
+    /// The path of the folder.
+    folder: &'a str,
+    /// Those of the hall.
+    chain: &'a Chain,
+    /// The steps of the volume.
+    steps: &'a [Recorded],
+}
+
+impl<'a, W: Wait, K: Keeper> Bindery for Pages<'a, W, K> {
+    ghost story = { λ pages. None };
+
+    fn before(&mut self, index: u64) -> Sum {
+        self.chain.before(self.rt, index)
+    }
+
+    fn write(&mut self, seal: &Seal, head: &Head) -> io::Result<Sum> {
+        self.keeper
+            .keep(self.alloc, self.folder, seal, head, self.steps)
+    }
+
+    fn settle(&mut self, index: u64, sum: Sum) {
+        self.chain.done(self.rt, index, sum);
     }
 }

@@ -1,11 +1,20 @@
 -- What was kept, as what was done.
 use Rattle.std.specs.Prelude.{ℕ, Bool, true, false, [], List, Option, None, Some, string_bytes}
+use Rattle.rk_daemon.specs.Binding as binding
+use Rattle.rk_daemon.specs.Door as door
 use Rattle.rk_daemon.specs.Folder as folder
 use Rattle.rk_daemon.specs.Place as place
+use Rattle.rk_daemon.specs.Streams as streams
 use Rattle.rk_daemon_tests.specs.declared.done.AtPath.{AtPath}
 use Rattle.rk_daemon_tests.specs.declared.done.AtPath.TheVariants as at
+use Rattle.rk_daemon_tests.specs.declared.done.AtDoor.{AtDoor}
+use Rattle.rk_daemon_tests.specs.declared.done.AtDoor.TheVariants as opening
 use Rattle.rk_daemon_tests.specs.declared.done.InFolder.{InFolder}
 use Rattle.rk_daemon_tests.specs.declared.done.InFolder.TheVariants as within
+use Rattle.rk_daemon_tests.specs.declared.done.InPlace.{InPlace}
+use Rattle.rk_daemon_tests.specs.declared.done.InPlace.TheVariants as places
+use Rattle.rk_daemon_tests.specs.declared.done.OfVolume.{OfVolume}
+use Rattle.rk_daemon_tests.specs.declared.done.OfVolume.TheVariants as volume
 
 -- at the path of a socket
 abbrev pub at_path : AtPath → place.Act
@@ -27,3 +36,21 @@ in_folder (within.Created path is_done) = folder.Created (string_bytes path) (no
 in_folder (within.Flushed bytes is_done) = folder.Flushed (Some bytes.items) is_done
 in_folder (within.Linked from to is_done) = folder.Linked (string_bytes from) (string_bytes to) is_done
 in_folder (within.Removed path is_done) = folder.Removed (string_bytes path) is_done
+
+-- at a door
+abbrev pub at_door : AtDoor → door.Act
+at_door (opening.Watched is_over) = door.Watched is_over
+at_door (opening.Accepted is_done) = door.Accepted is_done
+at_door opening.Paused = door.Paused
+at_door (opening.HandedOut number is_taken) = door.HandedOut number is_taken
+
+-- in the places of the standard streams
+abbrev pub in_place : InPlace → streams.Act
+in_place (places.Looked stream is_closed) = streams.Looked stream is_closed
+in_place (places.Opened is_done) = streams.Opened is_done
+
+-- with the volumes of a hall
+abbrev pub of_volume : OfVolume → binding.Act
+of_volume (volume.Awaited index sum) = binding.Awaited index sum
+of_volume (volume.Written seal head sum) = binding.Written seal head sum
+of_volume (volume.Settled index sum) = binding.Settled index sum

@@ -1,6 +1,7 @@
-//! What is done at a path and in a folder, kept. It stands here, and not among the tests, since `specs/` says what it means.
+//! What is done outside of the daemon, kept. It stands here, and not among the tests, since `specs/` says what it means.
 
-use rk_daemon::FileId;
+use rk_daemon::{FileId, Stream};
+use rk_volumes::{Head, Seal, Sum};
 use std::io::ErrorKind;
 
 /// What is done at the path of a socket, and how it has failed, or what was found.
@@ -31,4 +32,37 @@ pub enum InFolder {
     Linked(String, String, bool),
     /// A file is removed.
     Removed(String, bool),
+}
+
+/// What is done at a door.
+#[derive(Clone, Copy, Debug, PartialEq, Eq)]
+pub enum AtDoor {
+    /// It is waited for a connection, or for the end of standard input; whether that came first.
+    Watched(bool),
+    /// A connection is accepted.
+    Accepted(bool),
+    /// Nothing is done for a while.
+    Paused,
+    /// A connection is handed to the workers.
+    HandedOut(u32, bool),
+}
+
+/// What is done in the places of the standard streams.
+#[derive(Clone, Copy, Debug, PartialEq, Eq)]
+pub enum InPlace {
+    /// Whether a stream is closed.
+    Looked(Stream, bool),
+    /// A file is opened.
+    Opened(bool),
+}
+
+/// What is done with the volumes of a hall.
+#[derive(Clone, Copy, Debug, PartialEq, Eq)]
+pub enum OfVolume {
+    /// The one before the one with this index is waited for, which has this sum.
+    Awaited(u64, Sum),
+    /// One is written in its seal, with its head, and has this sum, unless that fails.
+    Written(Seal, Head, Option<Sum>),
+    /// The one with this index is done with, and the next one has to say this sum.
+    Settled(u64, Sum),
 }

@@ -48,4 +48,4 @@ AreTried conf subject driven all = Tries conf subject 0 driven all
 
 -- all that passed with the child of a launch that came back last, if one ran
 abbrev pub HasPassedWith : List Line → TokenShown → Driven → SeatShown → SeatShown → List shown.Passed → Type 0
-HasPassedWith conf launch driven old new story = HasRun driven → Passes conf launch old new story ⊎ Passes conf (negated launch) old new story
+HasPassedWith conf launch driven old new story = HasRun driven → Passes conf launch driven old new story ⊎ Passes conf (negated launch) driven old new story
