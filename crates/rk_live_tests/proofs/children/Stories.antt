@@ -55,6 +55,6 @@ story_told story told false o is kept = absurd (subst is_there (sym kept ∙ is)
 pub all_passed : (conf : List Line) (t : TokenShown) (driven : Driven) (s0 s1 : SeatShown) (l : LauncherShown) (told : List Passed) → l.story ≡ Some told
     → EitherPassed conf t driven s0 s1 l → HasPassedWith conf t driven s0 s1 told
 all_passed conf t driven s0 s1 l told kept (inl one) run =
-    let p = one run in inl (subst (Passes conf t s0 s1) (story_told p.0 told p.1 l.story p.3 kept) p.2)
+    let p = one run in inl (subst (Passes conf t driven s0 s1) (story_told p.0 told p.1 l.story p.3 kept) p.2)
 all_passed conf t driven s0 s1 l told kept (inr two) run =
-    let p = two run in inr (subst (Passes conf (negated t) s0 s1) (story_told p.0 told p.1 l.story p.3 kept) p.2)
+    let p = two run in inr (subst (Passes conf (negated t) driven s0 s1) (story_told p.0 told p.1 l.story p.3 kept) p.2)

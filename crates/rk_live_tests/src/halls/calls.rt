@@ -1,4 +1,4 @@
-//! What a client and its handler do in hall 0.
+//! What a client and its handler do, in hall 0 for the most part.
 ghost use Rattle.rk_hall.specs.Seats.{IsCall};
 
 use crate::asks::{CLIENT, hello, request};
@@ -45,7 +45,20 @@ pub fn calls<N: Names, R: Wait + Abort>(
 ) -> Receipt
     requires { IsCall event }
 {
-    let called = halls.call(rt, seat, HallNo::Zero, NOW, event);
+    calls_in(rt, halls, seat, HallNo::Zero, event)
+}
+
+/// The same, in this hall.
+pub fn calls_in<N: Names, R: Wait + Abort>(
+    rt: &R,
+    halls: &Halls<N>,
+    seat: &mut Seat<N>,
+    hall: HallNo,
+    event: EventStep<'_>,
+) -> Receipt
+    requires { IsCall event }
+{
+    let called = halls.call(rt, seat, hall, NOW, event);
     let Called { receipt, launch } = called.expect(rt, "a receipt");
     refuse_launch(rt, halls, seat, launch);
     receipt

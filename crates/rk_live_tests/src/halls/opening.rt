@@ -2,6 +2,7 @@
 ghost use Rattle.std.specs.Prelude.{◌≡◌, ◌≤◌};
 
 use crate::children::handling::Handling;
+use crate::halls::counting::counts;
 use crate::halls::growths::Growths;
 use crate::halls::settling::{SixSteps, Volumes, goes_astray, hears};
 use crate::threads::together::SideBySide;
@@ -19,6 +20,8 @@ use std::time::Clock;
 pub enum Scene {
     /// Two seats make three calls each, and are settled.
     SixSteps(SixSteps),
+    /// How much there is in each hall is counted.
+    Counts,
     /// A seat learns of another's receipt.
     Hears,
     /// A volume is full, and the next one begins.
@@ -44,6 +47,7 @@ impl Scene {
     ) {
         match self {
             Scene::SixSteps(steps) => steps.play(rt, alloc, halls),
+            Scene::Counts => counts(rt, halls),
             Scene::Hears => hears(rt, alloc, halls),
             Scene::Volumes(volumes) => volumes.play(rt, alloc, halls),
             Scene::GoesAstray => goes_astray(rt, alloc, halls),

@@ -67,6 +67,7 @@ fn tells_of_the_wait(rt: &impl Abort, hall: &Hall, key_12: Serial, key_16: Seria
         true,
     );
     same(rt, hall.owes(&EventStep::Collect(CLIENT)), false);
+    same(rt, (hall.keys(), hall.constructions()), (2, 1));
 }
 
 /// What a handler of this key finds under the name `b`.
@@ -84,6 +85,7 @@ fn makes_a_key(rt: &impl Abort, alloc: Global, hall: &mut Hall) {
     tells_of_the_wait(rt, hall, key_12, key_16);
     same(rt, found(rt, alloc, hall, key_16), Some(1));
     play(rt, alloc, hall, ENDED);
+    same(rt, (hall.keys(), hall.constructions()), (0, 0));
     same(rt, (hall.index(), hall.before(), hall.count()), (1, 0, 9));
     same(rt, (hall.steps().len(), hall.no()), (9, HallNo::Zero));
 }

@@ -26,6 +26,8 @@ pub enum Move {
     Waits(SessionId),
     /// Is the client there?
     There(u32),
+    /// How many keys and how many constructions are there?
+    Counts,
     /// How far is the construction of the key?
     Stage(Serial),
     /// How many steps are owed to the client, or to the construction and its handler, and how many ends?
@@ -60,6 +62,7 @@ fn read_move(alloc: Global, words: &[&str]) -> Result<Move, Fault> {
         ["ready", id] => Ok(Move::Ready(session(*id)?)),
         ["waits", id] => Ok(Move::Waits(session(*id)?)),
         ["there", client] => Ok(Move::There(number(*client)?)),
+        ["counts"] => Ok(Move::Counts),
         ["stage", key] => Ok(Move::Stage(serial(*key)?)),
         ["owed", id] => Ok(Move::Owed(session(*id)?)),
         ["depth", key] => Ok(Move::Depth(serial(*key)?)),

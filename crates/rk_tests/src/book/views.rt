@@ -28,6 +28,7 @@ const IN_PEACE: &[Row] = &[
     ("ready c9", "no"),
     ("there 1", "yes"),
     ("there 9", "no"),
+    ("counts", "0 0"),
     ("stage 3", "none"),
     ("depth 3", "none"),
     ("owed c1", "1 0"),
@@ -48,6 +49,7 @@ const WHILE_IT_STARTS: &[Row] = &[
     ("waits c1", "yes"),
     ("waits c2", "yes"),
     ("ready c1", "no"),
+    ("counts", "1 1"),
     ("stage 3", "starting"),
     ("depth 3", "1"),
     ("owed c1", "2 0"),
@@ -70,12 +72,14 @@ const WHILE_IT_RUNS: &[Row] = &[
     ("depth 3", "none"),
     ("ready c1", "no"),
     ("owes collect c1", "no"),
+    ("counts", "1 1"),
     ("ready c2", "yes"),
     ("owes collect c2", "yes"),
 ];
 
 const WHEN_IT_HAS_ENDED: &[Row] = &[
     ("ended 3 exit 0", "0"),
+    ("counts", "1 0"),
     ("stage 3", "none"),
     ("owed h3", "0 0"),
     ("owes ended 3 exit 0", "no"),
