@@ -97,14 +97,6 @@ pub struct Scene<'a> {
     pub may_lack: bool,
 }
 
-/// A scene that is played: what its sessions share.
-#[derive(Drop)]
-struct Played<'a, N: Names> {
-    halls: &'a Halls<N>,
-    scene: &'a Scene<'a>,
-    turns: &'a Turns,
-}
-
 /// What is left of a thread: its seat, the receipts that were noted, and the volumes that were handed out.
 #[derive(Drop)]
 struct Left<N: Names> {
@@ -225,16 +217,13 @@ fn serves_with<'a, N: Names, R: Wait + Abort + Clock>(
 fn serves<'a, N: Names, R: Wait + Abort + Clock>(
     rt: &'a R,
     alloc: Global,
-    played: &Played<'a, N>,
+    halls: &'a Halls<N>,
     seat: Seat<N>,
     client: u32,
     part: &Part<'a>,
+    scene: &Scene,
+    turns: &'a Turns,
 ) -> (Seat<N>, Came) {
-    let Played {
-        halls,
-        scene,
-        turns,
-    } = *played;
     let launcher = Fake::new(alloc, scene.programs, 1_000, scene.fuse);
     let own = Own {
         seat,
@@ -289,13 +278,15 @@ fn is_as_wanted(rt: &impl Abort, part: &Part, came: &Came) {
 fn may_serve<N: Names, R: Wait + Abort + Clock>(
     rt: &R,
     alloc: Global,
-    played: &Played<N>,
+    halls: &Halls<N>,
     client: u32,
     part: Option<Part>,
+    scene: &Scene,
+    turns: &Turns,
 ) -> Option<Left<N>> {
     let part = part?;
-    let seat = played.halls.seat(rt)?;
-    let (seat, came) = serves(rt, alloc, played, seat, client, &part);
+    let seat = halls.seat(rt)?;
+    let (seat, came) = serves(rt, alloc, halls, seat, client, &part, scene, turns);
     is_as_wanted(rt, &part, &came);
     let Came { noted, .. } = came;
     Some(Left {
@@ -343,13 +334,15 @@ fn watches<N: Names, R: Wait + Abort + Clock>(
 fn third_serves<N: Names, R: Wait + Abort + Clock>(
     rt: &R,
     alloc: Global,
-    played: &Played<N>,
+    halls: &Halls<N>,
+    scene: &Scene,
+    turns: &Turns,
 ) -> Option<Left<N>> {
-    match played.scene.watched {
-        None => may_serve(rt, alloc, played, 3, played.scene.third),
+    match scene.watched {
+        None => may_serve(rt, alloc, halls, 3, scene.third, scene, turns),
         Some(turn) => {
-            played.turns.wait(rt, turn);
-            watches(rt, alloc, played.halls, played.turns)
+            turns.wait(rt, turn);
+            watches(rt, alloc, halls, turns)
         }
     }
 }
@@ -408,12 +401,14 @@ fn crowd<N: Names, R: Wait + Abort>(rt: &R, halls: &Halls<N>, count: u32) -> Sea
 fn others_serve<N: Names + Send + Sync, R: Wait + Abort + Threads + Clock + Sync>(
     rt: &R,
     alloc: Global,
-    played: &Played<N>,
+    halls: &Halls<N>,
+    scene: &Scene,
+    turns: &Turns,
 ) -> (Option<Left<N>>, Option<Left<N>>) {
     join(
         rt,
-        move || may_serve(rt, alloc, played, 2, played.scene.second),
-        move || third_serves(rt, alloc, played),
+        move || may_serve(rt, alloc, halls, 2, scene.second, scene, turns),
+        move || third_serves(rt, alloc, halls, scene, turns),
     )
 }
 
@@ -421,12 +416,14 @@ fn others_serve<N: Names + Send + Sync, R: Wait + Abort + Threads + Clock + Sync
 fn all_serve<N: Names + Send + Sync, R: Wait + Abort + Threads + Clock + Sync>(
     rt: &R,
     alloc: Global,
-    played: &Played<N>,
+    halls: &Halls<N>,
+    scene: &Scene,
+    turns: &Turns,
 ) -> (Option<Left<N>>, (Option<Left<N>>, Option<Left<N>>)) {
     join(
         rt,
-        move || may_serve(rt, alloc, played, 1, Some(played.scene.first)),
-        move || others_serve(rt, alloc, played),
+        move || may_serve(rt, alloc, halls, 1, Some(scene.first), scene, turns),
+        move || others_serve(rt, alloc, halls, scene, turns),
     )
 }
 
@@ -445,12 +442,7 @@ fn all_left<N: Names + Send + Sync, R: Wait + Abort + Threads + Clock + Sync>(
     };
     let others = crowd(rt, halls, scene.crowd);
     all.seats.push(others).expect(rt, "memory");
-    let played = Played {
-        halls,
-        scene,
-        turns: &made,
-    };
-    let (first, (second, third)) = all_serve(rt, alloc, &played);
+    let (first, (second, third)) = all_serve(rt, alloc, halls, scene, &made);
     same(rt, made.late(), 0);
     gather(rt, scene, first, &mut all);
     gather(rt, scene, second, &mut all);
@@ -487,12 +479,7 @@ fn lacks<N: Names, R: Wait + Abort + Clock>(
     let part = scene.first;
     let mut seats = Vec::with_capacity(alloc, 1).expect(rt, "memory");
     let seat = halls.seat(rt).expect(rt, "a seat");
-    let played = Played {
-        halls: &halls,
-        scene,
-        turns,
-    };
-    let (seat, came) = serves(rt, alloc, &played, seat, 1, &part);
+    let (seat, came) = serves(rt, alloc, &halls, seat, 1, &part, scene, turns);
     same(rt, (came.out, seat.clients(), turns.late()), (0, 0, 0));
     seats.push(seat).expect(rt, "memory");
     let none: Vec<Volume<N>> = Vec::new(alloc);
