@@ -96,7 +96,9 @@ def of_warnings():
     ends = [f"session N: {it}" for it in variants("rk_session/src/serving.rt", "Served") if it != "Ended"]
     ending = (top / "crates" / "rk_daemon" / "src" / "ending.rt").read_text()
     ways = ending.partition("fn put_how(")[2].partition("fn errno_text(")[0]
-    fails = [re.sub(r"\{\w+\}", "N", text) for text in re.findall(r'"([^"]+)"', ways) if not re.match(r"X[234]|start failed: |it could", text) and "more than" not in text]
+    fails = [re.sub(r"\{\w+\}", "N", text) for text in re.findall(r'"([^"]+)"', ways) if not re.match(r"; |X[234]|start failed: |it could", text) and "more than" not in text]
+    ends_in = re.findall(r'"(; [^"]+)"', ways)
+    count.same("what a warning of a handler may end in", [it for it in ends_in if f"\\fB{it}\\fR" in (top / "man" / "reqkeyd.8").read_text()], ends_in)
     count.same("warnings of sessions", [tag for tag in tags if tag.startswith("session N: ") and tag not in ["session N: no memory", "session N: idle"]], ends)
     count.same("warnings of handlers", [tag for tag in tags if tag.startswith("handler of key N: ") and not tag.endswith("this line")], [f"handler of key N: {it}" for it in sorted(fails, key=fails.index)])
     text = " ".join(spoken(line) for line in sections("reqkeyd.8")["DIAGNOSTICS"]).partition("handler of key N: ")[2].partition("accept:")[0]
