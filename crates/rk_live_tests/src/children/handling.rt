@@ -288,7 +288,8 @@ impl Open {
 impl Gate for Open {
     fn started<R: Wait>(&self, rt: &R, key: Serial, subject: &Subject) {
         let _ = rt;
-        let _ = (key, subject);
+        let _ = key;
+        let _ = subject;
     }
 
     fn driven<R: Wait>(&self, rt: &R, report: Report<'_>) {

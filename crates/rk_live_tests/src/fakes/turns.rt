@@ -89,7 +89,8 @@ pub struct Held<'a, N: Names, R> {
 impl<'a, N: Names, R: Clock> Gate for Held<'a, N, R> {
     fn started<W: Wait>(&self, rt: &W, key: Serial, subject: &Subject) {
         let _ = rt;
-        let _ = (key, subject);
+        let _ = key;
+        let _ = subject;
         self.turns.next();
         self.turns.wait(self.rt, self.until);
         self.turns.pass(self.takes);
