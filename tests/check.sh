@@ -70,6 +70,8 @@ count() {
     echo "$((seconds - before)) $name" >> "$taken"
 }
 
+# (the copy of a `make` that was killed)
+rm -rf build/programs
 count rt ci ${ANEW:+--anew}
 # (the libraries stand as this run has proved them)
 export PROVED=1

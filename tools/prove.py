@@ -7,12 +7,13 @@ Begins with what earlier checks kept in crates/NAME/out; `rt run` then builds th
 only one can be proved at a time: it gets all processors. LOG gets what the toolchain prints. RT_JOBS in the environment is the number of processors to use.
 
 Before any proof, the toolchain reads all sources once for each crate that no other uses, which takes a minute or two each. So it works in build/programs, a
-copy that has the crates of the programs alone.
+copy that has the crates of the programs alone. The copy goes at the end, since `rt ci` takes no sources beside those of crates/.
 """
 import os
 import pathlib
 import re
 import shutil
+import signal
 import subprocess
 import sys
 import time
@@ -52,16 +53,22 @@ def move_kept(names, old, new):
 
 
 def lay_out(names):
-    """Makes the copy anew, of the sources as they are."""
-    if copy.exists():
-        # (a run that was ended has left it)
-        move_kept(names, copy, top)
-        shutil.rmtree(copy)
+    """Makes the copy anew, of the sources as they are, with what checks kept."""
+    # (a run that was killed may have left one)
+    take_back(names)
     for name in names:
         shutil.copytree(top / "crates" / name, copy / "crates" / name, ignore=shutil.ignore_patterns("out"))
     shutil.copy2(top / "HANDLES", copy)
     lines = (top / "crates.txt").read_text().splitlines(keepends=True)
     (copy / "crates.txt").write_text("".join(it for it in lines if it.startswith("#") or it.split(":")[0].split(" ")[0] in names))
+    move_kept(names, top, copy)
+
+
+def take_back(names):
+    """Moves what checks kept back, and removes the copy."""
+    if copy.exists():
+        move_kept(names, copy, top)
+        shutil.rmtree(copy)
 
 
 class Proof:
@@ -75,12 +82,11 @@ class Proof:
 
     def run(self, jobs):
         """Proves all that is left. Whether it is proved."""
-        lay_out(self.used)
-        move_kept(self.used, top, copy)
         try:
+            lay_out(self.used)
             is_proved = self.does(["rt", "all", "check", "--jobs", jobs], copy, lambda done: jobs != "1" and self.is_chain_after(done))
         finally:
-            move_kept(self.used, copy, top)
+            take_back(self.used)
         while is_proved is None and self.left:
             name = self.chain()[0]
             verb = "check" if is_program(name) else "lib"
@@ -91,17 +97,22 @@ class Proof:
 
     def does(self, words, folder, ends_early):
         """Runs a command that proves crates. Whether all are proved; None if it was ended early."""
-        with subprocess.Popen(words, cwd=folder, stdin=subprocess.DEVNULL, stdout=subprocess.PIPE, stderr=subprocess.STDOUT) as proving:
-            for line in proving.stdout:
-                self.log.write(line)
-                found = CRATE.match(line)
-                name = found and found[1].decode()
-                if name in self.left:
-                    self.is_done(name)
-                    if ends_early(name):
-                        proving.terminate()
-                        return None
-        return proving.returncode == 0
+        how = {"stdin": subprocess.DEVNULL, "stdout": subprocess.PIPE, "stderr": subprocess.STDOUT, "start_new_session": True}
+        with subprocess.Popen(words, cwd=folder, **how) as proving:
+            try:
+                for line in proving.stdout:
+                    self.log.write(line)
+                    found = CRATE.match(line)
+                    name = found and found[1].decode()
+                    if name in self.left:
+                        self.is_done(name)
+                        if ends_early(name):
+                            return None
+                return proving.wait() == 0
+            finally:
+                if proving.poll() is None:
+                    # (with what it has started, which works in the folders of the copy)
+                    os.killpg(proving.pid, signal.SIGTERM)
 
     def is_done(self, name):
         """Says that a crate is proved."""
@@ -121,5 +132,7 @@ class Proof:
 
 
 if __name__ == "__main__":
+    # (so that the copy goes then, too)
+    signal.signal(signal.SIGTERM, lambda *_: sys.exit(1))
     with open(sys.argv[1], "wb") as file:
         sys.exit(0 if Proof(uses(), file).run(os.environ.get("RT_JOBS") or str(len(os.sched_getaffinity(0)))) else 1)
