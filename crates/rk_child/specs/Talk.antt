@@ -1,5 +1,5 @@
 -- What passes with a plain handler, message by message.
-use Rattle.std.specs.Prelude.{◌≡◌, ◌≢◌, ◌⊎◌, ◌||◌, ℕ, Bool, true, false, List, [], ◌∷◌, ◌++◌, map, Result, Ok, Err}
+use Rattle.std.specs.Prelude.{◌≡◌, ◌≢◌, ◌⊎◌, ◌||◌, ℕ, true, false, List, [], ◌∷◌, ◌++◌, map, Result, Ok, Err}
 use Rattle.rk_frame.specs.Framing.{IsBody, frame}
 use Rattle.rk_frame.specs.Streams.{IsPartial, HasFault}
 use Rattle.rk_message.specs.declared.reply.Reply.{Reply}
