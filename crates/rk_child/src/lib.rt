@@ -19,10 +19,11 @@
 //! `NotStarted` only if no line fits, `NotMade` only if the words of the one that does fail so, and `NoMemory` only if there is a command.
 //!
 //! *A plain handler* has each ask answered in order, by the hall of its key. Its output is read only if no whole message is held; the message at the
-//! front is taken, asked, and replied to, before anything else passes. A reply that can't be written, a frame that none has, or an ask of which nothing can
-//! be said ends its asks: its input is closed, and what it still outputs is read and dropped. A child that tells what passes with it tells that and nothing
-//! else. The gate learns whether one of its asks completed its key. *A piped handler* is written the callout, and its output is the payload, where
-//! it has 1 to 32,767 bytes; that its input can't be written is passed over. One that has exited with 0 and without a payload is `NoPayload`.
+//! front is taken, asked, and replied to, before anything else passes. A reply that can't be written, a frame that none has, or an ask of which nothing
+//! can be said ends its asks: its input is closed, and what it still outputs is read and dropped. A child that tells what passes with it tells that and
+//! nothing else. The gate learns whether one of its asks completed its key, and whether they ended at a length that no frame has. *A piped handler* is
+//! written the callout, and its output is the payload, where it has 1 to 32,767 bytes; that its input can't be written is passed over. One that has
+//! exited with 0 and without a payload is `NoPayload`.
 //!
 //! What a run needs is made before its start: out of memory there ends it as a start that failed. Not promised: that a child ends, and what it says.
 //!

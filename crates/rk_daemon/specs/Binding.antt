@@ -10,7 +10,7 @@ pub data Act : Type 0 where
   Written : Seal → Head → Option (List ℕ) → Act
   Settled : ℕ → List ℕ → Act
 
--- a volume is written, in the seal that says the sum of the one before it; the next one is tied to it, and to the one before it where it can't be written
+-- a volume is written, in the seal that says the sum of the one before it; the next one is tied to it, and to the one before it if it can't be written
 pub data Binds (run : List ℕ) (closing : Bool) (h : Head) : List Act → Type 0 where
   bound : (previous : List ℕ) (sum : Option (List ℕ)) → Binds run closing h (Awaited h.index previous
       ∷ Written (record { run = run; closing = closing; previous = previous }) h sum ∷ Settled h.index (unwrap_or sum previous) ∷ [])

@@ -7,7 +7,7 @@ use Rattle.rk_conf.specs.Choice.{IsChosen}
 use Rattle.rk_macro.specs.declared.subject.Subject.{Subject}
 use Rattle.rk_macro.specs.Ops.{op_name}
 
--- the line is the one that these lines' configuration picks for what a handler was started for; there is none where that is not known
+-- the line is the one that these lines' configuration picks for what a handler was started for; there is none if that is not known
 abbrev pub IsLineFor : List Line → Option Subject → Option Line → Type 0
 IsLineFor lines None line = IsNone line
 IsLineFor lines (Some s) line = IsChosen lines (op_name s.op) s.typ s.desc s.callout line

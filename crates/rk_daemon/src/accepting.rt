@@ -16,7 +16,7 @@ pub struct Until {
     pub eof: bool,
 }
 
-/// Accepts connections and hands them out, numbered from 1, until no more are to be accepted. It waits where the workers are behind.
+/// Accepts connections and hands them out, numbered from 1, until no more are to be accepted. It waits while all workers are busy and the channel is full.
 pub fn accept<R: Wait, L: Log, D: Door>(rt: &R, log: &L, door: &mut D, until: Until)
     ensures { Does (Accepts until 0) (D.story door.old) (D.story door.new) }
 {
@@ -29,7 +29,7 @@ pub fn accept<R: Wait, L: Log, D: Door>(rt: &R, log: &L, door: &mut D, until: Un
     }
 }
 
-/// Accepts a connection behind so many, and hands it out; how many have come then, if more are to be accepted.
+/// Accepts a connection after so many, and hands it out. Returns how many have come then, if more are to be accepted.
 fn let_in<L: Log, D: Door>(log: &L, door: &mut D, until: Until, last: u32) -> Option<u32>
     ensures { Does (LetsIn until last result) (D.story door.old) (D.story door.new) }
 {
@@ -50,7 +50,7 @@ fn let_in<L: Log, D: Door>(log: &L, door: &mut D, until: Until, last: u32) -> Op
     }
 }
 
-/// Whether standard input has ended, where that is the end.
+/// Whether standard input has ended, if that is to be the end.
 fn is_over<D: Door>(door: &mut D, eof: bool) -> bool
     ensures { Does (Watches eof result) (D.story door.old) (D.story door.new) }
 {

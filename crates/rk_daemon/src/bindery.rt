@@ -10,7 +10,7 @@ use std::io;
 /// Where a volume is written behind those of its hall that came before it, of which each says the sum of the one before; several threads hand them out. It may
 /// tell what was done, as one for a test would; the system's tells nothing.
 pub trait Bindery {
-    /// What was done, first things first, where it tells that.
+    /// What was done, first things first, if it tells that.
     ghost story: { Self → Option (List Act) };
 
     /// The sum that the volume with this index has to say of the one before it. It waits until that one is done with.

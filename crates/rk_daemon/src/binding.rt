@@ -42,7 +42,7 @@ pub fn bind<L: Log, B: Bindery>(
     bindery.settle(index, sum);
 }
 
-/// Writes a volume in its seal. The sum that the next one has to say is its own, or that of the one before where it can't be written, which is warned of.
+/// Writes a volume in its seal. The sum that the next one has to say is its own, or that of the one before if it can't be written, which is warned of.
 fn written<L: Log, B: Bindery>(log: &L, bindery: &mut B, seal: &Seal, head: &Head) -> Sum
     ensures { (sum : Option (List ℕ)) × (B.story bindery.new ≡ and_then (B.story bindery.old) (Written seal.now head.now sum ∷ []))
         × (result ≡ unwrap_or sum seal.now.previous) }

@@ -41,7 +41,7 @@ impl<'a, R: time::Clock> Seconds<'a, R> {
 }
 
 impl<'a, R: time::Clock> Clock for Seconds<'a, R> {
-    /// The moment now; that of the last call where the clock can't be read.
+    /// The moment now; that of the last call if the clock can't be read.
     fn now(&mut self) -> Moment {
         let passed = match self.start.elapsed(self.rt) {
             Ok(passed) => Some(passed.as_secs()),

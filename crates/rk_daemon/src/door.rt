@@ -7,7 +7,7 @@ use std::io;
 
 /// Where connections come in, and are handed to those who serve them. It may tell what was done, as one for a test would; the system's tells nothing.
 pub trait Door {
-    /// What was done, first things first, where it tells that.
+    /// What was done, first things first, if it tells that.
     ghost story: { Self → Option (List Act) };
 
     /// A connection.

@@ -17,7 +17,7 @@ use std::alloc::{AllocError, Global};
 pub struct End<'s, 'c> {
     /// The key that it was to make, by which the line names it.
     pub key: Serial,
-    /// What it was started for, where that is still known.
+    /// What it was started for, if that is still known.
     pub subject: Option<&'s Subject>,
     /// The line of the configuration that was chosen, if one fits.
     pub line: Option<&'c Line>,

@@ -11,7 +11,7 @@ use std::fmt::{Display, Formatter};
 pub struct Running {
     /// The serial of its key.
     pub key: u32,
-    /// What it was started for, where that is known.
+    /// What it was started for, if that is known.
     pub purpose: Option<String>,
     /// For how many seconds it has run.
     pub seconds: u64,

@@ -74,7 +74,7 @@ fn ready<P: Place>(
     place.listen(socket)
 }
 
-/// Gives the path free, where the file that was taken still stands there.
+/// Gives the path free, if the file that was taken still stands there.
 pub fn give_free<P: Place>(place: &mut P, path: &str, taken: FileId)
     ensures { Does (GivesFree path.now taken) (P.story place.old) (P.story place.new) }
 {

@@ -34,7 +34,7 @@ impl Stream {
 
 /// Who has the descriptors of the standard streams. It may tell what was done, as one for a test would; the system's tells nothing.
 pub trait Standard {
-    /// What was done, first things first, where it tells that.
+    /// What was done, first things first, if it tells that.
     ghost story: { Self → Option (List Act) };
 
     /// What is open in the place of a stream.

@@ -32,7 +32,7 @@ pub fn fill<S: Standard>(streams: &mut S) -> io::Result<StandIns<S::File>>
     })
 }
 
-/// Opens nothing in the place of this stream, where it is closed; no lower one is.
+/// Opens nothing in the place of this stream, if it is closed; no lower one is.
 fn stand_in<S: Standard>(streams: &mut S, stream: Stream) -> io::Result<Option<S::File>>
     ensures { Does (Fills stream (is_ok result)) (S.story streams.old) (S.story streams.new) }
 {

@@ -24,7 +24,7 @@ enum Comes {
     Over,
 }
 
-/// A door that tells what is done there. What comes there is given; behind that, standard input has ended, and no workers are left. Out of memory for what it
+/// A door that tells what is done there. What comes there is given; after that, standard input has ended, and no workers are left. Out of memory for what it
 /// keeps ends the process.
 #[derive(Drop)]
 struct Telling<'a, R> {
