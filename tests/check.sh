@@ -72,7 +72,12 @@ count() {
 
 # (the copy of a `make` that was killed)
 rm -rf build/programs
-count rt ci ${ANEW:+--anew}
+# (some toolchains keep no proofs: each of their gates begins from nothing, and has no such word)
+if [[ -n ${ANEW:-} ]] && ! (cd / && rt ci --anew 2>&1) | grep -q '^usage:'; then
+    count rt ci --anew
+else
+    count rt ci
+fi
 # (the libraries stand as this run has proved them)
 export PROVED=1
 for test in tests/test_*; do

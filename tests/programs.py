@@ -31,8 +31,8 @@ def client_of(program):
 
 
 def version():
-    """What a program says behind its name of its version: a number, and the toolchain."""
-    return f"0.1.0 ({subprocess.check_output(['rt', 'version'], text=True).strip()})"
+    """What a program says behind its name of its version: a number, and the logic in which it was proved, as this toolchain calls it."""
+    return f"0.2.0 (rattle {subprocess.check_output(['rt', 'version'], text=True).strip().partition(' ')[2]})"
 
 
 def differs(got, want):

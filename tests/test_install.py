@@ -227,11 +227,11 @@ def by_package(ours, room):
     status, printed, errors = run("make", "-s", "-C", top, "deb", f"BUILT={ours}", f"PACKAGES={room}/packages")
     package = pathlib.Path(printed.strip())
     architecture = run("dpkg", "--print-architecture")[1].strip()
-    count.same("make deb", (status, errors, package), (0, "", room / "packages" / f"reqkeyd_0.1.0_{architecture}.deb"))
+    count.same("make deb", (status, errors, package), (0, "", room / "packages" / f"reqkeyd_0.2.0_{architecture}.deb"))
     if status:
         return
     fields = dict(line.split(": ", 1) for line in run("dpkg-deb", "--field", package)[1].split("\n") if line and line[0] != " ")
-    wanted = {"Package": "reqkeyd", "Version": "0.1.0", "Architecture": architecture}
+    wanted = {"Package": "reqkeyd", "Version": "0.2.0", "Architecture": architecture}
     count.same("fields of the package", {name: fields.get(name) for name in wanted}, wanted)
     count.same("its version of the C library", bool(re.fullmatch(r"libc6 \(>= 2\.\d+(\.\d+)?\)", fields["Depends"])), True)
     owners = {line.split()[1] for line in run("dpkg-deb", "--contents", package)[1].split("\n") if line}

@@ -220,7 +220,7 @@ def ends(trap, room):
         status, output, errors = trap.run(options=options)
         count.same(f"words {options}", (status, output, "Usage: reqkey-trap" in errors), (2, "", True))
     count.same("help", trap.run(options=["--help"])[0], 0)
-    count.same("version", trap.run(options=["-V"]), (0, "reqkey-trap 0.1.0\n", ""))
+    count.same("version", trap.run(options=["-V"]), (0, "reqkey-trap 0.2.0\n", ""))
 
 
 def signals(trap):

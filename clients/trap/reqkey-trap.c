@@ -47,7 +47,7 @@ static const char HELP[] = "Runs a program whose system calls add_key, request_k
                            "can't be started, 1 if the daemon can't be reached or the program can't be put under a filter, 2 for a usage error.\n";
 
 #ifndef VERSION
-#define VERSION "0.1.0"
+#define VERSION "0.2.0"
 #endif
 
 struct words {

@@ -5,8 +5,8 @@ use clap::error::ErrorKind;
 use clap::{Arg, ArgAction, Command, Error};
 use std::alloc::{AllocError, Global};
 
-/// The version, and what `rt version` says of the toolchain that proved and built it.
-const VERSION: &str = "0.1.0 (rattle-kit-13f logic dac8208d650f15bf)";
+/// The version, and the logic in which the program was proved, as `rt version` says it of every toolchain that has this logic.
+const VERSION: &str = "0.2.0 (rattle logic dac8208d650f15bf)";
 
 /// What `serve --help` says before its options.
 const SERVE: &str =
