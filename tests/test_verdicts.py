@@ -7,7 +7,7 @@ import tempfile
 
 import crates
 from counted import Counted
-from verdicts import Verdicts, lock_file
+from verdicts import Verdicts, lines_of, lock_file
 
 count = Counted()
 # a crate, the one below it, and one that is not
@@ -94,14 +94,18 @@ with tempfile.TemporaryDirectory() as name:
     count.same("one more library", kept(), False)
     (room / "crates.txt").write_text(lines)
 
-    lock_file().write_text(f"{APART} 0\n")
+    lock_file().write_text(f"{TRIED} another-toolchain 0\n{APART} another-toolchain 0\n")
     first.keep(TRIED, in_lock=True)
-    count.same("the lock has a line of it, beside those that it had", [it.split()[0] for it in lock_file().read_text().splitlines()], [TRIED, APART])
+    here = first.line_of(TRIED)
+    beside = [(TRIED, "another-toolchain"), (APART, "another-toolchain")]
+    count.same("the lock has a line of it, beside those that it had", sorted(lines_of(lock_file().read_text())), sorted([here, *beside]))
     count.same("and it counts", locked(), True)
     count.same("not for another source", changed(some(TRIED, "src"), locked), False)
     written = lock_file().read_text()
     lock_file().write_text(written.replace(first.sums[TRIED], first.sums[TRIED][::-1]))
     count.same("nor by a line with another sum", locked(), False)
+    lock_file().write_text(written.replace(" ".join(here), f"{TRIED} a-third-toolchain"))
+    count.same("nor by a line of another toolchain", locked(), False)
     shutil.rmtree(room / "cache")
     count.same("so the edits are tried", verdicts().taken(for_lock=False), {})
     lock_file().write_text(written)

@@ -4,9 +4,10 @@ The verdict on a crate's edits rests on its files, the toolchain, the programs t
 lemmas, and the interfaces of their built libraries. The sum of all these is the verdict's name, so it never goes stale. A body that is changed below is in
 none of them, so it costs the edits of its own crate and not those above; and comments are in none.
 
-A run on this machine keeps its verdicts in the user's cache. `edits.lock`, at the top, has the sums of all crates, one in a line; `make edits` writes it. It
-says what others can't see, so a run tries a twelfth of the crates that it lists once more, drawn by lot. A line with another sum counts for nothing. If ANEW
-is in the environment (`make check ANEW=1`), all are tried again.
+A run on this machine keeps its verdicts in the user's cache. `edits.lock`, at the top, has the sums of all crates, one in a line, after the toolchain with
+which it was tried; `make edits` writes it. So machines with different toolchains each have their lines. The lock says what others can't see, so a run tries
+a twelfth of the crates that it lists once more, drawn by lot. A line with another sum counts for nothing. If ANEW is in the environment (`make check
+ANEW=1`), all are tried again.
 """
 import contextlib
 import fcntl
@@ -33,6 +34,7 @@ class Verdicts:
     def __init__(self, names, used, built):
         self.used = used
         self.built = built
+        self.toolchain = subprocess.check_output(["rt", "version"], text=True)
         self.folder = folder()
         self.sums = self.sums_of(names)
 
@@ -40,7 +42,7 @@ class Verdicts:
         """For each crate the sum of all on which the verdict on its edits rests."""
         here = pathlib.Path(__file__).resolve().parent
         programs = [crates.top / "HANDLES", *(here / it for it in PROGRAMS)]
-        tried_by = [subprocess.check_output(["rt", "version"], text=True), *(hashlib.sha256(it.read_bytes()).hexdigest() for it in programs)]
+        tried_by = [self.toolchain, *(hashlib.sha256(it.read_bytes()).hexdigest() for it in programs)]
         lines = crates.listed()
         below = {name: sorted(crates.below(self.used, name)) for name in names}
         cited = {it: f"{lines[it]} {self.cited(it)}" for it in {it for some in below.values() for it in some}}
@@ -74,7 +76,11 @@ class Verdicts:
     def locked(self):
         """The crates of which edits.lock has the sum."""
         lines = lines_of(lock_file().read_text()) if lock_file().is_file() else {}
-        return [name for name, it in self.sums.items() if lines.get(name) == it]
+        return [name for name, it in self.sums.items() if lines.get(self.line_of(name)) == it]
+
+    def line_of(self, name):
+        """What the line of a crate begins with."""
+        return name, self.toolchain.split()[0]
 
     def keep(self, name, in_lock=False):
         """Keeps that the edits of a crate were all refused, on this machine and, if there was a control, in edits.lock; unless its files were changed
@@ -85,9 +91,9 @@ class Verdicts:
             with open(lock_file(), "a+") as file:
                 fcntl.flock(file, fcntl.LOCK_EX)
                 file.seek(0)
-                lines = {**lines_of(file.read()), name: self.sums[name]}
+                lines = {**lines_of(file.read()), self.line_of(name): self.sums[name]}
                 file.truncate(0)
-                file.write("".join(f"{it} {lines[it]}\n" for it in sorted(lines) if it in self.used))
+                file.write("".join(f"{it} {toolchain} {of_it}\n" for (it, toolchain), of_it in sorted(lines.items()) if it in self.used))
         with contextlib.suppress(OSError):
             if self.folder is not None:
                 self.folder.mkdir(mode=0o700, parents=True, exist_ok=True)
@@ -106,8 +112,8 @@ def lock_file():
 
 
 def lines_of(text):
-    """The lines of a lock: crates and sums."""
-    return dict(line.split() for line in text.splitlines())
+    """The lines of a lock: sums, by crate and toolchain."""
+    return {(name, toolchain): it for name, toolchain, it in map(str.split, text.splitlines())}
 
 
 def folder():
