@@ -81,12 +81,15 @@ class Inside:
         return self
 
     def __exit__(self, *_):
-        self.process.stdin.close()
+        with contextlib.suppress(BrokenPipeError):
+            self.process.stdin.close()
         self.process.wait(LIMIT)
         self.process.stdout.close()
 
     def run(self, *words, piped="piped"):
-        self.process.stdin.write(json.dumps([list(map(str, words)), piped]) + "\n")
-        self.process.stdin.flush()
+        """Status, output and errors of a program; `ended` and how, if the process there has ended before it."""
+        with contextlib.suppress(BrokenPipeError):
+            self.process.stdin.write(json.dumps([list(map(str, words)), piped]) + "\n")
+            self.process.stdin.flush()
         line = self.process.stdout.readline()
-        return tuple(json.loads(line)) if line else ("ended", "", "")
+        return tuple(json.loads(line)) if line else ("ended", str(self.process.wait(LIMIT)), "")
