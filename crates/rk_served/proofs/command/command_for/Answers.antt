@@ -9,21 +9,21 @@ use Rattle.rk_served.proofs.command.command_for.Goals as goal
 pub returns-in-Ok : goal.returns-in-Ok
 returns-in-Ok c = record {
   line = c.in_ok-line.line.now;
-  chosen = subst (λ (o : List ℕ). IsChosen c.args.conf.now o c.args.subject.now.typ c.args.subject.now.desc c.args.subject.now.callout
+  chosen = subst (λ (o : List ℕ). IsChosen c.args.occasion.now.conf.now o c.args.subject.now.typ c.args.subject.now.desc c.args.subject.now.callout
       (Some c.in_ok-line.line.now)) c.as_bytes.ensures.value c.in_ok-line.ensures;
   path = c.in-Ok.ensures.path;
   piped = c.in-Ok.ensures.piped;
-  words = words_of_calls _ (looked_up c.args.book.now c.args.key c.args.now) _ _ _ c.in-Ok.ensures.words
-      (λ wanted r h. seen_by c.args.book.now c.args.key c.args.now wanted r (search rules));
+  words = words_of_calls _ (looked_up c.args.book.now c.args.key c.args.occasion.now.moment) _ _ _ c.in-Ok.ensures.words
+      (λ wanted r h. seen_by c.args.book.now c.args.key c.args.occasion.now.moment wanted r (search rules));
   short = c.in-Ok.ensures.short;
 }
 
 pub returns-in-Err : goal.returns-in-Err
 returns-in-Err c = inr (record {
   line = c.in_ok-line.line.now;
-  chosen = subst (λ (o : List ℕ). IsChosen c.args.conf.now o c.args.subject.now.typ c.args.subject.now.desc c.args.subject.now.callout
+  chosen = subst (λ (o : List ℕ). IsChosen c.args.occasion.now.conf.now o c.args.subject.now.typ c.args.subject.now.desc c.args.subject.now.callout
       (Some c.in_ok-line.line.now)) c.as_bytes.ensures.value c.in_ok-line.ensures;
   fault = c.in-Err.field-0;
-  fails = fails_of_calls _ (looked_up c.args.book.now c.args.key c.args.now) _ _ _ c.in-Err.ensures.err
-      (λ wanted r h. seen_by c.args.book.now c.args.key c.args.now wanted r (search rules));
+  fails = fails_of_calls _ (looked_up c.args.book.now c.args.key c.args.occasion.now.moment) _ _ _ c.in-Err.ensures.err
+      (λ wanted r h. seen_by c.args.book.now c.args.key c.args.occasion.now.moment wanted r (search rules));
 })

@@ -12,14 +12,14 @@ use Rattle.rk_served.proofs.Standings.{order_replaced}
 use Rattle.rk_served.proofs.server.Server.run_piped.Goals as goal
 
 pub returns : goal.returns
-returns c conf =
+returns c =
     let xs = c.args.self.now.peers.items in
     let i = c.args.index in
     let there = c.requires.starts.1 in
     let within = slice_get_within xs i (peer (Handler c.args.key) (Starts _) (Some c.requires.starts.0)) there in
     let first = some_peer (sym (slice_get_read xs _ i c.index.result.now refl within c.index.ensures) ∙ there) in
     let same = some_peer (sym (slice_get_read xs _ i c.index_mut.result.now refl within c.index_mut.ensures.value) ∙ there) in
-    piped_one conf c.args.now c.args.key _ _ _ _ i c.requires.starts c.step.result c.requires.owed c.step.ensures.step
+    piped_one c.args.occasion.now.conf.now c.args.occasion.now.moment c.args.key _ _ _ _ i c.requires.starts c.step.result c.requires.owed c.step.ensures.step
     (ap (λ (x : Peer). slice_set xs i (peer x.who (Pipes c.new-2.result) x.subject)) same
     ∙ ap (λ (b : List ℕ). slice_set xs i (peer (Handler c.args.key) (Pipes b) (Some c.requires.starts.0))) (c.new-2.ensures ∙ c.new.ensures.items))
     (c.in_ok-put_callout.ensures ∙ ap (λ (x : Peer). c.args.out.now.items ++ callout_of c.args.key x.subject) first)

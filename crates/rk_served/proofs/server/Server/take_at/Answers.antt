@@ -30,8 +30,8 @@ returns-in_ok-ask-in-Asks c =
     let next = rw c.in-Asks.is at c.in_ok-next.ensures in
     let now_there : c.index.result.now ≡ peer x.who c.next.new.self x.subject = c.index.ensures
     ∙ get_or-set_same peers.items c.args.index (peer x.who c.next.new.self x.subject) _ (slice_get_within peers.items c.args.index x at) in
-    asks_one c.args.conf.now c.args.now (left_of c.args.self.now) _ _ _ c.args.index x.who x.subject x.channel c.next.new.self c.in-Asks.ask at free next
-    (subst (λ (s : Peer). AnswersOne c.args.conf.now c.args.now
+    asks_one c.args.occasion.now.conf.now c.args.occasion.now.moment (left_of c.args.self.now) _ _ _ c.args.index x.who x.subject x.channel c.next.new.self c.in-Asks.ask at free next
+    (subst (λ (s : Peer). AnswersOne c.args.occasion.now.conf.now c.args.occasion.now.moment
     (record {
       world = c.args.self.now.book;
       peers = slice_set peers.items c.args.index (peer x.who c.next.new.self x.subject);
@@ -47,7 +47,7 @@ returns-in_ok-put_reply-in-Refused c =
     let next = rw c.in-Refused.is at c.in_ok-next.ensures in
     let now_there : c.index-in-Refused.result.now ≡ peer x.who c.next.new.self x.subject = c.index-in-Refused.ensures
     ∙ get_or-set_same peers.items c.args.index (peer x.who c.next.new.self x.subject) _ (slice_get_within peers.items c.args.index x at) in
-    refuses_one c.args.conf.now c.args.now
+    refuses_one c.args.occasion.now.conf.now c.args.occasion.now.moment
     (left_of c.args.self.now) _ _ _ c.args.index x.who x.subject x.channel c.next.new.self c.in-Refused.errno at free next refl refl
     (c.in_ok-put_reply-in-Refused.ensures ∙ ap (λ (s : Peer). c.args.out.now.items ++ replies_to s.who (Refused c.in-Refused.errno)) now_there)
 
@@ -57,9 +57,9 @@ returns-in_ok-fault_at-in-Fault c =
     let peers = c.args.self.now.peers in
     let at = slice_get_read peers.items _ c.args.index x peers.ok.0 c.requires.within c.index_mut.ensures.value in
     let next = rw c.in-Fault.is at c.in_ok-next.ensures in
-    subst (λ (l : Left). MovesOne c.args.conf.now c.args.now c.args.index l c.args.out.now.items (left_of c.fault_at.new.self) c.fault_at.new.out.items)
+    subst (λ (l : Left). MovesOne c.args.occasion.now.conf.now c.args.occasion.now.moment c.args.index l c.args.out.now.items (left_of c.fault_at.new.self) c.fault_at.new.out.items)
     (next_left (left_of c.args.self.now) c.args.index x.who x.subject x.channel c.next.new.self at (inr next))
-    (c.in_ok-fault_at-in-Fault.ensures c.args.conf.now)
+    (c.in_ok-fault_at-in-Fault.ensures c.args.occasion.now.conf.now)
 
 pub invariant_of-self : goal.invariant_of-self
 invariant_of-self c =
