@@ -1,7 +1,7 @@
 -- Who stands in a queue, after each change of it.
 use Rattle.std.proofs.Common.{◌≡◌, ◌⊎◌, ℕ, zero, suc, ◌<◌, Bool, true, false, cond, List, [], ◌∷◌, ◌++◌, refl, sym, ap, ◌∙◌, subst, inl, inr}
 use Rattle.std.proofs.Common.{arith, length}
-use Rattle.std.specs.Prelude.{Option, Some, None, nat_eq, slice_index_or}
+use Rattle.std.specs.Prelude.{Some, None, nat_eq, slice_index_or}
 use Rattle.std.specs.Option.{option_map_or}
 use Rattle.std.specs.List.{Contains}
 use Rattle.std.specs.List.Sorted.{IsPermutation}

@@ -8,6 +8,7 @@ ghost use Rattle.rk_served.specs.Standing.{are_in_order};
 ghost use Rattle.rk_served.specs.Channels.{is_stream, HasFaultAt};
 ghost use Rattle.rk_served.specs.Moves.{IsAtRest};
 ghost use Rattle.rk_served.specs.WhoIsThere.{HasItsPeers};
+ghost use Rattle.rk_served.specs.Queued.{own_key};
 
 use crate::command::command_for;
 use crate::occasion::Occasion;
@@ -101,7 +102,7 @@ impl Server {
     {
         let who = self.peers[index].who;
         let answer = self.book.step(occasion.moment, EventStep::Collect(who));
-        put_reply(occasion.alloc, &self.peers[index].who, answer, out)
+        put_reply(occasion.alloc, &who, answer, out)
     }
 
     /// The session of a peer meets the fault of its stream.
@@ -144,20 +145,16 @@ impl Server {
         requires free { IsFreeAt (left_of self.old) index }
         ensures { IfOk result (λ moved. TriesAt occasion.now.conf.now occasion.now.moment index moved (left_of self.old) out.old.items (left_of self.new) out.new.items) }
     {
-        match self.peers[index].channel.next(occasion.alloc)? {
+        let peer = &mut self.peers[index];
+        let who = peer.who;
+        match peer.channel.next(occasion.alloc)? {
             Message::More => Ok(false),
             Message::Asks(ask) => {
-                let who = self.peers[index].who;
                 self.ask(occasion, &who, ask, out)?;
                 Ok(true)
             }
             Message::Refused(errno) => {
-                put_reply(
-                    occasion.alloc,
-                    &self.peers[index].who,
-                    Answer::Refused(errno),
-                    out,
-                )?;
+                put_reply(occasion.alloc, &who, Answer::Refused(errno), out)?;
                 Ok(true)
             }
             Message::Fault => {
@@ -214,23 +211,18 @@ impl Server {
         ensures { OnOk result (Stirs self.now.book who.now queue.old queue.new) }
     {
         queue.push(*who)?;
-        if let SessionId::Handler(key) = who {
-            self.wake(alloc, *key, queue)?;
-        }
-        if let Some(key) = self.book.awaited(who) {
-            self.wake(alloc, key, queue)?;
-        }
-        Ok(())
+        self.wake(alloc, own_key(who), queue)?;
+        self.wake(alloc, self.book.awaited(who), queue)
     }
 
-    /// All who wait for a key may move, if its authority is spent.
-    fn wake(&self, alloc: Global, key: Serial, queue: &mut Queue) -> Result<(), AllocError>
+    /// All who wait for this key, if there is one, may move, if its authority is spent.
+    fn wake(&self, alloc: Global, key: Option<Serial>, queue: &mut Queue) -> Result<(), AllocError>
         ensures { OnOk result (Wakes self.now.book key queue.old queue.new) }
     {
-        if self.book.depth(key).is_none() {
-            queue.wake(alloc, key)?;
+        match key {
+            Some(key) if self.book.depth(key).is_none() => queue.wake(alloc, key),
+            _ => Ok(()),
         }
-        Ok(())
     }
 
     /// A session can't move. If it waits for a key, the queue knows it by that key from now on.
@@ -297,4 +289,14 @@ fn step_of_ask(
 {
     let ask = ask.view().to_step(occasion.alloc)?;
     Ok(book.step(occasion.moment, EventStep::Asked(*who, ask)))
+}
+
+/// The key of a handler. A client has none.
+fn own_key(who: &SessionId) -> Option<Serial>
+    ensures { result ≡ own_key who.now }
+{
+    match who {
+        SessionId::Client(_) => None,
+        SessionId::Handler(key) => Some(*key),
+    }
 }

@@ -1,4 +1,5 @@
 use Rattle.std.proofs.Common.{refl, sym, ap, ◌∙◌}
+use Rattle.std.specs.Prelude.{is_some}
 use Rattle.std.proofs.lemmas.Option.{slice_get_read, MatchOption-at_some}
 use Rattle.rk_served.specs.Left.{without}
 use Rattle.rk_served.specs.Standing.{are_in_order}
@@ -34,4 +35,4 @@ loop-index-preserved-in-Some c =
 
 pub returns-clause-without : goal.returns-clause-without
 returns-clause-without c =
-    sym (without_none c.loop-index.peers.items c.args.who.now (rw c.deref.ensures.value at c.in_default.ensures.none)) ∙ c.loop-index.invariant.same
+    sym (without_none c.loop-index.peers.items c.args.who.now (ap is_some (rw c.deref.ensures.value at c.in_default.ensures.none))) ∙ c.loop-index.invariant.same
