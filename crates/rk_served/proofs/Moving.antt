@@ -1,6 +1,6 @@
 -- What the calls of a server do, out of what they found.
-use Rattle.std.proofs.Common.{◌≡◌, ◌⊎◌, ℕ, zero, suc, true, false, List, [], ◌∷◌, ◌++◌, refl, sym, ap, ◌∙◌, subst, inl, inr}
-use Rattle.std.proofs.lemmas.List.{append-nil}
+use Rattle.std.proofs.Common.{◌≡◌, ◌⊎◌, ℕ, true, false, List, [], ◌∷◌, ◌++◌, refl, sym, ap, ◌∙◌, subst, inl, inr}
+use Rattle.std.proofs.lemmas.List.{append-nil, set-get_or}
 use Rattle.std.specs.Prelude.{Option, Some, IfSome, slice_get, slice_set}
 use Rattle.rk_names.specs.declared.numbers.SessionId.{SessionId}
 use Rattle.rk_names.specs.declared.numbers.SessionId.TheVariants.{Client, Handler}
@@ -29,7 +29,7 @@ use Rattle.rk_served.specs.Channels.{is_stream, is_open, IsNextAt, HasFaultAt, s
 use Rattle.rk_served.specs.Calls.{MovesOne, AnswersOne, StartsNow, RestsAt}
 use Rattle.rk_machine.proofs.Effects.ClientsByStep.{ready_waits}
 use Rattle.std.proofs.lemmas.Bool.{not-true, false_from_ne_true}
-use Rattle.std.proofs.lemmas.Option.{same_Some}
+use Rattle.std.proofs.lemmas.Option.{get_or_from_slice_get}
 
 -- ---- one ask
 
@@ -88,10 +88,8 @@ module _ (conf : List Line) (now : ℕ) (old new : Left) (put put' : List Output
 
 -- ---- peers
 
-set_same : (xs : List Peer) (i : ℕ) (x : Peer) → slice_get xs i ≡ Some x → slice_set xs i x ≡ xs
-set_same [] i x at = refl
-set_same (z ∷ zs) zero x at = ap (λ (v : Peer). v ∷ zs) (sym (same_Some _ _ at))
-set_same (z ∷ zs) (suc i) x at = ap (λ (vs : List Peer). z ∷ vs) (set_same zs i x at)
+set_self : (xs : List Peer) (i : ℕ) (x : Peer) → slice_get xs i ≡ Some x → slice_set xs i x ≡ xs
+set_self xs i x at = ap (slice_set xs i) (sym (get_or_from_slice_get xs i x x at)) ∙ set-get_or xs i x
 
 pub rests : (left : Left) (i : ℕ) (x : Peer) → slice_get left.peers i ≡ Some x → CannotMove left.world x.who x.channel → RestsAt left i
 rests left i x at h = subst (λ (o : Option Peer). IfSome o (λ z. CannotMove left.world z.who z.channel)) (sym at) h
@@ -228,7 +226,7 @@ pub next_left : (left : Left) (i : ℕ) (who : SessionId) (made_for : Option Sub
     → IsNextAt message.More p p' ⊎ IsNextAt message.Fault p p' → record { world = left.world; peers = slice_set left.peers i (peer who p' made_for) } ≡ left
 next_left left i who made_for p p' at next =
     ap (λ (xs : List Peer). record { world = left.world; peers = xs })
-    (ap (λ (q : Channel). slice_set left.peers i (peer who q made_for)) (next_same p p' next) ∙ set_same left.peers i (peer who p made_for) at)
+    (ap (λ (q : Channel). slice_set left.peers i (peer who q made_for)) (next_same p p' next) ∙ set_self left.peers i (peer who p made_for) at)
 
 pub has_fault : (p p' : Channel) → IsNextAt message.Fault p p' → HasFaultAt p
 has_fault (Talks stream) p' h = h.2.1

@@ -1,9 +1,9 @@
 -- What a list of peers has for each session, after each change of it.
-use Rattle.std.proofs.Common.{◌≡◌, ℕ, zero, suc, Bool, true, false, cond, not, ◌&&◌, ◌||◌, List, [], ◌∷◌, ◌++◌, refl, sym, ap, ◌∙◌}
-use Rattle.std.specs.Prelude.{Option, Some, None, is_some, slice_get, slice_set}
+use Rattle.std.proofs.Common.{◌≡◌, ℕ, zero, suc, ◌<◌, length, get_or, Bool, true, false, cond, not, ◌&&◌, ◌||◌, List, [], ◌∷◌, ◌++◌, refl, sym, ap, ◌∙◌}
+use Rattle.std.specs.Prelude.{Option, Some, None, IfSome, is_some, slice_get, slice_set}
 use Rattle.std.specs.List.{remove}
 use Rattle.std.proofs.lemmas.Bool.{and_parts, not-true, or_parts, or_left, or_right, false_from_ne_true}
-use Rattle.std.proofs.lemmas.Option.{same_Some}
+use Rattle.std.proofs.lemmas.Option.{same_Some, slice_get_read, MatchOption-at_some}
 use Rattle.rk_names.specs.declared.numbers.SessionId.{SessionId}
 use Rattle.rk_machine.specs.Laws.{same_session}
 use Rattle.rk_machine.proofs.Effects.WaitsAfter.{same-true, same-self}
@@ -173,6 +173,13 @@ peer_set (z ∷ zs) (suc i) x y apart at same t =
     (λ e f. let g = same_both z.who x.who t e f in let h = apart_at z zs i x apart at in cc)
 
 -- ---- a peer is taken by its place
+
+-- the one that was read at the place of this one's peer is its own
+pub found_at : (xs : List Peer) (i : ℕ) (s : SessionId) (x : Peer) → i < length xs → x ≡ get_or xs i x
+    → IfSome (slice_get xs i) (λ y. (y.who ≡ s) × (peer_of xs s ≡ Some y)) → (slice_get xs i ≡ Some x) × (x.who ≡ s)
+found_at xs i s x within read found =
+    let at = slice_get_read xs _ i x refl within read in
+    (at, (MatchOption-at_some _ _ x at found).0)
 
 -- who has none, of whom none is taken
 pub without_none : (xs : List Peer) (s : SessionId) → has_peer xs s ≡ false → without s xs ≡ xs

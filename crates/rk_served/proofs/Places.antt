@@ -78,18 +78,12 @@ next who z zs e =
 pub found_there : (who : SessionId) (xs : List Peer) (x : Peer) → slice_get xs (count who xs) ≡ Some x
     → same_session x.who who ≡ true → peer_of xs who ≡ Some x
 found_there who [] x at same = absurd (cc)
-found_there who (z ∷ zs) x at same = by_test (comes_before z.who who) refl (found_there who zs x)
-  where
-    by_test : (b : Bool) → comes_before z.who who ≡ b
-        → (slice_get zs (count who zs) ≡ Some x → same_session x.who who ≡ true → peer_of zs who ≡ Some x)
-        → peer_of (z ∷ zs) who ≡ Some x
-    by_test true e rest =
-        let at' : slice_get zs (count who zs) ≡ Some x = next who z zs e ∙ at in
-        ap (λ b. cond b (Some z) (peer_of zs who)) (apart_before z.who who e) ∙ rest at' same
-    by_test false e rest =
-        let at' : Some z ≡ Some x = ap (λ b. slice_get (z ∷ zs) (cond b (1 + count who zs) 0)) (sym e) ∙ at in
-        let is : z ≡ x = same_Some _ _ at' in
-        ap (λ b. cond b (Some z) (peer_of zs who)) (ap (λ (y : Peer). same_session y.who who) is ∙ same) ∙ ap (λ (y : Peer). Some y) is
+found_there who (z ∷ zs) x at same = elim (cases_Bool (comes_before z.who who)) [
+  | inl e ↦ ap (λ b. cond b (Some z) (peer_of zs who)) (apart_before z.who who e) ∙ found_there who zs x (next who z zs e ∙ at) same
+  | inr e ↦
+      let is : z ≡ x = same_Some z x (ap (λ b. slice_get (z ∷ zs) (cond b (1 + count who zs) 0)) (sym e) ∙ at) in
+      ap (λ b. cond b (Some z) (peer_of zs who)) (ap (λ (y : Peer). same_session y.who who) is ∙ same) ∙ ap (λ (y : Peer). Some y) is
+]
 
 -- none is there of those that stand after one that comes after this
 none_behind : (who : SessionId) (z : Peer) (zs : List Peer) → comes_before who z.who ≡ true → list_all (λ y. not (comes_before y.who z.who)) zs ≡ true
@@ -104,16 +98,12 @@ none_behind who z (y ∷ ys) before all =
 pub none_there : (who : SessionId) (xs : List Peer) → are_in_order xs ≡ true
     → ((x : Peer) → slice_get xs (count who xs) ≡ Some x → same_session x.who who ≡ false) → peer_of xs who ≡ None
 none_there who [] order other = refl
-none_there who (z ∷ zs) order other = by_test (comes_before z.who who) refl (none_there who zs)
-  where
-    by_test : (b : Bool) → comes_before z.who who ≡ b
-        → (are_in_order zs ≡ true → ((x : Peer) → slice_get zs (count who zs) ≡ Some x → same_session x.who who ≡ false)
-        → peer_of zs who ≡ None) → peer_of (z ∷ zs) who ≡ None
-    by_test true e rest =
-        ap (λ b. cond b (Some z) (peer_of zs who)) (apart_before z.who who e)
-        ∙ rest (and_parts (list_all (λ y. not (comes_before y.who z.who)) zs) (are_in_order zs) order).1
-        (λ x at. other x (sym (next who z zs e) ∙ at))
-    by_test false e rest =
-        let own : same_session z.who who ≡ false = other z (ap (λ b. slice_get (z ∷ zs) (cond b (1 + count who zs) 0)) e) in
-        ap (λ b. cond b (Some z) (peer_of zs who)) own
-        ∙ none_behind who z zs (neither z.who who e own) (and_parts (list_all (λ y. not (comes_before y.who z.who)) zs) (are_in_order zs) order).0
+none_there who (z ∷ zs) order other =
+    let parts = and_parts (list_all (λ y. not (comes_before y.who z.who)) zs) (are_in_order zs) order in
+    elim (cases_Bool (comes_before z.who who)) [
+      | inl e ↦ ap (λ b. cond b (Some z) (peer_of zs who)) (apart_before z.who who e)
+          ∙ none_there who zs parts.1 (λ x at. other x (sym (next who z zs e) ∙ at))
+      | inr e ↦
+          let own : same_session z.who who ≡ false = other z (ap (λ b. slice_get (z ∷ zs) (cond b (1 + count who zs) 0)) e) in
+          ap (λ b. cond b (Some z) (peer_of zs who)) own ∙ none_behind who z zs (neither z.who who e own) parts.0
+    ]

@@ -160,12 +160,13 @@ key_in a s k b h = found (wait_of a s) h
     found None e = absurd (cc)
     found (Some v) e = ap (option_map (λ (f : ℕ × Bool). f.0)) e
 
+-- who waits awaits a key
+waits_for : (o : Option Wait) → is_some o ≡ is_some (option_map (λ (v : Wait). v.key) o)
+waits_for None = refl
+waits_for (Some v) = refl
+
 not_ready : (w : World) (s : SessionId) → awaited w s ≡ None → is_ready w s ≡ true → ⊥
-not_ready w s none r = found (wait_of w.sessions s) (ready_waits w s r) none
-  where
-    found : (o : Option Wait) → is_some o ≡ true → option_map (λ (v : Wait). v.key) o ≡ None → ⊥
-    found None e h = cc
-    found (Some v) e h = cc
+not_ready w s none r = let e = sym (ready_waits w s r) ∙ waits_for (wait_of w.sessions s) ∙ ap is_some none in cc
 
 -- equal handlers are of one key
 same_handler : {i j : ℕ} → ◌≡◌ {A = SessionId} (Handler i) (Handler j) → i ≡ j
@@ -244,8 +245,11 @@ pub record Moved (who : SessionId) (old new : Left) : Type 1 where
   pub peers : (P : Peer → Type 0) → ((x : Peer) → x.who ≡ who → P x) → ((k : ℕ) (piped : Bool) (m : Option Subject) → P (peer (Handler k) (Starts piped) m))
       → All P old.peers → All P new.peers
 
-own_keys : (who : SessionId) (old new : World) → Frees who (λ k. who ≡ Handler k) old new → Frees who (IsKeyOf new who) old new
-own_keys who old new f = frees_weaker who _ (IsKeyOf new who) old new (λ k h. inl h) f
+-- one step about this one, which frees others by its keys
+frees_by : (old new : World) (now : ℕ) (e : Event) (a : Answer) → Step old now e a new → IsIdle old → Goods old.sessions
+    → Frees (about e) (IsKeyOf new (about e)) old new
+frees_by old new now e a step idle good =
+    frees_weaker (about e) _ (IsKeyOf new (about e)) old new (λ k h. inl h) (frees_step (about e) old now e a new step refl idle good)
 
 module _ (who : SessionId) (old new : Left) (frees : Frees who (IsKeyOf new.world who) old.world new.world) where
   same_peers : new.peers ≡ old.peers → Moved who old new
@@ -292,64 +296,45 @@ moved_then who old mid new i x is world set m = record {
 moved_by_ask : (conf : List Line) (now : ℕ) (old : Left) (who : SessionId) (ask : Ask) (part : Part) (new : Left) → Answered conf now old who ask part new
     → IsIdle old.world → Goods old.world.sessions → Moved who old new
 moved_by_ask conf now old who ask part new (puts_reply h) idle good =
-    same_peers who old new (own_keys who old.world new.world (frees_step who old.world now (Asked who ask) h.answer new.world h.step refl idle good)) h.peers
+    same_peers who old new (frees_by old.world new.world now (Asked who ask) h.answer h.step idle good) h.peers
 moved_by_ask conf now old who ask part new (starts_one h) idle good =
-    one_starts who old new (own_keys who old.world new.world
-    (frees_step who old.world now (Asked who ask) (Start h.key h.subject) new.world h.step refl idle good)) h.key h.command.piped (Some h.subject) h.before
-    h.after h.others h.peers
+    one_starts who old new (frees_by old.world new.world now (Asked who ask) (Start h.key h.subject) h.step idle good) h.key h.command.piped
+    (Some h.subject) h.before h.after h.others h.peers
 moved_by_ask conf now old who ask part new (fails_to_start h) idle good =
     same_peers who old new (fails_at_once who old.world now ask h.key h.subject h.mid h.answer new.world h.first h.second idle good) h.peers
 
-moved_by : (conf : List Line) (now : ℕ) (old : Left) (index : ℕ) (part : Part) (new : Left) → Move conf now old index part new → IsIdle old.world
-    → Goods old.world.sessions → (who : SessionId) × Moved who old new × ((x : Peer) → slice_get old.peers index ≡ Some x → x.who ≡ who)
-moved_by conf now old index part new (collects m) idle good = (
-  m.who,
-  same_peers m.who old new (own_keys m.who old.world new.world (frees_step m.who old.world now (Collect m.who) m.answer new.world m.step refl idle good)) m.peers,
-  λ x at. who_is (sym at ∙ m.at),
-)
-moved_by conf now old index part new (refuses m) idle good = (
-  m.who,
-  one_set m.who old new (frees_none m.who _ old.world new.world m.world good) index (peer m.who (Talks m.rest) m.made_for) refl m.peers,
-  λ x at. who_is (sym at ∙ m.free.at),
-)
-moved_by conf now old index part new (asks m) idle good =
-    let mid : Left = record { world = old.world; peers = slice_set old.peers index (peer m.who (Talks m.rest) m.made_for) } in (
-      m.who,
-      moved_then m.who old mid new index (peer m.who (Talks m.rest) m.made_for) refl refl refl
-          (moved_by_ask conf now mid m.who m.ask part new m.answered idle good),
-      λ x at. who_is (sym at ∙ m.free.at),
-    )
-moved_by conf now old index part new (shuts_client m) idle good = (
-  Client m.client,
-  one_gone (Client m.client) old new (own_keys (Client m.client) old.world new.world
-      (frees_step (Client m.client) old.world now (Gone (Client m.client)) m.answer new.world m.step refl idle good)) (Client m.client) m.peers,
-  λ x at. who_is (sym at ∙ m.free.at),
-)
-moved_by conf now old index part new (shuts_handler m) idle good = (
-  Handler m.key,
-  one_set (Handler m.key) old new (frees_none (Handler m.key) _ old.world new.world m.world good) index _ refl m.peers,
-  λ x at. who_is (sym at ∙ m.free.at),
-)
+-- whoever sits at a place has moved, if one who sits there has
+mover : {x y : Peer} {who : SessionId} (old new : Left) (i : ℕ) → slice_get old.peers i ≡ Some y → slice_get old.peers i ≡ Some x → x.who ≡ who
+    → Moved y.who old new → Moved who old new
+mover old new i at at' is m = subst (λ (s : SessionId). Moved s old new) (who_is (sym at ∙ at') ∙ is) m
 
 pub move_moved : (conf : List Line) (now : ℕ) (old : Left) (index : ℕ) (part : Part) (new : Left) → Move conf now old index part new → IsIdle old.world
     → Goods old.world.sessions → (x : Peer) → slice_get old.peers index ≡ Some x → (who : SessionId) → x.who ≡ who → Moved who old new
-move_moved conf now old index part new m idle good x at who is =
-    let by = moved_by conf now old index part new m idle good in
-    subst (λ (s : SessionId). Moved s old new) (sym (by.2 x at) ∙ is) by.1
+move_moved conf now old index part new (collects m) idle good x at who is =
+    mover old new index m.at at is
+    (same_peers m.who old new (frees_by old.world new.world now (Collect m.who) m.answer m.step idle good) m.peers)
+move_moved conf now old index part new (refuses m) idle good x at who is =
+    mover old new index m.free.at at is
+    (one_set m.who old new (frees_none m.who _ old.world new.world m.world good) index (peer m.who (Talks m.rest) m.made_for) refl m.peers)
+move_moved conf now old index part new (asks m) idle good x at who is =
+    mover old new index m.free.at at is
+    (moved_then m.who old _ new index (peer m.who (Talks m.rest) m.made_for) refl refl refl (moved_by_ask conf now _ m.who m.ask part new m.answered idle good))
+move_moved conf now old index part new (shuts_client m) idle good x at who is =
+    mover old new index m.free.at at is
+    (one_gone (Client m.client) old new (frees_by old.world new.world now (Gone (Client m.client)) m.answer m.step idle good) (Client m.client) m.peers)
+move_moved conf now old index part new (shuts_handler m) idle good x at who is =
+    mover old new index m.free.at at is
+    (one_set (Handler m.key) old new (frees_none (Handler m.key) _ old.world new.world m.world good) index _ refl m.peers)
 
 -- ---- own steps
-
-module _ (old new : Left) (idle : IsIdle old.world) (good : Goods old.world.sessions) where
-  frees_by : (now : ℕ) (e : Event) (a : Answer) → Step old.world now e a new.world → Frees (about e) (IsKeyOf new.world (about e)) old.world new.world
-  frees_by now e a step = own_keys (about e) old.world new.world (frees_step (about e) old.world now e a new.world step refl idle good)
 
 moved_by_end : (conf : List Line) (now k : ℕ) (how : How) (payload : Option (List ℕ)) (made_for : Option Subject) (old : Left) (part : Part) (new : Left)
     → EndsBy conf now k (Ended k how payload) made_for old part new → IsIdle old.world → Goods old.world.sessions → Moved (Handler k) old new
 moved_by_end conf now k how payload made_for old part new (is_last h peers) idle good =
-    one_gone (Handler k) old new (frees_by old new idle good now (Ended k how payload) done h.step) (Handler k) peers
+    one_gone (Handler k) old new (frees_by old.world new.world now (Ended k how payload) done h.step idle good) (Handler k) peers
 moved_by_end conf now k how payload made_for old part new (is_followed h) idle good =
     let mid : Left = record { world = old.world; peers = without (Handler k) old.peers } in
-    let moved : Moved (Handler k) mid new = one_starts (Handler k) mid new (frees_by old new idle good now (Ended k how payload) (Negate k) h.step) k
+    let moved : Moved (Handler k) mid new = one_starts (Handler k) mid new (frees_by old.world new.world now (Ended k how payload) (Negate k) h.step idle good) k
     h.command.piped _ h.adds.before h.adds.after h.adds.others h.adds.peers in
     record {
       frees = moved.frees;
@@ -367,22 +352,22 @@ moved_by_end conf now k how payload made_for old part new (is_not_followed h) id
 pub own_moved : (conf : List Line) (now : ℕ) (h : Happening) (old : Left) (part : Part) (new : Left) → OwnStep conf now h old part new → IsIdle old.world
     → Goods old.world.sessions → Moved (whose h) old new
 own_moved conf now (happening.Accept n) old part new (inl b) idle good =
-    one_come (Client n) old new (frees_by old new idle good now (Opened (Client n)) done b.0.step) _ refl b.1
+    one_come (Client n) old new (frees_by old.world new.world now (Opened (Client n)) done b.0.step idle good) _ refl b.1
 own_moved conf now (happening.Accept n) old part new (inr b) idle good =
-    same_peers (Client n) old new (frees_by old new idle good now (Opened (Client n)) _ b.1.step) b.2
+    same_peers (Client n) old new (frees_by old.world new.world now (Opened (Client n)) _ b.1.step idle good) b.2
 own_moved conf now (happening.Bytes n bytes) old part new b idle good =
     one_set (Client n) old new (frees_none (Client n) _ old.world new.world b.world good) b.replaces.index _ refl b.replaces.peers
 own_moved conf now (happening.Gone n) old part new b idle good =
-    one_gone (Client n) old new (frees_by old new idle good now (Gone (Client n)) done b.0.step) (Client n) b.1
+    one_gone (Client n) old new (frees_by old.world new.world now (Gone (Client n)) done b.0.step idle good) (Client n) b.1
 own_moved conf now (happening.StartResult k Started) old part new b idle good = by_kind b.piped b.steps.step b.replaces.peers
   where
     by_kind : (p : Bool) → Step old.world now (Launched k (cond p ran.Piped ran.Plain)) done new.world
         → new.peers ≡ slice_set old.peers b.replaces.index (peer (Handler k) (cond p (Pipes []) (Talks Rattle.rk_served.specs.Streams.no_bytes)) (Some b.subject))
         → Moved (Handler k) old new
-    by_kind true step peers = one_set (Handler k) old new (frees_by old new idle good now (Launched k ran.Piped) done step) b.replaces.index _ refl peers
-    by_kind false step peers = one_set (Handler k) old new (frees_by old new idle good now (Launched k ran.Plain) done step) b.replaces.index _ refl peers
+    by_kind true step peers = one_set (Handler k) old new (frees_by old.world new.world now (Launched k ran.Piped) done step idle good) b.replaces.index _ refl peers
+    by_kind false step peers = one_set (Handler k) old new (frees_by old.world new.world now (Launched k ran.Plain) done step idle good) b.replaces.index _ refl peers
 own_moved conf now (happening.StartResult k Failed) old part new b idle good =
-    one_gone (Handler k) old new (frees_by old new idle good now (Launched k ran.Failed) done b.0.step) (Handler k) b.1
+    one_gone (Handler k) old new (frees_by old.world new.world now (Launched k ran.Failed) done b.0.step idle good) (Handler k) b.1
 own_moved conf now (happening.HandlerBytes k bytes) old part new b idle good =
     one_set (Handler k) old new (frees_none (Handler k) _ old.world new.world b.world good) b.replaces.index _ refl b.replaces.peers
 own_moved conf now (happening.HandlerReadFault k) old part new b idle good = moved_by_end conf now k _ _ _ old part new b.ends idle good
@@ -400,12 +385,7 @@ abbrev IsMoverOr : SessionId → Queue → SessionId → Type 0
 IsMoverOr who q s = (s ≡ who) ⊎ IsMover q s
 
 waits_still : (old new : World) (s : SessionId) → awaited new s ≡ awaited old s → has_wait old s ≡ true → has_wait new s ≡ true
-waits_still old new s same h = there (wait_of new.sessions s) (wait_of old.sessions s) same h
-  where
-    there : (o p : Option Wait) → option_map (λ (v : Wait). v.key) o ≡ option_map (λ (v : Wait). v.key) p → is_some p ≡ true → is_some o ≡ true
-    there (Some v) p e f = refl
-    there None (Some v) e f = absurd (cc)
-    there None None e f = f
+waits_still old new s same h = waits_for (wait_of new.sessions s) ∙ ap is_some same ∙ sym (waits_for (wait_of old.sessions s)) ∙ h
 
 -- who was stirred has moved: the queue knows all again
 pub watched_on : (who : SessionId) (old new : Left) (q q' : Queue) → Moved who old new → IsWatchedBut who q old → Stirs new.world who q q' → IsWatched q' new

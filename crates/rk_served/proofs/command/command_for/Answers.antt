@@ -1,10 +1,21 @@
 use Rattle.std.proofs.Common.{List, ℕ, rules, inr, subst}
-use Rattle.std.specs.Prelude.{Some}
+use Rattle.std.specs.Prelude.{Option, Some, Result, Ok, Err, IfOk, option_map}
+use Rattle.std.specs.declared.alloc.AllocError.{AllocError}
+use Rattle.std.specs.Global.{Vec}
+use Rattle.rk_conf.specs.declared.argument.Wanted.{Wanted}
+use Rattle.rk_macro.specs.Lookup.{payload_shown}
+use Rattle.rk_machine.specs.World.{World}
+use Rattle.rk_machine.specs.Views.{Peeks}
 use Rattle.rk_conf.specs.Choice.{IsChosen}
 use Rattle.rk_served.specs.Commands.{looked_up}
 use Rattle.rk_macro.proofs.Lookups.{words_of_calls, fails_of_calls}
-use Rattle.rk_served.proofs.Expansions.{seen_by}
 use Rattle.rk_served.proofs.command.command_for.Goals as goal
+
+-- what one call finds
+seen_by : (w : World) (k now : ℕ) (wanted : Wanted) (r : Result (Option (Vec ℕ)) AllocError)
+    → IfOk r (λ seen. Peeks w k wanted.typ wanted.desc now (option_map (λ v. v.items) seen)) → looked_up w k now wanted (payload_shown r)
+seen_by w k now wanted (Ok seen) h = h
+seen_by w k now wanted (Err e) h = tt
 
 pub returns-in-Ok : goal.returns-in-Ok
 returns-in-Ok c = record {
