@@ -10,13 +10,13 @@ use Rattle.rk_replay.specs.declared.script_line.ScriptLine.TheVariants.{Blank, C
 use Rattle.rk_replay.specs.declared.transcript.LineFault.TheVariants.{NotALine}
 use Rattle.rk_served.specs.Left.{Left, nothing}
 use Rattle.rk_served.specs.Served.{Turn}
-use Rattle.rk_served.specs.Order.{ServedInOrder}
+use Rattle.rk_served.specs.Order.{ServesTurnInOrder, ServedInOrder}
 use Rattle.rk_replay.specs.Writing.{fault_line}
 use Rattle.rk_replay.specs.Script.{said_late, happenings_of}
 use Rattle.rk_replay.specs.Written.{turn_text, text_from, moment_of, outputs_in}
 use Rattle.rk_replay.specs.declared.playing.First.{First}
 use Rattle.rk_replay.specs.Playing.{readings_left, readings_from, Plays, PlaysAll}
-use Rattle.rk_served.proofs.Orders.{in_order_push}
+use Rattle.rk_served.proofs.ServedLaws.{served_push}
 
 -- the turns so far and the lines that are left give what all lines give
 pub record Played (conf : List Line) (from : Beginning) (first number : ℕ) (all rest : List ScriptLine) (begun text : List ℕ) (left : Left) : Type 0 where
@@ -42,49 +42,35 @@ map_push f [] x later = refl
 map_push f (y ∷ ys) x later = ap (λ (zs : List _). f y ∷ zs) (map_push f ys x later)
 
 module _ (conf : List Line) (from : Beginning) (first number : ℕ) (all rest : List ScriptLine) (begun text text' : List ℕ) (left new : Left) where
-  -- a line that is passed over
-  passed : (r : ScriptLine) → (happenings_of (map said_late (r ∷ rest)) ≡ happenings_of (map said_late rest))
-      → ((told : List (Option (List Output))) → text_from number (map said_late (r ∷ rest)) told ≡ text_from (number + 1) (map said_late rest) told)
-      → Played conf from first number all (r ∷ rest) begun text left → new ≡ left → text' ≡ text → Played conf from first (number + 1) all rest begun text' new
-  passed r none same p e t = record {
-    turns = p.turns;
-    run = p.run;
-    served = subst (λ (l : Left). ServedInOrder conf from p.turns p.run l) (sym e) p.served;
-    happenings = p.happenings ∙ ap (λ (hs : List (ℕ × Happening)). map moment_of p.turns ++ hs) none;
-    text_is = λ later. p.text_is later
-        ∙ (ap (λ (bs : List ℕ). text ++ bs) (same later) ∙ ap (λ (bs : List ℕ). bs ++ text_from (number + 1) (map said_late rest) later) (sym t));
-  }
-
-  -- an invalid line
-  refused : (r : ScriptLine) → (happenings_of (map said_late (r ∷ rest)) ≡ happenings_of (map said_late rest))
-      → ((told : List (Option (List Output))) → text_from number (map said_late (r ∷ rest)) told ≡ fault_line number NotALine
-      ++ text_from (number + 1) (map said_late rest) told)
-      → Played conf from first number all (r ∷ rest) begun text left → new ≡ left → text' ≡ text ++ fault_line number NotALine
+  -- a line on which nothing happens, by what is said of it
+  passed : (r : ScriptLine) (said : List ℕ) → (happenings_of (map said_late (r ∷ rest)) ≡ happenings_of (map said_late rest))
+      → ((told : List (Option (List Output))) → text_from number (map said_late (r ∷ rest)) told ≡ said ++ text_from (number + 1) (map said_late rest) told)
+      → Played conf from first number all (r ∷ rest) begun text left → new ≡ left → text' ≡ text ++ said
       → Played conf from first (number + 1) all rest begun text' new
-  refused r none same p e t = record {
+  passed r said none same p e t = record {
     turns = p.turns;
     run = p.run;
     served = subst (λ (l : Left). ServedInOrder conf from p.turns p.run l) (sym e) p.served;
     happenings = p.happenings ∙ ap (λ (hs : List (ℕ × Happening)). map moment_of p.turns ++ hs) none;
     text_is = λ later. p.text_is later
         ∙ (ap (λ (bs : List ℕ). text ++ bs) (same later)
-        ∙ (sym (append_assoc text (fault_line number NotALine) (text_from (number + 1) (map said_late rest) later))
+        ∙ (sym (append_assoc text said (text_from (number + 1) (map said_late rest) later))
         ∙ ap (λ (bs : List ℕ). bs ++ text_from (number + 1) (map said_late rest) later) (sym t)));
   }
 
   -- a script that was played up to a line, and that line, are played up to the next
   pub played_line : (r : ScriptLine) → Played conf from first number all (r ∷ rest) begun text left → Plays conf number r left text new text'
       → Played conf from first (number + 1) all rest begun text' new
-  played_line Blank p h = passed Blank refl (λ told. refl) p h.0 h.1
-  played_line (Conf line) p h = refused (Conf line) refl (λ told. refl) p h.0 h.1
-  played_line (Negative n) p h = refused (Negative n) refl (λ told. refl) p h.0 h.1
-  played_line Wrong p h = refused Wrong refl (λ told. refl) p h.0 h.1
+  played_line Blank p h = passed Blank [] refl (λ told. refl) p h.0 (h.1 ∙ sym (append-nil text))
+  played_line (Conf line) p h = passed (Conf line) (fault_line number NotALine) refl (λ told. refl) p h.0 h.1
+  played_line (Negative n) p h = passed (Negative n) (fault_line number NotALine) refl (λ told. refl) p h.0 h.1
+  played_line Wrong p h = passed Wrong (fault_line number NotALine) refl (λ told. refl) p h.0 h.1
   played_line (Happens now happening) p h =
       let turn : Turn = record { now = now; happening = happening; outputs = h.0 } in
       record {
         turns = p.turns ++ turn ∷ [];
         run = p.run ++ h.1;
-        served = in_order_push conf p.turns p.run h.1 (nothing from) left new turn p.served h.2;
+        served = served_push (ServesTurnInOrder conf) p.turns p.run h.1 (nothing from) left new turn p.served h.2;
         happenings = p.happenings ∙ sym (map_push moment_of p.turns turn (happenings_of (map said_late rest)));
         text_is = λ later. ap (λ (os : List (Option (List Output))). begun ++ text_from first (map said_late all) os) (map_push outputs_in p.turns turn later)
             ∙ (p.text_is (h.0 ∷ later)

@@ -7,7 +7,7 @@ use Rattle.std.proofs.lemmas.List.Elements.{filter_map-append}
 use Rattle.rk_served.specs.declared.happening.Happening.{Happening}
 use Rattle.rk_served.specs.declared.output.Output.{Output}
 use Rattle.rk_replay.specs.declared.script_line.ScriptLine.{ScriptLine}
-use Rattle.rk_replay.specs.declared.script_line.ScriptLine.TheVariants.{Blank, Conf, Negative, Happens, Wrong}
+use Rattle.rk_replay.specs.declared.script_line.ScriptLine.TheVariants.{Happens, Wrong}
 use Rattle.rk_replay.specs.declared.transcript.LineFault.TheVariants.{NotALine}
 use Rattle.rk_replay.specs.Writing.{line_text, fault_line}
 use Rattle.rk_replay.specs.Script.{happens, said_late, said_by, conf_in, seconds_in, happening_in, conf_by, happenings_of, before_all}
@@ -34,19 +34,13 @@ from_first (Some first) = refl
 
 pub said_head : (lines rest : List ScriptLine) → Quiet lines → said_by (lines ++ rest) ≡ lines ++ said_by rest
 said_head [] rest q = refl
-said_head (Blank ∷ rs) rest q = ap (λ (xs : List ScriptLine). Blank ∷ xs) (said_head rs rest q)
-said_head (Conf t ∷ rs) rest q = ap (λ (xs : List ScriptLine). Conf t ∷ xs) (said_head rs rest q)
-said_head (Negative n ∷ rs) rest q = ap (λ (xs : List ScriptLine). Negative n ∷ xs) (said_head rs rest q)
-said_head (Wrong ∷ rs) rest q = ap (λ (xs : List ScriptLine). Wrong ∷ xs) (said_head rs rest q)
 said_head (Happens now h ∷ rs) rest q = absurd (cc)
+said_head (r ∷ rs) rest q = ap (λ (xs : List ScriptLine). r ∷ xs) (said_head rs rest q)
 
 said_rest : (rest : List ScriptLine) → happens_first rest ≡ true → said_by rest ≡ map said_late rest
 said_rest [] e = refl
-said_rest (Blank ∷ rs) e = absurd (cc)
-said_rest (Conf t ∷ rs) e = absurd (cc)
-said_rest (Negative n ∷ rs) e = absurd (cc)
-said_rest (Wrong ∷ rs) e = absurd (cc)
 said_rest (Happens now h ∷ rs) e = refl
+said_rest (_ ∷ rs) e = absurd (cc)
 
 -- a script says its quiet lines first, and those from its first happening on as said late
 pub said_parts : (lines rest : List ScriptLine) → Quiet lines → happens_first rest ≡ true → said_by (lines ++ rest) ≡ lines ++ map said_late rest
@@ -56,19 +50,13 @@ said_parts lines rest q e = said_head lines rest q ∙ ap (λ (xs : List ScriptL
 
 no_conf : (rs : List ScriptLine) → filter_map conf_in (map said_late rs) ≡ []
 no_conf [] = refl
-no_conf (Blank ∷ rs) = no_conf rs
-no_conf (Conf t ∷ rs) = no_conf rs
-no_conf (Negative n ∷ rs) = no_conf rs
-no_conf (Wrong ∷ rs) = no_conf rs
 no_conf (Happens now h ∷ rs) = no_conf rs
+no_conf (_ ∷ rs) = no_conf rs
 
 no_seconds : (rs : List ScriptLine) → filter_map seconds_in (map said_late rs) ≡ []
 no_seconds [] = refl
-no_seconds (Blank ∷ rs) = no_seconds rs
-no_seconds (Conf t ∷ rs) = no_seconds rs
-no_seconds (Negative n ∷ rs) = no_seconds rs
-no_seconds (Wrong ∷ rs) = no_seconds rs
 no_seconds (Happens now h ∷ rs) = no_seconds rs
+no_seconds (_ ∷ rs) = no_seconds rs
 
 -- the lines of the head, and then those after it as they are said there
 abbrev pub parts : List ScriptLine → List ScriptLine → List ScriptLine
@@ -94,11 +82,8 @@ configured_by ((b ∷ bs) ∷ lines) = refl
 
 quiet_happenings : (lines : List ScriptLine) → Quiet lines → happenings_of lines ≡ []
 quiet_happenings [] q = refl
-quiet_happenings (Blank ∷ rs) q = quiet_happenings rs q
-quiet_happenings (Conf t ∷ rs) q = quiet_happenings rs q
-quiet_happenings (Negative n ∷ rs) q = quiet_happenings rs q
-quiet_happenings (Wrong ∷ rs) q = quiet_happenings rs q
 quiet_happenings (Happens now h ∷ rs) q = absurd (cc)
+quiet_happenings (_ ∷ rs) q = quiet_happenings rs q
 
 -- the happenings of a script are those after its head
 pub happenings_parts : (lines rest : List ScriptLine) → Quiet lines → happenings_of (parts lines rest) ≡ happenings_of (map said_late rest)
@@ -109,52 +94,36 @@ happenings_parts lines rest q = filter_map-append happening_in lines (map said_l
 pub text_parts : (number : ℕ) (lines rest : List ScriptLine) (told : List (Option (List Output))) → Quiet lines
     → text_from number (lines ++ rest) told ≡ text_from number lines [] ++ text_from (number + length lines) rest told
 text_parts number [] rest told q = ap (λ (n : ℕ). text_from n rest told) (omega arith)
-text_parts number (Blank ∷ rs) rest told q = text_parts (number + 1) rs rest told q
-    ∙ ap (λ (n : ℕ). text_from (number + 1) rs [] ++ text_from n rest told) (omega arith)
-text_parts number (Conf t ∷ rs) rest told q = text_parts (number + 1) rs rest told q
-    ∙ ap (λ (n : ℕ). text_from (number + 1) rs [] ++ text_from n rest told) (omega arith)
-text_parts number (Negative m ∷ rs) rest told q = text_parts (number + 1) rs rest told q
-    ∙ ap (λ (n : ℕ). text_from (number + 1) rs [] ++ text_from n rest told) (omega arith)
 text_parts number (Wrong ∷ rs) rest told q =
     ap (λ (t : List ℕ). fault_line number NotALine ++ t) (text_parts (number + 1) rs rest told q
     ∙ ap (λ (n : ℕ). text_from (number + 1) rs [] ++ text_from n rest told) (omega arith))
     ∙ sym (append_assoc (fault_line number NotALine) (text_from (number + 1) rs []) (text_from (number + length (Wrong ∷ rs)) rest told))
 text_parts number (Happens now h ∷ rs) rest told q = absurd (cc)
+text_parts number (_ ∷ rs) rest told q = text_parts (number + 1) rs rest told q
+    ∙ ap (λ (n : ℕ). text_from (number + 1) rs [] ++ text_from n rest told) (omega arith)
 
 -- the lines before the first happening are the head
 late_first : (rest : List ScriptLine) → happens_first rest ≡ true → happens_first (map said_late rest) ≡ true
 late_first [] e = refl
-late_first (Blank ∷ rs) e = absurd (cc)
-late_first (Conf t ∷ rs) e = absurd (cc)
-late_first (Negative n ∷ rs) e = absurd (cc)
-late_first (Wrong ∷ rs) e = absurd (cc)
 late_first (Happens now h ∷ rs) e = refl
+late_first (_ ∷ rs) e = absurd (cc)
 
 none_before : (rest : List ScriptLine) → happens_first rest ≡ true → before_all rest ≡ []
 none_before [] e = refl
-none_before (Blank ∷ rs) e = absurd (cc)
-none_before (Conf t ∷ rs) e = absurd (cc)
-none_before (Negative n ∷ rs) e = absurd (cc)
-none_before (Wrong ∷ rs) e = absurd (cc)
 none_before (Happens now h ∷ rs) e = refl
+none_before (_ ∷ rs) e = absurd (cc)
 
 take_next : (x : ScriptLine) (xs : List ScriptLine) (n : ℕ) → take (1 + n) (x ∷ xs) ≡ x ∷ take n xs
 take_next x xs n = let e : 1 + n ≡ suc n = omega arith in ap (λ (m : ℕ). take m (x ∷ xs)) e
 
 before_next : (r : ScriptLine) (rs : List ScriptLine) → happens r ≡ false → before_all (r ∷ rs) ≡ r ∷ before_all rs
-before_next Blank rs e = take_next Blank rs (prefix_len (λ r. not (happens r)) rs)
-before_next (Conf t) rs e = take_next (Conf t) rs (prefix_len (λ r. not (happens r)) rs)
-before_next (Negative n) rs e = take_next (Negative n) rs (prefix_len (λ r. not (happens r)) rs)
-before_next Wrong rs e = take_next Wrong rs (prefix_len (λ r. not (happens r)) rs)
 before_next (Happens now h) rs e = absurd (cc)
+before_next r rs e = take_next r rs (prefix_len (λ r. not (happens r)) rs)
 
 before_head : (lines rest : List ScriptLine) → Quiet lines → happens_first rest ≡ true → before_all (lines ++ rest) ≡ lines
 before_head [] rest q e = none_before rest e
-before_head (Blank ∷ rs) rest q e = before_next Blank (rs ++ rest) refl ∙ ap (λ (xs : List ScriptLine). Blank ∷ xs) (before_head rs rest q e)
-before_head (Conf t ∷ rs) rest q e = before_next (Conf t) (rs ++ rest) refl ∙ ap (λ (xs : List ScriptLine). Conf t ∷ xs) (before_head rs rest q e)
-before_head (Negative n ∷ rs) rest q e = before_next (Negative n) (rs ++ rest) refl ∙ ap (λ (xs : List ScriptLine). Negative n ∷ xs) (before_head rs rest q e)
-before_head (Wrong ∷ rs) rest q e = before_next Wrong (rs ++ rest) refl ∙ ap (λ (xs : List ScriptLine). Wrong ∷ xs) (before_head rs rest q e)
 before_head (Happens now h ∷ rs) rest q e = absurd (cc)
+before_head (r ∷ rs) rest q e = before_next r (rs ++ rest) refl ∙ ap (λ (xs : List ScriptLine). r ∷ xs) (before_head rs rest q e)
 
 -- the lines before the first happening are the head
 pub before_parts : (lines rest : List ScriptLine) → Quiet lines → happens_first rest ≡ true → before_all (parts lines rest) ≡ lines

@@ -103,19 +103,13 @@ module _ (all rest : List ScriptLine) (number : ℕ) (old new : Settings) (text 
 
 -- what a line says on which something happens, and on which nothing does
 pub is_happening : (r : ScriptLine) (first : ℕ × Happening) → Some first ≡ happening_in r → r ≡ Happens first.0 first.1
-is_happening Blank first e = absurd (cc)
-is_happening (Conf line) first e = absurd (cc)
-is_happening (Negative n) first e = absurd (cc)
-is_happening Wrong first e = absurd (cc)
 is_happening (Happens now happening) first e = (let same : first ≡ (now, happening) = cc in rw (same) refl)
+is_happening _ first e = absurd (cc)
 
 -- a line without a happening makes nothing happen
 pub happens_not : (r : ScriptLine) → None ≡ happening_in r → happens r ≡ false
-happens_not Blank e = refl
-happens_not (Conf line) e = refl
-happens_not (Negative n) e = refl
-happens_not Wrong e = refl
 happens_not (Happens now happening) e = absurd (cc)
+happens_not _ e = refl
 
 pub head_of : (input : List ℕ) (head : Head) (text : List ℕ) → Heard (map reading_of (lines_of input)) (readings_from head.first) head.settings head.number text
     → IsHead input head text

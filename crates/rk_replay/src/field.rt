@@ -45,16 +45,15 @@ pub fn end(fields: &[u8]) -> Result<(), Misread>
     }
 }
 
-/// A moment, as its number.
-pub fn moment(fields: &[u8]) -> Result<(u64, &[u8]), Misread>
-    ensures { Gives (λ x. (x.0, fields_of x.1.now)) result (first_as moment_of (fields_of fields.now)) }
+/// What a field says as a moment, as its number.
+pub fn moment(field: &[u8]) -> Result<u64, Misread>
+    ensures { Gives (λ n. n) result (moment_of field.now) }
 {
-    let (field, rest) = word(fields)?;
     if field.len() > 20 {
         return Err(Misread::NotALine);
     }
     match number(field, u64::MAX) {
-        Some(number) => Ok((number, rest)),
+        Some(number) => Ok(number),
         None => Err(Misread::NotALine),
     }
 }

@@ -1,5 +1,5 @@
 //! What a line of a script says.
-ghost use Rattle.std.specs.Prelude.{◌≡◌, IfOk, option_copied};
+ghost use Rattle.std.specs.Prelude.{◌≡◌, ◌∷◌, IfOk, option_copied};
 ghost use Rattle.rk_replay.specs.Text.{fields_of};
 ghost use Rattle.rk_replay.specs.Reading.{reading_of, conf_text, told_by, event_of};
 ghost use Rattle.rk_replay.specs.Fields.{Gives};
@@ -64,25 +64,23 @@ fn conf_text(line: &[u8]) -> Option<&[u8]>
 fn read_fields(alloc: Global, line: &[u8]) -> Result<ScriptLine, Misread>
     ensures { Gives (λ r. r) result (told_by (fields_of line.now)) }
 {
-    match cut_field(line, Space::Blank) {
-        None => Ok(ScriptLine::Blank),
-        Some((word, rest)) => {
-            if word == b"negative".as_slice() {
-                let (seconds, rest) = field::seconds(rest)?;
-                field::end(rest)?;
-                Ok(ScriptLine::Negative(seconds))
-            } else {
-                read_event(alloc, line)
-            }
-        }
+    let Some((first, rest)) = cut_field(line, Space::Blank) else {
+        return Ok(ScriptLine::Blank);
+    };
+    if first == b"negative".as_slice() {
+        let (seconds, rest) = field::seconds(rest)?;
+        field::end(rest)?;
+        Ok(ScriptLine::Negative(seconds))
+    } else {
+        read_event(alloc, first, rest)
     }
 }
 
-/// A moment, and what happens then.
-fn read_event(alloc: Global, line: &[u8]) -> Result<ScriptLine, Misread>
-    ensures { Gives (λ r. r) result (event_of (fields_of line.now)) }
+/// A moment, and what happens then: the first field, and the fields after it.
+fn read_event(alloc: Global, first: &[u8], rest: &[u8]) -> Result<ScriptLine, Misread>
+    ensures { Gives (λ r. r) result (event_of (first.now ∷ fields_of rest.now)) }
 {
-    let (now, rest) = field::moment(line)?;
+    let now = field::moment(first)?;
     let (word, rest) = field::word(rest)?;
     let happening = verb::happening(alloc, word, rest)?;
     Ok(ScriptLine::Happens(Moment(now), happening))

@@ -26,9 +26,9 @@ use Rattle.rk_served.specs.OwnStep.{has_client, is_misplaced, Adds, Lengthens, R
 use Rattle.rk_served.specs.OwnStep.{OwnStep, channel_with}
 use Rattle.rk_served.specs.Served.{Acts}
 use Rattle.rk_served.specs.WhoIsThere.{HasItsPeers}
-use Rattle.rk_machine.proofs.Effects.StagesByStep.{kind_in}
-use Rattle.rk_served.proofs.PeerLists.{sort_in, at_has}
-use Rattle.rk_served.proofs.PeersFit.{agree, Fits, fits, has_its_peers, same_peers, replaced, opened_fits, gone_fits, gone_done, ended_fits, runs_fits}
+use Rattle.rk_machine.proofs.Effects.StagesByStep.{Kind, kind_in}
+use Rattle.rk_served.proofs.PeerLists.{at_has}
+use Rattle.rk_served.proofs.PeersFit.{agree, serves, Fits, fits, has_its_peers, same_peers, replaced, opened_fits, gone_fits, gone_done, ended_fits, runs_fits}
 use Rattle.rk_served.proofs.PeersFit.{follows_fits, follows_none_fits, answered_fits}
 
 -- ---- moves
@@ -39,14 +39,14 @@ client_has_peer left i n p m at f = sym (f.clients n) ∙ at_has left.peers i (p
 
 move_fits : (conf : List Line) (now : ℕ) (old : Left) (index : ℕ) (part : Part) (new : Left) → Move conf now old index part new → Fits old → Fits new
 move_fits conf now old index part new (collects m) f = same_peers old new now (Collect m.who) m.answer m.step (λ n b. refl) (λ k o. refl) m.peers f
-move_fits conf now old index part new (refuses m) f = replaced old new index m.who (Talks m.stream) (Talks m.rest) m.made_for m.free.at m.peers refl m.world f
+move_fits conf now old index part new (refuses m) f = replaced old new index m.who (Talks m.stream) (Talks m.rest) m.made_for m.free.at m.peers (λ x. refl) m.world f
 move_fits conf now old index part new (asks m) f =
-    answered_fits conf now _ m.who m.ask part new m.answered (replaced old _ index m.who (Talks m.stream) (Talks m.rest) m.made_for m.free.at refl refl refl f)
+    answered_fits conf now _ m.who m.ask part new m.answered (replaced old _ index m.who (Talks m.stream) (Talks m.rest) m.made_for m.free.at refl (λ x. refl) refl f)
 move_fits conf now old index part new (shuts_client m) f =
     let ra = gone_done old.world now m.client m.answer new.world (client_has_peer old index m.client (Talks m.stream) m.made_for m.free.at f) m.step in
     gone_fits old new now m.client (subst (λ (y : Answer). Step old.world now (Gone (Client m.client)) y new.world) ra m.step) m.peers f
 move_fits conf now old index part new (shuts_handler m) f =
-    replaced old new index (Handler m.key) (Talks m.stream) _ m.made_for m.free.at m.peers refl m.world f
+    replaced old new index (Handler m.key) (Talks m.stream) _ m.made_for m.free.at m.peers (λ x. refl) m.world f
 
 -- a move leaves the peers to those who are there
 pub move_keeps_peers : (conf : List Line) (now : ℕ) (old : Left) (index : ℕ) (part : Part) (new : Left) → Move conf now old index part new → HasItsPeers old
@@ -59,10 +59,10 @@ moves_keep_peers conf now old (p ∷ ps) new m s = moves_keep_peers conf now m.1
 
 -- ---- own steps
 
-kept_channel : (more : List ℕ) (p : Channel) → sort_in (channel_with more p) ≡ sort_in p
-kept_channel more (Talks stream) = refl
-kept_channel more (Starts piped) = refl
-kept_channel more (Pipes bytes) = refl
+kept_channel : (more : List ℕ) (p : Channel) (x : Kind) → serves (channel_with more p) x ≡ serves p x
+kept_channel more (Talks stream) x = refl
+kept_channel more (Starts piped) x = refl
+kept_channel more (Pipes bytes) x = refl
 
 lengthens_fits : (s : SessionId) (more : List ℕ) (old : Left) (part : Part) (new : Left) → Lengthens s more old part new → Fits old → Fits new
 lengthens_fits s more old part new h f =

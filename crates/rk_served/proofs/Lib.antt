@@ -1,5 +1,4 @@
 pub mod ServedLaws
-pub mod Turns
 pub mod PeerLists
 pub mod Standings
 pub mod Places
@@ -8,7 +7,6 @@ pub mod Queues
 pub mod PeersFit
 pub mod Kept
 pub mod Weight
-pub mod Expansions
 pub mod Moving
 pub mod Orders
 pub mod OwnSteps

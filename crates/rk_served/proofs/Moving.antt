@@ -1,6 +1,6 @@
 -- What the calls of a server do, out of what they found.
-use Rattle.std.proofs.Common.{◌≡◌, ◌⊎◌, ℕ, zero, suc, Bool, true, false, List, [], ◌∷◌, ◌++◌, refl, sym, ap, ◌∙◌, subst, inl, inr}
-use Rattle.std.proofs.lemmas.List.{append-nil}
+use Rattle.std.proofs.Common.{◌≡◌, ◌⊎◌, ℕ, true, false, List, [], ◌∷◌, ◌++◌, refl, sym, ap, ◌∙◌, subst, inl, inr}
+use Rattle.std.proofs.lemmas.List.{append-nil, set-get_or}
 use Rattle.std.specs.Prelude.{Option, Some, IfSome, slice_get, slice_set}
 use Rattle.rk_names.specs.declared.numbers.SessionId.{SessionId}
 use Rattle.rk_names.specs.declared.numbers.SessionId.TheVariants.{Client, Handler}
@@ -12,7 +12,7 @@ use Rattle.rk_message.specs.declared.reply.Reply.TheVariants as reply
 use Rattle.rk_machine.specs.declared.event.EventOf.TheVariants.{Asked, Launched, Collect, Gone}
 use Rattle.rk_machine.specs.declared.event.Ran.TheVariants as ran
 use Rattle.rk_machine.specs.declared.event.Answer.{Answer}
-use Rattle.rk_machine.specs.declared.event.Answer.TheVariants.{Done, Start, Waiting, Negate, Refused}
+use Rattle.rk_machine.specs.declared.event.Answer.TheVariants.{Start, Refused}
 use Rattle.rk_machine.specs.World.{World}
 use Rattle.rk_machine.specs.Steps.{Step}
 use Rattle.rk_machine.specs.Views.{is_ready, has_wait}
@@ -28,17 +28,15 @@ use Rattle.rk_served.specs.Moves.{is_start, Answered, puts_reply, starts_one, fa
 use Rattle.rk_served.specs.Channels.{is_stream, is_open, IsNextAt, HasFaultAt, shut_channel}
 use Rattle.rk_served.specs.Calls.{MovesOne, AnswersOne, StartsNow, RestsAt}
 use Rattle.rk_machine.proofs.Effects.ClientsByStep.{ready_waits}
-use Rattle.rk_served.proofs.PeerLists.{not_false, some_peer}
+use Rattle.std.proofs.lemmas.Bool.{not-true, false_from_ne_true}
+use Rattle.std.proofs.lemmas.Option.{get_or_from_slice_get}
 
 -- ---- one ask
 
 -- an answer that starts no key is no start
 pub no_start : (a : Answer) → ((k : ℕ) (subject : Subject) → a ≡ Start k subject → ⊥) → is_start a ≡ false
 no_start (Start k subject) h = absurd (h k subject refl)
-no_start (Done r) h = refl
-no_start (Waiting k) h = refl
-no_start (Negate k) h = refl
-no_start (Refused e) h = refl
+no_start _ h = refl
 
 module _ (conf : List Line) (now : ℕ) (old new : Left) (put put' : List Output) (who : SessionId) (ask : Ask) where
   -- an ask that starts nothing is answered by its step and its reply
@@ -90,20 +88,14 @@ module _ (conf : List Line) (now : ℕ) (old new : Left) (put put' : List Output
 
 -- ---- peers
 
-set_same : (xs : List Peer) (i : ℕ) (x : Peer) → slice_get xs i ≡ Some x → slice_set xs i x ≡ xs
-set_same [] i x at = refl
-set_same (z ∷ zs) zero x at = ap (λ (v : Peer). v ∷ zs) (sym (some_peer at))
-set_same (z ∷ zs) (suc i) x at = ap (λ (vs : List Peer). z ∷ vs) (set_same zs i x at)
+set_self : (xs : List Peer) (i : ℕ) (x : Peer) → slice_get xs i ≡ Some x → slice_set xs i x ≡ xs
+set_self xs i x at = ap (slice_set xs i) (sym (get_or_from_slice_get xs i x x at)) ∙ set-get_or xs i x
 
 pub rests : (left : Left) (i : ℕ) (x : Peer) → slice_get left.peers i ≡ Some x → CannotMove left.world x.who x.channel → RestsAt left i
 rests left i x at h = subst (λ (o : Option Peer). IfSome o (λ z. CannotMove left.world z.who z.channel)) (sym at) h
 
 not_ready : (w : World) (s : SessionId) → has_wait w s ≡ false → is_ready w s ≡ false
-not_ready w s none = by_test (is_ready w s) refl
-  where
-    by_test : (b : Bool) → is_ready w s ≡ b → is_ready w s ≡ false
-    by_test false e = e
-    by_test true e = absurd (let h = ready_waits w s e in cc)
+not_ready w s none = false_from_ne_true _ (λ e. let h = ready_waits w s e in cc)
 
 -- ---- one move
 
@@ -126,8 +118,7 @@ module _ (conf : List Line) (now : ℕ) (old new : Left) (put put' : List Output
     });
     outputs = puts;
   }
-  collects_one (Starts piped) at is ready answer step peers puts = absurd (cc)
-  collects_one (Pipes bytes) at is ready answer step peers puts = absurd (cc)
+  collects_one _ at is ready answer step peers puts = absurd (cc)
 
   -- an invalid body is answered by its error, and leaves the world
   pub refuses_one : (p p' : Channel) (e : Errno) → slice_get old.peers i ≡ Some (peer who p made_for) → (has_wait old.world who ≡ false) × (is_open p ≡ true)
@@ -140,7 +131,7 @@ module _ (conf : List Line) (now : ℕ) (old new : Left) (put put' : List Output
       stream = stream;
       rest = next.0;
       made_for = made_for;
-      free = record { at = at; no_wait = free.0; not_shut = not_false stream.is_shut free.1 };
+      free = record { at = at; no_wait = free.0; not_shut = not-true stream.is_shut free.1 };
       body = next.2.0;
       takes = next.2.1;
       error = e;
@@ -151,8 +142,7 @@ module _ (conf : List Line) (now : ℕ) (old new : Left) (put put' : List Output
     });
     outputs = puts;
   }
-  refuses_one (Starts piped) p' e at free next world peers puts = absurd (let h = free.1 in cc)
-  refuses_one (Pipes bytes) p' e at free next world peers puts = absurd (let h = free.1 in cc)
+  refuses_one _ p' e at free next world peers puts = absurd (let h = free.1 in cc)
 
   -- a session whose next message is an ask makes a move by what the ask is answered
   pub asks_one : (p p' : Channel) (ask : Ask) → slice_get old.peers i ≡ Some (peer who p made_for) → (has_wait old.world who ≡ false) × (is_open p ≡ true)
@@ -166,7 +156,7 @@ module _ (conf : List Line) (now : ℕ) (old new : Left) (put put' : List Output
       stream = stream;
       rest = next.0;
       made_for = made_for;
-      free = record { at = at; no_wait = free.0; not_shut = not_false stream.is_shut free.1 };
+      free = record { at = at; no_wait = free.0; not_shut = not-true stream.is_shut free.1 };
       body = next.2.0;
       takes = next.2.1;
       ask = ask;
@@ -176,8 +166,7 @@ module _ (conf : List Line) (now : ℕ) (old new : Left) (put put' : List Output
     });
     outputs = done.outputs;
   }
-  asks_one (Starts piped) p' ask at free next done = absurd (let h = free.1 in cc)
-  asks_one (Pipes bytes) p' ask at free next done = absurd (let h = free.1 in cc)
+  asks_one _ p' ask at free next done = absurd (let h = free.1 in cc)
 
 module _ (conf : List Line) (now : ℕ) (old new : Left) (put put' : List Output) (i : ℕ) (made_for : Option Subject) where
   -- a client with a bad length is shut, and is gone
@@ -190,7 +179,7 @@ module _ (conf : List Line) (now : ℕ) (old new : Left) (put put' : List Output
       client = client;
       stream = stream;
       made_for = made_for;
-      free = record { at = at; no_wait = free.0; not_shut = not_false stream.is_shut free.1 };
+      free = record { at = at; no_wait = free.0; not_shut = not-true stream.is_shut free.1 };
       fault = fault;
       answer = answer;
       step = step;
@@ -199,8 +188,7 @@ module _ (conf : List Line) (now : ℕ) (old new : Left) (put put' : List Output
     });
     outputs = puts;
   }
-  shuts_client_one client (Starts piped) at fault free answer step peers puts = absurd fault
-  shuts_client_one client (Pipes bytes) at fault free answer step peers puts = absurd fault
+  shuts_client_one client _ at fault free answer step peers puts = absurd fault
 
   -- a handler with a bad length is shut, and leaves the world
   pub shuts_handler_one : (key : ℕ) (p : Channel) → slice_get old.peers i ≡ Some (peer (Handler key) p made_for) → HasFaultAt p
@@ -213,7 +201,7 @@ module _ (conf : List Line) (now : ℕ) (old new : Left) (put put' : List Output
       key = key;
       stream = stream;
       made_for = made_for;
-      free = record { at = at; no_wait = free.0; not_shut = not_false stream.is_shut free.1 };
+      free = record { at = at; no_wait = free.0; not_shut = not-true stream.is_shut free.1 };
       fault = fault;
       world = world;
       peers = peers;
@@ -221,8 +209,7 @@ module _ (conf : List Line) (now : ℕ) (old new : Left) (put put' : List Output
     });
     outputs = puts;
   }
-  shuts_handler_one key (Starts piped) at fault free world peers puts = absurd fault
-  shuts_handler_one key (Pipes bytes) at fault free world peers puts = absurd fault
+  shuts_handler_one key _ at fault free world peers puts = absurd fault
 
 -- ---- what stands where no message is taken
 
@@ -239,12 +226,11 @@ pub next_left : (left : Left) (i : ℕ) (who : SessionId) (made_for : Option Sub
     → IsNextAt message.More p p' ⊎ IsNextAt message.Fault p p' → record { world = left.world; peers = slice_set left.peers i (peer who p' made_for) } ≡ left
 next_left left i who made_for p p' at next =
     ap (λ (xs : List Peer). record { world = left.world; peers = xs })
-    (ap (λ (q : Channel). slice_set left.peers i (peer who q made_for)) (next_same p p' next) ∙ set_same left.peers i (peer who p made_for) at)
+    (ap (λ (q : Channel). slice_set left.peers i (peer who q made_for)) (next_same p p' next) ∙ set_self left.peers i (peer who p made_for) at)
 
 pub has_fault : (p p' : Channel) → IsNextAt message.Fault p p' → HasFaultAt p
 has_fault (Talks stream) p' h = h.2.1
-has_fault (Starts piped) p' h = absurd (let e = h.0 in cc)
-has_fault (Pipes bytes) p' h = absurd (let e = h.0 in cc)
+has_fault _ p' h = absurd (let e = h.0 in cc)
 
 -- a session that waits for nothing and has no whole message can't move
 pub rests_more : (left : Left) (i : ℕ) (who : SessionId) (made_for : Option Subject) (p p' : Channel) → slice_get left.peers i ≡ Some (peer who p made_for)
@@ -253,5 +239,4 @@ rests_more left i who made_for p p' at none next = rests left i (peer who p made
   where
     by_channel : (q : Channel) → IsNextAt message.More q p' → CannotMove left.world who q
     by_channel (Talks stream) h = (not_ready left.world who none, inr (inr h.2.1))
-    by_channel (Starts piped) h = tt
-    by_channel (Pipes bytes) h = tt
+    by_channel _ h = tt

@@ -8,8 +8,8 @@ use Rattle.rk_served.specs.declared.happening.Happening.{Happening}
 use Rattle.rk_served.specs.declared.output.Output.{Output}
 use Rattle.rk_served.specs.Left.{Left, Part}
 use Rattle.rk_served.specs.Moves.{Moves}
-use Rattle.rk_served.specs.Served.{Turn, outputs_of, ServesBy, ServedFrom}
-use Rattle.rk_served.specs.Order.{MovesFirst, MovesInOrder, ServesInOrder, ServedInOrderFrom}
+use Rattle.rk_served.specs.Served.{Turn, outputs_of, ServesBy, Serves, ServedBy}
+use Rattle.rk_served.specs.Order.{MovesFirst, MovesInOrder, ServesInOrder, ServesTurnInOrder}
 use Rattle.rk_served.specs.Calls.{MovesNext, MovesSome}
 
 -- ---- one move more
@@ -46,25 +46,7 @@ serves_of conf old now h None steps new s = s
 serves_of conf old now h (Some outputs) steps new s = s.acts
 
 -- a list that is served in order is served
-pub served_of : (conf : List Line) (turns : List Turn) (run : List Past) (old new : Left) → ServedInOrderFrom conf old turns run new
-    → ServedFrom conf old turns run new
+pub served_of : (conf : List Line) (turns : List Turn) (run : List Past) (old new : Left) → ServedBy (ServesTurnInOrder conf) old turns run new
+    → ServedBy (Serves conf) old turns run new
 served_of conf [] run old new h = h
 served_of conf (t ∷ ts) run old new h = (h.0, h.1, h.2, h.3, serves_of conf old t.now t.happening t.outputs h.0 h.2 h.4, served_of conf ts h.1 h.2 new h.5)
-
--- ---- one turn more
-
--- a list that is served in order, and one more turn in order, are served in order
-pub in_order_push : (conf : List Line) (turns : List Turn) (run steps : List Past) (old mid new : Left) (turn : Turn) → ServedInOrderFrom conf old turns run mid
-    → ServesInOrder conf mid turn.now turn.happening turn.outputs steps new
-    → ServedInOrderFrom conf old (turns ++ turn ∷ []) (run ++ steps) new
-in_order_push conf [] run steps old mid new turn h s = (
-  steps,
-  [],
-  new,
-  ap (λ (es : List Past). es ++ steps) h.0
-      ∙ sym (append-nil steps),
-  subst (λ (l : Left). ServesInOrder conf l turn.now turn.happening turn.outputs steps new) h.1 s,
-  (refl, refl),
-)
-in_order_push conf (t ∷ ts) run steps old mid new turn h s =
-    (h.0, h.1 ++ steps, h.2, ap (λ (es : List Past). es ++ steps) h.3 ∙ append_assoc h.0 h.1 steps, h.4, in_order_push conf ts h.1 steps h.2 mid new turn h.5 s)

@@ -37,7 +37,7 @@ use Rattle.rk_served.specs.Commands.{IsCommand}
 use Rattle.rk_served.specs.WhoIsThere.{Sits, has_channel, fits_stage, HasItsPeers}
 use Rattle.rk_served.specs.OwnStep.{is_running, StepsBy, Adds, callout_to, payload_in, negated, EndsBy, is_last, is_followed, is_not_followed, OwnStep}
 use Rattle.rk_served.specs.Calls.{is_refused, MakesOwnStep, StartsNow, IsStartAt, HasEnded, EndsOne}
-use Rattle.rk_served.proofs.PeerLists.{both}
+use Rattle.std.proofs.lemmas.Bool.{and_parts}
 use Rattle.rk_served.proofs.PeersFit.{launch_done, follow_owed}
 
 -- ---- what owed events are answered
@@ -225,7 +225,7 @@ module _ (conf : List Line) (now k : ℕ) (event : Event) (subject : Option Subj
 -- what a happening that ends a handler does
 made_for_some : (o : Option Stage) (x : Peer) → fits_stage o (Some x) ≡ true → is_some x.subject ≡ true
 made_for_some None x fits = absurd (cc)
-made_for_some (Some st) x fits = (both (has_channel st x.channel) (is_some x.subject) fits).1
+made_for_some (Some st) x fits = (and_parts (has_channel st x.channel) (is_some x.subject) fits).1
 
 module _ (conf : List Line) (now k : ℕ) (old : Left) (x : Peer) (sits : Sits (Handler k) x old.peers) where
   -- a handler that ran has ended where its peer was taken away and the world is as it was

@@ -1,302 +1,205 @@
 -- What a list of peers has for each session, after each change of it.
-use Rattle.std.proofs.Common.{◌≡◌, ◌⊎◌, ℕ, zero, suc, Bool, true, false, cond, not, ◌&&◌, List, [], ◌∷◌, ◌++◌, refl, sym, ap, ◌∙◌, inl, inr}
-use Rattle.std.specs.Prelude.{Option, Some, None, is_some, option_map, slice_get, slice_set}
+use Rattle.std.proofs.Common.{◌≡◌, ℕ, zero, suc, ◌<◌, length, get_or, Bool, true, false, cond, not, ◌&&◌, ◌||◌, List, [], ◌∷◌, ◌++◌, refl, sym, ap, ◌∙◌}
+use Rattle.std.specs.Prelude.{Option, Some, None, IfSome, is_some, slice_get, slice_set}
 use Rattle.std.specs.List.{remove}
+use Rattle.std.proofs.lemmas.Bool.{and_parts, not-true, or_parts, or_left, or_right, false_from_ne_true}
+use Rattle.std.proofs.lemmas.Option.{same_Some, slice_get_read, MatchOption-at_some}
 use Rattle.rk_names.specs.declared.numbers.SessionId.{SessionId}
-use Rattle.rk_macro.specs.declared.subject.Subject.{Subject}
 use Rattle.rk_machine.specs.Laws.{same_session}
 use Rattle.rk_machine.proofs.Effects.WaitsAfter.{same-true, same-self}
-use Rattle.rk_served.specs.declared.peer.Channel.{Channel}
-use Rattle.rk_served.specs.declared.peer.Channel.TheVariants.{Talks, Starts, Pipes}
 use Rattle.rk_served.specs.declared.peer.Peer.{Peer}
-use Rattle.rk_served.specs.Left.{peer, without}
+use Rattle.rk_served.specs.Left.{without}
 use Rattle.rk_served.specs.WhoIsThere.{peer_of, has_peer, are_apart}
 
--- ---- tests
+-- ---- sessions
 
-pub either_way : (b : Bool) → (b ≡ true) ⊎ (b ≡ false)
-either_way true = inl refl
-either_way false = inr refl
+-- two that are one with a third are one
+pub same_both : (s t u : SessionId) → same_session s u ≡ true → same_session t u ≡ true → same_session s t ≡ true
+same_both s t u e f = ap (λ v. same_session v t) (same-true s u e ∙ sym (same-true t u f)) ∙ same-self t
 
--- both parts of a true conjunction are true
-pub both : (a b : Bool) → (a && b) ≡ true → (a ≡ true) × (b ≡ true)
-both true b e = (refl, e)
-both false b e = absurd (cc)
+-- who is another than one, of him that one is another
+pub turned : (s t : SessionId) → same_session s t ≡ false → same_session t s ≡ false
+turned s t h = false_from_ne_true _ (λ e. let f = same_both s t s (same-self s) e in cc)
 
--- the conjunction of two true parts is true
-pub both_of : (a b : Bool) → a ≡ true → b ≡ true → (a && b) ≡ true
-both_of a b e f = (λ i. e i && f i)
+-- equal peers are of one session
+pub who_is : {x y : Peer} → Some x ≡ Some y → x.who ≡ y.who
+who_is {x} {y} e = ap (λ (v : Peer). v.who) (same_Some x y e)
 
--- if a negation is true, what it negates is false
-pub not_false : (b : Bool) → not b ≡ true → b ≡ false
-not_false true e = absurd (cc)
-not_false false e = refl
+-- ---- choices
 
--- an option that is not Some is None
-pub some_none : {A : Type 0} (o : Option A) → is_some o ≡ false → o ≡ None
-some_none None e = refl
-some_none (Some x) e = absurd (cc)
-
--- ---- what the handler of a peer does
-
--- what the handler of a peer does
-pub data Sort : Type 0 where
-  starts_piped : Sort  -- it is to be started, and is piped
-  starts_plain : Sort  -- it is to be started, and is not piped
-  has_stream : Sort  -- it runs, and is plain
-  has_output : Sort  -- it runs, and is piped
-  unmade : Sort  -- it was made for nothing
-
--- the same, by its channel
-abbrev pub sort_in : Channel → Sort
-sort_in (Talks stream) = has_stream
-sort_in (Starts piped) = cond piped starts_piped starts_plain
-sort_in (Pipes bytes) = has_output
-
--- the same, of a peer; one without a subject was made for nothing
-abbrev pub sort : Peer → Sort
-sort x = cond (is_some x.subject) (sort_in x.channel) unmade
-
--- the sort of the first peer of this session, if there is one
-abbrev pub sort_at : List Peer → SessionId → Option Sort
-sort_at [] s = None
-sort_at (x ∷ xs) s = cond (same_session x.who s) (Some (sort x)) (sort_at xs s)
-
-sort_cond : (b : Bool) (x : Peer) (o : Option Peer) → option_map sort (cond b (Some x) o) ≡ cond b (Some (sort x)) (option_map sort o)
-sort_cond true x o = refl
-sort_cond false x o = refl
-
--- the sort of a session's peer is the sort at that session
-pub sort_at_is : (xs : List Peer) (s : SessionId) → option_map sort (peer_of xs s) ≡ sort_at xs s
-sort_at_is [] s = refl
-sort_at_is (x ∷ xs) s = sort_cond (same_session x.who s) x (peer_of xs s) ∙ ap (cond (same_session x.who s) (Some (sort x))) (sort_at_is xs s)
-
-has_sort : (o : Option Peer) → is_some o ≡ is_some (option_map sort o)
-has_sort None = refl
-has_sort (Some x) = refl
-
--- a session has a peer exactly if there is a sort at it
-pub has_peer_is : (xs : List Peer) (s : SessionId) → has_peer xs s ≡ is_some (sort_at xs s)
-has_peer_is xs s = has_sort (peer_of xs s) ∙ ap is_some (sort_at_is xs s)
-
--- ---- one more peer
-
-cond_swap : (b c : Bool) (x y o : Option Sort) → (b ≡ true → c ≡ true → ⊥) → cond b x (cond c y o) ≡ cond c y (cond b x o)
+cond_swap : (b c : Bool) (x y o : Option Peer) → (b ≡ true → c ≡ true → ⊥) → cond b x (cond c y o) ≡ cond c y (cond b x o)
 cond_swap true true x y o h = absurd (h refl refl)
 cond_swap true false x y o h = refl
 cond_swap false c x y o h = refl
 
--- a peer before the others is of another one
-pub apart_from : (x : Peer) (xs : List Peer) (s : SessionId) → sort_at (x ∷ xs) s ≡ None → (same_session x.who s ≡ false) × (sort_at xs s ≡ None)
-apart_from x xs s h = by_test (same_session x.who s) refl h
-  where
-    by_test : (b : Bool) → same_session x.who s ≡ b → cond b (Some (sort x)) (sort_at xs s) ≡ None → (same_session x.who s ≡ false) × (sort_at xs s ≡ None)
-    by_test true e h = absurd (cc)
-    by_test false e h = (e, h)
+-- of two choices by one test the first counts
+pub cond_twice : {X : Type 0} (b : Bool) (x y o : X) → cond b x (cond b y o) ≡ cond b x o
+cond_twice true x y o = refl
+cond_twice false x y o = refl
 
--- a peer that is added has its sort, and every other session's sort stays
-pub sort_added : (before after : List Peer) (s : SessionId) (p : Channel) (m : Option Subject) → sort_at (before ++ after) s ≡ None → (t : SessionId)
-    → sort_at (before ++ peer s p m ∷ after) t ≡ cond (same_session s t) (Some (sort (peer s p m))) (sort_at (before ++ after) t)
-sort_added [] after s p m none t = refl
-sort_added (b ∷ bs) after s p m none t =
-    let apart = apart_from b (bs ++ after) s none in
-    ap (cond (same_session b.who t) (Some (sort b))) (sort_added bs after s p m apart.1 t)
-    ∙ cond_swap (same_session b.who t) (same_session s t) _ _ _ (λ x y. two b.who t x y apart.0)
-  where
-    two : (who t : SessionId) → same_session who t ≡ true → same_session s t ≡ true → same_session who s ≡ false → ⊥
-    two who t x y f = (let e : who ≡ s = same-true who t x ∙ sym (same-true s t y) in let g : same_session who s ≡ true = ap (λ v. same_session v s) e
-        ∙ same-self s in cc)
+-- one is there where another one is chosen, or among the rest
+pub is_chosen : (b : Bool) (x : Peer) (o : Option Peer) → is_some (cond b (Some x) o) ≡ (b || is_some o)
+is_chosen true x o = refl
+is_chosen false x o = refl
+
+or_swap : (a b c : Bool) → (a || (b || c)) ≡ (b || (a || c))
+or_swap true true c = refl
+or_swap true false c = refl
+or_swap false b c = refl
+
+-- ---- one peer more
+
+-- a peer before the others is of another one
+pub apart_from : (x : Peer) (xs : List Peer) (s : SessionId) → has_peer (x ∷ xs) s ≡ false → (same_session x.who s ≡ false) × (has_peer xs s ≡ false)
+apart_from x xs s h = or_parts _ _ (sym (is_chosen (same_session x.who s) x (peer_of xs s)) ∙ h)
+
+-- one that is added is that of its own session, and every other session has what it had
+pub peer_added : (before after : List Peer) (x : Peer) → has_peer (before ++ after) x.who ≡ false → (t : SessionId)
+    → peer_of (before ++ x ∷ after) t ≡ cond (same_session x.who t) (Some x) (peer_of (before ++ after) t)
+peer_added [] after x none t = refl
+peer_added (b ∷ bs) after x none t =
+    let apart = apart_from b (bs ++ after) x.who none in
+    ap (cond (same_session b.who t) (Some b)) (peer_added bs after x apart.1 t)
+    ∙ cond_swap (same_session b.who t) (same_session x.who t) _ _ _ (λ e f. let g = same_both b.who x.who t e f in let h = apart.0 in cc)
+
+has_added : (before after : List Peer) (x : Peer) (t : SessionId) → has_peer (before ++ x ∷ after) t ≡ (same_session x.who t || has_peer (before ++ after) t)
+has_added [] after x t = is_chosen (same_session x.who t) x (peer_of after t)
+has_added (b ∷ bs) after x t =
+    is_chosen (same_session b.who t) b _ ∙ ap (λ c. same_session b.who t || c) (has_added bs after x t)
+    ∙ or_swap (same_session b.who t) (same_session x.who t) _
+    ∙ ap (λ c. same_session x.who t || c) (sym (is_chosen (same_session b.who t) b (peer_of (bs ++ after) t)))
+
+-- nobody has two after one is added whose session had none
+pub apart_added : (before after : List Peer) (x : Peer) → has_peer (before ++ after) x.who ≡ false → are_apart (before ++ after) ≡ true
+    → are_apart (before ++ x ∷ after) ≡ true
+apart_added [] after x none apart = (λ i. not (none i) && apart i)
+apart_added (b ∷ bs) after x none apart =
+    let parts = and_parts _ _ apart in
+    let from = apart_from b (bs ++ after) x.who none in
+    let other : has_peer (bs ++ x ∷ after) b.who ≡ false = has_added bs after x b.who
+    ∙ (λ i. turned b.who x.who from.0 i || not-true _ parts.0 i) in
+    (λ i. not (other i) && apart_added bs after x from.1 parts.1 i)
 
 -- ---- one peer less
 
-filtered : (b : Bool) (x : Peer) (xs : List Peer) (t : SessionId) → sort_at (cond b (x ∷ xs) xs) t ≡ cond b (sort_at (x ∷ xs) t) (sort_at xs t)
-filtered true x xs t = refl
-filtered false x xs t = refl
-
-none_left : (b : Bool) → ◌≡◌ {A = Option Sort} (cond b None None) None
-none_left true = refl
-none_left false = refl
-
-under_same : (c d : Bool) (x o : Option Sort) → d ≡ c → cond c None o ≡ cond c None (cond d x o)
-under_same true d x o e = refl
-under_same false d x o e = sym (ap (λ (b : Bool). cond b x o) e)
-
--- a peer that is taken out leaves no sort at its session, and every other stays
-pub sort_without : (s : SessionId) (xs : List Peer) (t : SessionId) → sort_at (without s xs) t ≡ cond (same_session s t) None (sort_at xs t)
-sort_without s [] t = sym (none_left (same_session s t))
-sort_without s (x ∷ xs) t = filtered (not (same_session x.who s)) x (without s xs) t ∙ by_test (sort_without s xs t) (same_session x.who s) refl
+-- after one is taken out its session has none, and every other has what it had
+pub peer_without : (s : SessionId) (xs : List Peer) (t : SessionId) → peer_of (without s xs) t ≡ cond (same_session s t) None (peer_of xs t)
+peer_without s [] t = none_left (same_session s t)
   where
-    by_test : sort_at (without s xs) t ≡ cond (same_session s t) None (sort_at xs t) → (b : Bool) → same_session x.who s ≡ b
-        → cond (not b) (cond (same_session x.who t) (Some (sort x)) (sort_at (without s xs) t)) (sort_at (without s xs) t) ≡ cond (same_session s t) None
-        (cond (same_session x.who t) (Some (sort x)) (sort_at xs t))
-    by_test rest true e = rest ∙ under_same (same_session s t) (same_session x.who t) _ _ (ap (λ v. same_session v t) (same-true x.who s e))
-    by_test rest false e = ap (cond (same_session x.who t) (Some (sort x))) rest ∙ cond_swap (same_session x.who t) (same_session s t) _ None _ (λ p q. two p q)
-      where
-        two : same_session x.who t ≡ true → same_session s t ≡ true → ⊥
-        two p q = (let g : x.who ≡ s = same-true x.who t p ∙ sym (same-true s t q) in let f : same_session x.who s ≡ true = ap (λ v. same_session v s) g
-            ∙ same-self s in cc)
-
--- ---- a peer is changed
-
--- equal options have equal peers
-pub some_peer : {x y : Peer} → Some x ≡ Some y → x ≡ y
-some_peer {x} {y} e = ap (λ (o : Option Peer). or_else o) e
+    none_left : (b : Bool) → ◌≡◌ {A = Option Peer} None (cond b None None)
+    none_left true = refl
+    none_left false = refl
+peer_without s (x ∷ xs) t = by_test (peer_without s xs t) (same_session x.who s) refl
   where
-    or_else : Option Peer → Peer
-    or_else None = x
-    or_else (Some z) = z
+    by_test : peer_of (without s xs) t ≡ cond (same_session s t) None (peer_of xs t) → (b : Bool) → same_session x.who s ≡ b
+        → peer_of (cond (not b) (x ∷ without s xs) (without s xs)) t ≡ cond (same_session s t) None (peer_of (x ∷ xs) t)
+    by_test rest true e =
+        rest ∙ sym (ap (λ v. cond (same_session s t) None (cond (same_session v t) (Some x) (peer_of xs t))) (same-true x.who s e)
+        ∙ cond_twice (same_session s t) None (Some x) (peer_of xs t))
+    by_test rest false e =
+        ap (cond (same_session x.who t) (Some x)) rest
+        ∙ cond_swap (same_session x.who t) (same_session s t) _ None _ (λ p q. let g = same_both x.who s t p q in cc)
 
--- what is there at a place has a peer
-pub at_has : (xs : List Peer) (i : ℕ) (x : Peer) → slice_get xs i ≡ Some x → is_some (sort_at xs x.who) ≡ true
-at_has [] i x e = absurd (cc)
-at_has (y ∷ ys) zero x e =
-    let h : y ≡ x = some_peer e in
-    ap (λ (b : Bool). is_some (cond b (Some (sort y)) (sort_at ys x.who))) (ap (λ (z : Peer). same_session z.who x.who) h ∙ same-self x.who)
-at_has (y ∷ ys) (suc i) x e = either (same_session y.who x.who) (at_has ys i x e)
-  where
-    either : (b : Bool) → is_some (sort_at ys x.who) ≡ true → is_some (cond b (Some (sort y)) (sort_at ys x.who)) ≡ true
-    either true h = refl
-    either false h = h
-
--- another peer of the same one, of the same kind
-pub sort_kept : (xs : List Peer) (i : ℕ) (x y : Peer) → slice_get xs i ≡ Some x → y.who ≡ x.who → sort y ≡ sort x → (t : SessionId)
-    → sort_at (slice_set xs i y) t ≡ sort_at xs t
-sort_kept [] i x y e who same t = refl
-sort_kept (z ∷ zs) zero x y e who same t =
-    let h : z ≡ x = some_peer e in
-    (λ j. cond (same_session ((who ∙ ap (λ (v : Peer). v.who) (sym h)) j) t) (Some ((same ∙ ap (λ (v : Peer). sort v) (sym h)) j)) (sort_at zs t))
-sort_kept (z ∷ zs) (suc i) x y e who same t = ap (cond (same_session z.who t) (Some (sort z))) (sort_kept zs i x y e who same t)
-
-no_peer : (xs : List Peer) (s : SessionId) → not (has_peer xs s) ≡ true → sort_at xs s ≡ None
-no_peer xs s e = some_none (sort_at xs s) (sym (has_peer_is xs s) ∙ not_false _ e)
-
--- another kind of peer, where nobody has two
-pub sort_set : (xs : List Peer) (i : ℕ) (s : SessionId) (p q : Channel) (m : Option Subject) → are_apart xs ≡ true → slice_get xs i ≡ Some (peer s p m)
-    → (t : SessionId) → sort_at (slice_set xs i (peer s q m)) t ≡ cond (same_session s t) (Some (sort (peer s q m))) (sort_at xs t)
-sort_set [] i s p q m apart e t = absurd (cc)
-sort_set (z ∷ zs) zero s p q m apart e t =
-    let h : z.who ≡ s = ap (λ (v : Peer). v.who) (some_peer {x = z} {y = peer s p m} e) in
-    over (same_session s t) (same_session z.who t) (ap (λ v. same_session v t) h)
-  where
-    over : (b c : Bool) → c ≡ b → cond b (Some (sort (peer s q m))) (sort_at zs t) ≡ cond b (Some (sort (peer s q m))) (cond c (Some (sort z)) (sort_at zs t))
-    over true c f = refl
-    over false c f = sym (ap (λ (v : Bool). cond v (Some (sort z)) (sort_at zs t)) f)
-sort_set (z ∷ zs) (suc i) s p q m apart e t =
-    let parts = both (not (has_peer zs z.who)) (are_apart zs) apart in
-    ap (cond (same_session z.who t) (Some (sort z))) (sort_set zs i s p q m parts.1 e t)
-    ∙ cond_swap (same_session z.who t) (same_session s t) _ _ _ (λ x y. two parts.0 x y)
-  where
-    two : not (has_peer zs z.who) ≡ true → same_session z.who t ≡ true → same_session s t ≡ true → ⊥
-    two none x y =
-        let g : z.who ≡ s = same-true z.who t x ∙ sym (same-true s t y) in
-        let has : is_some (sort_at zs s) ≡ true = at_has zs i (peer s p m) e in
-        let lacks : is_some (sort_at zs s) ≡ false = ap (λ v. is_some (sort_at zs v)) (sym g) ∙ ap is_some (no_peer zs z.who none) in
-        cc
-
--- ---- nobody has two
-
-has_cons : (x : Peer) (xs : List Peer) (s : SessionId) → has_peer (x ∷ xs) s ≡ is_some (sort_at (x ∷ xs) s)
-has_cons x xs s = has_peer_is (x ∷ xs) s
-
--- no two peers are of one session after one is added whose session had none
-pub apart_added : (before after : List Peer) (s : SessionId) (p : Channel) (m : Option Subject) → sort_at (before ++ after) s ≡ None
-    → are_apart (before ++ after) ≡ true → are_apart (before ++ peer s p m ∷ after) ≡ true
-apart_added [] after s p m none apart = both_of (not (has_peer after s)) (are_apart after) (ap not (has_peer_is after s ∙ ap is_some none)) apart
-apart_added (b ∷ bs) after s p m none apart =
-    let parts = both (not (has_peer (bs ++ after) b.who)) (are_apart (bs ++ after)) apart in
-    let from = apart_from b (bs ++ after) s none in
-    both_of (not (has_peer (bs ++ peer s p m ∷ after) b.who)) _
-    (ap not (has_peer_is (bs ++ peer s p m ∷ after) b.who
-    ∙ ap is_some (sort_added bs after s p m from.1 b.who ∙ other from.0 (no_peer (bs ++ after) b.who parts.0))))
-    (apart_added bs after s p m from.1 parts.1)
-  where
-    other : same_session b.who s ≡ false → sort_at (bs ++ after) b.who ≡ None
-        → cond (same_session s b.who) (Some (sort (peer s p m))) (sort_at (bs ++ after) b.who) ≡ None
-    other f none = by_test (same_session s b.who) refl
-      where
-        by_test : (c : Bool) → same_session s b.who ≡ c → cond c (Some (sort (peer s p m))) (sort_at (bs ++ after) b.who) ≡ None
-        by_test true e = absurd (let g : same_session b.who s ≡ true = ap (λ v. same_session v s) (sym (same-true s b.who e)) ∙ same-self s in cc)
-        by_test false e = none
-
--- no two peers are of one session after one is taken out
+-- nobody has two after one is taken out
 pub apart_without : (s : SessionId) (xs : List Peer) → are_apart xs ≡ true → are_apart (without s xs) ≡ true
 apart_without s [] apart = refl
 apart_without s (x ∷ xs) apart =
-    let parts = both (not (has_peer xs x.who)) (are_apart xs) apart in
-    by_test (apart_without s xs parts.1) parts.0 (not (same_session x.who s))
+    let parts = and_parts _ _ apart in
+    by_test (not (same_session x.who s)) (ap is_some (peer_without s xs x.who) ∙ none (same_session s x.who) _ (not-true _ parts.0))
+    (apart_without s xs parts.1)
   where
-    by_test : are_apart (without s xs) ≡ true → not (has_peer xs x.who) ≡ true → (b : Bool) → are_apart (cond b (x ∷ without s xs) (without s xs)) ≡ true
-    by_test rest none true =
-        both_of (not (has_peer (without s xs) x.who)) _
-        (ap not (has_peer_is (without s xs) x.who
-        ∙ ap is_some (sort_without s xs x.who ∙ ap (cond (same_session s x.who) None) (no_peer xs x.who none) ∙ none_left (same_session s x.who)))) rest
-    by_test rest none false = rest
+    none : (b : Bool) (o : Option Peer) → is_some o ≡ false → is_some (cond b None o) ≡ false
+    none true o h = refl
+    none false o h = h
 
--- no two peers are of one session after the channel of one is changed
-pub apart_set : (xs : List Peer) (i : ℕ) (s : SessionId) (p q : Channel) (m : Option Subject) → slice_get xs i ≡ Some (peer s p m) → are_apart xs ≡ true
-    → are_apart (slice_set xs i (peer s q m)) ≡ true
-apart_set [] i s p q m e apart = apart
-apart_set (z ∷ zs) zero s p q m e apart =
-    ap (λ (v : SessionId). not (has_peer zs v) && are_apart zs) (sym (ap (λ (v : Peer). v.who) (some_peer {x = z} {y = peer s p m} e))) ∙ apart
-apart_set (z ∷ zs) (suc i) s p q m e apart =
-    let parts = both (not (has_peer zs z.who)) (are_apart zs) apart in
-    both_of (not (has_peer (slice_set zs i (peer s q m)) z.who)) _
-    (ap not (has_peer_is (slice_set zs i (peer s q m)) z.who ∙ ap is_some (sort_set zs i s p q m parts.1 e z.who ∙ other (no_peer zs z.who parts.0))))
-    (apart_set zs i s p q m e parts.1)
-  where
-    other : sort_at zs z.who ≡ None → cond (same_session s z.who) (Some (sort (peer s q m))) (sort_at zs z.who) ≡ None
-    other none = by_test (same_session s z.who) refl
-      where
-        by_test : (c : Bool) → same_session s z.who ≡ c → cond c (Some (sort (peer s q m))) (sort_at zs z.who) ≡ None
-        by_test true h =
-            absurd
-            (let g : s ≡ z.who = same-true s z.who h in
-            let has : is_some (sort_at zs s) ≡ true = at_has zs i (peer s p m) e in
-            let lacks : is_some (sort_at zs s) ≡ false = ap (λ v. is_some (sort_at zs v)) g ∙ ap is_some none in
-            cc)
-        by_test false h = none
+    by_test : (b : Bool) → has_peer (without s xs) x.who ≡ false → are_apart (without s xs) ≡ true → are_apart (cond b (x ∷ without s xs) (without s xs)) ≡ true
+    by_test true other rest = (λ i. not (other i) && rest i)
+    by_test false other rest = rest
+
+-- ---- a peer is changed
+
+under : (f : Option Peer → Bool) (b : Bool) (u v u' v' : Option Peer) → f u ≡ f u' → f v ≡ f v' → f (cond b u v) ≡ f (cond b u' v')
+under f true u v u' v' e g = e
+under f false u v u' v' e g = g
+
+-- a test that sees no difference between the one at a place and another sees none in what the sessions have after that one came for it
+pub seen_alike : (f : Option Peer → Bool) (xs : List Peer) (i : ℕ) (x y : Peer) → slice_get xs i ≡ Some x → y.who ≡ x.who → f (Some y) ≡ f (Some x)
+    → (t : SessionId) → f (peer_of (slice_set xs i y) t) ≡ f (peer_of xs t)
+seen_alike f [] i x y at same alike t = refl
+seen_alike f (z ∷ zs) zero x y at same alike t =
+    ap (λ s. f (cond (same_session s t) (Some y) (peer_of zs t))) (same ∙ sym (who_is at))
+    ∙ under f (same_session z.who t) (Some y) _ (Some z) _ (alike ∙ ap (λ (v : Peer). f (Some v)) (sym (same_Some z x at))) refl
+seen_alike f (z ∷ zs) (suc i) x y at same alike t =
+    under f (same_session z.who t) (Some z) _ (Some z) _ refl (seen_alike f zs i x y at same alike t)
+
+-- nobody has two after the one at a place is changed
+pub apart_set : (xs : List Peer) (i : ℕ) (x y : Peer) → slice_get xs i ≡ Some x → y.who ≡ x.who → are_apart (slice_set xs i y) ≡ are_apart xs
+apart_set [] i x y at same = refl
+apart_set (z ∷ zs) zero x y at same = ap (λ s. not (has_peer zs s) && are_apart zs) (same ∙ sym (who_is at))
+apart_set (z ∷ zs) (suc i) x y at same = (λ j. not (seen_alike is_some zs i x y at same refl z.who j) && apart_set zs i x y at same j)
+
+-- what is there at a place has a peer
+pub at_has : (xs : List Peer) (i : ℕ) (x : Peer) → slice_get xs i ≡ Some x → has_peer xs x.who ≡ true
+at_has [] i x at = absurd (cc)
+at_has (z ∷ zs) zero x at = is_chosen (same_session z.who x.who) z _ ∙ or_left _ _ (ap (λ s. same_session s x.who) (who_is at) ∙ same-self x.who)
+at_has (z ∷ zs) (suc i) x at = is_chosen (same_session z.who x.who) z _ ∙ or_right _ _ (at_has zs i x at)
+
+-- if nobody has two, the first one is of another session than one at a later place
+pub apart_at : (z : Peer) (zs : List Peer) (i : ℕ) (x : Peer) → are_apart (z ∷ zs) ≡ true → slice_get zs i ≡ Some x → same_session z.who x.who ≡ false
+apart_at z zs i x apart at =
+    false_from_ne_true _ (λ e. let f : has_peer zs z.who ≡ true = ap (has_peer zs) (same-true z.who x.who e) ∙ at_has zs i x at in
+    let g = not-true _ (and_parts (not (has_peer zs z.who)) (are_apart zs) apart).0 in cc)
+
+-- and the one at a place is what its session has
+pub at_place : (xs : List Peer) (i : ℕ) (x : Peer) → are_apart xs ≡ true → slice_get xs i ≡ Some x → peer_of xs x.who ≡ Some x
+at_place [] i x apart at = absurd (cc)
+at_place (z ∷ zs) zero x apart at =
+    ap (λ (v : Peer). cond (same_session v.who x.who) (Some v) (peer_of zs x.who)) (same_Some z x at)
+    ∙ ap (λ b. cond b (Some x) (peer_of zs x.who)) (same-self x.who)
+at_place (z ∷ zs) (suc i) x apart at =
+    ap (λ b. cond b (Some z) (peer_of zs x.who)) (apart_at z zs i x apart at) ∙ at_place zs i x (and_parts _ _ apart).1 at
+
+-- then after a change its session has the new one, and every other has what it had
+pub peer_set : (xs : List Peer) (i : ℕ) (x y : Peer) → are_apart xs ≡ true → slice_get xs i ≡ Some x → y.who ≡ x.who → (t : SessionId)
+    → peer_of (slice_set xs i y) t ≡ cond (same_session x.who t) (Some y) (peer_of xs t)
+peer_set [] i x y apart at same t = absurd (cc)
+peer_set (z ∷ zs) zero x y apart at same t =
+    ap (λ s. cond (same_session s t) (Some y) (peer_of zs t)) same
+    ∙ sym (ap (λ s. cond (same_session x.who t) (Some y) (cond (same_session s t) (Some z) (peer_of zs t))) (who_is at)
+    ∙ cond_twice (same_session x.who t) (Some y) (Some z) (peer_of zs t))
+peer_set (z ∷ zs) (suc i) x y apart at same t =
+    ap (cond (same_session z.who t) (Some z)) (peer_set zs i x y (and_parts _ _ apart).1 at same t)
+    ∙ cond_swap (same_session z.who t) (same_session x.who t) _ _ _
+    (λ e f. let g = same_both z.who x.who t e f in let h = apart_at z zs i x apart at in cc)
 
 -- ---- a peer is taken by its place
 
--- if nobody has two, the peer at a place is the only one of its own
-sort_none : (xs : List Peer) (s : SessionId) → sort_at xs s ≡ None → without s xs ≡ xs
-sort_none [] s none = refl
-sort_none (x ∷ xs) s none =
-    let apart = apart_from x xs s none in
-    ap (λ (b : Bool). cond (not b) (x ∷ without s xs) (without s xs)) apart.0 ∙ ap (λ (ys : List Peer). x ∷ ys) (sort_none xs s apart.1)
+-- the one that was read at the place of this one's peer is its own
+pub found_at : (xs : List Peer) (i : ℕ) (s : SessionId) (x : Peer) → i < length xs → x ≡ get_or xs i x
+    → IfSome (slice_get xs i) (λ y. (y.who ≡ s) × (peer_of xs s ≡ Some y)) → (slice_get xs i ≡ Some x) × (x.who ≡ s)
+found_at xs i s x within read found =
+    let at = slice_get_read xs _ i x refl within read in
+    (at, (MatchOption-at_some _ _ x at found).0)
 
 -- who has none, of whom none is taken
-pub without_none : (xs : List Peer) (s : SessionId) → peer_of xs s ≡ None → without s xs ≡ xs
-without_none xs s none = sort_none xs s (sym (sort_at_is xs s) ∙ ap (option_map sort) none)
+pub without_none : (xs : List Peer) (s : SessionId) → has_peer xs s ≡ false → without s xs ≡ xs
+without_none [] s none = refl
+without_none (x ∷ xs) s none =
+    let apart = apart_from x xs s none in
+    ap (λ b. cond (not b) (x ∷ without s xs) (without s xs)) apart.0 ∙ ap (λ ys. x ∷ ys) (without_none xs s apart.1)
 
 -- one of its own was taken already
 pub without_removed : (xs : List Peer) (i : ℕ) (s : SessionId) (y : Peer) → slice_get xs i ≡ Some y → y.who ≡ s → without s (remove xs i) ≡ without s xs
 without_removed [] i s y at is = absurd (cc)
 without_removed (x ∷ xs) zero s y at is =
-    let who : x.who ≡ s = ap (λ (v : Peer). v.who) (some_peer at) ∙ is in
-    sym (ap (λ (b : Bool). cond (not b) (x ∷ without s xs) (without s xs)) (ap (λ v. same_session v s) who ∙ same-self s))
-without_removed (x ∷ xs) (suc i) s y at is =
-    ap (λ (ys : List Peer). cond (not (same_session x.who s)) (x ∷ ys) ys) (without_removed xs i s y at is)
+    sym (ap (λ b. cond (not b) (x ∷ without s xs) (without s xs)) (ap (λ v. same_session v s) (who_is at ∙ is) ∙ same-self s))
+without_removed (x ∷ xs) (suc i) s y at is = ap (λ ys. cond (not (same_session x.who s)) (x ∷ ys) ys) (without_removed xs i s y at is)
 
--- removing the place of a session's peer takes that peer out
+-- if nobody has two, the one at a place is the only one of its own
 pub removed_at : (xs : List Peer) (i : ℕ) (s : SessionId) (y : Peer) → are_apart xs ≡ true → slice_get xs i ≡ Some y → y.who ≡ s → remove xs i ≡ without s xs
 removed_at [] i s y apart at is = absurd (cc)
 removed_at (x ∷ xs) zero s y apart at is =
-    let who : x.who ≡ s = ap (λ (v : Peer). v.who) (some_peer at) ∙ is in
-    let parts = both (not (has_peer xs x.who)) (are_apart xs) apart in
-    let none : sort_at xs s ≡ None = ap (sort_at xs) (sym who) ∙ no_peer xs x.who parts.0 in
-    sym (ap (λ (b : Bool). cond (not b) (x ∷ without s xs) (without s xs)) (ap (λ v. same_session v s) who ∙ same-self s) ∙ sort_none xs s none)
+    sym (without_none xs s (ap (has_peer xs) (sym (who_is at ∙ is)) ∙ not-true _ (and_parts _ _ apart).0)) ∙ without_removed (x ∷ xs) zero s y at is
 removed_at (x ∷ xs) (suc i) s y apart at is =
-    let parts = both (not (has_peer xs x.who)) (are_apart xs) apart in
-    ap (λ (ys : List Peer). x ∷ ys) (removed_at xs i s y parts.1 at is)
-    ∙ sym (ap (λ (b : Bool). cond (not b) (x ∷ without s xs) (without s xs)) (other (same_session x.who s) refl))
-  where
-    other : (b : Bool) → same_session x.who s ≡ b → same_session x.who s ≡ false
-    other false e = e
-    other true e =
-        absurd
-        (let parts = both (not (has_peer xs x.who)) (are_apart xs) apart in
-        let g : x.who ≡ y.who = same-true x.who s e ∙ sym is in
-        let has : is_some (sort_at xs y.who) ≡ true = at_has xs i y at in
-        let lacks : is_some (sort_at xs y.who) ≡ false = ap (λ v. is_some (sort_at xs v)) (sym g) ∙ ap is_some (no_peer xs x.who parts.0) in
-        cc)
+    ap (λ ys. x ∷ ys) (removed_at xs i s y (and_parts _ _ apart).1 at is)
+    ∙ ap (λ b. cond (not b) (x ∷ without s xs) (without s xs)) (sym (ap (same_session x.who) (sym is) ∙ apart_at x xs i y apart at))

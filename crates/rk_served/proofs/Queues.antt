@@ -9,7 +9,7 @@ use Rattle.std.specs.Ordering.{nat_cmp}
 use Rattle.std.specs.FinMap as map
 use Rattle.std.specs.Global.{Vec}
 use Rattle.std.specs.declared.cmp.Reverse.{Reverse}
-use Rattle.std.proofs.lemmas.Bool.{eqb-true, eq-eqb}
+use Rattle.std.proofs.lemmas.Bool.{eqb-true, eq-eqb, cases_Bool, cond_both}
 use Rattle.std.proofs.lemmas.List.Elements.{Contains-append_left, Contains-append_right, Contains-push}
 use Rattle.std.proofs.lemmas.List.Sorted.{Contains-permutation}
 use Rattle.rk_names.specs.declared.numbers.SessionId.{SessionId}
@@ -46,46 +46,41 @@ module _ {X : Type 0} where
 
 -- ---- those that wait
 
-at_other : (facts : map.FinMap nat_cmp (Vec (Reverse SessionId))) (key k : ℕ) (list : Vec (Reverse SessionId)) → nat_eq key k ≡ false
-    → waiters_at (map.insert (map.remove facts key) key list) k ≡ waiters_at facts k
-at_other facts key k list other =
-    ap (λ o. option_map_or (λ (v : Vec (Reverse SessionId)). v.items) o [])
-    (get_inserted (map.remove facts key) key list k ∙ ap (λ b. cond b (Some list) (map.get (map.remove facts key) k)) other ∙ get_removed facts key k
-    ∙ ap (λ b. cond b None (map.get facts k)) other)
+abbrev waiters_in : Option (Vec (Reverse SessionId)) → List (Reverse SessionId)
+waiters_in o = option_map_or (λ (v : Vec (Reverse SessionId)). v.items) o []
 
-at_key : (facts : map.FinMap nat_cmp (Vec (Reverse SessionId))) (key : ℕ) (list : Vec (Reverse SessionId)) → waiters_at (map.insert (map.remove facts key) key list) key ≡ list.items
-at_key facts key list =
-    ap (λ o. option_map_or (λ (v : Vec (Reverse SessionId)). v.items) o [])
-    (get_inserted (map.remove facts key) key list key ∙ ap (λ b. cond b (Some list) (map.get (map.remove facts key) key)) (eq-eqb key key refl))
+-- after those of a key are taken out and a list is put in for it
+waiters_put : (facts : map.FinMap nat_cmp (Vec (Reverse SessionId))) (key : ℕ) (list : Vec (Reverse SessionId)) (k : ℕ)
+    → waiters_at (map.insert (map.remove facts key) key list) k ≡ cond (nat_eq key k) list.items (waiters_at facts k)
+waiters_put facts key list k =
+    ap waiters_in (get_inserted (map.remove facts key) key list k ∙ ap (cond (nat_eq key k) (Some list)) (get_removed facts key k)) ∙ by_test (nat_eq key k)
+  where
+    by_test : (b : Bool) → waiters_in (cond b (Some list) (cond b None (map.get facts k))) ≡ cond b list.items (waiters_at facts k)
+    by_test true = refl
+    by_test false = refl
 
 module _ (facts facts' : map.FinMap nat_cmp (Vec (Reverse SessionId))) (key : ℕ) (list : Vec (Reverse SessionId)) (who : Reverse SessionId)
     (is : facts' ≡ map.insert (map.remove facts key) key list) (items : list.items ≡ waiters_at facts key ++ who ∷ []) where
-  here : waiters_at facts' key ≡ waiters_at facts key ++ who ∷ []
-  here = ap (λ m. waiters_at m key) is ∙ at_key facts key list ∙ items
+  there : (k : ℕ) → waiters_at facts' k ≡ cond (nat_eq key k) (waiters_at facts key ++ who ∷ []) (waiters_at facts k)
+  there k = ap (λ m. waiters_at m k) is ∙ waiters_put facts key list k ∙ ap (λ xs. cond (nat_eq key k) xs (waiters_at facts k)) items
 
   -- it waits for the key
   pub one_parked : Contains (waiters_at facts' key) who
-  one_parked = subst (λ xs. Contains xs who) (sym here) (Contains-push (waiters_at facts key) who)
+  one_parked = subst (λ xs. Contains xs who) (sym (there key ∙ ap (λ b. cond b (waiters_at facts key ++ who ∷ []) (waiters_at facts key)) (eq-eqb key key refl)))
+      (Contains-push (waiters_at facts key) who)
 
   -- and all others wait as they did
   pub others_wait : (k : ℕ) (s : Reverse SessionId) → Contains (waiters_at facts k) s → Contains (waiters_at facts' k) s
-  others_wait k s has = by_test (nat_eq key k) refl
-    where
-      by_test : (b : Bool) → nat_eq key k ≡ b → Contains (waiters_at facts' k) s
-      by_test true same =
-          let e : key ≡ k = eqb-true key k same in
-          subst (λ j. Contains (waiters_at facts' j) s) e
-          (subst (λ xs. Contains xs s) (sym here)
-          (Contains-append_left (waiters_at facts key) (who ∷ []) s (subst (λ j. Contains (waiters_at facts j) s) (sym e) has)))
-      by_test false other = subst (λ xs. Contains xs s) (sym (ap (λ m. waiters_at m k) is ∙ at_other facts key k list other)) has
+  others_wait k s has =
+      subst (λ xs. Contains xs s) (sym (there k))
+      (cond_both (nat_eq key k) _ _ (λ xs. Contains xs s) (λ same. Contains-append_left (waiters_at facts key) (who ∷ []) s
+      (subst (λ j. Contains (waiters_at facts j) s) (sym (eqb-true key k same)) has)) (λ other. has))
 
 -- those of one key are taken out, and all others wait as they did
 pub others_stay : (facts facts' : map.FinMap nat_cmp (Vec (Reverse SessionId))) (key : ℕ) → facts' ≡ map.remove facts key → (k : ℕ) (s : Reverse SessionId)
     → Contains (waiters_at facts k) s → Contains (waiters_at facts key) s ⊎ Contains (waiters_at facts' k) s
-others_stay facts facts' key is k s has = by_test (nat_eq key k) refl
-  where
-    by_test : (b : Bool) → nat_eq key k ≡ b → Contains (waiters_at facts key) s ⊎ Contains (waiters_at facts' k) s
-    by_test true same = inl (subst (λ j. Contains (waiters_at facts j) s) (sym (eqb-true key k same)) has)
-    by_test false other =
-        inr (subst (λ xs. Contains xs s) (sym (ap (λ o. option_map_or (λ (v : Vec (Reverse SessionId)). v.items) o [])
-        (ap (λ m. map.get m k) is ∙ get_removed facts key k ∙ ap (λ b. cond b None (map.get facts k)) other))) has)
+others_stay facts facts' key is k s has = elim (cases_Bool (nat_eq key k)) [
+  | inl same ↦ inl (subst (λ j. Contains (waiters_at facts j) s) (sym (eqb-true key k same)) has)
+  | inr other ↦ inr (subst (λ xs. Contains xs s) (sym (ap waiters_in (ap (λ m. map.get m k) is ∙ get_removed facts key k
+      ∙ ap (λ b. cond b None (map.get facts k)) other))) has)
+]

@@ -1,5 +1,5 @@
 -- Served lists go on by one turn, and their steps are a run of the machine.
-use Rattle.std.proofs.Common.{◌≡◌, ℕ, List, [], ◌∷◌, ◌++◌, Option, Some, None, refl, sym, ◌∙◌, ap, subst, append_assoc, inl, inr}
+use Rattle.std.proofs.Common.{◌≡◌, ℕ, true, List, [], ◌∷◌, ◌++◌, Option, Some, None, refl, sym, ◌∙◌, ap, subst, append_assoc, inl, inr}
 use Rattle.std.specs.Prelude.{reverse}
 use Rattle.std.proofs.lemmas.List.{append-nil, reverse-append}
 use Rattle.rk_names.specs.declared.numbers.SessionId.{SessionId}
@@ -16,18 +16,25 @@ use Rattle.rk_served.specs.Left.{Left, Part, nothing}
 use Rattle.rk_served.specs.Moves.{Answered, puts_reply, starts_one, fails_to_start, Move, collects, refuses, asks, shuts_client, shuts_handler, Moves}
 use Rattle.rk_machine.specs.Event.{Event}
 use Rattle.rk_macro.specs.declared.subject.Subject.{Subject}
-use Rattle.rk_served.specs.OwnStep.{StepsBy, EndsBy, is_last, is_followed, is_not_followed, OwnStep}
-use Rattle.rk_served.specs.Served.{Turn, steps_of, ServesBy, Serves, ServedFrom, ServedIsRun}
+use Rattle.rk_served.specs.OwnStep.{is_misplaced, StepsBy, EndsBy, is_last, is_followed, is_not_followed, OwnStep}
+use Rattle.rk_served.specs.Served.{Turn, Acts, steps_of, ServesBy, Serves, ServedBy, ServesNext, ServedIsRun}
+use Rattle.rk_served.specs.Order.{ServesInOrder}
 
 -- ---- one turn more
 
--- a served list and one more turn are served
-pub served_push : (conf : List Line) (turns : List Turn) (run steps : List Past) (old mid new : Left) (turn : Turn) → ServedFrom conf old turns run mid
-    → Serves conf mid turn steps new → ServedFrom conf old (turns ++ turn ∷ []) (run ++ steps) new
-served_push conf [] run steps old mid new turn h s =
-    (steps, [], new, ap (λ (es : List Past). es ++ steps) h.0 ∙ sym (append-nil steps), subst (λ (l : Left). Serves conf l turn steps new) h.1 s, (refl, refl))
-served_push conf (t ∷ ts) run steps old mid new turn h s =
-    (h.0, h.1 ++ steps, h.2, ap (λ (es : List Past). es ++ steps) h.3 ∙ append_assoc h.0 h.1 steps, h.4, served_push conf ts h.1 steps h.2 mid new turn h.5 s)
+-- turns that are served, and one more that is served so, are served
+pub served_push : (ServesSo : Left → Turn → List Past → Left → Type 0) (turns : List Turn) (run steps : List Past) (old mid new : Left) (turn : Turn)
+    → ServedBy ServesSo old turns run mid → ServesSo mid turn steps new → ServedBy ServesSo old (turns ++ turn ∷ []) (run ++ steps) new
+served_push ServesSo [] run steps old mid new turn h s =
+    (steps, [], new, ap (λ (es : List Past). es ++ steps) h.0 ∙ sym (append-nil steps), subst (λ (l : Left). ServesSo l turn steps new) h.1 s, (refl, refl))
+served_push ServesSo (t ∷ ts) run steps old mid new turn h s = (
+  h.0,
+  h.1 ++ steps,
+  h.2,
+  ap (λ (es : List Past). es ++ steps) h.3 ∙ append_assoc h.0 h.1 steps,
+  h.4,
+  served_push ServesSo ts h.1 steps h.2 mid new turn h.5 s,
+)
 
 -- ---- a chain of steps, the first one first
 
@@ -112,7 +119,7 @@ serves_chain conf old now h (Some outputs) steps new s =
     (chain_append s.own.steps (steps_of s.parts) old.world s.begun.world new.world (begins_chain conf now h old s.own s.begun s.own_step)
     (moves_chain conf now s.begun s.parts new s.moves))
 
-served_chain : (conf : List Line) (turns : List Turn) (run : List Past) (old new : Left) → ServedFrom conf old turns run new → Chain old.world run new.world
+served_chain : (conf : List Line) (turns : List Turn) (run : List Past) (old new : Left) → ServedBy (Serves conf) old turns run new → Chain old.world run new.world
 served_chain conf [] run old new h = subst (λ (es : List Past). Chain old.world es new.world) (sym h.0) (ap (λ (l : Left). l.world) h.1)
 served_chain conf (t ∷ ts) run old new h =
     subst (λ (es : List Past). Chain old.world es new.world) (sym h.3)
@@ -125,3 +132,26 @@ served_is_run conf from turns run left h =
     subst (λ (xs : List Past). Run from xs left.world) (append-nil (reverse run))
     (chain_run from [] run (nothing from).world left.world refl (served_chain conf turns run (nothing from) left h)) in
     (is_run, lawful from (reverse run) left.world is_run)
+
+-- ---- what one happening adds
+
+serves_next : (conf : List Line) (old : Left) (turn : Turn) (steps : List Past) (new : Left) → Serves conf old turn steps new → ServesNext conf old turn new
+serves_next conf old turn steps new s from turns run served =
+    let more = served_push (Serves conf) turns run steps (nothing from) old new turn served s in
+    (steps, more, served_is_run conf from (turns ++ turn ∷ []) (run ++ steps) new more)
+
+-- a happening that acts adds its turn, with its outputs, to every served list
+pub acts_next : (conf : List Line) (old : Left) (now : ℕ) (h : Happening) (outputs : List Output) (steps : List Past) (new : Left)
+    → Acts conf old now h outputs steps new → ServesNext conf old (record { now = now; happening = h; outputs = Some outputs }) new
+acts_next conf old now h outputs steps new a = serves_next conf old (record { now = now; happening = h; outputs = Some outputs }) steps new a
+
+-- what is out of place has no moves
+pub passed_in_order : (conf : List Line) (old : Left) (now : ℕ) (h : Happening) → is_misplaced old.world h ≡ true → (steps : List Past)
+    × ServesInOrder conf old now h None steps old
+passed_in_order conf old now h misplaced = ([], record { misplaced = misplaced; no_steps = refl; same = refl })
+
+-- a misplaced happening adds its turn without outputs, and changes nothing
+pub passed_next : (conf : List Line) (old : Left) (now : ℕ) (h : Happening) → is_misplaced old.world h ≡ true
+    → ServesNext conf old (record { now = now; happening = h; outputs = None }) old
+passed_next conf old now h misplaced =
+    serves_next conf old (record { now = now; happening = h; outputs = None }) [] old (record { misplaced = misplaced; no_steps = refl; same = refl })

@@ -1,11 +1,12 @@
 -- The peers stand in order, after each change of them.
-use Rattle.std.proofs.Common.{◌≡◌, ℕ, zero, suc, ◌+◌, ◌≤◌, Bool, true, false, cond, not, ◌&&◌, List, [], ◌∷◌, ◌++◌, refl, sym, ap, ◌∙◌, subst}
+use Rattle.std.proofs.Common.{◌≡◌, ℕ, zero, suc, ◌+◌, ◌≤◌, Bool, true, false, cond, not, ◌&&◌, List, [], ◌∷◌, ◌++◌, refl, sym, ap, ◌∙◌, subst, inl, inr}
 use Rattle.std.proofs.Common.{arith, length, take, drop, get_or, take-append-drop}
-use Rattle.std.specs.Prelude.{Option, Some, None, slice_get, slice_set, insert, unwrap_or}
-use Rattle.std.specs.List.{All, list_all, position_or_len, remove}
+use Rattle.std.specs.Prelude.{Some, slice_get, slice_set, insert}
+use Rattle.std.specs.List.{list_all, position_or_len, remove}
 use Rattle.std.proofs.lemmas.Bool.Decides.{nat_tests}
-use Rattle.std.proofs.lemmas.List.Sums.{prefix_len-le-length}
-use Rattle.std.proofs.lemmas.List.Elements.{All-nil, All-cons}
+use Rattle.std.proofs.lemmas.List.{set_past}
+use Rattle.std.proofs.lemmas.List.Sums.{prefix_len-le-length, AllPass-from_list_all, list_all-from_AllPass}
+use Rattle.std.proofs.lemmas.List.Elements.{All-filter}
 use Rattle.rk_names.specs.declared.numbers.SessionId.{SessionId}
 use Rattle.rk_names.specs.declared.numbers.SessionId.TheVariants.{Client, Handler}
 use Rattle.rk_machine.specs.Laws.{same_session}
@@ -13,7 +14,9 @@ use Rattle.rk_served.specs.declared.peer.Peer.{Peer}
 use Rattle.rk_served.specs.declared.peer.Channel.{Channel}
 use Rattle.rk_served.specs.Left.{peer, without}
 use Rattle.rk_served.specs.Standing.{comes_before, are_in_order}
-use Rattle.rk_served.proofs.PeerLists.{both, both_of, some_peer}
+use Rattle.rk_served.proofs.PeerLists.{who_is}
+use Rattle.std.proofs.lemmas.Bool.{and_parts, and_from, not-true, not_from_false, false_from_ne_true, cases_lt}
+use Rattle.std.proofs.lemmas.Option.{slice_get_read}
 
 -- ---- the order
 
@@ -32,35 +35,32 @@ pub before_self : (s : SessionId) → comes_before s s ≡ false
 before_self (Client n) = grind (arith, nat_tests)
 before_self (Handler k) = grind (arith, nat_tests)
 
+-- of two that are not one, who does not come before the other comes after it
+pub neither : (s t : SessionId) → comes_before s t ≡ false → same_session s t ≡ false → comes_before t s ≡ true
+neither (Client m) (Client n) e f = grind (arith, nat_tests)
+neither (Client m) (Handler k) e f = absurd (cc)
+neither (Handler j) (Client n) e f = refl
+neither (Handler j) (Handler k) e f = grind (arith, nat_tests)
+
 -- who does not come before one does not come before those that it comes after
 pub not_before : (s t u : SessionId) → comes_before t u ≡ true → not (comes_before s u) ≡ true → not (comes_before s t) ≡ true
-not_before s t u e f = by_test (comes_before s t) refl
-  where
-    by_test : (b : Bool) → comes_before s t ≡ b → not b ≡ true
-    by_test false g = refl
-    by_test true g = absurd (let h = before_trans s t u g e in let k : not (comes_before s u) ≡ false = ap not h in cc)
+not_before s t u e f = not_from_false _ (false_from_ne_true _ (λ g. let h = before_trans s t u g e in let k = not-true _ f in cc))
 
 other_way : (s t : SessionId) → comes_before s t ≡ true → not (comes_before t s) ≡ true
-other_way s t e = not_before t s t e (ap not (before_self t))
+other_way s t e = not_before t s t e (not_from_false _ (before_self t))
 
 -- ---- a test of all
 
 all_weaker : (p q : Peer → Bool) → ((x : Peer) → p x ≡ true → q x ≡ true) → (xs : List Peer) → list_all p xs ≡ true → list_all q xs ≡ true
-all_weaker p q h [] e = refl
-all_weaker p q h (x ∷ xs) e = (let parts = both (p x) (list_all p xs) e in both_of (q x) (list_all q xs) (h x parts.0) (all_weaker p q h xs parts.1))
+all_weaker p q h xs e = list_all-from_AllPass q xs (λ k d within. h _ (AllPass-from_list_all p xs e k d within))
 
 all_added : (p : Peer → Bool) (before after : List Peer) (y : Peer) → list_all p (before ++ after) ≡ true → p y ≡ true → list_all p (before ++ y ∷ after) ≡ true
-all_added p [] after y e f = both_of (p y) (list_all p after) f e
-all_added p (b ∷ bs) after y e f = (let parts = both (p b) (list_all p (bs ++ after)) e in
-    both_of (p b) (list_all p (bs ++ y ∷ after)) parts.0 (all_added p bs after y parts.1 f))
+all_added p [] after y e f = and_from (p y) (list_all p after) f e
+all_added p (b ∷ bs) after y e f = (let parts = and_parts (p b) (list_all p (bs ++ after)) e in
+    and_from (p b) (list_all p (bs ++ y ∷ after)) parts.0 (all_added p bs after y parts.1 f))
 
 all_without : (p : Peer → Bool) (s : SessionId) (xs : List Peer) → list_all p xs ≡ true → list_all p (without s xs) ≡ true
-all_without p s [] e = refl
-all_without p s (x ∷ xs) e = (let parts = both (p x) (list_all p xs) e in by_test parts.0 (all_without p s xs parts.1) (not (same_session x.who s)))
-  where
-    by_test : p x ≡ true → list_all p (without s xs) ≡ true → (b : Bool) → list_all p (cond b (x ∷ without s xs) (without s xs)) ≡ true
-    by_test own rest true = both_of (p x) (list_all p (without s xs)) own rest
-    by_test own rest false = rest
+all_without p s xs e = list_all-from_AllPass p _ (All-filter (λ x. not (same_session x.who s)) (λ x. p x ≡ true) xs (AllPass-from_list_all p xs e))
 
 -- a test of who sits there
 abbrev asks : (SessionId → Bool) → Peer → Bool
@@ -69,7 +69,7 @@ asks p x = p x.who
 all_set : (p : SessionId → Bool) (xs : List Peer) (i : ℕ) (x y : Peer) → slice_get xs i ≡ Some x → y.who ≡ x.who
     → list_all (asks p) (slice_set xs i y) ≡ list_all (asks p) xs
 all_set p [] i x y at who = refl
-all_set p (z ∷ zs) zero x y at who = ap (λ (s : SessionId). p s && list_all (asks p) zs) (who ∙ ap (λ (v : Peer). v.who) (sym (some_peer at)))
+all_set p (z ∷ zs) zero x y at who = ap (λ (s : SessionId). p s && list_all (asks p) zs) (who ∙ sym (who_is at))
 all_set p (z ∷ zs) (suc i) x y at who = ap (λ (b : Bool). p z.who && b) (all_set p zs i x y at who)
 
 -- ---- one peer more
@@ -78,8 +78,8 @@ all_set p (z ∷ zs) (suc i) x y at who = ap (λ (b : Bool). p z.who && b) (all_
 behind : (who : SessionId) (z : Peer) (zs : List Peer) → comes_before who z.who ≡ true → are_in_order (z ∷ zs) ≡ true
     → list_all (λ x. not (comes_before x.who who)) (z ∷ zs) ≡ true
 behind who z zs e order =
-    let parts = both (list_all (λ x. not (comes_before x.who z.who)) zs) (are_in_order zs) order in
-    both_of (not (comes_before z.who who)) (list_all (λ x. not (comes_before x.who who)) zs) (other_way who z.who e)
+    let parts = and_parts (list_all (λ x. not (comes_before x.who z.who)) zs) (are_in_order zs) order in
+    and_from (not (comes_before z.who who)) (list_all (λ x. not (comes_before x.who who)) zs) (other_way who z.who e)
     (all_weaker (λ x. not (comes_before x.who z.who)) (λ x. not (comes_before x.who who)) (λ x. not_before x.who who z.who e) zs parts.0)
 
 all_inserted : (p : Peer → Bool) (xs : List Peer) (i : ℕ) (y : Peer) → list_all p xs ≡ true → p y ≡ true → list_all p (insert xs i y) ≡ true
@@ -94,13 +94,13 @@ order_inserted (z ∷ zs) y order = by_test (order_inserted zs y) (comes_before 
     by_test : (are_in_order zs ≡ true → are_in_order (insert zs (position_or_len (λ x. comes_before y.who x.who) zs) y) ≡ true) → (b : Bool)
         → comes_before y.who z.who ≡ b
         → are_in_order (insert (z ∷ zs) (cond (not b) (1 + position_or_len (λ x. comes_before y.who x.who) zs) 0) y) ≡ true
-    by_test rest true e = both_of (list_all (λ x. not (comes_before x.who y.who)) (z ∷ zs)) (are_in_order (z ∷ zs)) (behind y.who z zs e order) order
+    by_test rest true e = and_from (list_all (λ x. not (comes_before x.who y.who)) (z ∷ zs)) (are_in_order (z ∷ zs)) (behind y.who z zs e order) order
     by_test rest false e =
-        let parts = both (list_all (λ x. not (comes_before x.who z.who)) zs) (are_in_order zs) order in
+        let parts = and_parts (list_all (λ x. not (comes_before x.who z.who)) zs) (are_in_order zs) order in
         let i = position_or_len (λ x. comes_before y.who x.who) zs in
         let one : suc i ≡ 1 + i = omega arith in
         subst (λ (n : ℕ). are_in_order (insert (z ∷ zs) n y) ≡ true) one
-        (both_of (list_all (λ x. not (comes_before x.who z.who)) (insert zs i y)) (are_in_order (insert zs i y))
+        (and_from (list_all (λ x. not (comes_before x.who z.who)) (insert zs i y)) (are_in_order (insert zs i y))
         (all_inserted (λ x. not (comes_before x.who z.who)) zs i y parts.0 (ap not e)) (rest parts.1))
 
 -- the place of the first that passes is at most the length
@@ -113,29 +113,29 @@ position_within p xs = prefix_len-le-length (λ x. not (p x)) xs
 pub order_without : (s : SessionId) (xs : List Peer) → are_in_order xs ≡ true → are_in_order (without s xs) ≡ true
 order_without s [] order = refl
 order_without s (x ∷ xs) order =
-    let parts = both (list_all (λ y. not (comes_before y.who x.who)) xs) (are_in_order xs) order in
+    let parts = and_parts (list_all (λ y. not (comes_before y.who x.who)) xs) (are_in_order xs) order in
     by_test (all_without (λ y. not (comes_before y.who x.who)) s xs parts.0) (order_without s xs parts.1) (not (same_session x.who s))
   where
     by_test : list_all (λ y. not (comes_before y.who x.who)) (without s xs) ≡ true → are_in_order (without s xs) ≡ true → (b : Bool)
         → are_in_order (cond b (x ∷ without s xs) (without s xs)) ≡ true
-    by_test own rest true = both_of (list_all (λ y. not (comes_before y.who x.who)) (without s xs)) (are_in_order (without s xs)) own rest
+    by_test own rest true = and_from (list_all (λ y. not (comes_before y.who x.who)) (without s xs)) (are_in_order (without s xs)) own rest
     by_test own rest false = rest
 
 all_removed : (p : Peer → Bool) (xs : List Peer) (i : ℕ) → list_all p xs ≡ true → list_all p (remove xs i) ≡ true
 all_removed p [] zero all = refl
 all_removed p [] (suc i) all = refl
-all_removed p (x ∷ xs) zero all = (both (p x) (list_all p xs) all).1
-all_removed p (x ∷ xs) (suc i) all = (let parts = both (p x) (list_all p xs) all in
-    both_of (p x) (list_all p (remove xs i)) parts.0 (all_removed p xs i parts.1))
+all_removed p (x ∷ xs) zero all = (and_parts (p x) (list_all p xs) all).1
+all_removed p (x ∷ xs) (suc i) all = (let parts = and_parts (p x) (list_all p xs) all in
+    and_from (p x) (list_all p (remove xs i)) parts.0 (all_removed p xs i parts.1))
 
 -- peers stay in order where one place is removed
 pub order_removed : (xs : List Peer) (i : ℕ) → are_in_order xs ≡ true → are_in_order (remove xs i) ≡ true
 order_removed [] zero order = refl
 order_removed [] (suc i) order = refl
-order_removed (x ∷ xs) zero order = (both (list_all (λ y. not (comes_before y.who x.who)) xs) (are_in_order xs) order).1
+order_removed (x ∷ xs) zero order = (and_parts (list_all (λ y. not (comes_before y.who x.who)) xs) (are_in_order xs) order).1
 order_removed (x ∷ xs) (suc i) order =
-    let parts = both (list_all (λ y. not (comes_before y.who x.who)) xs) (are_in_order xs) order in
-    both_of (list_all (λ y. not (comes_before y.who x.who)) (remove xs i)) (are_in_order (remove xs i))
+    let parts = and_parts (list_all (λ y. not (comes_before y.who x.who)) xs) (are_in_order xs) order in
+    and_from (list_all (λ y. not (comes_before y.who x.who)) (remove xs i)) (are_in_order (remove xs i))
     (all_removed (λ y. not (comes_before y.who x.who)) xs i parts.0) (order_removed xs i parts.1)
 
 -- ---- another peer of the same one
@@ -143,39 +143,15 @@ order_removed (x ∷ xs) (suc i) order =
 order_set : (xs : List Peer) (i : ℕ) (x y : Peer) → slice_get xs i ≡ Some x → y.who ≡ x.who → are_in_order (slice_set xs i y) ≡ are_in_order xs
 order_set [] i x y at who = refl
 order_set (z ∷ zs) zero x y at who =
-    ap (λ (s : SessionId). list_all (λ v. not (comes_before v.who s)) zs && are_in_order zs) (who ∙ ap (λ (v : Peer). v.who) (sym (some_peer at)))
+    ap (λ (s : SessionId). list_all (λ v. not (comes_before v.who s)) zs && are_in_order zs) (who ∙ sym (who_is at))
 order_set (z ∷ zs) (suc i) x y at who =
     ap (λ (b : Bool). b && are_in_order (slice_set zs i y)) (all_set (λ s. not (comes_before s z.who)) zs i x y at who)
     ∙ ap (λ (b : Bool). list_all (λ v. not (comes_before v.who z.who)) zs && b) (order_set zs i x y at who)
 
-get_read : (xs : List Peer) (i : ℕ) (d : Peer) → unwrap_or (slice_get xs i) d ≡ get_or xs i d
-get_read [] i d = refl
-get_read (z ∷ zs) zero d = refl
-get_read (z ∷ zs) (suc i) d = get_read zs i d
-
-set_past : (xs : List Peer) (i : ℕ) (y : Peer) → slice_get xs i ≡ None → slice_set xs i y ≡ xs
-set_past [] i y none = refl
-set_past (z ∷ zs) zero y none = absurd (cc)
-set_past (z ∷ zs) (suc i) y none = ap (λ (vs : List Peer). z ∷ vs) (set_past zs i y none)
-
 -- it is the one that was read at its place, with something else
 pub order_replaced : (xs : List Peer) (i : ℕ) (x : Peer) (p : Channel) → x ≡ get_or xs i x → are_in_order xs ≡ true
     → are_in_order (slice_set xs i (peer x.who p x.subject)) ≡ true
-order_replaced xs i x p read order = by_channel (slice_get xs i) refl
-  where
-    by_channel : (o : Option Peer) → slice_get xs i ≡ o → are_in_order (slice_set xs i (peer x.who p x.subject)) ≡ true
-    by_channel (Some y) at =
-        order_set xs i y (peer x.who p x.subject) at (ap (λ (v : Peer). v.who) (read ∙ (sym (get_read xs i x) ∙ ap (λ (o : Option Peer). unwrap_or o x) at)))
-        ∙ order
-    by_channel None at = ap are_in_order (set_past xs i (peer x.who p x.subject) at) ∙ order
-
--- ---- who is first
-
--- of those that none comes before, there is nothing to say
-none_before : (P : Peer → Type 0) (s : SessionId) (xs : List Peer) → list_all (λ x. not (comes_before x.who s)) xs ≡ true
-    → All (λ x. comes_before x.who s ≡ true → P x) xs
-none_before P s [] e = All-nil (λ x. comes_before x.who s ≡ true → P x)
-none_before P s (x ∷ xs) e =
-    let parts = both (not (comes_before x.who s)) (list_all (λ x. not (comes_before x.who s)) xs) e in
-    All-cons (λ x. comes_before x.who s ≡ true → P x) x xs (λ before. absurd (let h : not (comes_before x.who s) ≡ false = ap not before in let k = parts.0 in
-    cc)) (none_before P s xs parts.1)
+order_replaced xs i x p read order = elim (cases_lt i (length xs)) [
+  | inl within ↦ order_set xs i x _ (slice_get_read xs _ i x refl within read) refl ∙ order
+  | inr past ↦ ap are_in_order (set_past xs i _ past) ∙ order
+]

@@ -1,9 +1,10 @@
 -- After what one session has done, nobody may move but those of whom the queue knows.
-use Rattle.std.proofs.Common.{◌≡◌, ◌⊎◌, ℕ, Bool, true, false, cond, not, List, [], ◌∷◌, ◌++◌, refl, sym, ap, ◌∙◌, subst, inl, inr}
+use Rattle.std.proofs.Common.{◌≡◌, ◌⊎◌, ℕ, Bool, true, false, cond, not, List, [], ◌∷◌, ◌++◌, get_or, refl, sym, ap, ◌∙◌, subst, inl, inr}
 use Rattle.std.specs.Prelude.{Option, Some, None, MatchOption, is_some, option_map, option_and_then, nat_eq, slice_get, slice_set}
 use Rattle.std.specs.List.{All, Contains}
 use Rattle.std.specs.Global.{Vec}
 use Rattle.std.specs.declared.cmp.Reverse.{Reverse}
+use Rattle.std.specs.FinMap as map
 use Rattle.std.specs.FinMap.{get-empty}
 use Rattle.std.specs.Ordering.{nat_cmp}
 use Rattle.rk_auth.specs.declared.session.Session.{Session}
@@ -11,7 +12,7 @@ use Rattle.rk_auth.specs.declared.construction.Construction.{Construction}
 use Rattle.rk_machine.specs.Steps.{Beginning}
 use Rattle.rk_machine.proofs.Effects.StagesAfter.{Shape, shape}
 use Rattle.rk_table.specs.Stored.{Stored}
-use Rattle.std.proofs.lemmas.List.Elements.{All-nil, All-cons, All-head, All-tail, All-weaker, All-set, All-filter}
+use Rattle.std.proofs.lemmas.List.Elements.{All-nil, All-cons, All-head, All-tail, All-set, All-filter}
 use Rattle.rk_names.specs.declared.numbers.SessionId.{SessionId}
 use Rattle.rk_names.specs.declared.numbers.SessionId.TheVariants.{Client, Handler}
 use Rattle.rk_names.specs.declared.errors.Errno.TheVariants as errno
@@ -42,7 +43,8 @@ use Rattle.rk_machine.proofs.Effects.WaitsAfter.{same-true, same-self, flag, fla
 use Rattle.rk_machine.proofs.Effects.WaitsAreTheWorlds.{after, tied}
 use Rattle.rk_machine.proofs.Effects.AuthoritiesAfter.{unspent_ended}
 use Rattle.rk_machine.proofs.Effects.ClientsByStep.{ready_waits}
-use Rattle.rk_machine.proofs.Effects.UndrawnIsIdle.{IsIdle, idle_fresh, idle_step, start_draws}
+use Rattle.rk_machine.proofs.Effects.UndrawnIsIdle.{IsIdle, idle_fresh, idle_step}
+use Rattle.rk_machine.proofs.Effects.StagesByStep.{kind_in, kind_of}
 use Rattle.rk_machine.proofs.Effects.WhoIsWoken.{others, still_awaited, woken}
 use Rattle.rk_machine.proofs.OneConstruction.EachOnce.{goods_after}
 use Rattle.rk_served.specs.declared.happening.Happening.{Happening}
@@ -56,16 +58,17 @@ use Rattle.rk_served.specs.Left.{Left, peer, without, Part, nothing}
 use Rattle.rk_served.specs.Moves.{Answered, puts_reply, starts_one, fails_to_start, Move, collects, refuses, asks, shuts_client, shuts_handler}
 use Rattle.rk_served.specs.Moves.{CannotMove, IsAtRest}
 use Rattle.rk_served.specs.OwnStep.{whose, Adds, OwnStep, EndsBy, is_last, is_followed, is_not_followed}
-use Rattle.rk_served.specs.WhoIsThere.{peer_of, has_peer, are_apart, HasItsPeers}
+use Rattle.rk_served.specs.WhoIsThere.{peer_of, are_apart, HasItsPeers}
 use Rattle.rk_served.specs.Standing.{comes_before}
 use Rattle.rk_served.specs.Movers.{reversed}
 use Rattle.rk_served.specs.Calls.{MovesBy, MovesNext, TriesAt, RestsBy}
-use Rattle.rk_served.specs.Queued.{IsMover, IsWaiter, IsWatched, IsWatchedBut, IsStill, IsKeyOf, Stirs, Wakes, Parks, KeepsMovers, KeepsKnown, waiters_at}
-use Rattle.rk_served.proofs.PeerLists.{both, not_false, some_peer}
-use Rattle.rk_served.proofs.PeersFit.{fits}
+use Rattle.rk_served.specs.Queued.{IsMover, IsWaiter, Watches, IsWatched, IsWatchedBut, IsStill, IsKeyOf, Stirs, own_key, Wakes, Parks, KeepsMovers}
+use Rattle.rk_served.specs.Queued.{waiters_at}
+use Rattle.rk_served.proofs.PeerLists.{turned, who_is, at_place}
+use Rattle.rk_served.proofs.PeersFit.{fits, failed_fresh, failed_kinds}
 use Rattle.rk_served.proofs.Standings.{before_self}
 use Rattle.rk_served.specs.declared.output.Output.{Output}
-use Rattle.std.proofs.lemmas.Option.{MatchOption-at_some}
+use Rattle.std.proofs.lemmas.Option.{MatchOption-at_some, slice_get-get_or}
 use Rattle.std.specs.Bool.{MatchBool}
 
 -- ---- what one session's doing leaves of the others
@@ -141,12 +144,14 @@ spent_stays old now k a new h j none =
 
 -- ---- a start that fails at once
 
-no_key : (a : Sessions) (s : SessionId) → flag_of a s ≡ None → option_map (λ (v : Wait). v.key) (wait_of a s) ≡ None
-no_key a s h = found (wait_of a s) h
+-- the handler of a key without a construction does not wait
+no_handler : (w : World) (k : ℕ) → kind_of w.sessions k ≡ None → awaited w (Handler k) ≡ None
+no_handler w k h = found (map.get w.sessions.constructions k) h
   where
-    found : (o : Option Wait) → option_map flag o ≡ None → option_map (λ (v : Wait). v.key) o ≡ None
+    found : (o : Option Construction) → kind_in o ≡ None
+        → option_map (λ (v : Wait). v.key) (option_and_then (λ (one : Session). one.wait) (option_and_then (λ (c : Construction). handler_in c.stage) o)) ≡ None
     found None e = refl
-    found (Some v) e = absurd (cc)
+    found (Some c) e = absurd (cc)
 
 key_in : (a : Sessions) (s : SessionId) (k : ℕ) (b : Bool) → flag_of a s ≡ Some (k, b) → option_map (λ (v : Wait). v.key) (wait_of a s) ≡ Some k
 key_in a s k b h = found (wait_of a s) h
@@ -155,111 +160,77 @@ key_in a s k b h = found (wait_of a s) h
     found None e = absurd (cc)
     found (Some v) e = ap (option_map (λ (f : ℕ × Bool). f.0)) e
 
+-- who waits awaits a key
+waits_for : (o : Option Wait) → is_some o ≡ is_some (option_map (λ (v : Wait). v.key) o)
+waits_for None = refl
+waits_for (Some v) = refl
+
 not_ready : (w : World) (s : SessionId) → awaited w s ≡ None → is_ready w s ≡ true → ⊥
-not_ready w s none r = found (wait_of w.sessions s) (ready_waits w s r) none
-  where
-    found : (o : Option Wait) → is_some o ≡ true → option_map (λ (v : Wait). v.key) o ≡ None → ⊥
-    found None e h = cc
-    found (Some v) e h = cc
+not_ready w s none r = let e = sym (ready_waits w s r) ∙ waits_for (wait_of w.sessions s) ∙ ap is_some none in cc
+
+-- equal handlers are of one key
+same_handler : {i j : ℕ} → ◌≡◌ {A = SessionId} (Handler i) (Handler j) → i ≡ j
+same_handler e = cc
 
 module _ (who : SessionId) (old : World) (now : ℕ) (ask : Ask) (k : ℕ) (subject : Subject) (mid : World) (a : Answer) (new : World)
     (first : Step old now (Asked who ask) (Start k subject) mid) (second : Step mid now (Launched k ran.Failed) a new) (idle : IsIdle old)
     (good : Goods old.sessions) where
-  mid_idle : IsIdle mid
-  mid_idle = idle_step old now (Asked who ask) (Start k subject) mid first idle
-
   begun : Frees who (λ j. who ≡ Handler j) old mid
   begun = frees_step who old now (Asked who ask) (Start k subject) mid first refl idle good
 
   over : Frees (Handler k) (λ j. Handler k ≡ Handler j) mid new
-  over = frees_step (Handler k) mid now (Launched k ran.Failed) a new second refl mid_idle begun.own
+  over = frees_step (Handler k) mid now (Launched k ran.Failed) a new second refl (idle_step old now (Asked who ask) (Start k subject) mid first idle) begun.own
 
-  -- the handler of the new key does not wait
-  none_before : flag_of old.sessions (Handler k) ≡ None
-  none_before =
-      ap (λ o. option_map flag (option_and_then (λ (one : Session). one.wait)
-      (option_and_then (λ (c : Construction).
-      handler_in c.stage) o)))
-      (idle_fresh old idle k (start_draws old now (Asked who ask) (Start k subject) mid (effect old now (Asked who ask) (Start k subject) mid first) k subject refl).0)
+  -- the handler of the new key waits neither before nor after
+  none_old : awaited old (Handler k) ≡ None
+  none_old = no_handler old k (failed_fresh old mid new now k who ask subject a first second idle)
 
-  flag_mid : (s : SessionId) → flag_of mid.sessions s ≡ after now s (Asked who ask) (Start k subject) (flag_of old.sessions s)
-  flag_mid s = tied old now (Asked who ask) (Start k subject) mid (effect old now (Asked who ask) (Start k subject) mid first) (idle_fresh old idle) s
+  none_new : awaited new (Handler k) ≡ None
+  none_new = no_handler new k (failed_kinds old mid new now k who ask subject a first second idle k
+      ∙ failed_fresh old mid new now k who ask subject a first second idle)
 
-  none_mid : same_session who (Handler k) ≡ false → awaited mid (Handler k) ≡ None
-  none_mid apart =
-      sym (sym (still_awaited old (Asked who ask) mid (Handler k) (others old now (Asked who ask) (Start k subject) mid first (idle_fresh old idle) good
-      (Handler k) apart) ∙ no_key old.sessions (Handler k) none_before))
-
-  none_new : same_session who (Handler k) ≡ false → awaited new (Handler k) ≡ None
-  none_new apart = no_key new.sessions (Handler k) (tied mid now (Launched k ran.Failed) a new (effect mid now (Launched k ran.Failed) a new second)
-      (idle_fresh mid mid_idle) (Handler k) ∙ none_after (flag_of mid.sessions (Handler k)) (none_flag (none_mid apart)))
-    where
-      none_flag : awaited mid (Handler k) ≡ None → flag_of mid.sessions (Handler k) ≡ None
-      none_flag h = found (wait_of mid.sessions (Handler k)) h
-        where
-          found : (o : Option Wait) → option_map (λ (v : Wait). v.key) o ≡ None → option_map flag o ≡ None
-          found None e = refl
-          found (Some v) e = absurd (cc)
-
-      chosen : (b : Bool) (o : Option (ℕ × Bool)) → o ≡ None → cond b None o ≡ None
-      chosen true o e = refl
-      chosen false o e = e
-
-      none_after : (o : Option (ℕ × Bool)) → o ≡ None → after now (Handler k) (Launched k ran.Failed) a o ≡ None
-      none_after o e = chosen _ o e
-
-  -- it has begun to wait, or it is the handler of that key itself
+  -- the asker has begun to wait, or it is the handler of that key itself
   its_key : (b : Bool) → same_session who (Handler k) ≡ b → IsKeyOf new who k
   its_key true same = inl (same-true who (Handler k) same)
   its_key false apart =
-      inr (over.waits who (turned (Handler k) who apart) ∙ key_in mid.sessions who k true (flag_mid who ∙ begins (same-self who)))
+      inr (over.waits who (turned who (Handler k) apart) ∙ key_in mid.sessions who k true
+      (tied old now (Asked who ask) (Start k subject) mid (effect old now (Asked who ask) (Start k subject) mid first) (idle_fresh old idle) who
+      ∙ begins (same-self who)))
     where
-      turned : (s t : SessionId) → same_session t s ≡ false → same_session s t ≡ false
-      turned s t h = by_test (same_session s t) refl
-        where
-          by_test : (b : Bool) → same_session s t ≡ b → same_session s t ≡ false
-          by_test false e = e
-          by_test true e = absurd (let g : same_session t s ≡ true = ap (λ v. same_session v s) (sym (same-true s t e)) ∙ same-self s in cc)
-
       begins : same_session who who ≡ true → after now who (Asked who ask) (Start k subject) (flag_of old.sessions who) ≡ Some (k, true)
       begins same =
           ap (λ b. Rattle.std.specs.Option.option_map_or (λ (w : ℕ × Bool). Some w) (cond b (Some (k, true)) None) (cond
           (Rattle.rk_machine.specs.Laws.is_wait_ended who (Rattle.rk_machine.proofs.Effects.WaitsAreTheWorlds.step now (Asked who ask) (Start k subject)))
           None (flag_of old.sessions who))) same
 
-  -- nobody else is freed but by its keys
-  over_for : Frees who (λ j. IsKeyOf new who j) mid new
-  over_for = record {
+  -- nobody else is freed but by the asker's keys
+  fails_at_once : Frees who (IsKeyOf new who) old new
+  fails_at_once = record {
     waits = λ s apart. by_waits s apart (same_session (Handler k) s) refl;
     ready = λ s apart r. by_ready s apart r (same_session (Handler k) s) refl;
     own = over.own;
   }
     where
-      moved : (s : SessionId) → same_session who s ≡ false → same_session (Handler k) s ≡ true → same_session who (Handler k) ≡ false
-      moved s apart same = ap (same_session who) (same-true (Handler k) s same) ∙ apart
-
-      by_waits : (s : SessionId) → same_session who s ≡ false → (b : Bool) → same_session (Handler k) s ≡ b → awaited new s ≡ awaited mid s
-      by_waits s apart true same =
-          subst (λ (t : SessionId). awaited new t ≡ awaited mid t) (same-true (Handler k) s same)
-          (none_new (moved s apart same) ∙ sym (none_mid (moved s apart same)))
-      by_waits s apart false other = over.waits s other
+      by_waits : (s : SessionId) → same_session who s ≡ false → (b : Bool) → same_session (Handler k) s ≡ b → awaited new s ≡ awaited old s
+      by_waits s apart true same = subst (λ (t : SessionId). awaited new t ≡ awaited old t) (same-true (Handler k) s same) (none_new ∙ sym none_old)
+      by_waits s apart false other = over.waits s other ∙ begun.waits s apart
 
       by_ready : (s : SessionId) → same_session who s ≡ false → is_ready new s ≡ true → (b : Bool) → same_session (Handler k) s ≡ b
-          → (is_ready mid s ≡ true) ⊎ ((j : ℕ) × (awaited mid s ≡ Some j) × IsKeyOf new who j × (unspent new.sessions j ≡ None))
-      by_ready s apart r true same =
-          absurd (not_ready new s (ap (awaited new) (sym (same-true (Handler k) s same)) ∙ none_new (moved s apart same)) r)
+          → (is_ready old s ≡ true) ⊎ ((j : ℕ) × (awaited old s ≡ Some j) × IsKeyOf new who j × (unspent new.sessions j ≡ None))
+      by_ready s apart r true same = absurd (not_ready new s (ap (awaited new) (sym (same-true (Handler k) s same)) ∙ none_new) r)
       by_ready s apart r false other = elim (over.ready s other r) [
-        | inl h ↦ inl h
-        | inr x ↦ inr (x.0, x.1, subst (IsKeyOf new who) (key_is x.2) (its_key (same_session who (Handler k)) refl), x.3)
+        | inl h ↦ elim (begun.ready s apart h) [
+          | inl e ↦ inl e
+          | inr x ↦ inr (x.0, x.1, inl x.2, spent_stays mid now k a new second x.0 x.3)
+        ]
+        | inr x ↦ inr (
+          x.0,
+          sym (begun.waits s apart)
+              ∙ x.1,
+          subst (IsKeyOf new who) (same_handler x.2) (its_key (same_session who (Handler k)) refl),
+          x.3,
+        )
       ]
-        where
-          key_is : {i j : ℕ} → ◌≡◌ {A = SessionId} (Handler i) (Handler j) → i ≡ j
-          key_is e = cc
-
-  pub fails_at_once : Frees who (IsKeyOf new who) old new
-  fails_at_once =
-      frees_weaker who _ (IsKeyOf new who) old new (λ j h. elim h [ inl e ↦ inl e | inr e ↦ e ])
-      (frees_then who (λ j. who ≡ Handler j) (IsKeyOf new who) old mid new (spent_stays mid now k a new second) begun over_for)
 
 -- ---- the peers
 
@@ -274,8 +245,11 @@ pub record Moved (who : SessionId) (old new : Left) : Type 1 where
   pub peers : (P : Peer → Type 0) → ((x : Peer) → x.who ≡ who → P x) → ((k : ℕ) (piped : Bool) (m : Option Subject) → P (peer (Handler k) (Starts piped) m))
       → All P old.peers → All P new.peers
 
-own_keys : (who : SessionId) (old new : World) → Frees who (λ k. who ≡ Handler k) old new → Frees who (IsKeyOf new who) old new
-own_keys who old new f = frees_weaker who _ (IsKeyOf new who) old new (λ k h. inl h) f
+-- one step about this one, which frees others by its keys
+frees_by : (old new : World) (now : ℕ) (e : Event) (a : Answer) → Step old now e a new → IsIdle old → Goods old.sessions
+    → Frees (about e) (IsKeyOf new (about e)) old new
+frees_by old new now e a step idle good =
+    frees_weaker (about e) _ (IsKeyOf new (about e)) old new (λ k h. inl h) (frees_step (about e) old now e a new step refl idle good)
 
 module _ (who : SessionId) (old new : Left) (frees : Frees who (IsKeyOf new.world who) old.world new.world) where
   same_peers : new.peers ≡ old.peers → Moved who old new
@@ -322,64 +296,45 @@ moved_then who old mid new i x is world set m = record {
 moved_by_ask : (conf : List Line) (now : ℕ) (old : Left) (who : SessionId) (ask : Ask) (part : Part) (new : Left) → Answered conf now old who ask part new
     → IsIdle old.world → Goods old.world.sessions → Moved who old new
 moved_by_ask conf now old who ask part new (puts_reply h) idle good =
-    same_peers who old new (own_keys who old.world new.world (frees_step who old.world now (Asked who ask) h.answer new.world h.step refl idle good)) h.peers
+    same_peers who old new (frees_by old.world new.world now (Asked who ask) h.answer h.step idle good) h.peers
 moved_by_ask conf now old who ask part new (starts_one h) idle good =
-    one_starts who old new (own_keys who old.world new.world
-    (frees_step who old.world now (Asked who ask) (Start h.key h.subject) new.world h.step refl idle good)) h.key h.command.piped (Some h.subject) h.before
-    h.after h.others h.peers
+    one_starts who old new (frees_by old.world new.world now (Asked who ask) (Start h.key h.subject) h.step idle good) h.key h.command.piped
+    (Some h.subject) h.before h.after h.others h.peers
 moved_by_ask conf now old who ask part new (fails_to_start h) idle good =
     same_peers who old new (fails_at_once who old.world now ask h.key h.subject h.mid h.answer new.world h.first h.second idle good) h.peers
 
-moved_by : (conf : List Line) (now : ℕ) (old : Left) (index : ℕ) (part : Part) (new : Left) → Move conf now old index part new → IsIdle old.world
-    → Goods old.world.sessions → (who : SessionId) × Moved who old new × ((x : Peer) → slice_get old.peers index ≡ Some x → x.who ≡ who)
-moved_by conf now old index part new (collects m) idle good = (
-  m.who,
-  same_peers m.who old new (own_keys m.who old.world new.world (frees_step m.who old.world now (Collect m.who) m.answer new.world m.step refl idle good)) m.peers,
-  λ x at. ap (λ (v : Peer). v.who) (some_peer (sym at ∙ m.at)),
-)
-moved_by conf now old index part new (refuses m) idle good = (
-  m.who,
-  one_set m.who old new (frees_none m.who _ old.world new.world m.world good) index (peer m.who (Talks m.rest) m.made_for) refl m.peers,
-  λ x at. ap (λ (v : Peer). v.who) (some_peer (sym at ∙ m.free.at)),
-)
-moved_by conf now old index part new (asks m) idle good =
-    let mid : Left = record { world = old.world; peers = slice_set old.peers index (peer m.who (Talks m.rest) m.made_for) } in (
-      m.who,
-      moved_then m.who old mid new index (peer m.who (Talks m.rest) m.made_for) refl refl refl
-          (moved_by_ask conf now mid m.who m.ask part new m.answered idle good),
-      λ x at. ap (λ (v : Peer). v.who) (some_peer (sym at ∙ m.free.at)),
-    )
-moved_by conf now old index part new (shuts_client m) idle good = (
-  Client m.client,
-  one_gone (Client m.client) old new (own_keys (Client m.client) old.world new.world
-      (frees_step (Client m.client) old.world now (Gone (Client m.client)) m.answer new.world m.step refl idle good)) (Client m.client) m.peers,
-  λ x at. ap (λ (v : Peer). v.who) (some_peer (sym at ∙ m.free.at)),
-)
-moved_by conf now old index part new (shuts_handler m) idle good = (
-  Handler m.key,
-  one_set (Handler m.key) old new (frees_none (Handler m.key) _ old.world new.world m.world good) index _ refl m.peers,
-  λ x at. ap (λ (v : Peer). v.who) (some_peer (sym at ∙ m.free.at)),
-)
+-- whoever sits at a place has moved, if one who sits there has
+mover : {x y : Peer} {who : SessionId} (old new : Left) (i : ℕ) → slice_get old.peers i ≡ Some y → slice_get old.peers i ≡ Some x → x.who ≡ who
+    → Moved y.who old new → Moved who old new
+mover old new i at at' is m = subst (λ (s : SessionId). Moved s old new) (who_is (sym at ∙ at') ∙ is) m
 
 pub move_moved : (conf : List Line) (now : ℕ) (old : Left) (index : ℕ) (part : Part) (new : Left) → Move conf now old index part new → IsIdle old.world
     → Goods old.world.sessions → (x : Peer) → slice_get old.peers index ≡ Some x → (who : SessionId) → x.who ≡ who → Moved who old new
-move_moved conf now old index part new m idle good x at who is =
-    let by = moved_by conf now old index part new m idle good in
-    subst (λ (s : SessionId). Moved s old new) (sym (by.2 x at) ∙ is) by.1
+move_moved conf now old index part new (collects m) idle good x at who is =
+    mover old new index m.at at is
+    (same_peers m.who old new (frees_by old.world new.world now (Collect m.who) m.answer m.step idle good) m.peers)
+move_moved conf now old index part new (refuses m) idle good x at who is =
+    mover old new index m.free.at at is
+    (one_set m.who old new (frees_none m.who _ old.world new.world m.world good) index (peer m.who (Talks m.rest) m.made_for) refl m.peers)
+move_moved conf now old index part new (asks m) idle good x at who is =
+    mover old new index m.free.at at is
+    (moved_then m.who old _ new index (peer m.who (Talks m.rest) m.made_for) refl refl refl (moved_by_ask conf now _ m.who m.ask part new m.answered idle good))
+move_moved conf now old index part new (shuts_client m) idle good x at who is =
+    mover old new index m.free.at at is
+    (one_gone (Client m.client) old new (frees_by old.world new.world now (Gone (Client m.client)) m.answer m.step idle good) (Client m.client) m.peers)
+move_moved conf now old index part new (shuts_handler m) idle good x at who is =
+    mover old new index m.free.at at is
+    (one_set (Handler m.key) old new (frees_none (Handler m.key) _ old.world new.world m.world good) index _ refl m.peers)
 
 -- ---- own steps
-
-module _ (old new : Left) (idle : IsIdle old.world) (good : Goods old.world.sessions) where
-  frees_by : (now : ℕ) (e : Event) (a : Answer) → Step old.world now e a new.world → Frees (about e) (IsKeyOf new.world (about e)) old.world new.world
-  frees_by now e a step = own_keys (about e) old.world new.world (frees_step (about e) old.world now e a new.world step refl idle good)
 
 moved_by_end : (conf : List Line) (now k : ℕ) (how : How) (payload : Option (List ℕ)) (made_for : Option Subject) (old : Left) (part : Part) (new : Left)
     → EndsBy conf now k (Ended k how payload) made_for old part new → IsIdle old.world → Goods old.world.sessions → Moved (Handler k) old new
 moved_by_end conf now k how payload made_for old part new (is_last h peers) idle good =
-    one_gone (Handler k) old new (frees_by old new idle good now (Ended k how payload) done h.step) (Handler k) peers
+    one_gone (Handler k) old new (frees_by old.world new.world now (Ended k how payload) done h.step idle good) (Handler k) peers
 moved_by_end conf now k how payload made_for old part new (is_followed h) idle good =
     let mid : Left = record { world = old.world; peers = without (Handler k) old.peers } in
-    let moved : Moved (Handler k) mid new = one_starts (Handler k) mid new (frees_by old new idle good now (Ended k how payload) (Negate k) h.step) k
+    let moved : Moved (Handler k) mid new = one_starts (Handler k) mid new (frees_by old.world new.world now (Ended k how payload) (Negate k) h.step idle good) k
     h.command.piped _ h.adds.before h.adds.after h.adds.others h.adds.peers in
     record {
       frees = moved.frees;
@@ -397,22 +352,22 @@ moved_by_end conf now k how payload made_for old part new (is_not_followed h) id
 pub own_moved : (conf : List Line) (now : ℕ) (h : Happening) (old : Left) (part : Part) (new : Left) → OwnStep conf now h old part new → IsIdle old.world
     → Goods old.world.sessions → Moved (whose h) old new
 own_moved conf now (happening.Accept n) old part new (inl b) idle good =
-    one_come (Client n) old new (frees_by old new idle good now (Opened (Client n)) done b.0.step) _ refl b.1
+    one_come (Client n) old new (frees_by old.world new.world now (Opened (Client n)) done b.0.step idle good) _ refl b.1
 own_moved conf now (happening.Accept n) old part new (inr b) idle good =
-    same_peers (Client n) old new (frees_by old new idle good now (Opened (Client n)) _ b.1.step) b.2
+    same_peers (Client n) old new (frees_by old.world new.world now (Opened (Client n)) _ b.1.step idle good) b.2
 own_moved conf now (happening.Bytes n bytes) old part new b idle good =
     one_set (Client n) old new (frees_none (Client n) _ old.world new.world b.world good) b.replaces.index _ refl b.replaces.peers
 own_moved conf now (happening.Gone n) old part new b idle good =
-    one_gone (Client n) old new (frees_by old new idle good now (Gone (Client n)) done b.0.step) (Client n) b.1
+    one_gone (Client n) old new (frees_by old.world new.world now (Gone (Client n)) done b.0.step idle good) (Client n) b.1
 own_moved conf now (happening.StartResult k Started) old part new b idle good = by_kind b.piped b.steps.step b.replaces.peers
   where
     by_kind : (p : Bool) → Step old.world now (Launched k (cond p ran.Piped ran.Plain)) done new.world
         → new.peers ≡ slice_set old.peers b.replaces.index (peer (Handler k) (cond p (Pipes []) (Talks Rattle.rk_served.specs.Streams.no_bytes)) (Some b.subject))
         → Moved (Handler k) old new
-    by_kind true step peers = one_set (Handler k) old new (frees_by old new idle good now (Launched k ran.Piped) done step) b.replaces.index _ refl peers
-    by_kind false step peers = one_set (Handler k) old new (frees_by old new idle good now (Launched k ran.Plain) done step) b.replaces.index _ refl peers
+    by_kind true step peers = one_set (Handler k) old new (frees_by old.world new.world now (Launched k ran.Piped) done step idle good) b.replaces.index _ refl peers
+    by_kind false step peers = one_set (Handler k) old new (frees_by old.world new.world now (Launched k ran.Plain) done step idle good) b.replaces.index _ refl peers
 own_moved conf now (happening.StartResult k Failed) old part new b idle good =
-    one_gone (Handler k) old new (frees_by old new idle good now (Launched k ran.Failed) done b.0.step) (Handler k) b.1
+    one_gone (Handler k) old new (frees_by old.world new.world now (Launched k ran.Failed) done b.0.step idle good) (Handler k) b.1
 own_moved conf now (happening.HandlerBytes k bytes) old part new b idle good =
     one_set (Handler k) old new (frees_none (Handler k) _ old.world new.world b.world good) b.replaces.index _ refl b.replaces.peers
 own_moved conf now (happening.HandlerReadFault k) old part new b idle good = moved_by_end conf now k _ _ _ old part new b.ends idle good
@@ -429,28 +384,14 @@ Known M w x = M x.who ⊎ CannotMove w x.who x.channel
 abbrev IsMoverOr : SessionId → Queue → SessionId → Type 0
 IsMoverOr who q s = (s ≡ who) ⊎ IsMover q s
 
--- equal handlers are of one key
-pub same_handler : {i j : ℕ} → ◌≡◌ {A = SessionId} (Handler i) (Handler j) → i ≡ j
-same_handler e = cc
-
--- equal options have equal keys
-pub some_key : {i j : ℕ} → ◌≡◌ {A = Option ℕ} (Some i) (Some j) → i ≡ j
-some_key e = cc
-
 waits_still : (old new : World) (s : SessionId) → awaited new s ≡ awaited old s → has_wait old s ≡ true → has_wait new s ≡ true
-waits_still old new s same h = there (wait_of new.sessions s) (wait_of old.sessions s) same h
-  where
-    there : (o p : Option Wait) → option_map (λ (v : Wait). v.key) o ≡ option_map (λ (v : Wait). v.key) p → is_some p ≡ true → is_some o ≡ true
-    there (Some v) p e f = refl
-    there None (Some v) e f = absurd (cc)
-    there None None e f = f
+waits_still old new s same h = waits_for (wait_of new.sessions s) ∙ ap is_some same ∙ sym (waits_for (wait_of old.sessions s)) ∙ h
 
 -- who was stirred has moved: the queue knows all again
 pub watched_on : (who : SessionId) (old new : Left) (q q' : Queue) → Moved who old new → IsWatchedBut who q old → Stirs new.world who q q' → IsWatched q' new
 watched_on who old new q q' m w stirs = record {
-  movers = m.peers (Known (IsMover q') new.world) (λ x is. inl (subst (IsMover q') (sym is) stirs.itself))
-      (λ k piped made_for. inr tt)
-      (All-weaker (Known (IsMoverOr who q) old.world) (Known (IsMover q') new.world) (λ x known. one_mover x.who x.channel known) old.peers w.movers);
+  movers = m.peers (Known (IsMover q') new.world) (λ x is. inl (subst (IsMover q') (sym is) stirs.itself)) (λ k piped made_for. inr tt)
+      (λ i d within. one_mover _ _ (w.movers i d within));
   waiters = λ k s on. one_waiter k s on (same_session who s) refl;
   own = m.frees.own;
 }
@@ -477,8 +418,7 @@ watched_on who old new q q' m w stirs = record {
     apart_mover : (s : SessionId) (p : Channel) → CannotMove old.world s p → (b : Bool) → same_session who s ≡ b → IsMover q' s ⊎ CannotMove new.world s p
     apart_mover s p h true same = inl (subst (IsMover q') (same-true who s same) stirs.itself)
     apart_mover s (Talks u) h false apart = idle_still s u apart h (is_ready new.world s) refl
-    apart_mover s (Starts piped) h false apart = inr tt
-    apart_mover s (Pipes bytes) h false apart = inr tt
+    apart_mover s _ h false apart = inr tt
 
     one_mover : (s : SessionId) (p : Channel) → ((s ≡ who) ⊎ IsMover q s) ⊎ CannotMove old.world s p → IsMover q' s ⊎ CannotMove new.world s p
     one_mover s p (inl h) = inl (mover s h)
@@ -494,91 +434,44 @@ watched_on who old new q q' m w stirs = record {
 same_waiters : (q q' : Queue) → q'.waiting ≡ q.waiting → (k : ℕ) (s : SessionId) → IsWaiter q k s → IsWaiter q' k s
 same_waiters q q' same k s h = subst (λ (t : Stored (Vec (Reverse SessionId))). Contains (waiters_at t.facts k) (reversed s)) (sym same) h
 
+-- others know as much
+knows_more : (M M' : SessionId → Type 0) (W W' : ℕ → SessionId → Type 0) (left : Left) → ((s : SessionId) → M s → M' s)
+    → ((k : ℕ) (s : SessionId) → W k s → W' k s) → Watches M W left → Watches M' W' left
+knows_more M M' W W' left movers waiters w = record {
+  movers = λ i d within. elim (w.movers i d within) [ inl e ↦ inl (movers _ e) | inr e ↦ inr e ];
+  waiters = λ k s on. elim (w.waiters k s on) [ inl e ↦ inl (movers s e) | inr e ↦ inr (waiters k s e) ];
+  own = w.own;
+}
+
 -- none was there to be taken out
 pub emptied : (q q' : Queue) (left left' : Left) → left' ≡ left → IsWatched q left → ((s : SessionId) → IsMover q s → ⊥) → ((s : SessionId) → IsMover q' s → ⊥)
     → q'.waiting ≡ q.waiting → IsStill q' left'
 emptied q q' left left' is w none still_none waiting =
     subst (IsStill q') (sym is)
     (record {
-      watched = record {
-        movers = All-weaker (Known (IsMover q) left.world) (Known (IsMover q') left.world) (λ x h. elim h [ inl e ↦ absurd (none x.who e) | inr e ↦ inr e ])
-            left.peers w.movers;
-        waiters = λ k s on. elim (w.waiters k s on) [ inl e ↦ absurd (none s e) | inr e ↦ inr (same_waiters q q' waiting k s e) ];
-        own = w.own;
-      };
+      watched = knows_more (IsMover q) (IsMover q') (IsWaiter q) (IsWaiter q') left (λ s e. absurd (none s e)) (same_waiters q q' waiting) w;
       none = still_none;
     })
-
--- one more may be out of it
-pub watched_but : (who : SessionId) (q : Queue) (left : Left) → IsWatched q left → IsWatchedBut who q left
-watched_but who q left w = record {
-  movers = All-weaker (Known (IsMover q) left.world) (Known (IsMoverOr who q) left.world) (λ x h. elim h [ inl e ↦ inl (inr e) | inr e ↦ inr e ]) left.peers
-      w.movers;
-  waiters = λ k s on. elim (w.waiters k s on) [ inl e ↦ inl (inr e) | inr e ↦ inr e ];
-  own = w.own;
-}
 
 -- one was taken out
 pub watched_popped : (who : SessionId) (q q' : Queue) (left : Left) → IsWatched q left → ((s : SessionId) → IsMover q s → (s ≡ who) ⊎ IsMover q' s)
     → q'.waiting ≡ q.waiting → IsWatchedBut who q' left
-watched_popped who q q' left w others same = record {
-  movers = All-weaker (Known (IsMover q) left.world) (Known (IsMoverOr who q') left.world)
-      (λ x h. elim h [ inl e ↦ inl (others x.who e) | inr e ↦ inr e ]) left.peers w.movers;
-  waiters = λ k s on. elim (w.waiters k s on) [ inl e ↦ inl (others s e) | inr e ↦ inr (same_waiters q q' same k s e) ];
-  own = w.own;
-}
+watched_popped who q q' left w others same = knows_more (IsMover q) _ (IsWaiter q) (IsWaiter q') left others (same_waiters q q' same) w
 
 -- ---- one that can't move
 
--- of this one's peer, this holds
-abbrev Its : (Peer → Type 0) → SessionId → Peer → Type 0
-Its P who x = x.who ≡ who → P x
-
-its_other : (P : Peer → Type 0) (who : SessionId) (x : Peer) → same_session x.who who ≡ false → Its P who x
-its_other P who x e is = absurd (let f : same_session x.who who ≡ true = ap (λ v. same_session v who) is ∙ same-self who in cc)
-
--- nobody else has its peer
-nobody : (P : Peer → Type 0) (who : SessionId) (xs : List Peer) → has_peer xs who ≡ false → All (Its P who) xs
-nobody P who [] none = All-nil (Its P who)
-nobody P who (x ∷ xs) none = by_test (same_session x.who who) refl none (nobody P who xs)
-  where
-    by_test : (b : Bool) → same_session x.who who ≡ b → is_some (cond b (Some x) (peer_of xs who)) ≡ false → (has_peer xs who ≡ false → All (Its P who) xs)
-        → All (Its P who) (x ∷ xs)
-    by_test true e h rest = absurd (cc)
-    by_test false e h rest = All-cons (Its P who) x xs (its_other P who x e) (rest h)
-
-alone : (P : Peer → Type 0) (who : SessionId) (xs : List Peer) → are_apart xs ≡ true → MatchOption (peer_of xs who) (Unit {0}) P → All (Its P who) xs
-alone P who [] apart h = All-nil (Its P who)
-alone P who (x ∷ xs) apart h = by_test (same_session x.who who) refl h (alone P who xs parts.1)
-  where
-    parts : (not (has_peer xs x.who) ≡ true) × (are_apart xs ≡ true)
-    parts = both (not (has_peer xs x.who)) (are_apart xs) apart
-
-    by_test : (b : Bool) → same_session x.who who ≡ b → MatchOption (cond b (Some x) (peer_of xs who)) (Unit {0}) P
-        → (MatchOption (peer_of xs who) (Unit {0}) P → All (Its P who) xs) → All (Its P who) (x ∷ xs)
-    by_test true e h rest =
-        All-cons (Its P who) x xs (λ _. h) (nobody P who xs (ap (has_peer xs) (sym (same-true x.who who e)) ∙ not_false (has_peer xs x.who) parts.0))
-    by_test false e h rest = All-cons (Its P who) x xs (its_other P who x e) (rest h)
-
-abbrev Both : (Peer → Type 0) → (Peer → Type 0) → Peer → Type 0
-Both P Q x = P x × Q x
-
-all_both : (P Q : Peer → Type 0) (xs : List Peer) → All P xs → All Q xs → All (Both P Q) xs
-all_both P Q [] p q = All-nil (Both P Q)
-all_both P Q (x ∷ xs) p q =
-    All-cons (Both P Q) x xs (All-head P x xs p, All-head Q x xs q) (all_both P Q xs (All-tail P x xs p) (All-tail Q x xs q))
-
--- its peer rests
-abbrev Rests : World → Peer → Type 0
-Rests w x = CannotMove w x.who x.channel
+-- nobody has two, so what holds of its peer holds of each that is its own
+alone : (P : Peer → Type 0) (who : SessionId) (xs : List Peer) → are_apart xs ≡ true → MatchOption (peer_of xs who) (Unit {0}) P
+    → All (λ x. x.who ≡ who → P x) xs
+alone P who xs apart h i d within is =
+    let x = get_or xs i d in
+    MatchOption-at_some _ P x (ap (peer_of xs) (sym is) ∙ at_place xs i x apart (slice_get-get_or xs i d within)) h
 
 -- if the one who was taken out can't move, and is put among those who wait, the queue knows all
 pub watched_parked : (who : SessionId) (q q' : Queue) (left : Left) → are_apart left.peers ≡ true → IsWatchedBut who q left
     → MatchOption (peer_of left.peers who) (Unit {0}) (λ x. CannotMove left.world x.who x.channel) → Parks left.world who q q' → IsWatched q' left
 watched_parked who q q' left apart w rests parks = record {
-  movers = All-weaker (Both (Known (IsMoverOr who q) left.world) (Its (Rests left.world) who)) (Known (IsMover q') left.world) (λ x h. one x h.0 h.1)
-      left.peers (all_both (Known (IsMoverOr who q) left.world) (Its (Rests left.world) who) left.peers w.movers
-      (alone (Rests left.world) who left.peers apart rests));
+  movers = λ i d within. one (get_or left.peers i d) (w.movers i d within) (alone (λ x. CannotMove left.world x.who x.channel) who left.peers apart rests i d within);
   waiters = λ k s on. elim (w.waiters k s on) [
     | inl e ↦ elim e [ inl is ↦ inr (subst (IsWaiter q' k) (sym is) (parks.itself k (ap (awaited left.world) (sym is) ∙ on))) | inr m ↦ inl (parks.movers s m) ]
     | inr e ↦ inr (parks.waiters k s e)
@@ -586,7 +479,7 @@ watched_parked who q q' left apart w rests parks = record {
   own = w.own;
 }
   where
-    one : (x : Peer) → Known (IsMoverOr who q) left.world x → Its (Rests left.world) who x → Known (IsMover q') left.world x
+    one : (x : Peer) → Known (IsMoverOr who q) left.world x → (x.who ≡ who → CannotMove left.world x.who x.channel) → Known (IsMover q') left.world x
     one x (inl (inl is)) own = inr (own is)
     one x (inl (inr m)) own = inl (parks.movers x.who m)
     one x (inr e) own = inr e
@@ -595,16 +488,14 @@ watched_parked who q q' left apart w rests parks = record {
 
 -- if the queue knows all who may move, and has none, no session can move
 pub at_rest : (q : Queue) (left : Left) → IsWatched q left → ((s : SessionId) → IsMover q s → ⊥) → IsAtRest left
-at_rest q left w none =
-    All-weaker (Known (IsMover q) left.world) (Rests left.world) (λ x h. elim h [ inl e ↦ absurd (none x.who e) | inr e ↦ e ]) left.peers w.movers
+at_rest q left w none i d within = elim (w.movers i d within) [ inl e ↦ absurd (none _ e) | inr e ↦ e ]
 
-pub first_of_all : (who : SessionId) (q : Queue) (left : Left) → IsWatchedBut who q left → ((s : SessionId) → IsMover q s → comes_before s who ≡ false)
-    → comes_before who who ≡ false → All (λ x. comes_before x.who who ≡ true → CannotMove left.world x.who x.channel) left.peers
-first_of_all who q left w first self =
-    All-weaker (Known (IsMoverOr who q) left.world) (λ x. comes_before x.who who ≡ true → Rests left.world x) one left.peers w.movers
+first_of_all : (who : SessionId) (q : Queue) (left : Left) → IsWatchedBut who q left → ((s : SessionId) → IsMover q s → comes_before s who ≡ false)
+    → All (λ x. comes_before x.who who ≡ true → CannotMove left.world x.who x.channel) left.peers
+first_of_all who q left w first i d within = one (get_or left.peers i d) (w.movers i d within)
   where
-    one : (x : Peer) → Known (IsMoverOr who q) left.world x → comes_before x.who who ≡ true → Rests left.world x
-    one x (inl (inl is)) before = absurd (let f : comes_before x.who who ≡ false = ap (λ s. comes_before s who) is ∙ self in cc)
+    one : (x : Peer) → Known (IsMoverOr who q) left.world x → comes_before x.who who ≡ true → CannotMove left.world x.who x.channel
+    one x (inl (inl is)) before = absurd (let f : comes_before x.who who ≡ false = ap (λ s. comes_before s who) is ∙ before_self who in cc)
     one x (inl (inr m)) before = absurd (let f = first x.who m in cc)
     one x (inr e) before = e
 
@@ -630,7 +521,7 @@ moves_first conf now who q old new put put' h w first = record {
     mover = h.mover;
     at = h.at;
     first = subst (λ (s : SessionId). All (λ x. comes_before x.who s ≡ true → CannotMove old.world x.who x.channel) old.peers) (sym h.who_is)
-        (first_of_all who q old w first (before_self who));
+        (first_of_all who q old w first);
     move = h.one.move;
   };
   outputs = h.one.outputs;
@@ -647,59 +538,32 @@ pub watched_begun : (conf : List Line) (now : ℕ) (happens : Happening) (old ne
     → HasItsPeers old → IsStill q old → Stirs new.world (whose happens) q q' → IsWatched q' new
 watched_begun conf now happens old new part q q' b s still stirs =
     watched_on (whose happens) old new q q' (own_moved conf now happens old part new b (fits old s).idle still.watched.own)
-    (watched_but (whose happens) q old still.watched) stirs
+    (knows_more (IsMover q) _ (IsWaiter q) (IsWaiter q) old (λ s e. inr e) (λ k s e. e) still.watched) stirs
 
 -- ---- who is stirred
 
--- all who wait for one of these keys whose authority is spent may move
-pub record WakesFor (w : World) (Keys : ℕ → Type 0) (old new : Queue) : Type 0 where
-  pub movers : KeepsMovers old new
-  pub known : KeepsKnown old new
-  pub woken : (k : ℕ) → Keys k → unspent w.sessions k ≡ None → (s : SessionId) → IsWaiter old k s → IsMover new s
-
--- waking those who wait for the one key is waking for all keys in question
-pub wakes_one : (w : World) (Keys : ℕ → Type 0) (key : ℕ) (old new : Queue) → ((k : ℕ) → Keys k → key ≡ k) → Wakes w key old new → WakesFor w Keys old new
-wakes_one w Keys key old new only h = record {
-  movers = h.movers;
-  known = h.known;
-  woken = λ k is spent s waits. h.woken (ap (unspent w.sessions) (only k is) ∙ spent) s (subst (λ j. IsWaiter old j s) (sym (only k is)) waits);
-}
-
--- if no key is in question, nobody has to be woken
-pub wakes_none : (w : World) (Keys : ℕ → Type 0) (q : Queue) → ((k : ℕ) → Keys k → ⊥) → WakesFor w Keys q q
-wakes_none w Keys q none = record {
-  movers = λ s h. h;
-  known = λ k s h. inr h;
-  woken = λ k is spent s waits. absurd (none k is);
-}
-
 -- one that may move, and those who wait for its own key or for the key on which it waits, are stirred
 pub stirred : (w : World) (who : SessionId) (q0 q1 q2 q3 : Queue) → IsMover q1 who → KeepsMovers q0 q1 → q1.waiting ≡ q0.waiting
-    → WakesFor w (λ k. who ≡ Handler k) q1 q2 → WakesFor w (λ k. awaited w who ≡ Some k) q2 q3 → Stirs w who q0 q3
+    → Wakes w (own_key who) q1 q2 → Wakes w (awaited w who) q2 q3 → Stirs w who q0 q3
 stirred w who q0 q1 q2 q3 itself movers waiting own other = record {
   itself = other.movers who (own.movers who itself);
   movers = λ s h. other.movers s (own.movers s (movers s h));
-  known = λ k s h. elim (own.known k s (waits k s h)) [
+  known = λ k s h. elim (own.known k s (same_waiters q0 q1 waiting k s h)) [
     | inl m ↦ inl (other.movers s m)
     | inr x ↦ other.known k s x
   ];
   woken = λ k key spent s h. elim key [
-    | inl is ↦ other.movers s (own.woken k is spent s (waits k s h))
-    | inr is ↦ elim (own.known k s (waits k s h)) [ inl m ↦ other.movers s m | inr x ↦ other.woken k is spent s x ]
+    | inl is ↦ other.movers s (own.woken k (ap own_key is) spent s (same_waiters q0 q1 waiting k s h))
+    | inr is ↦ elim (own.known k s (same_waiters q0 q1 waiting k s h)) [ inl m ↦ other.movers s m | inr x ↦ other.woken k is spent s x ]
   ];
 }
-  where
-    waits : (k : ℕ) (s : SessionId) → IsWaiter q0 k s → IsWaiter q1 k s
-    waits k s h = subst (λ (t : Stored (Vec (Reverse SessionId))). Contains (waiters_at t.facts k) (reversed s)) (sym waiting) h
 
 -- ---- at the beginning
 
 none_awaited : (from : Beginning) (s : SessionId) → awaited (nothing from).world s ≡ None
 none_awaited from (Client n) =
     ap (λ (o : Option Session). option_map (λ (v : Wait). v.key) (option_and_then (λ (one : Session). one.wait) o)) (get-empty nat_cmp n)
-none_awaited from (Handler k) =
-    ap (λ (o : Option Construction). option_map (λ (v : Wait). v.key) (option_and_then (λ (one : Session). one.wait)
-    (option_and_then (λ (c : Construction). handler_in c.stage) o))) (get-empty nat_cmp k)
+none_awaited from (Handler k) = no_handler (nothing from).world k (ap kind_in (get-empty nat_cmp k))
 
 -- before anything happens nobody may move
 pub nothing_still : (from : Beginning) (q : Queue) → ((s : SessionId) → IsMover q s → ⊥) → IsStill q (nothing from)

@@ -1,5 +1,5 @@
 -- The order of work: of the sessions that can move, which one is next.
-use Rattle.std.specs.Prelude.{◌≡◌, ℕ, true, List, [], ◌∷◌, Option, Some, None, slice_get, ◌++◌}
+use Rattle.std.specs.Prelude.{◌≡◌, ℕ, true, List, [], ◌∷◌, Option, Some, None, slice_get}
 use Rattle.std.specs.List.{All}
 use Rattle.rk_conf.specs.declared.line.Line.{Line}
 use Rattle.rk_machine.specs.Steps.{Beginning, Past}
@@ -8,7 +8,7 @@ use Rattle.rk_served.specs.declared.output.Output.{Output}
 use Rattle.rk_served.specs.declared.peer.Peer.{Peer}
 use Rattle.rk_served.specs.Left.{Left, Part, nothing}
 use Rattle.rk_served.specs.Moves.{Move, CannotMove}
-use Rattle.rk_served.specs.Served.{Turn, Acts, IsPassedOver}
+use Rattle.rk_served.specs.Served.{Turn, Acts, IsPassedOver, ServedBy}
 use Rattle.rk_served.specs.Standing.{comes_before}
 
 -- one move, by the first session that can: each that comes before it can't
@@ -34,13 +34,10 @@ abbrev pub ServesInOrder : List Line → Left → ℕ → Happening → Option (
 ServesInOrder conf old now h None steps new = IsPassedOver old h steps new
 ServesInOrder conf old now h (Some outputs) steps new = ActsInOrder conf old now h outputs steps new
 
--- the turns are served in order by this run, cut into one part for each
-abbrev pub ServedInOrderFrom : List Line → Left → List Turn → List Past → Left → Type 0
-ServedInOrderFrom conf old [] run new = (run ≡ []) × (new ≡ old)
-ServedInOrderFrom conf old (turn ∷ turns) run new =
-    (steps : List Past) × (rest : List Past) × (mid : Left) × (run ≡ steps ++ rest) × ServesInOrder conf old turn.now turn.happening turn.outputs steps mid
-    × ServedInOrderFrom conf mid turns rest new
+-- the same, of a turn
+abbrev pub ServesTurnInOrder : List Line → Left → Turn → List Past → Left → Type 0
+ServesTurnInOrder conf old turn steps new = ServesInOrder conf old turn.now turn.happening turn.outputs steps new
 
 -- The turns are a served list, by this run, in the order of work, and leave this.
 abbrev pub ServedInOrder : List Line → Beginning → List Turn → List Past → Left → Type 0
-ServedInOrder conf from turns run left = ServedInOrderFrom conf (nothing from) turns run left
+ServedInOrder conf from turns run left = ServedBy (ServesTurnInOrder conf) (nothing from) turns run left

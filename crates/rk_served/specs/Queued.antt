@@ -1,5 +1,5 @@
 -- Who stands in a queue, and when nobody else may move.
-use Rattle.std.specs.Prelude.{◌≡◌, ◌⊎◌, ℕ, List, [], Some, None}
+use Rattle.std.specs.Prelude.{◌≡◌, ◌⊎◌, ℕ, List, [], Option, Some, None}
 use Rattle.std.specs.List.{All, Contains}
 use Rattle.std.specs.Global.{Vec}
 use Rattle.std.specs.BinaryHeap.{heap_items, heap_len}
@@ -8,7 +8,7 @@ use Rattle.std.specs.Ordering.{nat_cmp}
 use Rattle.std.specs.Option.{option_map_or}
 use Rattle.std.specs.FinMap as map
 use Rattle.rk_names.specs.declared.numbers.SessionId.{SessionId}
-use Rattle.rk_names.specs.declared.numbers.SessionId.TheVariants.{Handler}
+use Rattle.rk_names.specs.declared.numbers.SessionId.TheVariants.{Client, Handler}
 use Rattle.rk_auth.specs.Sessions.{unspent}
 use Rattle.rk_machine.specs.World.{World}
 use Rattle.rk_machine.specs.Views.{awaited}
@@ -81,11 +81,16 @@ pub record Stirs (w : World) (who : SessionId) (old new : Queue) : Type 0 where
   pub known : KeepsKnown old new
   pub woken : (k : ℕ) → IsKeyOf w who k → unspent w.sessions k ≡ None → (s : SessionId) → IsWaiter old k s → IsMover new s
 
--- all who wait for k may move, if its authority is spent
-pub record Wakes (w : World) (k : ℕ) (old new : Queue) : Type 0 where
+-- the key of a handler; a client has none
+abbrev pub own_key : SessionId → Option ℕ
+own_key (Client n) = None
+own_key (Handler k) = Some k
+
+-- all who wait for this key, if there is one, may move, if its authority is spent
+pub record Wakes (w : World) (key : Option ℕ) (old new : Queue) : Type 0 where
   pub movers : KeepsMovers old new
   pub known : KeepsKnown old new
-  pub woken : unspent w.sessions k ≡ None → (s : SessionId) → IsWaiter old k s → IsMover new s
+  pub woken : (k : ℕ) → key ≡ Some k → unspent w.sessions k ≡ None → (s : SessionId) → IsWaiter old k s → IsMover new s
 
 -- this one can't move, and where it waits, the queue knows it
 pub record Parks (w : World) (who : SessionId) (old new : Queue) : Type 0 where

@@ -51,15 +51,15 @@ ServesBy conf old now h (Some outputs) steps new = Acts conf old now h outputs s
 abbrev pub Serves : List Line → Left → Turn → List Past → Left → Type 0
 Serves conf old turn steps new = ServesBy conf old turn.now turn.happening turn.outputs steps new
 
--- the turns are served by this run, cut into one part for each
-abbrev pub ServedFrom : List Line → Left → List Turn → List Past → Left → Type 0
-ServedFrom conf old [] run new = (run ≡ []) × (new ≡ old)
-ServedFrom conf old (turn ∷ turns) run new =
-    (steps : List Past) × (rest : List Past) × (mid : Left) × (run ≡ steps ++ rest) × Serves conf old turn steps mid × ServedFrom conf mid turns rest new
+-- the turns are served by this run, cut into one part for each that serves it so
+abbrev pub ServedBy : (Left → Turn → List Past → Left → Type 0) → Left → List Turn → List Past → Left → Type 0
+ServedBy ServesSo old [] run new = (run ≡ []) × (new ≡ old)
+ServedBy ServesSo old (turn ∷ turns) run new =
+    (steps : List Past) × (rest : List Past) × (mid : Left) × (run ≡ steps ++ rest) × ServesSo old turn steps mid × ServedBy ServesSo mid turns rest new
 
 -- The turns are a served list, by this run, and leave this.
 abbrev pub Served : List Line → Beginning → List Turn → List Past → Left → Type 0
-Served conf from turns run left = ServedFrom conf (nothing from) turns run left
+Served conf from turns run left = ServedBy (Serves conf) (nothing from) turns run left
 
 -- Whatever served list left old, that list with this turn is served, and leaves new. Its steps with those of the turn, the newest first, are a
 -- run of the machine to the world that is left, and obey the laws of every run.

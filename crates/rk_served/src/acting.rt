@@ -19,6 +19,7 @@ ghost use Rattle.rk_served.specs.Calls.{left_of, is_refused, MakesOwnStep, IsSta
 
 use crate::bytes::Bytes;
 use crate::happening::{Happening, StartResult};
+use crate::occasion::Occasion;
 use crate::output::{Output, Outputs};
 use crate::peer::{Channel, Peer};
 use crate::peers;
@@ -26,7 +27,6 @@ use crate::queue::Queue;
 use crate::server::Server;
 use crate::stream::Stream;
 use rk_auth::Stage;
-use rk_conf::Conf;
 use rk_core::{Answer, EventStep, How, Ran};
 use rk_macro::{Op, Subject};
 use rk_names::{Moment, Serial, SessionId};
@@ -133,41 +133,41 @@ impl Server {
     /// A piped handler runs, and is handed its callout.
     fn run_piped(
         &mut self,
-        alloc: Global,
-        now: Moment,
+        occasion: &Occasion<'_>,
         key: Serial,
         index: usize,
         out: &mut Vec<Output>,
     ) -> Result<(), AllocError>
         requires starts { IsStartAt self.old.peers.items index key true }
         requires owed { is_owed self.old.book (Launched key ran.Piped) ≡ true }
-        ensures { (conf : List Line) →
-            OnOk result (MakesOwnStep conf now (happening.StartResult key Started) (left_of self.old) out.old.items (left_of self.new) out.new.items) }
+        ensures { OnOk result (MakesOwnStep occasion.now.conf.now occasion.now.moment (happening.StartResult key Started) (left_of self.old) out.old.items
+            (left_of self.new) out.new.items) }
     {
-        let _ = self.book.step(now, EventStep::Launched(key, Ran::Piped));
-        self.peers[index].put_callout(alloc, key, out)?;
-        self.peers[index].channel = Channel::Pipes(Bytes::new(Vec::new(alloc)));
+        let _ = self
+            .book
+            .step(occasion.moment, EventStep::Launched(key, Ran::Piped));
+        self.peers[index].put_callout(occasion.alloc, key, out)?;
+        self.peers[index].channel = Channel::Pipes(Bytes::new(Vec::new(occasion.alloc)));
         Ok(())
     }
 
     /// A handler runs as its command was output.
     fn run(
         &mut self,
-        alloc: Global,
-        now: Moment,
+        occasion: &Occasion<'_>,
         key: Serial,
         out: &mut Vec<Output>,
     ) -> Result<(), AllocError>
         requires has_peers { HasItsPeers (left_of self.old) }
         requires owed { is_to_start self.old.book key ≡ true }
-        ensures { (conf : List Line) →
-            OnOk result (MakesOwnStep conf now (happening.StartResult key Started) (left_of self.old) out.old.items (left_of self.new) out.new.items) }
+        ensures { OnOk result (MakesOwnStep occasion.now.conf.now occasion.now.moment (happening.StartResult key Started) (left_of self.old) out.old.items
+            (left_of self.new) out.new.items) }
     {
         if let Some(index) = peers::index_of(&self.peers, &SessionId::Handler(key)) {
             if self.peers[index].channel.is_piped() {
-                return self.run_piped(alloc, now, key, index, out);
+                return self.run_piped(occasion, key, index, out);
             }
-            self.run_plain(now, key, index);
+            self.run_plain(occasion.moment, key, index);
         }
         Ok(())
     }
@@ -184,21 +184,20 @@ impl Server {
     /// A command was started, or could not be.
     fn launch(
         &mut self,
-        alloc: Global,
-        now: Moment,
+        occasion: &Occasion<'_>,
         key: Serial,
         started: StartResult,
         out: &mut Vec<Output>,
     ) -> Result<(), AllocError>
         requires has_peers { HasItsPeers (left_of self.old) }
         requires owed { is_to_start self.old.book key ≡ true }
-        ensures { (conf : List Line) →
-            OnOk result (MakesOwnStep conf now (happening.StartResult key started) (left_of self.old) out.old.items (left_of self.new) out.new.items) }
+        ensures { OnOk result (MakesOwnStep occasion.now.conf.now occasion.now.moment (happening.StartResult key started) (left_of self.old) out.old.items
+            (left_of self.new) out.new.items) }
     {
         match started {
-            StartResult::Started => self.run(alloc, now, key, out),
+            StartResult::Started => self.run(occasion, key, out),
             StartResult::Failed => {
-                self.fail(now, key);
+                self.fail(occasion.moment, key);
                 Ok(())
             }
         }
@@ -208,22 +207,20 @@ impl Server {
     /// for what the first was made for.
     fn end(
         &mut self,
-        alloc: Global,
-        conf: &Conf,
-        now: Moment,
+        occasion: &Occasion<'_>,
         event: EventStep<'_>,
         subject: Option<Subject>,
         out: &mut Vec<Output>,
     ) -> Result<(), AllocError>
         ensures { (k : ℕ) (peers : List Peer) → HasEnded k event.entry subject peers (left_of self.old) →
-            OnOk result (EndsOne conf.now now k event.entry subject (record { world = self.old.book; peers = peers })
+            OnOk result (EndsOne occasion.now.conf.now occasion.now.moment k event.entry subject (record { world = self.old.book; peers = peers })
             out.old.items (left_of self.new) out.new.items) }
     {
-        let Answer::Negate(key) = self.book.step(now, event) else {
+        let Answer::Negate(key) = self.book.step(occasion.moment, event) else {
             return Ok(());
         };
         match subject {
-            Some(subject) => self.start(alloc, conf, now, key, negated(subject), out),
+            Some(subject) => self.start(occasion, key, negated(subject), out),
             None => Ok(()),
         }
     }
@@ -231,16 +228,14 @@ impl Server {
     /// A handler has ended, and what a piped one has output is its payload.
     fn finish(
         &mut self,
-        alloc: Global,
-        conf: &Conf,
-        now: Moment,
+        occasion: &Occasion<'_>,
         key: Serial,
         how: How,
         out: &mut Vec<Output>,
     ) -> Result<(), AllocError>
         requires has_peers { HasItsPeers (left_of self.old) }
         requires owed { is_running self.old.book key ≡ true }
-        ensures { OnOk result (MakesOwnStep conf.now now (happening.HandlerEnded key how) (left_of self.old) out.old.items (left_of self.new) out.new.items) }
+        ensures { OnOk result (MakesOwnStep occasion.now.conf.now occasion.now.moment (happening.HandlerEnded key how) (left_of self.old) out.old.items (left_of self.new) out.new.items) }
     {
         match peers::take(&mut self.peers, &SessionId::Handler(key)) {
             Some(peer) => {
@@ -250,7 +245,7 @@ impl Server {
                     ..
                 } = peer;
                 let event = EventStep::Ended(key, how, channel.into_payload());
-                self.end(alloc, conf, now, event, subject, out)
+                self.end(occasion, event, subject, out)
             }
             None => Ok(()),
         }
@@ -259,20 +254,18 @@ impl Server {
     /// A handler could not be read or waited for.
     fn break_off(
         &mut self,
-        alloc: Global,
-        conf: &Conf,
-        now: Moment,
+        occasion: &Occasion<'_>,
         key: Serial,
         out: &mut Vec<Output>,
     ) -> Result<(), AllocError>
         requires has_peers { HasItsPeers (left_of self.old) }
         requires owed { is_running self.old.book key ≡ true }
-        ensures { OnOk result (MakesOwnStep conf.now now (happening.WaitFault key) (left_of self.old) out.old.items (left_of self.new) out.new.items) }
+        ensures { OnOk result (MakesOwnStep occasion.now.conf.now occasion.now.moment (happening.WaitFault key) (left_of self.old) out.old.items (left_of self.new) out.new.items) }
     {
         match peers::take(&mut self.peers, &SessionId::Handler(key)) {
             Some(peer) => {
                 let event = EventStep::Ended(key, How::Fault, None);
-                self.end(alloc, conf, now, event, peer.subject, out)
+                self.end(occasion, event, peer.subject, out)
             }
             None => Ok(()),
         }
@@ -281,32 +274,34 @@ impl Server {
     /// The own step of a happening.
     fn own_step(
         &mut self,
-        alloc: Global,
-        conf: &Conf,
-        now: Moment,
+        occasion: &Occasion<'_>,
         happening: &Happening,
         out: &mut Vec<Output>,
     ) -> Result<(), AllocError>
         requires has_peers { HasItsPeers (left_of self.old) }
         requires placed { is_misplaced self.old.book happening.now ≡ false }
-        ensures { OnOk result (MakesOwnStep conf.now now happening.now (left_of self.old) out.old.items (left_of self.new) out.new.items) }
+        ensures { OnOk result (MakesOwnStep occasion.now.conf.now occasion.now.moment happening.now (left_of self.old) out.old.items (left_of self.new) out.new.items) }
     {
         match happening {
-            Happening::Accept(client) => self.accept(now, *client, out),
+            Happening::Accept(client) => self.accept(occasion.moment, *client, out),
             Happening::Bytes(client, bytes) => {
-                self.lengthen(alloc, &SessionId::Client(*client), bytes.as_slice())
+                self.lengthen(
+                    occasion.alloc,
+                    &SessionId::Client(*client),
+                    bytes.as_slice(),
+                )
             }
             Happening::Gone(client) => {
-                self.leave(now, *client);
+                self.leave(occasion.moment, *client);
                 Ok(())
             }
-            Happening::StartResult(key, started) => self.launch(alloc, now, *key, *started, out),
+            Happening::StartResult(key, started) => self.launch(occasion, *key, *started, out),
             Happening::HandlerBytes(key, bytes) => {
-                self.lengthen(alloc, &SessionId::Handler(*key), bytes.as_slice())
+                self.lengthen(occasion.alloc, &SessionId::Handler(*key), bytes.as_slice())
             }
-            Happening::HandlerEnded(key, how) => self.finish(alloc, conf, now, *key, *how, out),
+            Happening::HandlerEnded(key, how) => self.finish(occasion, *key, *how, out),
             Happening::HandlerReadFault(key) | Happening::WaitFault(key) => {
-                self.break_off(alloc, conf, now, *key, out)
+                self.break_off(occasion, *key, out)
             }
         }
     }
@@ -314,22 +309,20 @@ impl Server {
     /// The own step of a happening, and then moves in order until no session can move.
     pub fn act(
         &mut self,
-        alloc: Global,
-        conf: &Conf,
-        now: Moment,
+        occasion: &Occasion<'_>,
         happening: &Happening,
         queue: &mut Queue,
     ) -> Result<Outputs, AllocError>
         requires has_peers { HasItsPeers (left_of self.old) }
         requires still { IsStill queue.old (left_of self.old) }
         requires placed { is_misplaced self.old.book happening.now ≡ false }
-        ensures acts { IfOk result (λ out. (steps : List Past) × ActsInOrder conf.now (left_of self.old) now happening.now out steps (left_of self.new)) }
+        ensures acts { IfOk result (λ out. (steps : List Past) × ActsInOrder occasion.now.conf.now (left_of self.old) occasion.now.moment happening.now out steps (left_of self.new)) }
         ensures still { OnOk result (IsStill queue.new (left_of self.new)) }
     {
-        let mut out = Vec::new(alloc);
-        self.own_step(alloc, conf, now, happening, &mut out)?;
-        self.stir(alloc, &happening.whose(), queue)?;
-        self.move_all(alloc, conf, now, queue, &mut out)?;
+        let mut out = Vec::new(occasion.alloc);
+        self.own_step(occasion, happening, &mut out)?;
+        self.stir(occasion.alloc, &happening.whose(), queue)?;
+        self.move_all(occasion, queue, &mut out)?;
         Ok(Outputs::new(out))
     }
 }

@@ -21,8 +21,8 @@
 //! `happening` has what happens to a replay, `output` what it outputs, over `bytes` that a contract sees, and `fault` what is refused.
 //!
 //! `stream` cuts frames and reads asks. A peer is a client, or a construction with its handler; `peer` and `peers` say who is there.
-//! `command` makes the words of a command, `replies` makes frames of answers. `server` is the machine with the peers, and moves
-//! sessions; `acting` takes the own step of a happening, and `replay` is what the crates above see. `queue` knows who may move, and who waits for
+//! `command` makes the words of a command, `replies` makes frames of answers. `occasion` has what all steps of a turn are made with.
+//! `server` is the machine with the peers, and moves sessions; `acting` takes the own step of a happening, and `replay` is what the crates above see. `queue` knows who may move, and who waits for
 //! which key: only those that a step can have freed are asked again, and not all who are there. Each move makes the rest lighter:
 //! fewer unused bytes, a stream that is shut, or a wait that has ended; so the moves come to an end (`proofs/Weight.antt`).
 #![tactic(auto)]
@@ -32,6 +32,7 @@ mod bytes;
 mod command;
 mod fault;
 mod happening;
+mod occasion;
 mod output;
 mod peer;
 mod peers;

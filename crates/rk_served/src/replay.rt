@@ -10,6 +10,7 @@ ghost use Rattle.rk_served.specs.View.{told};
 
 use crate::fault::TakeFault;
 use crate::happening::Happening;
+use crate::occasion::Occasion;
 use crate::output::Outputs;
 use crate::queue::Queue;
 use crate::server::Server;
@@ -104,10 +105,12 @@ impl Replay {
         if self.server.is_misplaced(happening) {
             return Err(TakeFault::Unknown);
         }
-        match self
-            .server
-            .act(alloc, &self.conf, now, happening, &mut self.queue)
-        {
+        let occasion = Occasion {
+            alloc,
+            conf: &self.conf,
+            moment: now,
+        };
+        match self.server.act(&occasion, happening, &mut self.queue) {
             Ok(out) => Ok(out),
             Err(_) => {
                 self.broken = true;

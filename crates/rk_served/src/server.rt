@@ -8,15 +8,16 @@ ghost use Rattle.rk_served.specs.Standing.{are_in_order};
 ghost use Rattle.rk_served.specs.Channels.{is_stream, HasFaultAt};
 ghost use Rattle.rk_served.specs.Moves.{IsAtRest};
 ghost use Rattle.rk_served.specs.WhoIsThere.{HasItsPeers};
+ghost use Rattle.rk_served.specs.Queued.{own_key};
 
 use crate::command::command_for;
+use crate::occasion::Occasion;
 use crate::output::Output;
 use crate::peer::{Channel, Peer};
 use crate::peers;
 use crate::queue::Queue;
 use crate::replies::put_reply;
 use crate::stream::Message;
-use rk_conf::Conf;
 use rk_core::{Answer, Book, EventStep, Ran};
 use rk_macro::Subject;
 use rk_message::Ask;
@@ -43,16 +44,14 @@ impl Server {
     /// Puts out the command of a construction that has begun, or goes on, or has its start fail.
     pub fn start(
         &mut self,
-        alloc: Global,
-        conf: &Conf,
-        now: Moment,
+        occasion: &Occasion<'_>,
         key: Serial,
         subject: Subject,
         out: &mut Vec<Output>,
     ) -> Result<(), AllocError>
-        ensures { OnOk result (StartsNow conf.now now key subject (left_of self.old) out.old.items (left_of self.new) out.new.items) }
+        ensures { OnOk result (StartsNow occasion.now.conf.now occasion.now.moment key subject (left_of self.old) out.old.items (left_of self.new) out.new.items) }
     {
-        match command_for(alloc, conf, &self.book, now, key, &subject) {
+        match command_for(occasion, &self.book, key, &subject) {
             Some(command) => {
                 let peer = Peer {
                     who: SessionId::Handler(key),
@@ -64,7 +63,8 @@ impl Server {
                 Ok(())
             }
             None => {
-                let _ = self.book.step(now, EventStep::Launched(key, Ran::Failed));
+                let failed = EventStep::Launched(key, Ran::Failed);
+                let _ = self.book.step(occasion.moment, failed);
                 Ok(())
             }
         }
@@ -73,39 +73,36 @@ impl Server {
     /// Makes one ask, and outputs what results from it.
     fn ask(
         &mut self,
-        alloc: Global,
-        conf: &Conf,
-        now: Moment,
+        occasion: &Occasion<'_>,
         who: &SessionId,
         ask: Ask,
         out: &mut Vec<Output>,
     ) -> Result<(), AllocError>
-        ensures { OnOk result (AnswersOne conf.now now (left_of self.old) who.now ask out.old.items (left_of self.new) out.new.items) }
+        ensures { OnOk result (AnswersOne occasion.now.conf.now occasion.now.moment (left_of self.old) who.now ask out.old.items (left_of self.new) out.new.items) }
     {
-        let answer = step_of_ask(&mut self.book, alloc, now, who, ask)?;
+        let answer = step_of_ask(&mut self.book, occasion, who, ask)?;
         match answer {
             Answer::Start(key, subject) => {
-                self.start(alloc, conf, now, key, subject.into_subject(), out)
+                self.start(occasion, key, subject.into_subject(), out)
             }
-            answer => put_reply(alloc, who, answer, out),
+            answer => put_reply(occasion.alloc, who, answer, out),
         }
     }
 
     /// The session of a peer collects its outcome.
     fn collect_at(
         &mut self,
-        alloc: Global,
-        now: Moment,
+        occasion: &Occasion<'_>,
         index: usize,
         out: &mut Vec<Output>,
     ) -> Result<(), AllocError>
         requires within { index < vec_len self.old.peers }
         requires ready { IfSome (slice_get self.old.peers.items index) (λ x. (is_stream x.channel ≡ true) × (is_ready self.old.book x.who ≡ true)) }
-        ensures { (conf : List Line) → OnOk result (MovesOne conf now index (left_of self.old) out.old.items (left_of self.new) out.new.items) }
+        ensures { OnOk result (MovesOne occasion.now.conf.now occasion.now.moment index (left_of self.old) out.old.items (left_of self.new) out.new.items) }
     {
         let who = self.peers[index].who;
-        let answer = self.book.step(now, EventStep::Collect(who));
-        put_reply(alloc, &self.peers[index].who, answer, out)
+        let answer = self.book.step(occasion.moment, EventStep::Collect(who));
+        put_reply(occasion.alloc, &who, answer, out)
     }
 
     /// The session of a peer meets the fault of its stream.
@@ -140,29 +137,28 @@ impl Server {
     /// The session of a peer takes the next message of its stream, if there is one.
     fn take_at(
         &mut self,
-        alloc: Global,
-        conf: &Conf,
-        now: Moment,
+        occasion: &Occasion<'_>,
         index: usize,
         out: &mut Vec<Output>,
     ) -> Result<bool, AllocError>
         requires within { index < vec_len self.old.peers }
         requires free { IsFreeAt (left_of self.old) index }
-        ensures { IfOk result (λ moved. TriesAt conf.now now index moved (left_of self.old) out.old.items (left_of self.new) out.new.items) }
+        ensures { IfOk result (λ moved. TriesAt occasion.now.conf.now occasion.now.moment index moved (left_of self.old) out.old.items (left_of self.new) out.new.items) }
     {
-        match self.peers[index].channel.next(alloc)? {
+        let peer = &mut self.peers[index];
+        let who = peer.who;
+        match peer.channel.next(occasion.alloc)? {
             Message::More => Ok(false),
             Message::Asks(ask) => {
-                let who = self.peers[index].who;
-                self.ask(alloc, conf, now, &who, ask, out)?;
+                self.ask(occasion, &who, ask, out)?;
                 Ok(true)
             }
             Message::Refused(errno) => {
-                put_reply(alloc, &self.peers[index].who, Answer::Refused(errno), out)?;
+                put_reply(occasion.alloc, &who, Answer::Refused(errno), out)?;
                 Ok(true)
             }
             Message::Fault => {
-                self.fault_at(now, index, out)?;
+                self.fault_at(occasion.moment, index, out)?;
                 Ok(true)
             }
         }
@@ -171,44 +167,40 @@ impl Server {
     /// The session of a peer makes one move, if it can.
     fn move_at(
         &mut self,
-        alloc: Global,
-        conf: &Conf,
-        now: Moment,
+        occasion: &Occasion<'_>,
         index: usize,
         out: &mut Vec<Output>,
     ) -> Result<bool, AllocError>
         requires { index < vec_len self.old.peers }
-        ensures { IfOk result (λ moved. TriesAt conf.now now index moved (left_of self.old) out.old.items (left_of self.new) out.new.items) }
+        ensures { IfOk result (λ moved. TriesAt occasion.now.conf.now occasion.now.moment index moved (left_of self.old) out.old.items (left_of self.new) out.new.items) }
     {
         let peer = &self.peers[index];
         if !peer.channel.is_stream() {
             return Ok(false);
         }
         if self.book.ready(&peer.who) {
-            self.collect_at(alloc, now, index, out)?;
+            self.collect_at(occasion, index, out)?;
             return Ok(true);
         }
         if self.book.waits(&peer.who) || !peer.channel.is_open() {
             return Ok(false);
         }
-        self.take_at(alloc, conf, now, index, out)
+        self.take_at(occasion, index, out)
     }
 
     /// This session makes one move, if it is there and can.
     fn move_by(
         &mut self,
-        alloc: Global,
-        conf: &Conf,
-        now: Moment,
+        occasion: &Occasion<'_>,
         who: &SessionId,
         out: &mut Vec<Output>,
     ) -> Result<bool, AllocError>
         ensures { IfOk result (λ moved. MatchBool moved
-            (MovesBy conf.now now who.now (left_of self.old) out.old.items (left_of self.new) out.new.items)
+            (MovesBy occasion.now.conf.now occasion.now.moment who.now (left_of self.old) out.old.items (left_of self.new) out.new.items)
             ((left_of self.new ≡ left_of self.old) × (out.new.items ≡ out.old.items) × RestsBy who.now (left_of self.old))) }
     {
         match peers::index_of(&self.peers, who) {
-            Some(index) => self.move_at(alloc, conf, now, index, out),
+            Some(index) => self.move_at(occasion, index, out),
             None => Ok(false),
         }
     }
@@ -219,23 +211,18 @@ impl Server {
         ensures { OnOk result (Stirs self.now.book who.now queue.old queue.new) }
     {
         queue.push(*who)?;
-        if let SessionId::Handler(key) = who {
-            self.wake(alloc, *key, queue)?;
-        }
-        if let Some(key) = self.book.awaited(who) {
-            self.wake(alloc, key, queue)?;
-        }
-        Ok(())
+        self.wake(alloc, own_key(who), queue)?;
+        self.wake(alloc, self.book.awaited(who), queue)
     }
 
-    /// All who wait for a key may move, if its authority is spent.
-    fn wake(&self, alloc: Global, key: Serial, queue: &mut Queue) -> Result<(), AllocError>
+    /// All who wait for this key, if there is one, may move, if its authority is spent.
+    fn wake(&self, alloc: Global, key: Option<Serial>, queue: &mut Queue) -> Result<(), AllocError>
         ensures { OnOk result (Wakes self.now.book key queue.old queue.new) }
     {
-        if self.book.depth(key).is_none() {
-            queue.wake(alloc, key)?;
+        match key {
+            Some(key) if self.book.depth(key).is_none() => queue.wake(alloc, key),
+            _ => Ok(()),
         }
-        Ok(())
     }
 
     /// A session can't move. If it waits for a key, the queue knows it by that key from now on.
@@ -251,26 +238,24 @@ impl Server {
     /// The first session that can makes one move. Of those in the queue that come before it, none can.
     fn move_one(
         &mut self,
-        alloc: Global,
-        conf: &Conf,
-        now: Moment,
+        occasion: &Occasion<'_>,
         queue: &mut Queue,
         out: &mut Vec<Output>,
     ) -> Result<bool, AllocError>
         requires has_peers { HasItsPeers (left_of self.old) }
         requires watched { IsWatched queue.old (left_of self.old) }
         ensures moves { IfOk result (λ moved. MatchBool moved
-            (MovesNext conf.now now (left_of self.old) out.old.items (left_of self.new) out.new.items)
+            (MovesNext occasion.now.conf.now occasion.now.moment (left_of self.old) out.old.items (left_of self.new) out.new.items)
             ((left_of self.new ≡ left_of self.old) × (out.new.items ≡ out.old.items) × IsAtRest (left_of self.old))) }
         ensures watched { OnOk result (IsWatched queue.new (left_of self.new)) }
         ensures still { IfOk result (λ moved. moved ≡ false → IsStill queue.new (left_of self.new)) }
     {
         while let Some(who) = queue.pop() {
-            if self.move_by(alloc, conf, now, &who, out)? {
-                self.stir(alloc, &who, queue)?;
+            if self.move_by(occasion, &who, out)? {
+                self.stir(occasion.alloc, &who, queue)?;
                 return Ok(true);
             }
-            self.park(alloc, who, queue)?;
+            self.park(occasion.alloc, who, queue)?;
         }
         Ok(false)
     }
@@ -278,19 +263,17 @@ impl Server {
     /// Moves until no session can move.
     pub fn move_all(
         &mut self,
-        alloc: Global,
-        conf: &Conf,
-        now: Moment,
+        occasion: &Occasion<'_>,
         queue: &mut Queue,
         out: &mut Vec<Output>,
     ) -> Result<(), AllocError>
         requires has_peers { HasItsPeers (left_of self.old) }
         requires watched { IsWatched queue.old (left_of self.old) }
-        ensures moves { OnOk result (MovesSome conf.now now (left_of self.old) out.old.items (left_of self.new) out.new.items) }
+        ensures moves { OnOk result (MovesSome occasion.now.conf.now occasion.now.moment (left_of self.old) out.old.items (left_of self.new) out.new.items) }
         ensures at_rest { OnOk result (IsAtRest (left_of self.new)) }
         ensures still { OnOk result (IsStill queue.new (left_of self.new)) }
     {
-        while self.move_one(alloc, conf, now, queue, out)? {}
+        while self.move_one(occasion, queue, out)? {}
         Ok(())
     }
 }
@@ -298,13 +281,22 @@ impl Server {
 /// Takes an ask as a step. An `Err` is out of memory for the copy of its payload; then no step was taken.
 fn step_of_ask(
     book: &mut Book,
-    alloc: Global,
-    now: Moment,
+    occasion: &Occasion<'_>,
     who: &SessionId,
     ask: Ask,
 ) -> Result<Answer, AllocError>
-    ensures { IfOk result (λ answer. Step book.old now (Asked who.now ask) answer book.new) }
+    ensures { IfOk result (λ answer. Step book.old occasion.now.moment (Asked who.now ask) answer book.new) }
 {
-    let ask = ask.view().to_step(alloc)?;
-    Ok(book.step(now, EventStep::Asked(*who, ask)))
+    let ask = ask.view().to_step(occasion.alloc)?;
+    Ok(book.step(occasion.moment, EventStep::Asked(*who, ask)))
+}
+
+/// The key of a handler. A client has none.
+fn own_key(who: &SessionId) -> Option<Serial>
+    ensures { result ≡ own_key who.now }
+{
+    match who {
+        SessionId::Client(_) => None,
+        SessionId::Handler(key) => Some(*key),
+    }
 }

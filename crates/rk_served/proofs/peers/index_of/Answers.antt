@@ -1,10 +1,9 @@
-use Rattle.std.proofs.Common.{refl, sym, ap, ◌∙◌, arith, rules}
+use Rattle.std.proofs.Common.{refl, sym, ap, ◌∙◌, arith}
 use Rattle.std.specs.Prelude.{slice_get}
-use Rattle.std.proofs.lemmas.Option.{slice_get_read, slice_get_within}
+use Rattle.std.proofs.lemmas.Option.{slice_get_read, slice_get_within, same_Some}
 use Rattle.rk_machine.specs.Laws.{same_session}
 use Rattle.rk_machine.proofs.Effects.WaitsAfter.{same-true}
 use Rattle.rk_served.specs.declared.peer.Peer.{Peer}
-use Rattle.rk_served.proofs.PeerLists.{some_peer}
 use Rattle.rk_served.proofs.Places.{found_there, none_there}
 use Rattle.rk_served.proofs.peers.index_of.Goals as goal
 use Rattle.rk_served.proofs.peers.index_of.Goals.{else-index-peers-via-then-index-peers+else-same, else-index-peers-via-else-index-peers}
@@ -25,7 +24,7 @@ returns-else-index-peers-clause-none c =
     elim c.else-index-peers.branch [
       | else-index-peers-via-then-index-peers+else-same w ↦
           let at = slice_get_read xs _ c.count_before-index.result w.index-peers-index.result refl w.if-index-peers.true w.index-peers-index.is in
-          none_there who xs c.requires (λ x there. ap (λ (y : Peer). same_session y.who who) (some_peer (sym there ∙ ap (slice_get xs) (sym place) ∙ at))
+          none_there who xs c.requires (λ x there. ap (λ (y : Peer). same_session y.who who) (same_Some _ _ (sym there ∙ ap (slice_get xs) (sym place) ∙ at))
           ∙ ap (λ (y : Peer). same_session y.who who) w.index-peers-index.is ∙ sym w.same.ensures ∙ w.if-same.false)
       | else-index-peers-via-else-index-peers w ↦
           none_there who xs c.requires (λ x there. absurd

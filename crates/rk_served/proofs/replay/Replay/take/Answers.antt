@@ -1,6 +1,6 @@
 use Rattle.std.proofs.Common.{sym}
 use Rattle.rk_served.specs.Calls.{left_of}
-use Rattle.rk_served.proofs.Turns.{passed_next, passed_in_order, acts_next}
+use Rattle.rk_served.proofs.ServedLaws.{passed_next, passed_in_order, acts_next}
 use Rattle.rk_served.proofs.Kept.{acts_keeps_peers}
 use Rattle.rk_served.proofs.replay.Replay.take.Goals as goal
 

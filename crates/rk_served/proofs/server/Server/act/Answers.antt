@@ -12,12 +12,12 @@ use Rattle.rk_served.proofs.server.Server.act.Goals as goal
 pub move_all-requires-clause-has_peers : goal.move_all-requires-clause-has_peers
 move_all-requires-clause-has_peers c =
     let own = c.in_ok-own_step.ensures in
-    begins_keeps_peers c.args.conf.now c.args.now c.args.happening.now (left_of c.args.self.now) own.part _ c.requires.placed own.own_step c.requires.has_peers
+    begins_keeps_peers c.args.occasion.now.conf.now c.args.occasion.now.moment c.args.happening.now (left_of c.args.self.now) own.part _ c.requires.placed own.own_step c.requires.has_peers
 
 pub move_all-requires-clause-watched : goal.move_all-requires-clause-watched
 move_all-requires-clause-watched c =
     let own = c.in_ok-own_step.ensures in
-    watched_begun c.args.conf.now c.args.now c.args.happening.now (left_of c.args.self.now) (left_of c.own_step.new.self) own.part c.args.queue.now
+    watched_begun c.args.occasion.now.conf.now c.args.occasion.now.moment c.args.happening.now (left_of c.args.self.now) (left_of c.own_step.new.self) own.part c.args.queue.now
     c.stir.new.queue own.own_step c.requires.has_peers c.requires.still
     (subst (λ (s : SessionId). Stirs c.own_step.new.self.book s c.args.queue.now c.stir.new.queue) c.whose.ensures c.in_ok-stir.ensures)
 
@@ -33,7 +33,7 @@ returns-clause-acts c =
           begun = left_of c.own_step.new.self;
           parts = more.parts;
           own_step = own.own_step;
-          moves = moves_of c.args.conf.now c.args.now (left_of c.own_step.new.self) more.parts (left_of c.move_all.new.self) more.moves;
+          moves = moves_of c.args.occasion.now.conf.now c.args.occasion.now.moment (left_of c.own_step.new.self) more.parts (left_of c.move_all.new.self) more.moves;
           at_rest = c.in_ok-move_all.ensures.at_rest;
           outputs_are = c.new.ensures
               ∙ (more.outputs ∙ ap (λ (xs : List Output). xs ++ outputs_of more.parts) (own.outputs

@@ -12,9 +12,9 @@ returns-in-Some c =
     let old = left_of c.args.self.now in
     let x = c.in-Some.peer in
     let sits = c.in-Some.ensures.found in
-    on_ok_weaker c.end.result (λ ends. break_one c.args.conf.now c.args.now key old x sits c.args.out.now.items _ _ ends)
+    on_ok_weaker c.end.result (λ ends. break_one c.args.occasion.now.conf.now c.args.occasion.now.moment key old x sits c.args.out.now.items _ _ ends)
     (c.end.ensures key old.peers
-    (has_ended c.args.conf.now c.args.now key old x sits Fault None _ c.requires.has_peers c.requires.owed refl c.in-Some.ensures.rest))
+    (has_ended c.args.occasion.now.conf.now c.args.occasion.now.moment key old x sits Fault None _ c.requires.has_peers c.requires.owed refl c.in-Some.ensures.rest))
 
 pub invariant_of-self : goal.invariant_of-self
 invariant_of-self c = record { in_order = c.take.ensures.order }

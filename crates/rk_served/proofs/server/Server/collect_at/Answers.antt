@@ -1,21 +1,15 @@
-use Rattle.std.proofs.Common.{◌≡◌, ◌++◌, refl, sym, ap, ◌∙◌}
+use Rattle.std.proofs.Common.{refl}
 use Rattle.std.proofs.lemmas.Option.{slice_get_read, MatchOption-at_some}
 use Rattle.std.proofs.lemmas.Result.{on_ok_weaker}
-use Rattle.rk_served.specs.declared.peer.Peer.{Peer}
-use Rattle.rk_served.specs.Left.{replies_to}
-use Rattle.rk_served.proofs.PeerLists.{some_peer}
 use Rattle.rk_served.proofs.Moving.{collects_one}
 use Rattle.rk_served.proofs.server.Server.collect_at.Goals as goal
 
 pub returns : goal.returns
-returns c conf =
+returns c =
     let x = c.index.result.now in
     let at = slice_get_read c.args.self.now.peers.items _ c.args.index x c.args.self.now.peers.ok.0 c.requires.within c.index.ensures in
     let can = MatchOption-at_some _ _ x at c.requires.ready in
-    let again = slice_get_read c.args.self.now.peers.items _ c.args.index c.index-2.result.now c.args.self.now.peers.ok.0 c.requires.within c.index-2.ensures in
-    let same : c.index-2.result.now ≡ x = some_peer (sym again ∙ at) in
     on_ok_weaker c.put_reply.result
-    (λ puts. collects_one conf c.args.now _ _ _ _ c.args.index x.who x.subject x.channel at can.0 can.1 c.step-answer.result
-    c.step-answer.ensures.step refl (puts
-    ∙ ap (λ (s : Peer). c.args.out.now.items ++ replies_to s.who c.step-answer.result) same))
+    (λ puts. collects_one c.args.occasion.now.conf.now c.args.occasion.now.moment _ _ _ _ c.args.index x.who x.subject x.channel at can.0 can.1
+    c.step-answer.result c.step-answer.ensures.step refl puts)
     c.put_reply.ensures

@@ -4,19 +4,19 @@ use Rattle.rk_served.proofs.server.Server.end.Goals as goal
 
 pub returns-in_default : goal.returns-in_default
 returns-in_default c k peers ended =
-    ends_last c.args.conf.now c.args.now k c.args.event c.args.subject peers _ ended c.step.result c.step.new.self c.step.ensures.step
+    ends_last c.args.occasion.now.conf.now c.args.occasion.now.moment k c.args.event c.args.subject peers _ ended c.step.result c.step.new.self c.step.ensures.step
     c.in_default.not-Negate c.args.out.now.items
 
 pub returns-in-Some : goal.returns-in-Some
 returns-in-Some c k peers ended =
     on_ok_weaker c.start.result
     (λ starts.
-    ends_followed c.args.conf.now c.args.now k c.args.event c.args.subject peers _ ended c.step.result c.step.new.self c.step.ensures.step
+    ends_followed c.args.occasion.now.conf.now c.args.occasion.now.moment k c.args.event c.args.subject peers _ ended c.step.result c.step.new.self c.step.ensures.step
     c.in-Negate.key c.in-Negate.is c.in-Some.subject c.in-Some.is c.args.out.now.items _ _
     (rw c.negated.ensures at starts))
     c.start.ensures
 
 pub returns-in-None : goal.returns-in-None
 returns-in-None c k peers ended =
-    absurd (ends_unmade c.args.conf.now c.args.now k c.args.event c.args.subject peers _ ended c.step.result c.step.new.self c.step.ensures.step
+    absurd (ends_unmade c.args.occasion.now.conf.now c.args.occasion.now.moment k c.args.event c.args.subject peers _ ended c.step.result c.step.new.self c.step.ensures.step
     c.in-Negate.key c.in-Negate.is c.in-None.is)

@@ -1,13 +1,12 @@
 use Rattle.std.proofs.Common.{◌≡◌, refl, sym, ◌∙◌, ap}
 use Rattle.std.specs.Prelude.{Some, slice_set}
-use Rattle.std.proofs.lemmas.Option.{slice_get_read, MatchOption-at_some}
+use Rattle.std.proofs.lemmas.Option.{slice_get_read, MatchOption-at_some, same_Some}
 use Rattle.rk_names.specs.declared.numbers.SessionId.{SessionId}
 use Rattle.rk_names.specs.declared.numbers.SessionId.TheVariants.{Handler}
 use Rattle.rk_served.specs.declared.peer.Channel.{Channel}
 use Rattle.rk_served.specs.declared.peer.Peer.{Peer}
 use Rattle.rk_machine.specs.Views.{has_wait}
 use Rattle.rk_served.specs.Left.{peer}
-use Rattle.rk_served.proofs.PeerLists.{some_peer}
 use Rattle.rk_served.proofs.Moving.{shuts_client_one, shuts_handler_one}
 use Rattle.rk_served.proofs.Standings.{order_replaced}
 use Rattle.rk_served.proofs.server.Server.fault_at.Goals as goal
@@ -28,7 +27,7 @@ returns-in_ok-push-in-Handler c conf =
     let x = c.index_mut.result.now in
     let at = slice_get_read c.args.self.now.peers.items _ c.args.index x c.args.self.now.peers.ok.0 c.requires.within c.index_mut.ensures.value in
     let first = slice_get_read c.args.self.now.peers.items _ c.args.index c.index.result.now c.args.self.now.peers.ok.0 c.requires.within c.index.ensures in
-    let same : x ≡ c.index.result.now = some_peer (sym at ∙ first) in
+    let same : x ≡ c.index.result.now = same_Some _ _ (sym at ∙ first) in
     let who : x.who ≡ Handler c.in-Handler.key = ap (λ (v : Peer). v.who) same ∙ c.in-Handler.is in
     let free = MatchOption-at_some _ _ x at c.requires.free in
     let fault = MatchOption-at_some _ _ x at c.requires.fault in

@@ -11,9 +11,9 @@ returns-in-Some c =
     let x = c.in-Some.peer in
     let sits = c.in-Some.ensures.found in
     on_ok_weaker c.end.result
-    (λ ends. finish_one c.args.conf.now c.args.now key old x sits c.args.how c.into_payload.result c.into_payload.ensures c.args.out.now.items _ _ ends)
+    (λ ends. finish_one c.args.occasion.now.conf.now c.args.occasion.now.moment key old x sits c.args.how c.into_payload.result c.into_payload.ensures c.args.out.now.items _ _ ends)
     (c.end.ensures key old.peers
-    (has_ended c.args.conf.now c.args.now key old x sits c.args.how c.into_payload.result _ c.requires.has_peers c.requires.owed refl c.in-Some.ensures.rest))
+    (has_ended c.args.occasion.now.conf.now c.args.occasion.now.moment key old x sits c.args.how c.into_payload.result _ c.requires.has_peers c.requires.owed refl c.in-Some.ensures.rest))
 
 pub invariant_of-self : goal.invariant_of-self
 invariant_of-self c = record { in_order = c.take.ensures.order }

@@ -6,7 +6,7 @@ use Rattle.rk_served.proofs.server.Server.move_all.Given as goal
 
 abbrev pub invariant-loop : goal.invariant-loop
 invariant-loop l = record {
-  moves : MovesSome l.conf l.now (left_of l.fn.self) l.fn.out.items (left_of l.self) l.out.items;
+  moves : MovesSome l.occasion.conf.now l.occasion.moment (left_of l.fn.self) l.fn.out.items (left_of l.self) l.out.items;
   has_peers : HasItsPeers (left_of l.self);
   watched : IsWatched l.queue (left_of l.self);
 }

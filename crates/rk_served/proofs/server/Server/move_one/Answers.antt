@@ -10,7 +10,7 @@ returns-then-branch-clause-moves c =
     let old = left_of c.args.self.now in
     let by = rw (c.if-branch.true, c.loop-who.invariant.same, c.loop-who.invariant.put) at c.in_ok-move_by.ensures in
     let but = watched_popped c.in-Some.who c.loop-who.queue c.pop.new.self old c.loop-who.invariant.watched c.in-Some.ensures.others c.in-Some.ensures.waiters in
-    moves_first c.args.conf.now c.args.now c.in-Some.who c.pop.new.self old (left_of c.move_by.new.self) c.args.out.now.items c.move_by.new.out.items by but
+    moves_first c.args.occasion.now.conf.now c.args.occasion.now.moment c.in-Some.who c.pop.new.self old (left_of c.move_by.new.self) c.args.out.now.items c.move_by.new.out.items by but
     c.in-Some.ensures.first
 
 pub returns-then-branch-clause-watched : goal.returns-then-branch-clause-watched
@@ -18,7 +18,7 @@ returns-then-branch-clause-watched c =
     let old = left_of c.args.self.now in
     let by = rw (c.if-branch.true, c.loop-who.invariant.same, c.loop-who.invariant.put) at c.in_ok-move_by.ensures in
     let but = watched_popped c.in-Some.who c.loop-who.queue c.pop.new.self old c.loop-who.invariant.watched c.in-Some.ensures.others c.in-Some.ensures.waiters in
-    watched_after c.args.conf.now c.args.now c.in-Some.who c.pop.new.self c.stir.new.queue old (left_of c.move_by.new.self) c.args.out.now.items
+    watched_after c.args.occasion.now.conf.now c.args.occasion.now.moment c.in-Some.who c.pop.new.self c.stir.new.queue old (left_of c.move_by.new.self) c.args.out.now.items
     c.move_by.new.out.items by c.requires.has_peers but c.in_ok-stir.ensures
 
 pub loop-who-preserved : goal.loop-who-preserved

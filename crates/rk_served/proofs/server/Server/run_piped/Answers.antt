@@ -1,25 +1,24 @@
 use Rattle.std.proofs.Common.{◌++◌, ℕ, List, refl, sym, ap, ◌∙◌}
 use Rattle.std.specs.Prelude.{Some, slice_set}
-use Rattle.std.proofs.lemmas.Option.{slice_get_read, slice_get_within}
+use Rattle.std.proofs.lemmas.Option.{slice_get_read, slice_get_within, same_Some}
 use Rattle.rk_names.specs.declared.numbers.SessionId.TheVariants.{Handler}
 use Rattle.rk_served.specs.declared.peer.Channel.TheVariants.{Starts, Pipes}
 use Rattle.rk_served.specs.declared.peer.Peer.{Peer}
 use Rattle.rk_served.specs.Left.{peer}
 use Rattle.rk_served.specs.Channels.{callout_of}
-use Rattle.rk_served.proofs.PeerLists.{some_peer}
 use Rattle.rk_served.proofs.OwnSteps.{piped_one}
 use Rattle.rk_served.proofs.Standings.{order_replaced}
 use Rattle.rk_served.proofs.server.Server.run_piped.Goals as goal
 
 pub returns : goal.returns
-returns c conf =
+returns c =
     let xs = c.args.self.now.peers.items in
     let i = c.args.index in
     let there = c.requires.starts.1 in
     let within = slice_get_within xs i (peer (Handler c.args.key) (Starts _) (Some c.requires.starts.0)) there in
-    let first = some_peer (sym (slice_get_read xs _ i c.index.result.now refl within c.index.ensures) ∙ there) in
-    let same = some_peer (sym (slice_get_read xs _ i c.index_mut.result.now refl within c.index_mut.ensures.value) ∙ there) in
-    piped_one conf c.args.now c.args.key _ _ _ _ i c.requires.starts c.step.result c.requires.owed c.step.ensures.step
+    let first = same_Some _ _ (sym (slice_get_read xs _ i c.index.result.now refl within c.index.ensures) ∙ there) in
+    let same = same_Some _ _ (sym (slice_get_read xs _ i c.index_mut.result.now refl within c.index_mut.ensures.value) ∙ there) in
+    piped_one c.args.occasion.now.conf.now c.args.occasion.now.moment c.args.key _ _ _ _ i c.requires.starts c.step.result c.requires.owed c.step.ensures.step
     (ap (λ (x : Peer). slice_set xs i (peer x.who (Pipes c.new-2.result) x.subject)) same
     ∙ ap (λ (b : List ℕ). slice_set xs i (peer (Handler c.args.key) (Pipes b) (Some c.requires.starts.0))) (c.new-2.ensures ∙ c.new.ensures.items))
     (c.in_ok-put_callout.ensures ∙ ap (λ (x : Peer). c.args.out.now.items ++ callout_of c.args.key x.subject) first)

@@ -1,12 +1,11 @@
 use Rattle.std.proofs.Common.{refl, sym, ap, ◌∙◌}
 use Rattle.std.specs.Prelude.{Some, slice_set}
-use Rattle.std.proofs.lemmas.Option.{slice_get_read, slice_get_within}
+use Rattle.std.proofs.lemmas.Option.{slice_get_read, slice_get_within, same_Some}
 use Rattle.rk_names.specs.declared.numbers.SessionId.TheVariants.{Handler}
 use Rattle.rk_served.specs.declared.peer.Channel.TheVariants.{Talks, Starts}
 use Rattle.rk_served.specs.declared.peer.Peer.{Peer}
 use Rattle.rk_served.specs.Unused.{Unused}
 use Rattle.rk_served.specs.Left.{peer}
-use Rattle.rk_served.proofs.PeerLists.{some_peer}
 use Rattle.rk_served.proofs.OwnSteps.{plain_one}
 use Rattle.rk_served.proofs.Standings.{order_replaced}
 use Rattle.rk_served.proofs.server.Server.run_plain.Goals as goal
@@ -18,7 +17,7 @@ returns c conf put =
     let there = c.requires.starts.1 in
     let at = slice_get_read xs _ i c.index_mut.result.now refl
     (slice_get_within xs i (peer (Handler c.args.key) (Starts _) (Some c.requires.starts.0)) there) c.index_mut.ensures.value in
-    let same = some_peer (sym at ∙ there) in
+    let same = same_Some _ _ (sym at ∙ there) in
     plain_one conf c.args.now c.args.key _ _ put put i c.requires.starts c.step.result c.requires.owed c.step.ensures.step
     (ap (λ (x : Peer). slice_set xs i (peer x.who (Talks c.new.result) x.subject)) same
     ∙ ap (λ (u : Unused). slice_set xs i (peer (Handler c.args.key) (Talks u) (Some c.requires.starts.0))) c.new.ensures)

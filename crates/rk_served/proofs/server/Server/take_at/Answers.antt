@@ -1,19 +1,16 @@
-use Rattle.std.proofs.Common.{◌≡◌, ◌++◌, refl, inl, inr, subst, ap, ◌∙◌}
-use Rattle.std.specs.Prelude.{slice_set}
-use Rattle.std.proofs.lemmas.Option.{slice_get_read, slice_get_within, MatchOption-at_some}
-use Rattle.std.proofs.lemmas.List.{get_or-set_same}
-use Rattle.rk_machine.specs.declared.event.Answer.TheVariants.{Refused}
-use Rattle.rk_served.specs.declared.peer.Peer.{Peer}
-use Rattle.rk_served.specs.Left.{Left, peer, replies_to}
-use Rattle.rk_served.specs.Calls.{left_of, MovesOne, AnswersOne}
+use Rattle.std.proofs.Common.{refl, inl, inr, subst}
+use Rattle.std.proofs.lemmas.Option.{slice_get_read, MatchOption-at_some}
+use Rattle.rk_served.specs.Left.{Left}
+use Rattle.rk_served.specs.Calls.{left_of, MovesOne}
 use Rattle.rk_served.proofs.Moving.{next_left, rests_more, asks_one, refuses_one}
 use Rattle.rk_served.proofs.Standings.{order_replaced}
 use Rattle.rk_served.proofs.server.Server.take_at.Goals as goal
 
 pub returns-in-More : goal.returns-in-More
 returns-in-More c =
-    let x = c.index_mut.result.now in
-    let at = slice_get_read c.args.self.now.peers.items _ c.args.index x c.args.self.now.peers.ok.0 c.requires.within c.index_mut.ensures.value in
+    let x = c.index_mut-peer.result.now in
+    let peers = c.args.self.now.peers in
+    let at = slice_get_read peers.items _ c.args.index x peers.ok.0 c.requires.within c.index_mut-peer.ensures.value in
     let free = MatchOption-at_some _ _ x at c.requires.free in
     let next = rw c.in-More.is at c.in_ok-next.ensures in (
       next_left (left_of c.args.self.now) c.args.index x.who x.subject x.channel c.next.new.self at (inl next),
@@ -23,47 +20,37 @@ returns-in-More c =
 
 pub returns-in_ok-ask-in-Asks : goal.returns-in_ok-ask-in-Asks
 returns-in_ok-ask-in-Asks c =
-    let x = c.index_mut.result.now in
+    let x = c.index_mut-peer.result.now in
     let peers = c.args.self.now.peers in
-    let at = slice_get_read peers.items _ c.args.index x peers.ok.0 c.requires.within c.index_mut.ensures.value in
+    let at = slice_get_read peers.items _ c.args.index x peers.ok.0 c.requires.within c.index_mut-peer.ensures.value in
     let free = MatchOption-at_some _ _ x at c.requires.free in
     let next = rw c.in-Asks.is at c.in_ok-next.ensures in
-    let now_there : c.index.result.now ≡ peer x.who c.next.new.self x.subject = c.index.ensures
-    ∙ get_or-set_same peers.items c.args.index (peer x.who c.next.new.self x.subject) _ (slice_get_within peers.items c.args.index x at) in
-    asks_one c.args.conf.now c.args.now (left_of c.args.self.now) _ _ _ c.args.index x.who x.subject x.channel c.next.new.self c.in-Asks.ask at free next
-    (subst (λ (s : Peer). AnswersOne c.args.conf.now c.args.now
-    (record {
-      world = c.args.self.now.book;
-      peers = slice_set peers.items c.args.index (peer x.who c.next.new.self x.subject);
-    }) s.who c.in-Asks.ask c.args.out.now.items
-    (left_of c.ask.new.self) c.ask.new.out.items) now_there c.in_ok-ask-in-Asks.ensures)
+    asks_one c.args.occasion.now.conf.now c.args.occasion.now.moment (left_of c.args.self.now) _ _ _ c.args.index x.who x.subject x.channel c.next.new.self
+    c.in-Asks.ask at free next c.in_ok-ask-in-Asks.ensures
 
 pub returns-in_ok-put_reply-in-Refused : goal.returns-in_ok-put_reply-in-Refused
 returns-in_ok-put_reply-in-Refused c =
-    let x = c.index_mut.result.now in
+    let x = c.index_mut-peer.result.now in
     let peers = c.args.self.now.peers in
-    let at = slice_get_read peers.items _ c.args.index x peers.ok.0 c.requires.within c.index_mut.ensures.value in
+    let at = slice_get_read peers.items _ c.args.index x peers.ok.0 c.requires.within c.index_mut-peer.ensures.value in
     let free = MatchOption-at_some _ _ x at c.requires.free in
     let next = rw c.in-Refused.is at c.in_ok-next.ensures in
-    let now_there : c.index-in-Refused.result.now ≡ peer x.who c.next.new.self x.subject = c.index-in-Refused.ensures
-    ∙ get_or-set_same peers.items c.args.index (peer x.who c.next.new.self x.subject) _ (slice_get_within peers.items c.args.index x at) in
-    refuses_one c.args.conf.now c.args.now
-    (left_of c.args.self.now) _ _ _ c.args.index x.who x.subject x.channel c.next.new.self c.in-Refused.errno at free next refl refl
-    (c.in_ok-put_reply-in-Refused.ensures ∙ ap (λ (s : Peer). c.args.out.now.items ++ replies_to s.who (Refused c.in-Refused.errno)) now_there)
+    refuses_one c.args.occasion.now.conf.now c.args.occasion.now.moment (left_of c.args.self.now) _ _ _ c.args.index x.who x.subject x.channel c.next.new.self
+    c.in-Refused.errno at free next refl refl c.in_ok-put_reply-in-Refused.ensures
 
 pub returns-in_ok-fault_at-in-Fault : goal.returns-in_ok-fault_at-in-Fault
 returns-in_ok-fault_at-in-Fault c =
-    let x = c.index_mut.result.now in
+    let x = c.index_mut-peer.result.now in
     let peers = c.args.self.now.peers in
-    let at = slice_get_read peers.items _ c.args.index x peers.ok.0 c.requires.within c.index_mut.ensures.value in
+    let at = slice_get_read peers.items _ c.args.index x peers.ok.0 c.requires.within c.index_mut-peer.ensures.value in
     let next = rw c.in-Fault.is at c.in_ok-next.ensures in
-    subst (λ (l : Left). MovesOne c.args.conf.now c.args.now c.args.index l c.args.out.now.items (left_of c.fault_at.new.self) c.fault_at.new.out.items)
-    (next_left (left_of c.args.self.now) c.args.index x.who x.subject x.channel c.next.new.self at (inr next))
-    (c.in_ok-fault_at-in-Fault.ensures c.args.conf.now)
+    subst (λ (l : Left). MovesOne c.args.occasion.now.conf.now c.args.occasion.now.moment c.args.index l c.args.out.now.items (left_of c.fault_at.new.self)
+    c.fault_at.new.out.items) (next_left (left_of c.args.self.now) c.args.index x.who x.subject x.channel c.next.new.self at (inr next))
+    (c.in_ok-fault_at-in-Fault.ensures c.args.occasion.now.conf.now)
 
 pub invariant_of-self : goal.invariant_of-self
 invariant_of-self c =
     record {
-      in_order = order_replaced c.args.self.now.peers.items c.args.index c.index_mut.result.now c.next.new.self c.index_mut.ensures.value
+      in_order = order_replaced c.args.self.now.peers.items c.args.index c.index_mut-peer.result.now c.next.new.self c.index_mut-peer.ensures.value
           c.args.self.now.in_order;
     }
