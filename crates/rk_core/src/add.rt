@@ -69,8 +69,7 @@ impl Tables {
         ensures err { OnErr result (self.new ≡ self.old) }
     {
         let key = self.make_key(typ, description, asker.context.uid, payload)?;
-        let ring = Some(ring);
-        self.link(&ring, key);
+        self.link(ring, key);
         Ok(key)
     }
 

@@ -9,9 +9,9 @@ ghost use Rattle.rk_machine.specs.Steps.{Step};
 ghost use Rattle.rk_core.specs.Finding.{answer_of, is_hello, is_first};
 ghost use Rattle.rk_core.specs.Sound.{IsSound};
 
+use crate::completion_asks::Completion;
 use crate::tables::Tables;
 use crate::wanted::Wanted;
-use rk_keys::Condition;
 use rk_machine::{Answer, Asker, EventOf};
 use rk_message::AskStep;
 use rk_names::{Errno, KeyError, Moment, SessionId};
@@ -84,29 +84,21 @@ impl Tables {
             }
             AskStep::Assume { key } => self.assume(id, key),
             AskStep::Instantiate { key, payload, ring } => {
-                self.complete_key(now, asker, key, ring, Condition::Positive(payload), None)
+                self.complete_key(now, asker, key, ring, Completion::positive(payload))
             }
-            AskStep::Negate { key, timeout, ring } => self.complete_key(
-                now,
-                asker,
-                key,
-                ring,
-                Condition::Negative(KeyError::NoKey),
-                Some(now.plus(timeout)),
-            ),
+            AskStep::Negate { key, timeout, ring } => {
+                let completion = Completion::negative(KeyError::NoKey, now, timeout);
+                self.complete_key(now, asker, key, ring, completion)
+            }
             AskStep::Reject {
                 key,
                 timeout,
                 error,
                 ring,
-            } => self.complete_key(
-                now,
-                asker,
-                key,
-                ring,
-                Condition::Negative(error),
-                Some(now.plus(timeout)),
-            ),
+            } => {
+                let completion = Completion::negative(error, now, timeout);
+                self.complete_key(now, asker, key, ring, completion)
+            }
             AskStep::Read { key } => self.read(now, id, asker, key),
             AskStep::Describe { key } => self.describe(now, asker, key),
             AskStep::Revoke { key } => self.revoke(asker, key),

@@ -1,6 +1,7 @@
 //! INSTANTIATE, NEGATE, REJECT: a handler gives its key a condition.
-ghost use Rattle.std.specs.Prelude.{◌≡◌, ℕ, true, Some};
+ghost use Rattle.std.specs.Prelude.{◌≡◌, ℕ, true, None, Some};
 ghost use Rattle.std.specs.FinMap as map;
+ghost use Rattle.rk_names.specs.Numbers.{moment_plus};
 ghost use Rattle.rk_machine.specs.Asks.{Completes};
 ghost use Rattle.rk_core.specs.Finding.{answer_of, FindsOwn};
 ghost use Rattle.rk_core.specs.Sound.{IsSound};
@@ -9,7 +10,38 @@ use crate::named::serial_named;
 use crate::tables::Tables;
 use rk_keys::Condition;
 use rk_machine::{Answer, Asker, done};
-use rk_names::{Errno, Moment, Serial};
+use rk_names::{Errno, KeyError, Moment, Payload, Serial};
+
+/// What a handler makes of its key.
+#[derive(Debug, Drop)]
+pub struct Completion {
+    /// The condition that the key gets.
+    pub condition: Condition,
+    /// From when on it is expired; `None` for never.
+    pub expiry: Option<Moment>,
+}
+
+impl Completion {
+    /// The key has its payload.
+    pub fn positive(payload: Payload) -> Completion
+        ensures { result ≡ record { condition = Condition.Positive payload; expiry = None } }
+    {
+        Completion {
+            condition: Condition::Positive(payload),
+            expiry: None,
+        }
+    }
+
+    /// The key is negative with this error, for so many seconds.
+    pub fn negative(error: KeyError, now: Moment, seconds: u32) -> Completion
+        ensures { result ≡ record { condition = Condition.Negative error; expiry = Some (moment_plus now seconds) } }
+    {
+        Completion {
+            condition: Condition::Negative(error),
+            expiry: Some(now.plus(seconds)),
+        }
+    }
+}
 
 impl Tables {
     /// The key that the asker may complete, and the ring in which it is to be linked, if one is named, in the order of the refusals.
@@ -42,17 +74,17 @@ impl Tables {
         asker: &Asker,
         number: i32,
         ring: i32,
-        condition: Condition,
-        end: Option<Moment>,
+        completion: Completion,
     ) -> Result<Answer, Errno>
         requires sound { IsSound self.old }
         requires own { (k : ℕ) → asker.now.assumed ≡ Some k → map.contains_key self.old.keys k ≡ true }
-        ensures { Completes self.old now asker.now number ring condition end (answer_of result) self.new }
+        ensures { Completes self.old now asker.now number ring completion.condition completion.expiry (answer_of result) self.new }
     {
         let (key, ring) = self.own_key(asker, number, ring)?;
         let rival = self.rival(&ring, key);
         self.add_link(&ring, key);
-        self.complete(now, key, condition, end);
+        let Completion { condition, expiry } = completion;
+        self.complete(now, key, condition, expiry);
         self.let_both_vanish(rival, key);
         Ok(done())
     }

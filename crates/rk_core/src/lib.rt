@@ -23,11 +23,12 @@
 //! # How it is built
 //!
 //! The `Book` (`book`), which begins with its `limits`, is the `Tables` (`tables`) with what holds of every world that a run leads to (`specs/Sound.antt`).
-//! `Tables` joins rk_keys, rk_rings and rk_auth into one world; each of its methods does what one definition says. `links` has the changes of rings, and
-//! takes away the keys that lose their last link, each by itself: no step goes through all keys. `search` looks up a name once, and then one key in each ring
-//! of a context. `completion`, `making`, `sessions` and `new_rings` are what the asks are made of; `named` says who asks, and which keys and rings an ask
-//! names. `wanted` has what a REQUEST looks for. `hello`, `request`, `completion_asks`, `key_asks`, `ring_asks`, `add` and `session_asks` are the asks.
-//! `asks` is the gate and the dispatch, `steps` the six events, `views` what is returned without a step.
+//! `Tables` joins rk_keys, rk_rings and rk_auth into one world; each of its methods does what one definition says. `links` has the changes of rings,
+//! and takes away the keys that lose their last link, each by itself: no step goes through all keys. `search` looks up a name once, and then one key
+//! in each ring of a context, up to the first hit. `completion`, `making`, `sessions` and `new_rings` are what the asks are made of; `named` says who
+//! asks, and which keys and rings an ask names. `wanted` has what a REQUEST looks for. `hello`, `request`, `completion_asks`, `key_asks`,
+//! `ring_asks`, `add` and `session_asks` are the asks. `asks` is the gate and the dispatch, `steps` the six events, `views` what is returned without
+//! a step.
 //!
 //! A call that may refuse answers a `Result`: what it found, or the error (`specs/Finding.antt`). `asked` makes a reply of it, once.
 //!

@@ -25,11 +25,12 @@ impl Tables {
         self.rings.is_full(ring, self.keys.name(typ, description))
     }
 
+    /// The same for a key that is there, by the number of its name.
     fn is_full_for(&self, ring: Serial, key: Serial) -> bool
         ensures { result ≡ is_full_for self.now ring key }
     {
-        match self.keys.fact(key) {
-            Some(fact) => self.is_full_at(ring, &fact.typ.view(), &fact.description.view()),
+        match self.keys.number(key) {
+            Some(name) => self.rings.is_full(ring, Some(name)),
             None => false,
         }
     }
@@ -119,16 +120,29 @@ impl Tables {
         }
     }
 
-    /// Links a key in a ring, if one is given. The key that gives way vanishes with its last link.
-    pub fn link(&mut self, ring: &Option<Serial>, key: Serial)
+    /// Links a key in a ring. The key that gives way vanishes with its last link.
+    pub fn link(&mut self, ring: Serial, key: Serial)
+        requires known { map.contains_key self.old.keys key ≡ true }
+        requires room { full_refusal self.old (Some ring) key ≡ None }
+        requires tidy { StayBut (λ j. j == key) self.old }
+        ensures { self.new ≡ tidied (linked_in (Some ring) key self.old) }
+    {
+        let ring = Some(ring);
+        let rival = self.rival(&ring, key);
+        self.add_link(&ring, key);
+        self.let_both_vanish(rival, key);
+    }
+
+    /// The same if a ring is given. Without one nothing is looked up.
+    pub fn link_if(&mut self, ring: &Option<Serial>, key: Serial)
         requires known { map.contains_key self.old.keys key ≡ true }
         requires room { full_refusal self.old ring.now key ≡ None }
-        requires tidy { StayBut (λ j. j == key) self.old }
+        requires tidy { StayBut (λ j. false) self.old }
         ensures { self.new ≡ tidied (linked_in ring.now key self.old) }
     {
-        let rival = self.rival(ring, key);
-        self.add_link(ring, key);
-        self.let_both_vanish(rival, key);
+        if let Some(ring) = ring {
+            self.link(*ring, key);
+        }
     }
 
     /// Takes the link of a key out of a ring. The key vanishes with its last link.

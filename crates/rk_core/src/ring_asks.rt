@@ -39,7 +39,7 @@ impl Tables {
         ensures { LinksIn self.old now asker.now number ring (answer_of result) self.new }
     {
         let (key, ring) = self.linkable(now, asker, number, ring)?;
-        self.link(&Some(ring), key);
+        self.link(ring, key);
         Ok(done())
     }
 

@@ -1,158 +1,137 @@
-//! Search: the keys of a name in the rings of a context.
-ghost use Rattle.std.specs.Prelude.{◌≡◌, None, Some, option_and_then, unwrap_or};
-ghost use Rattle.std.specs.Option.{option_map};
-ghost use Rattle.std.specs.FinMap as map;
-ghost use Rattle.rk_keys.specs.Key.{standing_of};
-ghost use Rattle.rk_machine.specs.Search.{is_live, blocks, is_stale};
-ghost use Rattle.rk_core.specs.Sought.{IsSought, in_order, any_stands, stands, live_key, hit_in, block_in, stale_in};
+//! Search: the first hit of a name in the rings of a context, or the errors of the keys that are none.
+ghost use Rattle.std.specs.Prelude.{◌≡◌, ◌||◌, ◌++◌, ℕ, false, List, Option, option_to_list, unwrap_or, find};
+ghost use Rattle.std.specs.Option.{option_map_or};
+ghost use Rattle.rk_names.specs.declared.errors.KeyError.TheVariants as error;
+ghost use Rattle.rk_rings.specs.Numbered.{IsMatch};
+ghost use Rattle.rk_rings.specs.Places.{rings_of};
+ghost use Rattle.rk_machine.specs.World.{World};
+ghost use Rattle.rk_machine.specs.Search.{Query, same_error, errors};
+ghost use Rattle.rk_core.specs.Sought.{matched, IsSole, IsNumberOf, IsSought};
 
 use crate::tables::Tables;
-use rk_keys::Standing;
-use rk_names::{Context, DescriptionView, KeyError, Moment, Serial, TypeView};
+use rk_keys::{Keys, Standing};
+use rk_names::{Context, DescriptionView, KeyError, Moment, NameNo, Serial, TypeView};
+use rk_rings::Rings;
+
+/// What a search comes to (request_key(2)).
+#[derive(Clone, Copy, Debug)]
+pub enum Sought {
+    /// The first hit stands Positive: it may be used.
+    Positive(Serial),
+    /// The first hit stands Building: it may be waited for.
+    Building(Serial),
+    /// There is no hit.
+    Missed(Missed),
+}
+
+/// The errors of the keys that a search passes by, each the first in the order of errors (request-key.rst).
+#[derive(Clone, Copy, Debug)]
+pub struct Missed {
+    /// That of the negative keys. It blocks a construction.
+    pub block: Option<KeyError>,
+    /// That of the revoked and expired keys.
+    pub stale: Option<KeyError>,
+}
 
 /// The key of the name in a ring, and how it stands.
 #[derive(Clone, Copy, Debug)]
-pub struct Match {
+struct Match {
     /// The one key of that name in the ring.
-    pub key: Serial,
+    key: Serial,
     /// How it stands at the moment of the search.
-    pub standing: Standing,
+    standing: Standing,
 }
 
-/// The key of the name in each ring of a context, in the order of search (request_key(2)).
-#[derive(Clone, Copy, Debug)]
-pub struct Sought {
-    /// In the thread ring; `None` if there is no such key, or no such ring.
-    pub thread: Option<Match>,
-    /// In the process ring.
-    pub process: Option<Match>,
-    /// In the session ring.
-    pub session: Option<Match>,
-    /// In the user ring.
-    pub user: Option<Match>,
-}
+// ---- no hit
 
-impl Sought {
-    /// What was found, in the order of search.
-    fn in_order(&self) -> [Option<Match>; 4]
-        ensures { result ≡ in_order self.now }
-    {
-        [self.thread, self.process, self.session, self.user]
-    }
-
-    /// The first key that may be used, or waited for.
-    pub fn hit(&self) -> Option<Serial>
-        ensures { result ≡ hit_in self.now }
-    {
-        if let Some(key) = live_key(&self.thread) {
-            return Some(key);
-        }
-        if let Some(key) = live_key(&self.process) {
-            return Some(key);
-        }
-        if let Some(key) = live_key(&self.session) {
-            return Some(key);
-        }
-        live_key(&self.user)
-    }
-
-    /// The error of the negative keys, in the order of errors (request-key.rst).
-    pub fn block(&self) -> Option<KeyError>
-        ensures { result ≡ block_in self.now }
-    {
-        if self.is_blocked(KeyError::Revoked) {
-            Some(KeyError::Revoked)
-        } else if self.is_blocked(KeyError::Expired) {
-            Some(KeyError::Expired)
-        } else if self.is_blocked(KeyError::Rejected) {
-            Some(KeyError::Rejected)
-        } else if self.is_blocked(KeyError::NoKey) {
-            Some(KeyError::NoKey)
-        } else {
-            None
-        }
-    }
-
-    /// The error of the revoked and expired keys.
-    pub fn stale(&self) -> KeyError
-        ensures { result ≡ unwrap_or (stale_in self.now) KeyError.NoKey }
-    {
-        if self.is_stale(KeyError::Revoked) {
-            KeyError::Revoked
-        } else if self.is_stale(KeyError::Expired) {
-            KeyError::Expired
-        } else {
-            KeyError::NoKey
-        }
-    }
-
+impl Missed {
     /// The error if there is no hit: that of the negative keys before that of the others.
-    pub fn miss(&self) -> KeyError
-        ensures { result ≡ unwrap_or (block_in self.now) (unwrap_or (stale_in self.now) KeyError.NoKey) }
+    pub fn error(&self) -> KeyError
+        ensures { result ≡ unwrap_or self.now.block (unwrap_or self.now.stale error.NoKey) }
     {
-        match self.block() {
-            Some(error) => error,
-            None => self.stale(),
+        match (self.block, self.stale) {
+            (Some(error), _) | (None, Some(error)) => error,
+            (None, None) => KeyError::NoKey,
         }
     }
 
-    fn is_blocked(&self, error: KeyError) -> bool
-        ensures { result ≡ any_stands (blocks error) self.now }
+    /// What the search comes to with what was found in one more ring.
+    fn with(self, found: &Option<Match>) -> Sought
+        ensures { (w : World) (q : Query) (rings : List ℕ) (ring : Option ℕ) → IsSought w q rings (Sought.Missed self) → IsSole w q ring found.now
+            → IsSought w q (rings ++ option_to_list ring) result }
     {
-        self.in_order().iter().any(|found| blocks(error, found))
+        let Some(found) = found else {
+            return Sought::Missed(self);
+        };
+        match found.standing {
+            Standing::Positive => Sought::Positive(found.key),
+            Standing::Building => Sought::Building(found.key),
+            Standing::Negative(error) => Sought::Missed(Missed {
+                block: first_error(self.block, error),
+                stale: self.stale,
+            }),
+            Standing::Revoked => Sought::Missed(Missed {
+                block: self.block,
+                stale: first_error(self.stale, KeyError::Revoked),
+            }),
+            Standing::Expired => Sought::Missed(Missed {
+                block: self.block,
+                stale: first_error(self.stale, KeyError::Expired),
+            }),
+        }
     }
+}
 
-    fn is_stale(&self, error: KeyError) -> bool
-        ensures { result ≡ any_stands (is_stale error) self.now }
+/// The first of these two in the order of errors.
+fn first_error(before: Option<KeyError>, error: KeyError) -> Option<KeyError>
+    ensures { result ≡ find (λ e. option_map_or (same_error e) before false || same_error e error) errors }
+{
+    Some(match (before, error) {
+        (Some(KeyError::Revoked), _) | (_, KeyError::Revoked) => KeyError::Revoked,
+        (Some(KeyError::Expired), _) | (_, KeyError::Expired) => KeyError::Expired,
+        (Some(KeyError::Rejected), _) | (_, KeyError::Rejected) => KeyError::Rejected,
+        (Some(KeyError::NoKey) | None, KeyError::NoKey) => KeyError::NoKey,
+    })
+}
+
+// ---- ring after ring
+
+/// A search that is under way: the keys and rings in which it looks, for which name, and when.
+#[derive(Clone, Copy)]
+struct Search<'a> {
+    keys: &'a Keys,
+    rings: &'a Rings,
+    name: NameNo,
+    moment: Moment,
+}
+
+impl Search<'_> {
+    fn match_in(&self, ring: &Option<Serial>) -> Option<Match>
+        ensures { (found : Option ℕ) × IsMatch self.now.rings.now self.now.name ring.now found × (result ≡ matched self.now.keys.now self.now.moment found) }
     {
-        self.in_order().iter().any(|found| stale(error, found))
+        let key = match ring {
+            Some(ring) => self.rings.find_in(*ring, self.name)?,
+            None => return None,
+        };
+        let standing = self.keys.fact(key)?.standing(self.moment);
+        Some(Match { key, standing })
     }
-}
 
-fn live_key(found: &Option<Match>) -> Option<Serial>
-    ensures { result ≡ live_key found.now }
-{
-    match found {
-        Some(one) if is_live(one.standing) => Some(one.key),
-        _ => None,
-    }
-}
-
-fn is_live(standing: Standing) -> bool
-    ensures { result ≡ is_live standing }
-{
-    matches!(standing, Standing::Building | Standing::Positive)
-}
-
-fn blocks(error: KeyError, found: &Option<Match>) -> bool
-    ensures { result ≡ stands (blocks error) found.now }
-{
-    match found {
-        Some(
-            Match {
-                standing: Standing::Negative(negative),
-                ..
-            },
-        ) => error == *negative,
-        _ => false,
-    }
-}
-
-fn stale(error: KeyError, found: &Option<Match>) -> bool
-    ensures { result ≡ stands (is_stale error) found.now }
-{
-    match found {
-        Some(one) => match (error, one.standing) {
-            (KeyError::Revoked, Standing::Revoked) => true,
-            (KeyError::Expired, Standing::Expired) => true,
-            _ => false,
-        },
-        None => false,
+    /// Looks in the next ring, if one is given, unless one before it had a hit.
+    fn further(&self, before: Sought, ring: &Option<Serial>) -> Sought
+        ensures { (w : World) (q : Query) (rings : List ℕ) → self.now.moment ≡ q.now → IsNumberOf w q self.now.keys.now self.now.rings.now self.now.name
+            → IsSought w q rings before → IsSought w q (rings ++ option_to_list ring.now) result }
+    {
+        match before {
+            Sought::Missed(missed) => missed.with(&self.match_in(ring)),
+            Sought::Positive(_) | Sought::Building(_) => before,
+        }
     }
 }
 
 impl Tables {
-    /// Looks for the key of that name in each ring of the context. It takes no memory, and looks up the name once.
+    /// Looks for the key of that name in one ring of the context after the other, up to the first hit. It takes no memory, and looks up the
+    /// name once.
     pub fn search(
         &self,
         context: &Context,
@@ -160,30 +139,24 @@ impl Tables {
         description: &DescriptionView<'_>,
         now: Moment,
     ) -> Sought
-        ensures { IsSought self.now (record { context = context.now; typ = typ.now; description = description.now; now = now }) result }
+        ensures { IsSought self.now (record { context = context.now; typ = typ.now; description = description.now; now = now }) (rings_of context.now) result }
     {
+        let sought = Sought::Missed(Missed {
+            block: None,
+            stale: None,
+        });
         let Some(name) = self.keys.name(typ, description) else {
-            return Sought {
-                thread: None,
-                process: None,
-                session: None,
-                user: None,
-            };
+            return sought;
         };
-        let found = self.rings.find(context, name);
-        Sought {
-            thread: self.match_of(found.thread, now),
-            process: self.match_of(found.process, now),
-            session: self.match_of(found.session, now),
-            user: self.match_of(found.user, now),
-        }
-    }
-
-    fn match_of(&self, found: Option<Serial>, now: Moment) -> Option<Match>
-        ensures { result ≡ option_and_then (λ k. option_map (λ key. record { key = k; standing = standing_of key now }) (map.get self.now.keys k)) found }
-    {
-        let key = found?;
-        let standing = self.keys.fact(key)?.standing(now);
-        Some(Match { key, standing })
+        let search = Search {
+            keys: &self.keys,
+            rings: &self.rings,
+            name,
+            moment: now,
+        };
+        let sought = search.further(sought, &context.thread);
+        let sought = search.further(sought, &context.process);
+        let sought = search.further(sought, &Some(context.session));
+        search.further(sought, &Some(context.user))
     }
 }

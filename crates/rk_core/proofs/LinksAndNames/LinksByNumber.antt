@@ -1,6 +1,6 @@
 -- Links by the numbers of names, as the world sees them.
 use Rattle.std.proofs.Common.{◌≡◌, ◌⊎◌, ◌↔◌, ℕ, Bool, true, false, cond, not, ◌&&◌, ◌||◌, List, [], ◌∷◌, refl, sym, ap, ◌∙◌, inl, inr}
-use Rattle.std.specs.Prelude.{⊤, Option, Some, None, Result, Ok, Err, OnOk, OnErr, IfErr, nat_eq, nat_le, option_map, is_some}
+use Rattle.std.specs.Prelude.{⊤, Option, Some, None, Result, Ok, Err, OnOk, OnErr, IfErr, nat_eq, nat_le, option_map, unwrap_or, is_some}
 use Rattle.std.specs.Option.{option_map_or}
 use Rattle.std.specs.List.{list_any}
 use Rattle.std.specs.Ordering.{nat_cmp, eq_by_cmp}
@@ -10,7 +10,7 @@ use Rattle.std.specs.FinSet as set
 use Rattle.std.proofs.lemmas.Bool.{eqb-true, eq-eqb, ne_eqb, both_ways}
 use Rattle.rk_table.specs.Maps.{changed_at}
 use Rattle.rk_keys.specs.declared.key.Key.{Key}
-use Rattle.rk_keys.specs.Key.{has_name, is_rival}
+use Rattle.rk_keys.specs.Key.{key_passes, has_name, is_rival}
 use Rattle.rk_keys.specs.Known.{Known, IsNaming}
 use Rattle.rk_rings.specs.declared.fault.RingFault.{RingFault}
 use Rattle.rk_rings.specs.declared.fault.RingFault.TheVariants as fault
@@ -24,7 +24,7 @@ use Rattle.rk_core.specs.Numbering.{NumbersAgree}
 use Rattle.rk_machine.specs.Links.{is_full, holds_name}
 use Rattle.rk_machine.proofs.Found.InMaps.{get_removed}
 use Rattle.rk_core.proofs.LinksAndNames.LinksAfter.{same_answer}
-use Rattle.rk_core.proofs.LinksAndNames.KeysOfAName.{IsNameOf, by_key, gives_way_by}
+use Rattle.rk_core.proofs.LinksAndNames.KeysOfAName.{IsNameOf, key_of, by_key, gives_way_by}
 
 -- ---- a link is put in
 
@@ -110,6 +110,26 @@ full_alike known rings ring typ description name kept names =
         → option_map_or (numbered.is_full name) o false ≡ option_map_or (is_full known.keys typ description) (option_map ring_seen o) false
     by_ring None is = refl
     by_ring (Some r) is = λ i. nat_le 256 (sym (len-ring_seen r) i) && not (holds_alike known rings ring r typ description name kept names is i)
+
+-- whether there is room for a key goes by the number of its name
+pub full_by_number : (known : Known) (rings : Rings) (ring k n : ℕ) → IsNaming known.keys known.numbers → NumbersAgree known rings
+    → map.get known.numbers k ≡ Some n
+    → numbered.is_full_at rings ring (Some n)
+    ≡ key_passes known.keys k (λ key. option_map_or (is_full known.keys key.typ key.description) (map.get (rings_seen rings) ring) false)
+full_by_number known rings ring k n naming kept number =
+    let key = key_of known k n naming number in
+    full_alike known rings ring key.0.typ key.0.description (Some n) kept (by_key known k n key.0 naming key.1 number)
+    ∙ ap (λ o. unwrap_or (option_map (λ (key : Key). option_map_or (is_full known.keys key.typ key.description) (map.get (rings_seen rings) ring) false) o) false)
+    (sym key.1)
+
+-- a key without a number is none
+pub unnumbered : (known : Known) (k : ℕ) (p : Key → Bool) → IsNaming known.keys known.numbers → map.get known.numbers k ≡ None
+    → false ≡ key_passes known.keys k p
+unnumbered known k p naming none = by_key (map.get known.keys k) (sym (naming.each k) ∙ ap is_some none)
+  where
+    by_key : (o : Option Key) → is_some o ≡ false → false ≡ unwrap_or (option_map p o) false
+    by_key None h = refl
+    by_key (Some key) h = absurd (both_ways true h refl)
 
 -- ---- the call that links
 

@@ -1,6 +1,6 @@
 -- The one key of a name in a ring, found by the number of the name.
 use Rattle.std.proofs.Common.{◌≡◌, ℕ, Bool, true, false, ◌&&◌, refl, sym, ap, ◌∙◌}
-use Rattle.std.specs.Prelude.{Option, Some, None, nat_eq, option_map, option_and_then, unwrap_or}
+use Rattle.std.specs.Prelude.{Option, Some, None, nat_eq, option_map, unwrap_or}
 use Rattle.std.specs.Option.{option_map_or}
 use Rattle.std.specs.FinMap as map
 use Rattle.std.proofs.lemmas.Bool.{eqb-true, eq-eqb, ne_eqb, both_ways}
@@ -13,14 +13,10 @@ use Rattle.rk_rings.specs.Numbered.{Numbered, Rings, rings_seen, IsMatch}
 use Rattle.rk_core.specs.Numbering.{NumbersAgree}
 use Rattle.rk_machine.specs.World.{World}
 use Rattle.rk_machine.specs.Search.{Query, answers}
-use Rattle.rk_core.specs.Sought.{IsSole}
+use Rattle.rk_core.specs.Sought.{matched, IsSole}
 use Rattle.rk_core.specs.declared.search.Match.{Match}
 use Rattle.rk_core.proofs.LinksAndNames.KeysOfAName.{IsNameOf, key_of}
 use Rattle.rk_core.proofs.LinksAndNames.LinksByNumber.{linked_is, not_linked, last_false}
-
--- the key that is found, and how it stands
-abbrev pub matched : Known → ℕ → Option ℕ → Option Match
-matched known now found = option_and_then (λ k. option_map (λ (key : Key). record { key = k; standing = standing_of key now }) (map.get known.keys k)) found
 
 module _ (known : Known) (rings : Rings) (q : Query) (naming : IsNaming known.keys known.numbers) (kept : NumbersAgree known rings) where
   abbrev passes : (Standing → Bool) → ℕ → Bool

@@ -1,39 +1,44 @@
 -- A request, step by step.
-use Rattle.std.proofs.Common.{◌≡◌, ℕ, Bool, List, [], ◌∷◌, refl, sym, ap, ◌∙◌, subst}
+use Rattle.std.proofs.Common.{◌≡◌, ℕ, Bool, true, false, not, List, [], ◌∷◌, refl, sym, ap, ◌∙◌, subst}
 use Rattle.std.specs.Prelude.{ℤ, Option, Some, None, option_map, unwrap_or, MatchOption}
+use Rattle.std.specs.Bool.{MatchBool}
+use Rattle.std.specs.FinMap as map
 use Rattle.rk_names.specs.declared.numbers.SessionId.{SessionId}
 use Rattle.rk_names.specs.declared.errors.Errno.{Errno}
 use Rattle.rk_names.specs.Numbers.{key_errno}
 use Rattle.rk_names.specs.declared.errors.KeyError.TheVariants as error
 use Rattle.rk_table.specs.Says.{Says}
+use Rattle.rk_keys.specs.declared.key.Key.{Key}
+use Rattle.rk_keys.specs.Key.{key_passes, is_building}
 use Rattle.rk_keys.specs.Serials.{HasSerials}
 use Rattle.rk_rings.specs.Places.{rings_of}
 use Rattle.rk_machine.specs.declared.event.Answer.{Answer}
 use Rattle.rk_machine.specs.declared.event.Answer.TheVariants.{Refused}
-use Rattle.rk_core.specs.declared.search.Sought.{Sought}
+use Rattle.rk_core.specs.declared.search.Missed.{Missed}
+use Rattle.rk_core.specs.declared.search.Sought.TheVariants as sought
 use Rattle.rk_machine.specs.World.{World}
 use Rattle.rk_machine.specs.declared.asker.Asker.{Asker}
 use Rattle.rk_machine.specs.Asker.{ring_for, ring_or_none_refusal}
 use Rattle.rk_machine.specs.Allowed.{first_of, OrNoMemory}
 use Rattle.rk_machine.specs.Search.{Query, Hits, block_of}
-use Rattle.rk_core.specs.Sought.{IsSought, block_in, stale_in}
-use Rattle.rk_machine.specs.Request.{start_refusal, destination_of, Begins, Misses, Meets, Requests}
+use Rattle.rk_core.specs.Sought.{IsSought}
+use Rattle.rk_machine.specs.Request.{start_refusal, destination_of, Begins, Misses, MeetsBuilding, MeetsPositive, Meets, Requests}
 use Rattle.rk_machine.proofs.Found.Refusals.{unless_none, unless_some}
-use Rattle.rk_core.proofs.Searching.WhatIsHit.{block_as, stale_as}
 
-module _ (old : World) (s : SessionId) (asker : Asker) (q : Query) (ring : ℕ) (sought : Sought) (found : IsSought old q sought) where
+module _ (old : World) (s : SessionId) (asker : Asker) (q : Query) (ring : ℕ) (missed : Missed)
+    (found : IsSought old q (rings_of q.context) (sought.Missed missed)) where
   abbrev refusal : Bool → Option Errno
-  refusal left = first_of (option_map key_errno (block_in sought) ∷ start_refusal old asker q ring left ∷ [])
+  refusal left = first_of (option_map key_errno missed.block ∷ start_refusal old asker q ring left ∷ [])
 
   same_refusal : (left : Bool) → refusal left ≡ first_of (option_map key_errno (block_of old q) ∷ start_refusal old asker q ring left ∷ [])
-  same_refusal left = ap (λ o. first_of (option_map key_errno o ∷ start_refusal old asker q ring left ∷ [])) (sym (block_as old q sought found))
+  same_refusal left = ap (λ o. first_of (option_map key_errno o ∷ start_refusal old asker q ring left ∷ [])) found.1
 
   -- without a callout
   pub told_error : (callout : Option (List ℕ)) (told : Errno) → callout ≡ None
-      → told ≡ key_errno (unwrap_or (block_in sought) (unwrap_or (stale_in sought) error.NoKey)) → Misses old s asker q callout ring (Refused told) old
+      → told ≡ key_errno (unwrap_or missed.block (unwrap_or missed.stale error.NoKey)) → Misses old s asker q callout ring (Refused told) old
   told_error callout told none is =
       subst (λ (o : Option (List ℕ)). Misses old s asker q o ring (Refused told) old) (sym none)
-      (ap (λ (e : Errno). Refused e) (is ∙ (λ i. key_errno (unwrap_or (sym (block_as old q sought found) i) (sym (stale_as old q sought found) i)))), refl)
+      (ap (λ (e : Errno). Refused e) (is ∙ (λ i. key_errno (unwrap_or (found.1 i) (unwrap_or (found.2 i) error.NoKey)))), refl)
 
   -- no construction may start
   pub start_refused : (callout : Option (List ℕ)) (info : List ℕ) (left : Bool) (error : Errno) → callout ≡ Some info → Says left (HasSerials old.serials 1)
@@ -52,6 +57,26 @@ module _ (old : World) (s : SessionId) (asker : Asker) (q : Query) (ring : ℕ) 
       (left, says, unless_none _ old a new _ (sym (same_refusal left) ∙ none) begun)
 
 -- ---- what the search found
+
+-- a hit that stands Positive is answered
+pub meets_positive : (old : World) (s : SessionId) (k : ℕ) (ring : Option ℕ) (a : Answer) (new : World)
+    → key_passes old.keys k (λ key. not (is_building key)) ≡ true → MeetsPositive old k ring a new → Meets old s k ring a new
+meets_positive old s k ring a new positive met =
+    subst (λ b. MatchBool b (MeetsBuilding old s k ring a new) (MeetsPositive old k ring a new)) (sym (by_key (map.get old.keys k) positive)) met
+  where
+    by_test : (b : Bool) → not b ≡ true → b ≡ false
+    by_test true h = sym h
+    by_test false h = refl
+
+    by_key : (o : Option Key) → unwrap_or (option_map (λ key. not (is_building key)) o) false ≡ true → unwrap_or (option_map is_building o) false ≡ false
+    by_key None h = refl
+    by_key (Some key) h = by_test (is_building key) h
+
+-- one under construction is waited for
+pub meets_building : (old : World) (s : SessionId) (k : ℕ) (ring : Option ℕ) (a : Answer) (new : World)
+    → key_passes old.keys k is_building ≡ true → MeetsBuilding old s k ring a new → Meets old s k ring a new
+meets_building old s k ring a new building met =
+    subst (λ b. MatchBool b (MeetsBuilding old s k ring a new) (MeetsPositive old k ring a new)) (sym building) met
 
 -- a request without a bad ring is answered as the machine answers it: by a key that it hits, or as a miss
 pub requested : (old : World) (now : ℕ) (s : SessionId) (asker : Asker) (typ description : List ℕ) (callout : Option (List ℕ)) (r : ℤ) (a : Answer)

@@ -1,112 +1,162 @@
--- What is found in each ring tells what the search hits, and which error there is.
-use Rattle.std.proofs.Common.{◌≡◌, ◌⊎◌, ℕ, Bool, true, false, cond, ◌&&◌, ◌||◌, List, [], ◌∷◌, ◌++◌, refl, sym, ap, ◌∙◌, inl, inr, subst}
+-- What is found in each ring tells what the search hits, and which errors there are.
+use Rattle.std.proofs.Common.{◌≡◌, ◌⊎◌, ℕ, Bool, true, false, cond, not, ◌&&◌, ◌||◌, List, [], ◌∷◌, ◌++◌, refl, sym, ap, ◌∙◌, inl, inr, subst}
 use Rattle.std.specs.Prelude.{Option, Some, None, nat_eq, option_map, option_to_list, unwrap_or, is_some, find}
 use Rattle.std.specs.Option.{option_map_or}
 use Rattle.std.specs.List.{list_any}
+use Rattle.std.specs.Ordering.{nat_cmp}
 use Rattle.std.specs.FinMap as map
 use Rattle.std.specs.FinSet as set
 use Rattle.std.proofs.lemmas.Bool.{and_parts, both_ways}
+use Rattle.std.proofs.lemmas.List.{append-nil}
+use Rattle.std.proofs.lemmas.List.Folds.{list_any-append}
+use Rattle.rk_names.specs.declared.errors.KeyError.{KeyError}
 use Rattle.rk_names.specs.declared.errors.KeyError.TheVariants as error
+use Rattle.rk_names.specs.declared.context.Context.{Context}
+use Rattle.rk_keys.specs.declared.key.Condition.{Condition}
+use Rattle.rk_keys.specs.declared.key.Condition.TheVariants as condition
 use Rattle.rk_keys.specs.declared.key.Key.{Key}
 use Rattle.rk_keys.specs.declared.key.Standing.{Standing}
-use Rattle.rk_keys.specs.Key.{key_passes}
+use Rattle.rk_keys.specs.declared.key.Standing.TheVariants as standing
+use Rattle.rk_keys.specs.Key.{key_passes, is_named, is_building, builds, is_past, standing_of, stands_by}
 use Rattle.rk_rings.specs.Ring.{Ring, is_linked}
 use Rattle.rk_rings.specs.Places.{rings_of}
 use Rattle.rk_machine.specs.World.{World}
-use Rattle.rk_machine.specs.Search.{Query, Hits, answers, is_live, is_hit, has_match, some_match, blocks, is_stale, errors, block_of, stale_of}
-use Rattle.rk_core.specs.Sought.{IsSole, IsSought, stands, any_stands, live_key, or_else, hit_in, block_in, stale_in}
+use Rattle.rk_machine.specs.Search.{Query, Hits, answers, is_live, is_hit, has_match, same_error, blocks, is_stale, errors}
+use Rattle.rk_core.specs.Sought.{IsSole, IsSought, error_in}
 use Rattle.rk_core.specs.declared.search.Match.{Match}
+use Rattle.rk_core.specs.declared.search.Missed.{Missed}
 use Rattle.rk_core.specs.declared.search.Sought.{Sought}
-use Rattle.rk_core.proofs.LinksAndNames.LinksByNumber.{item_passes, passing_item}
+use Rattle.rk_core.specs.declared.search.Sought.TheVariants as sought
+use Rattle.rk_core.proofs.LinksAndNames.LinksByNumber.{item_passes, passing_item, last_false}
 use Rattle.rk_core.proofs.LinksAndNames.LinksAfter.{same_answer, tied_itself, has_key}
 
-or_none : (o : Option ℕ) → or_else o None ≡ o
-or_none None = refl
-or_none (Some k) = refl
+or_false : (b : Bool) → (b || false) ≡ b
+or_false true = refl
+or_false false = refl
+
+-- ---- the first error of two
+
+-- a test of the four errors
+errors_at : Bool → Bool → Bool → Bool → KeyError → Bool
+errors_at a b c d error.Revoked = a
+errors_at a b c d error.Expired = b
+errors_at a b c d error.Rejected = c
+errors_at a b c d error.NoKey = d
+
+more : (a b c d : Bool) (f : KeyError) → find (λ e. errors_at a b c d e || same_error e f) errors
+    ≡ find (λ e. option_map_or (same_error e) (find (errors_at a b c d) errors) false || same_error e f) errors
+unfolding errors_at
+more true b c d f = refl
+more false true c d error.Revoked = refl
+more false true c d error.Expired = refl
+more false true c d error.Rejected = refl
+more false true c d error.NoKey = refl
+more false false true d error.Revoked = refl
+more false false true d error.Expired = refl
+more false false true d error.Rejected = refl
+more false false true d error.NoKey = refl
+more false false false true error.Revoked = refl
+more false false false true error.Expired = refl
+more false false false true error.Rejected = refl
+more false false false true error.NoKey = refl
+more false false false false error.Revoked = refl
+more false false false false error.Expired = refl
+more false false false false error.Rejected = refl
+more false false false false error.NoKey = refl
+
+-- the first of some errors and one more
+one_more : (some one : KeyError → Bool) (f : KeyError) → ((e : KeyError) → one e ≡ same_error e f) → find (λ e. some e || one e) errors
+    ≡ find (λ e. option_map_or (same_error e) (find some errors) false || same_error e f) errors
+unfolding errors_at
+one_more some one f is =
+    (λ i. find (λ e. some e || is e i) errors)
+    ∙ more (some error.Revoked) (some error.Expired) (some error.Rejected) (some error.NoKey) f
+
+no_more : (some one : KeyError → Bool) → ((e : KeyError) → one e ≡ false) → find (λ e. some e || one e) errors ≡ find some errors
+no_more some one none = λ i. find (λ e. (ap (λ b. some e || b) (none e) ∙ or_false (some e)) i) errors
+
+-- ---- what stands Positive or Building
+
+is_positive : Standing → Bool
+is_positive standing.Positive = true
+is_positive _ = false
+
+stands_building : Standing → Bool
+stands_building standing.Building = true
+stands_building _ = false
+
+positive_not_building : (now : ℕ) (key : Key) → is_positive (standing_of key now) ≡ true → not (is_building key) ≡ true
+unfolding is_positive
+positive_not_building now key h = by_parts key.revoked (is_past key.expiry now) key.condition h
+  where
+    by_parts : (r p : Bool) (c : Condition) → is_positive (cond r standing.Revoked (cond p standing.Expired (stands_by c))) ≡ true → not (builds c) ≡ true
+    by_parts true p c h = absurd (both_ways false refl h)
+    by_parts false true c h = absurd (both_ways false refl h)
+    by_parts false false condition.Building h = absurd (both_ways false refl h)
+    by_parts false false (condition.Positive payload) h = refl
+    by_parts false false (condition.Negative e) h = absurd (both_ways false refl h)
+
+building_builds : (now : ℕ) (key : Key) → stands_building (standing_of key now) ≡ true → is_building key ≡ true
+unfolding stands_building
+building_builds now key h = by_parts key.revoked (is_past key.expiry now) key.condition h
+  where
+    by_parts : (r p : Bool) (c : Condition) → stands_building (cond r standing.Revoked (cond p standing.Expired (stands_by c))) ≡ true → builds c ≡ true
+    by_parts true p c h = absurd (both_ways false refl h)
+    by_parts false true c h = absurd (both_ways false refl h)
+    by_parts false false condition.Building h = refl
+    by_parts false false (condition.Positive payload) h = absurd (both_ways false refl h)
+    by_parts false false (condition.Negative e) h = absurd (both_ways false refl h)
+
+-- a key that passes some test is there
+pub passes_known : (keys : map.FinMap nat_cmp Key) (p : Key → Bool) (k : ℕ) → key_passes keys k p ≡ true → map.contains_key keys k ≡ true
+passes_known keys p k h = there (map.get keys k) h
+  where
+    there : (o : Option Key) → unwrap_or (option_map p o) false ≡ true → is_some o ≡ true
+    there None h = h
+    there (Some key) h = refl
 
 module _ (w : World) (q : Query) where
-  -- ---- the hit
+  -- ---- one more ring
 
-  no_hit : (ring : ℕ) (rings : List ℕ) (rest : Option ℕ) → ((k : ℕ) → is_hit w q ring k ≡ false) → Hits w q rings rest → Hits w q (ring ∷ rings) rest
-  no_hit ring rings None none h = (none, h)
-  no_hit ring rings (Some k) none h = inr (none, h)
+  none_further : (rings : List ℕ) (ring : ℕ) → Hits w q rings None → ((k : ℕ) → is_hit w q ring k ≡ false) → Hits w q (rings ++ (ring ∷ [])) None
+  none_further [] ring h none = (none, refl)
+  none_further (r ∷ rings) ring h none = (h.0, none_further rings ring h.1 none)
 
-  one_ring : (ring : ℕ) (rings : List ℕ) (m : Option Match) (rest : Option ℕ) → IsSole w q (Some ring) m → Hits w q rings rest
-      → Hits w q (ring ∷ rings) (or_else (live_key m) rest)
-  one_ring ring rings None rest sole h = no_hit ring rings rest (λ k. sole is_live k) h
-  one_ring ring rings (Some one) rest sole h =
-      elim (is_live one.standing) as (λ b. is_live one.standing ≡ b → Hits w q (ring ∷ rings) (or_else (cond b (Some one.key) None) rest)) [
-        | true ↦ λ t. inl (sole is_live one.key ∙ (λ i. tied_itself one.key i && t i))
-        | false ↦ λ t. no_hit ring rings rest (λ k. sole is_live k ∙ ap (λ b. nat_eq k one.key && b) t ∙ never (nat_eq k one.key)) h
-      ] refl
+  hit_further : (rings : List ℕ) (ring k : ℕ) → Hits w q rings None → is_hit w q ring k ≡ true → Hits w q (rings ++ (ring ∷ [])) (Some k)
+  hit_further [] ring k h hit = inl hit
+  hit_further (r ∷ rings) ring k h hit = inr (h.0, hit_further rings ring k h.1 hit)
+
+  -- a hit stays one, whatever rings follow
+  hit_stays : (rings more : List ℕ) (k : ℕ) → Hits w q rings (Some k) → Hits w q (rings ++ more) (Some k)
+  hit_stays [] more k h = absurd (let no : Some k ≡ None = h in cc)
+  hit_stays (r ∷ rings) more k (inl hit) = inl hit
+  hit_stays (r ∷ rings) more k (inr h) = inr (h.0, hit_stays rings more k h.1)
+
+  sole_passes : (ring : ℕ) (one : Match) (p : Standing → Bool) → IsSole w q (Some ring) (Some one) → p one.standing ≡ true
+      → (is_linked w.rings ring one.key && key_passes w.keys one.key (answers q p)) ≡ true
+  sole_passes ring one p sole t = sole p one.key ∙ (λ i. tied_itself one.key i && t i)
+
+  hits_one : (rings : List ℕ) (ring : Option ℕ) (one : Match) → Hits w q rings None → IsSole w q ring (Some one) → is_live one.standing ≡ true
+      → Hits w q (rings ++ option_to_list ring) (Some one.key)
+  hits_one rings None one h sole t = absurd (let no : Some one ≡ None = sole in cc)
+  hits_one rings (Some ring) one h sole t = hit_further rings ring one.key h (sole_passes ring one is_live sole t)
+
+  -- what a standing tells of the key
+  told_by : (p : Standing → Bool) (about : Key → Bool) → ((key : Key) → p (standing_of key q.now) ≡ true → about key ≡ true) → (ring : Option ℕ) (one : Match)
+      → IsSole w q ring (Some one) → p one.standing ≡ true
+      → key_passes w.keys one.key about ≡ true
+  told_by p about tells None one sole t = absurd (let no : Some one ≡ None = sole in cc)
+  told_by p about tells (Some ring) one sole t =
+      by_key (map.get w.keys one.key) (and_parts (is_linked w.rings ring one.key) (key_passes w.keys one.key (answers q p)) (sole_passes ring one p sole t)).1
     where
-      never : (b : Bool) → (b && false) ≡ false
-      never true = refl
-      never false = refl
-
-  maybe_ring : (o : Option ℕ) (rings : List ℕ) (m : Option Match) (rest : Option ℕ) → IsSole w q o m → Hits w q rings rest
-      → Hits w q (option_to_list o ++ rings) (or_else (live_key m) rest)
-  maybe_ring None rings None rest sole h = h
-  maybe_ring None rings (Some one) rest sole h = absurd (let no : Some one ≡ None = sole in cc)
-  maybe_ring (Some ring) rings m rest sole h = one_ring ring rings m rest sole h
-
-  -- the search hits what is found so in the four rings
-  pub hits_of : (s : Sought) → IsSought w q s → Hits w q (rings_of q.context) (hit_in s)
-  hits_of s h =
-      maybe_ring q.context.thread (option_to_list q.context.process ++ (q.context.session ∷ q.context.user ∷ [])) s.thread
-      (or_else (live_key s.process) (or_else (live_key s.session) (live_key s.user))) h.thread
-      (maybe_ring q.context.process (q.context.session ∷ q.context.user ∷ []) s.process (or_else (live_key s.session) (live_key s.user)) h.process
-      (one_ring q.context.session (q.context.user ∷ []) s.session (live_key s.user) h.session
-      (last (or_none (live_key s.user)) (one_ring q.context.user [] s.user None h.user refl))))
-    where
-      last : {a b : Option ℕ} → a ≡ b → Hits w q (q.context.user ∷ []) a → Hits w q (q.context.user ∷ []) b
-      last e h = subst (Hits w q (q.context.user ∷ [])) e h
-
-  -- ---- what is hit is a key
-
-  passes_known : (p : Key → Bool) (k : ℕ) → key_passes w.keys k p ≡ true → map.contains_key w.keys k ≡ true
-  passes_known p k h = there (map.get w.keys k) h
-    where
-      there : (o : Option Key) → unwrap_or (option_map p o) false ≡ true → is_some o ≡ true
-      there None h = h
-      there (Some key) h = refl
-
-  live_known : (o : Option ℕ) (m : Option Match) (k : ℕ) → IsSole w q o m → live_key m ≡ Some k → map.contains_key w.keys k ≡ true
-  live_known o None k sole e = absurd (let no : None ≡ Some k = e in cc)
-  live_known None (Some one) k sole e = absurd (let no : Some one ≡ None = sole in cc)
-  live_known (Some ring) (Some one) k sole e =
-      elim (is_live one.standing) as (λ b. is_live one.standing ≡ b → cond b (Some one.key) None ≡ Some k → map.contains_key w.keys k ≡ true) [
-        | true ↦ λ t e.
-            let same : one.key ≡ k = cc in
-            let both : (is_linked w.rings ring one.key && key_passes w.keys one.key (answers q is_live)) ≡ true =
-            sole is_live one.key ∙ (λ i. tied_itself one.key i && t i) in
-            ap (map.contains_key w.keys) (sym same) ∙ passes_known (answers q is_live) one.key
-            (and_parts (is_linked w.rings ring one.key) (key_passes w.keys one.key (answers q is_live)) both).1
-        | false ↦ λ t e. absurd (let no : None ≡ Some k = e in cc)
-      ] refl e
-
-  either_of : (a b : Option ℕ) (k : ℕ) → or_else a b ≡ Some k → (a ≡ Some k) ⊎ (b ≡ Some k)
-  either_of None b k e = inr e
-  either_of (Some j) b k e = inl e
-
-  -- a key that is hit is there
-  pub hit_known : (s : Sought) (k : ℕ) → IsSought w q s → hit_in s ≡ Some k → map.contains_key w.keys k ≡ true
-  hit_known s k h e = by_thread (either_of (live_key s.thread) (or_else (live_key s.process) (or_else (live_key s.session) (live_key s.user))) k e)
-    where
-      by_session : (live_key s.session ≡ Some k) ⊎ (live_key s.user ≡ Some k) → map.contains_key w.keys k ≡ true
-      by_session (inl e) = live_known (Some q.context.session) s.session k h.session e
-      by_session (inr e) = live_known (Some q.context.user) s.user k h.user e
-
-      by_process : (live_key s.process ≡ Some k) ⊎ (or_else (live_key s.session) (live_key s.user) ≡ Some k) → map.contains_key w.keys k ≡ true
-      by_process (inl e) = live_known q.context.process s.process k h.process e
-      by_process (inr e) = by_session (either_of (live_key s.session) (live_key s.user) k e)
-
-      by_thread : (live_key s.thread ≡ Some k) ⊎ (or_else (live_key s.process) (or_else (live_key s.session) (live_key s.user)) ≡ Some k)
-          → map.contains_key w.keys k ≡ true
-      by_thread (inl e) = live_known q.context.thread s.thread k h.thread e
-      by_thread (inr e) = by_process (either_of (live_key s.process) (or_else (live_key s.session) (live_key s.user)) k e)
+      by_key : (o : Option Key) → unwrap_or (option_map (answers q p) o) false ≡ true → unwrap_or (option_map about o) false ≡ true
+      by_key None h = h
+      by_key (Some key) h = tells key (and_parts (is_named q.typ q.description key) (p (standing_of key q.now)) h).1
 
   -- ---- the errors
+
+  abbrev stands : (Standing → Bool) → Option Match → Bool
+  stands p m = option_map_or (λ (one : Match). p one.standing) m false
 
   matches_as : (p : Standing → Bool) (ring : ℕ) (m : Option Match) → IsSole w q (Some ring) m → has_match w q p ring ≡ stands p m
   matches_as p ring m sole = same_answer (has_match w q p ring) (stands p m) (forward (map.get w.rings ring) refl) (backward m sole)
@@ -134,24 +184,139 @@ module _ (w : World) (q : Query) where
 
       backward : (m : Option Match) → IsSole w q (Some ring) m → stands p m ≡ true → has_match w q p ring ≡ true
       backward None sole h = absurd (both_ways false refl h)
-      backward (Some one) sole h = by_ring one (sole p one.key ∙ (λ i. tied_itself one.key i && h i)) (map.get w.rings ring) refl
+      backward (Some one) sole h = by_ring one (sole_passes ring one p sole h) (map.get w.rings ring) refl
 
-  maybe_matches : (p : Standing → Bool) (o : Option ℕ) (rings : List ℕ) (m : Option Match) → IsSole w q o m
-      → list_any (has_match w q p) (option_to_list o ++ rings) ≡ (stands p m || list_any (has_match w q p) rings)
-  maybe_matches p None rings None sole = refl
-  maybe_matches p None rings (Some one) sole = absurd (let no : Some one ≡ None = sole in cc)
-  maybe_matches p (Some ring) rings m sole = ap (λ b. b || list_any (has_match w q p) rings) (matches_as p ring m sole)
+  any_further : (p : Standing → Bool) (rings : List ℕ) (ring : ℕ) (m : Option Match) → IsSole w q (Some ring) m
+      → list_any (has_match w q p) (rings ++ (ring ∷ [])) ≡ (list_any (has_match w q p) rings || stands p m)
+  any_further p rings ring m sole =
+      list_any-append (has_match w q p) rings (ring ∷ [])
+      ∙ (λ i. list_any (has_match w q p) rings || (or_false (has_match w q p ring) ∙ matches_as p ring m sole) i)
 
-  pub some_match_as : (s : Sought) → IsSought w q s → (p : Standing → Bool) → some_match w q p ≡ any_stands p s
-  some_match_as s h p =
-      maybe_matches p q.context.thread (option_to_list q.context.process ++ (q.context.session ∷ q.context.user ∷ [])) s.thread h.thread
-      ∙ ap (λ b. stands p s.thread || b) (maybe_matches p q.context.process (q.context.session ∷ q.context.user ∷ []) s.process h.process
-      ∙ ap (λ b. stands p s.process || b) (λ i. matches_as p q.context.session s.session h.session i || (matches_as p q.context.user s.user h.user i || false)))
+  -- no key of the next ring adds an error
+  error_stays : (test : KeyError → Standing → Bool) (rings : List ℕ) (ring : ℕ) (m : Option Match) → IsSole w q (Some ring) m
+      → ((e : KeyError) → stands (test e) m ≡ false)
+      → error_in w q (rings ++ (ring ∷ [])) test ≡ error_in w q rings test
+  error_stays test rings ring m sole none =
+      (λ i. find (λ e. any_further (test e) rings ring m sole i) errors)
+      ∙ no_more (λ e. list_any (has_match w q (test e)) rings) (λ e. stands (test e) m) none
 
-  -- what blocks a request is what is found to block in the four rings
-  pub block_as : (s : Sought) → IsSought w q s → block_of w q ≡ block_in s
-  block_as s h = λ i. find (λ e. some_match_as s h (blocks e) i) errors
+  -- the key of the next ring adds this error
+  error_added : (test : KeyError → Standing → Bool) (rings : List ℕ) (ring : ℕ) (m : Option Match) (f : KeyError) (before : Option KeyError)
+      → IsSole w q (Some ring) m → ((e : KeyError) → stands (test e) m ≡ same_error e f) → before ≡ error_in w q rings test
+      → find (λ e. option_map_or (same_error e) before false || same_error e f) errors ≡ error_in w q (rings ++ (ring ∷ [])) test
+  error_added test rings ring m f before sole one is =
+      ap (λ (o : Option KeyError). find (λ e. option_map_or (same_error e) o false || same_error e f) errors) is
+      ∙ sym ((λ i. find (λ e. any_further (test e) rings ring m sole i) errors)
+      ∙ one_more (λ e. list_any (has_match w q (test e)) rings) (λ e. stands (test e) m) f one)
 
-  -- the error of a search is what is found in the four rings, or ENOKEY
-  pub stale_as : (s : Sought) → IsSought w q s → stale_of w q ≡ unwrap_or (stale_in s) error.NoKey
-  stale_as s h = λ i. unwrap_or (find (λ e. some_match_as s h (is_stale e) i) errors) error.NoKey
+  -- ---- what the search comes to with one more ring
+
+  -- in which nothing is found
+  pub with_nothing : (rings : List ℕ) (ring : Option ℕ) (missed : Missed) → IsSought w q rings (sought.Missed missed) → IsSole w q ring None
+      → IsSought w q (rings ++ option_to_list ring) (sought.Missed missed)
+  with_nothing rings None missed h sole = subst (λ rs. IsSought w q rs (sought.Missed missed)) (sym (append-nil rings)) h
+  with_nothing rings (Some ring) missed h sole = (
+    none_further rings ring h.0 (λ k. sole is_live k),
+    h.1 ∙ sym (error_stays blocks rings ring None sole (λ e. refl)),
+    h.2 ∙ sym (error_stays is_stale rings ring None sole (λ e. refl)),
+  )
+
+  pub with_positive : (rings : List ℕ) (ring : Option ℕ) (one : Match) (missed : Missed) → IsSought w q rings (sought.Missed missed)
+      → IsSole w q ring (Some one) → one.standing ≡ standing.Positive
+      → IsSought w q (rings ++ option_to_list ring) (sought.Positive one.key)
+  unfolding is_positive
+  with_positive rings ring one missed h sole is =
+      (hits_one rings ring one h.0 sole (ap is_live is), told_by is_positive (λ key. not (is_building key)) (positive_not_building q.now) ring one sole (ap is_positive is))
+
+  pub with_building : (rings : List ℕ) (ring : Option ℕ) (one : Match) (missed : Missed) → IsSought w q rings (sought.Missed missed)
+      → IsSole w q ring (Some one) → one.standing ≡ standing.Building
+      → IsSought w q (rings ++ option_to_list ring) (sought.Building one.key)
+  unfolding stands_building
+  with_building rings ring one missed h sole is =
+      (hits_one rings ring one h.0 sole (ap is_live is), told_by stands_building is_building (building_builds q.now) ring one sole (ap stands_building is))
+
+  -- a key that is no hit
+  not_live : (ring : ℕ) (one : Match) → IsSole w q (Some ring) (Some one) → is_live one.standing ≡ false → (k : ℕ) → is_hit w q ring k ≡ false
+  not_live ring one sole t k = sole is_live k ∙ last_false (nat_eq k one.key) (is_live one.standing) t
+
+  pub with_negative : (rings : List ℕ) (ring : Option ℕ) (one : Match) (missed : Missed) (f : KeyError) → IsSought w q rings (sought.Missed missed)
+      → IsSole w q ring (Some one) → one.standing ≡ standing.Negative f
+      → IsSought w q (rings ++ option_to_list ring) (sought.Missed (record {
+        block = find (λ e. option_map_or (same_error e) missed.block false || same_error e f) errors;
+        stale = missed.stale;
+      }))
+  with_negative rings None one missed f h sole is = absurd (let no : Some one ≡ None = sole in cc)
+  with_negative rings (Some ring) one missed f h sole is = (
+    none_further rings ring h.0 (not_live ring one sole (ap is_live is)),
+    error_added blocks rings ring (Some one) f missed.block sole (λ e. ap (blocks e) is) h.1,
+    h.2 ∙ sym (error_stays is_stale rings ring (Some one) sole (λ e. ap (is_stale e) is ∙ never e)),
+  )
+    where
+      never : (e : KeyError) → is_stale e (standing.Negative f) ≡ false
+      never error.Revoked = refl
+      never error.Expired = refl
+      never error.Rejected = refl
+      never error.NoKey = refl
+
+  with_stale : (rings : List ℕ) (ring : Option ℕ) (one : Match) (missed : Missed) (f : KeyError) (s : Standing) → IsSought w q rings (sought.Missed missed)
+      → IsSole w q ring (Some one) → one.standing ≡ s → is_live s ≡ false → ((e : KeyError) → blocks e s ≡ false)
+      → ((e : KeyError) → is_stale e s ≡ same_error e f)
+      → IsSought w q (rings ++ option_to_list ring) (sought.Missed (record {
+        block = missed.block;
+        stale = find (λ e. option_map_or (same_error e) missed.stale false || same_error e f) errors;
+      }))
+  with_stale rings None one missed f s h sole is live none stale = absurd (let no : Some one ≡ None = sole in cc)
+  with_stale rings (Some ring) one missed f s h sole is live none stale = (
+    none_further rings ring h.0 (not_live ring one sole (ap is_live is ∙ live)),
+    h.1 ∙ sym (error_stays blocks rings ring (Some one) sole (λ e. ap (blocks e) is ∙ none e)),
+    error_added is_stale rings ring (Some one) f missed.stale sole (λ e. ap (is_stale e) is ∙ stale e) h.2,
+  )
+
+  pub with_revoked : (rings : List ℕ) (ring : Option ℕ) (one : Match) (missed : Missed) → IsSought w q rings (sought.Missed missed)
+      → IsSole w q ring (Some one) → one.standing ≡ standing.Revoked
+      → IsSought w q (rings ++ option_to_list ring) (sought.Missed (record {
+        block = missed.block;
+        stale = find (λ e. option_map_or (same_error e) missed.stale false || same_error e error.Revoked) errors;
+      }))
+  with_revoked rings ring one missed h sole is = with_stale rings ring one missed error.Revoked standing.Revoked h sole is refl (λ e. refl) same
+    where
+      same : (e : KeyError) → is_stale e standing.Revoked ≡ same_error e error.Revoked
+      same error.Revoked = refl
+      same error.Expired = refl
+      same error.Rejected = refl
+      same error.NoKey = refl
+
+  pub with_expired : (rings : List ℕ) (ring : Option ℕ) (one : Match) (missed : Missed) → IsSought w q rings (sought.Missed missed)
+      → IsSole w q ring (Some one) → one.standing ≡ standing.Expired
+      → IsSought w q (rings ++ option_to_list ring) (sought.Missed (record {
+        block = missed.block;
+        stale = find (λ e. option_map_or (same_error e) missed.stale false || same_error e error.Expired) errors;
+      }))
+  with_expired rings ring one missed h sole is = with_stale rings ring one missed error.Expired standing.Expired h sole is refl (λ e. refl) same
+    where
+      same : (e : KeyError) → is_stale e standing.Expired ≡ same_error e error.Expired
+      same error.Revoked = refl
+      same error.Expired = refl
+      same error.Rejected = refl
+      same error.NoKey = refl
+
+  -- after a hit
+  pub stays_hit : (rings : List ℕ) (ring : Option ℕ) (s : Sought) → (((k : ℕ) × (s ≡ sought.Positive k)) ⊎ ((k : ℕ) × (s ≡ sought.Building k)))
+      → IsSought w q rings s → IsSought w q (rings ++ option_to_list ring) s
+  stays_hit rings ring s (inl is) h =
+      let found = subst (IsSought w q rings) is.1 h in
+      subst (IsSought w q (rings ++ option_to_list ring)) (sym is.1) (hit_stays rings (option_to_list ring) is.0 found.0, found.1)
+  stays_hit rings ring s (inr is) h =
+      let found = subst (IsSought w q rings) is.1 h in
+      subst (IsSought w q (rings ++ option_to_list ring)) (sym is.1) (hit_stays rings (option_to_list ring) is.0 found.0, found.1)
+
+-- the rings of a context, one after the other
+pub one_by_one : (c : Context) → ((([] ++ option_to_list c.thread) ++ option_to_list c.process) ++ (c.session ∷ [])) ++ (c.user ∷ []) ≡ rings_of c
+one_by_one c = by_places c.thread c.process
+  where
+    by_places : (thread process : Option ℕ) → ((([] ++ option_to_list thread) ++ option_to_list process) ++ (c.session ∷ [])) ++ (c.user ∷ [])
+        ≡ option_to_list thread ++ (option_to_list process ++ (c.session ∷ c.user ∷ []))
+    by_places None None = refl
+    by_places None (Some process) = refl
+    by_places (Some thread) None = refl
+    by_places (Some thread) (Some process) = refl

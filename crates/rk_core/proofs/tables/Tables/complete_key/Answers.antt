@@ -18,8 +18,8 @@ let_both_vanish-requires c =
     let w : World = c.args.self.now in
     let k : ℕ = c.in_ok-key.key in
     let some : ℕ → Bool = λ j. option_map_or (λ r. nat_eq j r) c.rival-rival.result false in
-    subst (StayBut (λ j. some j || nat_eq j k)) (sym (c.complete.ensures ∙ ap (completed c.args.now k c.args.condition c.args.end) c.add_link.ensures))
-    (completed_stay (linked_in c.in_ok-key.ring k w) c.args.now k c.args.condition c.args.end some
+    subst (StayBut (λ j. some j || nat_eq j k)) (sym (c.complete.ensures ∙ ap (completed c.args.now k c.args.completion.condition c.args.completion.expiry) c.add_link.ensures))
+    (completed_stay (linked_in c.in_ok-key.ring k w) c.args.now k c.args.completion.condition c.args.completion.expiry some
     (link_stay w c.in_ok-key.ring k some c.rival-rival.ensures (λ j key there _. c.requires.sound.tidy j key there refl)))
 
 pub returns : goal.returns
@@ -29,9 +29,9 @@ returns c =
     let k : ℕ = c.in_ok-key.key in
     let number : to_z w32 (of_z w32 c.args.number) ≡ c.args.number = to_z-of_z w32 c.args.number c.ranges.number in
     let ring : to_z w32 (of_z w32 c.args.ring) ≡ c.args.ring = to_z-of_z w32 c.args.ring c.ranges.ring in
-    subst (λ a. Completes w c.args.now asker c.args.number c.args.ring c.args.condition c.args.end a c.let_both_vanish.new.self) (sym c.done.ensures)
-    (completes_so w c.args.now asker c.args.number c.args.ring c.args.condition c.args.end c.let_both_vanish.new.self k
+    subst (λ a. Completes w c.args.now asker c.args.number c.args.ring c.args.completion.condition c.args.completion.expiry a c.let_both_vanish.new.self) (sym c.done.ensures)
+    (completes_so w c.args.now asker c.args.number c.args.ring c.args.completion.condition c.args.completion.expiry c.let_both_vanish.new.self k
     ((λ i. completion_refusal w asker (sym number i) (sym ring i)) ∙ c.in_ok-key.ensures.1)
     (ap serial_named (sym number) ∙ c.in_ok-key.ensures.0.0)
-    (c.let_both_vanish.ensures ∙ ap tidied (c.complete.ensures ∙ ap (completed c.args.now k c.args.condition c.args.end)
+    (c.let_both_vanish.ensures ∙ ap tidied (c.complete.ensures ∙ ap (completed c.args.now k c.args.completion.condition c.args.completion.expiry)
     (c.add_link.ensures ∙ ap (λ (o : Option ℕ). linked_in o k w) (sym c.in_ok-key.ensures.0.2 ∙ ap (ring_for w asker) ring)))))

@@ -1,5 +1,5 @@
 use Rattle.std.proofs.Common.{false, ◌||◌, ◌∙◌, ap, sym, subst}
-use Rattle.std.specs.Prelude.{nat_eq}
+use Rattle.std.specs.Prelude.{Some, nat_eq}
 use Rattle.std.specs.Option.{option_map_or}
 use Rattle.rk_machine.specs.World.{tidied}
 use Rattle.rk_core.specs.Vanishing.{StayBut}
@@ -9,7 +9,7 @@ use Rattle.rk_core.proofs.tables.Tables.link.Goals as goal
 pub let_both_vanish-requires : goal.let_both_vanish-requires
 let_both_vanish-requires c =
     subst (StayBut (λ j. option_map_or (λ r. nat_eq j r) c.rival-rival.result false || nat_eq j c.args.key)) (sym c.add_link.ensures)
-    (link_stay c.args.self.now c.args.ring.now c.args.key (λ j. option_map_or
+    (link_stay c.args.self.now (Some c.args.ring) c.args.key (λ j. option_map_or
     (λ r. nat_eq j r) c.rival-rival.result false) c.rival-rival.ensures c.requires.tidy)
 
 pub returns : goal.returns

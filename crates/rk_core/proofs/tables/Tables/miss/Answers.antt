@@ -9,31 +9,31 @@ use Rattle.rk_core.proofs.Requests.RequestByParts.{told_error, start_refused, st
 use Rattle.rk_core.proofs.tables.Tables.miss.Goals as goal
 
 pub returns-in_default : goal.returns-in_default
-returns-in_default c =
-    let q : Query = record { context = c.args.asker.now.context; typ = c.args.wanted.now.typ; description = c.args.wanted.now.description; now = c.args.now } in
-    told_error c.args.self.now c.args.id.now c.args.asker.now q c.args.ring c.args.sought.now c.requires.sought c.args.wanted.now.callout c.errno.result c.in_default.is
-    (c.errno.ensures ∙ ap key_errno c.miss.ensures)
+returns-in_default c = λ now found.
+    let q : Query = record { context = c.args.asker.now.context; typ = c.args.wanted.now.typ; description = c.args.wanted.now.description; now = now } in
+    told_error c.args.self.now c.args.id.now c.args.asker.now q c.args.ring c.args.missed.now found c.args.wanted.now.callout c.errno.result c.in_default.is
+    (c.errno.ensures ∙ ap key_errno c.error.ensures)
 
 pub returns-in_err-may_start : goal.returns-in_err-may_start
-returns-in_err-may_start c =
-    let q : Query = record { context = c.args.asker.now.context; typ = c.args.wanted.now.typ; description = c.args.wanted.now.description; now = c.args.now } in
+returns-in_err-may_start c = λ now found.
+    let q : Query = record { context = c.args.asker.now.context; typ = c.args.wanted.now.typ; description = c.args.wanted.now.description; now = now } in
     let says = subst (λ (w : World). Says c.left-left.result (HasSerials w.serials 1)) c.self.view_is c.left-left.ensures in
     let error = err_from_is_err_and c.from_residual.result c.from_residual.ensures.1 in
-    rw (error.1, error.2) (start_refused c.args.self.now c.args.id.now c.args.asker.now q c.args.ring c.args.sought.now c.requires.sought c.args.wanted.now.callout
-    c.in-Some.callout c.left-left.result _ c.in-Some.is says (c.in_err-may_start.ensures.is c.args.now))
+    rw (error.1, error.2) (start_refused c.args.self.now c.args.id.now c.args.asker.now q c.args.ring c.args.missed.now found c.args.wanted.now.callout
+    c.in-Some.callout c.left-left.result _ c.in-Some.is says (c.in_err-may_start.ensures.is now))
 
 pub returns-in-Ok : goal.returns-in-Ok
-returns-in-Ok c =
-    let q : Query = record { context = c.args.asker.now.context; typ = c.args.wanted.now.typ; description = c.args.wanted.now.description; now = c.args.now } in
+returns-in-Ok c = λ now found.
+    let q : Query = record { context = c.args.asker.now.context; typ = c.args.wanted.now.typ; description = c.args.wanted.now.description; now = now } in
     let says = subst (λ (w : World). Says c.left-left.result (HasSerials w.serials 1)) c.self.view_is c.left-left.ensures in
-    start_allowed c.args.self.now c.args.id.now c.args.asker.now q c.args.ring c.args.sought.now c.requires.sought c.args.wanted.now.callout c.in-Some.callout
-    c.left-left.result c.in-Ok.answer c.begin.new.self c.in-Some.is says (c.in_ok-may_start.ensures.is c.args.now)
-    (inr c.in-Ok.ensures.ok)
+    start_allowed c.args.self.now c.args.id.now c.args.asker.now q c.args.ring c.args.missed.now found c.args.wanted.now.callout c.in-Some.callout
+    c.left-left.result c.in-Ok.answer c.begin.new.self c.in-Some.is says (c.in_ok-may_start.ensures.is now)
+    (inr (c.in-Ok.ensures.ok now))
 
 pub returns-in-Err : goal.returns-in-Err
-returns-in-Err c =
-    let q : Query = record { context = c.args.asker.now.context; typ = c.args.wanted.now.typ; description = c.args.wanted.now.description; now = c.args.now } in
+returns-in-Err c = λ now found.
+    let q : Query = record { context = c.args.asker.now.context; typ = c.args.wanted.now.typ; description = c.args.wanted.now.description; now = now } in
     let says = subst (λ (w : World). Says c.left-left.result (HasSerials w.serials 1)) c.self.view_is c.left-left.ensures in
-    start_allowed c.args.self.now c.args.id.now c.args.asker.now q c.args.ring c.args.sought.now c.requires.sought c.args.wanted.now.callout c.in-Some.callout
-    c.left-left.result _ c.begin.new.self c.in-Some.is says (c.in_ok-may_start.ensures.is c.args.now)
+    start_allowed c.args.self.now c.args.id.now c.args.asker.now q c.args.ring c.args.missed.now found c.args.wanted.now.callout c.in-Some.callout
+    c.left-left.result _ c.begin.new.self c.in-Some.is says (c.in_ok-may_start.ensures.is now)
     (inl (refl, c.in-Err.ensures.err))

@@ -1,37 +1,41 @@
-use Rattle.std.proofs.Common.{◌≡◌, ℕ, sym, ap, ◌∙◌, subst}
-use Rattle.std.specs.Prelude.{Option, Some, option_map, option_and_then}
-use Rattle.std.specs.Ordering.{nat_cmp}
-use Rattle.std.specs.FinMap as map
-use Rattle.rk_keys.specs.declared.key.Key.{Key}
-use Rattle.rk_keys.specs.Key.{standing_of}
-use Rattle.rk_rings.specs.Numbered.{rings_seen, IsMatch}
+use Rattle.std.proofs.Common.{◌≡◌, ℕ, [], ap, refl, subst}
+use Rattle.std.specs.Prelude.{Option, Some, None}
+use Rattle.rk_rings.specs.Numbered.{rings_seen}
 use Rattle.rk_machine.specs.World.{World}
 use Rattle.rk_machine.specs.Search.{Query}
-use Rattle.rk_core.specs.Sought.{IsSole}
-use Rattle.rk_core.specs.declared.search.Match.{Match}
+use Rattle.rk_core.specs.Sought.{IsSole, IsSought, IsNumberOf}
+use Rattle.rk_core.specs.declared.search.Missed.{Missed}
+use Rattle.rk_core.specs.declared.search.Sought.TheVariants as sought
 use Rattle.rk_core.proofs.LinksAndNames.KeysOfAName.{IsNameOf, by_name}
-use Rattle.rk_core.proofs.LinksAndNames.SoleKeyOfAName.{found_sole}
+use Rattle.rk_core.proofs.LinksAndNames.SoleKeyOfAName.{none_sole, found_sole}
+use Rattle.rk_core.proofs.Searching.WhatIsHit.{with_nothing, one_by_one}
 use Rattle.rk_core.proofs.tables.Tables.search.Goals as goal
+
+pub returns-in_default : goal.returns-in_default
+returns-in_default c =
+    let w : World = c.args.self.now in
+    let q : Query = record { context = c.args.context.now; typ = c.args.typ.now; description = c.args.description.now; now = c.args.now } in
+    let none : (ring : Option ℕ) → IsSole w q ring None =
+    none_sole c.self.inside.keys c.self.inside.rings q c.name.ensures.naming c.self.invariant w (ap (λ (w : World). w.keys) c.self.view_is)
+    (ap (λ (w : World). w.rings) c.self.view_is) (c.name.ensures.none c.in_default.is) in
+    let missed : Missed = record { block = None; stale = None } in
+    subst (λ rings. IsSought w q rings (sought.Missed missed)) (one_by_one c.args.context.now)
+    (with_nothing w q _ (Some c.args.context.now.user) missed (with_nothing w q _ (Some c.args.context.now.session) missed
+    (with_nothing w q _ c.args.context.now.process missed (with_nothing w q [] c.args.context.now.thread missed
+    (refl, refl, refl) (none c.args.context.now.thread)) (none c.args.context.now.process)) (none (Some c.args.context.now.session)))
+    (none (Some c.args.context.now.user)))
 
 pub returns : goal.returns
 returns c =
+    let w : World = c.args.self.now in
     let q : Query = record { context = c.args.context.now; typ = c.args.typ.now; description = c.args.description.now; now = c.args.now } in
     let names : IsNameOf c.self.inside.keys c.args.typ.now c.args.description.now (Some c.in-Some.name) =
     subst (IsNameOf c.self.inside.keys c.args.typ.now c.args.description.now) c.in-Some.is
     (by_name c.self.inside.keys c.args.typ.now c.args.description.now c.name.result c.name.ensures.naming c.name.ensures.none c.name.ensures.some) in
-    let keys : c.self.inside.keys.keys ≡ c.args.self.now.keys = ap (λ (w : World). w.keys) c.self.view_is in
-    let seen : rings_seen c.self.inside.rings ≡ c.args.self.now.rings = ap (λ (w : World). w.rings) c.self.view_is in
-    let sole : (ring found : Option ℕ) (m : Option Match)
-    → m ≡ option_and_then (λ k. option_map (λ (key : Key). record { key = k; standing = standing_of key c.args.now })
-    (map.get c.args.self.now.keys k)) found
-    → IsMatch c.self.inside.rings c.in-Some.name ring found → IsSole c.args.self.now q ring m =
-    λ ring found m is h.
-    subst (IsSole c.args.self.now q ring) (sym (is ∙ ap (λ (ks : map.FinMap nat_cmp Key). option_and_then
-    (λ k. option_map (λ (key : Key). record { key = k; standing = standing_of key c.args.now }) (map.get ks k)) found) (sym keys)))
-    (found_sole c.self.inside.keys c.self.inside.rings q c.name.ensures.naming c.self.invariant c.args.self.now keys seen c.in-Some.name names ring found h) in
-    record {
-      thread = sole c.args.context.now.thread c.find-found.result.thread c.match_of.result c.match_of.ensures c.find-found.ensures.thread;
-      process = sole c.args.context.now.process c.find-found.result.process c.match_of-2.result c.match_of-2.ensures c.find-found.ensures.process;
-      session = sole (Some c.args.context.now.session) c.find-found.result.session c.match_of-3.result c.match_of-3.ensures c.find-found.ensures.session;
-      user = sole (Some c.args.context.now.user) c.find-found.result.user c.match_of-4.result c.match_of-4.ensures c.find-found.ensures.user;
-    }
+    let keys : c.self.inside.keys.keys ≡ w.keys = ap (λ (w : World). w.keys) c.self.view_is in
+    let seen : rings_seen c.self.inside.rings ≡ w.rings = ap (λ (w : World). w.rings) c.self.view_is in
+    let number : IsNumberOf w q c.self.inside.keys c.self.inside.rings c.in-Some.name =
+    found_sole c.self.inside.keys c.self.inside.rings q c.name.ensures.naming c.self.invariant w keys seen c.in-Some.name names in
+    subst (λ rings. IsSought w q rings c.further.result) (one_by_one c.args.context.now)
+    (c.further.ensures w q _ refl number (c.further-sought-3.ensures w q _ refl number (c.further-sought-2.ensures w q _ refl number
+    (c.further-sought.ensures w q [] refl number (refl, refl, refl)))))

@@ -40,15 +40,15 @@ wait-requires c =
     (c.requires.sound.constructions c.in_ok-key.key c.in_ok-key.ensures.fresh.unused) c.requires.there)
 
 pub returns-clause-ok : goal.returns-clause-ok
-returns-clause-ok c =
-    let q : Query = record { context = c.args.asker.now.context; typ = c.args.names.typ; description = c.args.names.description; now = c.args.now } in
+returns-clause-ok c = λ now.
+    let q : Query = record { context = c.args.asker.now.context; typ = c.args.names.typ; description = c.args.names.description; now = now } in
     let k : ℕ = c.in_ok-key.key in (
       k,
       c.in_ok-key.ensures.fresh,
       (
         λ i. Start k ((
             c.of_key.ensures
-            ∙ ap (λ (s : Subject). record s { key = k }) (c.in_ok-subject.ensures ∙ c.subject-subject.ensures c.args.now)
+            ∙ ap (λ (s : Subject). record s { key = k }) (c.in_ok-subject.ensures ∙ c.subject-subject.ensures now)
             ∙ ap (λ (n : Names). subject_of c.args.self.now k (record q { typ = n.typ; description = n.description }) n.callout)
             c.in_ok-told.ensures.cases) i),
         c.wait.ensures ∙ ap (waiting c.args.id.now k true) (c.link.ensures
