@@ -1,35 +1,11 @@
 -- The unspent authority of each key, after each thing that a step may do.
-use Rattle.std.proofs.Common.{◌≡◌, ℕ, Bool, true, false, cond, refl, ap, ◌∙◌}
-use Rattle.std.specs.Prelude.{Option, Some, None, nat_eq, is_some, option_map, option_and_then}
-use Rattle.std.specs.Option.{option_map_or}
-use Rattle.std.specs.Ordering.{nat_cmp}
+use Rattle.rk_machine.proofs.Words.{option_map_or, nat_cmp, Option, Some, None, nat_eq, is_some, option_map, option_and_then, ◌≡◌, ℕ, Bool, true, false, cond}
+use Rattle.rk_machine.proofs.Words.{refl, ap, ◌∙◌, SessionId, Client, Handler, Condition, Key, session_changed, in_handler, in_new_stage, spent}
+use Rattle.rk_machine.proofs.Words.{without_authority, without_construction, with_construction, all_told, told, Sessions, unspent, Authority, Construction}
+use Rattle.rk_machine.proofs.Words.{Stage, Starting, Outcome, Session, announced, outcome_of, sessions_ended, keys_ended, ended, World, get_inserted}
+use Rattle.rk_machine.proofs.Words.{get_removed, get_changed_at, get_changed_all}
 use Rattle.std.specs.FinMap as map
-use Rattle.rk_names.specs.declared.numbers.SessionId.{SessionId}
-use Rattle.rk_names.specs.declared.numbers.SessionId.TheVariants.{Client, Handler}
-use Rattle.rk_keys.specs.declared.key.Key.{Key}
-use Rattle.rk_keys.specs.declared.key.Condition.{Condition}
-use Rattle.rk_auth.specs.declared.session.Session.{Session}
-use Rattle.rk_auth.specs.declared.session.Outcome.{Outcome}
-use Rattle.rk_auth.specs.declared.construction.Stage.{Stage}
-use Rattle.rk_auth.specs.declared.construction.Stage.TheVariants.{Starting}
-use Rattle.rk_auth.specs.declared.construction.Authority.{Authority}
-use Rattle.rk_auth.specs.declared.construction.Construction.{Construction}
-use Rattle.rk_auth.specs.Sessions.{Sessions, unspent}
-use Rattle.rk_auth.specs.Changes.{
-  session_changed,
-  in_handler,
-  in_new_stage,
-  launched,
-  spent,
-  without_authority,
-  without_construction,
-  with_construction,
-  all_told,
-  told,
-}
-use Rattle.rk_machine.specs.World.{World}
-use Rattle.rk_machine.specs.Completion.{announced, outcome_of, sessions_ended, keys_ended, ended}
-use Rattle.rk_machine.proofs.Found.InMaps.{get_inserted, get_removed, get_changed_at, get_changed_all}
+use Rattle.rk_auth.specs.Changes.{launched}
 
 abbrev authority_in : Option Construction → Option Authority
 authority_in o = option_and_then (λ c. c.authority) o

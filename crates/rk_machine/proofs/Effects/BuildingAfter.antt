@@ -1,18 +1,8 @@
 -- Which keys are under construction, after each thing that a step may do.
-use Rattle.std.proofs.Common.{◌≡◌, ℕ, Bool, true, false, cond, ◌||◌, refl, sym, ap, ◌∙◌}
-use Rattle.std.specs.Prelude.{Option, Some, None, nat_eq, unwrap_or, option_map}
-use Rattle.std.specs.Option.{option_map_or}
-use Rattle.std.specs.Ordering.{nat_cmp}
+use Rattle.rk_machine.proofs.Words.{option_map_or, nat_cmp, Option, Some, None, nat_eq, option_map, unwrap_or, ◌≡◌, ℕ, Bool, true, false, cond, refl, ap, ◌∙◌}
+use Rattle.rk_machine.proofs.Words.{◌||◌, sym, changed_at, kept_where, key_passes, is_building, builds, concluded, Condition, Building, Positive, Negative, Key}
+use Rattle.rk_machine.proofs.Words.{Ring, has_link, World, get_inserted, get_changed_at, get_kept_where}
 use Rattle.std.specs.FinMap as map
-use Rattle.rk_table.specs.Maps.{changed_at, kept_where}
-use Rattle.rk_keys.specs.declared.key.Key.{Key}
-use Rattle.rk_keys.specs.declared.key.Condition.{Condition}
-use Rattle.rk_keys.specs.declared.key.Condition.TheVariants.{Building, Positive, Negative}
-use Rattle.rk_keys.specs.Key.{key_passes, is_building, builds}
-use Rattle.rk_keys.specs.Known.{concluded}
-use Rattle.rk_rings.specs.Ring.{Ring, has_link}
-use Rattle.rk_machine.specs.World.{World}
-use Rattle.rk_machine.proofs.Found.InMaps.{get_inserted, get_changed_at, get_kept_where}
 use Rattle.rk_machine.proofs.Effects.KindsOfStep.{is_final, IsMild}
 
 -- the key is there and under construction

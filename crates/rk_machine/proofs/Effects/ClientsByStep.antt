@@ -1,58 +1,15 @@
 -- Which clients are there, and who waits, after each step of the machine.
-use Rattle.std.proofs.Common.{◌≡◌, ◌⊎◌, ℕ, Bool, true, false, cond, not, ◌&&◌, ◌||◌, refl, sym, ap, ◌∙◌, inl, inr}
-use Rattle.std.specs.Prelude.{Option, Some, None, nat_eq, is_some, option_map, option_and_then}
-use Rattle.std.specs.Option.{option_map_or}
-use Rattle.std.specs.Ordering.{nat_cmp}
+use Rattle.rk_machine.proofs.Words.{option_map_or, nat_cmp, Option, Some, None, nat_eq, is_some, option_map, option_and_then, ◌≡◌, ℕ, Bool, true, false, cond}
+use Rattle.rk_machine.proofs.Words.{refl, ap, ◌∙◌, ◌||◌, sym, ◌⊎◌, not, ◌&&◌, inl, inr, Errno, SessionId, Client, Handler, Condition, Negative, Key}
+use Rattle.rk_machine.proofs.Words.{session_changed, spent, all_told, told, with_context, ready_outcome, Sessions, unspent, new_session, wait_of, Outcome}
+use Rattle.rk_machine.proofs.Words.{Session, Wait, announced, outcome_of, keys_ended, ended, Event, is_done, same_session, is_wait_ended, unlinked_in}
+use Rattle.rk_machine.proofs.Words.{cleared_in, Step, collected, is_ready, has_wait, World, tidied, Answer, Done, Start, Waiting, Refused, Negate, Opened}
+use Rattle.rk_machine.proofs.Words.{Asked, Launched, Ended, Collect, Gone, get_inserted, get_removed, get_changed_at, get_changed_all, by_option}
 use Rattle.std.specs.FinMap as map
-use Rattle.rk_names.specs.declared.numbers.SessionId.{SessionId}
-use Rattle.rk_names.specs.declared.numbers.SessionId.TheVariants.{Client, Handler}
-use Rattle.rk_names.specs.declared.errors.Errno.{Errno}
 use Rattle.rk_names.specs.declared.errors.KeyError.TheVariants as error
-use Rattle.rk_keys.specs.declared.key.Key.{Key}
-use Rattle.rk_keys.specs.declared.key.Condition.{Condition}
-use Rattle.rk_keys.specs.declared.key.Condition.TheVariants.{Negative}
-use Rattle.rk_auth.specs.declared.session.Session.{Session}
-use Rattle.rk_auth.specs.declared.session.Wait.{Wait}
-use Rattle.rk_auth.specs.declared.session.Outcome.{Outcome}
-use Rattle.rk_auth.specs.Sessions.{Sessions, new_session, wait_of, unspent}
-use Rattle.rk_auth.specs.Changes.{session_changed, spent, all_told, told, with_context, ready_outcome}
-use Rattle.rk_machine.specs.Event.{Event}
-use Rattle.rk_machine.specs.declared.event.EventOf.TheVariants.{Opened, Asked, Launched, Ended, Collect, Gone}
-use Rattle.rk_machine.specs.declared.event.Answer.{Answer}
-use Rattle.rk_machine.specs.declared.event.Answer.TheVariants.{Done, Start, Waiting, Refused, Negate}
-use Rattle.rk_machine.specs.World.{World, tidied}
-use Rattle.rk_machine.specs.Links.{unlinked_in, cleared_in}
-use Rattle.rk_machine.specs.Completion.{announced, outcome_of, keys_ended, ended}
-use Rattle.rk_machine.specs.Steps.{Step, collected}
-use Rattle.rk_machine.specs.Views.{is_ready, has_wait}
-use Rattle.rk_machine.specs.Laws.{is_done, same_session, wait_begun, is_wait_ended}
-use Rattle.rk_machine.proofs.Found.InMaps.{get_inserted, get_removed, get_changed_at, get_changed_all}
-use Rattle.rk_machine.proofs.Found.Refusals.{by_option}
-use Rattle.rk_machine.proofs.Effects.KindsOfStep.{
-  Effect,
-  effect,
-  refused,
-  still,
-  took,
-  came,
-  went,
-  greets,
-  begins,
-  joins,
-  links,
-  unlinks,
-  marks,
-  tells,
-  sets,
-  adds,
-  assumes,
-  concludes,
-  ran_plain,
-  ran_piped,
-  negates,
-  failed,
-  finished,
-}
+use Rattle.rk_machine.specs.Laws.{wait_begun}
+use Rattle.rk_machine.proofs.Effects.KindsOfStep.{Effect, effect, refused, still, took, came, went, greets, begins, joins, links, unlinks, marks, tells, sets}
+use Rattle.rk_machine.proofs.Effects.KindsOfStep.{adds, assumes, concludes, ran_plain, ran_piped, negates, failed, finished}
 use Rattle.rk_machine.proofs.Effects.HelloChanges.{greeted_sessions}
 use Rattle.rk_machine.proofs.Effects.WaitsAfter.{flag, flag_of, flag_collected, same-self}
 use Rattle.rk_machine.proofs.Effects.WaitsAreTheWorlds.{after, step, tied, IdleFresh}

@@ -1,21 +1,9 @@
 -- The context of each client, after each thing that a step may do.
-use Rattle.std.proofs.Common.{◌≡◌, ℕ, Bool, true, false, cond, refl, sym, ap, ◌∙◌}
-use Rattle.std.specs.Prelude.{Option, Some, None, nat_eq, is_none, is_some, option_map, option_and_then}
-use Rattle.std.specs.Option.{option_map_or}
-use Rattle.std.specs.Ordering.{nat_cmp}
+use Rattle.rk_machine.proofs.Words.{option_map_or, nat_cmp, Option, Some, None, nat_eq, is_some, option_map, option_and_then, is_none, ◌≡◌, ℕ, Bool, true}
+use Rattle.rk_machine.proofs.Words.{false, cond, refl, ap, ◌∙◌, sym, eqb-true, Context, SessionId, Client, Handler, Condition, Key, session_changed, spent}
+use Rattle.rk_machine.proofs.Words.{all_told, told, with_context, with_client, without_client, Sessions, unspent, new_session, Session, announced, outcome_of}
+use Rattle.rk_machine.proofs.Words.{sessions_ended, keys_ended, World, get_inserted, get_removed, get_changed_at, get_changed_all}
 use Rattle.std.specs.FinMap as map
-use Rattle.std.proofs.lemmas.Bool.{eqb-true}
-use Rattle.rk_names.specs.declared.context.Context.{Context}
-use Rattle.rk_names.specs.declared.numbers.SessionId.{SessionId}
-use Rattle.rk_names.specs.declared.numbers.SessionId.TheVariants.{Client, Handler}
-use Rattle.rk_keys.specs.declared.key.Key.{Key}
-use Rattle.rk_keys.specs.declared.key.Condition.{Condition}
-use Rattle.rk_auth.specs.declared.session.Session.{Session}
-use Rattle.rk_auth.specs.Sessions.{Sessions, new_session, unspent}
-use Rattle.rk_auth.specs.Changes.{session_changed, with_context, with_client, without_client, all_told, told, spent}
-use Rattle.rk_machine.specs.World.{World}
-use Rattle.rk_machine.specs.Completion.{announced, outcome_of, sessions_ended, keys_ended}
-use Rattle.rk_machine.proofs.Found.InMaps.{get_inserted, get_removed, get_changed_at, get_changed_all}
 
 abbrev context_in : Option Session → Option Context
 context_in o = option_and_then (λ one. one.context) o

@@ -1,21 +1,13 @@
 -- HELLO makes the rings of a context, each under a serial that was never drawn.
-use Rattle.std.proofs.Common.{◌≡◌, ◌⊎◌, ◌<◌, ℕ, Bool, true, false, cond, ◌||◌, arith, refl, sym, ap, ◌∙◌, subst, inl, inr}
-use Rattle.std.specs.Prelude.{Option, Some, None, nat_eq, not, option_map}
-use Rattle.std.specs.Option.{option_map_or}
+use Rattle.rk_machine.proofs.Words.{option_map_or, Option, Some, None, nat_eq, option_map, ◌≡◌, ℕ, Bool, true, false, cond, refl, ap, ◌∙◌, ◌||◌, sym, ◌⊎◌, not}
+use Rattle.rk_machine.proofs.Words.{inl, inr, ◌<◌, arith, subst, eqb-true, eq-eqb, ne_eqb, Context, Ring, empty_ring, is_sessions, RingKind, refused_if}
+use Rattle.rk_machine.proofs.Words.{Greeting, Makes, MakesIf, HasSessionRing, HasUserRing, MakesRings, join_refusal, World, none_some, some_same, or_left}
+use Rattle.rk_machine.proofs.Words.{or_right, not_not, if_none}
 use Rattle.std.specs.FinMap as map
-use Rattle.std.proofs.lemmas.Bool.{eqb-true, eq-eqb, ne_eqb}
-use Rattle.rk_names.specs.declared.context.Context.{Context}
 use Rattle.rk_names.specs.declared.errors.Errno.TheVariants as errno
-use Rattle.rk_rings.specs.declared.kind.RingKind.{RingKind}
 use Rattle.rk_rings.specs.declared.kind.RingKind.TheVariants as kind
-use Rattle.rk_rings.specs.Ring.{Ring, empty_ring, is_sessions}
-use Rattle.rk_machine.specs.World.{World}
-use Rattle.rk_machine.specs.Allowed.{refused_if}
-use Rattle.rk_machine.specs.Hello.{Greeting, Makes, MakesIf, HasSessionRing, HasUserRing, MakesRings, join_refusal}
-use Rattle.rk_machine.proofs.Found.Refusals.{or_left, or_right, not_not, if_none}
 use Rattle.rk_machine.proofs.Effects.DrawnSerials.{is_drawn, drawn_is}
 use Rattle.rk_machine.proofs.Effects.RingsAfter.{kind_at, is_users_kind, kind_made}
-use Rattle.rk_machine.proofs.Found.Options.{none_some, some_same}
 
 -- ---- rings and contexts
 

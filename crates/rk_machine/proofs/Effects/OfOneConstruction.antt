@@ -1,87 +1,24 @@
 -- What a step is to one construction.
-use Rattle.std.proofs.Common.{◌≡◌, ◌⊎◌, ℕ, Bool, true, false, cond, ◌&&◌, [], ◌∷◌, refl, sym, ap, ◌∙◌, inl, inr}
-use Rattle.std.specs.Prelude.{Option, Some, None, ℤ, pos, negsuc, nat_eq, not, is_some, is_none, option_map, option_and_then, ◌==◌, if◌then◌else◌}
-use Rattle.std.specs.Option.{option_map_or}
-use Rattle.std.specs.Ordering.{nat_cmp}
+use Rattle.rk_machine.proofs.Words.{option_map_or, nat_cmp, Option, Some, None, nat_eq, is_some, option_map, option_and_then, is_none, ℤ, pos, negsuc, ◌==◌}
+use Rattle.rk_machine.proofs.Words.{if◌then◌else◌, ◌≡◌, ℕ, Bool, true, false, cond, refl, ap, ◌∙◌, sym, ◌⊎◌, not, ◌&&◌, inl, inr, [], ◌∷◌, eqb-true, eq-eqb}
+use Rattle.rk_machine.proofs.Words.{SessionId, Client, Handler, Ask, Bytes, Condition, Negative, Key, spent, all_told, with_context, Sessions, unspent}
+use Rattle.rk_machine.proofs.Words.{new_session, session_of, stage_of, is_to_launch, assumed_authority, handler_in, Authority, Construction, Stage, Starting}
+use Rattle.rk_machine.proofs.Words.{Plain, Piped, Negating, Outcome, Found, Failed, Session, refused_if, done, first_of, Asker, asker_of, serial_named}
+use Rattle.rk_machine.proofs.Words.{client_asker, assumed_asker, handler_asker, assume_refusal, announced, outcome_of, sessions_ended, keys_ended, ended, Event}
+use Rattle.rk_machine.proofs.Words.{is_done, same_session, completes, starts_by, negates_by, launches, ends, completes_by, assumed_at, unlinked_in, cleared_in}
+use Rattle.rk_machine.proofs.Words.{told_as, World, tidied, drawn, Answer, Done, Waiting, Refused, Opened, Asked, Launched, Ended, Collect, Gone, not_not}
+use Rattle.rk_machine.proofs.Words.{if_none, first_none, and_false, some_is}
 use Rattle.std.specs.FinMap as map
-use Rattle.std.proofs.lemmas.Bool.{eqb-true, eq-eqb}
-use Rattle.rk_names.specs.declared.numbers.SessionId.{SessionId}
-use Rattle.rk_names.specs.declared.numbers.SessionId.TheVariants.{Client, Handler}
 use Rattle.rk_names.specs.declared.errors.Errno.TheVariants as errno
-use Rattle.rk_message.specs.Ask.{Ask}
 use Rattle.rk_message.specs.declared.ask.AskOf.TheVariants as ask
-use Rattle.rk_keys.specs.declared.key.Key.{Key}
 use Rattle.rk_names.specs.declared.errors.KeyError.TheVariants as error
-use Rattle.rk_message.specs.declared.reply.Reply.TheVariants.{Bytes}
-use Rattle.rk_keys.specs.declared.key.Condition.{Condition}
-use Rattle.rk_keys.specs.declared.key.Condition.TheVariants.{Negative}
-use Rattle.rk_auth.specs.declared.session.Session.{Session}
-use Rattle.rk_auth.specs.declared.session.Outcome.{Outcome}
-use Rattle.rk_auth.specs.declared.session.Outcome.TheVariants.{Found, Failed}
-use Rattle.rk_auth.specs.declared.construction.Stage.{Stage}
-use Rattle.rk_auth.specs.declared.construction.Stage.TheVariants.{Starting, Plain, Piped, Negating}
-use Rattle.rk_auth.specs.declared.construction.Authority.{Authority}
-use Rattle.rk_auth.specs.declared.construction.Construction.{Construction}
-use Rattle.rk_auth.specs.Sessions.{Sessions, new_session, session_of, stage_of, is_to_launch, handler_in, unspent, assumed_authority}
-use Rattle.rk_auth.specs.Changes.{spent, all_told, with_context}
-use Rattle.rk_machine.specs.Event.{Event}
-use Rattle.rk_machine.specs.declared.event.EventOf.TheVariants.{Opened, Asked, Launched, Ended, Collect, Gone}
 use Rattle.rk_machine.specs.declared.event.Ran.TheVariants as ran
-use Rattle.rk_machine.specs.declared.event.Answer.{Answer}
-use Rattle.rk_machine.specs.declared.event.Answer.TheVariants.{Done, Waiting, Refused}
-use Rattle.rk_machine.specs.World.{World, tidied, drawn}
-use Rattle.rk_machine.specs.Allowed.{done, first_of, refused_if}
-use Rattle.rk_machine.specs.Asker.{Asker, asker_of, client_asker, assumed_asker, handler_asker, serial_named}
-use Rattle.rk_machine.specs.Links.{unlinked_in, cleared_in}
-use Rattle.rk_machine.specs.Completion.{announced, outcome_of, ended, sessions_ended, keys_ended}
-use Rattle.rk_machine.specs.Asks.{assume_refusal}
-use Rattle.rk_machine.specs.Steps.{told_as}
-use Rattle.rk_machine.specs.Laws.{is_done, starts_by, negates_by, launches, ends, completes_by, completes, assumed_at, same_session}
-use Rattle.rk_machine.proofs.Found.Refusals.{not_not, and_false, if_none, first_none, some_is}
-use Rattle.rk_machine.proofs.Effects.KindsOfStep.{
-  Effect,
-  CanAsk,
-  refused,
-  still,
-  took,
-  came,
-  went,
-  greets,
-  begins,
-  joins,
-  links,
-  unlinks,
-  marks,
-  tells,
-  sets,
-  adds,
-  assumes,
-  concludes,
-  ran_plain,
-  ran_piped,
-  negates,
-  failed,
-  finished,
-}
+use Rattle.rk_machine.proofs.Effects.KindsOfStep.{Effect, CanAsk, refused, still, took, came, went, greets, begins, joins, links, unlinks, marks, tells, sets}
+use Rattle.rk_machine.proofs.Effects.KindsOfStep.{adds, assumes, concludes, ran_plain, ran_piped, negates, failed, finished}
 use Rattle.rk_machine.proofs.Effects.DrawnSerials.{is_drawn, drawn_now}
 use Rattle.rk_machine.proofs.Effects.HelloChanges.{greeted_sessions}
-use Rattle.rk_machine.proofs.Effects.StagesAfter.{
-  Shape,
-  is_first,
-  shape,
-  shape_of,
-  first_shape,
-  as_spent,
-  as_staged,
-  as_assumed,
-  shape_session,
-  shape_told,
-  shape_assumed,
-  shape_spent,
-  shape_launched,
-  shape_removed,
-  shape_issued,
-}
+use Rattle.rk_machine.proofs.Effects.StagesAfter.{Shape, is_first, shape, shape_of, first_shape, as_spent, as_staged, as_assumed, shape_session, shape_told}
+use Rattle.rk_machine.proofs.Effects.StagesAfter.{shape_assumed, shape_spent, shape_launched, shape_removed, shape_issued}
 
 -- ---- what the laws test of a step
 

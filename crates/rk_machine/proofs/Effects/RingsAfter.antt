@@ -1,16 +1,8 @@
 -- Which rings there are, and of what kind, after each thing that a step may do.
-use Rattle.std.proofs.Common.{◌≡◌, ℕ, Bool, true, false, cond, refl, ap, ◌∙◌}
-use Rattle.std.specs.Prelude.{Option, Some, None, nat_eq, not, option_map}
-use Rattle.std.specs.Option.{option_map_or}
-use Rattle.std.specs.Ordering.{nat_cmp}
+use Rattle.rk_machine.proofs.Words.{option_map_or, nat_cmp, Option, Some, None, nat_eq, option_map, ◌≡◌, ℕ, Bool, true, false, cond, refl, ap, ◌∙◌, not}
+use Rattle.rk_machine.proofs.Words.{kept_where, Ring, RingKind, rings_changed, World, get_inserted, get_changed_at, get_kept_where}
 use Rattle.std.specs.FinMap as map
-use Rattle.rk_table.specs.Maps.{kept_where}
-use Rattle.rk_rings.specs.declared.kind.RingKind.{RingKind}
 use Rattle.rk_rings.specs.declared.kind.RingKind.TheVariants as kind
-use Rattle.rk_rings.specs.Ring.{Ring}
-use Rattle.rk_machine.specs.World.{World}
-use Rattle.rk_machine.specs.Links.{rings_changed}
-use Rattle.rk_machine.proofs.Found.InMaps.{get_inserted, get_changed_at, get_kept_where}
 
 abbrev kind_in : Option Ring → Option RingKind
 kind_in o = option_map (λ r. r.kind) o

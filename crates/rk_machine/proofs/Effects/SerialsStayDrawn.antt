@@ -1,39 +1,10 @@
 -- Serials that were drawn stay drawn.
-use Rattle.std.proofs.Common.{◌≡◌, ℕ, Bool, true, false, sym, ap, ◌∙◌, inl, inr}
-use Rattle.std.specs.Prelude.{Option, Some, None, nat_eq}
-use Rattle.std.specs.Ordering.{nat_cmp}
+use Rattle.rk_machine.proofs.Words.{nat_cmp, Option, Some, None, nat_eq, ◌≡◌, ℕ, Bool, true, false, ap, ◌∙◌, sym, inl, inr, RingKind, Event, Greeting, Makes}
+use Rattle.rk_machine.proofs.Words.{MakesIf, HasSessionRing, HasUserRing, MakesRings, World, drawn, Answer, or_right}
 use Rattle.std.specs.FinSet as set
-use Rattle.rk_rings.specs.declared.kind.RingKind.{RingKind}
 use Rattle.rk_rings.specs.declared.kind.RingKind.TheVariants as kind
-use Rattle.rk_machine.specs.Event.{Event}
-use Rattle.rk_machine.specs.declared.event.Answer.{Answer}
-use Rattle.rk_machine.specs.World.{World, drawn}
-use Rattle.rk_machine.specs.Hello.{Greeting, Makes, MakesIf, HasSessionRing, HasUserRing, MakesRings}
-use Rattle.rk_machine.proofs.Found.Refusals.{or_right}
-use Rattle.rk_machine.proofs.Effects.KindsOfStep.{
-  Effect,
-  refused,
-  still,
-  took,
-  came,
-  went,
-  greets,
-  begins,
-  joins,
-  links,
-  unlinks,
-  marks,
-  tells,
-  sets,
-  adds,
-  assumes,
-  concludes,
-  ran_plain,
-  ran_piped,
-  negates,
-  failed,
-  finished,
-}
+use Rattle.rk_machine.proofs.Effects.KindsOfStep.{Effect, refused, still, took, came, went, greets, begins, joins, links, unlinks, marks, tells, sets, adds}
+use Rattle.rk_machine.proofs.Effects.KindsOfStep.{assumes, concludes, ran_plain, ran_piped, negates, failed, finished}
 use Rattle.rk_machine.proofs.Effects.DrawnSerials.{is_drawn, drawn_is}
 
 -- what is not drawn after was not drawn before

@@ -1,32 +1,11 @@
 -- How far each construction is, after each thing that a step may do.
-use Rattle.std.proofs.Common.{◌≡◌, ℕ, Bool, true, false, cond, refl, sym, ap, ◌∙◌}
-use Rattle.std.specs.Prelude.{Option, Some, None, nat_eq, is_some, option_map, option_and_then}
+use Rattle.rk_machine.proofs.Words.{Option, Some, None, nat_eq, is_some, option_map, option_and_then, ◌≡◌, ℕ, Bool, true, false, cond, refl, ap, ◌∙◌, sym}
+use Rattle.rk_machine.proofs.Words.{eqb-true, SessionId, Client, Handler, session_changed, in_handler, in_new_stage, spent, without_authority}
+use Rattle.rk_machine.proofs.Words.{without_construction, with_construction, all_told, told, with_assumed, in_stage, Sessions, session_of, is_to_launch}
+use Rattle.rk_machine.proofs.Words.{handler_in, Authority, Construction, Stage, Starting, Plain, Piped, Negating, Outcome, Session, get_inserted, get_removed}
+use Rattle.rk_machine.proofs.Words.{get_changed_at, get_changed_all}
 use Rattle.std.specs.FinMap as map
-use Rattle.std.proofs.lemmas.Bool.{eqb-true}
-use Rattle.rk_names.specs.declared.numbers.SessionId.{SessionId}
-use Rattle.rk_names.specs.declared.numbers.SessionId.TheVariants.{Client, Handler}
-use Rattle.rk_auth.specs.declared.session.Session.{Session}
-use Rattle.rk_auth.specs.declared.session.Outcome.{Outcome}
-use Rattle.rk_auth.specs.declared.construction.Stage.{Stage}
-use Rattle.rk_auth.specs.declared.construction.Stage.TheVariants.{Starting, Plain, Piped, Negating}
-use Rattle.rk_auth.specs.declared.construction.Authority.{Authority}
-use Rattle.rk_auth.specs.declared.construction.Construction.{Construction}
-use Rattle.rk_auth.specs.Sessions.{Sessions, is_to_launch, handler_in, session_of}
-use Rattle.rk_auth.specs.Changes.{
-  session_changed,
-  in_handler,
-  in_stage,
-  in_new_stage,
-  launched,
-  spent,
-  without_authority,
-  without_construction,
-  with_construction,
-  all_told,
-  told,
-  with_assumed,
-}
-use Rattle.rk_machine.proofs.Found.InMaps.{get_inserted, get_removed, get_changed_at, get_changed_all}
+use Rattle.rk_auth.specs.Changes.{launched}
 
 -- whether a handler is to be started; whether its first one is not past or may be followed by another; whether its authority is unspent; what its
 -- handler has assumed

@@ -1,74 +1,17 @@
 -- How far each construction is, and which clients are there, after each step of the machine.
-use Rattle.std.proofs.Common.{◌≡◌, ◌⊎◌, ℕ, Bool, true, false, cond, ◌&&◌, refl, sym, ap, ◌∙◌, inl, inr}
-use Rattle.std.specs.Prelude.{Option, Some, None, nat_eq, is_some, option_map}
-use Rattle.std.specs.Option.{option_map_or}
-use Rattle.std.specs.Ordering.{nat_cmp}
+use Rattle.rk_machine.proofs.Words.{option_map_or, nat_cmp, Option, Some, None, nat_eq, is_some, option_map, ◌≡◌, ℕ, Bool, true, false, cond, refl, ap, ◌∙◌}
+use Rattle.rk_machine.proofs.Words.{sym, ◌⊎◌, ◌&&◌, inl, inr, eqb-true, Errno, SessionId, Client, Handler, Condition, Negative, Key, session_changed}
+use Rattle.rk_machine.proofs.Words.{in_handler, in_new_stage, spent, without_authority, with_construction, all_told, told, with_context, with_assumed, in_stage}
+use Rattle.rk_machine.proofs.Words.{Sessions, unspent, new_session, stage_of, Authority, Construction, Stage, Starting, Plain, Piped, Negating, Outcome}
+use Rattle.rk_machine.proofs.Words.{Session, announced, outcome_of, sessions_ended, keys_ended, ended, Event, is_done, unlinked_in, cleared_in, is_followed}
+use Rattle.rk_machine.proofs.Words.{World, tidied, Answer, Start, Refused, Opened, Asked, Launched, Ended, Collect, Gone, Ran, get_inserted, get_removed}
+use Rattle.rk_machine.proofs.Words.{get_changed_at, get_changed_all}
 use Rattle.std.specs.FinMap as map
-use Rattle.std.proofs.lemmas.Bool.{eqb-true}
-use Rattle.rk_names.specs.declared.numbers.SessionId.{SessionId}
-use Rattle.rk_names.specs.declared.numbers.SessionId.TheVariants.{Client, Handler}
-use Rattle.rk_names.specs.declared.errors.Errno.{Errno}
 use Rattle.rk_names.specs.declared.errors.KeyError.TheVariants as error
-use Rattle.rk_keys.specs.declared.key.Key.{Key}
-use Rattle.rk_keys.specs.declared.key.Condition.{Condition}
-use Rattle.rk_keys.specs.declared.key.Condition.TheVariants.{Negative}
-use Rattle.rk_auth.specs.declared.session.Session.{Session}
-use Rattle.rk_auth.specs.declared.session.Outcome.{Outcome}
-use Rattle.rk_auth.specs.declared.construction.Stage.{Stage}
-use Rattle.rk_auth.specs.declared.construction.Stage.TheVariants.{Starting, Plain, Piped, Negating}
-use Rattle.rk_auth.specs.declared.construction.Authority.{Authority}
-use Rattle.rk_auth.specs.declared.construction.Construction.{Construction}
-use Rattle.rk_auth.specs.Sessions.{Sessions, new_session, stage_of, unspent}
-use Rattle.rk_auth.specs.Changes.{
-  session_changed,
-  in_handler,
-  in_stage,
-  in_new_stage,
-  launched,
-  spent,
-  without_authority,
-  with_construction,
-  all_told,
-  told,
-  with_context,
-  with_assumed,
-}
-use Rattle.rk_machine.specs.Event.{Event}
-use Rattle.rk_machine.specs.declared.event.EventOf.TheVariants.{Opened, Asked, Launched, Ended, Collect, Gone}
-use Rattle.rk_machine.specs.declared.event.Ran.{Ran}
+use Rattle.rk_auth.specs.Changes.{launched}
 use Rattle.rk_machine.specs.declared.event.Ran.TheVariants as ran
-use Rattle.rk_machine.specs.declared.event.Answer.{Answer}
-use Rattle.rk_machine.specs.declared.event.Answer.TheVariants.{Start, Refused}
-use Rattle.rk_machine.specs.World.{World, tidied}
-use Rattle.rk_machine.specs.Links.{unlinked_in, cleared_in}
-use Rattle.rk_machine.specs.Completion.{announced, outcome_of, sessions_ended, keys_ended, ended}
-use Rattle.rk_machine.specs.Laws.{is_done}
-use Rattle.rk_machine.specs.Owing.{is_followed}
-use Rattle.rk_machine.proofs.Found.InMaps.{get_inserted, get_removed, get_changed_at, get_changed_all}
-use Rattle.rk_machine.proofs.Effects.KindsOfStep.{
-  Effect,
-  refused,
-  still,
-  took,
-  came,
-  went,
-  greets,
-  begins,
-  joins,
-  links,
-  unlinks,
-  marks,
-  tells,
-  sets,
-  adds,
-  assumes,
-  concludes,
-  ran_plain,
-  ran_piped,
-  negates,
-  failed,
-  finished,
-}
+use Rattle.rk_machine.proofs.Effects.KindsOfStep.{Effect, refused, still, took, came, went, greets, begins, joins, links, unlinks, marks, tells, sets, adds}
+use Rattle.rk_machine.proofs.Effects.KindsOfStep.{assumes, concludes, ran_plain, ran_piped, negates, failed, finished}
 use Rattle.rk_machine.proofs.Effects.HelloChanges.{greeted_sessions}
 
 -- ---- constructions, by their stages

@@ -1,74 +1,19 @@
 -- What was never drawn is no construction, after each step of the machine.
-use Rattle.std.proofs.Common.{◌≡◌, ℕ, Bool, true, false, cond, not, ◌&&◌, refl, sym, ap, ◌∙◌, subst}
-use Rattle.std.specs.Prelude.{List, Option, Some, None, nat_eq, is_some, option_map}
+use Rattle.rk_machine.proofs.Words.{Option, Some, None, nat_eq, is_some, option_map, ◌≡◌, ℕ, Bool, true, false, cond, refl, ap, ◌∙◌, sym, not, ◌&&◌, subst}
+use Rattle.rk_machine.proofs.Words.{List, eqb-true, SessionId, Subject, Ask, stage_of, is_to_launch, is_starting, Construction, Stage, Starting, Plain, Piped}
+use Rattle.rk_machine.proofs.Words.{Negating, Outcome, Found, Failed, refused_if, Event, is_done, is_followed, Step, may_launch, Ends, told_as, World, drawn}
+use Rattle.rk_machine.proofs.Words.{Answer, Done, Start, Waiting, Refused, Negate, Opened, Asked, Launched, Ended, Collect, Gone, How, Ran, not_not, if_none}
+use Rattle.rk_machine.proofs.Words.{unless}
 use Rattle.std.specs.FinMap as map
-use Rattle.std.proofs.lemmas.Bool.{eqb-true}
-use Rattle.rk_names.specs.declared.numbers.SessionId.{SessionId}
 use Rattle.rk_names.specs.declared.errors.Errno.TheVariants as errno
-use Rattle.rk_message.specs.Ask.{Ask}
-use Rattle.rk_macro.specs.declared.subject.Subject.{Subject}
-use Rattle.rk_auth.specs.declared.session.Outcome.{Outcome}
-use Rattle.rk_auth.specs.declared.session.Outcome.TheVariants.{Found, Failed}
-use Rattle.rk_auth.specs.declared.construction.Stage.{Stage}
-use Rattle.rk_auth.specs.declared.construction.Stage.TheVariants.{Starting, Plain, Piped, Negating}
-use Rattle.rk_auth.specs.declared.construction.Construction.{Construction}
-use Rattle.rk_auth.specs.Sessions.{stage_of, is_starting, is_to_launch}
-use Rattle.rk_machine.specs.Event.{Event}
-use Rattle.rk_machine.specs.declared.event.EventOf.TheVariants.{Opened, Asked, Launched, Ended, Collect, Gone}
-use Rattle.rk_machine.specs.declared.event.Ran.{Ran}
 use Rattle.rk_machine.specs.declared.event.Ran.TheVariants as ran
-use Rattle.rk_machine.specs.declared.event.How.{How}
-use Rattle.rk_machine.specs.declared.event.Answer.{Answer}
-use Rattle.rk_machine.specs.declared.event.Answer.TheVariants.{Done, Start, Waiting, Negate, Refused}
-use Rattle.rk_machine.specs.World.{World, drawn}
-use Rattle.rk_machine.specs.Allowed.{refused_if}
-use Rattle.rk_machine.specs.Steps.{may_launch, Ends, Step, told_as}
-use Rattle.rk_machine.specs.Laws.{is_done}
-use Rattle.rk_machine.specs.Owing.{is_followed}
-use Rattle.rk_machine.proofs.Found.Refusals.{not_not, if_none, unless}
-use Rattle.rk_machine.proofs.Effects.KindsOfStep.{
-  Effect,
-  effect,
-  refused,
-  still,
-  took,
-  came,
-  went,
-  greets,
-  begins,
-  joins,
-  links,
-  unlinks,
-  marks,
-  tells,
-  sets,
-  adds,
-  assumes,
-  concludes,
-  ran_plain,
-  ran_piped,
-  negates,
-  failed,
-  finished,
-}
+use Rattle.rk_machine.proofs.Effects.KindsOfStep.{Effect, effect, refused, still, took, came, went, greets, begins, joins, links, unlinks, marks, tells, sets}
+use Rattle.rk_machine.proofs.Effects.KindsOfStep.{adds, assumes, concludes, ran_plain, ran_piped, negates, failed, finished}
 use Rattle.rk_machine.proofs.Effects.DrawnSerials.{is_drawn, drawn_now}
 use Rattle.rk_machine.proofs.Effects.SerialsStayDrawn.{keeps_drawn}
 use Rattle.rk_machine.proofs.Effects.WaitsAreTheWorlds.{IdleFresh}
-use Rattle.rk_machine.proofs.Effects.StagesByStep.{
-  Kind,
-  to_start,
-  pipes,
-  to_follow,
-  kind,
-  kind_in,
-  kind_of,
-  is_due,
-  is_first_due,
-  may_find,
-  stage_kind,
-  kind_after,
-  kinds,
-}
+use Rattle.rk_machine.proofs.Effects.StagesByStep.{Kind, to_start, pipes, to_follow, kind, kind_in, kind_of, is_due, is_first_due, may_find, stage_kind}
+use Rattle.rk_machine.proofs.Effects.StagesByStep.{kind_after, kinds}
 
 -- a serial that was never drawn has no construction
 abbrev pub IsIdle : World → Type 0

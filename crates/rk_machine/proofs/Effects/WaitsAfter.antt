@@ -1,39 +1,11 @@
 -- The wait of each session, after each thing that a step may do.
-use Rattle.std.proofs.Common.{◌≡◌, ℕ, Bool, true, false, cond, refl, sym, ap, ◌∙◌}
-use Rattle.std.specs.Prelude.{Option, Some, None, nat_eq, is_none, option_map, option_and_then}
+use Rattle.rk_machine.proofs.Words.{Option, Some, None, nat_eq, option_map, option_and_then, is_none, ◌≡◌, ℕ, Bool, true, false, cond, refl, ap, ◌∙◌, sym}
+use Rattle.rk_machine.proofs.Words.{eqb-true, eq-eqb, SessionId, Client, Handler, session_changed, in_handler, in_new_stage, spent, without_authority}
+use Rattle.rk_machine.proofs.Words.{without_construction, with_construction, all_told, told, with_client, without_client, with_wait, with_assumed, in_stage}
+use Rattle.rk_machine.proofs.Words.{new_wait, told_wait, Sessions, new_session, wait_of, session_of, handler_in, Authority, Construction, Stage, Starting}
+use Rattle.rk_machine.proofs.Words.{Plain, Piped, Negating, Outcome, Session, Wait, same_session, get_inserted, get_removed, get_changed_at, get_changed_all}
 use Rattle.std.specs.FinMap as map
-use Rattle.std.proofs.lemmas.Bool.{eqb-true, eq-eqb}
-use Rattle.rk_names.specs.declared.numbers.SessionId.{SessionId}
-use Rattle.rk_names.specs.declared.numbers.SessionId.TheVariants.{Client, Handler}
-use Rattle.rk_auth.specs.declared.session.Session.{Session}
-use Rattle.rk_auth.specs.declared.session.Wait.{Wait}
-use Rattle.rk_auth.specs.declared.session.Outcome.{Outcome}
-use Rattle.rk_auth.specs.declared.construction.Stage.{Stage}
-use Rattle.rk_auth.specs.declared.construction.Stage.TheVariants.{Starting, Plain, Piped, Negating}
-use Rattle.rk_auth.specs.declared.construction.Authority.{Authority}
-use Rattle.rk_auth.specs.declared.construction.Construction.{Construction}
-use Rattle.rk_auth.specs.Sessions.{Sessions, new_session, session_of, wait_of, handler_in}
-use Rattle.rk_auth.specs.Changes.{
-  session_changed,
-  in_handler,
-  in_stage,
-  in_new_stage,
-  with_wait,
-  new_wait,
-  with_assumed,
-  launched,
-  spent,
-  without_authority,
-  without_construction,
-  with_construction,
-  all_told,
-  told,
-  told_wait,
-  with_client,
-  without_client,
-}
-use Rattle.rk_machine.specs.Laws.{same_session}
-use Rattle.rk_machine.proofs.Found.InMaps.{get_inserted, get_removed, get_changed_at, get_changed_all}
+use Rattle.rk_auth.specs.Changes.{launched}
 
 -- sessions that pass the test are the same
 pub same-true : (s t : SessionId) → same_session s t ≡ true → s ≡ t

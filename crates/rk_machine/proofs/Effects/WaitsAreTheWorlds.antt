@@ -1,84 +1,22 @@
 -- In every run the waits that the list tells are those of the world.
-use Rattle.std.proofs.Common.{◌≡◌, ◌⊎◌, ℕ, Bool, true, false, cond, ◌||◌, ◌&&◌, List, refl, sym, ap, ◌∙◌, inl, inr}
-use Rattle.std.specs.Prelude.{Option, Some, None, nat_eq, not, is_some, is_none, option_map, option_and_then}
-use Rattle.std.specs.Option.{option_map_or}
+use Rattle.rk_machine.proofs.Words.{option_map_or, nat_cmp, Option, Some, None, nat_eq, is_some, option_map, option_and_then, is_none, ◌≡◌, ℕ, Bool, true}
+use Rattle.rk_machine.proofs.Words.{false, cond, refl, ap, ◌∙◌, ◌||◌, sym, ◌⊎◌, not, ◌&&◌, inl, inr, List, eqb-true, Errno, SessionId, Client, Handler, Ask}
+use Rattle.rk_machine.proofs.Words.{Reply, Condition, Negative, Key, spent, with_construction, all_told, with_context, with_setting, with_assumed, Sessions}
+use Rattle.rk_machine.proofs.Words.{unspent, new_session, wait_of, session_of, stage_of, is_to_launch, handler_in, Authority, Construction, Stage, Starting}
+use Rattle.rk_machine.proofs.Words.{Plain, Piped, Negating, Outcome, Found, Failed, done, announced, outcome_of, sessions_ended, keys_ended, ended, Event}
+use Rattle.rk_machine.proofs.Words.{is_done, same_session, is_wait_ended, is_waiting, unlinked_in, cleared_in, told_as, Past, World, tidied, Answer, Done}
+use Rattle.rk_machine.proofs.Words.{Waiting, Refused, Negate, Opened, Asked, Launched, Ended, Collect, Gone, How, get_inserted, none_is, and_false}
 use Rattle.std.specs.FinMap as map
-use Rattle.std.specs.Ordering.{nat_cmp}
-use Rattle.std.proofs.lemmas.Bool.{eqb-true}
-use Rattle.rk_names.specs.declared.errors.Errno.{Errno}
 use Rattle.rk_names.specs.declared.errors.KeyError.TheVariants as error
-use Rattle.rk_names.specs.declared.numbers.SessionId.{SessionId}
-use Rattle.rk_names.specs.declared.numbers.SessionId.TheVariants.{Client, Handler}
-use Rattle.rk_message.specs.Ask.{Ask}
 use Rattle.rk_message.specs.declared.ask.AskOf.TheVariants as ask
-use Rattle.rk_message.specs.declared.reply.Reply.{Reply}
-use Rattle.rk_keys.specs.declared.key.Key.{Key}
-use Rattle.rk_keys.specs.declared.key.Condition.{Condition}
-use Rattle.rk_keys.specs.declared.key.Condition.TheVariants.{Negative}
-use Rattle.rk_auth.specs.declared.session.Outcome.{Outcome}
-use Rattle.rk_auth.specs.declared.session.Outcome.TheVariants.{Found, Failed}
-use Rattle.rk_auth.specs.declared.construction.Stage.{Stage}
-use Rattle.rk_auth.specs.declared.construction.Stage.TheVariants.{Starting, Plain, Piped, Negating}
-use Rattle.rk_auth.specs.declared.construction.Construction.{Construction}
-use Rattle.rk_auth.specs.Sessions.{is_to_launch, Sessions, new_session, session_of, wait_of, stage_of, handler_in, unspent}
-use Rattle.rk_auth.specs.declared.construction.Authority.{Authority}
-use Rattle.rk_auth.specs.Changes.{spent, with_construction, all_told, with_context, with_setting, with_assumed}
-use Rattle.rk_machine.specs.Event.{Event}
-use Rattle.rk_machine.specs.declared.event.EventOf.TheVariants.{Opened, Asked, Launched, Ended, Collect, Gone}
 use Rattle.rk_machine.specs.declared.event.Ran.TheVariants as ran
-use Rattle.rk_machine.specs.declared.event.How.{How}
-use Rattle.rk_machine.specs.declared.event.Answer.{Answer}
-use Rattle.rk_machine.specs.declared.event.Answer.TheVariants.{Done, Waiting, Refused, Negate}
-use Rattle.rk_machine.specs.World.{World, tidied}
-use Rattle.rk_machine.specs.Allowed.{done}
-use Rattle.rk_machine.specs.Links.{unlinked_in, cleared_in}
-use Rattle.rk_machine.specs.Completion.{announced, outcome_of, sessions_ended, keys_ended, ended}
-use Rattle.rk_machine.specs.Steps.{Past, told_as}
-use Rattle.rk_machine.specs.Laws.{same_session, is_done, is_waiting, wait_begun, is_wait_ended}
-use Rattle.rk_machine.proofs.Found.InMaps.{get_inserted}
-use Rattle.rk_machine.proofs.Found.Refusals.{none_is, and_false}
-use Rattle.rk_machine.proofs.Effects.KindsOfStep.{
-  Effect,
-  refused,
-  still,
-  took,
-  came,
-  went,
-  greets,
-  begins,
-  joins,
-  links,
-  unlinks,
-  marks,
-  tells,
-  sets,
-  adds,
-  assumes,
-  concludes,
-  ran_plain,
-  ran_piped,
-  negates,
-  failed,
-  finished,
-}
+use Rattle.rk_machine.specs.Laws.{wait_begun}
+use Rattle.rk_machine.proofs.Effects.KindsOfStep.{Effect, refused, still, took, came, went, greets, begins, joins, links, unlinks, marks, tells, sets, adds}
+use Rattle.rk_machine.proofs.Effects.KindsOfStep.{assumes, concludes, ran_plain, ran_piped, negates, failed, finished}
 use Rattle.rk_machine.proofs.Effects.HelloChanges.{greeted_sessions}
 use Rattle.rk_machine.proofs.Effects.DrawnSerials.{is_drawn}
-use Rattle.rk_machine.proofs.Effects.WaitsAfter.{
-  same-true,
-  flag,
-  flag_in,
-  flag_of,
-  flag_kept,
-  flag_collected,
-  flag_begun,
-  flag_told,
-  flag_spent,
-  flag_launched,
-  flag_removed,
-  flag_issued,
-  flag_came,
-  flag_went,
-}
+use Rattle.rk_machine.proofs.Effects.WaitsAfter.{same-true, flag, flag_in, flag_of, flag_kept, flag_collected, flag_begun, flag_told, flag_spent, flag_launched}
+use Rattle.rk_machine.proofs.Effects.WaitsAfter.{flag_removed, flag_issued, flag_came, flag_went}
 
 -- a step of the past
 abbrev pub step : ℕ → Event → Answer → Past

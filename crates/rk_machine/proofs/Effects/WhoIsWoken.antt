@@ -1,73 +1,18 @@
 -- What a step leaves of the waits of others, and who of them may collect only now.
-use Rattle.std.proofs.Common.{◌≡◌, ◌⊎◌, ℕ, Bool, true, false, cond, ◌&&◌, refl, sym, ap, ◌∙◌, inl, inr}
-use Rattle.std.specs.Prelude.{Option, Some, None, nat_eq, is_some, option_map, option_and_then}
-use Rattle.std.specs.Option.{option_map_or}
-use Rattle.std.specs.Ordering.{nat_cmp}
+use Rattle.rk_machine.proofs.Words.{option_map_or, nat_cmp, Option, Some, None, nat_eq, is_some, option_map, option_and_then, ◌≡◌, ℕ, Bool, true, false, cond}
+use Rattle.rk_machine.proofs.Words.{refl, ap, ◌∙◌, sym, ◌⊎◌, ◌&&◌, inl, inr, eqb-true, eq-eqb, SessionId, Client, Handler, Condition, Negative, Key, spent}
+use Rattle.rk_machine.proofs.Words.{all_told, with_context, ready_outcome, new_wait, told_wait, Sessions, unspent, new_session, wait_of, Construction, Plain}
+use Rattle.rk_machine.proofs.Words.{Piped, Negating, Outcome, Wait, announced, outcome_of, sessions_ended, keys_ended, ended, Event, is_done, same_session}
+use Rattle.rk_machine.proofs.Words.{unlinked_in, cleared_in, is_followed, whose, Step, is_ready, awaited, World, tidied, Answer, Done, Start, Waiting, Refused}
+use Rattle.rk_machine.proofs.Words.{Negate, Opened, Asked, Launched, Ended, Collect, Gone, none_is}
 use Rattle.std.specs.FinMap as map
-use Rattle.std.proofs.lemmas.Bool.{eqb-true, eq-eqb}
-use Rattle.rk_names.specs.declared.numbers.SessionId.{SessionId}
-use Rattle.rk_names.specs.declared.numbers.SessionId.TheVariants.{Client, Handler}
 use Rattle.rk_names.specs.declared.errors.KeyError.TheVariants as error
-use Rattle.rk_keys.specs.declared.key.Key.{Key}
-use Rattle.rk_keys.specs.declared.key.Condition.{Condition}
-use Rattle.rk_keys.specs.declared.key.Condition.TheVariants.{Negative}
-use Rattle.rk_auth.specs.declared.session.Wait.{Wait}
-use Rattle.rk_auth.specs.declared.session.Outcome.{Outcome}
-use Rattle.rk_auth.specs.declared.construction.Stage.TheVariants.{Plain, Piped, Negating}
-use Rattle.rk_auth.specs.declared.construction.Construction.{Construction}
-use Rattle.rk_auth.specs.Sessions.{Sessions, new_session, wait_of, unspent}
-use Rattle.rk_auth.specs.Changes.{spent, all_told, told_wait, new_wait, with_context, ready_outcome}
-use Rattle.rk_machine.specs.Event.{Event}
-use Rattle.rk_machine.specs.declared.event.EventOf.TheVariants.{Opened, Asked, Launched, Ended, Collect, Gone}
 use Rattle.rk_machine.specs.declared.event.Ran.TheVariants as ran
-use Rattle.rk_machine.specs.declared.event.Answer.{Answer}
-use Rattle.rk_machine.specs.declared.event.Answer.TheVariants.{Done, Start, Waiting, Refused, Negate}
-use Rattle.rk_machine.specs.World.{World, tidied}
-use Rattle.rk_machine.specs.Links.{unlinked_in, cleared_in}
-use Rattle.rk_machine.specs.Completion.{announced, outcome_of, keys_ended, sessions_ended, ended}
-use Rattle.rk_machine.specs.Steps.{Step}
-use Rattle.rk_machine.specs.Views.{is_ready, awaited}
-use Rattle.rk_machine.specs.Laws.{same_session, is_done}
-use Rattle.rk_machine.specs.Owing.{whose, is_followed}
-use Rattle.rk_machine.proofs.Found.Refusals.{none_is}
-use Rattle.rk_machine.proofs.Effects.KindsOfStep.{
-  Effect,
-  effect,
-  refused,
-  still,
-  took,
-  came,
-  went,
-  greets,
-  begins,
-  joins,
-  links,
-  unlinks,
-  marks,
-  tells,
-  sets,
-  adds,
-  assumes,
-  concludes,
-  ran_plain,
-  ran_piped,
-  negates,
-  failed,
-  finished,
-}
+use Rattle.rk_machine.proofs.Effects.KindsOfStep.{Effect, effect, refused, still, took, came, went, greets, begins, joins, links, unlinks, marks, tells, sets}
+use Rattle.rk_machine.proofs.Effects.KindsOfStep.{adds, assumes, concludes, ran_plain, ran_piped, negates, failed, finished}
 use Rattle.rk_machine.proofs.Effects.HelloChanges.{greeted_sessions}
-use Rattle.rk_machine.proofs.Effects.WaitsAfter.{
-  wait_kept,
-  wait_collected,
-  wait_begun,
-  wait_told,
-  wait_spent,
-  wait_launched,
-  wait_removed,
-  wait_issued,
-  wait_came,
-  wait_went,
-}
+use Rattle.rk_machine.proofs.Effects.WaitsAfter.{wait_kept, wait_collected, wait_begun, wait_told, wait_spent, wait_launched, wait_removed, wait_issued}
+use Rattle.rk_machine.proofs.Effects.WaitsAfter.{wait_came, wait_went}
 use Rattle.rk_machine.proofs.Effects.OfOneConstruction.{Goods, concluder}
 use Rattle.rk_machine.proofs.Effects.WaitsAreTheWorlds.{IdleFresh, there_issued}
 use Rattle.rk_machine.proofs.Effects.AuthoritiesAfter.{unspent_concluded, unspent_ended}

@@ -1,53 +1,17 @@
 -- In every run the waits have no circle: fewer waits keep that, and so does one more wait whose key does not lead back.
-use Rattle.std.proofs.Common.{◌≡◌, ◌⊎◌, ℕ, Bool, true, false, cond, List, [], ◌∷◌, refl, sym, ap, ◌∙◌, subst, inl, inr}
-use Rattle.std.specs.Prelude.{Option, Some, None, is_none, option_map, option_and_then}
-use Rattle.std.specs.Option.{option_map_or}
-use Rattle.std.specs.Ordering.{nat_cmp}
+use Rattle.rk_machine.proofs.Words.{option_map_or, nat_cmp, Option, Some, None, option_map, option_and_then, is_none, ◌≡◌, ℕ, Bool, true, false, cond, refl, ap}
+use Rattle.rk_machine.proofs.Words.{◌∙◌, sym, ◌⊎◌, inl, inr, subst, List, [], ◌∷◌, SessionId, Client, Handler, Leads, its_own, further, session_of, handler_in}
+use Rattle.rk_machine.proofs.Words.{Construction, Session, Wait, Event, same_session, is_wait_ended, waited, WaitsFor, at_once, and_further}
+use Rattle.rk_machine.proofs.Words.{NoCircle, NeverCircle, Past, Beginning, Run, World, empty_world, Answer, Asked, some_same, some_none}
 use Rattle.std.specs.FinMap as map
-use Rattle.rk_names.specs.declared.numbers.SessionId.{SessionId}
-use Rattle.rk_names.specs.declared.numbers.SessionId.TheVariants.{Client, Handler}
-use Rattle.rk_auth.specs.declared.session.Session.{Session}
-use Rattle.rk_auth.specs.declared.session.Wait.{Wait}
-use Rattle.rk_auth.specs.declared.construction.Construction.{Construction}
-use Rattle.rk_auth.specs.Sessions.{session_of, handler_in}
-use Rattle.rk_auth.specs.Circles.{Leads, its_own, further}
-use Rattle.rk_machine.specs.Event.{Event}
-use Rattle.rk_machine.specs.declared.event.EventOf.TheVariants.{Asked}
 use Rattle.rk_message.specs.declared.ask.AskOf.TheVariants as ask
-use Rattle.rk_machine.specs.declared.event.Answer.{Answer}
-use Rattle.rk_machine.specs.World.{World, empty_world}
-use Rattle.rk_machine.specs.Steps.{Beginning, Past, Run}
-use Rattle.rk_machine.specs.Laws.{same_session, wait_begun, is_wait_ended, waited, WaitsFor, at_once, further as and_further, NoCircle, NeverCircle}
-use Rattle.rk_machine.proofs.Effects.KindsOfStep.{
-  Effect,
-  effect,
-  refused,
-  still,
-  took,
-  came,
-  went,
-  greets,
-  begins,
-  joins,
-  links,
-  unlinks,
-  marks,
-  tells,
-  sets,
-  adds,
-  assumes,
-  concludes,
-  ran_plain,
-  ran_piped,
-  negates,
-  failed,
-  finished,
-}
+use Rattle.rk_machine.specs.Laws.{wait_begun}
+use Rattle.rk_machine.proofs.Effects.KindsOfStep.{Effect, effect, refused, still, took, came, went, greets, begins, joins, links, unlinks, marks, tells, sets}
+use Rattle.rk_machine.proofs.Effects.KindsOfStep.{adds, assumes, concludes, ran_plain, ran_piped, negates, failed, finished}
 use Rattle.rk_machine.proofs.Effects.StagesAfter.{shape}
 use Rattle.rk_machine.proofs.OneConstruction.EachOnce.{knows}
 use Rattle.rk_machine.proofs.Effects.WaitsAfter.{same-true, flag, flag_in, flag_of}
 use Rattle.rk_machine.proofs.Effects.WaitsAreTheWorlds.{step, begun_refused, after, tied, IdleFresh}
-use Rattle.rk_machine.proofs.Found.Options.{some_none, some_same}
 
 -- ---- circles of any waits
 

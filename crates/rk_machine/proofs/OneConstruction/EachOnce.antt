@@ -1,35 +1,12 @@
 -- In every run each construction happens once, in order.
-use Rattle.std.proofs.Common.{◌≡◌, ℕ, Bool, true, false, cond, ◌||◌, List, [], ◌∷◌, refl, sym, ap, ◌∙◌, subst}
-use Rattle.std.specs.Prelude.{Option, Some, None, ℤ, option_map}
-use Rattle.std.specs.List.{list_any}
-use Rattle.std.specs.Ordering.{nat_cmp}
+use Rattle.rk_machine.proofs.Words.{list_any, nat_cmp, Option, Some, None, option_map, ℤ, ◌≡◌, ℕ, Bool, true, false, cond, refl, ap, ◌∙◌, ◌||◌, sym, subst}
+use Rattle.rk_machine.proofs.Words.{List, [], ◌∷◌, Negating, Event, happened, never, is_start, is_launch, is_negate, since_negate, is_ending, is_completion}
+use Rattle.rk_machine.proofs.Words.{OnceFor, EachOnce, Step, Past, Beginning, Run, World, empty_world, Answer}
 use Rattle.std.specs.FinMap as map
-use Rattle.rk_auth.specs.declared.construction.Stage.TheVariants.{Negating}
-use Rattle.rk_machine.specs.Event.{Event}
-use Rattle.rk_machine.specs.declared.event.Answer.{Answer}
-use Rattle.rk_machine.specs.World.{World, empty_world}
-use Rattle.rk_machine.specs.Steps.{Beginning, Past, Run, Step}
-use Rattle.rk_machine.specs.Laws.{happened, never, is_start, is_launch, is_negate, since_negate, is_ending, is_completion, OnceFor, EachOnce}
 use Rattle.rk_machine.proofs.Effects.KindsOfStep.{effect}
 use Rattle.rk_machine.proofs.Effects.StagesAfter.{Shape, shape, shape_of, as_assumed, as_staged}
-use Rattle.rk_machine.proofs.Effects.OfOneConstruction.{
-  Tests,
-  tests,
-  none_of,
-  Turn,
-  quiet,
-  starts,
-  launched_now,
-  negated_now,
-  failed_now,
-  ended_now,
-  completed_now,
-  assumed_now,
-  IsOwnAsk,
-  Good,
-  Goods,
-  turns,
-}
+use Rattle.rk_machine.proofs.Effects.OfOneConstruction.{Tests, tests, none_of, Turn, quiet, starts, launched_now, negated_now, failed_now, ended_now}
+use Rattle.rk_machine.proofs.Effects.OfOneConstruction.{completed_now, assumed_now, IsOwnAsk, Good, Goods, turns}
 use Rattle.rk_machine.proofs.Effects.DrawnSerials.{is_drawn}
 use Rattle.rk_machine.proofs.Effects.SerialsStayDrawn.{keeps_drawn}
 

@@ -1,37 +1,18 @@
 -- The outcome of one key, and what a step makes of it.
-use Rattle.std.proofs.Common.{◌≡◌, ℕ, Bool, true, false, List, ◌∷◌, refl, sym, ap, ◌∙◌, subst, inl, inr}
-use Rattle.std.specs.Prelude.{Option, Some, None, is_some, option_map, option_and_then}
-use Rattle.std.specs.Option.{option_map_or}
+use Rattle.rk_machine.proofs.Words.{option_map_or, Option, Some, None, is_some, option_map, option_and_then, ◌≡◌, ℕ, Bool, true, false, refl, ap, ◌∙◌, sym, inl}
+use Rattle.rk_machine.proofs.Words.{inr, subst, List, ◌∷◌, Construction, Outcome, never, is_ending, is_completion, EachToldOf, IsOutcome, told_as, Past, World}
+use Rattle.rk_machine.proofs.Words.{Answer, none_some, some_same, some_none}
 use Rattle.std.specs.FinMap as map
-use Rattle.rk_auth.specs.declared.session.Outcome.{Outcome}
-use Rattle.rk_auth.specs.declared.construction.Construction.{Construction}
-use Rattle.rk_machine.specs.declared.event.Answer.{Answer}
-use Rattle.rk_machine.specs.World.{World}
-use Rattle.rk_machine.specs.Steps.{Past, told_as}
-use Rattle.rk_machine.specs.Laws.{never, is_completion, is_ending, wait_collected, EachToldOf, IsOutcome}
+use Rattle.rk_machine.specs.Laws.{wait_collected}
 use Rattle.rk_machine.proofs.Effects.DrawnSerials.{is_drawn}
 use Rattle.rk_machine.proofs.Effects.SerialsStayDrawn.{KeepsDrawn}
 use Rattle.rk_machine.proofs.Effects.StagesAfter.{Shape, shape, shape_of, as_spent}
-use Rattle.rk_machine.proofs.Effects.OfOneConstruction.{
-  Tests,
-  tests,
-  Turn,
-  quiet,
-  starts,
-  launched_now,
-  negated_now,
-  failed_now,
-  ended_now,
-  completed_now,
-  assumed_now,
-  IsOwnAsk,
-  Good,
-}
+use Rattle.rk_machine.proofs.Effects.OfOneConstruction.{Tests, tests, Turn, quiet, starts, launched_now, negated_now, failed_now, ended_now, completed_now}
+use Rattle.rk_machine.proofs.Effects.OfOneConstruction.{assumed_now, IsOwnAsk, Good}
 use Rattle.rk_machine.proofs.OneConstruction.EachOnce.{Tied, clash, some_shape, never_more}
 use Rattle.rk_machine.proofs.Effects.AuthoritiesAfter.{is_unspent}
 use Rattle.rk_machine.proofs.Effects.BuildingAfter.{is_built}
 use Rattle.rk_machine.proofs.OneOutcome.WhoIsTold.{Still, stays, is_new, IsOpen}
-use Rattle.rk_machine.proofs.Found.Options.{none_some, some_none, some_same}
 
 -- ---- one key and its verdict, which is its outcome or none yet
 

@@ -1,93 +1,24 @@
 -- What whoever records a run has to know of each step.
-use Rattle.std.proofs.Common.{◌≡◌, ◌⊎◌, ◌≤◌, ℕ, ◌+◌, Bool, true, false, cond, not, ◌&&◌, List, [], ◌∷◌, length, refl, sym, ap, ◌∙◌, subst, inl, inr, arith}
-use Rattle.std.specs.Prelude.{Option, Some, None, nat_eq, is_some, option_map, option_and_then}
-use Rattle.std.specs.Option.{option_map_or}
-use Rattle.std.specs.Bool.{MatchBool}
-use Rattle.std.specs.Ordering.{nat_cmp}
+use Rattle.rk_machine.proofs.Words.{MatchBool, option_map_or, nat_cmp, Option, Some, None, nat_eq, is_some, option_map, option_and_then, ◌≡◌, ℕ, Bool, true}
+use Rattle.rk_machine.proofs.Words.{false, cond, refl, ap, ◌∙◌, sym, ◌⊎◌, not, ◌&&◌, inl, inr, arith, subst, List, [], ◌∷◌, ◌+◌, ◌≤◌, length, eqb-true, eq-eqb}
+use Rattle.rk_machine.proofs.Words.{Errno, SessionId, Client, Handler, Subject, Ask, Bytes, ready_outcome, Sessions, wait_of, stage_of, is_running}
+use Rattle.rk_machine.proofs.Words.{Construction, Stage, Starting, Plain, Piped, Negating, Outcome, Found, Failed, Wait, refused_if, done, Leaves, Settles}
+use Rattle.rk_machine.proofs.Words.{Unless, ended, condition_after, Event, is_done, same_session, is_followed, whose, client_owes, stage_owes}
+use Rattle.rk_machine.proofs.Words.{construction_owes, owed, owed_to, start_owes, constructions, begun, closes, closed, ends_owed, ends_owed_to}
+use Rattle.rk_machine.proofs.Words.{construction_ends, stage_ends, start_ends, takes, asked_of, names_in, Reached, IsOwedAnswer, Recording, Step, may_launch}
+use Rattle.rk_machine.proofs.Words.{would_negate, negating, Ends, told_as, gone, Past, Beginning, Run, is_ready, is_owed, weight, weight_in, World, empty_world}
+use Rattle.rk_machine.proofs.Words.{Answer, Done, Start, Waiting, Refused, Negate, Opened, Asked, Launched, Ended, Collect, Gone, How, Ran, by_option}
+use Rattle.rk_machine.proofs.Words.{and_false}
 use Rattle.std.specs.FinMap as map
-use Rattle.rk_names.specs.declared.numbers.SessionId.{SessionId}
-use Rattle.rk_names.specs.declared.numbers.SessionId.TheVariants.{Client, Handler}
-use Rattle.rk_names.specs.declared.errors.Errno.{Errno}
 use Rattle.rk_names.specs.declared.errors.Errno.TheVariants as errno
 use Rattle.rk_names.specs.declared.errors.KeyError.TheVariants as error
-use Rattle.rk_message.specs.Ask.{Ask}
 use Rattle.rk_message.specs.declared.ask.AskOf.TheVariants as ask
-use Rattle.rk_message.specs.declared.reply.Reply.TheVariants.{Bytes}
-use Rattle.rk_macro.specs.declared.subject.Subject.{Subject}
-use Rattle.rk_auth.specs.declared.session.Wait.{Wait}
-use Rattle.rk_auth.specs.declared.session.Outcome.{Outcome}
-use Rattle.rk_auth.specs.declared.session.Outcome.TheVariants.{Found, Failed}
-use Rattle.rk_auth.specs.declared.construction.Stage.{Stage}
-use Rattle.rk_auth.specs.declared.construction.Stage.TheVariants.{Starting, Plain, Piped, Negating}
-use Rattle.rk_auth.specs.declared.construction.Construction.{Construction}
-use Rattle.rk_auth.specs.Sessions.{Sessions, wait_of, stage_of, is_running}
-use Rattle.rk_auth.specs.Changes.{ready_outcome}
-use Rattle.rk_machine.specs.Event.{Event}
-use Rattle.rk_machine.specs.declared.event.EventOf.TheVariants.{Opened, Asked, Launched, Ended, Collect, Gone}
-use Rattle.rk_machine.specs.declared.event.Ran.{Ran}
 use Rattle.rk_machine.specs.declared.event.Ran.TheVariants as ran
-use Rattle.rk_machine.specs.declared.event.How.{How}
-use Rattle.rk_machine.specs.declared.event.Answer.{Answer}
-use Rattle.rk_machine.specs.declared.event.Answer.TheVariants.{Done, Start, Waiting, Negate, Refused}
-use Rattle.rk_machine.specs.World.{World, empty_world}
-use Rattle.rk_machine.specs.Allowed.{done, refused_if, Leaves, Settles, Unless}
-use Rattle.rk_machine.specs.Steps.{Beginning, Past, Run, Step, may_launch, would_negate, negating, Ends, told_as, launched, gone}
-use Rattle.rk_machine.specs.Completion.{condition_after, ended}
-use Rattle.rk_machine.specs.Views.{is_owed, is_ready}
-use Rattle.rk_machine.specs.Laws.{is_done, same_session}
-use Rattle.rk_machine.specs.Recording.{Reached, IsOwedAnswer, Recording}
-use Rattle.rk_machine.specs.Owing.{
-  client_owes,
-  stage_owes,
-  construction_owes,
-  owed,
-  owed_to,
-  whose,
-  start_owes,
-  constructions,
-  begun,
-  closes,
-  closed,
-  is_followed,
-  ends_owed,
-  ends_owed_to,
-  construction_ends,
-  stage_ends,
-  start_ends,
-  takes,
-  asked_of,
-  names_in,
-}
-use Rattle.rk_machine.proofs.Found.Refusals.{and_false, by_option}
-use Rattle.rk_machine.proofs.Effects.KindsOfStep.{
-  Effect,
-  effect,
-  refused,
-  still,
-  took,
-  came,
-  went,
-  greets,
-  begins,
-  joins,
-  links,
-  unlinks,
-  marks,
-  tells,
-  sets,
-  adds,
-  assumes,
-  concludes,
-  ran_plain,
-  ran_piped,
-  negates,
-  failed,
-  finished,
-}
-use Rattle.rk_machine.specs.Weights.{weight, weight_in}
+use Rattle.rk_machine.specs.Steps.{launched}
+use Rattle.rk_machine.proofs.Effects.KindsOfStep.{Effect, effect, refused, still, took, came, went, greets, begins, joins, links, unlinks, marks, tells, sets}
+use Rattle.rk_machine.proofs.Effects.KindsOfStep.{adds, assumes, concludes, ran_plain, ran_piped, negates, failed, finished}
 use Rattle.rk_machine.proofs.OwedSteps.WeightsOfMaps.{but_one, all_same, no_weight, no_heavier, part}
 use Rattle.rk_machine.proofs.Effects.StagesByStep.{Kind, to_start, talks, pipes, to_follow, kind, may_find, kind_of, kind_in, kind_after, launched_kind, kinds}
-use Rattle.std.proofs.lemmas.Bool.{eq-eqb, eqb-true}
 use Rattle.rk_machine.proofs.Effects.UndrawnIsIdle.{IsIdle, idle_fresh, start_key, start_draws, launch_finds, launch_kind, found_some, follow_finds, idle_step}
 use Rattle.rk_machine.proofs.OwedSteps.OwedByStep.{balance, other_key, moves}
 

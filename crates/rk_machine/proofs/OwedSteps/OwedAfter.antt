@@ -1,44 +1,13 @@
 -- What is owed to each session, after each thing that a step may do.
-use Rattle.std.proofs.Common.{◌≡◌, ℕ, ◌+◌, Bool, true, false, cond, refl, sym, ap, ◌∙◌}
-use Rattle.std.specs.Prelude.{Option, Some, None, nat_eq, is_some, option_map, option_and_then}
-use Rattle.std.specs.Option.{option_map_or}
-use Rattle.std.specs.Ordering.{nat_cmp}
+use Rattle.rk_machine.proofs.Words.{option_map_or, nat_cmp, Option, Some, None, nat_eq, is_some, option_map, option_and_then, ◌≡◌, ℕ, Bool, true, false, cond}
+use Rattle.rk_machine.proofs.Words.{refl, ap, ◌∙◌, sym, ◌+◌, eqb-true, SessionId, Client, Handler, Condition, Key, session_changed, in_handler, in_new_stage}
+use Rattle.rk_machine.proofs.Words.{spent, without_authority, without_construction, with_construction, all_told, told, with_client, without_client}
+use Rattle.rk_machine.proofs.Words.{with_assumed, in_stage, told_wait, Sessions, unspent, new_session, session_of, stage_of, handler_in, Authority}
+use Rattle.rk_machine.proofs.Words.{Construction, Stage, Starting, Plain, Piped, Negating, Outcome, Session, Wait, announced, outcome_of, sessions_ended}
+use Rattle.rk_machine.proofs.Words.{keys_ended, ended, same_session, client_owes, stage_owes, construction_owes, wait_owes, places, World, get_inserted}
+use Rattle.rk_machine.proofs.Words.{get_removed, get_changed_at, get_changed_all}
 use Rattle.std.specs.FinMap as map
-use Rattle.std.proofs.lemmas.Bool.{eqb-true}
-use Rattle.rk_names.specs.declared.numbers.SessionId.{SessionId}
-use Rattle.rk_names.specs.declared.numbers.SessionId.TheVariants.{Client, Handler}
-use Rattle.rk_keys.specs.declared.key.Key.{Key}
-use Rattle.rk_keys.specs.declared.key.Condition.{Condition}
-use Rattle.rk_auth.specs.declared.session.Session.{Session}
-use Rattle.rk_auth.specs.declared.session.Wait.{Wait}
-use Rattle.rk_auth.specs.declared.session.Outcome.{Outcome}
-use Rattle.rk_auth.specs.declared.construction.Stage.{Stage}
-use Rattle.rk_auth.specs.declared.construction.Stage.TheVariants.{Starting, Plain, Piped, Negating}
-use Rattle.rk_auth.specs.declared.construction.Authority.{Authority}
-use Rattle.rk_auth.specs.declared.construction.Construction.{Construction}
-use Rattle.rk_auth.specs.Sessions.{Sessions, new_session, session_of, stage_of, handler_in, unspent}
-use Rattle.rk_auth.specs.Changes.{
-  session_changed,
-  in_handler,
-  in_stage,
-  in_new_stage,
-  with_assumed,
-  launched,
-  spent,
-  without_authority,
-  without_construction,
-  with_construction,
-  all_told,
-  told,
-  told_wait,
-  with_client,
-  without_client,
-}
-use Rattle.rk_machine.specs.World.{World}
-use Rattle.rk_machine.specs.Completion.{announced, outcome_of, sessions_ended, keys_ended, ended}
-use Rattle.rk_machine.specs.Laws.{same_session}
-use Rattle.rk_machine.specs.Owing.{wait_owes, client_owes, stage_owes, construction_owes, places}
-use Rattle.rk_machine.proofs.Found.InMaps.{get_inserted, get_removed, get_changed_at, get_changed_all}
+use Rattle.rk_auth.specs.Changes.{launched}
 
 abbrev at_client : Option Session → ℕ
 at_client o = option_map_or client_owes o 0

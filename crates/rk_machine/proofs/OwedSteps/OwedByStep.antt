@@ -1,99 +1,26 @@
 -- What a step does to what is owed.
-use Rattle.std.proofs.Common.{◌≡◌, ◌⊎◌, ◌≤◌, ℕ, ◌+◌, Bool, true, false, cond, refl, sym, ap, ◌∙◌, subst, inl, inr, arith}
-use Rattle.std.specs.Prelude.{Option, Some, None, is_some, is_none, option_map, option_and_then, unwrap_or}
-use Rattle.std.specs.Option.{option_map_or}
+use Rattle.rk_machine.proofs.Words.{option_map_or, Option, Some, None, is_some, option_map, option_and_then, unwrap_or, is_none, ◌≡◌, ℕ, Bool, true, false}
+use Rattle.rk_machine.proofs.Words.{cond, refl, ap, ◌∙◌, sym, ◌⊎◌, inl, inr, arith, subst, ◌+◌, ◌≤◌, Errno, SessionId, Client, Handler, Subject, Ask, Number}
+use Rattle.rk_machine.proofs.Words.{Bytes, Rings, new_key, Negative, session_changed, spent, with_construction, with_context, ready_outcome, with_wait}
+use Rattle.rk_machine.proofs.Words.{with_setting, with_assumed, new_wait, Sessions, new_session, wait_of, session_of, is_to_launch, handler_in, Authority}
+use Rattle.rk_machine.proofs.Words.{Construction, Stage, Starting, Plain, Piped, Negating, Outcome, Found, Failed, Session, Wait, done, serial_named, ended}
+use Rattle.rk_machine.proofs.Words.{completed, Event, with_key_changed, same_session, unlinked_in, cleared_in, linked_in, is_request, whose, client_owes}
+use Rattle.rk_machine.proofs.Words.{stage_owes, construction_owes, owed_to, start_owes, wait_owes, places, need, query, waiting, subject_of, started, with_key}
+use Rattle.rk_machine.proofs.Words.{collected, opened, negating, told_as, gone, is_ready, is_owed, weight, World, tidied, Answer, Done, Start, Waiting, Refused}
+use Rattle.rk_machine.proofs.Words.{Negate, Opened, Asked, Launched, Ended, Collect, Gone}
 use Rattle.std.specs.FinMap as map
-use Rattle.rk_names.specs.declared.numbers.SessionId.{SessionId}
-use Rattle.rk_names.specs.declared.numbers.SessionId.TheVariants.{Client, Handler}
-use Rattle.rk_names.specs.declared.errors.Errno.{Errno}
 use Rattle.rk_names.specs.declared.errors.KeyError.TheVariants as error
-use Rattle.rk_message.specs.Ask.{Ask}
 use Rattle.rk_message.specs.declared.ask.AskOf.TheVariants as ask
-use Rattle.rk_message.specs.declared.reply.Reply.TheVariants.{Number, Bytes, Rings}
-use Rattle.rk_macro.specs.declared.subject.Subject.{Subject}
-use Rattle.rk_keys.specs.declared.key.Condition.TheVariants.{Negative}
-use Rattle.rk_auth.specs.declared.session.Session.{Session}
-use Rattle.rk_auth.specs.declared.session.Wait.{Wait}
-use Rattle.rk_auth.specs.declared.construction.Stage.{Stage}
-use Rattle.rk_auth.specs.declared.construction.Stage.TheVariants.{Starting, Plain, Piped, Negating}
-use Rattle.rk_auth.specs.declared.construction.Authority.{Authority}
-use Rattle.rk_auth.specs.declared.construction.Construction.{Construction}
-use Rattle.rk_auth.specs.declared.session.Outcome.{Outcome}
-use Rattle.rk_auth.specs.declared.session.Outcome.TheVariants.{Found, Failed}
-use Rattle.rk_auth.specs.Sessions.{Sessions, new_session, session_of, wait_of, is_to_launch, handler_in}
-use Rattle.rk_auth.specs.Changes.{
-  session_changed,
-  with_wait,
-  new_wait,
-  with_context,
-  with_setting,
-  with_assumed,
-  with_construction,
-  launched,
-  spent,
-  ready_outcome,
-}
-use Rattle.rk_machine.specs.Event.{Event}
-use Rattle.rk_machine.specs.declared.event.EventOf.TheVariants.{Opened, Asked, Launched, Ended, Collect, Gone}
+use Rattle.rk_auth.specs.Changes.{launched}
 use Rattle.rk_machine.specs.declared.event.Ran.TheVariants as ran
-use Rattle.rk_machine.specs.declared.event.Answer.{Answer}
-use Rattle.rk_machine.specs.declared.event.Answer.TheVariants.{Done, Start, Waiting, Negate, Refused}
-use Rattle.rk_machine.specs.World.{World, tidied}
-use Rattle.rk_keys.specs.Known.{new_key}
-use Rattle.rk_machine.specs.Allowed.{done}
-use Rattle.rk_machine.specs.Asker.{serial_named}
-use Rattle.rk_machine.specs.Links.{linked_in, unlinked_in, cleared_in}
-use Rattle.rk_machine.specs.Completion.{completed, ended}
-use Rattle.rk_machine.specs.Request.{query, waiting, started, with_key, subject_of}
-use Rattle.rk_machine.specs.KeyAsks.{with_key_changed}
-use Rattle.rk_machine.specs.Steps.{negating, opened, gone, collected, told_as}
-use Rattle.rk_machine.specs.Views.{is_owed, is_ready}
-use Rattle.rk_machine.specs.Laws.{same_session}
-use Rattle.rk_machine.specs.Owing.{wait_owes, client_owes, stage_owes, construction_owes, places, owed_to, whose, start_owes, is_request, need}
-use Rattle.rk_machine.proofs.Effects.KindsOfStep.{
-  Effect,
-  authority_for,
-  refused,
-  still,
-  took,
-  came,
-  went,
-  greets,
-  begins,
-  joins,
-  links,
-  unlinks,
-  marks,
-  tells,
-  sets,
-  adds,
-  assumes,
-  concludes,
-  ran_plain,
-  ran_piped,
-  negates,
-  failed,
-  finished,
-}
+use Rattle.rk_machine.proofs.Effects.KindsOfStep.{Effect, authority_for, refused, still, took, came, went, greets, begins, joins, links, unlinks, marks, tells}
+use Rattle.rk_machine.proofs.Effects.KindsOfStep.{sets, adds, assumes, concludes, ran_plain, ran_piped, negates, failed, finished}
 use Rattle.rk_machine.proofs.Effects.HelloChanges.{greeted_sessions}
 use Rattle.rk_machine.proofs.Effects.WaitsAreTheWorlds.{IdleFresh, there_issued}
 use Rattle.rk_machine.proofs.Effects.WaitsAfter.{same-true, same-self, session_of_changed}
-use Rattle.rk_machine.specs.Weights.{weight}
 use Rattle.rk_machine.proofs.OwedSteps.WeightsOfMaps.{but_one, but_two, all_same}
-use Rattle.rk_machine.proofs.OwedSteps.OwedAfter.{
-  places_kept,
-  places_other,
-  places_there,
-  places_announced,
-  places_spent,
-  places_ended,
-  places_issued,
-  places_launched,
-  stage_there,
-  places_came,
-  places_went,
-  client_there,
-}
+use Rattle.rk_machine.proofs.OwedSteps.OwedAfter.{places_kept, places_other, places_there, places_announced, places_spent, places_ended, places_issued}
+use Rattle.rk_machine.proofs.OwedSteps.OwedAfter.{places_launched, stage_there, places_came, places_went, client_there}
 
 -- what is owed to s changes alone, and where a construction k starts, what is owed to it
 pub data Change (s : SessionId) (a b : Sessions) (starts : ℕ) : Type 0 where

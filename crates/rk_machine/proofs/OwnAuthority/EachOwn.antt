@@ -1,30 +1,12 @@
 -- In every run a completion is its own handler's, which has assumed that key's authority.
-use Rattle.std.proofs.Common.{◌≡◌, ℕ, Bool, true, false, cond, List, [], ◌∷◌, sym, ap, ◌∙◌}
-use Rattle.std.specs.Prelude.{Option, Some, None, ℤ, pos, negsuc, ◌==◌, option_map}
-use Rattle.std.specs.Option.{option_map_or}
-use Rattle.std.specs.Ordering.{nat_cmp}
+use Rattle.rk_machine.proofs.Words.{option_map_or, nat_cmp, Option, Some, None, option_map, ℤ, pos, negsuc, ◌==◌, ◌≡◌, ℕ, Bool, true, false, cond, ap, ◌∙◌, sym}
+use Rattle.rk_machine.proofs.Words.{List, [], ◌∷◌, serial_named, is_completion, assumed_in, last_assumed, EachOwn, Step, Past, Beginning, Run, World}
+use Rattle.rk_machine.proofs.Words.{empty_world}
 use Rattle.std.specs.FinMap as map
-use Rattle.rk_machine.specs.World.{World, empty_world}
-use Rattle.rk_machine.specs.Asker.{serial_named}
-use Rattle.rk_machine.specs.Steps.{Beginning, Past, Run, Step}
-use Rattle.rk_machine.specs.Laws.{is_completion, assumed_in, last_assumed, EachOwn}
 use Rattle.rk_machine.proofs.Effects.KindsOfStep.{effect}
 use Rattle.rk_machine.proofs.Effects.StagesAfter.{Shape, shape, shape_of, as_assumed}
-use Rattle.rk_machine.proofs.Effects.OfOneConstruction.{
-  Tests,
-  tests,
-  Turn,
-  quiet,
-  starts,
-  launched_now,
-  negated_now,
-  failed_now,
-  ended_now,
-  completed_now,
-  assumed_now,
-  IsOwnAsk,
-  turns,
-}
+use Rattle.rk_machine.proofs.Effects.OfOneConstruction.{Tests, tests, Turn, quiet, starts, launched_now, negated_now, failed_now, ended_now, completed_now}
+use Rattle.rk_machine.proofs.Effects.OfOneConstruction.{assumed_now, IsOwnAsk, turns}
 use Rattle.rk_machine.proofs.Effects.DrawnSerials.{is_drawn}
 use Rattle.rk_machine.proofs.OneConstruction.EachOnce.{some_shape, clash, knows}
 
