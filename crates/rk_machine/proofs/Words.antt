@@ -1,4 +1,6 @@
 -- The words in which the lemmas speak: of std, of the libraries below, of the definitions, and of `Found`. A lemma file names those that it needs.
+pub use Rattle.std.proofs.Common.{◌≡◌, ℕ, ◌∙◌, ◌||◌, ◌⊎◌, ◌&&◌, ◌<◌, ◌∷◌, ◌+◌, ◌≤◌, Bool, true, false, cond, refl, ap, sym, not, inl, inr, arith, subst, List}
+pub use Rattle.std.proofs.Common.{[], zero-le, length, zero, suc, T}
 pub use Rattle.std.specs.Bool.{MatchBool}
 pub use Rattle.std.specs.Cmp.{nat_cmp_total, nat_eq_equiv}
 pub use Rattle.std.specs.FinMap.Entries.{below_all}
@@ -9,8 +11,6 @@ pub use Rattle.std.specs.Prelude.{ℤ, ◌==◌, Option, Some, None, nat_eq, is_
 pub use Rattle.std.specs.Prelude.{MatchOption, if◌then◌else◌}
 pub use Rattle.std.specs.declared.cmp.Ordering.{Ordering}
 pub use Rattle.std.specs.declared.cmp.Ordering.TheVariants.{Less, Equal, Greater}
-pub use Rattle.std.proofs.Common.{◌≡◌, ℕ, ◌∙◌, ◌||◌, ◌⊎◌, ◌&&◌, ◌<◌, ◌∷◌, ◌+◌, ◌≤◌, Bool, true, false, cond, refl, ap, sym, not, inl, inr, arith, subst, List}
-pub use Rattle.std.proofs.Common.{[], zero-le, length, zero, suc, T}
 pub use Rattle.std.proofs.Math.Nat.{le-pred_of_lt}
 pub use Rattle.std.proofs.lemmas.Bool.{eqb-true, eq-eqb, ne_eqb, leb-false}
 pub use Rattle.rk_names.specs.Numbers.{key_errno}
@@ -86,7 +86,7 @@ pub use Rattle.rk_machine.specs.declared.event.Ran.{Ran}
 pub use Rattle.rk_machine.proofs.Found.AllEntries.{some_entry, no_entry}
 pub use Rattle.rk_machine.proofs.Found.InMaps.{get_inserted, get_removed, get_changed_at, get_changed_all, get_kept_where}
 pub use Rattle.rk_machine.proofs.Found.Options.{none_some, some_same, was_some, some_none}
-pub use Rattle.rk_machine.proofs.Found.Refusals.{by_option, or_left, or_right, not_not, if_none, none_is, first_none, unless, or_memory, and_false, some_is}
+pub use Rattle.rk_machine.proofs.Found.Refusals.{by_option, or_left, or_right, not_not, if_none, none_is, first_none, unless, or_memory, and_false, and_left, some_is}
 unfoldable pub use Rattle.rk_machine.specs.Request.{Requests}
 unfoldable pub use Rattle.rk_machine.specs.Asks.{Completes}
 unfoldable pub use Rattle.rk_machine.specs.KeyAsks.{Adds}

@@ -1,18 +1,17 @@
 -- Which clients are there, and who waits, after each step of the machine.
-use Rattle.rk_machine.proofs.Words.{option_map_or, nat_cmp, Option, Some, None, nat_eq, is_some, option_map, option_and_then, ◌≡◌, ℕ, Bool, true, false, cond}
-use Rattle.rk_machine.proofs.Words.{refl, ap, ◌∙◌, ◌||◌, sym, ◌⊎◌, not, ◌&&◌, inl, inr, Errno, SessionId, Client, Handler, Condition, Negative, Key}
-use Rattle.rk_machine.proofs.Words.{session_changed, spent, all_told, told, with_context, ready_outcome, Sessions, unspent, new_session, wait_of, Outcome}
-use Rattle.rk_machine.proofs.Words.{Session, Wait, announced, outcome_of, keys_ended, ended, Event, is_done, same_session, is_wait_ended, unlinked_in}
-use Rattle.rk_machine.proofs.Words.{cleared_in, Step, collected, is_ready, has_wait, World, tidied, Answer, Done, Start, Waiting, Refused, Negate, Opened}
-use Rattle.rk_machine.proofs.Words.{Asked, Launched, Ended, Collect, Gone, get_inserted, get_removed, get_changed_at, get_changed_all, by_option}
+use Rattle.rk_machine.proofs.Words.{◌≡◌, ℕ, ◌∙◌, ◌||◌, ◌&&◌, Bool, true, false, cond, refl, ap, sym, not, option_map_or, nat_cmp, Option, Some, None, nat_eq}
+use Rattle.rk_machine.proofs.Words.{is_some, option_map, option_and_then, Errno, SessionId, Client, Handler, Condition, Key, session_changed, spent}
+use Rattle.rk_machine.proofs.Words.{with_construction, all_told, told, with_context, ready_outcome, Sessions, unspent, new_session, wait_of, Outcome, Session}
+use Rattle.rk_machine.proofs.Words.{Wait, announced, outcome_of, keys_ended, ended, Event, is_done, same_session, is_wait_ended, collected, is_ready, has_wait}
+use Rattle.rk_machine.proofs.Words.{World, Answer, Done, Start, Waiting, Refused, Negate, Opened, Asked, Launched, Ended, Collect, Gone, get_inserted}
+use Rattle.rk_machine.proofs.Words.{get_removed, get_changed_at, get_changed_all, by_option, Step}
 use Rattle.std.specs.FinMap as map
-use Rattle.rk_names.specs.declared.errors.KeyError.TheVariants as error
 use Rattle.rk_machine.specs.Laws.{wait_begun}
-use Rattle.rk_machine.proofs.Effects.KindsOfStep.{Effect, effect, refused, still, took, came, went, greets, begins, joins, links, unlinks, marks, tells, sets}
-use Rattle.rk_machine.proofs.Effects.KindsOfStep.{adds, assumes, concludes, ran_plain, ran_piped, negates, failed, finished}
-use Rattle.rk_machine.proofs.Effects.HelloChanges.{greeted_sessions}
 use Rattle.rk_machine.proofs.Effects.WaitsAfter.{flag, flag_of, flag_collected, same-self}
 use Rattle.rk_machine.proofs.Effects.WaitsAreTheWorlds.{after, step, tied, IdleFresh}
+use Rattle.rk_machine.proofs.Effects.KindsOfStep.{Effect, effect}
+use Rattle.rk_machine.proofs.Effects.OfSessions.{InSessions, in_sessions, is_refused, collects, comes, greeted, goes, starts, waits_for, is_set, assumed}
+use Rattle.rk_machine.proofs.Effects.OfSessions.{concluded, not_run, ends}
 
 -- ---- clients
 
@@ -74,58 +73,25 @@ refused_client n (Collect s) error b = refl
 refused_client n (Gone (Client m)) error b = refl
 refused_client n (Gone (Handler k)) error b = refl
 
-by_step : (new : World) (n : ℕ) (e given : Event) (a answer : Answer) (b : Bool) → e ≡ given → a ≡ answer
-    → is_client new.sessions n ≡ client_after n given answer b → is_client new.sessions n ≡ client_after n e a b
-by_step new n e given a answer b ev ra h = h ∙ sym (ap (λ y. client_after n y a b) ev ∙ ap (λ y. client_after n given y b) ra)
-
-at_world : (new mid : World) (n : ℕ) (b : Bool) → new ≡ mid → is_client mid.sessions n ≡ b → is_client new.sessions n ≡ b
-at_world new mid n b e h = ap (λ (w : World). is_client w.sessions n) e ∙ h
-
-unlinked_client : (old new : World) (ring : Option ℕ) (k n : ℕ) → (new ≡ tidied (unlinked_in ring k old)) ⊎ (new ≡ tidied (cleared_in ring old))
-    → is_client new.sessions n ≡ is_client old.sessions n
-unlinked_client old new ring k n (inl h) = at_world new _ n _ h refl
-unlinked_client old new ring k n (inr h) = at_world new _ n _ h refl
-
 -- which clients are there after a step results from the event, its answer and which were there
 pub clients : (old : World) (now : ℕ) (e : Event) (a : Answer) (new : World) → Effect old now e a new → (n : ℕ)
     → is_client new.sessions n ≡ client_after n e a (is_client old.sessions n)
-clients old now e a new (refused error ra w free) n =
-    ap (λ (v : World). is_client v.sessions n) w ∙ sym (ap (λ y. client_after n e y (is_client old.sessions n)) ra ∙ refused_client n e error _)
-clients old now e a new (still s wait ev is ready ra w) n = by_step new n e _ a _ _ ev ra (at_world new _ n _ w refl)
-clients old now e a new (took s wait outcome ev is ready ra w) n =
-    by_step new n e (Collect s) a a _ ev refl (at_world new _ n _ w (client_changed s _ old.sessions n))
-clients old now e a new (came m ev fresh ra w) n =
-    by_step new n e _ a _ _ ev ra (at_world new _ n _ w (ap is_some (get_inserted old.sessions.clients m new_session n)
-    ∙ came_in (nat_eq m n) (map.get old.sessions.clients n)))
-clients old now e a new (went m ev there ra w) n =
-    by_step new n e _ a _ _ ev ra (at_world new _ n _ w (ap is_some (get_removed old.sessions.clients m n)
-    ∙ went_in (nat_eq m n) (map.get old.sessions.clients n)))
-clients old now e a new (greets m hello ev can none joined h) n =
-    by_step new n e _ a _ _ ev h.6.0
-    (at_world new _ n _ h.6.1 (client_changed (Client m) (with_context
-    (record { uid = hello.uid; gid = hello.gid; thread = h.0; process = h.1; session = h.2; user = h.3 })) h.4.sessions n
-    ∙ ap (λ (s : Sessions). is_client s n) (greeted_sessions _ old h.4 h.0 h.1 h.2 h.3 h.5)))
-clients old now e a new (begins s asker typ description callout r ring k ev can is depth fresh ra w) n =
-    by_step new n e _ a _ _ ev ra (at_world new _ n _ w (client_changed s _ _ n))
-clients old now e a new (joins s x ring k ev asks can building apart ra w) n =
-    by_step new n e _ a _ _ ev ra (at_world new _ n _ w (client_changed s _ old.sessions n))
-clients old now e a new (links s x ring k m ev completes_none not_assume ra w) n = by_step new n e _ a _ _ ev ra (at_world new _ n _ w refl)
-clients old now e a new (unlinks s x ring k ev completes_none not_assume ra w) n = by_step new n e _ a _ _ ev ra (unlinked_client old new ring k n w)
-clients old now e a new (marks s x k f ev completes_none not_assume mild ra w) n = by_step new n e _ a _ _ ev ra (at_world new _ n _ w refl)
-clients old now e a new (tells s x bytes ev ra w) n = by_step new n e _ a _ _ ev ra (at_world new _ n _ w refl)
-clients old now e a new (sets s x setting m ev completes_none not_assume can ra w) n =
-    by_step new n e _ a _ _ ev ra (at_world new _ n _ w (client_changed s _ old.sessions n))
-clients old now e a new (adds s asker typ description payload r ring k ev fresh ra w) n = by_step new n e _ a _ _ ev ra (at_world new _ n _ w refl)
-clients old now e a new (assumes s key ev can none ra w) n = by_step new n e _ a _ _ ev ra (at_world new _ n _ w (client_changed s _ old.sessions n))
-clients old now e a new (concludes s x asker ring k condition end ev which can is own final ra w) n =
-    by_step new n e _ a _ _ ev ra (at_world new _ n _ w (client_announced now k _ (spent k old.sessions) n))
-clients old now e a new (ran_plain k st ev is launches ra w) n = by_step new n e _ a _ _ ev ra (at_world new _ n _ w refl)
-clients old now e a new (ran_piped k ev is ra w) n = by_step new n e _ a _ _ ev ra (at_world new _ n _ w refl)
-clients old now e a new (negates k how payload ev is fails ra w) n = by_step new n e _ a _ _ ev ra (at_world new _ n _ w refl)
-clients old now e a new (failed k st ev is launches ra w) n =
-    by_step new n e _ a _ _ ev ra (at_world new _ n _ w (client_ended now k (Negative error.NoKey) old n))
-clients old now e a new (finished k how payload st condition ev is running final ra w) n =
-    by_step new n e _ a _ _ ev ra (at_world new _ n _ w (client_ended now k condition old n))
+clients old now e a new is n = by_case e a new.sessions (in_sessions old now e a new is)
+  where
+    by_case : (e : Event) (a : Answer) (b : Sessions) → InSessions old new now e a b → is_client b n ≡ client_after n e a (is_client old.sessions n)
+    by_case e a b (is_refused y error w free) = sym (refused_client n y error _)
+    by_case e a b (collects s wait outcome is ready) = client_changed s _ old.sessions n
+    by_case e a b (comes m fresh) = ap is_some (get_inserted old.sessions.clients m new_session n) ∙ came_in (nat_eq m n) (map.get old.sessions.clients n)
+    by_case e a b (goes m there) = ap is_some (get_removed old.sessions.clients m n) ∙ went_in (nat_eq m n) (map.get old.sessions.clients n)
+    by_case e a b (greeted m hello c thread process session user can) = client_changed (Client m) (with_context c) old.sessions n
+    by_case e a b (starts s typ description callout r k subject authority names can fresh drawn) = client_changed s _ (with_construction k authority old.sessions) n
+    by_case e a b (waits_for s x k asks can apart) = client_changed s _ old.sessions n
+    by_case e a b (is_set s x setting m plain can) = client_changed s _ old.sessions n
+    by_case e a b (assumed s key can none) = client_changed s _ old.sessions n
+    by_case e a b (concluded s x asker k keys which is own) = client_announced now k keys (spent k old.sessions) n
+    by_case e a b (not_run k st condition is launches) = client_ended now k condition old n
+    by_case e a b (ends k how payload st condition is running) = client_ended now k condition old n
+    by_case e a b _ = refl
 
 -- ---- who waits
 

@@ -1,18 +1,16 @@
 -- How far each construction is, and which clients are there, after each step of the machine.
-use Rattle.rk_machine.proofs.Words.{option_map_or, nat_cmp, Option, Some, None, nat_eq, is_some, option_map, ◌≡◌, ℕ, Bool, true, false, cond, refl, ap, ◌∙◌}
-use Rattle.rk_machine.proofs.Words.{sym, ◌⊎◌, ◌&&◌, inl, inr, eqb-true, Errno, SessionId, Client, Handler, Condition, Negative, Key, session_changed}
-use Rattle.rk_machine.proofs.Words.{in_handler, in_new_stage, spent, without_authority, with_construction, all_told, told, with_context, with_assumed, in_stage}
-use Rattle.rk_machine.proofs.Words.{Sessions, unspent, new_session, stage_of, Authority, Construction, Stage, Starting, Plain, Piped, Negating, Outcome}
-use Rattle.rk_machine.proofs.Words.{Session, announced, outcome_of, sessions_ended, keys_ended, ended, Event, is_done, unlinked_in, cleared_in, is_followed}
-use Rattle.rk_machine.proofs.Words.{World, tidied, Answer, Start, Refused, Opened, Asked, Launched, Ended, Collect, Gone, Ran, get_inserted, get_removed}
-use Rattle.rk_machine.proofs.Words.{get_changed_at, get_changed_all}
+use Rattle.rk_machine.proofs.Words.{◌≡◌, ℕ, ◌∙◌, ◌&&◌, Bool, true, false, cond, refl, ap, sym, option_map_or, nat_cmp, Option, Some, None, nat_eq, is_some}
+use Rattle.rk_machine.proofs.Words.{option_map, eqb-true, Errno, SessionId, Client, Handler, Condition, Key, session_changed, in_handler, in_new_stage, spent}
+use Rattle.rk_machine.proofs.Words.{without_authority, with_construction, all_told, told, with_context, with_assumed, in_stage, Sessions, unspent, new_session}
+use Rattle.rk_machine.proofs.Words.{stage_of, Authority, Construction, Stage, Starting, Plain, Piped, Negating, Outcome, Session, announced, outcome_of}
+use Rattle.rk_machine.proofs.Words.{sessions_ended, keys_ended, ended, Event, is_done, is_followed, World, Answer, Start, Refused, Opened, Asked, Launched}
+use Rattle.rk_machine.proofs.Words.{Ended, Collect, Gone, Ran, get_inserted, get_removed, get_changed_at, get_changed_all}
 use Rattle.std.specs.FinMap as map
-use Rattle.rk_names.specs.declared.errors.KeyError.TheVariants as error
 use Rattle.rk_auth.specs.Changes.{launched}
 use Rattle.rk_machine.specs.declared.event.Ran.TheVariants as ran
-use Rattle.rk_machine.proofs.Effects.KindsOfStep.{Effect, refused, still, took, came, went, greets, begins, joins, links, unlinks, marks, tells, sets, adds}
-use Rattle.rk_machine.proofs.Effects.KindsOfStep.{assumes, concludes, ran_plain, ran_piped, negates, failed, finished}
-use Rattle.rk_machine.proofs.Effects.HelloChanges.{greeted_sessions}
+use Rattle.rk_machine.proofs.Effects.KindsOfStep.{Effect}
+use Rattle.rk_machine.proofs.Effects.OfSessions.{InSessions, in_sessions, is_refused, collects, greeted, starts, waits_for, is_set, assumed, concluded}
+use Rattle.rk_machine.proofs.Effects.OfSessions.{runs_plain, runs_piped, follows, not_run, ends}
 
 -- ---- constructions, by their stages
 
@@ -177,52 +175,24 @@ refused_kind q (Ended k how payload) error o = refl
 refused_kind q (Collect s) error o = refl
 refused_kind q (Gone s) error o = refl
 
-module _ (new : World) (q : ℕ) (e given : Event) (a answer : Answer) (o : Option Kind) where
-  -- a step whose event and answer are known
-  by_step : e ≡ given → a ≡ answer → kind_of new.sessions q ≡ kind_after q given answer o → kind_of new.sessions q ≡ kind_after q e a o
-  by_step ev ra h = h ∙ sym (ap (λ y. kind_after q y a o) ev ∙ ap (λ y. kind_after q given y o) ra)
-
-at_world : (new mid : World) (q : ℕ) (o : Option Kind) → new ≡ mid → kind_of mid.sessions q ≡ o → kind_of new.sessions q ≡ o
-at_world new mid q o e h = ap (λ (w : World). kind_of w.sessions q) e ∙ h
-
-unlinked_kind : (old new : World) (ring : Option ℕ) (k q : ℕ) → (new ≡ tidied (unlinked_in ring k old)) ⊎ (new ≡ tidied (cleared_in ring old))
-    → kind_of new.sessions q ≡ kind_of old.sessions q
-unlinked_kind old new ring k q (inl h) = at_world new _ q _ h refl
-unlinked_kind old new ring k q (inr h) = at_world new _ q _ h refl
-
 -- how far each construction is after a step results from the event, its answer and how far it was
 pub kinds : (old : World) (now : ℕ) (e : Event) (a : Answer) (new : World) → Effect old now e a new → (q : ℕ)
     → kind_of new.sessions q ≡ kind_after q e a (kind_of old.sessions q)
-kinds old now e a new (refused error ra w free) q =
-    ap (λ (v : World). kind_of v.sessions q) w ∙ sym (ap (λ y. kind_after q e y (kind_of old.sessions q)) ra ∙ refused_kind q e error _)
-kinds old now e a new (still s wait ev is ready ra w) q = by_step new q e _ a _ _ ev ra (at_world new _ q _ w refl)
-kinds old now e a new (took s wait outcome ev is ready ra w) q =
-    by_step new q e (Collect s) a a _ ev refl (at_world new _ q _ w (kind_changed s _ old.sessions q))
-kinds old now e a new (came n ev fresh ra w) q = by_step new q e _ a _ _ ev ra (at_world new _ q _ w refl)
-kinds old now e a new (went n ev there ra w) q = by_step new q e _ a _ _ ev ra (at_world new _ q _ w refl)
-kinds old now e a new (greets n hello ev can none joined h) q =
-    by_step new q e _ a _ _ ev h.6.0 (at_world new _ q _ h.6.1
-    (kind_changed (Client n) (with_context (record { uid = hello.uid; gid = hello.gid; thread = h.0; process = h.1; session = h.2; user = h.3 })) h.4.sessions q
-    ∙ ap (λ (s : Sessions). kind_of s q) (greeted_sessions _ old h.4 h.0 h.1 h.2 h.3 h.5)))
-kinds old now e a new (begins s asker typ description callout r ring k ev can is depth fresh ra w) q =
-    by_step new q e _ a _ _ ev ra (at_world new _ q _ w (kind_changed s _ _ q ∙ kind_issued k _ old.sessions q))
-kinds old now e a new (joins s x ring k ev asks can building apart ra w) q =
-    by_step new q e _ a _ _ ev ra (at_world new _ q _ w (kind_changed s _ old.sessions q))
-kinds old now e a new (links s x ring k n ev completes_none not_assume ra w) q = by_step new q e _ a _ _ ev ra (at_world new _ q _ w refl)
-kinds old now e a new (unlinks s x ring k ev completes_none not_assume ra w) q = by_step new q e _ a _ _ ev ra (unlinked_kind old new ring k q w)
-kinds old now e a new (marks s x k f ev completes_none not_assume mild ra w) q = by_step new q e _ a _ _ ev ra (at_world new _ q _ w refl)
-kinds old now e a new (tells s x bytes ev ra w) q = by_step new q e _ a _ _ ev ra (at_world new _ q _ w refl)
-kinds old now e a new (sets s x setting n ev completes_none not_assume can ra w) q =
-    by_step new q e _ a _ _ ev ra (at_world new _ q _ w (kind_changed s _ old.sessions q))
-kinds old now e a new (adds s asker typ description payload r ring k ev fresh ra w) q = by_step new q e _ a _ _ ev ra (at_world new _ q _ w refl)
-kinds old now e a new (assumes s key ev can none ra w) q = by_step new q e _ a _ _ ev ra (at_world new _ q _ w (kind_changed s _ old.sessions q))
-kinds old now e a new (concludes s x asker ring k condition end ev which can is own final ra w) q =
-    by_step new q e _ a _ _ ev ra (at_world new _ q _ w (kind_announced now k _ (spent k old.sessions) q ∙ kind_spent k old.sessions q))
-kinds old now e a new (ran_plain k st ev is launches ra w) q =
-    by_step new q e _ a _ _ ev ra (at_world new _ q _ w (kind_launched k (Plain new_session) st old.sessions q is))
-kinds old now e a new (ran_piped k ev is ra w) q = by_step new q e _ a _ _ ev ra (at_world new _ q _ w (kind_launched k Piped Starting old.sessions q is))
-kinds old now e a new (negates k how payload ev is fails ra w) q =
-    by_step new q e _ a _ _ ev ra (at_world new _ q _ w (kind_launched k Negating Piped old.sessions q is))
-kinds old now e a new (failed k st ev is launches ra w) q = by_step new q e _ a _ _ ev ra (at_world new _ q _ w (kind_ended now k (Negative error.NoKey) old q))
-kinds old now e a new (finished k how payload st condition ev is running final ra w) q =
-    by_step new q e _ a _ _ ev ra (at_world new _ q _ w (kind_ended now k condition old q))
+kinds old now e a new is q = by_case e a new.sessions (in_sessions old now e a new is)
+  where
+    by_case : (e : Event) (a : Answer) (b : Sessions) → InSessions old new now e a b → kind_of b q ≡ kind_after q e a (kind_of old.sessions q)
+    by_case e a b (is_refused y error w free) = sym (refused_kind q y error _)
+    by_case e a b (collects s wait outcome is ready) = kind_changed s _ old.sessions q
+    by_case e a b (greeted n hello c thread process session user can) = kind_changed (Client n) (with_context c) old.sessions q
+    by_case e a b (starts s typ description callout r k subject authority names can fresh drawn) =
+        kind_changed s _ (with_construction k authority old.sessions) q ∙ kind_issued k authority old.sessions q
+    by_case e a b (waits_for s x k asks can apart) = kind_changed s _ old.sessions q
+    by_case e a b (is_set s x setting n plain can) = kind_changed s _ old.sessions q
+    by_case e a b (assumed s key can none) = kind_changed s _ old.sessions q
+    by_case e a b (concluded s x asker k keys which is own) = kind_announced now k keys (spent k old.sessions) q ∙ kind_spent k old.sessions q
+    by_case e a b (runs_plain k st is launches) = kind_launched k (Plain new_session) st old.sessions q is
+    by_case e a b (runs_piped k is) = kind_launched k Piped Starting old.sessions q is
+    by_case e a b (follows k how payload is free) = kind_launched k Negating Piped old.sessions q is
+    by_case e a b (not_run k st condition is launches) = kind_ended now k condition old q
+    by_case e a b (ends k how payload st condition is running) = kind_ended now k condition old q
+    by_case e a b _ = refl

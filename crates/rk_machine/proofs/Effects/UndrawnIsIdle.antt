@@ -1,19 +1,20 @@
 -- What was never drawn is no construction, after each step of the machine.
-use Rattle.rk_machine.proofs.Words.{Option, Some, None, nat_eq, is_some, option_map, ◌≡◌, ℕ, Bool, true, false, cond, refl, ap, ◌∙◌, sym, not, ◌&&◌, subst}
-use Rattle.rk_machine.proofs.Words.{List, eqb-true, SessionId, Subject, Ask, stage_of, is_to_launch, is_starting, Construction, Stage, Starting, Plain, Piped}
-use Rattle.rk_machine.proofs.Words.{Negating, Outcome, Found, Failed, refused_if, Event, is_done, is_followed, Step, may_launch, Ends, told_as, World, drawn}
-use Rattle.rk_machine.proofs.Words.{Answer, Done, Start, Waiting, Refused, Negate, Opened, Asked, Launched, Ended, Collect, Gone, How, Ran, not_not, if_none}
-use Rattle.rk_machine.proofs.Words.{unless}
+use Rattle.rk_machine.proofs.Words.{◌≡◌, ℕ, ◌∙◌, ◌&&◌, Bool, true, false, cond, refl, ap, sym, not, subst, List, Option, Some, None, nat_eq, is_some}
+use Rattle.rk_machine.proofs.Words.{option_map, is_none, eqb-true, SessionId, Subject, Ask, Sessions, session_of, stage_of, is_to_launch, is_starting}
+use Rattle.rk_machine.proofs.Words.{Construction, Stage, Starting, Plain, Piped, Negating, Outcome, Found, Failed, refused_if, Event, is_done, is_followed}
+use Rattle.rk_machine.proofs.Words.{asked_of, names_in, may_launch, Ends, told_as, World, drawn, Answer, Done, Start, Waiting, Refused, Negate, Opened, Asked}
+use Rattle.rk_machine.proofs.Words.{Launched, Ended, Collect, Gone, How, Ran, not_not, if_none, unless, Step}
 use Rattle.std.specs.FinMap as map
+use Rattle.rk_message.specs.declared.ask.AskOf.TheVariants as ask
 use Rattle.rk_names.specs.declared.errors.Errno.TheVariants as errno
 use Rattle.rk_machine.specs.declared.event.Ran.TheVariants as ran
-use Rattle.rk_machine.proofs.Effects.KindsOfStep.{Effect, effect, refused, still, took, came, went, greets, begins, joins, links, unlinks, marks, tells, sets}
-use Rattle.rk_machine.proofs.Effects.KindsOfStep.{adds, assumes, concludes, ran_plain, ran_piped, negates, failed, finished}
-use Rattle.rk_machine.proofs.Effects.DrawnSerials.{is_drawn, drawn_now}
+use Rattle.rk_machine.proofs.Effects.DrawnSerials.{is_drawn}
 use Rattle.rk_machine.proofs.Effects.SerialsStayDrawn.{keeps_drawn}
 use Rattle.rk_machine.proofs.Effects.WaitsAreTheWorlds.{IdleFresh}
 use Rattle.rk_machine.proofs.Effects.StagesByStep.{Kind, to_start, pipes, to_follow, kind, kind_in, kind_of, is_due, is_first_due, may_find, stage_kind}
 use Rattle.rk_machine.proofs.Effects.StagesByStep.{kind_after, kinds}
+use Rattle.rk_machine.proofs.Effects.KindsOfStep.{Effect, effect}
+use Rattle.rk_machine.proofs.Effects.OfSessions.{InSessions, in_sessions, starts, collects}
 
 -- a serial that was never drawn has no construction
 abbrev pub IsIdle : World → Type 0
@@ -29,40 +30,47 @@ idle_fresh w idle k h = none (map.get w.sessions.constructions k) (idle k h)
 
 -- ---- a start draws its key
 
-told_no_start : (o : Outcome) (k : ℕ) (subject : Subject) → told_as o ≡ Start k subject → ⊥
-told_no_start (Found j) k subject e = cc
-told_no_start (Failed x) k subject e = cc
+-- a start of this key tells what was asked for by a session that is there, and draws its serial
+pub record IsStart (old : World) (e : Event) (new : World) (k : ℕ) (subject : Subject) : Type 0 where
+  pub who : SessionId
+  pub what : Ask
+  pub asks : e ≡ Asked who what
+  pub names : asked_of e ≡ Some (names_in subject)
+  pub there : is_none (session_of old.sessions who) ≡ false
+  pub fresh : is_drawn old k ≡ false
+  pub drawn : is_drawn new k ≡ true
 
--- equal starts are of one key
-pub start_key : {j k : ℕ} {s t : Subject} → ◌≡◌ {A = Answer} (Start j s) (Start k t) → j ≡ k
-start_key e = cc
+-- what an answer says, if it is a start
+abbrev Starts : World → Event → World → Answer → Type 0
+Starts old e new (Start k subject) = IsStart old e new k subject
+Starts old e new _ = Unit {0}
+
+told_no_start : (old : World) (e : Event) (new : World) (o : Outcome) → Starts old e new (told_as o)
+told_no_start old e new (Found k) = tt
+told_no_start old e new (Failed x) = tt
+
+starting : (old new : World) (now : ℕ) (e : Event) (a : Answer) (b : Sessions) → InSessions old new now e a b → Starts old e new a
+starting old new now e a b (starts s typ description callout r k subject authority names can fresh drawn) = record {
+  who = s;
+  what = ask.Request typ description (Some callout) r;
+  asks = refl;
+  names = ap (λ (n : List ℕ × (List ℕ × List ℕ)). Some n) (sym names);
+  there = can.there;
+  fresh = fresh.unused;
+  drawn = drawn;
+}
+starting old new now e a b (collects s wait outcome is ready) = told_no_start old _ new outcome
+starting old new now e a b _ = tt
+
+-- an answer that starts a construction
+pub start_is : (old : World) (now : ℕ) (e : Event) (a : Answer) (new : World) → Effect old now e a new → (k : ℕ) (subject : Subject) → a ≡ Start k subject
+    → IsStart old e new k subject
+start_is old now e a new is k subject ra = subst (Starts old e new) ra (starting old new now e a new.sessions (in_sessions old now e a new is))
 
 -- a start draws the serial of its key
 pub start_draws : (old : World) (now : ℕ) (e : Event) (a : Answer) (new : World) → Effect old now e a new → (k : ℕ) (subject : Subject) → a ≡ Start k subject
     → (is_drawn old k ≡ false) × (is_drawn new k ≡ true)
-start_draws old now e a new (refused error ra w free) k subject h = absurd (cc)
-start_draws old now e a new (still s wait ev is ready ra w) k subject h = absurd (cc)
-start_draws old now e a new (took s wait outcome ev is ready ra w) k subject h = absurd (told_no_start outcome k subject (sym ra ∙ h))
-start_draws old now e a new (came n ev fresh ra w) k subject h = absurd (cc)
-start_draws old now e a new (went n ev there ra w) k subject h = absurd (cc)
-start_draws old now e a new (greets n hello ev can none joined g) k subject h = absurd (let ra = g.6.0 in cc)
-start_draws old now e a new (begins s asker typ description callout r ring j ev can is depth fresh ra w) k subject h =
-    let same : j ≡ k = start_key (sym ra ∙ h) in
-    (ap (is_drawn old) (sym same) ∙ fresh.unused, ap (λ (v : World). is_drawn v k) w ∙ ap (is_drawn (drawn j old)) (sym same) ∙ drawn_now j old)
-start_draws old now e a new (joins s x ring j ev asks can building apart ra w) k subject h = absurd (cc)
-start_draws old now e a new (links s x ring j n ev completes_none not_assume ra w) k subject h = absurd (cc)
-start_draws old now e a new (unlinks s x ring j ev completes_none not_assume ra w) k subject h = absurd (cc)
-start_draws old now e a new (marks s x j f ev completes_none not_assume mild ra w) k subject h = absurd (cc)
-start_draws old now e a new (tells s x bytes ev ra w) k subject h = absurd (cc)
-start_draws old now e a new (sets s x setting n ev completes_none not_assume can ra w) k subject h = absurd (cc)
-start_draws old now e a new (adds s asker typ description payload r ring j ev fresh ra w) k subject h = absurd (cc)
-start_draws old now e a new (assumes s key ev can none ra w) k subject h = absurd (cc)
-start_draws old now e a new (concludes s x asker ring j condition end ev which can is own final ra w) k subject h = absurd (cc)
-start_draws old now e a new (ran_plain j st ev is launches ra w) k subject h = absurd (cc)
-start_draws old now e a new (ran_piped j ev is ra w) k subject h = absurd (cc)
-start_draws old now e a new (negates j how payload ev is fails ra w) k subject h = absurd (cc)
-start_draws old now e a new (failed j st ev is launches ra w) k subject h = absurd (cc)
-start_draws old now e a new (finished j how payload st condition ev is running final ra w) k subject h = absurd (cc)
+start_draws old now e a new is k subject ra = let start = start_is old now e a new is k subject ra in (start.fresh, start.drawn)
 
 -- ---- a launch finds a construction
 

@@ -1,26 +1,25 @@
 -- What whoever records a run has to know of each step.
-use Rattle.rk_machine.proofs.Words.{MatchBool, option_map_or, nat_cmp, Option, Some, None, nat_eq, is_some, option_map, option_and_then, ◌≡◌, ℕ, Bool, true}
-use Rattle.rk_machine.proofs.Words.{false, cond, refl, ap, ◌∙◌, sym, ◌⊎◌, not, ◌&&◌, inl, inr, arith, subst, List, [], ◌∷◌, ◌+◌, ◌≤◌, length, eqb-true, eq-eqb}
-use Rattle.rk_machine.proofs.Words.{Errno, SessionId, Client, Handler, Subject, Ask, Bytes, ready_outcome, Sessions, wait_of, stage_of, is_running}
+use Rattle.rk_machine.proofs.Words.{◌≡◌, ℕ, ◌∙◌, ◌⊎◌, ◌&&◌, ◌∷◌, ◌+◌, ◌≤◌, Bool, true, false, cond, refl, ap, sym, not, inl, inr, arith, subst, List, []}
+use Rattle.rk_machine.proofs.Words.{length, MatchBool, option_map_or, nat_cmp, Option, Some, None, nat_eq, is_some, option_map, option_and_then, eqb-true}
+use Rattle.rk_machine.proofs.Words.{eq-eqb, Errno, SessionId, Client, Handler, Subject, Ask, Bytes, ready_outcome, Sessions, wait_of, stage_of, is_running}
 use Rattle.rk_machine.proofs.Words.{Construction, Stage, Starting, Plain, Piped, Negating, Outcome, Found, Failed, Wait, refused_if, done, Leaves, Settles}
 use Rattle.rk_machine.proofs.Words.{Unless, ended, condition_after, Event, is_done, same_session, is_followed, whose, client_owes, stage_owes}
 use Rattle.rk_machine.proofs.Words.{construction_owes, owed, owed_to, start_owes, constructions, begun, closes, closed, ends_owed, ends_owed_to}
-use Rattle.rk_machine.proofs.Words.{construction_ends, stage_ends, start_ends, takes, asked_of, names_in, Reached, IsOwedAnswer, Recording, Step, may_launch}
-use Rattle.rk_machine.proofs.Words.{would_negate, negating, Ends, told_as, gone, Past, Beginning, Run, is_ready, is_owed, weight, weight_in, World, empty_world}
-use Rattle.rk_machine.proofs.Words.{Answer, Done, Start, Waiting, Refused, Negate, Opened, Asked, Launched, Ended, Collect, Gone, How, Ran, by_option}
-use Rattle.rk_machine.proofs.Words.{and_false}
+use Rattle.rk_machine.proofs.Words.{construction_ends, stage_ends, start_ends, takes, Reached, IsOwedAnswer, Recording, may_launch, would_negate, negating}
+use Rattle.rk_machine.proofs.Words.{Ends, told_as, gone, Past, Beginning, Run, is_ready, is_owed, weight, weight_in, World, empty_world, Answer, Done, Start}
+use Rattle.rk_machine.proofs.Words.{Waiting, Refused, Negate, Opened, Asked, Launched, Ended, Collect, Gone, How, Ran, by_option, and_false, Step}
 use Rattle.std.specs.FinMap as map
 use Rattle.rk_names.specs.declared.errors.Errno.TheVariants as errno
 use Rattle.rk_names.specs.declared.errors.KeyError.TheVariants as error
-use Rattle.rk_message.specs.declared.ask.AskOf.TheVariants as ask
 use Rattle.rk_machine.specs.declared.event.Ran.TheVariants as ran
 use Rattle.rk_machine.specs.Steps.{launched}
-use Rattle.rk_machine.proofs.Effects.KindsOfStep.{Effect, effect, refused, still, took, came, went, greets, begins, joins, links, unlinks, marks, tells, sets}
-use Rattle.rk_machine.proofs.Effects.KindsOfStep.{adds, assumes, concludes, ran_plain, ran_piped, negates, failed, finished}
 use Rattle.rk_machine.proofs.OwedSteps.WeightsOfMaps.{but_one, all_same, no_weight, no_heavier, part}
 use Rattle.rk_machine.proofs.Effects.StagesByStep.{Kind, to_start, talks, pipes, to_follow, kind, may_find, kind_of, kind_in, kind_after, launched_kind, kinds}
-use Rattle.rk_machine.proofs.Effects.UndrawnIsIdle.{IsIdle, idle_fresh, start_key, start_draws, launch_finds, launch_kind, found_some, follow_finds, idle_step}
-use Rattle.rk_machine.proofs.OwedSteps.OwedByStep.{balance, other_key, moves}
+use Rattle.rk_machine.proofs.Effects.UndrawnIsIdle.{IsIdle, IsStart, start_is, idle_fresh, start_draws, launch_finds, launch_kind, found_some, follow_finds}
+use Rattle.rk_machine.proofs.Effects.UndrawnIsIdle.{idle_step}
+use Rattle.rk_machine.proofs.OwedSteps.OwedByStep.{balance, other_key, NotOwed, moves}
+use Rattle.rk_machine.proofs.Effects.KindsOfStep.{Effect, effect}
+use Rattle.rk_machine.proofs.Effects.OfSessions.{InSessions, in_sessions, is_refused, collects, told}
 
 true_false : true ≡ false → ⊥
 true_false e = cc
@@ -76,29 +75,11 @@ told_no_lack (Failed error.Revoked) e = cc
 told_no_lack (Failed error.Rejected) e = cc
 
 -- it changes nothing, and is no answer to what is owed
-lacks : (old : World) (now : ℕ) (e : Event) (a : Answer) (new : World) → Step old now e a new → Effect old now e a new → a ≡ Refused errno.Enomem
+lacks : (old new : World) (now : ℕ) (e : Event) (a : Answer) (b : Sessions) → InSessions old new now e a b → NotOwed old e a → a ≡ Refused errno.Enomem
     → (new ≡ old) × (is_owed old e ≡ false)
-lacks old now e a new h (refused x ra w free) r = (w, not_owed old now e a new h x ra free)
-lacks old now e a new h (still s wait ev is ready ra w) r = absurd (cc)
-lacks old now e a new h (took s wait outcome ev is ready ra w) r = absurd (told_no_lack outcome (sym ra ∙ r))
-lacks old now e a new h (came n ev fresh ra w) r = absurd (cc)
-lacks old now e a new h (went n ev there ra w) r = absurd (cc)
-lacks old now e a new h (greets n hello ev can none ok g) r = absurd (let ra = g.6.0 in cc)
-lacks old now e a new h (begins s asker typ description callout q ring k ev can is depth fresh ra w) r = absurd (cc)
-lacks old now e a new h (joins s x ring k ev asks can building apart ra w) r = absurd (cc)
-lacks old now e a new h (links s x ring k n ev completes_none not_assume ra w) r = absurd (cc)
-lacks old now e a new h (unlinks s x ring k ev completes_none not_assume ra w) r = absurd (cc)
-lacks old now e a new h (marks s x k f ev completes_none not_assume mild ra w) r = absurd (cc)
-lacks old now e a new h (tells s x bytes ev ra w) r = absurd (cc)
-lacks old now e a new h (sets s x setting n ev completes_none not_assume can ra w) r = absurd (cc)
-lacks old now e a new h (adds s asker typ description payload q ring k ev fresh ra w) r = absurd (cc)
-lacks old now e a new h (assumes s key ev can none ra w) r = absurd (cc)
-lacks old now e a new h (concludes s x asker ring k condition end ev which can is own final ra w) r = absurd (cc)
-lacks old now e a new h (ran_plain k st ev is launches ra w) r = absurd (cc)
-lacks old now e a new h (ran_piped k ev is ra w) r = absurd (cc)
-lacks old now e a new h (negates k how payload ev is fails ra w) r = absurd (cc)
-lacks old now e a new h (failed k st ev is launches ra w) r = absurd (cc)
-lacks old now e a new h (finished k how payload st condition ev runs some final ra w) r = absurd (cc)
+lacks old new now e a b (is_refused y error w free) not_owed r = (w, not_owed error refl free)
+lacks old new now e a b (collects s wait outcome is ready) not_owed r = absurd (told_no_lack outcome r)
+lacks old new now e a b _ not_owed r = absurd (cc)
 
 -- ---- bytes are returned, and nothing changes
 
@@ -106,63 +87,11 @@ told_no_bytes : (o : Outcome) (b : List ℕ) → told_as o ≡ Done (Bytes b) �
 told_no_bytes (Found k) b e = cc
 told_no_bytes (Failed x) b e = cc
 
-tells_alone : (old : World) (now : ℕ) (e : Event) (a : Answer) (new : World) → Effect old now e a new → (b : List ℕ) → a ≡ Done (Bytes b)
+tells_alone : (old new : World) (now : ℕ) (e : Event) (a : Answer) (b : Sessions) → InSessions old new now e a b → (bytes : List ℕ) → a ≡ Done (Bytes bytes)
     → (new ≡ old) × (is_owed old e ≡ false)
-tells_alone old now e a new (refused x ra w free) b r = absurd (cc)
-tells_alone old now e a new (still s wait ev is ready ra w) b r = absurd (cc)
-tells_alone old now e a new (took s wait outcome ev is ready ra w) b r = absurd (told_no_bytes outcome b (sym ra ∙ r))
-tells_alone old now e a new (came n ev fresh ra w) b r = absurd (cc)
-tells_alone old now e a new (went n ev there ra w) b r = absurd (cc)
-tells_alone old now e a new (greets n hello ev can none ok g) b r = absurd (let ra = g.6.0 in cc)
-tells_alone old now e a new (begins s asker typ description callout q ring k ev can is depth fresh ra w) b r = absurd (cc)
-tells_alone old now e a new (joins s x ring k ev asks can building apart ra w) b r = absurd (cc)
-tells_alone old now e a new (links s x ring k n ev completes_none not_assume ra w) b r = absurd (cc)
-tells_alone old now e a new (unlinks s x ring k ev completes_none not_assume ra w) b r = absurd (cc)
-tells_alone old now e a new (marks s x k f ev completes_none not_assume mild ra w) b r = absurd (cc)
-tells_alone old now e a new (tells s x bytes ev ra w) b r = (w, ap (is_owed old) ev)
-tells_alone old now e a new (sets s x setting n ev completes_none not_assume can ra w) b r = absurd (cc)
-tells_alone old now e a new (adds s asker typ description payload q ring k ev fresh ra w) b r = absurd (cc)
-tells_alone old now e a new (assumes s key ev can none ra w) b r = absurd (cc)
-tells_alone old now e a new (concludes s x asker ring k condition end ev which can is own final ra w) b r = absurd (cc)
-tells_alone old now e a new (ran_plain k st ev is launches ra w) b r = absurd (cc)
-tells_alone old now e a new (ran_piped k ev is ra w) b r = absurd (cc)
-tells_alone old now e a new (negates k how payload ev is fails ra w) b r = absurd (cc)
-tells_alone old now e a new (failed k st ev is launches ra w) b r = absurd (cc)
-tells_alone old now e a new (finished k how payload st condition ev runs some final ra w) b r = absurd (cc)
-
--- ---- a start tells what was asked for
-
-same_subject : {j k : ℕ} {s t : Subject} → ◌≡◌ {A = Answer} (Start j s) (Start k t) → s ≡ t
-same_subject e = cc
-
-told_no_start : (o : Outcome) (k : ℕ) (subject : Subject) → told_as o ≡ Start k subject → ⊥
-told_no_start (Found j) k subject e = cc
-told_no_start (Failed x) k subject e = cc
-
-starts_asked : (old : World) (now : ℕ) (e : Event) (a : Answer) (new : World) → Effect old now e a new → (k : ℕ) (subject : Subject) → a ≡ Start k subject
-    → asked_of e ≡ Some (names_in subject)
-starts_asked old now e a new (refused x ra w free) k subject r = absurd (cc)
-starts_asked old now e a new (still s wait ev is ready ra w) k subject r = absurd (cc)
-starts_asked old now e a new (took s wait outcome ev is ready ra w) k subject r = absurd (told_no_start outcome k subject (sym ra ∙ r))
-starts_asked old now e a new (came n ev fresh ra w) k subject r = absurd (cc)
-starts_asked old now e a new (went n ev there ra w) k subject r = absurd (cc)
-starts_asked old now e a new (greets n hello ev can none ok g) k subject r = absurd (let ra = g.6.0 in cc)
-starts_asked old now e a new (begins s asker typ description callout q ring j ev can is depth fresh ra w) k subject r =
-    ap asked_of ev ∙ ap (λ (x : Subject). Some (names_in x)) (same_subject (sym ra ∙ r))
-starts_asked old now e a new (joins s x ring j ev asks can building apart ra w) k subject r = absurd (cc)
-starts_asked old now e a new (links s x ring j n ev completes_none not_assume ra w) k subject r = absurd (cc)
-starts_asked old now e a new (unlinks s x ring j ev completes_none not_assume ra w) k subject r = absurd (cc)
-starts_asked old now e a new (marks s x j f ev completes_none not_assume mild ra w) k subject r = absurd (cc)
-starts_asked old now e a new (tells s x bytes ev ra w) k subject r = absurd (cc)
-starts_asked old now e a new (sets s x setting n ev completes_none not_assume can ra w) k subject r = absurd (cc)
-starts_asked old now e a new (adds s asker typ description payload q ring j ev fresh ra w) k subject r = absurd (cc)
-starts_asked old now e a new (assumes s key ev can none ra w) k subject r = absurd (cc)
-starts_asked old now e a new (concludes s x asker ring j condition end ev which can is own final ra w) k subject r = absurd (cc)
-starts_asked old now e a new (ran_plain j st ev is launches ra w) k subject r = absurd (cc)
-starts_asked old now e a new (ran_piped j ev is ra w) k subject r = absurd (cc)
-starts_asked old now e a new (negates j how payload ev is fails ra w) k subject r = absurd (cc)
-starts_asked old now e a new (failed j st ev is launches ra w) k subject r = absurd (cc)
-starts_asked old now e a new (finished j how payload st condition ev runs some final ra w) k subject r = absurd (cc)
+tells_alone old new now e a b (told s x given w) bytes r = (w, refl)
+tells_alone old new now e a b (collects s wait outcome is ready) bytes r = absurd (told_no_bytes outcome bytes r)
+tells_alone old new now e a b _ bytes r = absurd (cc)
 
 -- ---- what is owed is answered so
 
@@ -263,14 +192,6 @@ abbrev asks : Event → Bool
 asks (Asked s x) = true
 asks _ = false
 
-names_asked : (e : Event) {n : List ℕ × (List ℕ × List ℕ)} → asked_of e ≡ Some n → asks e ≡ true
-names_asked (Asked s x) h = refl
-names_asked (Opened s) h = absurd (cc)
-names_asked (Launched k r) h = absurd (cc)
-names_asked (Ended k how payload) h = absurd (cc)
-names_asked (Collect s) h = absurd (cc)
-names_asked (Gone s) h = absurd (cc)
-
 count_step : (old : World) (now : ℕ) (e : Event) (a : Answer) (new : World) → Step old now e a new → IsIdle old
     → constructions new + closed e a ≡ constructions old + begun a
 count_step old now e a new h idle = by_event e a refl refl h
@@ -345,7 +266,7 @@ count_step old now e a new h idle = by_event e a refl refl h
         of_one (Asked s x) (Start k subject) k (Some to_start) 1 0 ev ra (λ q. refl) refl (ap ones (idle k fresh.0))
 
     only_asked : (y : Event) (j : ℕ) (subject : Subject) → e ≡ y → a ≡ Start j subject → asks y ≡ true
-    only_asked y j subject ev ra = ap asks (sym ev) ∙ names_asked e (starts_asked old now e a new (effect old now e a new h) j subject ra)
+    only_asked y j subject ev ra = ap asks (sym ev) ∙ ap asks (start_is old now e a new (effect old now e a new h) j subject ra).asks
 
     none_closed : (b : Answer) (n : ℕ) → n ≡ 0 → constructions new ≡ constructions old → constructions new + cond (is_done b) n 0 ≡ constructions old + 0
     none_closed b n zero same = elim (is_done b) as (λ t. constructions new + cond t n 0 ≡ constructions old + 0) [ true ↦ omega arith | false ↦ omega arith ]
@@ -488,35 +409,10 @@ sum_ends (Handler j) old new starts (of_start k two apart before after same) =
         by_test false e = refl
 
 -- a start is of another key than the asker's
-starts_apart : (old : World) (now : ℕ) (e : Event) (a : Answer) (new : World) → Effect old now e a new → IsIdle old → (k : ℕ) (subject : Subject)
-    → a ≡ Start k subject → (s : SessionId) × (x : Ask) × (e ≡ Asked s x) × (same_session s (Handler k) ≡ false)
-starts_apart old now e a new (refused x ra w free) idle k subject r = absurd (cc)
-starts_apart old now e a new (still s wait ev is ready ra w) idle k subject r = absurd (cc)
-starts_apart old now e a new (took s wait outcome ev is ready ra w) idle k subject r = absurd (told_no_start outcome k subject (sym ra ∙ r))
-starts_apart old now e a new (came n ev fresh ra w) idle k subject r = absurd (cc)
-starts_apart old now e a new (went n ev there ra w) idle k subject r = absurd (cc)
-starts_apart old now e a new (greets n hello ev can none ok g) idle k subject r = absurd (let ra = g.6.0 in cc)
-starts_apart old now e a new (begins s asker typ description callout q ring j ev can is depth fresh ra w) idle k subject r = (
-  s,
-  ask.Request typ description (Some callout) q,
-  ev,
-  ap (λ i. same_session s (Handler i)) (sym (start_key (sym ra ∙ r)))
-      ∙ other_key old s j (idle_fresh old idle j fresh.unused) can.there,
-)
-starts_apart old now e a new (joins s x ring j ev asks can building apart ra w) idle k subject r = absurd (cc)
-starts_apart old now e a new (links s x ring j n ev completes_none not_assume ra w) idle k subject r = absurd (cc)
-starts_apart old now e a new (unlinks s x ring j ev completes_none not_assume ra w) idle k subject r = absurd (cc)
-starts_apart old now e a new (marks s x j f ev completes_none not_assume mild ra w) idle k subject r = absurd (cc)
-starts_apart old now e a new (tells s x bytes ev ra w) idle k subject r = absurd (cc)
-starts_apart old now e a new (sets s x setting n ev completes_none not_assume can ra w) idle k subject r = absurd (cc)
-starts_apart old now e a new (adds s asker typ description payload q ring j ev fresh ra w) idle k subject r = absurd (cc)
-starts_apart old now e a new (assumes s key ev can none ra w) idle k subject r = absurd (cc)
-starts_apart old now e a new (concludes s x asker ring j condition end ev which can is own final ra w) idle k subject r = absurd (cc)
-starts_apart old now e a new (ran_plain j st ev is launches ra w) idle k subject r = absurd (cc)
-starts_apart old now e a new (ran_piped j ev is ra w) idle k subject r = absurd (cc)
-starts_apart old now e a new (negates j how payload ev is fails ra w) idle k subject r = absurd (cc)
-starts_apart old now e a new (failed j st ev is launches ra w) idle k subject r = absurd (cc)
-starts_apart old now e a new (finished j how payload st condition ev runs some final ra w) idle k subject r = absurd (cc)
+starts_apart : (old : World) (e : Event) (new : World) (k : ℕ) (subject : Subject) → IsIdle old → IsStart old e new k subject
+    → same_session (whose e) (Handler k) ≡ false
+starts_apart old e new k subject idle start =
+    ap (λ y. same_session (whose y) (Handler k)) start.asks ∙ other_key old start.who k (idle_fresh old idle k start.fresh) start.there
 
 -- a step leaves what it does not concern
 off : (e : Event) (a : Answer) (q : ℕ) (o : Option Kind) → start_ends a ≡ 0 → same_session (whose e) (Handler q) ≡ false → kind_after q e a o ≡ o
@@ -549,10 +445,10 @@ ends_change old now e a new h idle = by_answer a refl
 
     started : (k : ℕ) (subject : Subject) → a ≡ Start k subject → EndsChange (whose e) old new (start_ends a)
     started k subject ra =
-        let one = starts_apart old now e a new found idle k subject ra in
+        let start = start_is old now e a new found k subject ra in
         let after : (q : ℕ) → kind_of new.sessions q ≡ cond (nat_eq k q) (Some to_start) (kind_of old.sessions q) =
-        λ q. is q ∙ (λ i. kind_after q (one.2 i) (ra i) (kind_of old.sessions q)) in
-        of_start k (ap start_ends ra) (ap (λ y. same_session (whose y) (Handler k)) one.2 ∙ one.3) (idle k (start_draws old now e a new found k subject ra).0)
+        λ q. is q ∙ (λ i. kind_after q (start.asks i) (ra i) (kind_of old.sessions q)) in
+        of_start k (ap start_ends ra) (starts_apart old e new k subject idle start) (idle k start.fresh)
         (after k ∙ ap (λ b. cond b (Some to_start) (kind_of old.sessions k)) (eq-eqb k k refl))
         (λ q other. after q ∙ ap (λ b. cond b (Some to_start) (kind_of old.sessions q)) other)
 
@@ -605,8 +501,8 @@ ends_taken old now e a new h idle = by_event e refl h
     asker : (s : SessionId) (x : Ask) → e ≡ Asked s x → (b : Answer) → a ≡ b → ends_owed_to new s ≡ ends_owed_to old s
     asker (Client n) x ev b ra = refl
     asker (Handler j) x ev (Start k subject) ra =
-        let one = starts_apart old now e a new found idle k subject ra in
-        let apart : nat_eq j k ≡ false = ap (λ y. same_session (whose y) (Handler k)) (sym ev ∙ one.2) ∙ one.3 in
+        let apart : nat_eq j k ≡ false =
+        ap (λ y. same_session (whose y) (Handler k)) (sym ev) ∙ starts_apart old e new k subject idle (start_is old now e a new found k subject ra) in
         kept_ends old new j (is (Asked (Handler j) x) ev j ∙ (λ i. kind_after j (Asked (Handler j) x) (ra i) (kind_of old.sessions j)) ∙ unlike j k apart)
       where
         unlike : (j k : ℕ) → nat_eq j k ≡ false → cond (nat_eq k j) (Some to_start) (kind_of old.sessions j) ≡ kind_of old.sessions j
@@ -688,15 +584,16 @@ ends_taken old now e a new h idle = by_event e refl h
 pub recording : (old : World) (now : ℕ) (e : Event) (a : Answer) (new : World) → Step old now e a new → IsIdle old → Recording old e a new
 recording old now e a new h idle =
     let is = effect old now e a new h in
-    let left = moves old now e a new is (idle_fresh old idle) (not_owed old now e a new h) in
+    let sessions = in_sessions old now e a new is in
+    let left = moves old new now e a new.sessions sessions (idle_fresh old idle) (not_owed old now e a new h) in
     record {
       places = balance (whose e) old.sessions new.sessions (start_owes a) left.0;
       needed = left.1;
       owed_before = left.2;
       owed_answer = owed_answer old now e a new h;
-      lack = lacks old now e a new h is;
-      bytes = tells_alone old now e a new is;
-      asked = starts_asked old now e a new is;
+      lack = lacks old new now e a new.sessions sessions (not_owed old now e a new h);
+      bytes = tells_alone old new now e a new.sessions sessions;
+      asked = λ k subject ra. (start_is old now e a new is k subject ra).names;
       counted = count_step old now e a new h idle;
       closing = closing_owed old now e a new h;
       ends = ends_balance old now e a new h idle;
