@@ -1,9 +1,9 @@
 -- In every run each key has one outcome, and all who wait on it get that one.
-use Rattle.rk_machine.proofs.Words.{nat_eq_equiv, option_map_or, nat_cmp, Option, Some, None, nat_eq, is_some, option_map, option_and_then, ◌≡◌, ℕ, Bool, true}
-use Rattle.rk_machine.proofs.Words.{false, cond, refl, ap, ◌∙◌, sym, ◌⊎◌, inl, inr, subst, List, [], ◌∷◌, eqb-true, Errno, SessionId, Client, Handler}
+use Rattle.rk_machine.proofs.Words.{◌≡◌, ℕ, ◌∙◌, ◌⊎◌, ◌∷◌, Bool, true, false, cond, refl, ap, sym, inl, inr, subst, List, [], nat_eq_equiv, option_map_or}
+use Rattle.rk_machine.proofs.Words.{nat_cmp, Option, Some, None, nat_eq, is_some, option_map, option_and_then, eqb-true, Errno, SessionId, Client, Handler}
 use Rattle.rk_machine.proofs.Words.{told_wait, wait_of, handler_in, Construction, Outcome, Found, Failed, Session, Wait, is_waiting, waited, never, is_ending}
-use Rattle.rk_machine.proofs.Words.{is_completion, EachToldOf, IsOutcome, EachOutcome, Step, told_as, Past, Beginning, Run, World, empty_world, Answer, Waiting}
-use Rattle.rk_machine.proofs.Words.{Refused, Collect, none_some, some_same}
+use Rattle.rk_machine.proofs.Words.{is_completion, EachToldOf, IsOutcome, EachOutcome, told_as, Past, Beginning, Run, World, empty_world, Answer, Waiting}
+use Rattle.rk_machine.proofs.Words.{Refused, Collect, none_some, some_same, Step}
 use Rattle.std.specs.FinMap as map
 use Rattle.rk_machine.specs.Laws.{wait_collected}
 use Rattle.rk_machine.proofs.Effects.KindsOfStep.{Effect, effect}
@@ -174,8 +174,8 @@ module _ (old : World) (s : Past) (new : World) (before : List Past) (known : Kn
   goes_on k there = found (map.get old.sessions.constructions k) refl there
     where
       by_stage : (x : Shape) (b : Bool) → shape_of old.sessions k ≡ Some x → x.starting ≡ b → never (is_ending k) before
-      by_stage x true at e = ((known.1 k).there x at).1
-      by_stage x false at e = ((known.1 k).there x at).1
+      by_stage x true at e = ((known.1 k).there x at).going
+      by_stage x false at e = ((known.1 k).there x at).going
 
       found : (o : Option Construction) → map.get old.sessions.constructions k ≡ o → is_some o ≡ true → never (is_ending k) before
       found None e h = absurd (cc)
