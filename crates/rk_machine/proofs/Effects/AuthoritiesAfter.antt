@@ -1,11 +1,12 @@
 -- The unspent authority of each key, after each thing that a step may do.
-use Rattle.rk_machine.proofs.Words.{option_map_or, nat_cmp, Option, Some, None, nat_eq, is_some, option_map, option_and_then, ◌≡◌, ℕ, Bool, true, false, cond}
-use Rattle.rk_machine.proofs.Words.{refl, ap, ◌∙◌, SessionId, Client, Handler, Condition, Key, session_changed, in_handler, in_new_stage, spent}
-use Rattle.rk_machine.proofs.Words.{without_authority, without_construction, with_construction, all_told, told, Sessions, unspent, Authority, Construction}
-use Rattle.rk_machine.proofs.Words.{Stage, Starting, Outcome, Session, announced, outcome_of, sessions_ended, keys_ended, ended, World, get_inserted}
-use Rattle.rk_machine.proofs.Words.{get_removed, get_changed_at, get_changed_all}
+use Rattle.rk_machine.proofs.Words.{◌≡◌, ℕ, ◌∙◌, Bool, true, false, cond, refl, ap, nat_cmp, Option, Some, None, nat_eq, is_some, option_map, option_and_then}
+use Rattle.rk_machine.proofs.Words.{SessionId, Client, Handler, Condition, Key, session_changed, in_handler, in_new_stage, spent, without_authority}
+use Rattle.rk_machine.proofs.Words.{without_construction, with_construction, all_told, told, Sessions, unspent, Authority, Construction, Stage, Starting}
+use Rattle.rk_machine.proofs.Words.{Outcome, Session, announced, sessions_ended, keys_ended, ended, World, get_inserted, get_removed, get_changed_at}
+use Rattle.rk_machine.proofs.Words.{get_changed_all}
 use Rattle.std.specs.FinMap as map
 use Rattle.rk_auth.specs.Changes.{launched}
+use Rattle.rk_machine.proofs.Effects.LeftByOutcomes.{left_announced}
 
 abbrev authority_in : Option Construction → Option Authority
 authority_in o = option_and_then (λ c. c.authority) o
@@ -33,11 +34,7 @@ unspent_told k o a q =
     ap authority_in (get_changed_all (in_handler (told k o)) a.constructions q) ∙ kept (in_handler (told k o)) (λ c. refl) true (map.get a.constructions q)
 
 pub unspent_announced : (now k : ℕ) (keys : map.FinMap nat_cmp Key) (a : Sessions) (q : ℕ) → unspent (announced now k keys a) q ≡ unspent a q
-unspent_announced now k keys a q = told_or_not (map.get keys k)
-  where
-    told_or_not : (o : Option Key) → unspent (option_map_or (λ key. all_told k (outcome_of k key now) a) o a) q ≡ unspent a q
-    told_or_not None = refl
-    told_or_not (Some key) = unspent_told k (outcome_of k key now) a q
+unspent_announced now k keys a q = left_announced (λ b. unspent b q) (λ j o b. unspent_told j o b q) now k keys a
 
 -- a launch leaves every unspent authority
 pub unspent_launched : (k : ℕ) (st : Stage) (a : Sessions) (q : ℕ) → unspent (launched k st a) q ≡ unspent a q

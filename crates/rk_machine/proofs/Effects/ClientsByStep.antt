@@ -1,10 +1,10 @@
 -- Which clients are there, and who waits, after each step of the machine.
 use Rattle.rk_machine.proofs.Words.{◌≡◌, ℕ, ◌∙◌, ◌||◌, ◌&&◌, Bool, true, false, cond, refl, ap, sym, not, option_map_or, nat_cmp, Option, Some, None, nat_eq}
 use Rattle.rk_machine.proofs.Words.{is_some, option_map, option_and_then, Errno, SessionId, Client, Handler, Condition, Key, session_changed, spent}
-use Rattle.rk_machine.proofs.Words.{with_construction, all_told, told, with_context, ready_outcome, Sessions, unspent, new_session, wait_of, Outcome, Session}
-use Rattle.rk_machine.proofs.Words.{Wait, announced, outcome_of, keys_ended, ended, Event, is_done, same_session, is_wait_ended, collected, is_ready, has_wait}
-use Rattle.rk_machine.proofs.Words.{World, Answer, Done, Start, Waiting, Refused, Negate, Opened, Asked, Launched, Ended, Collect, Gone, get_inserted}
-use Rattle.rk_machine.proofs.Words.{get_removed, get_changed_at, get_changed_all, by_option, Step}
+use Rattle.rk_machine.proofs.Words.{with_construction, all_told, told, with_context, ready_outcome, Sessions, new_session, wait_of, Outcome, Session, Wait}
+use Rattle.rk_machine.proofs.Words.{announced, ended, Event, is_done, same_session, is_wait_ended, collected, is_ready, has_wait, World, Answer, Done, Start}
+use Rattle.rk_machine.proofs.Words.{Waiting, Refused, Negate, Opened, Asked, Launched, Ended, Collect, Gone, get_inserted, get_removed, get_changed_at}
+use Rattle.rk_machine.proofs.Words.{get_changed_all, by_option, Step}
 use Rattle.std.specs.FinMap as map
 use Rattle.rk_machine.specs.Laws.{wait_begun}
 use Rattle.rk_machine.proofs.Effects.WaitsAfter.{flag, flag_of, flag_collected, same-self}
@@ -12,6 +12,7 @@ use Rattle.rk_machine.proofs.Effects.WaitsAreTheWorlds.{after, step, tied, IdleF
 use Rattle.rk_machine.proofs.Effects.KindsOfStep.{Effect, effect}
 use Rattle.rk_machine.proofs.Effects.OfSessions.{InSessions, in_sessions, is_refused, collects, comes, greeted, goes, starts, waits_for, is_set, assumed}
 use Rattle.rk_machine.proofs.Effects.OfSessions.{concluded, not_run, ends}
+use Rattle.rk_machine.proofs.Effects.LeftByOutcomes.{left_announced, left_settled}
 
 -- ---- clients
 
@@ -36,18 +37,10 @@ client_told : (k : ℕ) (o : Outcome) (a : Sessions) (n : ℕ) → is_client (al
 client_told k o a n = ap is_some (get_changed_all (told k o) a.clients n) ∙ kept_all (told k o) (map.get a.clients n)
 
 client_announced : (now k : ℕ) (keys : map.FinMap nat_cmp Key) (a : Sessions) (n : ℕ) → is_client (announced now k keys a) n ≡ is_client a n
-client_announced now k keys a n = told_or_not (map.get keys k)
-  where
-    told_or_not : (o : Option Key) → is_client (option_map_or (λ key. all_told k (outcome_of k key now) a) o a) n ≡ is_client a n
-    told_or_not None = refl
-    told_or_not (Some key) = client_told k (outcome_of k key now) a n
+client_announced now k keys a n = left_announced (λ b. is_client b n) (λ j o b. client_told j o b n) now k keys a
 
 client_ended : (now k : ℕ) (condition : Condition) (w : World) (n : ℕ) → is_client (ended now k condition w).sessions n ≡ is_client w.sessions n
-client_ended now k condition w n = spent_or_not (is_some (unspent w.sessions k))
-  where
-    spent_or_not : (b : Bool) → is_client (cond b (announced now k (keys_ended now k condition w) (spent k w.sessions)) w.sessions) n ≡ is_client w.sessions n
-    spent_or_not true = client_announced now k (keys_ended now k condition w) (spent k w.sessions) n
-    spent_or_not false = refl
+client_ended now k condition w n = left_settled (λ b. is_client b n) (λ j o b. client_told j o b n) (λ j b. refl) now k condition w
 
 came_in : (b : Bool) (o : Option Session) → is_some (cond b (Some new_session) o) ≡ (b || is_some o)
 came_in true o = refl

@@ -1,9 +1,10 @@
 -- The context of each client, after each thing that a step may do.
-use Rattle.rk_machine.proofs.Words.{option_map_or, nat_cmp, Option, Some, None, nat_eq, is_some, option_map, option_and_then, is_none, ◌≡◌, ℕ, Bool, true}
-use Rattle.rk_machine.proofs.Words.{false, cond, refl, ap, ◌∙◌, sym, eqb-true, Context, SessionId, Client, Handler, Condition, Key, session_changed, spent}
-use Rattle.rk_machine.proofs.Words.{all_told, told, with_context, with_client, without_client, Sessions, unspent, new_session, Session, announced, outcome_of}
-use Rattle.rk_machine.proofs.Words.{sessions_ended, keys_ended, World, get_inserted, get_removed, get_changed_at, get_changed_all}
+use Rattle.rk_machine.proofs.Words.{◌≡◌, ℕ, ◌∙◌, Bool, true, false, cond, refl, ap, sym, nat_cmp, Option, Some, None, nat_eq, option_map, option_and_then}
+use Rattle.rk_machine.proofs.Words.{is_none, eqb-true, Context, SessionId, Client, Handler, Condition, Key, session_changed, all_told, told, with_context}
+use Rattle.rk_machine.proofs.Words.{with_client, without_client, Sessions, new_session, Outcome, Session, announced, sessions_ended, World, get_inserted}
+use Rattle.rk_machine.proofs.Words.{get_removed, get_changed_at, get_changed_all}
 use Rattle.std.specs.FinMap as map
+use Rattle.rk_machine.proofs.Effects.LeftByOutcomes.{left_announced, left_settled}
 
 abbrev context_in : Option Session → Option Context
 context_in o = option_and_then (λ one. one.context) o
@@ -26,23 +27,16 @@ pub context_kept : (id : SessionId) (f : Session → Session) → ((s : Session)
 context_kept (Client m) f h a n = ap context_in (get_changed_at m f a.clients n) ∙ kept f h (nat_eq m n) (map.get a.clients n)
 context_kept (Handler k) f h a n = refl
 
+context_told : (k : ℕ) (o : Outcome) (a : Sessions) (n : ℕ) → context_at (all_told k o a) n ≡ context_at a n
+context_told k o a n = ap context_in (get_changed_all (told k o) a.clients n) ∙ kept (told k o) (λ s. refl) true (map.get a.clients n)
+
 -- an outcome leaves every client's context
 pub context_announced : (now k : ℕ) (keys : map.FinMap nat_cmp Key) (a : Sessions) (n : ℕ) → context_at (announced now k keys a) n ≡ context_at a n
-context_announced now k keys a n = told_or_not (map.get keys k)
-  where
-    told_or_not : (o : Option Key) → context_at (option_map_or (λ key. all_told k (outcome_of k key now) a) o a) n ≡ context_at a n
-    told_or_not None = refl
-    told_or_not (Some key) =
-        ap context_in (get_changed_all (told k (outcome_of k key now)) a.clients n)
-        ∙ kept (told k (outcome_of k key now)) (λ s. refl) true (map.get a.clients n)
+context_announced now k keys a n = left_announced (λ b. context_at b n) (λ j o b. context_told j o b n) now k keys a
 
 -- a handler's end leaves every client's context
 pub context_ended : (now k : ℕ) (condition : Condition) (w : World) (n : ℕ) → context_at (sessions_ended now k condition w) n ≡ context_at w.sessions n
-context_ended now k condition w n = spent_or_not (is_some (unspent w.sessions k))
-  where
-    spent_or_not : (b : Bool) → context_at (cond b (announced now k (keys_ended now k condition w) (spent k w.sessions)) w.sessions) n ≡ context_at w.sessions n
-    spent_or_not true = context_announced now k (keys_ended now k condition w) (spent k w.sessions) n
-    spent_or_not false = refl
+context_ended now k condition w n = left_settled (λ b. context_at b n) (λ j o b. context_told j o b n) (λ j b. refl) now k condition w
 
 came_in : (b : Bool) (o : Option Session) → (b ≡ true → o ≡ None) → context_in (cond b (Some new_session) o) ≡ context_in o
 came_in true o new = sym (ap context_in (new refl))

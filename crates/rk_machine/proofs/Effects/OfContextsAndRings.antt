@@ -1,10 +1,10 @@
 -- What a step is to the clients' contexts, the rings and the authorities.
-use Rattle.rk_machine.proofs.Words.{option_map_or, Option, Some, None, nat_eq, unwrap_or, nat_le, ◌≡◌, ℕ, Bool, true, false, cond, refl, ap, ◌∙◌, sym, ◌⊎◌}
-use Rattle.rk_machine.proofs.Words.{◌&&◌, inl, inr, subst, List, Context, Errno, SessionId, Client, Ask, Rings, Negative, without_link, without_links}
+use Rattle.rk_machine.proofs.Words.{◌≡◌, ℕ, ◌∙◌, ◌⊎◌, ◌&&◌, Bool, true, false, cond, refl, ap, sym, inl, inr, subst, List, option_map_or, Option, Some, None}
+use Rattle.rk_machine.proofs.Words.{nat_eq, unwrap_or, nat_le, Context, Errno, SessionId, Client, Ask, Rings, Negative, without_link, without_links}
 use Rattle.rk_machine.proofs.Words.{session_changed, spent, with_construction, with_context, with_wait, with_setting, with_assumed, Sessions, unspent}
 use Rattle.rk_machine.proofs.Words.{new_session, Authority, Plain, Piped, Negating, Session, Asker, asker_of, Event, is_done, Root, goes, starter_in, hello_in}
 use Rattle.rk_machine.proofs.Words.{unlinked_in, cleared_in, query, subject_of, Query, context_of, goes_with, World, tidied, Answer, Done, Start, Refused}
-use Rattle.rk_machine.proofs.Words.{Asked, was_some, none_is, and_false}
+use Rattle.rk_machine.proofs.Words.{Asked, true_false, was_some, none_is, and_false}
 use Rattle.std.specs.FinMap as map
 use Rattle.rk_names.specs.declared.errors.KeyError.TheVariants as error
 use Rattle.rk_message.specs.declared.ask.AskOf.TheVariants as ask
@@ -71,9 +71,6 @@ pub data Move (old : World) (e : Event) (a : Answer) (new : World) : Type 0 wher
 abbrev pub is_rings : Answer → Bool
 is_rings (Done (Rings thread process session user)) = true
 is_rings _ = false
-
-true_false : true ≡ false → ⊥
-true_false e = cc
 
 no_hello : (n : ℕ) (e : Event) (a : Answer) → is_rings a ≡ false → hello_in n e a ≡ None
 no_hello n (Asked (Client m) (ask.Hello hello)) (Done (Rings thread process session user)) h = absurd (true_false h)

@@ -1,12 +1,13 @@
 -- What a step is to one construction.
 use Rattle.rk_machine.proofs.Words.{◌≡◌, ℕ, ◌∙◌, ◌&&◌, ◌∷◌, Bool, true, false, cond, refl, ap, sym, not, subst, [], option_map_or, nat_cmp, ℤ, ◌==◌, Option}
 use Rattle.rk_machine.proofs.Words.{Some, None, nat_eq, is_some, option_map, option_and_then, is_none, pos, negsuc, eqb-true, eq-eqb, SessionId, Client}
-use Rattle.rk_machine.proofs.Words.{Handler, Ask, Number, Bytes, Condition, Key, spent, with_construction, all_told, with_context, with_wait, with_setting}
-use Rattle.rk_machine.proofs.Words.{new_wait, Sessions, unspent, new_session, session_of, stage_of, is_to_launch, assumed_authority, handler_in, Authority}
-use Rattle.rk_machine.proofs.Words.{Construction, Stage, Starting, Plain, Piped, Negating, Outcome, Found, Failed, Session, refused_if, done, first_of, Asker}
-use Rattle.rk_machine.proofs.Words.{asker_of, serial_named, client_asker, assumed_asker, handler_asker, assume_refusal, announced, outcome_of, sessions_ended}
-use Rattle.rk_machine.proofs.Words.{keys_ended, ended, Event, is_done, same_session, completes, starts_by, negates_by, launches, ends, completes_by, assumed_at}
-use Rattle.rk_machine.proofs.Words.{told_as, World, drawn, Answer, Done, Waiting, Refused, Asked, Collect, not_not, if_none, first_none, and_false, some_is}
+use Rattle.rk_machine.proofs.Words.{Handler, Ask, Number, Bytes, Condition, Key, spent, with_construction, with_context, with_wait, with_setting, new_wait}
+use Rattle.rk_machine.proofs.Words.{Sessions, unspent, new_session, session_of, stage_of, is_to_launch, assumed_authority, handler_in, Authority, Construction}
+use Rattle.rk_machine.proofs.Words.{Stage, Starting, Plain, Piped, Negating, Outcome, Found, Failed, Session, refused_if, done, first_of, Asker, asker_of}
+use Rattle.rk_machine.proofs.Words.{serial_named, client_asker, assumed_asker, handler_asker, assume_refusal, announced, sessions_ended, keys_ended, ended}
+use Rattle.rk_machine.proofs.Words.{Event, is_done, same_session, completes, starts_by, negates_by, launches, ends, completes_by, assumed_at, told_as, World}
+use Rattle.rk_machine.proofs.Words.{drawn, Answer, Done, Waiting, Refused, Asked, Collect, true_false, some_same, not_not, if_none, first_none, and_false}
+use Rattle.rk_machine.proofs.Words.{some_is}
 use Rattle.std.specs.FinMap as map
 use Rattle.rk_names.specs.declared.errors.Errno.TheVariants as errno
 use Rattle.rk_message.specs.declared.ask.AskOf.TheVariants as ask
@@ -16,6 +17,7 @@ use Rattle.rk_machine.proofs.Effects.StagesAfter.{shape_assumed, shape_spent, sh
 use Rattle.rk_machine.proofs.Effects.KindsOfStep.{Effect}
 use Rattle.rk_machine.proofs.Effects.OfSessions.{InSessions, in_sessions, is_refused, collects, greeted, starts, waits_for, answered, told, is_set, assumed}
 use Rattle.rk_machine.proofs.Effects.OfSessions.{concluded, runs_plain, runs_piped, follows, not_run, ends as end_of}
+use Rattle.rk_machine.proofs.Effects.LeftByOutcomes.{left_announced}
 
 -- ---- what the laws test of a step
 
@@ -127,11 +129,7 @@ some_of a k st h = found (map.get a.constructions k) refl h
     found (Some c) is e = (shape c, ap (option_map shape) is, ap is_to_launch e, ap firsts e)
 
 shape_announced : (now k : ℕ) (keys : map.FinMap nat_cmp Key) (a : Sessions) (q : ℕ) → shape_of (announced now k keys a) q ≡ shape_of a q
-shape_announced now k keys a q = told_or_not (map.get keys k)
-  where
-    told_or_not : (o : Option Key) → shape_of (option_map_or (λ key. all_told k (outcome_of k key now) a) o a) q ≡ shape_of a q
-    told_or_not None = refl
-    told_or_not (Some key) = shape_told k (outcome_of k key now) a q
+shape_announced now k keys a q = left_announced (λ b. shape_of b q) (λ j o b. shape_told j o b q) now k keys a
 
 shape_settled : (now k : ℕ) (condition : Condition) (w : World) (q : ℕ) → nat_eq k q ≡ false → shape_of (sessions_ended now k condition w) q ≡ at w q
 shape_settled now k condition w q other = spent_or_not (is_some (unspent w.sessions k))
@@ -244,9 +242,6 @@ assumed_own : (w : World) (j : ℕ) (key : ℤ) (x : Shape) → at w j ≡ Some 
 assumed_own w j (negsuc n) x is h k e = absurd (cc)
 assumed_own w j (pos n) x is h k e = named n (n == 0) h e
   where
-    some_same : {m n : ℕ} → Some m ≡ Some n → m ≡ n
-    some_same e = cc
-
     named : (n : ℕ) (b : Bool) → cond b None (first_of (refused_if (not (n == j)) errno.Enokey ∷ refused_if (is_none (unspent w.sessions j)) errno.Ekeyrevoked
         ∷ [])) ≡ None → cond b None (Some n) ≡ Some k → (k ≡ j) × (x.unspent ≡ true)
     named n true h e = absurd (cc)
@@ -254,9 +249,6 @@ assumed_own w j (pos n) x is h k e = named n (n == 0) h e
         let one = first_none (refused_if (not (n == j)) errno.Enokey) _ h in
         let two = (first_none (refused_if (is_none (unspent w.sessions j)) errno.Ekeyrevoked) _ one.1).0 in
         (sym (some_same e) ∙ eqb-true n j (not_not _ (if_none _ errno.Enokey one.0)), unspent_shape w j x is (if_none _ errno.Ekeyrevoked two))
-
-true_false : true ≡ false → ⊥
-true_false e = cc
 
 some_none : (o : Option Authority) → is_some o ≡ true → is_none o ≡ false
 some_none None h = absurd (true_false (sym h))

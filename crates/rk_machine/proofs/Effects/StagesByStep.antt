@@ -1,16 +1,17 @@
 -- How far each construction is, and which clients are there, after each step of the machine.
-use Rattle.rk_machine.proofs.Words.{◌≡◌, ℕ, ◌∙◌, ◌&&◌, Bool, true, false, cond, refl, ap, sym, option_map_or, nat_cmp, Option, Some, None, nat_eq, is_some}
-use Rattle.rk_machine.proofs.Words.{option_map, eqb-true, Errno, SessionId, Client, Handler, Condition, Key, session_changed, in_handler, in_new_stage, spent}
-use Rattle.rk_machine.proofs.Words.{without_authority, with_construction, all_told, told, with_context, with_assumed, in_stage, Sessions, unspent, new_session}
-use Rattle.rk_machine.proofs.Words.{stage_of, Authority, Construction, Stage, Starting, Plain, Piped, Negating, Outcome, Session, announced, outcome_of}
-use Rattle.rk_machine.proofs.Words.{sessions_ended, keys_ended, ended, Event, is_done, is_followed, World, Answer, Start, Refused, Opened, Asked, Launched}
-use Rattle.rk_machine.proofs.Words.{Ended, Collect, Gone, Ran, get_inserted, get_removed, get_changed_at, get_changed_all}
+use Rattle.rk_machine.proofs.Words.{◌≡◌, ℕ, ◌∙◌, ◌&&◌, Bool, true, false, cond, refl, ap, sym, nat_cmp, Option, Some, None, nat_eq, is_some, option_map}
+use Rattle.rk_machine.proofs.Words.{eqb-true, Errno, SessionId, Client, Handler, Condition, Key, session_changed, in_handler, in_new_stage, spent}
+use Rattle.rk_machine.proofs.Words.{without_authority, with_construction, all_told, told, with_context, with_assumed, in_stage, Sessions, new_session, stage_of}
+use Rattle.rk_machine.proofs.Words.{Authority, Construction, Stage, Starting, Plain, Piped, Negating, Outcome, Session, announced, sessions_ended, ended, Event}
+use Rattle.rk_machine.proofs.Words.{is_done, is_followed, World, Answer, Start, Refused, Opened, Asked, Launched, Ended, Collect, Gone, Ran, get_inserted}
+use Rattle.rk_machine.proofs.Words.{get_removed, get_changed_at, get_changed_all}
 use Rattle.std.specs.FinMap as map
 use Rattle.rk_auth.specs.Changes.{launched}
 use Rattle.rk_machine.specs.declared.event.Ran.TheVariants as ran
 use Rattle.rk_machine.proofs.Effects.KindsOfStep.{Effect}
 use Rattle.rk_machine.proofs.Effects.OfSessions.{InSessions, in_sessions, is_refused, collects, greeted, starts, waits_for, is_set, assumed, concluded}
 use Rattle.rk_machine.proofs.Effects.OfSessions.{runs_plain, runs_piped, follows, not_run, ends}
+use Rattle.rk_machine.proofs.Effects.LeftByOutcomes.{left_announced, left_settled}
 
 -- ---- constructions, by their stages
 
@@ -91,18 +92,10 @@ kind_spent k a q =
     (map.get a.constructions q)
 
 kind_announced : (now k : ℕ) (keys : map.FinMap nat_cmp Key) (a : Sessions) (q : ℕ) → kind_of (announced now k keys a) q ≡ kind_of a q
-kind_announced now k keys a q = told_or_not (map.get keys k)
-  where
-    told_or_not : (o : Option Key) → kind_of (option_map_or (λ key. all_told k (outcome_of k key now) a) o a) q ≡ kind_of a q
-    told_or_not None = refl
-    told_or_not (Some key) = kind_told k (outcome_of k key now) a q
+kind_announced now k keys a q = left_announced (λ b. kind_of b q) (λ j o b. kind_told j o b q) now k keys a
 
 kind_settled : (now k : ℕ) (condition : Condition) (w : World) (q : ℕ) → kind_of (sessions_ended now k condition w) q ≡ kind_of w.sessions q
-kind_settled now k condition w q = spent_or_not (is_some (unspent w.sessions k))
-  where
-    spent_or_not : (b : Bool) → kind_of (cond b (announced now k (keys_ended now k condition w) (spent k w.sessions)) w.sessions) q ≡ kind_of w.sessions q
-    spent_or_not true = kind_announced now k (keys_ended now k condition w) (spent k w.sessions) q ∙ kind_spent k w.sessions q
-    spent_or_not false = refl
+kind_settled now k condition w q = left_settled (λ b. kind_of b q) (λ j o b. kind_told j o b q) (λ j b. kind_spent j b q) now k condition w
 
 gone_in : (b : Bool) (o : Option Construction) → kind_in (cond b None o) ≡ cond b None (kind_in o)
 gone_in true o = refl

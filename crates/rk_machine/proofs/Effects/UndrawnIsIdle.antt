@@ -3,7 +3,7 @@ use Rattle.rk_machine.proofs.Words.{◌≡◌, ℕ, ◌∙◌, ◌&&◌, Bool, t
 use Rattle.rk_machine.proofs.Words.{option_map, is_none, eqb-true, SessionId, Subject, Ask, Sessions, session_of, stage_of, is_to_launch, is_starting}
 use Rattle.rk_machine.proofs.Words.{Construction, Stage, Starting, Plain, Piped, Negating, Outcome, Found, Failed, refused_if, Event, is_done, is_followed}
 use Rattle.rk_machine.proofs.Words.{asked_of, names_in, may_launch, Ends, told_as, World, drawn, Answer, Done, Start, Waiting, Refused, Negate, Opened, Asked}
-use Rattle.rk_machine.proofs.Words.{Launched, Ended, Collect, Gone, How, Ran, not_not, if_none, unless, Step}
+use Rattle.rk_machine.proofs.Words.{Launched, Ended, Collect, Gone, How, Ran, true_false, not_not, if_none, unless, Step}
 use Rattle.std.specs.FinMap as map
 use Rattle.rk_message.specs.declared.ask.AskOf.TheVariants as ask
 use Rattle.rk_names.specs.declared.errors.Errno.TheVariants as errno
@@ -76,9 +76,6 @@ start_draws old now e a new is k subject ra = let start = start_is old now e a n
 
 not_done : (a : Answer) (error : _) → a ≡ Refused error → is_done a ≡ true → ⊥
 not_done a error e d = (let f : is_done a ≡ false = ap is_done e in cc)
-
-true_false : true ≡ false → ⊥
-true_false e = cc
 
 -- what a launch is allowed by
 pub launch_kind : (w : World) (k : ℕ) (r : Ran) → may_launch r (stage_of w.sessions k) ≡ may_find r (kind_of w.sessions k)

@@ -1,11 +1,11 @@
 -- In every run the waits that the list tells are those of the world.
 use Rattle.rk_machine.proofs.Words.{◌≡◌, ℕ, ◌∙◌, ◌||◌, ◌&&◌, Bool, true, false, cond, refl, ap, sym, not, List, option_map_or, nat_cmp, Option, Some, None}
-use Rattle.rk_machine.proofs.Words.{nat_eq, is_some, option_map, option_and_then, is_none, eqb-true, Errno, SessionId, Client, Handler, Ask, Reply, Number}
-use Rattle.rk_machine.proofs.Words.{Bytes, Rings, Condition, Key, spent, with_construction, all_told, with_context, with_setting, with_assumed, Sessions}
-use Rattle.rk_machine.proofs.Words.{unspent, new_session, session_of, stage_of, is_to_launch, handler_in, Authority, Construction, Stage, Starting, Plain}
-use Rattle.rk_machine.proofs.Words.{Piped, Negating, Outcome, Found, Failed, done, serial_named, announced, outcome_of, sessions_ended, keys_ended, ended}
-use Rattle.rk_machine.proofs.Words.{Event, is_done, same_session, is_wait_ended, is_waiting, told_as, Past, World, Answer, Done, Start, Waiting, Refused}
-use Rattle.rk_machine.proofs.Words.{Negate, Opened, Asked, Launched, Ended, Collect, Gone, How, get_inserted, none_is, and_false}
+use Rattle.rk_machine.proofs.Words.{nat_eq, option_map, option_and_then, is_none, eqb-true, Errno, SessionId, Client, Handler, Ask, Reply, Number, Bytes, Rings}
+use Rattle.rk_machine.proofs.Words.{Condition, Key, spent, with_construction, with_context, with_setting, with_assumed, Sessions, new_session, session_of}
+use Rattle.rk_machine.proofs.Words.{stage_of, is_to_launch, handler_in, Authority, Construction, Stage, Starting, Plain, Piped, Negating, Outcome, Found}
+use Rattle.rk_machine.proofs.Words.{Failed, done, serial_named, announced, sessions_ended, ended, Event, is_done, same_session, is_wait_ended, is_waiting}
+use Rattle.rk_machine.proofs.Words.{told_as, Past, World, Answer, Done, Start, Waiting, Refused, Negate, Opened, Asked, Launched, Ended, Collect, Gone, How}
+use Rattle.rk_machine.proofs.Words.{get_inserted, none_is, and_false}
 use Rattle.std.specs.FinMap as map
 use Rattle.rk_message.specs.declared.ask.AskOf.TheVariants as ask
 use Rattle.rk_machine.specs.declared.event.Ran.TheVariants as ran
@@ -17,6 +17,7 @@ use Rattle.rk_machine.proofs.Effects.WaitsAfter.{flag_removed, flag_issued, flag
 use Rattle.rk_machine.proofs.Effects.KindsOfStep.{Effect}
 use Rattle.rk_machine.proofs.Effects.OfSessions.{InSessions, in_sessions, is_refused, waits_on, collects, comes, greeted, goes, starts, waits_for, answered}
 use Rattle.rk_machine.proofs.Effects.OfSessions.{told, is_set, assumed, concluded, runs_plain, runs_piped, follows, not_run, ends}
+use Rattle.rk_machine.proofs.Effects.LeftByOutcomes.{left_announced, left_settled}
 
 -- a step of the past
 abbrev pub step : ℕ → Event → Answer → Past
@@ -48,10 +49,6 @@ chosen false v r = refl
 pub begun_refused : (s : SessionId) (e : Event) (error : Errno) → wait_begun s e (Refused error) ≡ None
 begun_refused s (Asked t x) error = refl
 begun_refused s _ error = refl
-
-begun_done : (s : SessionId) (e : Event) (reply : Reply) → wait_begun s e (Done reply) ≡ None
-begun_done s (Asked t x) reply = refl
-begun_done s _ reply = refl
 
 -- an ask ends no wait
 over_asked : (now : ℕ) (s t : SessionId) (x : Ask) (a : Answer) → is_wait_ended s (step now (Asked t x) a) ≡ false
@@ -125,18 +122,10 @@ refused_after now s e error r free = cleared_after now s e (Refused error) _ r (
 -- ---- the world's side
 
 flag_announced : (now k : ℕ) (keys : map.FinMap nat_cmp Key) (a : Sessions) (s : SessionId) → flag_of (announced now k keys a) s ≡ flag_of a s
-flag_announced now k keys a s = told_or_not (map.get keys k)
-  where
-    told_or_not : (o : Option Key) → flag_of (option_map_or (λ key. all_told k (outcome_of k key now) a) o a) s ≡ flag_of a s
-    told_or_not None = refl
-    told_or_not (Some key) = flag_told k (outcome_of k key now) a s
+flag_announced now k keys a s = left_announced (λ b. flag_of b s) (λ j o b. flag_told j o b s) now k keys a
 
 flag_settled : (now k : ℕ) (condition : Condition) (w : World) (s : SessionId) → flag_of (sessions_ended now k condition w) s ≡ flag_of w.sessions s
-flag_settled now k condition w s = spent_or_not (is_some (unspent w.sessions k))
-  where
-    spent_or_not : (b : Bool) → flag_of (cond b (announced now k (keys_ended now k condition w) (spent k w.sessions)) w.sessions) s ≡ flag_of w.sessions s
-    spent_or_not true = flag_announced now k (keys_ended now k condition w) (spent k w.sessions) s ∙ flag_spent k w.sessions s
-    spent_or_not false = refl
+flag_settled now k condition w s = left_settled (λ b. flag_of b s) (λ j o b. flag_told j o b s) (λ j b. flag_spent j b s) now k condition w
 
 flag_ended : (now k : ℕ) (condition : Condition) (w : World) (s : SessionId)
     → flag_of (ended now k condition w).sessions s ≡ cond (same_session (Handler k) s) None (flag_of w.sessions s)

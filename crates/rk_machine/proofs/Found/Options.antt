@@ -1,6 +1,10 @@
--- Equations between options.
+-- Equations between tests, and between options.
 use Rattle.std.proofs.Common.{◌≡◌, Bool, true, false, cond}
 use Rattle.std.specs.Prelude.{Option, Some, None}
+
+-- true is not false
+pub true_false : true ≡ false → ⊥
+true_false e = cc
 
 -- None is not Some
 pub none_some : {A : Type 0} {x : A} → None ≡ Some x → ⊥

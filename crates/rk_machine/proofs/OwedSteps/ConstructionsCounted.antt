@@ -1,10 +1,10 @@
 -- How many constructions there are, and how many ends they are owed, after a step.
-use Rattle.rk_machine.proofs.Words.{◌≡◌, ℕ, ◌∙◌, ◌&&◌, ◌∷◌, ◌+◌, ◌≤◌, Bool, true, false, cond, refl, ap, sym, arith, subst, List, [], length, option_map_or}
-use Rattle.rk_machine.proofs.Words.{nat_cmp, ◌==◌, Option, Some, None, nat_eq, is_some, option_map, eqb-true, eq-eqb, SessionId, Client, Handler, Subject}
-use Rattle.rk_machine.proofs.Words.{Number, Sessions, is_to_launch, Construction, Stage, Starting, Plain, Piped, Negating, done, Event, is_done, same_session}
-use Rattle.rk_machine.proofs.Words.{is_followed, whose, constructions, begun, closed, ends_owed, ends_owed_to, construction_ends, stage_ends, start_ends, takes}
-use Rattle.rk_machine.proofs.Words.{told_as, is_owed, weight, weight_in, World, Answer, Done, Start, Waiting, Refused, Negate, Opened, Asked, Launched, Ended}
-use Rattle.rk_machine.proofs.Words.{Collect, Gone, How, and_false}
+use Rattle.rk_machine.proofs.Words.{◌≡◌, ℕ, ◌∙◌, ◌∷◌, ◌+◌, ◌≤◌, Bool, true, false, cond, refl, ap, sym, arith, subst, List, [], length, option_map_or, ◌==◌}
+use Rattle.rk_machine.proofs.Words.{Option, Some, None, nat_eq, is_some, eqb-true, eq-eqb, SessionId, Client, Handler, Subject, Number, Sessions, is_to_launch}
+use Rattle.rk_machine.proofs.Words.{Construction, Stage, Starting, Plain, Piped, Negating, done, Event, is_done, same_session, is_followed, whose}
+use Rattle.rk_machine.proofs.Words.{constructions, begun, closed, ends_owed, ends_owed_to, construction_ends, stage_ends, start_ends, takes, told_as, is_owed}
+use Rattle.rk_machine.proofs.Words.{weight, weight_in, World, Answer, Done, Start, Waiting, Refused, Negate, Opened, Asked, Launched, Ended, Collect, Gone, How}
+use Rattle.rk_machine.proofs.Words.{true_false, and_false}
 use Rattle.std.specs.FinMap as map
 use Rattle.rk_machine.specs.declared.event.Ran.TheVariants as ran
 use Rattle.rk_message.specs.declared.ask.AskOf.TheVariants as ask
@@ -16,9 +16,6 @@ use Rattle.rk_machine.proofs.OwedSteps.OwedByStep.{other_key, NotOwed}
 use Rattle.rk_machine.proofs.Effects.KindsOfStep.{Effect}
 use Rattle.rk_machine.proofs.Effects.OfSessions.{InSessions, in_sessions, is_refused, waits_on, collects, goes, starts, answered, is_set, runs_plain}
 use Rattle.rk_machine.proofs.Effects.OfSessions.{runs_piped, follows, not_run, ends}
-
-true_false : true ≡ false → ⊥
-true_false e = cc
 
 -- ---- sums over the constructions, by how far each is
 

@@ -6,7 +6,7 @@ use Rattle.rk_machine.proofs.Words.{Wait, refused_if, done, Leaves, Settles, Unl
 use Rattle.rk_machine.proofs.Words.{stage_owes, construction_owes, owed, owed_to, start_owes, constructions, closes, closed, ends_owed, ends_owed_to}
 use Rattle.rk_machine.proofs.Words.{construction_ends, Reached, IsOwedAnswer, Recording, may_launch, would_negate, negating, Ends, told_as, gone, Past}
 use Rattle.rk_machine.proofs.Words.{Beginning, Run, is_ready, is_owed, World, empty_world, Answer, Done, Refused, Negate, Opened, Asked, Launched, Ended}
-use Rattle.rk_machine.proofs.Words.{Collect, Gone, How, by_option, Step}
+use Rattle.rk_machine.proofs.Words.{Collect, Gone, How, true_false, by_option, Step}
 use Rattle.std.specs.FinMap as map
 use Rattle.rk_names.specs.declared.errors.Errno.TheVariants as errno
 use Rattle.rk_names.specs.declared.errors.KeyError.TheVariants as error
@@ -19,9 +19,6 @@ use Rattle.rk_machine.proofs.OwedSteps.OwedByStep.{balance, NotOwed, moves}
 use Rattle.rk_machine.proofs.Effects.KindsOfStep.{effect}
 use Rattle.rk_machine.proofs.Effects.OfSessions.{InSessions, in_sessions, is_refused, collects, told}
 use Rattle.rk_machine.proofs.OwedSteps.ConstructionsCounted.{one_each, counted, ones, one_in, count_step, ends_balance, ends_taken}
-
-true_false : true ≡ false → ⊥
-true_false e = cc
 
 done_refused : (a : Answer) (x : Errno) → a ≡ done → a ≡ Refused x → ⊥
 done_refused a x d r = cc
@@ -204,14 +201,6 @@ recording old now e a new h idle =
 idle_run : (from : Beginning) (past : List Past) (w : World) → Run from past w → IsIdle w
 idle_run from [] w run = λ k undrawn. ap (λ (v : World). kind_of v.sessions k) run ∙ ap kind_in (map.get-empty nat_cmp k)
 idle_run from (s ∷ before) w run = idle_step run.0 s.now s.event s.answer w run.2 (idle_run from before run.0 run.1)
-
--- a run leads to the empty world
-pub reached_empty : (negative first stride : ℕ) → Reached (empty_world negative first stride)
-reached_empty negative first stride = (record { negative = negative; first = first; stride = stride }, [], refl)
-
--- if a run leads to a world, one leads to every world that a step leaves
-pub reached_next : (old : World) (now : ℕ) (e : Event) (a : Answer) (new : World) → Reached old → Step old now e a new → Reached new
-reached_next old now e a new r h = (r.0, record { now = now; event = e; answer = a } ∷ r.1, (old, r.2, h))
 
 -- every step of a run changes what is owed as Recording says
 pub reached_recording : (old : World) (now : ℕ) (e : Event) (a : Answer) (new : World) → Reached old → Step old now e a new → Recording old e a new

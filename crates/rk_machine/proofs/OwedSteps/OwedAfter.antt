@@ -1,13 +1,14 @@
 -- What is owed to each session, after each thing that a step may do.
-use Rattle.rk_machine.proofs.Words.{option_map_or, nat_cmp, Option, Some, None, nat_eq, is_some, option_map, option_and_then, ◌≡◌, ℕ, Bool, true, false, cond}
-use Rattle.rk_machine.proofs.Words.{refl, ap, ◌∙◌, sym, ◌+◌, eqb-true, SessionId, Client, Handler, Condition, Key, session_changed, in_handler, in_new_stage}
-use Rattle.rk_machine.proofs.Words.{spent, without_authority, without_construction, with_construction, all_told, told, with_client, without_client}
-use Rattle.rk_machine.proofs.Words.{with_assumed, in_stage, told_wait, Sessions, unspent, new_session, session_of, stage_of, handler_in, Authority}
-use Rattle.rk_machine.proofs.Words.{Construction, Stage, Starting, Plain, Piped, Negating, Outcome, Session, Wait, announced, outcome_of, sessions_ended}
-use Rattle.rk_machine.proofs.Words.{keys_ended, ended, same_session, client_owes, stage_owes, construction_owes, wait_owes, places, World, get_inserted}
-use Rattle.rk_machine.proofs.Words.{get_removed, get_changed_at, get_changed_all}
+use Rattle.rk_machine.proofs.Words.{◌≡◌, ℕ, ◌∙◌, ◌+◌, Bool, true, false, cond, refl, ap, sym, option_map_or, nat_cmp, Option, Some, None, nat_eq, is_some}
+use Rattle.rk_machine.proofs.Words.{option_map, option_and_then, eqb-true, SessionId, Client, Handler, Condition, Key, session_changed, in_handler}
+use Rattle.rk_machine.proofs.Words.{in_new_stage, spent, without_authority, without_construction, with_construction, all_told, told, with_client}
+use Rattle.rk_machine.proofs.Words.{without_client, with_assumed, in_stage, told_wait, Sessions, new_session, session_of, stage_of, handler_in, Authority}
+use Rattle.rk_machine.proofs.Words.{Construction, Stage, Starting, Plain, Piped, Negating, Outcome, Session, Wait, announced, sessions_ended, ended}
+use Rattle.rk_machine.proofs.Words.{same_session, client_owes, stage_owes, construction_owes, wait_owes, places, World, get_inserted, get_removed}
+use Rattle.rk_machine.proofs.Words.{get_changed_at, get_changed_all}
 use Rattle.std.specs.FinMap as map
 use Rattle.rk_auth.specs.Changes.{launched}
+use Rattle.rk_machine.proofs.Effects.LeftByOutcomes.{left_announced, left_settled}
 
 abbrev at_client : Option Session → ℕ
 at_client o = option_map_or client_owes o 0
@@ -108,18 +109,11 @@ places_spent k a (Handler j) = ap at_construction (get_changed_at k without_auth
 
 -- an outcome leaves what is owed to each session
 pub places_announced : (now k : ℕ) (keys : map.FinMap nat_cmp Key) (a : Sessions) (s : SessionId) → places (announced now k keys a) s ≡ places a s
-places_announced now k keys a s = told_or_not (map.get keys k)
-  where
-    told_or_not : (o : Option Key) → places (option_map_or (λ key. all_told k (outcome_of k key now) a) o a) s ≡ places a s
-    told_or_not None = refl
-    told_or_not (Some key) = places_told k (outcome_of k key now) a s
+places_announced now k keys a s = left_announced (λ b. places b s) (λ j o b. places_told j o b s) now k keys a
 
 places_settled : (now k : ℕ) (condition : Condition) (w : World) (s : SessionId) → places (sessions_ended now k condition w) s ≡ places w.sessions s
-places_settled now k condition w s = spent_or_not (is_some (unspent w.sessions k))
-  where
-    spent_or_not : (b : Bool) → places (cond b (announced now k (keys_ended now k condition w) (spent k w.sessions)) w.sessions) s ≡ places w.sessions s
-    spent_or_not true = places_announced now k (keys_ended now k condition w) (spent k w.sessions) s ∙ places_spent k w.sessions s
-    spent_or_not false = refl
+places_settled now k condition w s =
+    left_settled (λ b. places b s) (λ j o b. places_told j o b s) (λ j b. places_spent j b s) now k condition w
 
 -- ---- constructions
 

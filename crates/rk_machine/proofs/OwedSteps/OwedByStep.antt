@@ -6,6 +6,7 @@ use Rattle.rk_machine.proofs.Words.{new_wait, Sessions, new_session, wait_of, se
 use Rattle.rk_machine.proofs.Words.{Plain, Piped, Negating, Outcome, Found, Failed, Session, Wait, done, serial_named, Event, same_session, is_request, whose}
 use Rattle.rk_machine.proofs.Words.{client_owes, stage_owes, construction_owes, owed_to, start_owes, wait_owes, places, need, collected, told_as, is_ready}
 use Rattle.rk_machine.proofs.Words.{is_owed, weight, World, Answer, Done, Start, Waiting, Refused, Negate, Opened, Asked, Launched, Ended, Collect, Gone}
+use Rattle.rk_machine.proofs.Words.{true_false}
 use Rattle.std.specs.FinMap as map
 use Rattle.rk_message.specs.declared.ask.AskOf.TheVariants as ask
 use Rattle.rk_machine.specs.declared.event.Ran.TheVariants as ran
@@ -53,9 +54,6 @@ Moves old e a b =
     × (is_owed old e ≡ false → places b (whose e) + start_owes a + 1 ≤ owed_to old (whose e) + need e)
     × (is_owed old e ≡ true → places b (whose e) + start_owes a + 1 ≤ owed_to old (whose e))
 
-true_false : true ≡ false → ⊥
-true_false e = cc
-
 need_some : (x : Ask) → 1 ≤ cond (is_request x) 6 1
 need_some x = elim (is_request x) as (λ b. 1 ≤ cond b 6 1) [ true ↦ omega arith | false ↦ omega arith ]
 
@@ -91,9 +89,6 @@ wait_there a s w h = found (session_of a s) h
     found : (o : Option Session) → option_and_then (λ one. one.wait) o ≡ Some w → (x : Session) × (o ≡ Some x) × (wait_owes x ≡ 1)
     found None e = absurd (cc)
     found (Some x) e = (x, refl, ap (λ (v : Option Wait). cond (is_some v) 1 0) e)
-
-no_wait : (a : Sessions) (s : SessionId) (x : Session) → session_of a s ≡ Some x → wait_of a s ≡ None → wait_owes x ≡ 0
-no_wait a s x is none = ap (λ (v : Option Wait). cond (is_some v) 1 0) (sym (ap (option_and_then (λ (one : Session). one.wait)) is) ∙ none)
 
 -- a session that is there is changed
 changed_there : (a : Sessions) (s : SessionId) (f : Session → Session) (x : Session) → session_of a s ≡ Some x
