@@ -1,7 +1,6 @@
 -- Serials that were drawn stay drawn.
-use Rattle.rk_machine.proofs.Words.{nat_cmp, Option, Some, None, nat_eq, ◌≡◌, ℕ, Bool, true, false, ap, ◌∙◌, sym, inl, inr, RingKind, Event, Greeting, Makes}
-use Rattle.rk_machine.proofs.Words.{MakesIf, HasSessionRing, HasUserRing, MakesRings, World, drawn, Answer, or_right}
-use Rattle.std.specs.FinSet as set
+use Rattle.rk_machine.proofs.Words.{◌≡◌, ℕ, ◌∙◌, Bool, true, false, ap, sym, inl, inr, Option, Some, None, nat_eq, RingKind, Event, Greeting, Makes, MakesIf}
+use Rattle.rk_machine.proofs.Words.{HasSessionRing, HasUserRing, MakesRings, World, drawn, Answer, or_right}
 use Rattle.rk_rings.specs.declared.kind.RingKind.TheVariants as kind
 use Rattle.rk_machine.proofs.Effects.KindsOfStep.{Effect, refused, still, took, came, went, greets, begins, joins, links, unlinks, marks, tells, sets, adds}
 use Rattle.rk_machine.proofs.Effects.KindsOfStep.{assumes, concludes, ran_plain, ran_piped, negates, failed, finished}
@@ -13,9 +12,6 @@ KeepsDrawn old new = (q : ℕ) → is_drawn new q ≡ false → is_drawn old q �
 
 draws : (k : ℕ) (old : World) → KeepsDrawn old (drawn k old)
 draws k old q h = or_right (nat_eq k q) (is_drawn old q) (sym (drawn_is k old q) ∙ h)
-
-keeps : (old new : World) → new.serials.used ≡ old.serials.used → KeepsDrawn old new
-keeps old new e q h = ap (λ (s : set.FinSet nat_cmp). set.contains s q) (sym e) ∙ h
 
 same_world : (old mid new : World) → new ≡ mid → KeepsDrawn old mid → KeepsDrawn old new
 same_world old mid new e h q n = h q (ap (λ (w : World). is_drawn w q) (sym e) ∙ n)

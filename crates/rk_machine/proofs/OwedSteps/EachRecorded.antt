@@ -1,12 +1,12 @@
 -- What whoever records a run has to know of each step.
-use Rattle.rk_machine.proofs.Words.{◌≡◌, ℕ, ◌∙◌, ◌⊎◌, ◌&&◌, ◌∷◌, ◌≤◌, Bool, true, false, cond, refl, ap, sym, not, inl, inr, arith, subst, List, [], MatchBool}
-use Rattle.rk_machine.proofs.Words.{nat_cmp, Option, Some, None, is_some, option_map, option_and_then, Errno, SessionId, Client, Handler, Bytes, ready_outcome}
-use Rattle.rk_machine.proofs.Words.{Sessions, wait_of, stage_of, is_running, Construction, Stage, Starting, Plain, Piped, Negating, Outcome, Found, Failed}
-use Rattle.rk_machine.proofs.Words.{Wait, refused_if, done, Leaves, Settles, Unless, ended, condition_after, Event, is_done, is_followed, whose, client_owes}
-use Rattle.rk_machine.proofs.Words.{stage_owes, construction_owes, owed, owed_to, start_owes, constructions, closes, closed, ends_owed, ends_owed_to}
-use Rattle.rk_machine.proofs.Words.{construction_ends, Reached, IsOwedAnswer, Recording, may_launch, would_negate, negating, Ends, told_as, gone, Past}
-use Rattle.rk_machine.proofs.Words.{Beginning, Run, is_ready, is_owed, World, empty_world, Answer, Done, Refused, Negate, Opened, Asked, Launched, Ended}
-use Rattle.rk_machine.proofs.Words.{Collect, Gone, How, true_false, by_option, Step}
+use Rattle.rk_machine.proofs.Words.{◌≡◌, ℕ, ◌∙◌, ◌&&◌, ◌∷◌, ◌≤◌, Bool, true, false, cond, refl, ap, sym, not, inl, inr, arith, List, [], MatchBool, nat_cmp}
+use Rattle.rk_machine.proofs.Words.{◌==◌, Option, Some, None, is_some, option_map, option_and_then, Errno, SessionId, Client, Handler, Bytes, ready_outcome}
+use Rattle.rk_machine.proofs.Words.{Sessions, wait_of, stage_of, is_to_launch, is_running, Construction, Stage, Starting, Plain, Piped, Negating, Outcome}
+use Rattle.rk_machine.proofs.Words.{Found, Failed, Wait, refused_if, done, Leaves, Settles, Unless, ended, condition_after, Event, is_done, is_followed, whose}
+use Rattle.rk_machine.proofs.Words.{client_owes, stage_owes, construction_owes, owed, owed_to, start_owes, constructions, closes, closed, ends_owed}
+use Rattle.rk_machine.proofs.Words.{ends_owed_to, construction_ends, Reached, IsOwedAnswer, Recording, may_launch, would_negate, negating, Ends, told_as, gone}
+use Rattle.rk_machine.proofs.Words.{Past, Beginning, Run, is_owed, World, empty_world, Answer, Done, Refused, Negate, Opened, Asked, Launched, Ended, Collect}
+use Rattle.rk_machine.proofs.Words.{Gone, How, true_false, Step}
 use Rattle.std.specs.FinMap as map
 use Rattle.rk_names.specs.declared.errors.Errno.TheVariants as errno
 use Rattle.rk_names.specs.declared.errors.KeyError.TheVariants as error
@@ -15,9 +15,10 @@ use Rattle.rk_machine.specs.Steps.{launched}
 use Rattle.rk_machine.proofs.OwedSteps.WeightsOfMaps.{no_weight, no_heavier, part}
 use Rattle.rk_machine.proofs.Effects.StagesByStep.{Kind, kind_of, kind_in}
 use Rattle.rk_machine.proofs.Effects.UndrawnIsIdle.{IsIdle, start_is, idle_fresh, launch_kind, found_some, idle_step}
-use Rattle.rk_machine.proofs.OwedSteps.OwedByStep.{balance, NotOwed, moves}
+use Rattle.rk_machine.proofs.OwedSteps.OwedByStep.{balance, NotOwed, ready_is, moves}
 use Rattle.rk_machine.proofs.Effects.KindsOfStep.{effect}
-use Rattle.rk_machine.proofs.Effects.OfSessions.{InSessions, in_sessions, is_refused, collects, told}
+use Rattle.rk_machine.proofs.Effects.OfSessions.{InSessions, in_sessions, is_refused, waits_on, collects, goes, told, answered, is_set, runs_plain, runs_piped}
+use Rattle.rk_machine.proofs.Effects.OfSessions.{follows, not_run, ends}
 use Rattle.rk_machine.proofs.OwedSteps.ConstructionsCounted.{one_each, counted, ones, one_in, count_step, ends_balance, ends_taken}
 
 done_refused : (a : Answer) (x : Errno) → a ≡ done → a ≡ Refused x → ⊥
@@ -91,88 +92,50 @@ tells_alone old new now e a b _ bytes r = absurd (cc)
 
 -- ---- what is owed is answered so
 
-done_by_test : (b : Bool) (old mid new : World) (a : Answer) → b ≡ true → Unless (refused_if (not b) errno.Einval) old a new (Settles done mid a new) → a ≡ done
-done_by_test true old mid new a is h = h.0
-done_by_test false old mid new a is h = absurd (true_false (sym is))
-
-by_end : (old : World) (now k : ℕ) (how : How) (payload : Option (List ℕ)) (b : Bool) (a : Answer) (new : World) → EndsPiped old now k how payload b a new
-    → (a ≡ done) ⊎ (a ≡ Negate k)
-by_end old now k how payload true a new h = inr h.0
-by_end old now k how payload false a new h = inl h.0
-
-done_by_stage : (old : World) (now k : ℕ) (how : How) (payload : Option (List ℕ)) (st : Option Stage) (a : Answer) (new : World) → is_running st ≡ true
-    → Ends old now k how payload st a new → (a ≡ done) ⊎ (a ≡ Negate k)
-done_by_stage old now k how payload None a new is h = absurd (true_false (sym is))
-done_by_stage old now k how payload (Some Starting) a new is h = absurd (true_false (sym is))
-done_by_stage old now k how payload (Some Negating) a new is h = absurd (true_false (sym is))
-done_by_stage old now k how payload (Some (Plain s)) a new is h = inl h.0
-done_by_stage old now k how payload (Some Piped) a new is h = by_end old now k how payload (would_negate old k how payload) a new h
-
-owed_answer : (old : World) (now : ℕ) (e : Event) (a : Answer) (new : World) → Step old now e a new → is_owed old e ≡ true → IsOwedAnswer e a
-unfolding Step
-owed_answer old now (Opened s) a new h is = absurd (true_false (sym is))
-owed_answer old now (Asked s x) a new h is = absurd (true_false (sym is))
-owed_answer old now (Launched k r) a new h is = done_by_test (may_launch r (stage_of old.sessions k)) old (launched now k r old) new a is h
-owed_answer old now (Ended k how payload) a new h is = done_by_stage old now k how payload (stage_of old.sessions k) a new is h
-owed_answer old now (Collect s) a new h is =
-    by_option (wait_of old.sessions s) _ _ _ (λ none _. absurd
-    (let e : is_ready old s ≡ false = ap (λ (o : Option Wait). is_some (option_and_then (ready_outcome old.sessions) o)) none in true_false (sym is ∙ e)))
-    (λ wait there g.
-    by_option (ready_outcome old.sessions wait) _ _ _
-    (λ none _. absurd (let e : is_ready old s ≡ false = ap (λ (o : Option Wait). is_some (option_and_then (ready_outcome old.sessions) o)) there
-    ∙ ap is_some none in true_false (sym is ∙ e))) (λ outcome _ f. (outcome, f.0)) g) h
-owed_answer old now (Gone (Client n)) a new h is = done_by_test (map.contains_key old.sessions.clients n) old (gone n old) new a is h
-owed_answer old now (Gone (Handler k)) a new h is = absurd (true_false (sym is))
+owed_answer : (old new : World) (now : ℕ) (e : Event) (a : Answer) (b : Sessions) → InSessions old new now e a b → NotOwed old e a → is_owed old e ≡ true
+    → IsOwedAnswer e a
+owed_answer old new now e a b (is_refused y error w free) not_owed is = absurd (true_false (sym is ∙ not_owed error refl free))
+owed_answer old new now e a b (waits_on s wait found ready) not_owed is = absurd (true_false (sym is ∙ ready_is old s wait found ready))
+owed_answer old new now e a b (collects s wait outcome found ready) not_owed is = (outcome, refl)
+owed_answer old new now e a b (goes n there) not_owed is = refl
+owed_answer old new now e a b (runs_plain k st found launches) not_owed is = refl
+owed_answer old new now e a b (runs_piped k found) not_owed is = refl
+owed_answer old new now e a b (not_run k st condition found launches) not_owed is = refl
+owed_answer old new now e a b (follows k how payload found free) not_owed is = inr refl
+owed_answer old new now e a b (ends k how payload st condition found running) not_owed is = inl refl
+owed_answer old new now e a b _ not_owed is = absurd (true_false (sym is))
 
 -- ---- what is ended was owed
 
-IsClosing : Bool → ℕ → Answer → Type 0
-IsClosing b n a = ◌≡◌ {A = ℕ} (cond (is_done a) n 0) (cond (b && not (is_followed a)) n 0)
+nothing : (b c : Bool) → ◌≡◌ {A = ℕ} (cond b 0 0) (cond c 0 0)
+nothing true true = refl
+nothing true false = refl
+nothing false true = refl
+nothing false false = refl
 
-closing_at : (b : Bool) (n : ℕ) (a given : Answer) → a ≡ given → IsClosing b n given → IsClosing b n a
-closing_at b n a given is h = subst (IsClosing b n) (sym is) h
+runs_on : (st : Stage) → is_to_launch (Some st) ≡ false → is_running (Some st) ≡ true
+runs_on Starting h = absurd (true_false h)
+runs_on (Plain s) h = refl
+runs_on Piped h = refl
+runs_on Negating h = absurd (true_false h)
 
-nothing : (b : Bool) (a : Answer) → IsClosing b 0 a
-unfolding IsClosing
-nothing b a = zeros (is_done a) (b && not (is_followed a))
-  where
-    zeros : (b c : Bool) → ◌≡◌ {A = ℕ} (cond b 0 0) (cond c 0 0)
-    zeros true true = refl
-    zeros true false = refl
-    zeros false true = refl
-    zeros false false = refl
-
-ended_by_test : (b : Bool) (n : ℕ) (old mid new : World) (a : Answer) → Unless (refused_if (not b) errno.Einval) old a new (Settles done mid a new)
-    → IsClosing b n a
-unfolding IsClosing
-ended_by_test true n old mid new a h = closing_at true n a _ h.0 refl
-ended_by_test false n old mid new a h = closing_at false n a _ h.0 refl
-
-ended_by_end : (old : World) (now k : ℕ) (how : How) (payload : Option (List ℕ)) (b : Bool) (a : Answer) (new : World) → EndsPiped old now k how payload b a new
-    → IsClosing true 1 a
-unfolding IsClosing
-ended_by_end old now k how payload true a new h = closing_at true 1 a _ h.0 refl
-ended_by_end old now k how payload false a new h = closing_at true 1 a _ h.0 refl
-
-ended_by_stage : (old : World) (now k : ℕ) (how : How) (payload : Option (List ℕ)) (st : Option Stage) (a : Answer) (new : World)
-    → Ends old now k how payload st a new → IsClosing (is_running st) 1 a
-unfolding IsClosing
-ended_by_stage old now k how payload None a new h = closing_at false 1 a _ h.0 refl
-ended_by_stage old now k how payload (Some Starting) a new h = closing_at false 1 a _ h.0 refl
-ended_by_stage old now k how payload (Some Negating) a new h = closing_at false 1 a _ h.0 refl
-ended_by_stage old now k how payload (Some (Plain s)) a new h = closing_at true 1 a _ h.0 refl
-ended_by_stage old now k how payload (Some Piped) a new h = ended_by_end old now k how payload (would_negate old k how payload) a new h
-
-closing_owed : (old : World) (now : ℕ) (e : Event) (a : Answer) (new : World) → Step old now e a new
+closing_owed : (old new : World) (now : ℕ) (e : Event) (a : Answer) (b : Sessions) → InSessions old new now e a b → NotOwed old e a
     → closed e a ≡ cond (is_owed old e && not (is_followed a)) (closes e) 0
-unfolding Step IsClosing
-closing_owed old now (Opened s) a new h = nothing false a
-closing_owed old now (Asked s x) a new h = nothing false a
-closing_owed old now (Launched k r) a new h = ended_by_test (may_launch r (stage_of old.sessions k)) (closes (Launched k r)) old (launched now k r old) new a h
-closing_owed old now (Ended k how payload) a new h = ended_by_stage old now k how payload (stage_of old.sessions k) a new h
-closing_owed old now (Collect s) a new h = nothing (is_ready old s) a
-closing_owed old now (Gone (Client n)) a new h = nothing (map.contains_key old.sessions.clients n) a
-closing_owed old now (Gone (Handler k)) a new h = nothing false a
+closing_owed old new now e a b (is_refused y error w free) not_owed =
+    sym (ap (λ o. cond (o && not (is_followed (Refused error))) (closes y) 0) (not_owed error refl free))
+closing_owed old new now e a b (waits_on s wait found ready) not_owed = nothing false _
+closing_owed old new now e a b (collects s wait outcome found ready) not_owed = nothing (is_done (told_as outcome)) _
+closing_owed old new now e a b (goes n there) not_owed = nothing true _
+closing_owed old new now e a b (answered s x n plain) not_owed = nothing (n == 0) false
+closing_owed old new now e a b (is_set s x setting n plain can) not_owed = nothing (n == 0) false
+closing_owed old new now e a b (runs_plain k st found launches) not_owed = nothing true _
+closing_owed old new now e a b (runs_piped k found) not_owed = nothing true _
+closing_owed old new now e a b (not_run k st condition found launches) not_owed =
+    sym (ap (λ o. cond (o && true) 1 0) (ap is_to_launch found ∙ launches))
+closing_owed old new now e a b (follows k how payload found free) not_owed = sym (ap (λ o. cond (is_running o && false) 1 0) found)
+closing_owed old new now e a b (ends k how payload st condition found running) not_owed =
+    sym (ap (λ o. cond (o && true) 1 0) (ap is_running found ∙ runs_on st running))
+closing_owed old new now e a b _ not_owed = refl
 
 -- ---- all of it
 
@@ -186,12 +149,12 @@ recording old now e a new h idle =
       places = balance (whose e) old.sessions new.sessions (start_owes a) left.0;
       needed = left.1;
       owed_before = left.2;
-      owed_answer = owed_answer old now e a new h;
+      owed_answer = owed_answer old new now e a new.sessions sessions not_refused;
       lack = lacks old new now e a new.sessions sessions not_refused;
       bytes = tells_alone old new now e a new.sessions sessions;
       asked = λ k subject ra. (start_is old now e a new is k subject ra).names;
       counted = count_step old now e a new is idle not_refused;
-      closing = closing_owed old now e a new h;
+      closing = closing_owed old new now e a new.sessions sessions not_refused;
       ends = ends_balance old now e a new is idle not_refused;
       taken = ends_taken old now e a new is idle not_refused;
     }

@@ -190,7 +190,8 @@ waiting_owes (Plain s) h = absurd (true_false (sym h))
 waiting_owes Piped h = absurd (true_false (sym h))
 waiting_owes Negating h = omega arith
 
-ready_is : (w : World) (s : SessionId) (wait : Wait) → wait_of w.sessions s ≡ Some wait → ready_outcome w.sessions wait ≡ None → is_ready w s ≡ false
+-- a wait that may not be collected yet is not ready
+pub ready_is : (w : World) (s : SessionId) (wait : Wait) → wait_of w.sessions s ≡ Some wait → ready_outcome w.sessions wait ≡ None → is_ready w s ≡ false
 ready_is w s wait is none = ap (λ (o : Option Wait). is_some (option_and_then (ready_outcome w.sessions) o)) is ∙ ap is_some none
 
 -- the answer to what is not owed, where the event is refused
