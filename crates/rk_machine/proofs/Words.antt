@@ -85,7 +85,7 @@ pub use Rattle.rk_machine.specs.declared.event.How.TheVariants.{Exit}
 pub use Rattle.rk_machine.specs.declared.event.Ran.{Ran}
 pub use Rattle.rk_machine.proofs.Found.AllEntries.{some_entry, no_entry}
 pub use Rattle.rk_machine.proofs.Found.InMaps.{get_inserted, get_removed, get_changed_at, get_changed_all, get_kept_where}
-pub use Rattle.rk_machine.proofs.Found.Options.{true_false, none_some, some_same, was_some, some_none}
+pub use Rattle.rk_machine.proofs.Found.Options.{true_false, of_choice, none_some, some_same, was_some, some_none}
 pub use Rattle.rk_machine.proofs.Found.Refusals.{by_option, or_left, or_right, not_not, if_none, none_is, first_none, unless, or_memory, and_false, and_left, some_is}
 unfoldable pub use Rattle.rk_machine.specs.Request.{Requests}
 unfoldable pub use Rattle.rk_machine.specs.Asks.{Completes}

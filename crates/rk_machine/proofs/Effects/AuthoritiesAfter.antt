@@ -3,7 +3,7 @@ use Rattle.rk_machine.proofs.Words.{◌≡◌, ℕ, ◌∙◌, Bool, true, false
 use Rattle.rk_machine.proofs.Words.{SessionId, Client, Handler, Condition, Key, session_changed, in_handler, in_new_stage, spent, without_authority}
 use Rattle.rk_machine.proofs.Words.{without_construction, with_construction, all_told, told, Sessions, unspent, Authority, Construction, Stage, Starting}
 use Rattle.rk_machine.proofs.Words.{Outcome, Session, announced, sessions_ended, keys_ended, ended, World, get_inserted, get_removed, get_changed_at}
-use Rattle.rk_machine.proofs.Words.{get_changed_all}
+use Rattle.rk_machine.proofs.Words.{get_changed_all, of_choice}
 use Rattle.std.specs.FinMap as map
 use Rattle.rk_auth.specs.Changes.{launched}
 use Rattle.rk_machine.proofs.Effects.LeftByOutcomes.{left_announced}
@@ -56,12 +56,8 @@ pub unspent_concluded : (now k : ℕ) (keys : map.FinMap nat_cmp Key) (a : Sessi
     → unspent (announced now k keys (spent k a)) q ≡ cond (nat_eq k q) None (unspent a q)
 unspent_concluded now k keys a q = unspent_announced now k keys (spent k a) q ∙ unspent_spent k a q
 
-removed_in : (b : Bool) (o : Option Construction) → authority_in (cond b None o) ≡ cond b None (authority_in o)
-removed_in true o = refl
-removed_in false o = refl
-
 pub unspent_removed : (k : ℕ) (a : Sessions) (q : ℕ) → unspent (without_construction k a) q ≡ cond (nat_eq k q) None (unspent a q)
-unspent_removed k a q = ap authority_in (get_removed a.constructions k q) ∙ removed_in (nat_eq k q) (map.get a.constructions q)
+unspent_removed k a q = ap authority_in (get_removed a.constructions k q) ∙ of_choice authority_in (nat_eq k q) None (map.get a.constructions q)
 
 twice : {A : Type 0} (b : Bool) (o : Option A) → cond b None (cond b None o) ≡ cond b None o
 twice true o = refl
@@ -78,12 +74,9 @@ unspent_ended now k condition w q = unspent_removed k (sessions_ended now k cond
         ap (cond (nat_eq k q) None) (unspent_concluded now k (keys_ended now k condition w) w.sessions q) ∙ twice (nat_eq k q) (unspent w.sessions q)
     spent_or_not false = refl
 
-issued_in : (b : Bool) (authority : Authority) (o : Option Construction)
-    → authority_in (cond b (Some (record { stage = Starting; authority = Some authority })) o) ≡ cond b (Some authority) (authority_in o)
-issued_in true authority o = refl
-issued_in false authority o = refl
-
 -- a new construction of k has an unspent authority, and every other stays
 pub unspent_issued : (k : ℕ) (authority : Authority) (a : Sessions) (q : ℕ)
     → unspent (with_construction k authority a) q ≡ cond (nat_eq k q) (Some authority) (unspent a q)
-unspent_issued k authority a q = ap authority_in (get_inserted a.constructions k _ q) ∙ issued_in (nat_eq k q) authority (map.get a.constructions q)
+unspent_issued k authority a q =
+    ap authority_in (get_inserted a.constructions k _ q)
+    ∙ of_choice authority_in (nat_eq k q) (Some (record { stage = Starting; authority = Some authority })) (map.get a.constructions q)

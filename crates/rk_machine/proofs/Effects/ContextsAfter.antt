@@ -2,7 +2,7 @@
 use Rattle.rk_machine.proofs.Words.{◌≡◌, ℕ, ◌∙◌, Bool, true, false, cond, refl, ap, sym, nat_cmp, Option, Some, None, nat_eq, option_map, option_and_then}
 use Rattle.rk_machine.proofs.Words.{is_none, eqb-true, Context, SessionId, Client, Handler, Condition, Key, session_changed, all_told, told, with_context}
 use Rattle.rk_machine.proofs.Words.{with_client, without_client, Sessions, new_session, Outcome, Session, announced, sessions_ended, World, get_inserted}
-use Rattle.rk_machine.proofs.Words.{get_removed, get_changed_at, get_changed_all}
+use Rattle.rk_machine.proofs.Words.{get_removed, get_changed_at, get_changed_all, of_choice}
 use Rattle.std.specs.FinMap as map
 use Rattle.rk_machine.proofs.Effects.LeftByOutcomes.{left_announced, left_settled}
 
@@ -66,10 +66,6 @@ context_given m c a n there =
     ap context_in (get_changed_at m (with_context c) a.clients n)
     ∙ given_in c (nat_eq m n) (map.get a.clients n) (λ same. ap (λ j. is_none (map.get a.clients j)) (sym (eqb-true m n same)) ∙ there)
 
-gone_in : (b : Bool) (o : Option Session) → context_in (cond b None o) ≡ cond b None (context_in o)
-gone_in true o = refl
-gone_in false o = refl
-
 -- a client that is gone has no context, and every other client's stays
 pub context_gone : (m : ℕ) (a : Sessions) (n : ℕ) → context_at (without_client m a) n ≡ cond (nat_eq m n) None (context_at a n)
-context_gone m a n = ap context_in (get_removed a.clients m n) ∙ gone_in (nat_eq m n) (map.get a.clients n)
+context_gone m a n = ap context_in (get_removed a.clients m n) ∙ of_choice context_in (nat_eq m n) None (map.get a.clients n)

@@ -4,7 +4,7 @@ use Rattle.rk_machine.proofs.Words.{eqb-true, Errno, SessionId, Client, Handler,
 use Rattle.rk_machine.proofs.Words.{without_authority, with_construction, all_told, told, with_context, with_assumed, in_stage, Sessions, new_session, stage_of}
 use Rattle.rk_machine.proofs.Words.{Authority, Construction, Stage, Starting, Plain, Piped, Negating, Outcome, Session, announced, sessions_ended, ended, Event}
 use Rattle.rk_machine.proofs.Words.{is_done, is_followed, World, Answer, Start, Refused, Opened, Asked, Launched, Ended, Collect, Gone, Ran, get_inserted}
-use Rattle.rk_machine.proofs.Words.{get_removed, get_changed_at, get_changed_all}
+use Rattle.rk_machine.proofs.Words.{get_removed, get_changed_at, get_changed_all, of_choice}
 use Rattle.std.specs.FinMap as map
 use Rattle.rk_auth.specs.Changes.{launched}
 use Rattle.rk_machine.specs.declared.event.Ran.TheVariants as ran
@@ -97,24 +97,17 @@ kind_announced now k keys a q = left_announced (λ b. kind_of b q) (λ j o b. ki
 kind_settled : (now k : ℕ) (condition : Condition) (w : World) (q : ℕ) → kind_of (sessions_ended now k condition w) q ≡ kind_of w.sessions q
 kind_settled now k condition w q = left_settled (λ b. kind_of b q) (λ j o b. kind_told j o b q) (λ j b. kind_spent j b q) now k condition w
 
-gone_in : (b : Bool) (o : Option Construction) → kind_in (cond b None o) ≡ cond b None (kind_in o)
-gone_in true o = refl
-gone_in false o = refl
-
 kind_ended : (now k : ℕ) (condition : Condition) (w : World) (q : ℕ)
     → kind_of (ended now k condition w).sessions q ≡ cond (nat_eq k q) None (kind_of w.sessions q)
 kind_ended now k condition w q =
     ap kind_in (get_removed (sessions_ended now k condition w).constructions k q)
-    ∙ gone_in (nat_eq k q) (map.get (sessions_ended now k condition w).constructions q) ∙ ap (cond (nat_eq k q) None) (kind_settled now k condition w q)
-
-issued_in : (authority : Authority) (b : Bool) (o : Option Construction)
-    → kind_in (cond b (Some (record { stage = Starting; authority = Some authority })) o) ≡ cond b (Some to_start) (kind_in o)
-issued_in authority true o = refl
-issued_in authority false o = refl
+    ∙ of_choice kind_in (nat_eq k q) None (map.get (sessions_ended now k condition w).constructions q) ∙ ap (cond (nat_eq k q) None) (kind_settled now k condition w q)
 
 kind_issued : (k : ℕ) (authority : Authority) (a : Sessions) (q : ℕ)
     → kind_of (with_construction k authority a) q ≡ cond (nat_eq k q) (Some to_start) (kind_of a q)
-kind_issued k authority a q = ap kind_in (get_inserted a.constructions k _ q) ∙ issued_in authority (nat_eq k q) (map.get a.constructions q)
+kind_issued k authority a q =
+    ap kind_in (get_inserted a.constructions k _ q)
+    ∙ of_choice kind_in (nat_eq k q) (Some (record { stage = Starting; authority = Some authority })) (map.get a.constructions q)
 
 -- a construction that is there is in the stage from now on
 launched_in : (st : Stage) (b : Bool) (o : Option Construction) → (b ≡ true → is_some o ≡ true)

@@ -1,10 +1,10 @@
 -- A step tells no wait its outcome, or every wait on one key the same.
-use Rattle.rk_machine.proofs.Words.{option_map_or, nat_cmp, Option, Some, None, nat_eq, is_some, option_map, option_and_then, ◌≡◌, ℕ, Bool, true, false, cond}
-use Rattle.rk_machine.proofs.Words.{refl, ap, ◌∙◌, sym, ◌⊎◌, inl, inr, subst, eqb-true, eq-eqb, SessionId, Client, Handler, changed_at, is_past, concluded}
+use Rattle.rk_machine.proofs.Words.{◌≡◌, ℕ, ◌∙◌, ◌⊎◌, Bool, true, false, cond, refl, ap, sym, inl, inr, subst, option_map_or, nat_cmp, Option, Some, None}
+use Rattle.rk_machine.proofs.Words.{nat_eq, is_some, option_map, option_and_then, eqb-true, eq-eqb, SessionId, Client, Handler, changed_at, is_past, concluded}
 use Rattle.rk_machine.proofs.Words.{new_key, Condition, Building, Positive, Negative, Key, spent, without_construction, with_construction, all_told}
 use Rattle.rk_machine.proofs.Words.{with_context, new_wait, told_wait, Sessions, unspent, new_session, wait_of, Authority, Construction, Plain, Piped, Negating}
 use Rattle.rk_machine.proofs.Words.{Outcome, Failed, Wait, announced, outcome_of, ended, completed, outcome_by, expiry_after, Event, same_session, IsOutcome}
-use Rattle.rk_machine.proofs.Words.{unlinked_in, cleared_in, linked_in, told_as, World, tidied, Answer, get_changed_at, some_same, was_some, none_is}
+use Rattle.rk_machine.proofs.Words.{unlinked_in, cleared_in, linked_in, told_as, World, tidied, Answer, get_changed_at, of_choice, some_same, was_some, none_is}
 use Rattle.std.specs.FinMap as map
 use Rattle.rk_names.specs.declared.errors.KeyError.TheVariants as error
 use Rattle.rk_machine.proofs.Effects.KindsOfStep.{Effect, is_final, authority_for, refused, still, took, came, went, greets, begins, joins, links, unlinks}
@@ -138,10 +138,6 @@ module _ (now k : ℕ) (condition : Condition) (end : Option ℕ) (w : World) (k
       ap (λ x. wait_of x s) (announces (spent k a)) ∙ wait_told k (told_now now k condition end key) (spent k a) s
       ∙ ap (option_map (told_wait k (told_now now k condition end key))) (wait_spent k a s)
 
-some_in : {A : Type 0} (b : Bool) (o : Option A) → is_some (cond b None o) ≡ cond b false (is_some o)
-some_in true o = refl
-some_in false o = refl
-
 -- k gets its condition, loses its authority, and every wait on it gets the outcome
 concluding : (old new : World) (now k : ℕ) (condition : Condition) (end : Option ℕ) → Builds old → is_unspent old k ≡ true
     → ((j : ℕ) → is_built new j ≡ cond (nat_eq k j) false (is_built old j)) → ((j : ℕ) → is_unspent new j ≡ cond (nat_eq k j) false (is_unspent old j))
@@ -168,7 +164,9 @@ module _ (old new : World) (now k : ℕ) (condition : Condition) (final : is_fin
   ended_is b u = w ∙ ap (λ t. tidied (ended_as t now k condition old)) u
 
   unspent_then : (j : ℕ) → is_unspent new j ≡ cond (nat_eq k j) false (is_unspent old j)
-  unspent_then j = ap (λ (v : World). is_unspent v j) w ∙ ap is_some (unspent_ended now k condition old j) ∙ some_in (nat_eq k j) (unspent old.sessions j)
+  unspent_then j =
+      ap (λ (v : World). is_unspent v j) w ∙ ap is_some (unspent_ended now k condition old j)
+      ∙ of_choice is_some (nat_eq k j) None (unspent old.sessions j)
 
   spent_before : (j : ℕ) (b : Bool) → nat_eq k j ≡ b → is_unspent old k ≡ false → cond b false (is_unspent old j) ≡ is_unspent old j
   spent_before j true same u = sym (ap (is_unspent old) (sym (eqb-true k j same)) ∙ u)
@@ -266,7 +264,7 @@ telling old now e a new (concludes t x asker ring k condition end ev which can i
     let mid : World = tidied (completed now k condition end (linked_in ring k old)) in
     concluding old new now k condition end builds (ap (is_unspent old) mine.0 ∙ unspent_by old by.0 by.1 by.3 mine.1)
     (λ j. built_as old new mid w j _ (built_tidied _ _ j ∙ built_concluded k condition end final old.keys j))
-    (λ j. unspent_as old new mid w j _ (ap is_some (unspent_concluded now k _ old.sessions j) ∙ some_in (nat_eq k j) (unspent old.sessions j)))
+    (λ j. unspent_as old new mid w j _ (ap is_some (unspent_concluded now k _ old.sessions j) ∙ of_choice is_some (nat_eq k j) None (unspent old.sessions j)))
     (λ key there s v at. sym (wait_at old new mid w s _ (wait_concluded now k condition end old key there old.sessions s)) ∙ at)
 telling old now e a new (ran_plain k st ev is launches ra w) good idle builds =
     quiet old new _ w (built_tidied _ _) (λ j. ap is_some (unspent_launched k (Plain new_session) old.sessions j))

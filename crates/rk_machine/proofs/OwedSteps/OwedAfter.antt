@@ -5,7 +5,7 @@ use Rattle.rk_machine.proofs.Words.{in_new_stage, spent, without_authority, with
 use Rattle.rk_machine.proofs.Words.{without_client, with_assumed, in_stage, told_wait, Sessions, new_session, session_of, stage_of, handler_in, Authority}
 use Rattle.rk_machine.proofs.Words.{Construction, Stage, Starting, Plain, Piped, Negating, Outcome, Session, Wait, announced, sessions_ended, ended}
 use Rattle.rk_machine.proofs.Words.{same_session, client_owes, stage_owes, construction_owes, wait_owes, places, World, get_inserted, get_removed}
-use Rattle.rk_machine.proofs.Words.{get_changed_at, get_changed_all}
+use Rattle.rk_machine.proofs.Words.{get_changed_at, get_changed_all, of_choice}
 use Rattle.std.specs.FinMap as map
 use Rattle.rk_auth.specs.Changes.{launched}
 use Rattle.rk_machine.proofs.Effects.LeftByOutcomes.{left_announced, left_settled}
@@ -117,13 +117,9 @@ places_settled now k condition w s =
 
 -- ---- constructions
 
-removed_in : (b : Bool) (o : Option Construction) → at_construction (cond b None o) ≡ cond b 0 (at_construction o)
-removed_in true o = refl
-removed_in false o = refl
-
 pub places_removed : (k : ℕ) (a : Sessions) (s : SessionId) → places (without_construction k a) s ≡ cond (same_session (Handler k) s) 0 (places a s)
 places_removed k a (Client n) = refl
-places_removed k a (Handler j) = ap at_construction (get_removed a.constructions k j) ∙ removed_in (nat_eq k j) (map.get a.constructions j)
+places_removed k a (Handler j) = ap at_construction (get_removed a.constructions k j) ∙ of_choice at_construction (nat_eq k j) None (map.get a.constructions j)
 
 -- nothing is owed to a construction that has ended, and to every other session what was
 pub places_ended : (now k : ℕ) (condition : Condition) (w : World) (s : SessionId)
@@ -131,16 +127,13 @@ pub places_ended : (now k : ℕ) (condition : Condition) (w : World) (s : Sessio
 places_ended now k condition w s =
     places_removed k (sessions_ended now k condition w) s ∙ ap (cond (same_session (Handler k) s) 0) (places_settled now k condition w s)
 
-issued_in : (authority : Authority) (b : Bool) (o : Option Construction)
-    → at_construction (cond b (Some (record { stage = Starting; authority = Some authority })) o) ≡ cond b 4 (at_construction o)
-issued_in authority true o = refl
-issued_in authority false o = refl
-
 -- 4 places are owed to a construction that begins, and to every other session what was
 pub places_issued : (k : ℕ) (authority : Authority) (a : Sessions) (s : SessionId)
     → places (with_construction k authority a) s ≡ cond (same_session (Handler k) s) 4 (places a s)
 places_issued k authority a (Client n) = refl
-places_issued k authority a (Handler j) = ap at_construction (get_inserted a.constructions k _ j) ∙ issued_in authority (nat_eq k j) (map.get a.constructions j)
+places_issued k authority a (Handler j) =
+    ap at_construction (get_inserted a.constructions k _ j)
+    ∙ of_choice at_construction (nat_eq k j) (Some (record { stage = Starting; authority = Some authority })) (map.get a.constructions j)
 
 launched_in : (st : Stage) (b : Bool) (o : Option Construction) → (b ≡ true → is_some o ≡ true)
     → at_construction (cond b (option_map (in_new_stage st) o) o) ≡ cond b (stage_owes st) (at_construction o)
@@ -167,22 +160,14 @@ places_launched k st a (Handler j) there =
 
 -- ---- clients
 
-came_in : (b : Bool) (o : Option Session) → at_client (cond b (Some new_session) o) ≡ cond b 1 (at_client o)
-came_in true o = refl
-came_in false o = refl
-
 -- 1 place is owed to a client that comes, and to every other session what was
 pub places_came : (n : ℕ) (a : Sessions) (s : SessionId) → places (with_client n a) s ≡ cond (same_session (Client n) s) 1 (places a s)
-places_came n a (Client m) = ap at_client (get_inserted a.clients n new_session m) ∙ came_in (nat_eq n m) (map.get a.clients m)
+places_came n a (Client m) = ap at_client (get_inserted a.clients n new_session m) ∙ of_choice at_client (nat_eq n m) (Some new_session) (map.get a.clients m)
 places_came n a (Handler k) = refl
-
-went_in : (b : Bool) (o : Option Session) → at_client (cond b None o) ≡ cond b 0 (at_client o)
-went_in true o = refl
-went_in false o = refl
 
 -- nothing is owed to a client that is gone, and to every other session what was
 pub places_went : (n : ℕ) (a : Sessions) (s : SessionId) → places (without_client n a) s ≡ cond (same_session (Client n) s) 0 (places a s)
-places_went n a (Client m) = ap at_client (get_removed a.clients n m) ∙ went_in (nat_eq n m) (map.get a.clients m)
+places_went n a (Client m) = ap at_client (get_removed a.clients n m) ∙ of_choice at_client (nat_eq n m) None (map.get a.clients m)
 places_went n a (Handler k) = refl
 
 -- a client that is there has a session
