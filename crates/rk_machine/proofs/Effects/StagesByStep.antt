@@ -153,7 +153,8 @@ kind_after q (Launched k r) a o = cond (is_done a && nat_eq k q) (launched_kind 
 kind_after q (Ended k how payload) a o = cond (is_done a && nat_eq k q) None (cond (is_followed a && nat_eq k q) (Some to_follow) o)
 kind_after q e a o = o
 
-refused_kind : (q : ℕ) (e : Event) (error : Errno) (o : Option Kind) → kind_after q e (Refused error) o ≡ o
+-- a refusal leaves how far each construction is
+pub refused_kind : (q : ℕ) (e : Event) (error : Errno) (o : Option Kind) → kind_after q e (Refused error) o ≡ o
 refused_kind q (Opened s) error o = refl
 refused_kind q (Asked s x) error o = refl
 refused_kind q (Launched k r) error o = refl
