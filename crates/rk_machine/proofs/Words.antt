@@ -8,7 +8,7 @@ pub use Rattle.std.specs.List.{list_any}
 pub use Rattle.std.specs.Option.{option_map_or}
 pub use Rattle.std.specs.Ordering.{nat_cmp, is_lt, is_eq}
 pub use Rattle.std.specs.Prelude.{ℤ, ◌==◌, Option, Some, None, nat_eq, is_some, option_map, option_and_then, unwrap_or, is_none, pos, negsuc, nat_le}
-pub use Rattle.std.specs.Prelude.{MatchOption, if◌then◌else◌}
+pub use Rattle.std.specs.Prelude.{MatchOption}
 pub use Rattle.std.specs.declared.cmp.Ordering.{Ordering}
 pub use Rattle.std.specs.declared.cmp.Ordering.TheVariants.{Less, Equal, Greater}
 pub use Rattle.std.proofs.Math.Nat.{le-pred_of_lt}
@@ -63,7 +63,7 @@ pub use Rattle.rk_machine.specs.Laws.{is_done, same_session, is_wait_ended, comp
 pub use Rattle.rk_machine.specs.Laws.{completes_by, assumed_at, is_waiting, EffectiveOrMisuse, EachEffectiveOrMisuse, Lawful, ContinuesTo, root_of, holds}
 pub use Rattle.rk_machine.specs.Laws.{HasRoot, Rooted, EachRooted, Shows, waited, WaitsFor, at_once, further as and_further, NoCircle, NeverCircle, starter_of}
 pub use Rattle.rk_machine.specs.Laws.{start_depth, NotDeep, NeverDeep, happened, never, is_start, is_launch, is_negate, since_negate, is_ending, is_completion}
-pub use Rattle.rk_machine.specs.Laws.{OnceFor, EachOnce, EachToldOf, IsOutcome, EachOutcome, assumed_in, last_assumed, EachOwn}
+pub use Rattle.rk_machine.specs.Laws.{OnceFor, EachOnce, EachToldOf, IsOutcome, EachOutcome, last_assumed, EachOwn}
 pub use Rattle.rk_machine.specs.Links.{unlinked_in, cleared_in, linked_in, full_refusal, rings_changed}
 pub use Rattle.rk_machine.specs.Owing.{is_request, is_followed, whose, client_owes, stage_owes, construction_owes, owed, owed_to, start_owes, constructions}
 pub use Rattle.rk_machine.specs.Owing.{begun, closes, closed, ends_owed, ends_owed_to, construction_ends, stage_ends, start_ends, takes, asked_of, names_in}
@@ -87,6 +87,7 @@ pub use Rattle.rk_machine.proofs.Found.AllEntries.{some_entry, no_entry}
 pub use Rattle.rk_machine.proofs.Found.InMaps.{get_inserted, get_removed, get_changed_at, get_changed_all, get_kept_where}
 pub use Rattle.rk_machine.proofs.Found.Options.{true_false, of_choice, none_some, some_same, was_some, some_none}
 pub use Rattle.rk_machine.proofs.Found.Refusals.{by_option, or_left, or_right, not_not, if_none, none_is, first_none, unless, or_memory, and_false, and_left, some_is}
+-- those that a proof opens
 unfoldable pub use Rattle.rk_machine.specs.Request.{Requests}
 unfoldable pub use Rattle.rk_machine.specs.Asks.{Completes}
 unfoldable pub use Rattle.rk_machine.specs.KeyAsks.{Adds}

@@ -2,9 +2,8 @@
 use Rattle.rk_machine.proofs.Words.{◌≡◌, ℕ, ◌∙◌, ◌||◌, ◌&&◌, Bool, true, false, cond, refl, ap, sym, not, option_map_or, nat_cmp, Option, Some, None, nat_eq}
 use Rattle.rk_machine.proofs.Words.{is_some, option_map, option_and_then, Errno, SessionId, Client, Handler, Condition, Key, session_changed, spent}
 use Rattle.rk_machine.proofs.Words.{with_construction, all_told, told, with_context, ready_outcome, Sessions, new_session, wait_of, Outcome, Session, Wait}
-use Rattle.rk_machine.proofs.Words.{announced, ended, Event, is_done, same_session, is_wait_ended, collected, is_ready, has_wait, World, Answer, Done, Start}
-use Rattle.rk_machine.proofs.Words.{Waiting, Refused, Negate, Opened, Asked, Launched, Ended, Collect, Gone, get_inserted, get_removed, get_changed_at}
-use Rattle.rk_machine.proofs.Words.{get_changed_all, by_option, Step}
+use Rattle.rk_machine.proofs.Words.{announced, ended, Event, is_done, same_session, is_wait_ended, collected, is_ready, has_wait, World, Answer, Start, Waiting}
+use Rattle.rk_machine.proofs.Words.{Refused, Opened, Asked, Collect, Gone, get_inserted, get_removed, get_changed_at, get_changed_all, by_option, Step}
 use Rattle.std.specs.FinMap as map
 use Rattle.rk_machine.specs.Laws.{wait_begun}
 use Rattle.rk_machine.proofs.Effects.WaitsAfter.{flag, flag_of, flag_collected, same-self}
@@ -58,13 +57,8 @@ client_after n e a b = b
 
 refused_client : (n : ℕ) (e : Event) (error : Errno) (b : Bool) → client_after n e (Refused error) b ≡ b
 refused_client n (Opened (Client m)) error b = refl
-refused_client n (Opened (Handler k)) error b = refl
-refused_client n (Asked s x) error b = refl
-refused_client n (Launched k r) error b = refl
-refused_client n (Ended k how payload) error b = refl
-refused_client n (Collect s) error b = refl
 refused_client n (Gone (Client m)) error b = refl
-refused_client n (Gone (Handler k)) error b = refl
+refused_client n _ error b = refl
 
 -- which clients are there after a step results from the event, its answer and which were there
 pub clients : (old : World) (now : ℕ) (e : Event) (a : Answer) (new : World) → Effect old now e a new → (n : ℕ)
@@ -99,14 +93,7 @@ waits_flag w s = sym (kept_all flag (wait_of w.sessions s))
 none_begun : (s : SessionId) (e : Event) (a : Answer) → asks_by s e ≡ false → wait_begun s e a ≡ None
 none_begun s (Asked t x) (Start k subject) h = ap (λ b. cond b (Some (k, true)) None) h
 none_begun s (Asked t x) (Waiting k) h = ap (λ b. cond b (Some (k, false)) None) h
-none_begun s (Asked t x) (Done r) h = refl
-none_begun s (Asked t x) (Negate k) h = refl
-none_begun s (Asked t x) (Refused e) h = refl
-none_begun s (Opened t) a h = refl
-none_begun s (Launched k r) a h = refl
-none_begun s (Ended k how payload) a h = refl
-none_begun s (Collect t) a h = refl
-none_begun s (Gone t) a h = refl
+none_begun s _ a h = refl
 
 still_some : (b : Bool) (o : Option (ℕ × Bool)) → is_some (cond b None o) ≡ true → is_some o ≡ true
 still_some true o h = absurd (cc)

@@ -3,8 +3,8 @@ use Rattle.rk_machine.proofs.Words.{◌≡◌, ℕ, ◌∙◌, ◌&&◌, Bool, t
 use Rattle.rk_machine.proofs.Words.{eqb-true, Errno, SessionId, Client, Handler, Condition, Key, session_changed, in_handler, in_new_stage, spent}
 use Rattle.rk_machine.proofs.Words.{without_authority, with_construction, all_told, told, with_context, with_assumed, in_stage, Sessions, new_session, stage_of}
 use Rattle.rk_machine.proofs.Words.{Authority, Construction, Stage, Starting, Plain, Piped, Negating, Outcome, Session, announced, sessions_ended, ended, Event}
-use Rattle.rk_machine.proofs.Words.{is_done, is_followed, World, Answer, Start, Refused, Opened, Asked, Launched, Ended, Collect, Gone, Ran, get_inserted}
-use Rattle.rk_machine.proofs.Words.{get_removed, get_changed_at, get_changed_all, of_choice}
+use Rattle.rk_machine.proofs.Words.{is_done, is_followed, World, Answer, Start, Refused, Asked, Launched, Ended, Ran, get_inserted, get_removed, get_changed_at}
+use Rattle.rk_machine.proofs.Words.{get_changed_all, of_choice}
 use Rattle.std.specs.FinMap as map
 use Rattle.rk_auth.specs.Changes.{launched}
 use Rattle.rk_machine.specs.declared.event.Ran.TheVariants as ran
@@ -155,12 +155,8 @@ kind_after q e a o = o
 
 -- a refusal leaves how far each construction is
 pub refused_kind : (q : ℕ) (e : Event) (error : Errno) (o : Option Kind) → kind_after q e (Refused error) o ≡ o
-refused_kind q (Opened s) error o = refl
 refused_kind q (Asked s x) error o = refl
-refused_kind q (Launched k r) error o = refl
-refused_kind q (Ended k how payload) error o = refl
-refused_kind q (Collect s) error o = refl
-refused_kind q (Gone s) error o = refl
+refused_kind q _ error o = refl
 
 -- how far each construction is after a step results from the event, its answer and how far it was
 pub kinds : (old : World) (now : ℕ) (e : Event) (a : Answer) (new : World) → Effect old now e a new → (q : ℕ)

@@ -1,5 +1,5 @@
 -- What was never drawn is no construction, after each step of the machine.
-use Rattle.rk_machine.proofs.Words.{◌≡◌, ℕ, ◌∙◌, Bool, true, false, cond, refl, ap, sym, not, subst, List, Option, Some, None, nat_eq, is_some, option_map}
+use Rattle.rk_machine.proofs.Words.{◌≡◌, ℕ, ◌∙◌, Bool, true, false, cond, refl, ap, sym, subst, List, Option, Some, None, nat_eq, is_some, option_map}
 use Rattle.rk_machine.proofs.Words.{is_none, eqb-true, SessionId, Subject, Ask, Sessions, session_of, stage_of, is_to_launch, is_starting, Construction, Stage}
 use Rattle.rk_machine.proofs.Words.{Starting, Plain, Piped, Negating, Outcome, Found, Failed, Event, asked_of, names_in, may_launch, told_as, World, drawn}
 use Rattle.rk_machine.proofs.Words.{Answer, Start, Asked, Ran, true_false, none_some, Step}

@@ -3,8 +3,7 @@ use Rattle.rk_machine.proofs.Words.{◌≡◌, ℕ, ◌∙◌, ◌⊎◌, ◌&&�
 use Rattle.rk_machine.proofs.Words.{nat_eq, is_some, option_map, option_and_then, eqb-true, eq-eqb, SessionId, Client, Handler, Condition, Key, spent, all_told}
 use Rattle.rk_machine.proofs.Words.{with_context, ready_outcome, new_wait, told_wait, Sessions, unspent, new_session, wait_of, Construction, Plain, Piped}
 use Rattle.rk_machine.proofs.Words.{Negating, Outcome, Wait, announced, outcome_of, sessions_ended, keys_ended, ended, Event, is_done, same_session}
-use Rattle.rk_machine.proofs.Words.{is_followed, whose, is_ready, awaited, World, Answer, Done, Start, Waiting, Refused, Negate, Opened, Asked, Launched, Ended}
-use Rattle.rk_machine.proofs.Words.{Collect, Gone, none_is, Step}
+use Rattle.rk_machine.proofs.Words.{is_followed, whose, is_ready, awaited, World, Answer, Start, Asked, Launched, Ended, none_is, Step}
 use Rattle.std.specs.FinMap as map
 use Rattle.rk_machine.proofs.Effects.WaitsAfter.{wait_kept, wait_collected, wait_begun, wait_told, wait_spent, wait_launched, wait_removed, wait_issued}
 use Rattle.rk_machine.proofs.Effects.WaitsAfter.{wait_came, wait_went}
@@ -120,18 +119,11 @@ there_by_kind w q = found (map.get w.sessions.constructions q)
 
 -- a construction that a step ends is that of the handler which it is about
 over : (q : ℕ) (e : Event) (a : Answer) (o : Option Kind) → is_some o ≡ true → is_some (kind_after q e a o) ≡ false → whose e ≡ Handler q
-over q (Opened s) a o was is = absurd (cc)
-over q (Collect s) a o was is = absurd (cc)
-over q (Gone s) a o was is = absurd (cc)
 over q (Asked s x) (Start k subject) o was is = absurd (by_test (nat_eq k q) is)
   where
     by_test : (b : Bool) → is_some (cond b (Some to_start) o) ≡ false → ⊥
     by_test true h = cc
     by_test false h = cc
-over q (Asked s x) (Done r) o was is = absurd (cc)
-over q (Asked s x) (Waiting k) o was is = absurd (cc)
-over q (Asked s x) (Negate k) o was is = absurd (cc)
-over q (Asked s x) (Refused error) o was is = absurd (cc)
 over q (Launched k r) a o was is = by_test (is_done a) (nat_eq k q) refl is
   where
     by_test : (d b : Bool) → nat_eq k q ≡ b → is_some (cond (d && b) (launched_kind r) o) ≡ false → Handler k ≡ Handler q
@@ -146,6 +138,7 @@ over q (Ended k how payload) a o was is = by_test (is_done a) (is_followed a) (n
     by_test true false false same h = absurd (cc)
     by_test false true false same h = absurd (cc)
     by_test false false false same h = absurd (cc)
+over q _ a o was is = absurd (cc)
 
 ended_by : (old : World) (now : ℕ) (e : Event) (a : Answer) (new : World) → Step old now e a new → (q : ℕ)
     → map.contains_key old.sessions.constructions q ≡ true → map.contains_key new.sessions.constructions q ≡ false → whose e ≡ Handler q

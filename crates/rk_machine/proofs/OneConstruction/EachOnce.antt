@@ -101,15 +101,15 @@ pub record Known (x : Shape) (p : Seen) : Type 0 where
   pub first : x.first ≡ true → p.negate ≡ false
   pub unspent : x.unspent ≡ true → p.completion ≡ false
 
--- what the list tells agrees with the shape in the world, and with whether the serial was drawn
-pub record Agrees (p : Seen) (o : Option Shape) (drawn : Bool) : Type 0 where
+-- what the list tells matches the shape in the world, and whether the serial was drawn
+pub record Matches (p : Seen) (o : Option Shape) (drawn : Bool) : Type 0 where
   pub idle : drawn ≡ false → o ≡ None
   pub fresh : drawn ≡ false → p ≡ unseen
   pub there : (x : Shape) → o ≡ Some x → Known x p
 
 -- the past of the construction of q agrees with how far it is
 abbrev pub Tied : ℕ → List Past → Option Shape → Bool → Type 0
-Tied q past o drawn = Agrees (seen q past) o drawn
+Tied q past o drawn = Matches (seen q past) o drawn
 
 -- what a step may be, after what was seen
 record Allowed (t : Tests) (p : Seen) : Type 0 where
@@ -123,22 +123,22 @@ no : {A : Type 0} → false ≡ true → A
 no e = absurd (clash false refl e)
 
 -- a construction that is there has begun, and one that was ended has, too
-agreed : (p : Seen) (x : Shape) (dn : Bool) → (dn ≡ false → ⊥) → Known x p → Agrees p (Some x) dn
-agreed p x dn begun known = record {
+matched : (p : Seen) (x : Shape) (dn : Bool) → (dn ≡ false → ⊥) → Known x p → Matches p (Some x) dn
+matched p x dn begun known = record {
   idle = λ e. absurd (begun e);
   fresh = λ e. absurd (begun e);
   there = λ y at. subst (λ (z : Shape). Known z p) (some_same at) known;
 }
 
-over : (p : Seen) (dn : Bool) → (dn ≡ false → ⊥) → Agrees p None dn
+over : (p : Seen) (dn : Bool) → (dn ≡ false → ⊥) → Matches p None dn
 over p dn begun = record { idle = λ e. refl; fresh = λ e. absurd (begun e); there = λ y at. absurd (none_some at) }
 
 module _ (q : ℕ) (d dn : Bool) (own : Type 0) (less : dn ≡ false → d ≡ false) (p : Seen) where
-  begun : (x : Shape) → Agrees p (Some x) d → dn ≡ false → ⊥
+  begun : (x : Shape) → Matches p (Some x) d → dn ≡ false → ⊥
   begun x h e = some_none (h.idle (less e))
 
-  -- each turn is allowed, and what is seen then agrees with the shape that it leaves
-  once : (t : Tests) (o n : Option Shape) → Turn q d dn own t o n → Good q o → Agrees p o d → Allowed t p × Agrees (seen_after t p) n dn
+  -- each turn is allowed, and what is seen then matches the shape that it leaves
+  once : (t : Tests) (o n : Option Shape) → Turn q d dn own t o n → Good q o → Matches p o d → Allowed t p × Matches (seen_after t p) n dn
   once t o n quiet good h = (
     record { start = no; launch = no; negate = no; completion = no; ending = no },
     record { idle = λ e. h.idle (less e); fresh = λ e. h.fresh (less e); there = h.there },
@@ -146,7 +146,7 @@ module _ (q : ℕ) (d dn : Bool) (own : Type 0) (less : dn ≡ false → d ≡ f
   once t o n (started_now fresh after) good h =
       let f : p ≡ unseen = h.fresh fresh in (
         record { start = λ _. ap (λ (z : Seen). z.start) f; launch = no; negate = no; completion = no; ending = no },
-        agreed _ first_shape dn (λ e. clash _ e after) (record {
+        matched _ first_shape dn (λ e. clash _ e after) (record {
           started = refl;
           going = ap (λ (z : Seen). z.ending) f;
           launched = ap (λ (z : Seen). z.launch) f;
@@ -157,7 +157,7 @@ module _ (q : ℕ) (d dn : Bool) (own : Type 0) (less : dn ≡ false → d ≡ f
   once t o n (launched_now x st waits runs firsts) good h =
       let k = h.there x refl in (
         record { start = no; launch = λ _. (k.started, k.launched ∙ ap not waits, k.going); negate = no; completion = no; ending = no },
-        agreed _ (as_staged st x) dn (begun x h)
+        matched _ (as_staged st x) dn (begun x h)
             (record { started = k.started; going = k.going; launched = sym (ap not runs); first = λ e. k.first (firsts e); unspent = k.unspent }),
       )
   once t o n (negated_now x runs firsts free) good h =
@@ -169,7 +169,7 @@ module _ (q : ℕ) (d dn : Bool) (own : Type 0) (less : dn ≡ false → d ≡ f
           completion = no;
           ending = no;
         },
-        agreed _ (as_staged Negating x) dn (begun x h) (record { started = k.started; going = k.going; launched = refl; first = no; unspent = k.unspent }),
+        matched _ (as_staged Negating x) dn (begun x h) (record { started = k.started; going = k.going; launched = refl; first = no; unspent = k.unspent }),
       )
   once t o n (failed_now x waits) good h =
       let k = h.there x refl in (
@@ -191,13 +191,13 @@ module _ (q : ℕ) (d dn : Bool) (own : Type 0) (less : dn ≡ false → d ≡ f
       let k = h.there x refl in
       let g = good x q refl own in (
         record { start = no; launch = no; negate = no; completion = λ _. (k.launched ∙ ap not g.2, k.unspent g.1, k.going); ending = no },
-        agreed _ (as_spent x) dn (begun x h)
+        matched _ (as_spent x) dn (begun x h)
             (record { started = k.started; going = k.going; launched = k.launched; first = k.first; unspent = no }),
       )
   once t o n (assumed_now x key runs mine) good h =
       let k = h.there x refl in (
         record { start = no; launch = no; negate = no; completion = no; ending = no },
-        agreed _ (as_assumed (serial_named key) x) dn (begun x h)
+        matched _ (as_assumed (serial_named key) x) dn (begun x h)
             (record { started = k.started; going = k.going; launched = k.launched; first = k.first; unspent = k.unspent }),
       )
 
@@ -249,13 +249,13 @@ step_knows old s new before step known =
     let turn : (q : ℕ) → Turn q (is_drawn old q) (is_drawn new q) (IsOwnAsk q s.event) (tests q s.event s.answer) (shape_of old.sessions q)
     (shape_of new.sessions q) = turns old s.now s.event s.answer new is known.0 in
     let done : (q : ℕ) → Allowed (tests q s.event s.answer) (seen q before)
-    × Agrees (seen_after (tests q s.event s.answer) (seen q before)) (shape_of new.sessions q) (is_drawn new q) =
+    × Matches (seen_after (tests q s.event s.answer) (seen q before)) (shape_of new.sessions q) (is_drawn new q) =
     λ q. once q (is_drawn old q) (is_drawn new q) (IsOwnAsk q s.event) (keeps_drawn old s.now s.event s.answer new is q) (seen q before) _ _ _ (turn q)
     (known.0 q) (known.1 q) in (
       λ q. once_for q s before (done q).0,
       (
         λ q. good_after q _ _ _ _ _ _ (turn q) (known.0 q),
-        λ q. subst (λ (p : Seen). Agrees p (shape_of new.sessions q) (is_drawn new q)) (sym (seen_more q s before)) (done q).1,
+        λ q. subst (λ (p : Seen). Matches p (shape_of new.sessions q) (is_drawn new q)) (sym (seen_more q s before)) (done q).1,
       ),
     )
 

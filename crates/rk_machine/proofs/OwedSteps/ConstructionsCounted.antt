@@ -3,7 +3,7 @@ use Rattle.rk_machine.proofs.Words.{◌≡◌, ℕ, ◌∙◌, ◌∷◌, ◌+�
 use Rattle.rk_machine.proofs.Words.{Option, Some, None, nat_eq, is_some, eqb-true, eq-eqb, SessionId, Client, Handler, Subject, Number, Sessions, is_to_launch}
 use Rattle.rk_machine.proofs.Words.{Construction, Stage, Starting, Plain, Piped, Negating, done, Event, is_done, same_session, is_followed, whose}
 use Rattle.rk_machine.proofs.Words.{constructions, begun, closed, ends_owed, ends_owed_to, construction_ends, stage_ends, start_ends, takes, told_as, is_owed}
-use Rattle.rk_machine.proofs.Words.{weight, weight_in, World, Answer, Done, Start, Waiting, Refused, Negate, Opened, Asked, Launched, Ended, Collect, Gone, How}
+use Rattle.rk_machine.proofs.Words.{weight, weight_in, World, Answer, Done, Start, Waiting, Refused, Negate, Asked, Launched, Ended, Collect, Gone, How}
 use Rattle.rk_machine.proofs.Words.{true_false, and_false}
 use Rattle.std.specs.FinMap as map
 use Rattle.rk_machine.specs.declared.event.Ran.TheVariants as ran
@@ -87,16 +87,10 @@ starts_apart old e new k subject idle start =
 -- a step leaves what it does not concern
 off : (e : Event) (a : Answer) (q : ℕ) (o : Option Kind) → is_begun a ≡ false → same_session (whose e) (Handler q) ≡ false → kind_after q e a o ≡ o
 off (Asked s x) (Start k subject) q o none other = absurd (true_false none)
-off (Asked s x) (Done r) q o none other = refl
-off (Asked s x) (Waiting k) q o none other = refl
-off (Asked s x) (Negate k) q o none other = refl
-off (Asked s x) (Refused f) q o none other = refl
 off (Launched k r) a q o none other = ap (λ b. cond b (launched_kind r) o) (and_false (is_done a) (nat_eq k q) other)
 off (Ended k how payload) a q o none other =
     λ i. cond (and_false (is_done a) (nat_eq k q) other i) None (cond (and_false (is_followed a) (nat_eq k q) other i) (Some to_follow) o)
-off (Opened s) a q o none other = refl
-off (Collect s) a q o none other = refl
-off (Gone s) a q o none other = refl
+off _ a q o none other = refl
 
 kinds_change : (old : World) (now : ℕ) (e : Event) (a : Answer) (new : World) → Effect old now e a new → IsIdle old
     → KindsChange (whose e) old.sessions new.sessions (is_begun a)

@@ -217,10 +217,5 @@ here w k one = omega (arith, counted w, part one_each w.sessions.constructions k
 -- what an owed event ends is there
 pub closes_there : (w : World) (e : Event) → is_owed w e ≡ true → closes e ≤ constructions w
 closes_there w (Launched k ran.Failed) is = here w k (found_one _ (found_some ran.Failed _ (sym (launch_kind w k ran.Failed) ∙ is)))
-closes_there w (Launched k ran.Plain) is = omega arith
-closes_there w (Launched k ran.Piped) is = omega arith
 closes_there w (Ended k how payload) is = here w k (found_one _ (end_kind w.sessions k is))
-closes_there w (Opened s) is = omega arith
-closes_there w (Asked s x) is = omega arith
-closes_there w (Collect s) is = omega arith
-closes_there w (Gone s) is = omega arith
+closes_there w _ is = omega arith

@@ -58,12 +58,9 @@ need_some : (x : Ask) → 1 ≤ cond (is_request x) 6 1
 need_some x = elim (is_request x) as (λ b. 1 ≤ cond b 6 1) [ true ↦ omega arith | false ↦ omega arith ]
 
 need_any : (e : Event) → 1 ≤ need e
-need_any (Opened s) = omega arith
 need_any (Asked s x) = need_some x
-need_any (Launched k r) = omega arith
-need_any (Ended k how payload) = omega arith
-need_any (Collect s) = omega arith
-need_any (Gone s) = omega arith
+need_any (Opened s) = omega arith
+need_any _ = omega arith
 
 -- nothing that is owed is changed, and nothing was owed
 rests : (old : World) (e : Event) (a : Answer) (b : Sessions) → start_owes a ≡ 0 → is_owed old e ≡ false
