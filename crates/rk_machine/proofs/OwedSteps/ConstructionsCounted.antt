@@ -19,7 +19,7 @@ use Rattle.rk_machine.proofs.Effects.OfSessions.{runs_piped, follows, not_run, e
 
 -- ---- sums over the constructions, by how far each is
 
--- a step that starts a construction
+-- the answer starts a construction
 abbrev is_begun : Answer → Bool
 is_begun (Start k subject) = true
 is_begun _ = false
@@ -120,6 +120,7 @@ kinds_change old now e a new found idle = by_answer a refl
 
 -- ---- how many there are, and how many ends they are owed
 
+-- each construction weighs 1
 abbrev pub one_each : Construction → ℕ
 one_each c = 1
 
@@ -127,12 +128,15 @@ length_weight : (es : List (ℕ × Construction)) → length es ≡ weight_in on
 length_weight [] = refl
 length_weight (e ∷ es) = omega (arith, length_weight es)
 
+-- how many there are is what they weigh together
 pub counted : (w : World) → constructions w ≡ weight one_each w.sessions.constructions
 counted w = map.len-entries w.sessions.constructions ∙ length_weight (map.entries w.sessions.constructions)
 
+-- the same, by how far one is
 abbrev pub ones : Option Kind → ℕ
 ones o = cond (is_some o) 1 0
 
+-- 1 for a construction that is there, and else 0
 pub one_in : (o : Option Construction) → option_map_or one_each o 0 ≡ ones (kind_in o)
 one_in None = refl
 one_in (Some c) = refl
