@@ -2,4 +2,5 @@
 pub mod WeightsOfMaps
 pub mod OwedAfter
 pub mod OwedByStep
+pub mod ConstructionsCounted
 pub mod EachRecorded

@@ -1,35 +1,12 @@
 -- The unspent authority of each key, after each thing that a step may do.
-use Rattle.std.proofs.Common.{◌≡◌, ℕ, Bool, true, false, cond, refl, ap, ◌∙◌}
-use Rattle.std.specs.Prelude.{Option, Some, None, nat_eq, is_some, option_map, option_and_then}
-use Rattle.std.specs.Option.{option_map_or}
-use Rattle.std.specs.Ordering.{nat_cmp}
+use Rattle.rk_machine.proofs.Words.{◌≡◌, ℕ, ◌∙◌, Bool, true, false, cond, refl, ap, nat_cmp, Option, Some, None, nat_eq, is_some, option_map, option_and_then}
+use Rattle.rk_machine.proofs.Words.{SessionId, Client, Handler, Condition, Key, session_changed, in_handler, in_new_stage, spent, without_authority}
+use Rattle.rk_machine.proofs.Words.{without_construction, with_construction, all_told, told, Sessions, unspent, Authority, Construction, Stage, Starting}
+use Rattle.rk_machine.proofs.Words.{Outcome, Session, announced, sessions_ended, keys_ended, ended, World, get_inserted, get_removed, get_changed_at}
+use Rattle.rk_machine.proofs.Words.{get_changed_all, of_choice}
 use Rattle.std.specs.FinMap as map
-use Rattle.rk_names.specs.declared.numbers.SessionId.{SessionId}
-use Rattle.rk_names.specs.declared.numbers.SessionId.TheVariants.{Client, Handler}
-use Rattle.rk_keys.specs.declared.key.Key.{Key}
-use Rattle.rk_keys.specs.declared.key.Condition.{Condition}
-use Rattle.rk_auth.specs.declared.session.Session.{Session}
-use Rattle.rk_auth.specs.declared.session.Outcome.{Outcome}
-use Rattle.rk_auth.specs.declared.construction.Stage.{Stage}
-use Rattle.rk_auth.specs.declared.construction.Stage.TheVariants.{Starting}
-use Rattle.rk_auth.specs.declared.construction.Authority.{Authority}
-use Rattle.rk_auth.specs.declared.construction.Construction.{Construction}
-use Rattle.rk_auth.specs.Sessions.{Sessions, unspent}
-use Rattle.rk_auth.specs.Changes.{
-  session_changed,
-  in_handler,
-  in_new_stage,
-  launched,
-  spent,
-  without_authority,
-  without_construction,
-  with_construction,
-  all_told,
-  told,
-}
-use Rattle.rk_machine.specs.World.{World}
-use Rattle.rk_machine.specs.Completion.{announced, outcome_of, sessions_ended, keys_ended, ended}
-use Rattle.rk_machine.proofs.Found.InMaps.{get_inserted, get_removed, get_changed_at, get_changed_all}
+use Rattle.rk_auth.specs.Changes.{launched}
+use Rattle.rk_machine.proofs.Effects.LeftByOutcomes.{left_announced}
 
 abbrev authority_in : Option Construction → Option Authority
 authority_in o = option_and_then (λ c. c.authority) o
@@ -57,11 +34,7 @@ unspent_told k o a q =
     ap authority_in (get_changed_all (in_handler (told k o)) a.constructions q) ∙ kept (in_handler (told k o)) (λ c. refl) true (map.get a.constructions q)
 
 pub unspent_announced : (now k : ℕ) (keys : map.FinMap nat_cmp Key) (a : Sessions) (q : ℕ) → unspent (announced now k keys a) q ≡ unspent a q
-unspent_announced now k keys a q = told_or_not (map.get keys k)
-  where
-    told_or_not : (o : Option Key) → unspent (option_map_or (λ key. all_told k (outcome_of k key now) a) o a) q ≡ unspent a q
-    told_or_not None = refl
-    told_or_not (Some key) = unspent_told k (outcome_of k key now) a q
+unspent_announced now k keys a q = left_announced (λ b. unspent b q) (λ j o b. unspent_told j o b q) now k keys a
 
 -- a launch leaves every unspent authority
 pub unspent_launched : (k : ℕ) (st : Stage) (a : Sessions) (q : ℕ) → unspent (launched k st a) q ≡ unspent a q
@@ -83,12 +56,8 @@ pub unspent_concluded : (now k : ℕ) (keys : map.FinMap nat_cmp Key) (a : Sessi
     → unspent (announced now k keys (spent k a)) q ≡ cond (nat_eq k q) None (unspent a q)
 unspent_concluded now k keys a q = unspent_announced now k keys (spent k a) q ∙ unspent_spent k a q
 
-removed_in : (b : Bool) (o : Option Construction) → authority_in (cond b None o) ≡ cond b None (authority_in o)
-removed_in true o = refl
-removed_in false o = refl
-
 pub unspent_removed : (k : ℕ) (a : Sessions) (q : ℕ) → unspent (without_construction k a) q ≡ cond (nat_eq k q) None (unspent a q)
-unspent_removed k a q = ap authority_in (get_removed a.constructions k q) ∙ removed_in (nat_eq k q) (map.get a.constructions q)
+unspent_removed k a q = ap authority_in (get_removed a.constructions k q) ∙ of_choice authority_in (nat_eq k q) None (map.get a.constructions q)
 
 twice : {A : Type 0} (b : Bool) (o : Option A) → cond b None (cond b None o) ≡ cond b None o
 twice true o = refl
@@ -105,12 +74,9 @@ unspent_ended now k condition w q = unspent_removed k (sessions_ended now k cond
         ap (cond (nat_eq k q) None) (unspent_concluded now k (keys_ended now k condition w) w.sessions q) ∙ twice (nat_eq k q) (unspent w.sessions q)
     spent_or_not false = refl
 
-issued_in : (b : Bool) (authority : Authority) (o : Option Construction)
-    → authority_in (cond b (Some (record { stage = Starting; authority = Some authority })) o) ≡ cond b (Some authority) (authority_in o)
-issued_in true authority o = refl
-issued_in false authority o = refl
-
 -- a new construction of k has an unspent authority, and every other stays
 pub unspent_issued : (k : ℕ) (authority : Authority) (a : Sessions) (q : ℕ)
     → unspent (with_construction k authority a) q ≡ cond (nat_eq k q) (Some authority) (unspent a q)
-unspent_issued k authority a q = ap authority_in (get_inserted a.constructions k _ q) ∙ issued_in (nat_eq k q) authority (map.get a.constructions q)
+unspent_issued k authority a q =
+    ap authority_in (get_inserted a.constructions k _ q)
+    ∙ of_choice authority_in (nat_eq k q) (Some (record { stage = Starting; authority = Some authority })) (map.get a.constructions q)

@@ -1,18 +1,8 @@
 -- Which keys are under construction, after each thing that a step may do.
-use Rattle.std.proofs.Common.{◌≡◌, ℕ, Bool, true, false, cond, ◌||◌, refl, sym, ap, ◌∙◌}
-use Rattle.std.specs.Prelude.{Option, Some, None, nat_eq, unwrap_or, option_map}
-use Rattle.std.specs.Option.{option_map_or}
-use Rattle.std.specs.Ordering.{nat_cmp}
+use Rattle.rk_machine.proofs.Words.{◌≡◌, ℕ, ◌∙◌, ◌||◌, Bool, true, false, cond, refl, ap, sym, option_map_or, nat_cmp, Option, Some, None, nat_eq, option_map}
+use Rattle.rk_machine.proofs.Words.{unwrap_or, changed_at, kept_where, key_passes, is_building, builds, concluded, Condition, Building, Positive, Negative, Key}
+use Rattle.rk_machine.proofs.Words.{Ring, has_link, World, get_inserted, get_changed_at, get_kept_where, of_choice}
 use Rattle.std.specs.FinMap as map
-use Rattle.rk_table.specs.Maps.{changed_at, kept_where}
-use Rattle.rk_keys.specs.declared.key.Key.{Key}
-use Rattle.rk_keys.specs.declared.key.Condition.{Condition}
-use Rattle.rk_keys.specs.declared.key.Condition.TheVariants.{Building, Positive, Negative}
-use Rattle.rk_keys.specs.Key.{key_passes, is_building, builds}
-use Rattle.rk_keys.specs.Known.{concluded}
-use Rattle.rk_rings.specs.Ring.{Ring, has_link}
-use Rattle.rk_machine.specs.World.{World}
-use Rattle.rk_machine.proofs.Found.InMaps.{get_inserted, get_changed_at, get_kept_where}
 use Rattle.rk_machine.proofs.Effects.KindsOfStep.{is_final, IsMild}
 
 -- the key is there and under construction
@@ -50,14 +40,10 @@ pub built_tidied : (rings : map.FinMap nat_cmp Ring) (keys : map.FinMap nat_cmp 
     → built_at (kept_where (λ k key. has_link rings k || is_building key) keys) k ≡ built_at keys k
 built_tidied rings keys k = ap built_in (get_kept_where (λ k key. has_link rings k || is_building key) keys k) ∙ kept_in (has_link rings k) (map.get keys k)
 
-put_in : (b : Bool) (key : Key) (o : Option Key) → built_in (cond b (Some key) o) ≡ cond b (is_building key) (built_in o)
-put_in true key o = refl
-put_in false key o = refl
-
 -- a new key
 pub built_put : (k : ℕ) (key : Key) (keys : map.FinMap nat_cmp Key) (j : ℕ)
     → built_at (map.insert keys k key) j ≡ cond (nat_eq k j) (is_building key) (built_at keys j)
-built_put k key keys j = ap built_in (get_inserted keys k key j) ∙ put_in (nat_eq k j) key (map.get keys j)
+built_put k key keys j = ap built_in (get_inserted keys k key j) ∙ of_choice built_in (nat_eq k j) (Some key) (map.get keys j)
 
 -- a change that leaves its condition
 mild_in : (b : Bool) (f : Key → Key) (o : Option Key) → IsMild f → built_in (cond b (option_map f o) o) ≡ built_in o

@@ -1,61 +1,17 @@
 -- Which clients are there, and who waits, after each step of the machine.
-use Rattle.std.proofs.Common.{◌≡◌, ◌⊎◌, ℕ, Bool, true, false, cond, not, ◌&&◌, ◌||◌, refl, sym, ap, ◌∙◌, inl, inr}
-use Rattle.std.specs.Prelude.{Option, Some, None, nat_eq, is_some, option_map, option_and_then}
-use Rattle.std.specs.Option.{option_map_or}
-use Rattle.std.specs.Ordering.{nat_cmp}
+use Rattle.rk_machine.proofs.Words.{◌≡◌, ℕ, ◌∙◌, ◌||◌, ◌&&◌, Bool, true, false, cond, refl, ap, sym, not, option_map_or, nat_cmp, Option, Some, None, nat_eq}
+use Rattle.rk_machine.proofs.Words.{is_some, option_map, option_and_then, Errno, SessionId, Client, Handler, Condition, Key, session_changed, spent}
+use Rattle.rk_machine.proofs.Words.{with_construction, all_told, told, with_context, ready_outcome, Sessions, new_session, wait_of, Outcome, Session, Wait}
+use Rattle.rk_machine.proofs.Words.{announced, ended, Event, is_done, same_session, is_wait_ended, collected, is_ready, has_wait, World, Answer, Start, Waiting}
+use Rattle.rk_machine.proofs.Words.{Refused, Opened, Asked, Collect, Gone, get_inserted, get_removed, get_changed_at, get_changed_all, by_option, Step}
 use Rattle.std.specs.FinMap as map
-use Rattle.rk_names.specs.declared.numbers.SessionId.{SessionId}
-use Rattle.rk_names.specs.declared.numbers.SessionId.TheVariants.{Client, Handler}
-use Rattle.rk_names.specs.declared.errors.Errno.{Errno}
-use Rattle.rk_names.specs.declared.errors.KeyError.TheVariants as error
-use Rattle.rk_keys.specs.declared.key.Key.{Key}
-use Rattle.rk_keys.specs.declared.key.Condition.{Condition}
-use Rattle.rk_keys.specs.declared.key.Condition.TheVariants.{Negative}
-use Rattle.rk_auth.specs.declared.session.Session.{Session}
-use Rattle.rk_auth.specs.declared.session.Wait.{Wait}
-use Rattle.rk_auth.specs.declared.session.Outcome.{Outcome}
-use Rattle.rk_auth.specs.Sessions.{Sessions, new_session, wait_of, unspent}
-use Rattle.rk_auth.specs.Changes.{session_changed, spent, all_told, told, with_context, ready_outcome}
-use Rattle.rk_machine.specs.Event.{Event}
-use Rattle.rk_machine.specs.declared.event.EventOf.TheVariants.{Opened, Asked, Launched, Ended, Collect, Gone}
-use Rattle.rk_machine.specs.declared.event.Answer.{Answer}
-use Rattle.rk_machine.specs.declared.event.Answer.TheVariants.{Done, Start, Waiting, Refused, Negate}
-use Rattle.rk_machine.specs.World.{World, tidied}
-use Rattle.rk_machine.specs.Links.{unlinked_in, cleared_in}
-use Rattle.rk_machine.specs.Completion.{announced, outcome_of, keys_ended, ended}
-use Rattle.rk_machine.specs.Steps.{Step, collected}
-use Rattle.rk_machine.specs.Views.{is_ready, has_wait}
-use Rattle.rk_machine.specs.Laws.{is_done, same_session, wait_begun, is_wait_ended}
-use Rattle.rk_machine.proofs.Found.InMaps.{get_inserted, get_removed, get_changed_at, get_changed_all}
-use Rattle.rk_machine.proofs.Found.Refusals.{by_option}
-use Rattle.rk_machine.proofs.Effects.KindsOfStep.{
-  Effect,
-  effect,
-  refused,
-  still,
-  took,
-  came,
-  went,
-  greets,
-  begins,
-  joins,
-  links,
-  unlinks,
-  marks,
-  tells,
-  sets,
-  adds,
-  assumes,
-  concludes,
-  ran_plain,
-  ran_piped,
-  negates,
-  failed,
-  finished,
-}
-use Rattle.rk_machine.proofs.Effects.HelloChanges.{greeted_sessions}
+use Rattle.rk_machine.specs.Laws.{wait_begun}
 use Rattle.rk_machine.proofs.Effects.WaitsAfter.{flag, flag_of, flag_collected, same-self}
 use Rattle.rk_machine.proofs.Effects.WaitsAreTheWorlds.{after, step, tied, IdleFresh}
+use Rattle.rk_machine.proofs.Effects.KindsOfStep.{Effect, effect}
+use Rattle.rk_machine.proofs.Effects.OfSessions.{InSessions, in_sessions, is_refused, collects, comes, greeted, goes, starts, waits_for, is_set, assumed}
+use Rattle.rk_machine.proofs.Effects.OfSessions.{concluded, not_run, ends}
+use Rattle.rk_machine.proofs.Effects.LeftByOutcomes.{left_announced, left_settled}
 
 -- ---- clients
 
@@ -80,18 +36,10 @@ client_told : (k : ℕ) (o : Outcome) (a : Sessions) (n : ℕ) → is_client (al
 client_told k o a n = ap is_some (get_changed_all (told k o) a.clients n) ∙ kept_all (told k o) (map.get a.clients n)
 
 client_announced : (now k : ℕ) (keys : map.FinMap nat_cmp Key) (a : Sessions) (n : ℕ) → is_client (announced now k keys a) n ≡ is_client a n
-client_announced now k keys a n = told_or_not (map.get keys k)
-  where
-    told_or_not : (o : Option Key) → is_client (option_map_or (λ key. all_told k (outcome_of k key now) a) o a) n ≡ is_client a n
-    told_or_not None = refl
-    told_or_not (Some key) = client_told k (outcome_of k key now) a n
+client_announced now k keys a n = left_announced (λ b. is_client b n) (λ j o b. client_told j o b n) now k keys a
 
 client_ended : (now k : ℕ) (condition : Condition) (w : World) (n : ℕ) → is_client (ended now k condition w).sessions n ≡ is_client w.sessions n
-client_ended now k condition w n = spent_or_not (is_some (unspent w.sessions k))
-  where
-    spent_or_not : (b : Bool) → is_client (cond b (announced now k (keys_ended now k condition w) (spent k w.sessions)) w.sessions) n ≡ is_client w.sessions n
-    spent_or_not true = client_announced now k (keys_ended now k condition w) (spent k w.sessions) n
-    spent_or_not false = refl
+client_ended now k condition w n = left_settled (λ b. is_client b n) (λ j o b. client_told j o b n) (λ j b. refl) now k condition w
 
 came_in : (b : Bool) (o : Option Session) → is_some (cond b (Some new_session) o) ≡ (b || is_some o)
 came_in true o = refl
@@ -109,66 +57,28 @@ client_after n e a b = b
 
 refused_client : (n : ℕ) (e : Event) (error : Errno) (b : Bool) → client_after n e (Refused error) b ≡ b
 refused_client n (Opened (Client m)) error b = refl
-refused_client n (Opened (Handler k)) error b = refl
-refused_client n (Asked s x) error b = refl
-refused_client n (Launched k r) error b = refl
-refused_client n (Ended k how payload) error b = refl
-refused_client n (Collect s) error b = refl
 refused_client n (Gone (Client m)) error b = refl
-refused_client n (Gone (Handler k)) error b = refl
-
-by_step : (new : World) (n : ℕ) (e given : Event) (a answer : Answer) (b : Bool) → e ≡ given → a ≡ answer
-    → is_client new.sessions n ≡ client_after n given answer b → is_client new.sessions n ≡ client_after n e a b
-by_step new n e given a answer b ev ra h = h ∙ sym (ap (λ y. client_after n y a b) ev ∙ ap (λ y. client_after n given y b) ra)
-
-at_world : (new mid : World) (n : ℕ) (b : Bool) → new ≡ mid → is_client mid.sessions n ≡ b → is_client new.sessions n ≡ b
-at_world new mid n b e h = ap (λ (w : World). is_client w.sessions n) e ∙ h
-
-unlinked_client : (old new : World) (ring : Option ℕ) (k n : ℕ) → (new ≡ tidied (unlinked_in ring k old)) ⊎ (new ≡ tidied (cleared_in ring old))
-    → is_client new.sessions n ≡ is_client old.sessions n
-unlinked_client old new ring k n (inl h) = at_world new _ n _ h refl
-unlinked_client old new ring k n (inr h) = at_world new _ n _ h refl
+refused_client n _ error b = refl
 
 -- which clients are there after a step results from the event, its answer and which were there
 pub clients : (old : World) (now : ℕ) (e : Event) (a : Answer) (new : World) → Effect old now e a new → (n : ℕ)
     → is_client new.sessions n ≡ client_after n e a (is_client old.sessions n)
-clients old now e a new (refused error ra w free) n =
-    ap (λ (v : World). is_client v.sessions n) w ∙ sym (ap (λ y. client_after n e y (is_client old.sessions n)) ra ∙ refused_client n e error _)
-clients old now e a new (still s wait ev is ready ra w) n = by_step new n e _ a _ _ ev ra (at_world new _ n _ w refl)
-clients old now e a new (took s wait outcome ev is ready ra w) n =
-    by_step new n e (Collect s) a a _ ev refl (at_world new _ n _ w (client_changed s _ old.sessions n))
-clients old now e a new (came m ev fresh ra w) n =
-    by_step new n e _ a _ _ ev ra (at_world new _ n _ w (ap is_some (get_inserted old.sessions.clients m new_session n)
-    ∙ came_in (nat_eq m n) (map.get old.sessions.clients n)))
-clients old now e a new (went m ev there ra w) n =
-    by_step new n e _ a _ _ ev ra (at_world new _ n _ w (ap is_some (get_removed old.sessions.clients m n)
-    ∙ went_in (nat_eq m n) (map.get old.sessions.clients n)))
-clients old now e a new (greets m hello ev can none joined h) n =
-    by_step new n e _ a _ _ ev h.6.0
-    (at_world new _ n _ h.6.1 (client_changed (Client m) (with_context
-    (record { uid = hello.uid; gid = hello.gid; thread = h.0; process = h.1; session = h.2; user = h.3 })) h.4.sessions n
-    ∙ ap (λ (s : Sessions). is_client s n) (greeted_sessions _ old h.4 h.0 h.1 h.2 h.3 h.5)))
-clients old now e a new (begins s asker typ description callout r ring k ev can is depth fresh ra w) n =
-    by_step new n e _ a _ _ ev ra (at_world new _ n _ w (client_changed s _ _ n))
-clients old now e a new (joins s x ring k ev asks can building apart ra w) n =
-    by_step new n e _ a _ _ ev ra (at_world new _ n _ w (client_changed s _ old.sessions n))
-clients old now e a new (links s x ring k m ev completes_none not_assume ra w) n = by_step new n e _ a _ _ ev ra (at_world new _ n _ w refl)
-clients old now e a new (unlinks s x ring k ev completes_none not_assume ra w) n = by_step new n e _ a _ _ ev ra (unlinked_client old new ring k n w)
-clients old now e a new (marks s x k f ev completes_none not_assume mild ra w) n = by_step new n e _ a _ _ ev ra (at_world new _ n _ w refl)
-clients old now e a new (tells s x bytes ev ra w) n = by_step new n e _ a _ _ ev ra (at_world new _ n _ w refl)
-clients old now e a new (sets s x setting m ev completes_none not_assume can ra w) n =
-    by_step new n e _ a _ _ ev ra (at_world new _ n _ w (client_changed s _ old.sessions n))
-clients old now e a new (adds s asker typ description payload r ring k ev fresh ra w) n = by_step new n e _ a _ _ ev ra (at_world new _ n _ w refl)
-clients old now e a new (assumes s key ev can none ra w) n = by_step new n e _ a _ _ ev ra (at_world new _ n _ w (client_changed s _ old.sessions n))
-clients old now e a new (concludes s x asker ring k condition end ev which can is own final ra w) n =
-    by_step new n e _ a _ _ ev ra (at_world new _ n _ w (client_announced now k _ (spent k old.sessions) n))
-clients old now e a new (ran_plain k st ev is launches ra w) n = by_step new n e _ a _ _ ev ra (at_world new _ n _ w refl)
-clients old now e a new (ran_piped k ev is ra w) n = by_step new n e _ a _ _ ev ra (at_world new _ n _ w refl)
-clients old now e a new (negates k how payload ev is fails ra w) n = by_step new n e _ a _ _ ev ra (at_world new _ n _ w refl)
-clients old now e a new (failed k st ev is launches ra w) n =
-    by_step new n e _ a _ _ ev ra (at_world new _ n _ w (client_ended now k (Negative error.NoKey) old n))
-clients old now e a new (finished k how payload st condition ev is running final ra w) n =
-    by_step new n e _ a _ _ ev ra (at_world new _ n _ w (client_ended now k condition old n))
+clients old now e a new is n = by_case e a new.sessions (in_sessions old now e a new is)
+  where
+    by_case : (e : Event) (a : Answer) (b : Sessions) → InSessions old new now e a b → is_client b n ≡ client_after n e a (is_client old.sessions n)
+    by_case e a b (is_refused y error w free) = sym (refused_client n y error _)
+    by_case e a b (collects s wait outcome is ready) = client_changed s _ old.sessions n
+    by_case e a b (comes m fresh) = ap is_some (get_inserted old.sessions.clients m new_session n) ∙ came_in (nat_eq m n) (map.get old.sessions.clients n)
+    by_case e a b (goes m there) = ap is_some (get_removed old.sessions.clients m n) ∙ went_in (nat_eq m n) (map.get old.sessions.clients n)
+    by_case e a b (greeted m hello c thread process session user can) = client_changed (Client m) (with_context c) old.sessions n
+    by_case e a b (starts s typ description callout r k subject authority names can fresh drawn) = client_changed s _ (with_construction k authority old.sessions) n
+    by_case e a b (waits_for s x k asks can apart) = client_changed s _ old.sessions n
+    by_case e a b (is_set s x setting m plain can) = client_changed s _ old.sessions n
+    by_case e a b (assumed s key can none) = client_changed s _ old.sessions n
+    by_case e a b (concluded s x asker k keys which is own) = client_announced now k keys (spent k old.sessions) n
+    by_case e a b (not_run k st condition is launches) = client_ended now k condition old n
+    by_case e a b (ends k how payload st condition is running) = client_ended now k condition old n
+    by_case e a b _ = refl
 
 -- ---- who waits
 
@@ -183,14 +93,7 @@ waits_flag w s = sym (kept_all flag (wait_of w.sessions s))
 none_begun : (s : SessionId) (e : Event) (a : Answer) → asks_by s e ≡ false → wait_begun s e a ≡ None
 none_begun s (Asked t x) (Start k subject) h = ap (λ b. cond b (Some (k, true)) None) h
 none_begun s (Asked t x) (Waiting k) h = ap (λ b. cond b (Some (k, false)) None) h
-none_begun s (Asked t x) (Done r) h = refl
-none_begun s (Asked t x) (Negate k) h = refl
-none_begun s (Asked t x) (Refused e) h = refl
-none_begun s (Opened t) a h = refl
-none_begun s (Launched k r) a h = refl
-none_begun s (Ended k how payload) a h = refl
-none_begun s (Collect t) a h = refl
-none_begun s (Gone t) a h = refl
+none_begun s _ a h = refl
 
 still_some : (b : Bool) (o : Option (ℕ × Bool)) → is_some (cond b None o) ≡ true → is_some o ≡ true
 still_some true o h = absurd (cc)

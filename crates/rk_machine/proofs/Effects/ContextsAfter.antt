@@ -1,21 +1,10 @@
 -- The context of each client, after each thing that a step may do.
-use Rattle.std.proofs.Common.{◌≡◌, ℕ, Bool, true, false, cond, refl, sym, ap, ◌∙◌}
-use Rattle.std.specs.Prelude.{Option, Some, None, nat_eq, is_none, is_some, option_map, option_and_then}
-use Rattle.std.specs.Option.{option_map_or}
-use Rattle.std.specs.Ordering.{nat_cmp}
+use Rattle.rk_machine.proofs.Words.{◌≡◌, ℕ, ◌∙◌, Bool, true, false, cond, refl, ap, sym, nat_cmp, Option, Some, None, nat_eq, option_map, option_and_then}
+use Rattle.rk_machine.proofs.Words.{is_none, eqb-true, Context, SessionId, Client, Handler, Condition, Key, session_changed, all_told, told, with_context}
+use Rattle.rk_machine.proofs.Words.{with_client, without_client, Sessions, new_session, Outcome, Session, announced, sessions_ended, World, get_inserted}
+use Rattle.rk_machine.proofs.Words.{get_removed, get_changed_at, get_changed_all, of_choice}
 use Rattle.std.specs.FinMap as map
-use Rattle.std.proofs.lemmas.Bool.{eqb-true}
-use Rattle.rk_names.specs.declared.context.Context.{Context}
-use Rattle.rk_names.specs.declared.numbers.SessionId.{SessionId}
-use Rattle.rk_names.specs.declared.numbers.SessionId.TheVariants.{Client, Handler}
-use Rattle.rk_keys.specs.declared.key.Key.{Key}
-use Rattle.rk_keys.specs.declared.key.Condition.{Condition}
-use Rattle.rk_auth.specs.declared.session.Session.{Session}
-use Rattle.rk_auth.specs.Sessions.{Sessions, new_session, unspent}
-use Rattle.rk_auth.specs.Changes.{session_changed, with_context, with_client, without_client, all_told, told, spent}
-use Rattle.rk_machine.specs.World.{World}
-use Rattle.rk_machine.specs.Completion.{announced, outcome_of, sessions_ended, keys_ended}
-use Rattle.rk_machine.proofs.Found.InMaps.{get_inserted, get_removed, get_changed_at, get_changed_all}
+use Rattle.rk_machine.proofs.Effects.LeftByOutcomes.{left_announced, left_settled}
 
 abbrev context_in : Option Session → Option Context
 context_in o = option_and_then (λ one. one.context) o
@@ -38,23 +27,16 @@ pub context_kept : (id : SessionId) (f : Session → Session) → ((s : Session)
 context_kept (Client m) f h a n = ap context_in (get_changed_at m f a.clients n) ∙ kept f h (nat_eq m n) (map.get a.clients n)
 context_kept (Handler k) f h a n = refl
 
+context_told : (k : ℕ) (o : Outcome) (a : Sessions) (n : ℕ) → context_at (all_told k o a) n ≡ context_at a n
+context_told k o a n = ap context_in (get_changed_all (told k o) a.clients n) ∙ kept (told k o) (λ s. refl) true (map.get a.clients n)
+
 -- an outcome leaves every client's context
 pub context_announced : (now k : ℕ) (keys : map.FinMap nat_cmp Key) (a : Sessions) (n : ℕ) → context_at (announced now k keys a) n ≡ context_at a n
-context_announced now k keys a n = told_or_not (map.get keys k)
-  where
-    told_or_not : (o : Option Key) → context_at (option_map_or (λ key. all_told k (outcome_of k key now) a) o a) n ≡ context_at a n
-    told_or_not None = refl
-    told_or_not (Some key) =
-        ap context_in (get_changed_all (told k (outcome_of k key now)) a.clients n)
-        ∙ kept (told k (outcome_of k key now)) (λ s. refl) true (map.get a.clients n)
+context_announced now k keys a n = left_announced (λ b. context_at b n) (λ j o b. context_told j o b n) now k keys a
 
 -- a handler's end leaves every client's context
 pub context_ended : (now k : ℕ) (condition : Condition) (w : World) (n : ℕ) → context_at (sessions_ended now k condition w) n ≡ context_at w.sessions n
-context_ended now k condition w n = spent_or_not (is_some (unspent w.sessions k))
-  where
-    spent_or_not : (b : Bool) → context_at (cond b (announced now k (keys_ended now k condition w) (spent k w.sessions)) w.sessions) n ≡ context_at w.sessions n
-    spent_or_not true = context_announced now k (keys_ended now k condition w) (spent k w.sessions) n
-    spent_or_not false = refl
+context_ended now k condition w n = left_settled (λ b. context_at b n) (λ j o b. context_told j o b n) (λ j b. refl) now k condition w
 
 came_in : (b : Bool) (o : Option Session) → (b ≡ true → o ≡ None) → context_in (cond b (Some new_session) o) ≡ context_in o
 came_in true o new = sym (ap context_in (new refl))
@@ -84,10 +66,6 @@ context_given m c a n there =
     ap context_in (get_changed_at m (with_context c) a.clients n)
     ∙ given_in c (nat_eq m n) (map.get a.clients n) (λ same. ap (λ j. is_none (map.get a.clients j)) (sym (eqb-true m n same)) ∙ there)
 
-gone_in : (b : Bool) (o : Option Session) → context_in (cond b None o) ≡ cond b None (context_in o)
-gone_in true o = refl
-gone_in false o = refl
-
 -- a client that is gone has no context, and every other client's stays
 pub context_gone : (m : ℕ) (a : Sessions) (n : ℕ) → context_at (without_client m a) n ≡ cond (nat_eq m n) None (context_at a n)
-context_gone m a n = ap context_in (get_removed a.clients m n) ∙ gone_in (nat_eq m n) (map.get a.clients n)
+context_gone m a n = ap context_in (get_removed a.clients m n) ∙ of_choice context_in (nat_eq m n) None (map.get a.clients n)

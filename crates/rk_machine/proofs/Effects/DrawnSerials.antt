@@ -1,11 +1,6 @@
 -- Which serials were drawn.
-use Rattle.std.proofs.Common.{◌≡◌, ℕ, Bool, true, ◌||◌, refl, ap, ◌∙◌}
-use Rattle.std.specs.Prelude.{nat_eq}
-use Rattle.std.specs.Cmp.{nat_cmp_total}
+use Rattle.rk_machine.proofs.Words.{nat_cmp_total, nat_eq, ◌≡◌, ℕ, Bool, true, refl, ap, ◌∙◌, ◌||◌, eq-eqb, tie, World, drawn}
 use Rattle.std.specs.FinSet as set
-use Rattle.std.proofs.lemmas.Bool.{eq-eqb}
-use Rattle.rk_table.proofs.Entries.{tie}
-use Rattle.rk_machine.specs.World.{World, drawn}
 
 -- the serial was drawn
 abbrev pub is_drawn : World → ℕ → Bool

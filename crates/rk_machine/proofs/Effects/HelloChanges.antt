@@ -1,15 +1,8 @@
 -- HELLO makes rings, and changes one client alone.
-use Rattle.std.proofs.Common.{◌≡◌, ℕ, Bool, true, false, refl, ap, ◌∙◌, inl, inr}
-use Rattle.std.specs.Prelude.{Option, Some, None}
-use Rattle.std.specs.Ordering.{nat_cmp}
+use Rattle.rk_machine.proofs.Words.{nat_cmp, Option, Some, None, ◌≡◌, ℕ, Bool, true, false, refl, ap, ◌∙◌, inl, inr, Key, Ring, RingKind, Sessions, Greeting}
+use Rattle.rk_machine.proofs.Words.{Makes, MakesIf, HasSessionRing, HasUserRing, MakesRings, World, drawn}
 use Rattle.std.specs.FinMap as map
-use Rattle.rk_keys.specs.declared.key.Key.{Key}
-use Rattle.rk_rings.specs.Ring.{Ring}
-use Rattle.rk_rings.specs.declared.kind.RingKind.{RingKind}
 use Rattle.rk_rings.specs.declared.kind.RingKind.TheVariants as kind
-use Rattle.rk_auth.specs.Sessions.{Sessions}
-use Rattle.rk_machine.specs.World.{World, drawn}
-use Rattle.rk_machine.specs.Hello.{Greeting, Makes, MakesIf, HasSessionRing, HasUserRing, MakesRings}
 
 -- a part of the world that is neither rings nor serials
 module _ {A : Type 0} (part : World → A) (kept : (ring : ℕ) (rings : map.FinMap nat_cmp Ring) (w : World) → part (record (drawn ring w) { rings = rings })

@@ -1,21 +1,13 @@
 -- HELLO makes the rings of a context, each under a serial that was never drawn.
-use Rattle.std.proofs.Common.{◌≡◌, ◌⊎◌, ◌<◌, ℕ, Bool, true, false, cond, ◌||◌, arith, refl, sym, ap, ◌∙◌, subst, inl, inr}
-use Rattle.std.specs.Prelude.{Option, Some, None, nat_eq, not, option_map}
-use Rattle.std.specs.Option.{option_map_or}
+use Rattle.rk_machine.proofs.Words.{◌≡◌, ℕ, ◌∙◌, ◌||◌, ◌⊎◌, ◌<◌, Bool, true, false, cond, refl, ap, sym, not, inl, inr, arith, subst, option_map_or, Option}
+use Rattle.rk_machine.proofs.Words.{Some, None, nat_eq, option_map, eqb-true, eq-eqb, ne_eqb, Context, Ring, empty_ring, is_sessions, RingKind, refused_if}
+use Rattle.rk_machine.proofs.Words.{Greeting, Makes, MakesIf, HasSessionRing, HasUserRing, MakesRings, join_refusal, World, true_false, none_some, some_same}
+use Rattle.rk_machine.proofs.Words.{or_left, or_right, not_not, if_none}
 use Rattle.std.specs.FinMap as map
-use Rattle.std.proofs.lemmas.Bool.{eqb-true, eq-eqb, ne_eqb}
-use Rattle.rk_names.specs.declared.context.Context.{Context}
 use Rattle.rk_names.specs.declared.errors.Errno.TheVariants as errno
-use Rattle.rk_rings.specs.declared.kind.RingKind.{RingKind}
 use Rattle.rk_rings.specs.declared.kind.RingKind.TheVariants as kind
-use Rattle.rk_rings.specs.Ring.{Ring, empty_ring, is_sessions}
-use Rattle.rk_machine.specs.World.{World}
-use Rattle.rk_machine.specs.Allowed.{refused_if}
-use Rattle.rk_machine.specs.Hello.{Greeting, Makes, MakesIf, HasSessionRing, HasUserRing, MakesRings, join_refusal}
-use Rattle.rk_machine.proofs.Found.Refusals.{or_left, or_right, not_not, if_none}
 use Rattle.rk_machine.proofs.Effects.DrawnSerials.{is_drawn, drawn_is}
 use Rattle.rk_machine.proofs.Effects.RingsAfter.{kind_at, is_users_kind, kind_made}
-use Rattle.rk_machine.proofs.Found.Options.{none_some, some_same}
 
 -- ---- rings and contexts
 
@@ -42,9 +34,6 @@ pub record Grown (c : Context) (old new : World) : Type 0 where
   pub stays : (r : ℕ) (k : RingKind) → kind_at old r ≡ Some k → kind_at new r ≡ Some k
   pub made : (r : ℕ) (k : RingKind) → kind_at new r ≡ Some k → (kind_at old r ≡ Some k) ⊎ ((is_drawn old r ≡ false) × ((is_users_kind k ≡ true) ⊎ Has c r k))
   pub keeps : (r : ℕ) → is_drawn new r ≡ false → is_drawn old r ≡ false
-
-true_false : true ≡ false → ⊥
-true_false e = cc
 
 module _ (c : Context) where
   unmoved : (old new : World) → new ≡ old → Sound old → Grown c old new
@@ -112,12 +101,6 @@ pub record Made (c : Context) (old new : World) : Type 0 where
   pub thread_new : (r : ℕ) → c.thread ≡ Some r → kind_at old r ≡ None
   pub process_new : (r : ℕ) → c.process ≡ Some r → kind_at old r ≡ None
 
-same_number : {m n : ℕ} → Some m ≡ Some n → m ≡ n
-same_number e = cc
-
-no_number : {n : ℕ} → None ≡ Some n → ⊥
-no_number e = cc
-
 -- a ring that may be joined is there, and a session ring
 joined_ring : (w : World) (g : Greeting) → join_refusal w g ≡ None → (j : ℕ) → g.join ≡ Some j → kind_at w j ≡ Some kind.Session
 joined_ring w g none j is =
@@ -139,11 +122,11 @@ module _ (c : Context) where
   if_made : (b : Bool) (k : RingKind) (uid : ℕ) (old new : World) (ring : Option ℕ) → MakesIf b k uid old new ring → Sound old
       → ((r : ℕ) → ring ≡ Some r → Has c r k)
       → Grown c old new × ((r : ℕ) → ring ≡ Some r → (kind_at new r ≡ Some k) × (is_drawn old r ≡ false))
-  if_made false k uid old new ring h s own = (unmoved c old new h.1 s, λ r is. absurd (no_number (sym h.0 ∙ is)))
+  if_made false k uid old new ring h s own = (unmoved c old new h.1 s, λ r is. absurd (none_some (sym h.0 ∙ is)))
   if_made true k uid old new ring h s own = (
     one_made c k uid old new h.0 h.2 s (inr (own h.0 h.1)),
     λ r is.
-        let same : h.0 ≡ r = same_number (sym h.1 ∙ is) in
+        let same : h.0 ≡ r = some_same (sym h.1 ∙ is) in
         (ap (kind_at new) (sym same) ∙ made_there c k uid old new h.0 h.2 s (inr (own h.0 h.1)), ap (is_drawn old) (sym same) ∙ h.2.0.unused),
   )
 

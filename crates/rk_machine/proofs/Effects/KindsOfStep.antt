@@ -1,87 +1,25 @@
 -- What a step is: one of these, each with what it found and the world that it leaves.
-use Rattle.std.proofs.Common.{◌≡◌, ◌⊎◌, ℕ, Bool, true, false, cond, List, [], ◌∷◌, refl, sym, ap, ◌∙◌, inl, inr}
-use Rattle.std.specs.Prelude.{Option, Some, None, ℤ, pos, negsuc, nat_le, not, is_some, is_none, unwrap_or, option_map, ◌==◌, MatchOption}
-use Rattle.std.specs.Bool.{MatchBool}
-use Rattle.std.specs.Option.{option_map_or}
+use Rattle.rk_machine.proofs.Words.{MatchBool, option_map_or, Option, Some, None, is_some, option_map, unwrap_or, is_none, ℤ, pos, negsuc, nat_le, ◌==◌}
+use Rattle.rk_machine.proofs.Words.{MatchOption, ◌≡◌, ℕ, Bool, true, false, cond, refl, ap, ◌∙◌, sym, ◌⊎◌, not, inl, inr, List, [], ◌∷◌, eqb-true, key_errno}
+use Rattle.rk_machine.proofs.Words.{setting_number, Setting, Errno, SessionId, Client, Handler, Says, Ask, Number, Bytes, key_passes, is_building, new_key}
+use Rattle.rk_machine.proofs.Words.{marked, timed, IsFresh, Condition, Building, Positive, Negative, Key, Leads, new_session, wait_of, session_of, stage_of}
+use Rattle.rk_machine.proofs.Words.{is_to_launch, assumed_authority, Authority, Stage, Starting, Plain, Piped, Negating, Outcome, Wait, refused_if, done}
+use Rattle.rk_machine.proofs.Words.{first_of, Leaves, Settles, Asker, asker_of, serial_named, ring_for, ring_refusal, ring_or_none_refusal, key_refusal}
+use Rattle.rk_machine.proofs.Words.{own_refusal, gate, ask_refusal, assume_refusal, Completes, completion_refusal, Acting, Asking, ended, completed}
+use Rattle.rk_machine.proofs.Words.{condition_after, Event, Greeting, join_refusal, Greets, Hellos, hello_refusal, serial_in, TellsOf, TellsCallout, ReadsKey}
+use Rattle.rk_machine.proofs.Words.{Adds, with_key_changed, setting_asked, is_authority, read_refusal, revoke_refusal, timeout_refusal, link_refusal}
+use Rattle.rk_machine.proofs.Words.{unlink_refusal, add_refusal, completes, unlinked_in, cleared_in, linked_in, full_refusal, is_request, query, waiting}
+use Rattle.rk_machine.proofs.Words.{MeetsBuilding, MeetsPositive, Meets, Misses, Requests, start_refusal, destination_of, subject_of, started, with_key}
+use Rattle.rk_machine.proofs.Words.{new_authority, Query, block_of, Step, collected, open_refusal, opened, may_launch, would_negate, negating, Ends, told_as}
+use Rattle.rk_machine.proofs.Words.{gone, World, tidied, Answer, Done, Start, Waiting, Refused, Negate, Opened, Asked, Launched, Ended, Collect, Gone, How}
+use Rattle.rk_machine.proofs.Words.{Exit, Ran, by_option, or_left, not_not, if_none, none_is, first_none, unless, or_memory}
 use Rattle.std.specs.FinMap as map
-use Rattle.std.proofs.lemmas.Bool.{eqb-true}
-use Rattle.rk_names.specs.declared.context.Setting.{Setting}
-use Rattle.rk_names.specs.declared.numbers.SessionId.{SessionId}
-use Rattle.rk_names.specs.declared.numbers.SessionId.TheVariants.{Client, Handler}
-use Rattle.rk_names.specs.declared.errors.Errno.{Errno}
 use Rattle.rk_names.specs.declared.errors.Errno.TheVariants as errno
 use Rattle.rk_names.specs.declared.errors.KeyError.TheVariants as error
-use Rattle.rk_names.specs.Numbers.{key_errno}
-use Rattle.rk_names.specs.Settings.{setting_number}
-use Rattle.rk_table.specs.Says.{Says}
-use Rattle.rk_message.specs.Ask.{Ask}
 use Rattle.rk_message.specs.declared.ask.AskOf.TheVariants as ask
-use Rattle.rk_message.specs.declared.reply.Reply.TheVariants.{Number, Bytes}
-use Rattle.rk_keys.specs.declared.key.Key.{Key}
-use Rattle.rk_keys.specs.declared.key.Condition.{Condition}
-use Rattle.rk_keys.specs.declared.key.Condition.TheVariants.{Building, Positive, Negative}
-use Rattle.rk_keys.specs.Key.{key_passes, is_building}
-use Rattle.rk_keys.specs.Known.{new_key, marked, timed}
-use Rattle.rk_keys.specs.Serials.{IsFresh}
-use Rattle.rk_auth.specs.declared.session.Wait.{Wait}
-use Rattle.rk_auth.specs.declared.session.Outcome.{Outcome}
-use Rattle.rk_auth.specs.declared.construction.Stage.{Stage}
-use Rattle.rk_auth.specs.declared.construction.Stage.TheVariants.{Starting, Plain, Piped, Negating}
-use Rattle.rk_auth.specs.declared.construction.Authority.{Authority}
-use Rattle.rk_auth.specs.Sessions.{new_session, session_of, wait_of, stage_of, is_to_launch, assumed_authority}
 use Rattle.rk_auth.specs.Changes as sessions
-use Rattle.rk_auth.specs.Circles.{Leads}
-use Rattle.rk_machine.specs.Event.{Event}
-use Rattle.rk_machine.specs.declared.event.EventOf.TheVariants.{Opened, Asked, Launched, Ended, Collect, Gone}
-use Rattle.rk_machine.specs.declared.event.Ran.{Ran}
 use Rattle.rk_machine.specs.declared.event.Ran.TheVariants as ran
-use Rattle.rk_machine.specs.declared.event.How.{How}
-use Rattle.rk_machine.specs.declared.event.How.TheVariants.{Exit}
-use Rattle.rk_machine.specs.declared.event.Answer.{Answer}
-use Rattle.rk_machine.specs.declared.event.Answer.TheVariants.{Done, Start, Waiting, Negate, Refused}
-use Rattle.rk_machine.specs.World.{World, tidied}
-use Rattle.rk_machine.specs.Allowed.{done, first_of, refused_if, Leaves, Settles}
-use Rattle.rk_machine.specs.Asker.{Asker, asker_of, serial_named, ring_for, ring_refusal, ring_or_none_refusal, key_refusal, own_refusal}
-use Rattle.rk_machine.specs.Links.{linked_in, unlinked_in, cleared_in, full_refusal}
-use Rattle.rk_machine.specs.Search.{Query, block_of}
-use Rattle.rk_machine.specs.Completion.{completed, ended, condition_after}
-use Rattle.rk_machine.specs.Hello.{Greeting, Greets, Hellos, hello_refusal, join_refusal}
-use Rattle.rk_machine.specs.Request.{
-  query,
-  waiting,
-  MeetsBuilding,
-  MeetsPositive,
-  Meets,
-  Misses,
-  Requests,
-  start_refusal,
-  destination_of,
-  subject_of,
-  started,
-  with_key,
-  new_authority,
-}
-use Rattle.rk_machine.specs.KeyAsks.{
-  serial_in,
-  TellsOf,
-  TellsCallout,
-  ReadsKey,
-  Adds,
-  with_key_changed,
-  setting_asked,
-  is_authority,
-  read_refusal,
-  revoke_refusal,
-  timeout_refusal,
-  link_refusal,
-  unlink_refusal,
-  add_refusal,
-}
-use Rattle.rk_machine.specs.Asks.{gate, ask_refusal, assume_refusal, Completes, completion_refusal, Acting, Asking}
-use Rattle.rk_machine.specs.Steps.{open_refusal, opened, may_launch, launched, would_negate, negating, Ends, told_as, collected, gone, Step}
-use Rattle.rk_machine.specs.Laws.{completes}
-use Rattle.rk_machine.specs.Owing.{is_request}
-use Rattle.rk_machine.proofs.Found.Refusals.{not_not, or_left, none_is, first_none, if_none, unless, or_memory, by_option}
+use Rattle.rk_machine.specs.Steps.{launched}
 
 -- the session is there and does not wait
 pub record CanAsk (w : World) (s : SessionId) : Type 0 where

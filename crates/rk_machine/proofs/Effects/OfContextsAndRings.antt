@@ -1,67 +1,21 @@
 -- What a step is to the clients' contexts, the rings and the authorities.
-use Rattle.std.proofs.Common.{◌≡◌, ◌⊎◌, ℕ, Bool, true, false, cond, ◌&&◌, List, refl, sym, ap, ◌∙◌, subst, inl, inr}
-use Rattle.std.specs.Prelude.{Option, Some, None, nat_eq, nat_le, unwrap_or}
-use Rattle.std.specs.Option.{option_map_or}
+use Rattle.rk_machine.proofs.Words.{◌≡◌, ℕ, ◌∙◌, ◌⊎◌, ◌&&◌, Bool, true, false, cond, refl, ap, sym, inl, inr, subst, List, option_map_or, Option, Some, None}
+use Rattle.rk_machine.proofs.Words.{nat_eq, unwrap_or, nat_le, Context, Errno, SessionId, Client, Ask, Rings, Negative, without_link, without_links}
+use Rattle.rk_machine.proofs.Words.{session_changed, spent, with_construction, with_context, with_wait, with_setting, with_assumed, Sessions, unspent}
+use Rattle.rk_machine.proofs.Words.{new_session, Authority, Plain, Piped, Negating, Session, Asker, asker_of, Event, is_done, Root, goes, starter_in, hello_in}
+use Rattle.rk_machine.proofs.Words.{unlinked_in, cleared_in, query, subject_of, Query, context_of, goes_with, World, tidied, Answer, Done, Start, Refused}
+use Rattle.rk_machine.proofs.Words.{Asked, true_false, was_some, none_is, and_false}
 use Rattle.std.specs.FinMap as map
-use Rattle.rk_names.specs.declared.context.Context.{Context}
-use Rattle.rk_names.specs.declared.errors.Errno.{Errno}
 use Rattle.rk_names.specs.declared.errors.KeyError.TheVariants as error
-use Rattle.rk_names.specs.declared.numbers.SessionId.{SessionId}
-use Rattle.rk_names.specs.declared.numbers.SessionId.TheVariants.{Client}
-use Rattle.rk_message.specs.Ask.{Ask}
 use Rattle.rk_message.specs.declared.ask.AskOf.TheVariants as ask
-use Rattle.rk_message.specs.declared.reply.Reply.TheVariants.{Rings}
-use Rattle.rk_keys.specs.declared.key.Condition.TheVariants.{Negative}
-use Rattle.rk_rings.specs.Ring.{without_link, without_links}
-use Rattle.rk_auth.specs.declared.session.Session.{Session}
-use Rattle.rk_auth.specs.declared.construction.Stage.TheVariants.{Plain, Piped, Negating}
-use Rattle.rk_auth.specs.declared.construction.Authority.{Authority}
-use Rattle.rk_auth.specs.Sessions.{Sessions, new_session, unspent}
-use Rattle.rk_auth.specs.Changes.{session_changed, with_wait, with_context, with_setting, with_assumed, with_construction, spent}
-use Rattle.rk_machine.specs.Event.{Event}
-use Rattle.rk_machine.specs.declared.event.EventOf.TheVariants.{Asked}
-use Rattle.rk_machine.specs.declared.event.Answer.{Answer}
-use Rattle.rk_machine.specs.declared.event.Answer.TheVariants.{Done, Start, Refused}
-use Rattle.rk_machine.specs.World.{World, tidied}
-use Rattle.rk_machine.specs.Asker.{Asker, asker_of}
-use Rattle.rk_machine.specs.Links.{unlinked_in, cleared_in}
-use Rattle.rk_machine.specs.Search.{Query}
-use Rattle.rk_machine.specs.Request.{query, subject_of}
-use Rattle.rk_machine.specs.Steps.{context_of, goes_with}
-use Rattle.rk_machine.specs.Laws.{Root, is_done, goes, starter_in, hello_in}
-use Rattle.rk_machine.proofs.Found.Refusals.{none_is, and_false}
-use Rattle.rk_machine.proofs.Effects.KindsOfStep.{
-  Effect,
-  authority_for,
-  refused,
-  still,
-  took,
-  came,
-  went,
-  greets,
-  begins,
-  joins,
-  links,
-  unlinks,
-  marks,
-  tells,
-  sets,
-  adds,
-  assumes,
-  concludes,
-  ran_plain,
-  ran_piped,
-  negates,
-  failed,
-  finished,
-}
+use Rattle.rk_machine.proofs.Effects.KindsOfStep.{Effect, authority_for, refused, still, took, came, went, greets, begins, joins, links, unlinks, marks, tells}
+use Rattle.rk_machine.proofs.Effects.KindsOfStep.{sets, adds, assumes, concludes, ran_plain, ran_piped, negates, failed, finished}
 use Rattle.rk_machine.proofs.Effects.HelloChanges.{greeted_sessions}
 use Rattle.rk_machine.proofs.Effects.AuthoritiesAfter.{unspent_changed, unspent_launched, unspent_concluded, unspent_ended, unspent_issued}
 use Rattle.rk_machine.proofs.Effects.RingsAfter.{kind_at, kind_linked, kind_dropped}
 use Rattle.rk_machine.proofs.Effects.ContextsAfter.{context_at, context_kept, context_announced, context_ended, context_came, context_given, context_gone}
 use Rattle.rk_machine.proofs.Effects.WhoActs.{no_context}
 use Rattle.rk_machine.proofs.Effects.HelloMakesRings.{Sound, Made, made_all, greeted_as}
-use Rattle.rk_machine.proofs.Found.Options.{was_some}
 
 -- what a HELLO that gives this context is answered
 abbrev pub root_in : Context → Root
@@ -117,9 +71,6 @@ pub data Move (old : World) (e : Event) (a : Answer) (new : World) : Type 0 wher
 abbrev pub is_rings : Answer → Bool
 is_rings (Done (Rings thread process session user)) = true
 is_rings _ = false
-
-true_false : true ≡ false → ⊥
-true_false e = cc
 
 no_hello : (n : ℕ) (e : Event) (a : Answer) → is_rings a ≡ false → hello_in n e a ≡ None
 no_hello n (Asked (Client m) (ask.Hello hello)) (Done (Rings thread process session user)) h = absurd (true_false h)

@@ -1,87 +1,23 @@
 -- What a step is to one construction.
-use Rattle.std.proofs.Common.{◌≡◌, ◌⊎◌, ℕ, Bool, true, false, cond, ◌&&◌, [], ◌∷◌, refl, sym, ap, ◌∙◌, inl, inr}
-use Rattle.std.specs.Prelude.{Option, Some, None, ℤ, pos, negsuc, nat_eq, not, is_some, is_none, option_map, option_and_then, ◌==◌, if◌then◌else◌}
-use Rattle.std.specs.Option.{option_map_or}
-use Rattle.std.specs.Ordering.{nat_cmp}
+use Rattle.rk_machine.proofs.Words.{◌≡◌, ℕ, ◌∙◌, ◌&&◌, ◌∷◌, Bool, true, false, cond, refl, ap, sym, not, subst, [], option_map_or, nat_cmp, ℤ, ◌==◌, Option}
+use Rattle.rk_machine.proofs.Words.{Some, None, nat_eq, is_some, option_map, option_and_then, is_none, pos, negsuc, eqb-true, eq-eqb, SessionId, Client}
+use Rattle.rk_machine.proofs.Words.{Handler, Ask, Number, Bytes, Condition, Key, spent, with_construction, with_context, with_wait, with_setting, new_wait}
+use Rattle.rk_machine.proofs.Words.{Sessions, unspent, new_session, session_of, stage_of, is_to_launch, assumed_authority, handler_in, Authority, Construction}
+use Rattle.rk_machine.proofs.Words.{Stage, Starting, Plain, Piped, Negating, Outcome, Found, Failed, Session, refused_if, done, first_of, Asker, asker_of}
+use Rattle.rk_machine.proofs.Words.{serial_named, client_asker, assumed_asker, handler_asker, assume_refusal, announced, sessions_ended, keys_ended, ended}
+use Rattle.rk_machine.proofs.Words.{Event, is_done, same_session, completes, starts_by, negates_by, launches, ends, completes_by, assumed_at, told_as, World}
+use Rattle.rk_machine.proofs.Words.{drawn, Answer, Done, Waiting, Refused, Asked, Collect, true_false, some_same, not_not, if_none, first_none, and_false}
+use Rattle.rk_machine.proofs.Words.{some_is}
 use Rattle.std.specs.FinMap as map
-use Rattle.std.proofs.lemmas.Bool.{eqb-true, eq-eqb}
-use Rattle.rk_names.specs.declared.numbers.SessionId.{SessionId}
-use Rattle.rk_names.specs.declared.numbers.SessionId.TheVariants.{Client, Handler}
 use Rattle.rk_names.specs.declared.errors.Errno.TheVariants as errno
-use Rattle.rk_message.specs.Ask.{Ask}
 use Rattle.rk_message.specs.declared.ask.AskOf.TheVariants as ask
-use Rattle.rk_keys.specs.declared.key.Key.{Key}
-use Rattle.rk_names.specs.declared.errors.KeyError.TheVariants as error
-use Rattle.rk_message.specs.declared.reply.Reply.TheVariants.{Bytes}
-use Rattle.rk_keys.specs.declared.key.Condition.{Condition}
-use Rattle.rk_keys.specs.declared.key.Condition.TheVariants.{Negative}
-use Rattle.rk_auth.specs.declared.session.Session.{Session}
-use Rattle.rk_auth.specs.declared.session.Outcome.{Outcome}
-use Rattle.rk_auth.specs.declared.session.Outcome.TheVariants.{Found, Failed}
-use Rattle.rk_auth.specs.declared.construction.Stage.{Stage}
-use Rattle.rk_auth.specs.declared.construction.Stage.TheVariants.{Starting, Plain, Piped, Negating}
-use Rattle.rk_auth.specs.declared.construction.Authority.{Authority}
-use Rattle.rk_auth.specs.declared.construction.Construction.{Construction}
-use Rattle.rk_auth.specs.Sessions.{Sessions, new_session, session_of, stage_of, is_to_launch, handler_in, unspent, assumed_authority}
-use Rattle.rk_auth.specs.Changes.{spent, all_told, with_context}
-use Rattle.rk_machine.specs.Event.{Event}
-use Rattle.rk_machine.specs.declared.event.EventOf.TheVariants.{Opened, Asked, Launched, Ended, Collect, Gone}
-use Rattle.rk_machine.specs.declared.event.Ran.TheVariants as ran
-use Rattle.rk_machine.specs.declared.event.Answer.{Answer}
-use Rattle.rk_machine.specs.declared.event.Answer.TheVariants.{Done, Waiting, Refused}
-use Rattle.rk_machine.specs.World.{World, tidied, drawn}
-use Rattle.rk_machine.specs.Allowed.{done, first_of, refused_if}
-use Rattle.rk_machine.specs.Asker.{Asker, asker_of, client_asker, assumed_asker, handler_asker, serial_named}
-use Rattle.rk_machine.specs.Links.{unlinked_in, cleared_in}
-use Rattle.rk_machine.specs.Completion.{announced, outcome_of, ended, sessions_ended, keys_ended}
-use Rattle.rk_machine.specs.Asks.{assume_refusal}
-use Rattle.rk_machine.specs.Steps.{told_as}
-use Rattle.rk_machine.specs.Laws.{is_done, starts_by, negates_by, launches, ends, completes_by, completes, assumed_at, same_session}
-use Rattle.rk_machine.proofs.Found.Refusals.{not_not, and_false, if_none, first_none, some_is}
-use Rattle.rk_machine.proofs.Effects.KindsOfStep.{
-  Effect,
-  CanAsk,
-  refused,
-  still,
-  took,
-  came,
-  went,
-  greets,
-  begins,
-  joins,
-  links,
-  unlinks,
-  marks,
-  tells,
-  sets,
-  adds,
-  assumes,
-  concludes,
-  ran_plain,
-  ran_piped,
-  negates,
-  failed,
-  finished,
-}
-use Rattle.rk_machine.proofs.Effects.DrawnSerials.{is_drawn, drawn_now}
-use Rattle.rk_machine.proofs.Effects.HelloChanges.{greeted_sessions}
-use Rattle.rk_machine.proofs.Effects.StagesAfter.{
-  Shape,
-  is_first,
-  shape,
-  shape_of,
-  first_shape,
-  as_spent,
-  as_staged,
-  as_assumed,
-  shape_session,
-  shape_told,
-  shape_assumed,
-  shape_spent,
-  shape_launched,
-  shape_removed,
-  shape_issued,
-}
+use Rattle.rk_machine.proofs.Effects.DrawnSerials.{is_drawn}
+use Rattle.rk_machine.proofs.Effects.StagesAfter.{Shape, is_first, shape, shape_of, first_shape, as_spent, as_staged, as_assumed, shape_session, shape_told}
+use Rattle.rk_machine.proofs.Effects.StagesAfter.{shape_assumed, shape_spent, shape_launched, shape_removed, shape_issued}
+use Rattle.rk_machine.proofs.Effects.KindsOfStep.{Effect}
+use Rattle.rk_machine.proofs.Effects.OfSessions.{InSessions, in_sessions, is_refused, collects, greeted, starts, waits_for, answered, told, is_set, assumed}
+use Rattle.rk_machine.proofs.Effects.OfSessions.{concluded, runs_plain, runs_piped, follows, not_run, ends as end_of}
+use Rattle.rk_machine.proofs.Effects.LeftByOutcomes.{left_announced}
 
 -- ---- what the laws test of a step
 
@@ -115,89 +51,48 @@ and_true : (a : Bool) → (a && true) ≡ a
 and_true true = refl
 and_true false = refl
 
--- an answer that starts nothing, and negates nothing
-IsCalm : ℕ → Answer → Type 0
-IsCalm q a = (starts_by a q ≡ false) × (negates_by a q ≡ false)
-
-calm : (q : ℕ) (a given : Answer) → a ≡ given → starts_by given q ≡ false → negates_by given q ≡ false → IsCalm q a
-unfolding IsCalm
-calm q a given is st ng = (ap (λ y. starts_by y q) is ∙ st, ap (λ y. negates_by y q) is ∙ ng)
-
--- nothing of it
-no_tests : (q : ℕ) (e : Event) (a : Answer) → IsCalm q a → launches e q ≡ false → ends e q ≡ false → completes_by e q ≡ false → assumed_at q e a ≡ None
-    → tests q e a ≡ none_of
-unfolding IsCalm
-no_tests q e a st la en co idle =
-    λ i. record {
-      start = st.0 i;
-      negate = st.1 i;
-      launch = and_false (is_done a) _ la i;
-      ending = and_false (is_done a) _ en i;
-      completion = and_false
-          (is_done a) _ co i;
-      assumed = idle i;
-    }
-
-assumed_done : (q : ℕ) (e : Event) (a : Answer) → is_done a ≡ false → assumed_at q e a ≡ None
-assumed_done q (Asked s (ask.Assume key)) a h = ap (λ b. cond b (Some key) None) (and_false (same_session s (Handler q)) (is_done a) h)
-assumed_done q _ a h = refl
-
--- what is not answered Number 0, and is no start, is nothing
-undone : (q : ℕ) (e : Event) (a : Answer) → is_done a ≡ false → IsCalm q a → tests q e a ≡ none_of
-unfolding IsCalm
-undone q e a h st =
-    λ i. record {
-      start = st.0 i;
-      negate = st.1 i;
-      launch = h i && launches e q;
-      ending = h i && ends e q;
-      completion = h i
-          && completes_by e q;
-      assumed = assumed_done q e a h i;
-    }
-
-undone_as : (q : ℕ) (e : Event) (a given : Answer) → a ≡ given → is_done given ≡ false → starts_by given q ≡ false → negates_by given q ≡ false
-    → tests q e a ≡ none_of
-undone_as q e a given is h st ng = ap (tests q e) is ∙ undone q e given h (calm q given given refl st ng)
-
-IsNoAssume : Ask → Type 0
-IsNoAssume x = (key : ℤ) → ¬ (x ≡ ask.Assume key)
-
-not_assumed : (q : ℕ) (s : SessionId) (x : Ask) (a : Answer) → IsNoAssume x → assumed_at q (Asked s x) a ≡ None
-unfolding IsNoAssume
+not_assumed : (q : ℕ) (s : SessionId) (x : Ask) (a : Answer) → ((key : ℤ) → ¬ (x ≡ ask.Assume key)) → assumed_at q (Asked s x) a ≡ None
 not_assumed q s (ask.Assume key) a h = absurd (h key refl)
 not_assumed q s _ a h = refl
 
-no_assume_at : (q : ℕ) (s : SessionId) (x : Ask) (a : Answer) → ((key : ℤ) → ¬ (x ≡ ask.Assume key)) → assumed_at q (Asked s x) a ≡ None
-unfolding IsNoAssume
-no_assume_at q s x a h = not_assumed q s x a h
+-- nothing is assumed by what is not answered Number 0
+undone : (q : ℕ) (e : Event) (a : Answer) → is_done a ≡ false → assumed_at q e a ≡ None
+undone q (Asked s (ask.Assume key)) a h = ap (λ b. cond b (Some key) None) (and_false (same_session s (Handler q)) (is_done a) h)
+undone q _ a h = refl
 
--- an ask that completes nothing
-no_completion : (q : ℕ) (s : SessionId) (x : Ask) (e : Event) (a : Answer) → e ≡ Asked s x → completes x q ≡ false → IsCalm q a
-    → assumed_at q (Asked s x) a ≡ None → tests q e a ≡ none_of
-no_completion q s x e a is co st idle = ap (λ (y : Event). tests q y a) is ∙ no_tests q (Asked s x) a st refl refl co idle
+-- nor is anything done by what completes and assumes nothing
+nothing_done : (done completes : Bool) (m : Option ℤ) → completes ≡ false → m ≡ None
+    → ◌≡◌ {A = Tests} (record {
+      start = false;
+      negate = false;
+      launch = done && false;
+      ending = done && false;
+      completion = done && completes;
+      assumed = m;
+    }) none_of
+nothing_done true completes m h none = λ i. record none_of { completion = h i; assumed = none i }
+nothing_done false completes m h none = λ i. record none_of { assumed = none i }
+
+told_nothing : (q : ℕ) (s : SessionId) (o : Outcome) → tests q (Collect s) (told_as o) ≡ none_of
+told_nothing q s (Found k) = nothing_done (k == 0) false None refl refl
+told_nothing q s (Failed error) = refl
 
 -- ---- a turn of one construction
 
--- what a step is to the construction of q, in few cases: from its shape before to that after
-pub data Turn (q : ℕ) (drawn drawn_after : Bool) (its_own : Type 0) (t : Tests) (o n : Option Shape) : Type 0 where
-  quiet : t ≡ none_of → n ≡ o → Turn q drawn drawn_after its_own t o n
-  starts : drawn ≡ false → drawn_after ≡ true → t ≡ record { start = true; negate = false; launch = false; ending = false; completion = false; assumed = None }
-      → n ≡ Some first_shape → Turn q drawn drawn_after its_own t o n
-  launched_now : (x : Shape) (st : Stage) → t ≡ record { start = false; negate = false; launch = true; ending = false; completion = false; assumed = None }
-      → o ≡ Some x → x.starting ≡ true
-      → is_to_launch (Some st) ≡ false → (is_first st ≡ true → x.first ≡ true) → n ≡ Some (as_staged st x) → Turn q drawn drawn_after its_own t o n
-  negated_now : (x : Shape) → t ≡ record { start = false; negate = true; launch = false; ending = false; completion = false; assumed = None } → o ≡ Some x
-      → x.starting ≡ false → x.first ≡ true → x.unspent ≡ true
-      → n ≡ Some (as_staged Negating x) → Turn q drawn drawn_after its_own t o n
-  failed_now : (x : Shape) → t ≡ record { start = false; negate = false; launch = true; ending = true; completion = false; assumed = None } → o ≡ Some x
-      → x.starting ≡ true → n ≡ None → Turn q drawn drawn_after its_own t o n
-  ended_now : (x : Shape) → t ≡ record { start = false; negate = false; launch = false; ending = true; completion = false; assumed = None } → o ≡ Some x
-      → x.starting ≡ false → n ≡ None → Turn q drawn drawn_after its_own t o n
-  completed_now : (x : Shape) → its_own → t ≡ record { start = false; negate = false; launch = false; ending = false; completion = true; assumed = None }
-      → o ≡ Some x → x.assumed ≡ Some q → n ≡ Some (as_spent x) → Turn q drawn drawn_after its_own t o n
-  assumed_now : (x : Shape) (key : ℤ) (m : Option ℕ) → t ≡ record none_of { assumed = Some key } → m ≡ serial_named key → o ≡ Some x → x.starting ≡ false
-      → ((k : ℕ) → m ≡ Some k → (k ≡ q) × (x.unspent ≡ true)) → n ≡ Some (as_assumed m x) → Turn q drawn drawn_after its_own t o n
+-- what a step is to the construction of q, in few cases: what the laws test of it, and the construction's shape before and after
+pub data Turn (q : ℕ) (drawn drawn_after : Bool) (its_own : Type 0) : Tests → Option Shape → Option Shape → Type 0 where
+  quiet : {o : Option Shape} → Turn q drawn drawn_after its_own none_of o o
+  started_now : {o : Option Shape} → drawn ≡ false → drawn_after ≡ true → Turn q drawn drawn_after its_own (record none_of { start = true }) o (Some first_shape)
+  launched_now : (x : Shape) (st : Stage) → x.starting ≡ true → is_to_launch (Some st) ≡ false → (is_first st ≡ true → x.first ≡ true)
+      → Turn q drawn drawn_after its_own (record none_of { launch = true }) (Some x) (Some (as_staged st x))
+  negated_now : (x : Shape) → x.starting ≡ false → x.first ≡ true → x.unspent ≡ true
+      → Turn q drawn drawn_after its_own (record none_of { negate = true }) (Some x) (Some (as_staged Negating x))
+  failed_now : (x : Shape) → x.starting ≡ true → Turn q drawn drawn_after its_own (record none_of { launch = true; ending = true }) (Some x) None
+  ended_now : (x : Shape) → x.starting ≡ false → Turn q drawn drawn_after its_own (record none_of { ending = true }) (Some x) None
+  completed_now : (x : Shape) → its_own → x.assumed ≡ Some q
+      → Turn q drawn drawn_after its_own (record none_of { completion = true }) (Some x) (Some (as_spent x))
+  assumed_now : (x : Shape) (key : ℤ) → x.starting ≡ false → ((k : ℕ) → serial_named key ≡ Some k → (k ≡ q) × (x.unspent ≡ true))
+      → Turn q drawn drawn_after its_own (record none_of { assumed = Some key }) (Some x) (Some (as_assumed (serial_named key) x))
 
 -- its own handler asks
 abbrev pub IsOwnAsk : ℕ → Event → Type 0
@@ -216,9 +111,6 @@ Goods a = (q : ℕ) → Good q (shape_of a q)
 abbrev at : World → ℕ → Option Shape
 at w q = shape_of w.sessions q
 
-same_at : (new mid : World) (q : ℕ) (o : Option Shape) → new ≡ mid → at mid q ≡ o → at new q ≡ o
-same_at new mid q o e h = ap (λ (w : World). at w q) e ∙ h
-
 -- with one key in it, a step is a turn of that key and quiet for the others
 pub by_key : (k q : ℕ) (P : Type 0) → (k ≡ q → nat_eq k q ≡ true → P) → (nat_eq k q ≡ false → P) → P
 by_key k q P here other = elim (nat_eq k q) as (λ b. nat_eq k q ≡ b → P) [ true ↦ λ e. here (eqb-true k q e) e | false ↦ λ e. other e ] refl
@@ -236,14 +128,10 @@ some_of a k st h = found (map.get a.constructions k) refl h
     found None is e = absurd (cc)
     found (Some c) is e = (shape c, ap (option_map shape) is, ap is_to_launch e, ap firsts e)
 
-pub shape_announced : (now k : ℕ) (keys : map.FinMap nat_cmp Key) (a : Sessions) (q : ℕ) → shape_of (announced now k keys a) q ≡ shape_of a q
-shape_announced now k keys a q = told_or_not (map.get keys k)
-  where
-    told_or_not : (o : Option Key) → shape_of (option_map_or (λ key. all_told k (outcome_of k key now) a) o a) q ≡ shape_of a q
-    told_or_not None = refl
-    told_or_not (Some key) = shape_told k (outcome_of k key now) a q
+shape_announced : (now k : ℕ) (keys : map.FinMap nat_cmp Key) (a : Sessions) (q : ℕ) → shape_of (announced now k keys a) q ≡ shape_of a q
+shape_announced now k keys a q = left_announced (λ b. shape_of b q) (λ j o b. shape_told j o b q) now k keys a
 
-pub shape_settled : (now k : ℕ) (condition : Condition) (w : World) (q : ℕ) → nat_eq k q ≡ false → shape_of (sessions_ended now k condition w) q ≡ at w q
+shape_settled : (now k : ℕ) (condition : Condition) (w : World) (q : ℕ) → nat_eq k q ≡ false → shape_of (sessions_ended now k condition w) q ≡ at w q
 shape_settled now k condition w q other = spent_or_not (is_some (unspent w.sessions k))
   where
     spent_or_not : (b : Bool) → shape_of (cond b (announced now k (keys_ended now k condition w) (spent k w.sessions)) w.sessions) q ≡ at w q
@@ -252,14 +140,12 @@ shape_settled now k condition w q other = spent_or_not (is_some (unspent w.sessi
         ∙ ap (λ b. cond b (option_map as_spent (at w q)) (at w q)) other
     spent_or_not false = refl
 
-pub shape_ended : (now k : ℕ) (condition : Condition) (w : World) (q : ℕ) → nat_eq k q ≡ false → at (tidied (ended now k condition w)) q ≡ at w q
-shape_ended now k condition w q other =
-    shape_removed k (sessions_ended now k condition w) q ∙ ap (λ b. cond b None (shape_of (sessions_ended now k condition w) q)) other
-    ∙ shape_settled now k condition w q other
-
-pub shape_gone : (now k : ℕ) (condition : Condition) (w : World) (q : ℕ) → nat_eq k q ≡ true → at (tidied (ended now k condition w)) q ≡ None
-shape_gone now k condition w q same =
-    shape_removed k (sessions_ended now k condition w) q ∙ ap (λ b. cond b None (shape_of (sessions_ended now k condition w) q)) same
+shape_ended : (now k : ℕ) (condition : Condition) (w : World) (q : ℕ) → shape_of (ended now k condition w).sessions q ≡ cond (nat_eq k q) None (at w q)
+shape_ended now k condition w q = shape_removed k (sessions_ended now k condition w) q ∙ by_test (nat_eq k q) refl
+  where
+    by_test : (b : Bool) → nat_eq k q ≡ b → cond b None (shape_of (sessions_ended now k condition w) q) ≡ cond b None (at w q)
+    by_test true same = refl
+    by_test false other = shape_settled now k condition w q other
 
 -- who completes a key is a handler that runs and has assumed that key's authority
 pub concluder : (w : World) (s : SessionId) (asker : Asker) (k : ℕ) → asker_of w s ≡ Some asker → asker.assumed ≡ Some k
@@ -304,27 +190,26 @@ concluder w (Handler j) asker k is own = handler (map.get w.sessions.constructio
 
 -- ---- the turn of each step
 
-module _ (old : World) (now : ℕ) (e : Event) (a : Answer) (new : World) where
-  -- the constructions are as they were
-  rests : (q : ℕ) → tests q e a ≡ none_of → at new q ≡ at old q → Turn q (is_drawn old q) (is_drawn new q) (IsOwnAsk q e) (tests q e a) (at old q) (at new q)
-  rests q t h = quiet t h
+module _ (q : ℕ) (drawn drawn_after : Bool) (its_own : Type 0) where
+  abbrev To : Tests → Option Shape → Option Shape → Type 0
+  To t o n = Turn q drawn drawn_after its_own t o n
 
-  not_start : (b : Bool) (q : ℕ) (k : ℕ) → nat_eq k q ≡ b
-      → tests q e a ≡ record { start = nat_eq k q; negate = false; launch = false; ending = false; completion = false; assumed = None }
-      → tests q e a ≡ record { start = b; negate = false; launch = false; ending = false; completion = false; assumed = None }
-  not_start b q k is t = t ∙ (λ i. record { start = is i; negate = false; launch = false; ending = false; completion = false; assumed = None })
+  turned : (t u : Tests) (o n m : Option Shape) → t ≡ u → n ≡ m → To u o m → To t o n
+  turned t u o n m tests_are after turn = subst (λ (x : Tests). To x o n) (sym tests_are) (subst (λ (y : Option Shape). To u o y) (sym after) turn)
 
-told_none : (outcome : Outcome) (q : ℕ) → starts_by (told_as outcome) q ≡ false
-told_none (Found k) q = refl
-told_none (Failed error) q = refl
+  rests : (t : Tests) (o n : Option Shape) → t ≡ none_of → n ≡ o → To t o n
+  rests t o n none same = turned t none_of o n o none same quiet
 
-told_calm : (outcome : Outcome) (q : ℕ) → negates_by (told_as outcome) q ≡ false
-told_calm (Found k) q = refl
-told_calm (Failed error) q = refl
+  -- a step with the key k in it is a turn of that key, and quiet for the others
+  of_key : (k : ℕ) (of : Bool → Tests) (m : Option Shape → Option Shape) (t : Tests) (o n : Option Shape) → of false ≡ none_of → t ≡ of (nat_eq k q)
+      → n ≡ cond (nat_eq k q) (m o) o → (k ≡ q → To (of true) o (m o)) → To t o n
+  of_key k of m t o n none is moved turn =
+      by_key k q (To t o n) (λ same at. turned t (of true) o n (m o) (is ∙ ap of at) (moved ∙ ap (λ b. cond b (m o) o) at) (turn same))
+      (λ at. rests t o n (is ∙ ap of at ∙ none) (moved ∙ ap (λ b. cond b (m o) o) at))
 
--- a handler that may ask is there
-there_is : (w : World) (s : SessionId) → CanAsk w s → (one : Session) × (session_of w.sessions s ≡ Some one)
-there_is w s can = some_is (session_of w.sessions s) can.there
+  -- of a construction of this shape
+  shaped : (x : Shape) (m : Option Shape → Option Shape) (t : Tests) (o : Option Shape) → o ≡ Some x → To t (Some x) (m (Some x)) → To t o (m o)
+  shaped x m t o is turn = subst (λ (y : Option Shape). To t y (m y)) (sym is) turn
 
 running_shape : (w : World) (j : ℕ) (one : Session) → session_of w.sessions (Handler j) ≡ Some one → (x : Shape) × (at w j ≡ Some x) × (x.starting ≡ false)
 running_shape w j one is = found (map.get w.sessions.constructions j) refl is
@@ -357,9 +242,6 @@ assumed_own : (w : World) (j : ℕ) (key : ℤ) (x : Shape) → at w j ≡ Some 
 assumed_own w j (negsuc n) x is h k e = absurd (cc)
 assumed_own w j (pos n) x is h k e = named n (n == 0) h e
   where
-    some_same : {m n : ℕ} → Some m ≡ Some n → m ≡ n
-    some_same e = cc
-
     named : (n : ℕ) (b : Bool) → cond b None (first_of (refused_if (not (n == j)) errno.Enokey ∷ refused_if (is_none (unspent w.sessions j)) errno.Ekeyrevoked
         ∷ [])) ≡ None → cond b None (Some n) ≡ Some k → (k ≡ j) × (x.unspent ≡ true)
     named n true h e = absurd (cc)
@@ -368,153 +250,83 @@ assumed_own w j (pos n) x is h k e = named n (n == 0) h e
         let two = (first_none (refused_if (is_none (unspent w.sessions j)) errno.Ekeyrevoked) _ one.1).0 in
         (sym (some_same e) ∙ eqb-true n j (not_not _ (if_none _ errno.Enokey one.0)), unspent_shape w j x is (if_none _ errno.Ekeyrevoked two))
 
-unlinked_at : (old new : World) (ring : Option ℕ) (k q : ℕ) → (new ≡ tidied (unlinked_in ring k old)) ⊎ (new ≡ tidied (cleared_in ring old))
-    → at new q ≡ at old q
-unlinked_at old new ring k q (inl h) = same_at new _ q _ h refl
-unlinked_at old new ring k q (inr h) = same_at new _ q _ h refl
-
-true_false : true ≡ false → ⊥
-true_false e = cc
-
-and_left : (a b : Bool) → (a && b) ≡ true → a ≡ true
-and_left true b h = refl
-and_left false b h = h
-
 some_none : (o : Option Authority) → is_some o ≡ true → is_none o ≡ false
 some_none None h = absurd (true_false (sym h))
 some_none (Some x) h = refl
 
-launch_turn : (old new : World) (e : Event) (a : Answer) (k q : ℕ) (st : Stage)
-    → tests q e a ≡ record { start = false; negate = false; launch = nat_eq k q; ending = false; completion = false; assumed = None }
-    → (found : (x : Shape) × (shape_of old.sessions k ≡ Some x) × (x.starting ≡ true)) → is_to_launch (Some st) ≡ false
-    → (is_first st ≡ true → found.0.first ≡ true)
-    → ((b : Bool) → nat_eq k q ≡ b → at new q ≡ cond b (option_map (as_staged st) (at old q)) (at old q))
-    → Turn q (is_drawn old q) (is_drawn new q) (IsOwnAsk q e) (tests q e a) (at old q) (at new q)
-launch_turn old new e a k q st t found runs firsts moved =
-    by_key k q _
-    (λ same is. let here : at old q ≡ Some found.0 = ap (at old) (sym same) ∙ found.1 in
-    launched_now found.0 st (t ∙ (λ i. record { start = false; negate = false; launch = is i; ending = false; completion = false; assumed = None })) here
-    found.2 runs firsts (moved true is ∙ ap (option_map (as_staged st)) here))
-    (λ is. quiet (t ∙ (λ i. record { start = false; negate = false; launch = is i; ending = false; completion = false; assumed = None })) (moved false is))
-
 -- every step is one of the turns of each construction
 pub turns : (old : World) (now : ℕ) (e : Event) (a : Answer) (new : World) → Effect old now e a new → Goods old.sessions → (q : ℕ)
     → Turn q (is_drawn old q) (is_drawn new q) (IsOwnAsk q e) (tests q e a) (at old q) (at new q)
-turns old now e a new (refused error ra w free) g q = quiet (undone_as q e a (Refused error) ra refl refl refl) (ap (λ v. at v q) w)
-turns old now e a new (still s wait ev is ready ra w) g q = quiet (undone_as q e a (Waiting wait.key) ra refl refl refl) (ap (λ v. at v q) w)
-turns old now e a new (took s wait outcome ev is ready ra w) g q =
-    quiet (ap (λ y. tests q y a) ev ∙ no_tests q (Collect s) a (calm q a _ ra (told_none outcome q) (told_calm outcome q)) refl refl refl refl)
-    (same_at new _ q _ w (shape_session s _ (λ x. refl) old.sessions q))
-turns old now e a new (came n ev fresh ra w) g q =
-    quiet (ap (λ y. tests q y a) ev ∙ no_tests q (Opened (Client n)) a (calm q a _ ra refl refl) refl refl refl refl) (same_at new _ q _ w refl)
-turns old now e a new (went n ev there ra w) g q =
-    quiet (ap (λ y. tests q y a) ev ∙ no_tests q (Gone (Client n)) a (calm q a _ ra refl refl) refl refl refl refl) (same_at new _ q _ w refl)
-turns old now e a new (greets n hello ev can none joined h) g q =
-    quiet (no_completion q (Client n) (ask.Hello hello) e a ev refl (calm q a _ h.6.0 refl refl) refl)
-    (same_at new _ q _ h.6.1 (shape_session (Client n) (with_context (record { uid = hello.uid; gid = hello.gid; thread = h.0; process = h.1; session = h.2; user = h.3 }))
-    (λ x. refl) h.4.sessions q ∙ ap (λ (s : Sessions). shape_of s q) (greeted_sessions _ old h.4 h.0 h.1 h.2 h.3 h.5)))
-turns old now e a new (begins s asker typ description callout r ring k ev can is depth fresh ra w) g q =
-    let x : Ask = ask.Request typ description (Some callout) r in
-    let t : tests q e a ≡ record { start = nat_eq k q; negate = false; launch = false; ending = false; completion = false; assumed = None } =
-    ap (λ y. tests q y a) ev ∙ ap (tests q (Asked s x)) ra in
-    let moved : (b : Bool) → nat_eq k q ≡ b → at new q ≡ cond b (Some first_shape) (at old q) =
-    λ b is. same_at new _ q _ w (shape_session s _ (λ x. refl) _ q ∙ shape_issued k _ old.sessions q ∙ ap (λ b. cond b (Some first_shape) (at old q)) is) in
-    by_key k q _ (λ same is. starts (ap (is_drawn old) (sym same) ∙ fresh.unused)
-    (ap (λ (v : World). is_drawn v q) w ∙ ap (is_drawn (drawn k old)) (sym same) ∙ drawn_now k old) (not_start old now e a new true q k is t)
-    (moved true is)) (λ is. quiet (not_start old now e a new false q k is t) (moved false is))
-turns old now e a new (joins s x ring k ev asks can building apart ra w) g q =
-    quiet (undone_as q e a (Waiting k) ra refl refl refl) (same_at new _ q _ w (shape_session s _ (λ x. refl) old.sessions q))
-turns old now e a new (links s x ring k n ev completes_none not_assume ra w) g q =
-    quiet (no_completion q s x e a ev (completes_none q) (calm q a _ ra refl refl) (no_assume_at q s x a not_assume)) (same_at new _ q _ w refl)
-turns old now e a new (unlinks s x ring k ev completes_none not_assume ra w) g q =
-    quiet (no_completion q s x e a ev (completes_none q) (calm q a _ ra refl refl) (no_assume_at q s x a not_assume)) (unlinked_at old new ring k q w)
-turns old now e a new (marks s x k f ev completes_none not_assume mild ra w) g q =
-    quiet (no_completion q s x e a ev (completes_none q) (calm q a _ ra refl refl) (no_assume_at q s x a not_assume)) (same_at new _ q _ w refl)
-turns old now e a new (tells s x bytes ev ra w) g q = quiet (undone_as q e a (Done (Bytes bytes)) ra refl refl refl) (ap (λ v. at v q) w)
-turns old now e a new (sets s x setting n ev completes_none not_assume can ra w) g q =
-    quiet (no_completion q s x e a ev (completes_none q) (calm q a _ ra refl refl) (no_assume_at q s x a not_assume))
-    (same_at new _ q _ w (shape_session s _ (λ x. refl) old.sessions q))
-turns old now e a new (adds s asker typ description payload r ring k ev fresh ra w) g q =
-    quiet (no_completion q s (ask.Add typ description payload r) e a ev refl (calm q a _ ra refl refl) refl) (same_at new _ q _ w refl)
-turns old now e a new (assumes (Client n) key ev can none ra w) g q =
-    quiet (no_completion q (Client n) (ask.Assume key) e a ev refl (calm q a _ ra refl refl) refl) (same_at new _ q _ w refl)
-turns old now e a new (assumes (Handler j) key ev can none ra w) g q =
-    let t : tests q e a ≡ record none_of { assumed = if nat_eq j q then Some key else None } =
-    ap (λ y. tests q y a) ev ∙ ap (tests q (Asked (Handler j) (ask.Assume key))) ra
-    ∙ (λ i. record none_of { assumed = if and_true (nat_eq j q) i then Some key else None }) in
-    let there = there_is old (Handler j) can in
-    let run = running_shape old j there.0 there.1 in
-    let moved : (b : Bool) → nat_eq j q ≡ b → at new q ≡ cond b (option_map (as_assumed (serial_named key)) (at old q)) (at old q) =
-    λ b is. same_at new _ q _ w (shape_assumed j (serial_named key) old.sessions q there.0 there.1
-    ∙ ap (λ b. cond b (option_map (as_assumed (serial_named key)) (at old q)) (at old q)) is) in
-    by_key j q _
-    (λ same is.
-    let here : at old q ≡ Some run.0 = ap (at old) (sym same) ∙ run.1 in
-    assumed_now run.0 key (serial_named key) (t ∙ (λ i. record none_of { assumed = if is i then Some key else None })) refl here run.2
-    (λ k named. let own = assumed_own old j key run.0 run.1 none k named in (own.0 ∙ same, own.1))
-    (moved true is ∙ ap (option_map (as_assumed (serial_named key))) here))
-    (λ is. quiet (t ∙ (λ i. record none_of { assumed = if is i then Some key else None })) (moved false is))
-turns old now e a new (concludes s x asker ring k condition end ev which can is own final ra w) g q =
-    let t : tests q e a ≡ record { start = false; negate = false; launch = false; ending = false; completion = nat_eq k q; assumed = None } =
-    ap (λ y. tests q y a) ev ∙ ap (tests q (Asked s x)) ra ∙ (λ i. record {
-      start = false;
-      negate = false;
-      launch = false;
-      ending = false;
-      completion = which q i;
-      assumed = no_assume_at q s x done (λ key same. true_false (sym (eq-eqb k k refl) ∙ sym (which k) ∙ ap (λ y. completes y k) same)) i;
-    }) in
-    let found = concluder old s asker k is own in
-    let good = g found.0 found.1 k found.3 found.4 in
-    let moved : (b : Bool) → nat_eq k q ≡ b → at new q ≡ cond b (option_map as_spent (at old q)) (at old q) =
-    λ b is. same_at new _ q _ w (shape_announced now k _ (spent k old.sessions) q ∙ shape_spent k old.sessions q
-    ∙ ap (λ b. cond b (option_map as_spent (at old q)) (at old q)) is) in
-    by_key k q _
-    (λ same is.
-    let here : at old q ≡ Some found.1 = ap (at old) (sym same ∙ good.0) ∙ found.3 in
-    completed_now found.1 (x, ev ∙ ap (λ z. Asked z x) (found.2 ∙ ap Handler (sym good.0 ∙ same)))
-    (t ∙ (λ i. record { start = false; negate = false; launch = false; ending = false; completion = is i; assumed = None })) here
-    (found.4 ∙ ap (λ (n : ℕ). Some n) same) (moved true is ∙ ap (option_map as_spent) here))
-    (λ is. quiet (t ∙ (λ i. record { start = false; negate = false; launch = false; ending = false; completion = is i; assumed = None })) (moved false is))
-turns old now e a new (ran_plain k st ev is launches ra w) g q =
-    let found = some_of old.sessions k st is in
-    launch_turn old new e a k q (Plain new_session) (ap (λ y. tests q y a) ev ∙ ap (tests q (Launched k ran.Plain)) ra)
-    (found.0, found.1, found.2 ∙ launches) refl (λ h. absurd (true_false (sym h)))
-    (λ b at_b. same_at new _ q _ w (shape_launched k (Plain new_session) old.sessions q refl
-    ∙ ap (λ b. cond b (option_map (as_staged (Plain new_session)) (at old q)) (at old q)) at_b))
-turns old now e a new (ran_piped k ev is ra w) g q =
-    let found = some_of old.sessions k Starting is in
-    launch_turn old new e a k q Piped (ap (λ y. tests q y a) ev ∙ ap (tests q (Launched k ran.Piped)) ra) (found.0, found.1, found.2) refl (λ _. found.3)
-    (λ b at_b. same_at new _ q _ w (shape_launched k Piped old.sessions q refl ∙ ap (λ b. cond b (option_map (as_staged Piped) (at old q)) (at old q)) at_b))
-turns old now e a new (negates k how payload ev is fails ra w) g q =
-    let t : tests q e a ≡ record { start = false; negate = nat_eq k q; launch = false; ending = false; completion = false; assumed = None } =
-    ap (λ y. tests q y a) ev ∙ ap (tests q (Ended k how payload)) ra in
-    let found = some_of old.sessions k Piped is in
-    let free : found.0.unspent ≡ true = unspent_shape old k found.0 found.1 (some_none (unspent old.sessions k) (and_left _ _ fails)) in
-    let moved : (b : Bool) → nat_eq k q ≡ b → at new q ≡ cond b (option_map (as_staged Negating) (at old q)) (at old q) =
-    λ b at_b. same_at new _ q _ w (shape_launched k Negating old.sessions q refl
-    ∙ ap (λ b. cond b (option_map (as_staged Negating) (at old q)) (at old q)) at_b) in
-    by_key k q _
-    (λ same at_q. let here : at old q ≡ Some found.0 = ap (at old) (sym same) ∙ found.1 in
-    negated_now found.0 (t ∙ (λ i. record { start = false; negate = at_q i; launch = false; ending = false; completion = false; assumed = None })) here found.2
-    found.3 free (moved true at_q ∙ ap (option_map (as_staged Negating)) here))
-    (λ at_q. quiet (t ∙ (λ i. record { start = false; negate = at_q i; launch = false; ending = false; completion = false; assumed = None }))
-    (moved false at_q))
-turns old now e a new (failed k st ev is launches ra w) g q =
-    let t : tests q e a ≡ record { start = false; negate = false; launch = nat_eq k q; ending = nat_eq k q; completion = false; assumed = None } =
-    ap (λ y. tests q y a) ev ∙ ap (tests q (Launched k ran.Failed)) ra in
-    let found = some_of old.sessions k st is in
-    by_key k q _
-    (λ same at_q. failed_now found.0 (t ∙ (λ i. record { start = false; negate = false; launch = at_q i; ending = at_q i; completion = false; assumed = None }))
-    (ap (at old) (sym same) ∙ found.1) (found.2 ∙ launches) (same_at new _ q _ w (shape_gone now k (Negative error.NoKey) old q at_q)))
-    (λ at_q. quiet (t ∙ (λ i. record { start = false; negate = false; launch = at_q i; ending = at_q i; completion = false; assumed = None }))
-    (same_at new _ q _ w (shape_ended now k (Negative error.NoKey) old q at_q)))
-turns old now e a new (finished k how payload st condition ev is running final ra w) g q =
-    let t : tests q e a ≡ record { start = false; negate = false; launch = false; ending = nat_eq k q; completion = false; assumed = None } =
-    ap (λ y. tests q y a) ev ∙ ap (tests q (Ended k how payload)) ra in
-    let found = some_of old.sessions k st is in
-    by_key k q _
-    (λ same at_q. ended_now found.0 (t ∙ (λ i. record { start = false; negate = false; launch = false; ending = at_q i; completion = false; assumed = None }))
-    (ap (at old) (sym same) ∙ found.1) (found.2 ∙ running) (same_at new _ q _ w (shape_gone now k condition old q at_q)))
-    (λ at_q. quiet (t ∙ (λ i. record { start = false; negate = false; launch = false; ending = at_q i; completion = false; assumed = None }))
-    (same_at new _ q _ w (shape_ended now k condition old q at_q)))
+turns old now e a new is good q = by_case e a new.sessions (in_sessions old now e a new is)
+  where
+    by_case : (e : Event) (a : Answer) (b : Sessions) → InSessions old new now e a b
+        → Turn q (is_drawn old q) (is_drawn new q) (IsOwnAsk q e) (tests q e a) (at old q) (shape_of b q)
+    by_case e a b (is_refused y error w free) =
+        rests q _ _ _ _ _ _ (ap (λ (m : Option ℤ). record none_of { assumed = m }) (undone q y (Refused error) refl)) refl
+    by_case e a b (collects s wait outcome is ready) =
+        rests q _ _ _ _ _ _ (told_nothing q s outcome) (shape_session s (with_wait None) (λ x. refl) old.sessions q)
+    by_case e a b (greeted n hello c thread process session user can) =
+        rests q _ _ _ _ _ _ refl (shape_session (Client n) (with_context c) (λ x. refl) old.sessions q)
+    by_case e a b (starts s typ description callout r k subject authority names can fresh drawn) =
+        of_key q _ _ _ k (λ b. record none_of { start = b }) (λ o. Some first_shape) _ (at old q) _ refl refl
+        (shape_session s (with_wait (Some (new_wait k true))) (λ x. refl) (with_construction k authority old.sessions) q
+        ∙ shape_issued k authority old.sessions q)
+        (λ same. started_now (ap (is_drawn old) (sym same) ∙ fresh.unused) (ap (is_drawn new) (sym same) ∙ drawn))
+    by_case e a b (waits_for s x k asks can apart) =
+        rests q _ _ _ _ _ _ (ap (λ (m : Option ℤ). record none_of { assumed = m }) (undone q (Asked s x) (Waiting k) refl))
+        (shape_session s (with_wait (Some (new_wait k false))) (λ x. refl) old.sessions q)
+    by_case e a b (answered s x n plain) =
+        rests q _ _ _ _ _ _ (nothing_done (n == 0) (completes x q) _ (plain.completes_none q) (not_assumed q s x (Done (Number n)) plain.not_assume)) refl
+    by_case e a b (told s x bytes w) =
+        rests q _ _ _ _ _ _ (ap (λ (m : Option ℤ). record none_of { assumed = m }) (undone q (Asked s x) (Done (Bytes bytes)) refl)) refl
+    by_case e a b (is_set s x setting n plain can) =
+        rests q _ _ _ _ _ _ (nothing_done (n == 0) (completes x q) _ (plain.completes_none q) (not_assumed q s x (Done (Number n)) plain.not_assume))
+        (shape_session s (with_setting setting) (λ x. refl) old.sessions q)
+    by_case e a b (assumed (Client n) key can none) = quiet
+    by_case e a b (assumed (Handler j) key can none) =
+        let there = some_is (session_of old.sessions (Handler j)) can.there in
+        let run = running_shape old j there.0 there.1 in
+        let m : Option Shape → Option Shape = option_map (as_assumed (serial_named key)) in
+        let of : Bool → Tests = λ b. record none_of { assumed = cond b (Some key) None } in
+        of_key q _ _ _ j of m _ (at old q) _ refl (ap of (and_true (nat_eq j q)))
+        (shape_assumed j (serial_named key) old.sessions q there.0 there.1)
+        (λ same. shaped q _ _ _ run.0 m _ (at old q) (ap (at old) (sym same) ∙ run.1)
+        (assumed_now run.0 key run.2 (λ k named. let own = assumed_own old j key run.0 run.1 none k named in (own.0 ∙ same, own.1))))
+    by_case e a b (concluded s x asker k keys which is own) =
+        let found = concluder old s asker k is own in
+        let mine : k ≡ found.0 = (good found.0 found.1 k found.3 found.4).0 in
+        let no_assume : (key : ℤ) → ¬ (x ≡ ask.Assume key) =
+        λ key same. true_false (sym (eq-eqb k k refl) ∙ sym (which k) ∙ ap (λ y. completes y k) same) in
+        of_key q _ _ _ k (λ b. record none_of { completion = b }) (option_map as_spent) _ (at old q) _ refl
+        (λ i. record none_of { completion = which q i; assumed = not_assumed q s x done no_assume i })
+        (shape_announced now k keys (spent k old.sessions) q ∙ shape_spent k old.sessions q)
+        (λ same. shaped q _ _ _ found.1 (option_map as_spent) _ (at old q) (ap (at old) (sym same ∙ mine) ∙ found.3)
+        (completed_now found.1 (x, ap (λ z. Asked z x) (found.2 ∙ ap Handler (sym mine ∙ same))) (found.4 ∙ ap (λ (n : ℕ). Some n) same)))
+    by_case e a b (runs_plain k st is launches) =
+        let found = some_of old.sessions k st is in
+        of_key q _ _ _ k (λ b. record none_of { launch = b }) (option_map (as_staged (Plain new_session))) _ (at old q) _ refl refl
+        (shape_launched k (Plain new_session) old.sessions q refl)
+        (λ same. shaped q _ _ _ found.0 (option_map (as_staged (Plain new_session))) _ (at old q) (ap (at old) (sym same) ∙ found.1)
+        (launched_now found.0 (Plain new_session) (found.2 ∙ launches) refl (λ h. absurd (true_false (sym h)))))
+    by_case e a b (runs_piped k is) =
+        let found = some_of old.sessions k Starting is in
+        of_key q _ _ _ k (λ b. record none_of { launch = b }) (option_map (as_staged Piped)) _ (at old q) _ refl refl
+        (shape_launched k Piped old.sessions q refl)
+        (λ same. shaped q _ _ _ found.0 (option_map (as_staged Piped)) _ (at old q) (ap (at old) (sym same) ∙ found.1)
+        (launched_now found.0 Piped found.2 refl (λ _. found.3)))
+    by_case e a b (follows k how payload is free) =
+        let found = some_of old.sessions k Piped is in
+        let spared = unspent_shape old k found.0 found.1 (some_none (unspent old.sessions k) free) in
+        of_key q _ _ _ k (λ b. record none_of { negate = b }) (option_map (as_staged Negating)) _ (at old q) _ refl refl
+        (shape_launched k Negating old.sessions q refl)
+        (λ same. shaped q _ _ _ found.0 (option_map (as_staged Negating)) _ (at old q) (ap (at old) (sym same) ∙ found.1)
+        (negated_now found.0 found.2 found.3 spared))
+    by_case e a b (not_run k st condition is launches) =
+        let found = some_of old.sessions k st is in
+        of_key q _ _ _ k (λ b. record none_of { launch = b; ending = b }) (λ o. None) _ (at old q) _ refl refl (shape_ended now k condition old q)
+        (λ same. shaped q _ _ _ found.0 (λ o. None) _ (at old q) (ap (at old) (sym same) ∙ found.1) (failed_now found.0 (found.2 ∙ launches)))
+    by_case e a b (end_of k how payload st condition is running) =
+        let found = some_of old.sessions k st is in
+        of_key q _ _ _ k (λ b. record none_of { ending = b }) (λ o. None) _ (at old q) _ refl refl (shape_ended now k condition old q)
+        (λ same. shaped q _ _ _ found.0 (λ o. None) _ (at old q) (ap (at old) (sym same) ∙ found.1) (ended_now found.0 (found.2 ∙ running)))
+    by_case e a b _ = quiet

@@ -1,16 +1,8 @@
 -- Which rings there are, and of what kind, after each thing that a step may do.
-use Rattle.std.proofs.Common.{◌≡◌, ℕ, Bool, true, false, cond, refl, ap, ◌∙◌}
-use Rattle.std.specs.Prelude.{Option, Some, None, nat_eq, not, option_map}
-use Rattle.std.specs.Option.{option_map_or}
-use Rattle.std.specs.Ordering.{nat_cmp}
+use Rattle.rk_machine.proofs.Words.{◌≡◌, ℕ, ◌∙◌, Bool, true, false, cond, refl, ap, not, option_map_or, nat_cmp, Option, Some, None, nat_eq, option_map}
+use Rattle.rk_machine.proofs.Words.{kept_where, Ring, RingKind, rings_changed, World, get_inserted, get_changed_at, get_kept_where, of_choice}
 use Rattle.std.specs.FinMap as map
-use Rattle.rk_table.specs.Maps.{kept_where}
-use Rattle.rk_rings.specs.declared.kind.RingKind.{RingKind}
 use Rattle.rk_rings.specs.declared.kind.RingKind.TheVariants as kind
-use Rattle.rk_rings.specs.Ring.{Ring}
-use Rattle.rk_machine.specs.World.{World}
-use Rattle.rk_machine.specs.Links.{rings_changed}
-use Rattle.rk_machine.proofs.Found.InMaps.{get_inserted, get_changed_at, get_kept_where}
 
 abbrev kind_in : Option Ring → Option RingKind
 kind_in o = option_map (λ r. r.kind) o
@@ -45,14 +37,10 @@ kind_linked (Some ring) f keeps rings q = ap kind_in (get_changed_at ring f ring
 
 -- ---- rings come and go
 
-made_in : (b : Bool) (r : Ring) (o : Option Ring) → kind_in (cond b (Some r) o) ≡ cond b (Some r.kind) (kind_in o)
-made_in true r o = refl
-made_in false r o = refl
-
 -- a ring that is made has its kind, and every other ring is of the kind that it was
 pub kind_made : (ring : ℕ) (r : Ring) (rings : map.FinMap nat_cmp Ring) (q : ℕ)
     → kind_of (map.insert rings ring r) q ≡ cond (nat_eq ring q) (Some r.kind) (kind_of rings q)
-kind_made ring r rings q = ap kind_in (get_inserted rings ring r q) ∙ made_in (nat_eq ring q) r (map.get rings q)
+kind_made ring r rings q = ap kind_in (get_inserted rings ring r q) ∙ of_choice kind_in (nat_eq ring q) (Some r) (map.get rings q)
 
 dropped_in : (b : Bool) (o : Option Ring) → kind_in (cond (option_map_or (λ (r : Ring). not b) o false) o None) ≡ cond b None (kind_in o)
 dropped_in true None = refl

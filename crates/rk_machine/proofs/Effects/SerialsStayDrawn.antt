@@ -1,39 +1,9 @@
 -- Serials that were drawn stay drawn.
-use Rattle.std.proofs.Common.{◌≡◌, ℕ, Bool, true, false, sym, ap, ◌∙◌, inl, inr}
-use Rattle.std.specs.Prelude.{Option, Some, None, nat_eq}
-use Rattle.std.specs.Ordering.{nat_cmp}
-use Rattle.std.specs.FinSet as set
-use Rattle.rk_rings.specs.declared.kind.RingKind.{RingKind}
+use Rattle.rk_machine.proofs.Words.{◌≡◌, ℕ, ◌∙◌, Bool, true, false, ap, sym, inl, inr, Option, Some, None, nat_eq, RingKind, Event, Greeting, Makes, MakesIf}
+use Rattle.rk_machine.proofs.Words.{HasSessionRing, HasUserRing, MakesRings, World, drawn, Answer, or_right}
 use Rattle.rk_rings.specs.declared.kind.RingKind.TheVariants as kind
-use Rattle.rk_machine.specs.Event.{Event}
-use Rattle.rk_machine.specs.declared.event.Answer.{Answer}
-use Rattle.rk_machine.specs.World.{World, drawn}
-use Rattle.rk_machine.specs.Hello.{Greeting, Makes, MakesIf, HasSessionRing, HasUserRing, MakesRings}
-use Rattle.rk_machine.proofs.Found.Refusals.{or_right}
-use Rattle.rk_machine.proofs.Effects.KindsOfStep.{
-  Effect,
-  refused,
-  still,
-  took,
-  came,
-  went,
-  greets,
-  begins,
-  joins,
-  links,
-  unlinks,
-  marks,
-  tells,
-  sets,
-  adds,
-  assumes,
-  concludes,
-  ran_plain,
-  ran_piped,
-  negates,
-  failed,
-  finished,
-}
+use Rattle.rk_machine.proofs.Effects.KindsOfStep.{Effect, refused, still, took, came, went, greets, begins, joins, links, unlinks, marks, tells, sets, adds}
+use Rattle.rk_machine.proofs.Effects.KindsOfStep.{assumes, concludes, ran_plain, ran_piped, negates, failed, finished}
 use Rattle.rk_machine.proofs.Effects.DrawnSerials.{is_drawn, drawn_is}
 
 -- what is not drawn after was not drawn before
@@ -42,9 +12,6 @@ KeepsDrawn old new = (q : ℕ) → is_drawn new q ≡ false → is_drawn old q �
 
 draws : (k : ℕ) (old : World) → KeepsDrawn old (drawn k old)
 draws k old q h = or_right (nat_eq k q) (is_drawn old q) (sym (drawn_is k old q) ∙ h)
-
-keeps : (old new : World) → new.serials.used ≡ old.serials.used → KeepsDrawn old new
-keeps old new e q h = ap (λ (s : set.FinSet nat_cmp). set.contains s q) (sym e) ∙ h
 
 same_world : (old mid new : World) → new ≡ mid → KeepsDrawn old mid → KeepsDrawn old new
 same_world old mid new e h q n = h q (ap (λ (w : World). is_drawn w q) (sym e) ∙ n)

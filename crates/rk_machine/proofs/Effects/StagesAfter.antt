@@ -1,32 +1,11 @@
 -- How far each construction is, after each thing that a step may do.
-use Rattle.std.proofs.Common.{◌≡◌, ℕ, Bool, true, false, cond, refl, sym, ap, ◌∙◌}
-use Rattle.std.specs.Prelude.{Option, Some, None, nat_eq, is_some, option_map, option_and_then}
+use Rattle.rk_machine.proofs.Words.{◌≡◌, ℕ, ◌∙◌, Bool, true, false, cond, refl, ap, sym, Option, Some, None, nat_eq, is_some, option_map, option_and_then}
+use Rattle.rk_machine.proofs.Words.{eqb-true, SessionId, Client, Handler, session_changed, in_handler, in_new_stage, spent, without_authority}
+use Rattle.rk_machine.proofs.Words.{without_construction, with_construction, all_told, told, with_assumed, in_stage, Sessions, session_of, is_to_launch}
+use Rattle.rk_machine.proofs.Words.{handler_in, Authority, Construction, Stage, Starting, Plain, Piped, Negating, Outcome, Session, get_inserted, get_removed}
+use Rattle.rk_machine.proofs.Words.{get_changed_at, get_changed_all, of_choice}
 use Rattle.std.specs.FinMap as map
-use Rattle.std.proofs.lemmas.Bool.{eqb-true}
-use Rattle.rk_names.specs.declared.numbers.SessionId.{SessionId}
-use Rattle.rk_names.specs.declared.numbers.SessionId.TheVariants.{Client, Handler}
-use Rattle.rk_auth.specs.declared.session.Session.{Session}
-use Rattle.rk_auth.specs.declared.session.Outcome.{Outcome}
-use Rattle.rk_auth.specs.declared.construction.Stage.{Stage}
-use Rattle.rk_auth.specs.declared.construction.Stage.TheVariants.{Starting, Plain, Piped, Negating}
-use Rattle.rk_auth.specs.declared.construction.Authority.{Authority}
-use Rattle.rk_auth.specs.declared.construction.Construction.{Construction}
-use Rattle.rk_auth.specs.Sessions.{Sessions, is_to_launch, handler_in, session_of}
-use Rattle.rk_auth.specs.Changes.{
-  session_changed,
-  in_handler,
-  in_stage,
-  in_new_stage,
-  launched,
-  spent,
-  without_authority,
-  without_construction,
-  with_construction,
-  all_told,
-  told,
-  with_assumed,
-}
-use Rattle.rk_machine.proofs.Found.InMaps.{get_inserted, get_removed, get_changed_at, get_changed_all}
+use Rattle.rk_auth.specs.Changes.{launched}
 
 -- whether a handler is to be started; whether its first one is not past or may be followed by another; whether its authority is unspent; what its
 -- handler has assumed
@@ -189,24 +168,17 @@ pub shape_launched : (k : ℕ) (st : Stage) (a : Sessions) (q : ℕ) → assumed
 shape_launched k st a q free =
     ap (option_map shape) (get_changed_at k (in_new_stage st) a.constructions q) ∙ launched_at st free (nat_eq k q) (map.get a.constructions q)
 
-removed_at : (b : Bool) (o : Option Construction) → option_map shape (cond b None o) ≡ cond b None (option_map shape o)
-removed_at true o = refl
-removed_at false o = refl
-
 -- a construction that is removed has no shape, and every other is as it was
 pub shape_removed : (k : ℕ) (a : Sessions) (q : ℕ) → shape_of (without_construction k a) q ≡ cond (nat_eq k q) None (shape_of a q)
-shape_removed k a q = ap (option_map shape) (get_removed a.constructions k q) ∙ removed_at (nat_eq k q) (map.get a.constructions q)
+shape_removed k a q = ap (option_map shape) (get_removed a.constructions k q) ∙ of_choice (option_map shape) (nat_eq k q) None (map.get a.constructions q)
 
 -- as a construction begins
 abbrev pub first_shape : Shape
 first_shape = record { starting = true; first = true; unspent = true; assumed = None }
 
-issued_at : (b : Bool) (authority : Authority) (o : Option Construction)
-    → option_map shape (cond b (Some (record { stage = Starting; authority = Some authority })) o) ≡ cond b (Some first_shape) (option_map shape o)
-issued_at true authority o = refl
-issued_at false authority o = refl
-
 -- a construction that begins has the first shape, and every other is as it was
 pub shape_issued : (k : ℕ) (authority : Authority) (a : Sessions) (q : ℕ)
     → shape_of (with_construction k authority a) q ≡ cond (nat_eq k q) (Some first_shape) (shape_of a q)
-shape_issued k authority a q = ap (option_map shape) (get_inserted a.constructions k _ q) ∙ issued_at (nat_eq k q) authority (map.get a.constructions q)
+shape_issued k authority a q =
+    ap (option_map shape) (get_inserted a.constructions k _ q)
+    ∙ of_choice (option_map shape) (nat_eq k q) (Some (record { stage = Starting; authority = Some authority })) (map.get a.constructions q)

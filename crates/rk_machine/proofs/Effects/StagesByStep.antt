@@ -1,75 +1,17 @@
 -- How far each construction is, and which clients are there, after each step of the machine.
-use Rattle.std.proofs.Common.{◌≡◌, ◌⊎◌, ℕ, Bool, true, false, cond, ◌&&◌, refl, sym, ap, ◌∙◌, inl, inr}
-use Rattle.std.specs.Prelude.{Option, Some, None, nat_eq, is_some, option_map}
-use Rattle.std.specs.Option.{option_map_or}
-use Rattle.std.specs.Ordering.{nat_cmp}
+use Rattle.rk_machine.proofs.Words.{◌≡◌, ℕ, ◌∙◌, ◌&&◌, Bool, true, false, cond, refl, ap, sym, nat_cmp, Option, Some, None, nat_eq, is_some, option_map}
+use Rattle.rk_machine.proofs.Words.{eqb-true, Errno, SessionId, Client, Handler, Condition, Key, session_changed, in_handler, in_new_stage, spent}
+use Rattle.rk_machine.proofs.Words.{without_authority, with_construction, all_told, told, with_context, with_assumed, in_stage, Sessions, new_session, stage_of}
+use Rattle.rk_machine.proofs.Words.{Authority, Construction, Stage, Starting, Plain, Piped, Negating, Outcome, Session, announced, sessions_ended, ended, Event}
+use Rattle.rk_machine.proofs.Words.{is_done, is_followed, World, Answer, Start, Refused, Asked, Launched, Ended, Ran, get_inserted, get_removed, get_changed_at}
+use Rattle.rk_machine.proofs.Words.{get_changed_all, of_choice}
 use Rattle.std.specs.FinMap as map
-use Rattle.std.proofs.lemmas.Bool.{eqb-true}
-use Rattle.rk_names.specs.declared.numbers.SessionId.{SessionId}
-use Rattle.rk_names.specs.declared.numbers.SessionId.TheVariants.{Client, Handler}
-use Rattle.rk_names.specs.declared.errors.Errno.{Errno}
-use Rattle.rk_names.specs.declared.errors.KeyError.TheVariants as error
-use Rattle.rk_keys.specs.declared.key.Key.{Key}
-use Rattle.rk_keys.specs.declared.key.Condition.{Condition}
-use Rattle.rk_keys.specs.declared.key.Condition.TheVariants.{Negative}
-use Rattle.rk_auth.specs.declared.session.Session.{Session}
-use Rattle.rk_auth.specs.declared.session.Outcome.{Outcome}
-use Rattle.rk_auth.specs.declared.construction.Stage.{Stage}
-use Rattle.rk_auth.specs.declared.construction.Stage.TheVariants.{Starting, Plain, Piped, Negating}
-use Rattle.rk_auth.specs.declared.construction.Authority.{Authority}
-use Rattle.rk_auth.specs.declared.construction.Construction.{Construction}
-use Rattle.rk_auth.specs.Sessions.{Sessions, new_session, stage_of, unspent}
-use Rattle.rk_auth.specs.Changes.{
-  session_changed,
-  in_handler,
-  in_stage,
-  in_new_stage,
-  launched,
-  spent,
-  without_authority,
-  with_construction,
-  all_told,
-  told,
-  with_context,
-  with_assumed,
-}
-use Rattle.rk_machine.specs.Event.{Event}
-use Rattle.rk_machine.specs.declared.event.EventOf.TheVariants.{Opened, Asked, Launched, Ended, Collect, Gone}
-use Rattle.rk_machine.specs.declared.event.Ran.{Ran}
+use Rattle.rk_auth.specs.Changes.{launched}
 use Rattle.rk_machine.specs.declared.event.Ran.TheVariants as ran
-use Rattle.rk_machine.specs.declared.event.Answer.{Answer}
-use Rattle.rk_machine.specs.declared.event.Answer.TheVariants.{Start, Refused}
-use Rattle.rk_machine.specs.World.{World, tidied}
-use Rattle.rk_machine.specs.Links.{unlinked_in, cleared_in}
-use Rattle.rk_machine.specs.Completion.{announced, outcome_of, sessions_ended, keys_ended, ended}
-use Rattle.rk_machine.specs.Laws.{is_done}
-use Rattle.rk_machine.specs.Owing.{is_followed}
-use Rattle.rk_machine.proofs.Found.InMaps.{get_inserted, get_removed, get_changed_at, get_changed_all}
-use Rattle.rk_machine.proofs.Effects.KindsOfStep.{
-  Effect,
-  refused,
-  still,
-  took,
-  came,
-  went,
-  greets,
-  begins,
-  joins,
-  links,
-  unlinks,
-  marks,
-  tells,
-  sets,
-  adds,
-  assumes,
-  concludes,
-  ran_plain,
-  ran_piped,
-  negates,
-  failed,
-  finished,
-}
-use Rattle.rk_machine.proofs.Effects.HelloChanges.{greeted_sessions}
+use Rattle.rk_machine.proofs.Effects.KindsOfStep.{Effect}
+use Rattle.rk_machine.proofs.Effects.OfSessions.{InSessions, in_sessions, is_refused, collects, greeted, starts, waits_for, is_set, assumed, concluded}
+use Rattle.rk_machine.proofs.Effects.OfSessions.{runs_plain, runs_piped, follows, not_run, ends}
+use Rattle.rk_machine.proofs.Effects.LeftByOutcomes.{left_announced, left_settled}
 
 -- ---- constructions, by their stages
 
@@ -150,37 +92,22 @@ kind_spent k a q =
     (map.get a.constructions q)
 
 kind_announced : (now k : ℕ) (keys : map.FinMap nat_cmp Key) (a : Sessions) (q : ℕ) → kind_of (announced now k keys a) q ≡ kind_of a q
-kind_announced now k keys a q = told_or_not (map.get keys k)
-  where
-    told_or_not : (o : Option Key) → kind_of (option_map_or (λ key. all_told k (outcome_of k key now) a) o a) q ≡ kind_of a q
-    told_or_not None = refl
-    told_or_not (Some key) = kind_told k (outcome_of k key now) a q
+kind_announced now k keys a q = left_announced (λ b. kind_of b q) (λ j o b. kind_told j o b q) now k keys a
 
 kind_settled : (now k : ℕ) (condition : Condition) (w : World) (q : ℕ) → kind_of (sessions_ended now k condition w) q ≡ kind_of w.sessions q
-kind_settled now k condition w q = spent_or_not (is_some (unspent w.sessions k))
-  where
-    spent_or_not : (b : Bool) → kind_of (cond b (announced now k (keys_ended now k condition w) (spent k w.sessions)) w.sessions) q ≡ kind_of w.sessions q
-    spent_or_not true = kind_announced now k (keys_ended now k condition w) (spent k w.sessions) q ∙ kind_spent k w.sessions q
-    spent_or_not false = refl
-
-gone_in : (b : Bool) (o : Option Construction) → kind_in (cond b None o) ≡ cond b None (kind_in o)
-gone_in true o = refl
-gone_in false o = refl
+kind_settled now k condition w q = left_settled (λ b. kind_of b q) (λ j o b. kind_told j o b q) (λ j b. kind_spent j b q) now k condition w
 
 kind_ended : (now k : ℕ) (condition : Condition) (w : World) (q : ℕ)
     → kind_of (ended now k condition w).sessions q ≡ cond (nat_eq k q) None (kind_of w.sessions q)
 kind_ended now k condition w q =
     ap kind_in (get_removed (sessions_ended now k condition w).constructions k q)
-    ∙ gone_in (nat_eq k q) (map.get (sessions_ended now k condition w).constructions q) ∙ ap (cond (nat_eq k q) None) (kind_settled now k condition w q)
-
-issued_in : (authority : Authority) (b : Bool) (o : Option Construction)
-    → kind_in (cond b (Some (record { stage = Starting; authority = Some authority })) o) ≡ cond b (Some to_start) (kind_in o)
-issued_in authority true o = refl
-issued_in authority false o = refl
+    ∙ of_choice kind_in (nat_eq k q) None (map.get (sessions_ended now k condition w).constructions q) ∙ ap (cond (nat_eq k q) None) (kind_settled now k condition w q)
 
 kind_issued : (k : ℕ) (authority : Authority) (a : Sessions) (q : ℕ)
     → kind_of (with_construction k authority a) q ≡ cond (nat_eq k q) (Some to_start) (kind_of a q)
-kind_issued k authority a q = ap kind_in (get_inserted a.constructions k _ q) ∙ issued_in authority (nat_eq k q) (map.get a.constructions q)
+kind_issued k authority a q =
+    ap kind_in (get_inserted a.constructions k _ q)
+    ∙ of_choice kind_in (nat_eq k q) (Some (record { stage = Starting; authority = Some authority })) (map.get a.constructions q)
 
 -- a construction that is there is in the stage from now on
 launched_in : (st : Stage) (b : Bool) (o : Option Construction) → (b ≡ true → is_some o ≡ true)
@@ -226,60 +153,29 @@ kind_after q (Launched k r) a o = cond (is_done a && nat_eq k q) (launched_kind 
 kind_after q (Ended k how payload) a o = cond (is_done a && nat_eq k q) None (cond (is_followed a && nat_eq k q) (Some to_follow) o)
 kind_after q e a o = o
 
-refused_kind : (q : ℕ) (e : Event) (error : Errno) (o : Option Kind) → kind_after q e (Refused error) o ≡ o
-refused_kind q (Opened s) error o = refl
+-- a refusal leaves how far each construction is
+pub refused_kind : (q : ℕ) (e : Event) (error : Errno) (o : Option Kind) → kind_after q e (Refused error) o ≡ o
 refused_kind q (Asked s x) error o = refl
-refused_kind q (Launched k r) error o = refl
-refused_kind q (Ended k how payload) error o = refl
-refused_kind q (Collect s) error o = refl
-refused_kind q (Gone s) error o = refl
-
-module _ (new : World) (q : ℕ) (e given : Event) (a answer : Answer) (o : Option Kind) where
-  -- a step whose event and answer are known
-  by_step : e ≡ given → a ≡ answer → kind_of new.sessions q ≡ kind_after q given answer o → kind_of new.sessions q ≡ kind_after q e a o
-  by_step ev ra h = h ∙ sym (ap (λ y. kind_after q y a o) ev ∙ ap (λ y. kind_after q given y o) ra)
-
-at_world : (new mid : World) (q : ℕ) (o : Option Kind) → new ≡ mid → kind_of mid.sessions q ≡ o → kind_of new.sessions q ≡ o
-at_world new mid q o e h = ap (λ (w : World). kind_of w.sessions q) e ∙ h
-
-unlinked_kind : (old new : World) (ring : Option ℕ) (k q : ℕ) → (new ≡ tidied (unlinked_in ring k old)) ⊎ (new ≡ tidied (cleared_in ring old))
-    → kind_of new.sessions q ≡ kind_of old.sessions q
-unlinked_kind old new ring k q (inl h) = at_world new _ q _ h refl
-unlinked_kind old new ring k q (inr h) = at_world new _ q _ h refl
+refused_kind q _ error o = refl
 
 -- how far each construction is after a step results from the event, its answer and how far it was
 pub kinds : (old : World) (now : ℕ) (e : Event) (a : Answer) (new : World) → Effect old now e a new → (q : ℕ)
     → kind_of new.sessions q ≡ kind_after q e a (kind_of old.sessions q)
-kinds old now e a new (refused error ra w free) q =
-    ap (λ (v : World). kind_of v.sessions q) w ∙ sym (ap (λ y. kind_after q e y (kind_of old.sessions q)) ra ∙ refused_kind q e error _)
-kinds old now e a new (still s wait ev is ready ra w) q = by_step new q e _ a _ _ ev ra (at_world new _ q _ w refl)
-kinds old now e a new (took s wait outcome ev is ready ra w) q =
-    by_step new q e (Collect s) a a _ ev refl (at_world new _ q _ w (kind_changed s _ old.sessions q))
-kinds old now e a new (came n ev fresh ra w) q = by_step new q e _ a _ _ ev ra (at_world new _ q _ w refl)
-kinds old now e a new (went n ev there ra w) q = by_step new q e _ a _ _ ev ra (at_world new _ q _ w refl)
-kinds old now e a new (greets n hello ev can none joined h) q =
-    by_step new q e _ a _ _ ev h.6.0 (at_world new _ q _ h.6.1
-    (kind_changed (Client n) (with_context (record { uid = hello.uid; gid = hello.gid; thread = h.0; process = h.1; session = h.2; user = h.3 })) h.4.sessions q
-    ∙ ap (λ (s : Sessions). kind_of s q) (greeted_sessions _ old h.4 h.0 h.1 h.2 h.3 h.5)))
-kinds old now e a new (begins s asker typ description callout r ring k ev can is depth fresh ra w) q =
-    by_step new q e _ a _ _ ev ra (at_world new _ q _ w (kind_changed s _ _ q ∙ kind_issued k _ old.sessions q))
-kinds old now e a new (joins s x ring k ev asks can building apart ra w) q =
-    by_step new q e _ a _ _ ev ra (at_world new _ q _ w (kind_changed s _ old.sessions q))
-kinds old now e a new (links s x ring k n ev completes_none not_assume ra w) q = by_step new q e _ a _ _ ev ra (at_world new _ q _ w refl)
-kinds old now e a new (unlinks s x ring k ev completes_none not_assume ra w) q = by_step new q e _ a _ _ ev ra (unlinked_kind old new ring k q w)
-kinds old now e a new (marks s x k f ev completes_none not_assume mild ra w) q = by_step new q e _ a _ _ ev ra (at_world new _ q _ w refl)
-kinds old now e a new (tells s x bytes ev ra w) q = by_step new q e _ a _ _ ev ra (at_world new _ q _ w refl)
-kinds old now e a new (sets s x setting n ev completes_none not_assume can ra w) q =
-    by_step new q e _ a _ _ ev ra (at_world new _ q _ w (kind_changed s _ old.sessions q))
-kinds old now e a new (adds s asker typ description payload r ring k ev fresh ra w) q = by_step new q e _ a _ _ ev ra (at_world new _ q _ w refl)
-kinds old now e a new (assumes s key ev can none ra w) q = by_step new q e _ a _ _ ev ra (at_world new _ q _ w (kind_changed s _ old.sessions q))
-kinds old now e a new (concludes s x asker ring k condition end ev which can is own final ra w) q =
-    by_step new q e _ a _ _ ev ra (at_world new _ q _ w (kind_announced now k _ (spent k old.sessions) q ∙ kind_spent k old.sessions q))
-kinds old now e a new (ran_plain k st ev is launches ra w) q =
-    by_step new q e _ a _ _ ev ra (at_world new _ q _ w (kind_launched k (Plain new_session) st old.sessions q is))
-kinds old now e a new (ran_piped k ev is ra w) q = by_step new q e _ a _ _ ev ra (at_world new _ q _ w (kind_launched k Piped Starting old.sessions q is))
-kinds old now e a new (negates k how payload ev is fails ra w) q =
-    by_step new q e _ a _ _ ev ra (at_world new _ q _ w (kind_launched k Negating Piped old.sessions q is))
-kinds old now e a new (failed k st ev is launches ra w) q = by_step new q e _ a _ _ ev ra (at_world new _ q _ w (kind_ended now k (Negative error.NoKey) old q))
-kinds old now e a new (finished k how payload st condition ev is running final ra w) q =
-    by_step new q e _ a _ _ ev ra (at_world new _ q _ w (kind_ended now k condition old q))
+kinds old now e a new is q = by_case e a new.sessions (in_sessions old now e a new is)
+  where
+    by_case : (e : Event) (a : Answer) (b : Sessions) → InSessions old new now e a b → kind_of b q ≡ kind_after q e a (kind_of old.sessions q)
+    by_case e a b (is_refused y error w free) = sym (refused_kind q y error _)
+    by_case e a b (collects s wait outcome is ready) = kind_changed s _ old.sessions q
+    by_case e a b (greeted n hello c thread process session user can) = kind_changed (Client n) (with_context c) old.sessions q
+    by_case e a b (starts s typ description callout r k subject authority names can fresh drawn) =
+        kind_changed s _ (with_construction k authority old.sessions) q ∙ kind_issued k authority old.sessions q
+    by_case e a b (waits_for s x k asks can apart) = kind_changed s _ old.sessions q
+    by_case e a b (is_set s x setting n plain can) = kind_changed s _ old.sessions q
+    by_case e a b (assumed s key can none) = kind_changed s _ old.sessions q
+    by_case e a b (concluded s x asker k keys which is own) = kind_announced now k keys (spent k old.sessions) q ∙ kind_spent k old.sessions q
+    by_case e a b (runs_plain k st is launches) = kind_launched k (Plain new_session) st old.sessions q is
+    by_case e a b (runs_piped k is) = kind_launched k Piped Starting old.sessions q is
+    by_case e a b (follows k how payload is free) = kind_launched k Negating Piped old.sessions q is
+    by_case e a b (not_run k st condition is launches) = kind_ended now k condition old q
+    by_case e a b (ends k how payload st condition is running) = kind_ended now k condition old q
+    by_case e a b _ = refl

@@ -1,74 +1,18 @@
 -- What was never drawn is no construction, after each step of the machine.
-use Rattle.std.proofs.Common.{◌≡◌, ℕ, Bool, true, false, cond, not, ◌&&◌, refl, sym, ap, ◌∙◌, subst}
-use Rattle.std.specs.Prelude.{List, Option, Some, None, nat_eq, is_some, option_map}
+use Rattle.rk_machine.proofs.Words.{◌≡◌, ℕ, ◌∙◌, Bool, true, false, cond, refl, ap, sym, subst, List, Option, Some, None, nat_eq, is_some, option_map}
+use Rattle.rk_machine.proofs.Words.{is_none, eqb-true, SessionId, Subject, Ask, Sessions, session_of, stage_of, is_to_launch, is_starting, Construction, Stage}
+use Rattle.rk_machine.proofs.Words.{Starting, Plain, Piped, Negating, Outcome, Found, Failed, Event, asked_of, names_in, may_launch, told_as, World, drawn}
+use Rattle.rk_machine.proofs.Words.{Answer, Start, Asked, Ran, true_false, none_some, Step}
 use Rattle.std.specs.FinMap as map
-use Rattle.std.proofs.lemmas.Bool.{eqb-true}
-use Rattle.rk_names.specs.declared.numbers.SessionId.{SessionId}
-use Rattle.rk_names.specs.declared.errors.Errno.TheVariants as errno
-use Rattle.rk_message.specs.Ask.{Ask}
-use Rattle.rk_macro.specs.declared.subject.Subject.{Subject}
-use Rattle.rk_auth.specs.declared.session.Outcome.{Outcome}
-use Rattle.rk_auth.specs.declared.session.Outcome.TheVariants.{Found, Failed}
-use Rattle.rk_auth.specs.declared.construction.Stage.{Stage}
-use Rattle.rk_auth.specs.declared.construction.Stage.TheVariants.{Starting, Plain, Piped, Negating}
-use Rattle.rk_auth.specs.declared.construction.Construction.{Construction}
-use Rattle.rk_auth.specs.Sessions.{stage_of, is_starting, is_to_launch}
-use Rattle.rk_machine.specs.Event.{Event}
-use Rattle.rk_machine.specs.declared.event.EventOf.TheVariants.{Opened, Asked, Launched, Ended, Collect, Gone}
-use Rattle.rk_machine.specs.declared.event.Ran.{Ran}
+use Rattle.rk_message.specs.declared.ask.AskOf.TheVariants as ask
 use Rattle.rk_machine.specs.declared.event.Ran.TheVariants as ran
-use Rattle.rk_machine.specs.declared.event.How.{How}
-use Rattle.rk_machine.specs.declared.event.Answer.{Answer}
-use Rattle.rk_machine.specs.declared.event.Answer.TheVariants.{Done, Start, Waiting, Negate, Refused}
-use Rattle.rk_machine.specs.World.{World, drawn}
-use Rattle.rk_machine.specs.Allowed.{refused_if}
-use Rattle.rk_machine.specs.Steps.{may_launch, Ends, Step, told_as}
-use Rattle.rk_machine.specs.Laws.{is_done}
-use Rattle.rk_machine.specs.Owing.{is_followed}
-use Rattle.rk_machine.proofs.Found.Refusals.{not_not, if_none, unless}
-use Rattle.rk_machine.proofs.Effects.KindsOfStep.{
-  Effect,
-  effect,
-  refused,
-  still,
-  took,
-  came,
-  went,
-  greets,
-  begins,
-  joins,
-  links,
-  unlinks,
-  marks,
-  tells,
-  sets,
-  adds,
-  assumes,
-  concludes,
-  ran_plain,
-  ran_piped,
-  negates,
-  failed,
-  finished,
-}
-use Rattle.rk_machine.proofs.Effects.DrawnSerials.{is_drawn, drawn_now}
+use Rattle.rk_machine.proofs.Effects.DrawnSerials.{is_drawn}
 use Rattle.rk_machine.proofs.Effects.SerialsStayDrawn.{keeps_drawn}
 use Rattle.rk_machine.proofs.Effects.WaitsAreTheWorlds.{IdleFresh}
-use Rattle.rk_machine.proofs.Effects.StagesByStep.{
-  Kind,
-  to_start,
-  pipes,
-  to_follow,
-  kind,
-  kind_in,
-  kind_of,
-  is_due,
-  is_first_due,
-  may_find,
-  stage_kind,
-  kind_after,
-  kinds,
-}
+use Rattle.rk_machine.proofs.Effects.StagesByStep.{Kind, to_start, pipes, to_follow, kind, kind_in, kind_of, is_due, is_first_due, may_find, stage_kind}
+use Rattle.rk_machine.proofs.Effects.StagesByStep.{kind_after, kinds, talks, refused_kind}
+use Rattle.rk_machine.proofs.Effects.KindsOfStep.{Effect, effect}
+use Rattle.rk_machine.proofs.Effects.OfSessions.{InSessions, in_sessions, is_refused, starts, collects, runs_plain, runs_piped, follows, not_run, ends}
 
 -- a serial that was never drawn has no construction
 abbrev pub IsIdle : World → Type 0
@@ -84,48 +28,49 @@ idle_fresh w idle k h = none (map.get w.sessions.constructions k) (idle k h)
 
 -- ---- a start draws its key
 
-told_no_start : (o : Outcome) (k : ℕ) (subject : Subject) → told_as o ≡ Start k subject → ⊥
-told_no_start (Found j) k subject e = cc
-told_no_start (Failed x) k subject e = cc
+-- a start of this key tells what was asked for by a session that is there, and draws its serial
+pub record IsStart (old : World) (e : Event) (new : World) (k : ℕ) (subject : Subject) : Type 0 where
+  pub who : SessionId
+  pub what : Ask
+  pub asks : e ≡ Asked who what
+  pub names : asked_of e ≡ Some (names_in subject)
+  pub there : is_none (session_of old.sessions who) ≡ false
+  pub fresh : is_drawn old k ≡ false
+  pub drawn : is_drawn new k ≡ true
 
--- equal starts are of one key
-pub start_key : {j k : ℕ} {s t : Subject} → ◌≡◌ {A = Answer} (Start j s) (Start k t) → j ≡ k
-start_key e = cc
+-- what an answer says, if it is a start
+abbrev Starts : World → Event → World → Answer → Type 0
+Starts old e new (Start k subject) = IsStart old e new k subject
+Starts old e new _ = Unit {0}
+
+told_no_start : (old : World) (e : Event) (new : World) (o : Outcome) → Starts old e new (told_as o)
+told_no_start old e new (Found k) = tt
+told_no_start old e new (Failed x) = tt
+
+starting : (old new : World) (now : ℕ) (e : Event) (a : Answer) (b : Sessions) → InSessions old new now e a b → Starts old e new a
+starting old new now e a b (starts s typ description callout r k subject authority names can fresh drawn) = record {
+  who = s;
+  what = ask.Request typ description (Some callout) r;
+  asks = refl;
+  names = ap (λ (n : List ℕ × (List ℕ × List ℕ)). Some n) (sym names);
+  there = can.there;
+  fresh = fresh.unused;
+  drawn = drawn;
+}
+starting old new now e a b (collects s wait outcome is ready) = told_no_start old _ new outcome
+starting old new now e a b _ = tt
+
+-- an answer that starts a construction
+pub start_is : (old : World) (now : ℕ) (e : Event) (a : Answer) (new : World) → Effect old now e a new → (k : ℕ) (subject : Subject) → a ≡ Start k subject
+    → IsStart old e new k subject
+start_is old now e a new is k subject ra = subst (Starts old e new) ra (starting old new now e a new.sessions (in_sessions old now e a new is))
 
 -- a start draws the serial of its key
 pub start_draws : (old : World) (now : ℕ) (e : Event) (a : Answer) (new : World) → Effect old now e a new → (k : ℕ) (subject : Subject) → a ≡ Start k subject
     → (is_drawn old k ≡ false) × (is_drawn new k ≡ true)
-start_draws old now e a new (refused error ra w free) k subject h = absurd (cc)
-start_draws old now e a new (still s wait ev is ready ra w) k subject h = absurd (cc)
-start_draws old now e a new (took s wait outcome ev is ready ra w) k subject h = absurd (told_no_start outcome k subject (sym ra ∙ h))
-start_draws old now e a new (came n ev fresh ra w) k subject h = absurd (cc)
-start_draws old now e a new (went n ev there ra w) k subject h = absurd (cc)
-start_draws old now e a new (greets n hello ev can none joined g) k subject h = absurd (let ra = g.6.0 in cc)
-start_draws old now e a new (begins s asker typ description callout r ring j ev can is depth fresh ra w) k subject h =
-    let same : j ≡ k = start_key (sym ra ∙ h) in
-    (ap (is_drawn old) (sym same) ∙ fresh.unused, ap (λ (v : World). is_drawn v k) w ∙ ap (is_drawn (drawn j old)) (sym same) ∙ drawn_now j old)
-start_draws old now e a new (joins s x ring j ev asks can building apart ra w) k subject h = absurd (cc)
-start_draws old now e a new (links s x ring j n ev completes_none not_assume ra w) k subject h = absurd (cc)
-start_draws old now e a new (unlinks s x ring j ev completes_none not_assume ra w) k subject h = absurd (cc)
-start_draws old now e a new (marks s x j f ev completes_none not_assume mild ra w) k subject h = absurd (cc)
-start_draws old now e a new (tells s x bytes ev ra w) k subject h = absurd (cc)
-start_draws old now e a new (sets s x setting n ev completes_none not_assume can ra w) k subject h = absurd (cc)
-start_draws old now e a new (adds s asker typ description payload r ring j ev fresh ra w) k subject h = absurd (cc)
-start_draws old now e a new (assumes s key ev can none ra w) k subject h = absurd (cc)
-start_draws old now e a new (concludes s x asker ring j condition end ev which can is own final ra w) k subject h = absurd (cc)
-start_draws old now e a new (ran_plain j st ev is launches ra w) k subject h = absurd (cc)
-start_draws old now e a new (ran_piped j ev is ra w) k subject h = absurd (cc)
-start_draws old now e a new (negates j how payload ev is fails ra w) k subject h = absurd (cc)
-start_draws old now e a new (failed j st ev is launches ra w) k subject h = absurd (cc)
-start_draws old now e a new (finished j how payload st condition ev is running final ra w) k subject h = absurd (cc)
+start_draws old now e a new is k subject ra = let start = start_is old now e a new is k subject ra in (start.fresh, start.drawn)
 
 -- ---- a launch finds a construction
-
-not_done : (a : Answer) (error : _) → a ≡ Refused error → is_done a ≡ true → ⊥
-not_done a error e d = (let f : is_done a ≡ false = ap is_done e in cc)
-
-true_false : true ≡ false → ⊥
-true_false e = cc
 
 -- what a launch is allowed by
 pub launch_kind : (w : World) (k : ℕ) (r : Ran) → may_launch r (stage_of w.sessions k) ≡ may_find r (kind_of w.sessions k)
@@ -163,78 +108,40 @@ found_some ran.Plain None h = absurd (true_false (sym h))
 found_some ran.Piped None h = absurd (true_false (sym h))
 found_some ran.Failed None h = absurd (true_false (sym h))
 
--- a launch that is done found its construction in a stage that allows it
-pub launch_finds : (old : World) (now k : ℕ) (r : Ran) (a : Answer) (new : World) → Step old now (Launched k r) a new → is_done a ≡ true
-    → may_find r (kind_of old.sessions k) ≡ true
-unfolding Step
-launch_finds old now k r a new h d =
-    unless (refused_if (not (may_launch r (stage_of old.sessions k))) errno.Einval) old a new _ _ (λ error ra same. absurd (not_done a error ra d))
-    (λ none g. sym (launch_kind old k r) ∙ not_not _ (if_none _ errno.Einval none)) h
-
--- another handler follows a piped one alone
-follow_stage : (old : World) (now k : ℕ) (how : How) (payload : Option (List ℕ)) (st : Option Stage) (a : Answer) (new : World) → stage_of old.sessions k ≡ st
-    → Ends old now k how payload st a new → is_followed a ≡ true → stage_of old.sessions k ≡ Some Piped
-follow_stage old now k how payload None a new is h f = absurd (true_false (sym f ∙ ap is_followed h.0))
-follow_stage old now k how payload (Some Starting) a new is h f = absurd (true_false (sym f ∙ ap is_followed h.0))
-follow_stage old now k how payload (Some Negating) a new is h f = absurd (true_false (sym f ∙ ap is_followed h.0))
-follow_stage old now k how payload (Some (Plain s)) a new is h f = absurd (true_false (sym f ∙ ap is_followed h.0))
-follow_stage old now k how payload (Some Piped) a new is h f = is
-
--- an end that another handler follows is that of a piped handler
-pub follow_finds : (old : World) (now k : ℕ) (how : How) (payload : Option (List ℕ)) (a : Answer) (new : World) → Step old now (Ended k how payload) a new
-    → is_followed a ≡ true → kind_of old.sessions k ≡ Some pipes
-unfolding Step
-follow_finds old now k how payload a new h f = stage_kind old.sessions k Piped (follow_stage old now k how payload (stage_of old.sessions k) a new refl h f)
-
 -- ---- after a step
 
-none_chosen : (b c : Bool) (o : Option Kind) → (b ≡ true → c ≡ true → ⊥) → cond (b && c) o None ≡ None
-none_chosen true true o h = absurd (h refl refl)
-none_chosen true false o h = refl
-none_chosen false c o h = refl
+module _ (old new : World) (now k : ℕ) (idle : IsIdle old) (fresh : is_drawn old k ≡ false) (undrawn : is_drawn new k ≡ false) where
+  -- a construction that is there is not that of k
+  absent : (j : ℕ) (st : Stage) (x : Option Kind) → stage_of old.sessions j ≡ Some st → cond (nat_eq j k) x None ≡ None
+  absent j st x is = by_test (nat_eq j k) refl
+    where
+      by_test : (b : Bool) → nat_eq j k ≡ b → cond b x None ≡ None
+      by_test true same =
+          absurd (none_some (sym (ap (kind_of old.sessions) (eqb-true j k same) ∙ idle k fresh) ∙ stage_kind old.sessions j st is))
+      by_test false other = refl
+
+  -- and neither is one that starts
+  another : (j : ℕ) → is_drawn new j ≡ true → cond (nat_eq j k) (Some to_start) None ≡ None
+  another j drawn = by_test (nat_eq j k) refl
+    where
+      by_test : (b : Bool) → nat_eq j k ≡ b → cond b (Some to_start) None ≡ None
+      by_test true same = absurd (true_false (sym (sym (ap (is_drawn new) (eqb-true j k same)) ∙ drawn) ∙ undrawn))
+      by_test false other = refl
+
+  still_none : (e : Event) (a : Answer) (b : Sessions) → InSessions old new now e a b → kind_after k e a None ≡ None
+  still_none e a b (is_refused y error w free) = refused_kind k y error None
+  still_none e a b (starts s typ description callout r j subject authority names can unused drawn) = another j drawn
+  still_none e a b (runs_plain j st is launches) = absent j st (Some talks) is
+  still_none e a b (runs_piped j is) = absent j Starting (Some pipes) is
+  still_none e a b (follows j how payload is free) = absent j Piped (Some to_follow) is
+  still_none e a b (not_run j st condition is launches) = absent j st None is
+  still_none e a b (ends j how payload st condition is running) = absent j st None is
+  still_none e a b _ = refl
 
 -- every step leaves the serials that were never drawn idle
 pub idle_step : (old : World) (now : ℕ) (e : Event) (a : Answer) (new : World) → Step old now e a new → IsIdle old → IsIdle new
-idle_step old now e a new h idle k undrawn =
-    let is = effect old now e a new h in
-    let none : kind_of old.sessions k ≡ None = idle k (keeps_drawn old now e a new is k undrawn) in
-    kinds old now e a new is k ∙ ap (kind_after k e a) none ∙ by_event e a refl refl
-  where
-    started : (s : SessionId) (x : Ask) (j : ℕ) (subject : Subject) → a ≡ Start j subject → (b : Bool) → nat_eq j k ≡ b → cond b (Some to_start) None ≡ None
-    started s x j subject ra true same =
-        absurd (let t = (start_draws old now e a new (effect old now e a new h) j subject ra).1 in let f : is_drawn new j
-        ≡ false = ap (is_drawn new) (eqb-true j k same) ∙ undrawn in cc)
-    started s x j subject ra false same = refl
-
-    never_launched : (j : ℕ) (r : Ran) → e ≡ Launched j r → is_done a ≡ true → nat_eq j k ≡ true → ⊥
-    never_launched j r ev d same =
-        let P : Event → Type 0 = λ y. Step old now y a new in
-        let found : may_find r (kind_of old.sessions j) ≡ true = launch_finds old now j r a new (subst P ev h) d in
-        let none : kind_of old.sessions j ≡ None =
-        ap (kind_of old.sessions) (eqb-true j k same) ∙ idle k (keeps_drawn old now e a new (effect old now e a new h) k undrawn) in
-        true_false (sym (found_some r _ found) ∙ ap is_some none)
-
-    never_followed : (j : ℕ) (how : How) (payload : Option (List ℕ)) → e ≡ Ended j how payload → is_followed a ≡ true → nat_eq j k ≡ true → ⊥
-    never_followed j how payload ev f same =
-        let P : Event → Type 0 = λ y. Step old now y a new in
-        let found : kind_of old.sessions j ≡ Some pipes = follow_finds old now j how payload a new (subst P ev h) f in
-        let none : kind_of old.sessions j ≡ None =
-        ap (kind_of old.sessions) (eqb-true j k same) ∙ idle k (keeps_drawn old now e a new (effect old now e a new h) k undrawn) in
-        true_false (ap is_some (sym found ∙ none))
-
-    by_event : (y : Event) (b : Answer) → e ≡ y → a ≡ b → kind_after k y b None ≡ None
-    by_event (Asked s x) (Start j subject) ev ra = started s x j subject ra (nat_eq j k) refl
-    by_event (Asked s x) (Done r) ev ra = refl
-    by_event (Asked s x) (Waiting j) ev ra = refl
-    by_event (Asked s x) (Negate j) ev ra = refl
-    by_event (Asked s x) (Refused error) ev ra = refl
-    by_event (Launched j r) b ev ra = none_chosen (is_done b) (nat_eq j k) _ (λ d same. never_launched j r ev (ap is_done ra ∙ d) same)
-    by_event (Ended j how payload) b ev ra =
-        ended_none (is_done b && nat_eq j k) (is_followed b) (nat_eq j k) (λ f same. never_followed j how payload ev (ap is_followed ra ∙ f) same)
-      where
-        ended_none : (d f same : Bool) → (f ≡ true → same ≡ true → ⊥) → ◌≡◌ {A = Option Kind} (cond d None (cond (f && same) (Some to_follow) None)) None
-        ended_none true f same h = refl
-        ended_none false f same h = none_chosen f same (Some to_follow) h
-    by_event (Opened s) b ev ra = refl
-    by_event (Collect s) b ev ra = refl
-    by_event (Gone s) b ev ra = refl
+idle_step old now e a new step idle k undrawn =
+    let is = effect old now e a new step in
+    let fresh : is_drawn old k ≡ false = keeps_drawn old now e a new is k undrawn in
+    kinds old now e a new is k ∙ ap (kind_after k e a) (idle k fresh)
+    ∙ still_none old new now k idle fresh undrawn e a new.sessions (in_sessions old now e a new is)

@@ -1,39 +1,12 @@
 -- The wait of each session, after each thing that a step may do.
-use Rattle.std.proofs.Common.{◌≡◌, ℕ, Bool, true, false, cond, refl, sym, ap, ◌∙◌}
-use Rattle.std.specs.Prelude.{Option, Some, None, nat_eq, is_none, option_map, option_and_then}
+use Rattle.rk_machine.proofs.Words.{◌≡◌, ℕ, ◌∙◌, Bool, true, false, cond, refl, ap, sym, Option, Some, None, nat_eq, option_map, option_and_then, is_none}
+use Rattle.rk_machine.proofs.Words.{eqb-true, eq-eqb, SessionId, Client, Handler, session_changed, in_handler, in_new_stage, spent, without_authority}
+use Rattle.rk_machine.proofs.Words.{without_construction, with_construction, all_told, told, with_client, without_client, with_wait, with_assumed, in_stage}
+use Rattle.rk_machine.proofs.Words.{new_wait, told_wait, Sessions, new_session, wait_of, session_of, handler_in, Authority, Construction, Stage, Starting}
+use Rattle.rk_machine.proofs.Words.{Plain, Piped, Negating, Outcome, Session, Wait, same_session, get_inserted, get_removed, get_changed_at, get_changed_all}
+use Rattle.rk_machine.proofs.Words.{of_choice}
 use Rattle.std.specs.FinMap as map
-use Rattle.std.proofs.lemmas.Bool.{eqb-true, eq-eqb}
-use Rattle.rk_names.specs.declared.numbers.SessionId.{SessionId}
-use Rattle.rk_names.specs.declared.numbers.SessionId.TheVariants.{Client, Handler}
-use Rattle.rk_auth.specs.declared.session.Session.{Session}
-use Rattle.rk_auth.specs.declared.session.Wait.{Wait}
-use Rattle.rk_auth.specs.declared.session.Outcome.{Outcome}
-use Rattle.rk_auth.specs.declared.construction.Stage.{Stage}
-use Rattle.rk_auth.specs.declared.construction.Stage.TheVariants.{Starting, Plain, Piped, Negating}
-use Rattle.rk_auth.specs.declared.construction.Authority.{Authority}
-use Rattle.rk_auth.specs.declared.construction.Construction.{Construction}
-use Rattle.rk_auth.specs.Sessions.{Sessions, new_session, session_of, wait_of, handler_in}
-use Rattle.rk_auth.specs.Changes.{
-  session_changed,
-  in_handler,
-  in_stage,
-  in_new_stage,
-  with_wait,
-  new_wait,
-  with_assumed,
-  launched,
-  spent,
-  without_authority,
-  without_construction,
-  with_construction,
-  all_told,
-  told,
-  told_wait,
-  with_client,
-  without_client,
-}
-use Rattle.rk_machine.specs.Laws.{same_session}
-use Rattle.rk_machine.proofs.Found.InMaps.{get_inserted, get_removed, get_changed_at, get_changed_all}
+use Rattle.rk_auth.specs.Changes.{launched}
 
 -- sessions that pass the test are the same
 pub same-true : (s t : SessionId) → same_session s t ≡ true → s ≡ t
@@ -173,14 +146,12 @@ wait_launched k st h a (Client n) = refl
 wait_launched k st h a (Handler j) =
     ap (λ x. wait_in (in_construction x)) (get_changed_at k (in_new_stage st) a.constructions j) ∙ launched_in st h (nat_eq k j) (map.get a.constructions j)
 
-removed_in : (b : Bool) (o : Option Construction) → wait_in (in_construction (cond b None o)) ≡ cond b None (wait_in (in_construction o))
-removed_in true o = refl
-removed_in false o = refl
-
 -- a construction that is removed takes its handler's wait with it, and every other wait stays
 pub wait_removed : (k : ℕ) (a : Sessions) (s : SessionId) → wait_of (without_construction k a) s ≡ cond (same_session (Handler k) s) None (wait_of a s)
 wait_removed k a (Client n) = refl
-wait_removed k a (Handler j) = ap (λ x. wait_in (in_construction x)) (get_removed a.constructions k j) ∙ removed_in (nat_eq k j) (map.get a.constructions j)
+wait_removed k a (Handler j) =
+    ap (λ x. wait_in (in_construction x)) (get_removed a.constructions k j)
+    ∙ of_choice (λ x. wait_in (in_construction x)) (nat_eq k j) None (map.get a.constructions j)
 
 issued_in : (b : Bool) (authority : Authority) (o : Option Construction) → (b ≡ true → o ≡ None)
     → wait_in (in_construction (cond b (Some (record { stage = Starting; authority = Some authority })) o)) ≡ wait_in (in_construction o)
@@ -208,24 +179,12 @@ wait_came n a (Client m) new =
     ap wait_in (get_inserted a.clients n new_session m) ∙ came_in (nat_eq n m) (map.get a.clients m)
     (λ same. ap (map.get a.clients) (sym (eqb-true n m same)) ∙ new)
 
-went_in : (b : Bool) (o : Option Session) → wait_in (cond b None o) ≡ cond b None (wait_in o)
-went_in true o = refl
-went_in false o = refl
-
 -- a client that goes takes its wait with it, and every other wait stays
 pub wait_went : (n : ℕ) (a : Sessions) (s : SessionId) → wait_of (without_client n a) s ≡ cond (same_session (Client n) s) None (wait_of a s)
 wait_went n a (Handler j) = refl
-wait_went n a (Client m) = ap wait_in (get_removed a.clients n m) ∙ went_in (nat_eq n m) (map.get a.clients m)
+wait_went n a (Client m) = ap wait_in (get_removed a.clients n m) ∙ of_choice wait_in (nat_eq n m) None (map.get a.clients m)
 
 -- ---- the same of the keys alone
-
-cleared : (b : Bool) (o : Option Wait) → option_map flag (cond b None o) ≡ cond b None (option_map flag o)
-cleared true o = refl
-cleared false o = refl
-
-chosen : (b : Bool) (w : Wait) (o : Option Wait) → option_map flag (cond b (Some w) o) ≡ cond b (Some (flag w)) (option_map flag o)
-chosen true w o = refl
-chosen false w o = refl
 
 told_flag : (k : ℕ) (o : Outcome) (w : Option Wait) → option_map flag (option_map (told_wait k o) w) ≡ option_map flag w
 told_flag k o None = refl
@@ -238,12 +197,14 @@ flag_kept id f h a s = ap (option_map flag) (wait_kept id f h a s)
 -- a session that collects waits for no key, and every other as before
 pub flag_collected : (id : SessionId) (a : Sessions) (s : SessionId)
     → flag_of (session_changed id (with_wait None) a) s ≡ cond (same_session id s) None (flag_of a s)
-flag_collected id a s = ap (option_map flag) (wait_collected id a s) ∙ cleared (same_session id s) (wait_of a s)
+flag_collected id a s = ap (option_map flag) (wait_collected id a s) ∙ of_choice (option_map flag) (same_session id s) None (wait_of a s)
 
 -- a session that begins a wait waits for that key, and every other as before
 pub flag_begun : (id : SessionId) (k : ℕ) (b : Bool) (a : Sessions) (s : SessionId) → is_none (session_of a id) ≡ false
     → flag_of (session_changed id (with_wait (Some (new_wait k b))) a) s ≡ cond (same_session id s) (Some (k, b)) (flag_of a s)
-flag_begun id k b a s there = ap (option_map flag) (wait_begun id (new_wait k b) a s there) ∙ chosen (same_session id s) (new_wait k b) (wait_of a s)
+flag_begun id k b a s there =
+    ap (option_map flag) (wait_begun id (new_wait k b) a s there)
+    ∙ of_choice (option_map flag) (same_session id s) (Some (new_wait k b)) (wait_of a s)
 
 -- an outcome leaves for which key each session waits
 pub flag_told : (k : ℕ) (o : Outcome) (a : Sessions) (s : SessionId) → flag_of (all_told k o a) s ≡ flag_of a s
@@ -263,11 +224,13 @@ no_wait_in st h = none_flag (wait_in (handler_in st)) h
 -- after a launch the handler of k waits for no key, and every other session as before
 pub flag_launched : (k : ℕ) (st : Stage) → flag_in (handler_in st) ≡ None → (a : Sessions) (s : SessionId)
     → flag_of (launched k st a) s ≡ cond (same_session (Handler k) s) None (flag_of a s)
-flag_launched k st h a s = ap (option_map flag) (wait_launched k st (no_wait_in st h) a s) ∙ cleared (same_session (Handler k) s) (wait_of a s)
+flag_launched k st h a s =
+    ap (option_map flag) (wait_launched k st (no_wait_in st h) a s)
+    ∙ of_choice (option_map flag) (same_session (Handler k) s) None (wait_of a s)
 
 -- if a construction is removed its handler waits for no key, and every other session as before
 pub flag_removed : (k : ℕ) (a : Sessions) (s : SessionId) → flag_of (without_construction k a) s ≡ cond (same_session (Handler k) s) None (flag_of a s)
-flag_removed k a s = ap (option_map flag) (wait_removed k a s) ∙ cleared (same_session (Handler k) s) (wait_of a s)
+flag_removed k a s = ap (option_map flag) (wait_removed k a s) ∙ of_choice (option_map flag) (same_session (Handler k) s) None (wait_of a s)
 
 -- a construction that begins leaves for which key each session waits
 pub flag_issued : (k : ℕ) (authority : Authority) (a : Sessions) (s : SessionId) → map.get a.constructions k ≡ None
@@ -280,4 +243,4 @@ flag_came n a s new = ap (option_map flag) (wait_came n a s new)
 
 -- a client that went waits for no key, and every other session as before
 pub flag_went : (n : ℕ) (a : Sessions) (s : SessionId) → flag_of (without_client n a) s ≡ cond (same_session (Client n) s) None (flag_of a s)
-flag_went n a s = ap (option_map flag) (wait_went n a s) ∙ cleared (same_session (Client n) s) (wait_of a s)
+flag_went n a s = ap (option_map flag) (wait_went n a s) ∙ of_choice (option_map flag) (same_session (Client n) s) None (wait_of a s)

@@ -1,84 +1,23 @@
 -- In every run the waits that the list tells are those of the world.
-use Rattle.std.proofs.Common.{◌≡◌, ◌⊎◌, ℕ, Bool, true, false, cond, ◌||◌, ◌&&◌, List, refl, sym, ap, ◌∙◌, inl, inr}
-use Rattle.std.specs.Prelude.{Option, Some, None, nat_eq, not, is_some, is_none, option_map, option_and_then}
-use Rattle.std.specs.Option.{option_map_or}
+use Rattle.rk_machine.proofs.Words.{◌≡◌, ℕ, ◌∙◌, ◌||◌, ◌&&◌, Bool, true, false, cond, refl, ap, sym, not, List, option_map_or, nat_cmp, Option, Some, None}
+use Rattle.rk_machine.proofs.Words.{nat_eq, option_map, option_and_then, is_none, eqb-true, Errno, SessionId, Client, Handler, Ask, Reply, Number, Bytes, Rings}
+use Rattle.rk_machine.proofs.Words.{Condition, Key, spent, with_construction, with_context, with_setting, with_assumed, Sessions, new_session, session_of}
+use Rattle.rk_machine.proofs.Words.{stage_of, is_to_launch, handler_in, Authority, Construction, Stage, Starting, Plain, Piped, Negating, Outcome, Found}
+use Rattle.rk_machine.proofs.Words.{Failed, done, serial_named, announced, sessions_ended, ended, Event, is_done, same_session, is_wait_ended, is_waiting}
+use Rattle.rk_machine.proofs.Words.{told_as, Past, World, Answer, Done, Start, Waiting, Refused, Negate, Opened, Asked, Launched, Ended, Collect, Gone, How}
+use Rattle.rk_machine.proofs.Words.{get_inserted, none_is, and_false}
 use Rattle.std.specs.FinMap as map
-use Rattle.std.specs.Ordering.{nat_cmp}
-use Rattle.std.proofs.lemmas.Bool.{eqb-true}
-use Rattle.rk_names.specs.declared.errors.Errno.{Errno}
-use Rattle.rk_names.specs.declared.errors.KeyError.TheVariants as error
-use Rattle.rk_names.specs.declared.numbers.SessionId.{SessionId}
-use Rattle.rk_names.specs.declared.numbers.SessionId.TheVariants.{Client, Handler}
-use Rattle.rk_message.specs.Ask.{Ask}
 use Rattle.rk_message.specs.declared.ask.AskOf.TheVariants as ask
-use Rattle.rk_message.specs.declared.reply.Reply.{Reply}
-use Rattle.rk_keys.specs.declared.key.Key.{Key}
-use Rattle.rk_keys.specs.declared.key.Condition.{Condition}
-use Rattle.rk_keys.specs.declared.key.Condition.TheVariants.{Negative}
-use Rattle.rk_auth.specs.declared.session.Outcome.{Outcome}
-use Rattle.rk_auth.specs.declared.session.Outcome.TheVariants.{Found, Failed}
-use Rattle.rk_auth.specs.declared.construction.Stage.{Stage}
-use Rattle.rk_auth.specs.declared.construction.Stage.TheVariants.{Starting, Plain, Piped, Negating}
-use Rattle.rk_auth.specs.declared.construction.Construction.{Construction}
-use Rattle.rk_auth.specs.Sessions.{is_to_launch, Sessions, new_session, session_of, wait_of, stage_of, handler_in, unspent}
-use Rattle.rk_auth.specs.declared.construction.Authority.{Authority}
-use Rattle.rk_auth.specs.Changes.{spent, with_construction, all_told, with_context, with_setting, with_assumed}
-use Rattle.rk_machine.specs.Event.{Event}
-use Rattle.rk_machine.specs.declared.event.EventOf.TheVariants.{Opened, Asked, Launched, Ended, Collect, Gone}
 use Rattle.rk_machine.specs.declared.event.Ran.TheVariants as ran
-use Rattle.rk_machine.specs.declared.event.How.{How}
-use Rattle.rk_machine.specs.declared.event.Answer.{Answer}
-use Rattle.rk_machine.specs.declared.event.Answer.TheVariants.{Done, Waiting, Refused, Negate}
-use Rattle.rk_machine.specs.World.{World, tidied}
-use Rattle.rk_machine.specs.Allowed.{done}
-use Rattle.rk_machine.specs.Links.{unlinked_in, cleared_in}
-use Rattle.rk_machine.specs.Completion.{announced, outcome_of, sessions_ended, keys_ended, ended}
-use Rattle.rk_machine.specs.Steps.{Past, told_as}
-use Rattle.rk_machine.specs.Laws.{same_session, is_done, is_waiting, wait_begun, is_wait_ended}
-use Rattle.rk_machine.proofs.Found.InMaps.{get_inserted}
-use Rattle.rk_machine.proofs.Found.Refusals.{none_is, and_false}
-use Rattle.rk_machine.proofs.Effects.KindsOfStep.{
-  Effect,
-  refused,
-  still,
-  took,
-  came,
-  went,
-  greets,
-  begins,
-  joins,
-  links,
-  unlinks,
-  marks,
-  tells,
-  sets,
-  adds,
-  assumes,
-  concludes,
-  ran_plain,
-  ran_piped,
-  negates,
-  failed,
-  finished,
-}
-use Rattle.rk_machine.proofs.Effects.HelloChanges.{greeted_sessions}
+use Rattle.rk_auth.specs.Changes.{launched}
+use Rattle.rk_machine.specs.Laws.{wait_begun}
 use Rattle.rk_machine.proofs.Effects.DrawnSerials.{is_drawn}
-use Rattle.rk_machine.proofs.Effects.WaitsAfter.{
-  same-true,
-  flag,
-  flag_in,
-  flag_of,
-  flag_kept,
-  flag_collected,
-  flag_begun,
-  flag_told,
-  flag_spent,
-  flag_launched,
-  flag_removed,
-  flag_issued,
-  flag_came,
-  flag_went,
-}
+use Rattle.rk_machine.proofs.Effects.WaitsAfter.{same-true, flag, flag_in, flag_of, flag_kept, flag_collected, flag_begun, flag_told, flag_spent, flag_launched}
+use Rattle.rk_machine.proofs.Effects.WaitsAfter.{flag_removed, flag_issued, flag_came, flag_went}
+use Rattle.rk_machine.proofs.Effects.KindsOfStep.{Effect}
+use Rattle.rk_machine.proofs.Effects.OfSessions.{InSessions, in_sessions, is_refused, waits_on, collects, comes, greeted, goes, starts, waits_for, answered}
+use Rattle.rk_machine.proofs.Effects.OfSessions.{told, is_set, assumed, concluded, runs_plain, runs_piped, follows, not_run, ends}
+use Rattle.rk_machine.proofs.Effects.LeftByOutcomes.{left_announced, left_settled}
 
 -- a step of the past
 abbrev pub step : ℕ → Event → Answer → Past
@@ -111,25 +50,18 @@ pub begun_refused : (s : SessionId) (e : Event) (error : Errno) → wait_begun s
 begun_refused s (Asked t x) error = refl
 begun_refused s _ error = refl
 
-begun_done : (s : SessionId) (e : Event) (reply : Reply) → wait_begun s e (Done reply) ≡ None
-begun_done s (Asked t x) reply = refl
-begun_done s _ reply = refl
-
 -- an ask ends no wait
 over_asked : (now : ℕ) (s t : SessionId) (x : Ask) (a : Answer) → is_wait_ended s (step now (Asked t x) a) ≡ false
 over_asked now (Client n) t x a = ap (λ b. b || false) (and_false (is_done a) false refl)
 over_asked now (Handler k) t x a = λ i. and_false (is_done a) false refl i || and_false (is_done a) false refl i
 
-module _ (now : ℕ) (s : SessionId) (r : Option (ℕ × Bool)) where
-  asked_done : (e : Event) (a : Answer) (t : SessionId) (x : Ask) (reply : Reply) → e ≡ Asked t x → a ≡ Done reply → after now s e a r ≡ r
-  asked_done e a t x reply ev ra =
-      ap (λ y. after now s y a r) ev ∙ ap (λ y. after now s (Asked t x) y r) ra
-      ∙ quiet_after now s (Asked t x) (Done reply) r refl (over_asked now s t x (Done reply))
+done_after : (now : ℕ) (s t : SessionId) (x : Ask) (reply : Reply) (r : Option (ℕ × Bool)) → after now s (Asked t x) (Done reply) r ≡ r
+done_after now s t x reply r = quiet_after now s (Asked t x) (Done reply) r refl (over_asked now s t x (Done reply))
 
-  asked_begun : (e : Event) (a : Answer) (t : SessionId) (x : Ask) (v : ℕ × Bool) → e ≡ Asked t x
-      → wait_begun s (Asked t x) a ≡ cond (same_session t s) (Some v) None → after now s e a r ≡ cond (same_session t s) (Some v) r
-  asked_begun e a t x v ev begun =
-      ap (λ y. after now s y a r) ev ∙ (λ i. option_map_or (λ w. Some w) (begun i) (cond (over_asked now s t x a i) None r)) ∙ chosen (same_session t s) v r
+begun_after : (now : ℕ) (s t : SessionId) (x : Ask) (a : Answer) (v : ℕ × Bool) (r : Option (ℕ × Bool))
+    → wait_begun s (Asked t x) a ≡ cond (same_session t s) (Some v) None → after now s (Asked t x) a r ≡ cond (same_session t s) (Some v) r
+begun_after now s t x a v r begun =
+    (λ i. option_map_or (λ w. Some w) (begun i) (cond (over_asked now s t x a i) None r)) ∙ chosen (same_session t s) v r
 
 over_other : (now : ℕ) (s : SessionId) (n : ℕ) → is_wait_ended s (step now (Opened (Client n)) done) ≡ false
 over_other now (Client m) n = refl
@@ -189,30 +121,16 @@ refused_after now s e error r free = cleared_after now s e (Refused error) _ r (
 
 -- ---- the world's side
 
-flag_at : (new mid : World) (s : SessionId) (o : Option (ℕ × Bool)) → new ≡ mid → flag_of mid.sessions s ≡ o → flag_of new.sessions s ≡ o
-flag_at new mid s o e h = ap (λ (w : World). flag_of w.sessions s) e ∙ h
-
 flag_announced : (now k : ℕ) (keys : map.FinMap nat_cmp Key) (a : Sessions) (s : SessionId) → flag_of (announced now k keys a) s ≡ flag_of a s
-flag_announced now k keys a s = told_or_not (map.get keys k)
-  where
-    told_or_not : (o : Option Key) → flag_of (option_map_or (λ key. all_told k (outcome_of k key now) a) o a) s ≡ flag_of a s
-    told_or_not None = refl
-    told_or_not (Some key) = flag_told k (outcome_of k key now) a s
+flag_announced now k keys a s = left_announced (λ b. flag_of b s) (λ j o b. flag_told j o b s) now k keys a
 
 flag_settled : (now k : ℕ) (condition : Condition) (w : World) (s : SessionId) → flag_of (sessions_ended now k condition w) s ≡ flag_of w.sessions s
-flag_settled now k condition w s = spent_or_not (is_some (unspent w.sessions k))
-  where
-    spent_or_not : (b : Bool) → flag_of (cond b (announced now k (keys_ended now k condition w) (spent k w.sessions)) w.sessions) s ≡ flag_of w.sessions s
-    spent_or_not true = flag_announced now k (keys_ended now k condition w) (spent k w.sessions) s ∙ flag_spent k w.sessions s
-    spent_or_not false = refl
+flag_settled now k condition w s = left_settled (λ b. flag_of b s) (λ j o b. flag_told j o b s) (λ j b. flag_spent j b s) now k condition w
 
 flag_ended : (now k : ℕ) (condition : Condition) (w : World) (s : SessionId)
     → flag_of (ended now k condition w).sessions s ≡ cond (same_session (Handler k) s) None (flag_of w.sessions s)
 flag_ended now k condition w s =
     flag_removed k (sessions_ended now k condition w) s ∙ ap (cond (same_session (Handler k) s) None) (flag_settled now k condition w s)
-
-none_flag : (a : Sessions) (t : SessionId) → wait_of a t ≡ None → flag_of a t ≡ None
-none_flag a t h = ap (option_map flag) h
 
 -- a construction without a session of its handler
 -- (one that is to be started, or is piped)
@@ -229,11 +147,6 @@ no_flag a k is none h = found (map.get a.constructions k) h
 none_or_same : (b : Bool) (r : Option (ℕ × Bool)) → (b ≡ true → r ≡ None) → cond b None r ≡ r
 none_or_same true r h = sym (h refl)
 none_or_same false r h = refl
-
-unlinked_flag : (old new : World) (ring : Option ℕ) (k : ℕ) (s : SessionId) → (new ≡ tidied (unlinked_in ring k old)) ⊎ (new ≡ tidied (cleared_in ring old))
-    → flag_of new.sessions s ≡ flag_of old.sessions s
-unlinked_flag old new ring k s (inl h) = flag_at new _ s _ h refl
-unlinked_flag old new ring k s (inr h) = flag_at new _ s _ h refl
 
 launched_after : (now k : ℕ) (s : SessionId) (r : Option (ℕ × Bool)) → after now s (Launched k ran.Plain) done r ≡ r
 launched_after now k (Client n) r = refl
@@ -287,71 +200,48 @@ there_issued k authority a (Handler j) new h =
         (sym (eqb-true k j same)) ∙ ap (option_and_then (λ (c : Construction). handler_in c.stage)) new in ap is_none (sym none) ∙ h
     kept false other = h
 
+-- a launch leaves for which key each session waits, if the handler had no session
+flag_still : (k : ℕ) (st was : Stage) (a : Sessions) (s : SessionId) → flag_in (handler_in st) ≡ None → handler_in was ≡ None → stage_of a k ≡ Some was
+    → flag_of (launched k st a) s ≡ flag_of a s
+flag_still k st was a s none absent is =
+    flag_launched k st none a s ∙ none_or_same (same_session (Handler k) s) _
+    (λ same. ap (flag_of a) (sym (same-true (Handler k) s same)) ∙ no_flag a k was absent is)
+
 -- for which key a session waits after a step results from the event, its answer and for which it waited
 pub tied : (old : World) (now : ℕ) (e : Event) (a : Answer) (new : World) → Effect old now e a new → IdleFresh old → (s : SessionId)
     → flag_of new.sessions s ≡ after now s e a (flag_of old.sessions s)
-tied old now e a new (refused error ra w free) idle s =
-    ap (λ (v : World). flag_of v.sessions s) w
-    ∙ sym (ap (λ y. after now s e y (flag_of old.sessions s)) ra ∙ refused_after now s e error _
-    (λ t ev same. ap (flag_of old.sessions) (sym (same-true t s same)) ∙ none_flag old.sessions t (free t ev)))
-tied old now e a new (still t wait ev is ready ra w) idle s =
-    ap (λ (v : World). flag_of v.sessions s) w ∙ sym (ap (λ y. after now s y a (flag_of old.sessions s)) ev
-    ∙ ap (λ y. after now s (Collect t) y (flag_of old.sessions s)) ra ∙ still_after now s t wait.key _)
-tied old now e a new (took t wait outcome ev is ready ra w) idle s =
-    flag_at new _ s _ w (flag_collected t old.sessions s)
-    ∙ sym (ap (λ y. after now s y a (flag_of old.sessions s)) ev ∙ ap (λ y. after now s (Collect t) y (flag_of old.sessions s)) ra
-    ∙ cleared_after now s (Collect t) (told_as outcome) _ _ (begun_told s t outcome) (over_collected now s t outcome))
-tied old now e a new (came n ev fresh ra w) idle s =
-    flag_at new _ s _ w (flag_came n old.sessions s (none_is (map.get old.sessions.clients n) fresh))
-    ∙ sym (ap (λ y. after now s y a (flag_of old.sessions s)) ev ∙ ap (λ y. after now s (Opened (Client n)) y (flag_of old.sessions s)) ra
-    ∙ quiet_after now s (Opened (Client n)) done _ refl (over_other now s n))
-tied old now e a new (went n ev there ra w) idle s =
-    flag_at new _ s _ w (flag_went n old.sessions s)
-    ∙ sym (ap (λ y. after now s y a (flag_of old.sessions s)) ev ∙ ap (λ y. after now s (Gone (Client n)) y (flag_of old.sessions s)) ra
-    ∙ cleared_after now s (Gone (Client n)) done _ _ refl (over_gone now s n))
-tied old now e a new (greets n hello ev can none joined h) idle s =
-    flag_at new _ s _ h.6.1 (flag_kept (Client n) (with_context (record { uid = hello.uid; gid = hello.gid; thread = h.0; process = h.1; session = h.2; user = h.3 }))
-    (λ x. refl) h.4.sessions s ∙ ap (λ (x : Sessions). flag_of x s) (greeted_sessions _ old h.4 h.0 h.1 h.2 h.3 h.5))
-    ∙ sym (asked_done now s _ e a (Client n) (ask.Hello hello) _ ev h.6.0)
-tied old now e a new (begins t asker typ description callout r ring k ev can is depth fresh ra w) idle s =
-    flag_at new _ s _ w (flag_begun t k true _ s (there_issued k _ old.sessions t (idle k fresh.unused) can.there)
-    ∙ ap (cond (same_session t s) (Some (k, true))) (flag_issued k _ old.sessions s (idle k fresh.unused)))
-    ∙ sym (asked_begun now s _ e a t _ (k, true) ev (ap (λ y. wait_begun s (Asked t (ask.Request typ description (Some callout) r)) y) ra))
-tied old now e a new (joins t x ring k ev asks can building apart ra w) idle s =
-    flag_at new _ s _ w (flag_begun t k false old.sessions s can.there) ∙ sym
-    (asked_begun now s _ e a t x (k, false) ev (ap (λ y. wait_begun s (Asked t x) y) ra))
-tied old now e a new (links t x ring k n ev completes_none not_assume ra w) idle s = flag_at new _ s _ w refl ∙ sym (asked_done now s _ e a t x _ ev ra)
-tied old now e a new (unlinks t x ring k ev completes_none not_assume ra w) idle s = unlinked_flag old new ring k s w ∙ sym (asked_done now s _ e a t x _ ev ra)
-tied old now e a new (marks t x k f ev completes_none not_assume mild ra w) idle s = flag_at new _ s _ w refl ∙ sym (asked_done now s _ e a t x _ ev ra)
-tied old now e a new (tells t x bytes ev ra w) idle s = ap (λ (v : World). flag_of v.sessions s) w ∙ sym (asked_done now s _ e a t x _ ev ra)
-tied old now e a new (sets t x setting n ev completes_none not_assume can ra w) idle s =
-    flag_at new _ s _ w (flag_kept t (with_setting setting) (λ x. refl) old.sessions s) ∙ sym (asked_done now s _ e a t x _ ev ra)
-tied old now e a new (adds t asker typ description payload r ring k ev fresh ra w) idle s = flag_at new _ s _ w refl ∙ sym (asked_done now s _ e a t _ _ ev ra)
-tied old now e a new (assumes t key ev can none ra w) idle s =
-    flag_at new _ s _ w (flag_kept t (with_assumed _) (λ x. refl) old.sessions s) ∙ sym (asked_done now s _ e a t _ _ ev ra)
-tied old now e a new (concludes t x asker ring k condition end ev which can is own final ra w) idle s =
-    flag_at new _ s _ w (flag_announced now k _ (spent k old.sessions) s ∙ flag_spent k old.sessions s) ∙ sym (asked_done now s _ e a t x _ ev ra)
-tied old now e a new (ran_plain k st ev is launches ra w) idle s =
-    flag_at new _ s _ w (flag_launched k (Plain new_session) refl old.sessions s
-    ∙ none_or_same (same_session (Handler k) s) _ (λ same. ap (flag_of old.sessions) (sym (same-true (Handler k) s same))
-    ∙ no_flag old.sessions k st (waiting_handler st launches) is))
-    ∙ sym (ap (λ y. after now s y a (flag_of old.sessions s)) ev ∙ ap (λ y. after now s (Launched k ran.Plain) y (flag_of old.sessions s)) ra
-    ∙ launched_after now k s _)
-tied old now e a new (ran_piped k ev is ra w) idle s =
-    flag_at new _ s _ w (flag_launched k Piped refl old.sessions s ∙ none_or_same (same_session (Handler k) s) _
-    (λ same. ap (flag_of old.sessions) (sym (same-true (Handler k) s same)) ∙ no_flag old.sessions k Starting refl is))
-    ∙ sym (ap (λ y. after now s y a (flag_of old.sessions s)) ev ∙ ap (λ y. after now s (Launched k ran.Piped) y (flag_of old.sessions s)) ra
-    ∙ piped_after now k s _)
-tied old now e a new (negates k how payload ev is fails ra w) idle s =
-    flag_at new _ s _ w (flag_launched k Negating refl old.sessions s ∙ none_or_same (same_session (Handler k) s) _
-    (λ same. ap (flag_of old.sessions) (sym (same-true (Handler k) s same)) ∙ no_flag old.sessions k Piped refl is))
-    ∙ sym (ap (λ y. after now s y a (flag_of old.sessions s)) ev ∙ ap (λ y. after now s (Ended k how payload) y (flag_of old.sessions s)) ra
-    ∙ negated_after now k how payload s _)
-tied old now e a new (failed k st ev is launches ra w) idle s =
-    flag_at new _ s _ w (flag_ended now k (Negative error.NoKey) old s)
-    ∙ sym (ap (λ y. after now s y a (flag_of old.sessions s)) ev ∙ ap (λ y. after now s (Launched k ran.Failed) y (flag_of old.sessions s)) ra
-    ∙ failed_after now k s _)
-tied old now e a new (finished k how payload st condition ev is running final ra w) idle s =
-    flag_at new _ s _ w (flag_ended now k condition old s)
-    ∙ sym (ap (λ y. after now s y a (flag_of old.sessions s)) ev ∙ ap (λ y. after now s (Ended k how payload) y (flag_of old.sessions s)) ra
-    ∙ finished_after now k how payload s _)
+tied old now e a new is idle s = by_case e a new.sessions (in_sessions old now e a new is)
+  where
+    by_case : (e : Event) (a : Answer) (b : Sessions) → InSessions old new now e a b → flag_of b s ≡ after now s e a (flag_of old.sessions s)
+    by_case e a b (is_refused y error w free) =
+        sym (refused_after now s y error _ (λ t ev same. ap (flag_of old.sessions) (sym (same-true t s same)) ∙ ap (option_map flag) (free t ev)))
+    by_case e a b (waits_on t wait is ready) = sym (still_after now s t wait.key _)
+    by_case e a b (collects t wait outcome is ready) =
+        flag_collected t old.sessions s
+        ∙ sym (cleared_after now s (Collect t) (told_as outcome) _ _ (begun_told s t outcome) (over_collected now s t outcome))
+    by_case e a b (comes n fresh) =
+        flag_came n old.sessions s (none_is (map.get old.sessions.clients n) fresh) ∙ sym (quiet_after now s (Opened (Client n)) done _ refl (over_other now s n))
+    by_case e a b (goes n there) = flag_went n old.sessions s ∙ sym (cleared_after now s (Gone (Client n)) done _ _ refl (over_gone now s n))
+    by_case e a b (greeted n hello c thread process session user can) =
+        flag_kept (Client n) (with_context c) (λ x. refl) old.sessions s ∙ sym (done_after now s (Client n) (ask.Hello hello) (Rings thread process session user) (flag_of old.sessions s))
+    by_case e a b (starts t typ description callout r k subject authority names can fresh drawn) =
+        flag_begun t k true _ s (there_issued k authority old.sessions t (idle k fresh.unused) can.there)
+        ∙ ap (cond (same_session t s) (Some (k, true))) (flag_issued k authority old.sessions s (idle k fresh.unused))
+        ∙ sym (begun_after now s t (ask.Request typ description (Some callout) r) (Start k subject) (k, true) _ refl)
+    by_case e a b (waits_for t x k asks can apart) =
+        flag_begun t k false old.sessions s can.there ∙ sym (begun_after now s t x (Waiting k) (k, false) _ refl)
+    by_case e a b (answered t x n plain) = sym (done_after now s t x (Number n) (flag_of old.sessions s))
+    by_case e a b (told t x bytes w) = sym (done_after now s t x (Bytes bytes) (flag_of old.sessions s))
+    by_case e a b (is_set t x setting n plain can) =
+        flag_kept t (with_setting setting) (λ x. refl) old.sessions s ∙ sym (done_after now s t x (Number n) (flag_of old.sessions s))
+    by_case e a b (assumed t key can none) =
+        flag_kept t (with_assumed (serial_named key)) (λ x. refl) old.sessions s
+        ∙ sym (done_after now s t (ask.Assume key) (Number 0) (flag_of old.sessions s))
+    by_case e a b (concluded t x asker k keys which is own) =
+        flag_announced now k keys (spent k old.sessions) s ∙ flag_spent k old.sessions s ∙ sym (done_after now s t x (Number 0) (flag_of old.sessions s))
+    by_case e a b (runs_plain k st is launches) =
+        flag_still k (Plain new_session) st old.sessions s refl (waiting_handler st launches) is ∙ sym (launched_after now k s _)
+    by_case e a b (runs_piped k is) = flag_still k Piped Starting old.sessions s refl refl is ∙ sym (piped_after now k s _)
+    by_case e a b (follows k how payload is free) = flag_still k Negating Piped old.sessions s refl refl is ∙ sym (negated_after now k how payload s _)
+    by_case e a b (not_run k st condition is launches) = flag_ended now k condition old s ∙ sym (failed_after now k s _)
+    by_case e a b (ends k how payload st condition is running) = flag_ended now k condition old s ∙ sym (finished_after now k how payload s _)

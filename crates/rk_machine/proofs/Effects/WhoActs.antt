@@ -1,19 +1,11 @@
 -- Who acts: a client in its own context, a handler by the authority of its own key.
-use Rattle.std.proofs.Common.{◌≡◌, ◌+◌, ℕ, refl, sym, ap, ◌∙◌}
-use Rattle.std.specs.Prelude.{Option, Some, None, option_map, option_and_then}
+use Rattle.rk_machine.proofs.Words.{Option, Some, None, option_map, option_and_then, ◌≡◌, ℕ, refl, ap, ◌∙◌, sym, ◌+◌, Context, Client, Handler, Sessions}
+use Rattle.rk_machine.proofs.Words.{unspent, session_of, assumed_authority, handler_in, Authority, Construction, Session, Asker, asker_of, client_asker}
+use Rattle.rk_machine.proofs.Words.{handler_asker, World, none_some, some_same, some_none}
 use Rattle.std.specs.FinMap as map
-use Rattle.rk_names.specs.declared.context.Context.{Context}
-use Rattle.rk_names.specs.declared.numbers.SessionId.TheVariants.{Client, Handler}
-use Rattle.rk_auth.specs.declared.session.Session.{Session}
-use Rattle.rk_auth.specs.declared.construction.Authority.{Authority}
-use Rattle.rk_auth.specs.declared.construction.Construction.{Construction}
-use Rattle.rk_auth.specs.Sessions.{Sessions, session_of, handler_in, unspent, assumed_authority}
-use Rattle.rk_machine.specs.World.{World}
-use Rattle.rk_machine.specs.Asker.{Asker, asker_of, client_asker, handler_asker}
 use Rattle.rk_machine.proofs.Effects.StagesAfter.{shape}
 use Rattle.rk_machine.proofs.Effects.OfOneConstruction.{Goods}
 use Rattle.rk_machine.proofs.Effects.ContextsAfter.{context_at}
-use Rattle.rk_machine.proofs.Found.Options.{none_some, some_none, some_same}
 
 -- ---- clients
 

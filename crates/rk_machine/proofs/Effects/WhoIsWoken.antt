@@ -1,185 +1,103 @@
 -- What a step leaves of the waits of others, and who of them may collect only now.
-use Rattle.std.proofs.Common.{◌≡◌, ◌⊎◌, ℕ, Bool, true, false, cond, ◌&&◌, refl, sym, ap, ◌∙◌, inl, inr}
-use Rattle.std.specs.Prelude.{Option, Some, None, nat_eq, is_some, option_map, option_and_then}
-use Rattle.std.specs.Option.{option_map_or}
-use Rattle.std.specs.Ordering.{nat_cmp}
+use Rattle.rk_machine.proofs.Words.{◌≡◌, ℕ, ◌∙◌, ◌⊎◌, ◌&&◌, Bool, true, false, cond, refl, ap, sym, inl, inr, option_map_or, nat_cmp, Option, Some, None}
+use Rattle.rk_machine.proofs.Words.{nat_eq, is_some, option_map, option_and_then, eqb-true, eq-eqb, SessionId, Client, Handler, Condition, Key, spent, all_told}
+use Rattle.rk_machine.proofs.Words.{with_context, ready_outcome, new_wait, told_wait, Sessions, unspent, new_session, wait_of, Construction, Plain, Piped}
+use Rattle.rk_machine.proofs.Words.{Negating, Outcome, Wait, announced, outcome_of, sessions_ended, keys_ended, ended, Event, is_done, same_session}
+use Rattle.rk_machine.proofs.Words.{is_followed, whose, is_ready, awaited, World, Answer, Start, Asked, Launched, Ended, none_is, Step}
 use Rattle.std.specs.FinMap as map
-use Rattle.std.proofs.lemmas.Bool.{eqb-true, eq-eqb}
-use Rattle.rk_names.specs.declared.numbers.SessionId.{SessionId}
-use Rattle.rk_names.specs.declared.numbers.SessionId.TheVariants.{Client, Handler}
-use Rattle.rk_names.specs.declared.errors.KeyError.TheVariants as error
-use Rattle.rk_keys.specs.declared.key.Key.{Key}
-use Rattle.rk_keys.specs.declared.key.Condition.{Condition}
-use Rattle.rk_keys.specs.declared.key.Condition.TheVariants.{Negative}
-use Rattle.rk_auth.specs.declared.session.Wait.{Wait}
-use Rattle.rk_auth.specs.declared.session.Outcome.{Outcome}
-use Rattle.rk_auth.specs.declared.construction.Stage.TheVariants.{Plain, Piped, Negating}
-use Rattle.rk_auth.specs.declared.construction.Construction.{Construction}
-use Rattle.rk_auth.specs.Sessions.{Sessions, new_session, wait_of, unspent}
-use Rattle.rk_auth.specs.Changes.{spent, all_told, told_wait, new_wait, with_context, ready_outcome}
-use Rattle.rk_machine.specs.Event.{Event}
-use Rattle.rk_machine.specs.declared.event.EventOf.TheVariants.{Opened, Asked, Launched, Ended, Collect, Gone}
-use Rattle.rk_machine.specs.declared.event.Ran.TheVariants as ran
-use Rattle.rk_machine.specs.declared.event.Answer.{Answer}
-use Rattle.rk_machine.specs.declared.event.Answer.TheVariants.{Done, Start, Waiting, Refused, Negate}
-use Rattle.rk_machine.specs.World.{World, tidied}
-use Rattle.rk_machine.specs.Links.{unlinked_in, cleared_in}
-use Rattle.rk_machine.specs.Completion.{announced, outcome_of, keys_ended, sessions_ended, ended}
-use Rattle.rk_machine.specs.Steps.{Step}
-use Rattle.rk_machine.specs.Views.{is_ready, awaited}
-use Rattle.rk_machine.specs.Laws.{same_session, is_done}
-use Rattle.rk_machine.specs.Owing.{whose, is_followed}
-use Rattle.rk_machine.proofs.Found.Refusals.{none_is}
-use Rattle.rk_machine.proofs.Effects.KindsOfStep.{
-  Effect,
-  effect,
-  refused,
-  still,
-  took,
-  came,
-  went,
-  greets,
-  begins,
-  joins,
-  links,
-  unlinks,
-  marks,
-  tells,
-  sets,
-  adds,
-  assumes,
-  concludes,
-  ran_plain,
-  ran_piped,
-  negates,
-  failed,
-  finished,
-}
-use Rattle.rk_machine.proofs.Effects.HelloChanges.{greeted_sessions}
-use Rattle.rk_machine.proofs.Effects.WaitsAfter.{
-  wait_kept,
-  wait_collected,
-  wait_begun,
-  wait_told,
-  wait_spent,
-  wait_launched,
-  wait_removed,
-  wait_issued,
-  wait_came,
-  wait_went,
-}
+use Rattle.rk_machine.proofs.Effects.WaitsAfter.{wait_kept, wait_collected, wait_begun, wait_told, wait_spent, wait_launched, wait_removed, wait_issued}
+use Rattle.rk_machine.proofs.Effects.WaitsAfter.{wait_came, wait_went}
 use Rattle.rk_machine.proofs.Effects.OfOneConstruction.{Goods, concluder}
 use Rattle.rk_machine.proofs.Effects.WaitsAreTheWorlds.{IdleFresh, there_issued}
 use Rattle.rk_machine.proofs.Effects.AuthoritiesAfter.{unspent_concluded, unspent_ended}
 use Rattle.rk_machine.proofs.Effects.StagesByStep.{Kind, to_start, to_follow, kind_in, kind_of, kind_after, launched_kind, kinds}
+use Rattle.rk_machine.proofs.Effects.KindsOfStep.{effect}
+use Rattle.rk_machine.proofs.Effects.OfSessions.{InSessions, step_in, collects, comes, goes, greeted, starts, waits_for, is_set, assumed, concluded, runs_plain}
+use Rattle.rk_machine.proofs.Effects.OfSessions.{runs_piped, follows, not_run, ends}
 
 -- ---- the wait of another one
 
--- the step leaves it, or tells it the outcome of k, if it is on k; then the step is about the handler of k, whose authority is spent
-pub data Others (old : World) (e : Event) (new : World) (s : SessionId) : Type 0 where
-  left : wait_of new.sessions s ≡ wait_of old.sessions s → Others old e new s
-  told_of : (k : ℕ) (o : Outcome) → whose e ≡ Handler k → unspent new.sessions k ≡ None
-      → wait_of new.sessions s ≡ option_map (told_wait k o) (wait_of old.sessions s) → Others old e new s
+-- these sessions, which a step has left, have it as it was; or it was told the outcome of k, if it is on k. Then the step is about the handler of k,
+-- whose authority is spent
+pub data OthersIn (old : World) (e : Event) (b : Sessions) (s : SessionId) : Type 0 where
+  left : wait_of b s ≡ wait_of old.sessions s → OthersIn old e b s
+  told_of : (k : ℕ) (o : Outcome) → whose e ≡ Handler k → unspent b k ≡ None → wait_of b s ≡ option_map (told_wait k o) (wait_of old.sessions s)
+      → OthersIn old e b s
 
-module _ (old : World) (e : Event) (new : World) (s : SessionId) where
-  wait_at : (mid : World) → new ≡ mid → wait_of mid.sessions s ≡ wait_of old.sessions s → Others old e new s
-  wait_at mid w h = left (ap (λ (v : World). wait_of v.sessions s) w ∙ h)
+-- the same, of a world
+abbrev pub Others : World → Event → World → SessionId → Type 0
+Others old e new s = OthersIn old e new.sessions s
 
+gone_at : (k : ℕ) {A : Type 0} (o : Option A) → cond (nat_eq k k) None o ≡ None
+gone_at k o = ap (λ t. cond t None o) (eq-eqb k k refl)
+
+module _ (old : World) (e : Event) (s : SessionId) where
   -- a change of another one
-  but_one : (mid : World) (t : SessionId) (o : Option Wait) (y : Event) → same_session (whose e) s ≡ false → e ≡ y → whose y ≡ t → new ≡ mid
-      → wait_of mid.sessions s ≡ cond (same_session t s) o (wait_of old.sessions s) → Others old e new s
-  but_one mid t o y apart ev is w h =
-      let other : same_session t s ≡ false = ap (λ x. same_session x s) (sym is ∙ ap whose (sym ev)) ∙ apart in
-      wait_at mid w (h ∙ ap (λ b. cond b o (wait_of old.sessions s)) other)
+  but_one : (b : Sessions) (t : SessionId) (o : Option Wait) → same_session t s ≡ false → wait_of b s ≡ cond (same_session t s) o (wait_of old.sessions s)
+      → OthersIn old e b s
+  but_one b t o apart h = left (h ∙ ap (λ x. cond x o (wait_of old.sessions s)) apart)
 
   -- every wait on k gets the outcome, if there is such a key
-  announces : (now k : ℕ) (keys : map.FinMap nat_cmp Key) (a : Sessions) → whose e ≡ Handler k → unspent new.sessions k ≡ None
-      → wait_of new.sessions s ≡ wait_of (announced now k keys a) s → wait_of a s ≡ wait_of old.sessions s → Others old e new s
-  announces now k keys a by none is same = told_or_not (map.get keys k) is
+  announces : (b : Sessions) (now k : ℕ) (keys : map.FinMap nat_cmp Key) (a : Sessions) → whose e ≡ Handler k → unspent b k ≡ None
+      → wait_of b s ≡ wait_of (announced now k keys a) s → wait_of a s ≡ wait_of old.sessions s → OthersIn old e b s
+  announces b now k keys a by none is same = told_or_not (map.get keys k) is
     where
-      told_or_not : (o : Option Key) → wait_of new.sessions s ≡ wait_of (option_map_or (λ key. all_told k (outcome_of k key now) a) o a) s
-          → Others old e new s
+      told_or_not : (o : Option Key) → wait_of b s ≡ wait_of (option_map_or (λ key. all_told k (outcome_of k key now) a) o a) s → OthersIn old e b s
       told_or_not None is = left (is ∙ same)
       told_or_not (Some key) is =
           told_of k (outcome_of k key now) by none
           (is ∙ wait_told k (outcome_of k key now) a s ∙ ap (option_map (told_wait k (outcome_of k key now))) same)
 
-gone_at : (k : ℕ) (b : Bool) {A : Type 0} (o : Option A) → b ≡ true → cond b None o ≡ None
-gone_at k b o e = ap (λ t. cond t None o) e
-
--- the end of the handler of k
-module _ (old : World) (e : Event) (new : World) (s : SessionId) (now k : ℕ) (condition : Condition) (by : whose e ≡ Handler k)
-    (apart : same_session (whose e) s ≡ false) (w : new ≡ tidied (ended now k condition old)) where
-  none_left : unspent new.sessions k ≡ None
-  none_left = ap (λ (v : World). unspent v.sessions k) w ∙ unspent_ended now k condition old k ∙ gone_at k (nat_eq k k) _ (eq-eqb k k refl)
-
-  removed : wait_of new.sessions s ≡ wait_of (sessions_ended now k condition old) s
-  removed =
-      ap (λ (v : World). wait_of v.sessions s) w ∙ wait_removed k (sessions_ended now k condition old) s
-      ∙ ap (λ b. cond b None (wait_of (sessions_ended now k condition old) s)) (ap (λ x. same_session x s) (sym by) ∙ apart)
-
-  ends : Others old e new s
-  ends = spent_or_not (is_some (unspent old.sessions k)) removed
+  -- the end of the handler of k
+  ends_one : (now k : ℕ) (condition : Condition) → whose e ≡ Handler k → same_session (Handler k) s ≡ false → OthersIn old e (ended now k condition old).sessions s
+  ends_one now k condition by apart = spent_or_not (is_some (unspent old.sessions k)) removed
     where
-      spent_or_not : (b : Bool) → wait_of new.sessions s
-          ≡ wait_of (cond b (announced now k (keys_ended now k condition old) (spent k old.sessions)) old.sessions) s → Others old e new s
+      b : Sessions
+      b = (ended now k condition old).sessions
+
+      removed : wait_of b s ≡ wait_of (sessions_ended now k condition old) s
+      removed =
+          wait_removed k (sessions_ended now k condition old) s ∙ ap (λ b. cond b None (wait_of (sessions_ended now k condition old) s)) apart
+
+      spent_or_not : (t : Bool) → wait_of b s ≡ wait_of (cond t (announced now k (keys_ended now k condition old) (spent k old.sessions)) old.sessions) s
+          → OthersIn old e b s
       spent_or_not true is =
-          announces old e new s now k (keys_ended now k condition old) (spent k old.sessions) by none_left is (wait_spent k old.sessions s)
+          announces b now k (keys_ended now k condition old) (spent k old.sessions) by (unspent_ended now k condition old k ∙ gone_at k _) is
+          (wait_spent k old.sessions s)
       spent_or_not false is = left is
 
-unlinked : (old : World) (e : Event) (new : World) (s : SessionId) (ring : Option ℕ) (k : ℕ)
-    → (new ≡ tidied (unlinked_in ring k old)) ⊎ (new ≡ tidied (cleared_in ring old)) → Others old e new s
-unlinked old e new s ring k (inl w) = wait_at old e new s _ w refl
-unlinked old e new s ring k (inr w) = wait_at old e new s _ w refl
-
-by_effect : (old : World) (now : ℕ) (e : Event) (a : Answer) (new : World) → Effect old now e a new → IdleFresh old → Goods old.sessions → (s : SessionId)
-    → same_session (whose e) s ≡ false → Others old e new s
-by_effect old now e a new (refused error ra w free) idle good s apart = wait_at old e new s old w refl
-by_effect old now e a new (still t wait ev is ready ra w) idle good s apart = wait_at old e new s old w refl
-by_effect old now e a new (took t wait outcome ev is ready ra w) idle good s apart =
-    but_one old e new s _ t None (Collect t) apart ev refl w (wait_collected t old.sessions s)
-by_effect old now e a new (came n ev fresh ra w) idle good s apart =
-    wait_at old e new s _ w (wait_came n old.sessions s (none_is (map.get old.sessions.clients n) fresh))
-by_effect old now e a new (went n ev there ra w) idle good s apart =
-    but_one old e new s _ (Client n) None (Gone (Client n)) apart ev refl w (wait_went n old.sessions s)
-by_effect old now e a new (greets n hello ev can none joined h) idle good s apart =
-    wait_at old e new s _ h.6.1 (wait_kept (Client n) (with_context (record { uid = hello.uid; gid = hello.gid; thread = h.0; process = h.1; session = h.2; user = h.3 }))
-    (λ x. refl) h.4.sessions s ∙ ap (λ (x : Sessions). wait_of x s) (greeted_sessions _ old h.4 h.0 h.1 h.2 h.3 h.5))
-by_effect old now e a new (begins t asker typ description callout r ring k ev can is depth fresh ra w) idle good s apart =
-    but_one old e new s _ t (Some (new_wait k true)) (Asked t _) apart ev refl w
-    (wait_begun t (new_wait k true) _ s (there_issued k _ old.sessions t (idle k fresh.unused) can.there)
-    ∙ ap (cond (same_session t s) (Some (new_wait k true))) (wait_issued k _ old.sessions s (idle k fresh.unused)))
-by_effect old now e a new (joins t x ring k ev asks can building free ra w) idle good s apart =
-    but_one old e new s _ t (Some (new_wait k false)) (Asked t x) apart ev refl w (wait_begun t (new_wait k false) old.sessions s can.there)
-by_effect old now e a new (links t x ring k n ev completes_none not_assume ra w) idle good s apart = wait_at old e new s _ w refl
-by_effect old now e a new (unlinks t x ring k ev completes_none not_assume ra w) idle good s apart = unlinked old e new s ring k w
-by_effect old now e a new (marks t x k f ev completes_none not_assume mild ra w) idle good s apart = wait_at old e new s _ w refl
-by_effect old now e a new (tells t x bytes ev ra w) idle good s apart = wait_at old e new s old w refl
-by_effect old now e a new (sets t x setting n ev completes_none not_assume can ra w) idle good s apart =
-    wait_at old e new s _ w (wait_kept t _ (λ x. refl) old.sessions s)
-by_effect old now e a new (adds t asker typ description payload r ring k ev fresh ra w) idle good s apart = wait_at old e new s _ w refl
-by_effect old now e a new (assumes t key ev can none ra w) idle good s apart = wait_at old e new s _ w (wait_kept t _ (λ x. refl) old.sessions s)
-by_effect old now e a new (concludes t x asker ring k condition end ev which can is own final ra w) idle good s apart =
+by_case : (old new : World) (now : ℕ) (e : Event) (a : Answer) (b : Sessions) → InSessions old new now e a b → IdleFresh old → Goods old.sessions
+    → (s : SessionId) → same_session (whose e) s ≡ false → OthersIn old e b s
+by_case old new now e a b (collects t wait outcome is ready) idle good s apart = but_one old _ s _ t None apart (wait_collected t old.sessions s)
+by_case old new now e a b (comes n fresh) idle good s apart = left (wait_came n old.sessions s (none_is (map.get old.sessions.clients n) fresh))
+by_case old new now e a b (goes n there) idle good s apart = but_one old _ s _ (Client n) None apart (wait_went n old.sessions s)
+by_case old new now e a b (greeted n hello c thread process session user can) idle good s apart =
+    left (wait_kept (Client n) (with_context c) (λ x. refl) old.sessions s)
+by_case old new now e a b (starts t typ description callout r k subject authority names can fresh drawn) idle good s apart =
+    but_one old _ s _ t (Some (new_wait k true)) apart
+    (wait_begun t (new_wait k true) _ s (there_issued k authority old.sessions t (idle k fresh.unused) can.there)
+    ∙ ap (cond (same_session t s) (Some (new_wait k true))) (wait_issued k authority old.sessions s (idle k fresh.unused)))
+by_case old new now e a b (waits_for t x k asks can free) idle good s apart =
+    but_one old _ s _ t (Some (new_wait k false)) apart (wait_begun t (new_wait k false) old.sessions s can.there)
+by_case old new now e a b (is_set t x setting n plain can) idle good s apart = left (wait_kept t _ (λ x. refl) old.sessions s)
+by_case old new now e a b (assumed t key can none) idle good s apart = left (wait_kept t _ (λ x. refl) old.sessions s)
+by_case old new now e a b (concluded t x asker k keys which is own) idle good s apart =
     let by = concluder old t asker k is own in
-    let mine = good by.0 by.1 k by.3 by.4 in
-    announces old e new s now k _ (spent k old.sessions) (ap whose ev ∙ by.2 ∙ ap Handler (sym mine.0))
-    (ap (λ (v : World). unspent v.sessions k) w ∙ unspent_concluded now k _ old.sessions k ∙ gone_at k (nat_eq k k) _ (eq-eqb k k refl))
-    (ap (λ (v : World). wait_of v.sessions s) w) (wait_spent k old.sessions s)
-by_effect old now e a new (ran_plain k st ev is launches ra w) idle good s apart =
-    but_one old e new s _ (Handler k) None (Launched k ran.Plain) apart ev refl w (wait_launched k (Plain new_session) refl old.sessions s)
-by_effect old now e a new (ran_piped k ev is ra w) idle good s apart =
-    but_one old e new s _ (Handler k) None (Launched k ran.Piped) apart ev refl w (wait_launched k Piped refl old.sessions s)
-by_effect old now e a new (negates k how payload ev is fails ra w) idle good s apart =
-    but_one old e new s _ (Handler k) None (Ended k how payload) apart ev refl w (wait_launched k Negating refl old.sessions s)
-by_effect old now e a new (failed k st ev is launches ra w) idle good s apart =
-    ends old e new s now k (Negative error.NoKey) (ap whose ev) apart w
-by_effect old now e a new (finished k how payload st condition ev is running final ra w) idle good s apart =
-    ends old e new s now k condition (ap whose ev) apart w
+    announces old _ s _ now k keys (spent k old.sessions) (by.2 ∙ ap Handler (sym (good by.0 by.1 k by.3 by.4).0))
+    (unspent_concluded now k keys old.sessions k ∙ gone_at k _) refl (wait_spent k old.sessions s)
+by_case old new now e a b (runs_plain k st is launches) idle good s apart =
+    but_one old _ s _ (Handler k) None apart (wait_launched k (Plain new_session) refl old.sessions s)
+by_case old new now e a b (runs_piped k is) idle good s apart = but_one old _ s _ (Handler k) None apart (wait_launched k Piped refl old.sessions s)
+by_case old new now e a b (follows k how payload is free) idle good s apart =
+    but_one old _ s _ (Handler k) None apart (wait_launched k Negating refl old.sessions s)
+by_case old new now e a b (not_run k st condition is launches) idle good s apart = ends_one old _ s now k condition refl apart
+by_case old new now e a b (ends k how payload st condition is running) idle good s apart = ends_one old _ s now k condition refl apart
+by_case old new now e a b _ idle good s apart = left refl
 
 -- a step leaves the waits of other sessions, or gives them the outcome of their key
 pub others : (old : World) (now : ℕ) (e : Event) (a : Answer) (new : World) → Step old now e a new → IdleFresh old → Goods old.sessions → (s : SessionId)
     → same_session (whose e) s ≡ false → Others old e new s
-others old now e a new step idle good s apart = by_effect old now e a new (effect old now e a new step) idle good s apart
+others old now e a new step idle good s apart = by_case old new now e a new.sessions (step_in old now e a new step) idle good s apart
 
 told_key : (k : ℕ) (o : Outcome) (x : Option Wait) → option_map (λ (v : Wait). v.key) (option_map (told_wait k o) x) ≡ option_map (λ (v : Wait). v.key) x
 told_key k o None = refl
@@ -201,18 +119,11 @@ there_by_kind w q = found (map.get w.sessions.constructions q)
 
 -- a construction that a step ends is that of the handler which it is about
 over : (q : ℕ) (e : Event) (a : Answer) (o : Option Kind) → is_some o ≡ true → is_some (kind_after q e a o) ≡ false → whose e ≡ Handler q
-over q (Opened s) a o was is = absurd (cc)
-over q (Collect s) a o was is = absurd (cc)
-over q (Gone s) a o was is = absurd (cc)
 over q (Asked s x) (Start k subject) o was is = absurd (by_test (nat_eq k q) is)
   where
     by_test : (b : Bool) → is_some (cond b (Some to_start) o) ≡ false → ⊥
     by_test true h = cc
     by_test false h = cc
-over q (Asked s x) (Done r) o was is = absurd (cc)
-over q (Asked s x) (Waiting k) o was is = absurd (cc)
-over q (Asked s x) (Negate k) o was is = absurd (cc)
-over q (Asked s x) (Refused error) o was is = absurd (cc)
 over q (Launched k r) a o was is = by_test (is_done a) (nat_eq k q) refl is
   where
     by_test : (d b : Bool) → nat_eq k q ≡ b → is_some (cond (d && b) (launched_kind r) o) ≡ false → Handler k ≡ Handler q
@@ -227,6 +138,7 @@ over q (Ended k how payload) a o was is = by_test (is_done a) (is_followed a) (n
     by_test true false false same h = absurd (cc)
     by_test false true false same h = absurd (cc)
     by_test false false false same h = absurd (cc)
+over q _ a o was is = absurd (cc)
 
 ended_by : (old : World) (now : ℕ) (e : Event) (a : Answer) (new : World) → Step old now e a new → (q : ℕ)
     → map.contains_key old.sessions.constructions q ≡ true → map.contains_key new.sessions.constructions q ≡ false → whose e ≡ Handler q

@@ -1,22 +1,11 @@
 -- In every run a launch, the end of a handler and the end of a client are effective, or misuse.
-use Rattle.std.proofs.Common.{◌≡◌, ◌⊎◌, ℕ, Bool, true, false, not, List, [], ◌∷◌, ap, inl, inr}
-use Rattle.std.specs.Prelude.{Option, Some, None}
-use Rattle.std.specs.Bool.{MatchBool}
+use Rattle.rk_machine.proofs.Words.{MatchBool, Option, Some, None, ◌≡◌, ℕ, Bool, true, false, ap, ◌⊎◌, not, inl, inr, List, [], ◌∷◌, Client, Handler, stage_of}
+use Rattle.rk_machine.proofs.Words.{Stage, Starting, Plain, Piped, Negating, refused_if, done, Leaves, Settles, Unless, Event, is_done, EffectiveOrMisuse}
+use Rattle.rk_machine.proofs.Words.{EachEffectiveOrMisuse, Step, may_launch, would_negate, negating, Ends, gone, Past, Beginning, Run, World, Answer, Refused}
+use Rattle.rk_machine.proofs.Words.{Negate, Opened, Asked, Launched, Ended, Collect, Gone, How}
 use Rattle.std.specs.FinMap as map
-use Rattle.rk_names.specs.declared.numbers.SessionId.TheVariants.{Client, Handler}
 use Rattle.rk_names.specs.declared.errors.Errno.TheVariants as errno
-use Rattle.rk_auth.specs.declared.construction.Stage.{Stage}
-use Rattle.rk_auth.specs.declared.construction.Stage.TheVariants.{Starting, Plain, Piped, Negating}
-use Rattle.rk_auth.specs.Sessions.{stage_of}
-use Rattle.rk_machine.specs.Event.{Event}
-use Rattle.rk_machine.specs.declared.event.EventOf.TheVariants.{Opened, Asked, Launched, Ended, Collect, Gone}
-use Rattle.rk_machine.specs.declared.event.How.{How}
-use Rattle.rk_machine.specs.declared.event.Answer.{Answer}
-use Rattle.rk_machine.specs.declared.event.Answer.TheVariants.{Negate, Refused}
-use Rattle.rk_machine.specs.World.{World}
-use Rattle.rk_machine.specs.Allowed.{done, refused_if, Leaves, Settles, Unless}
-use Rattle.rk_machine.specs.Steps.{Beginning, Past, Run, Step, Ends, may_launch, would_negate, negating, launched, gone}
-use Rattle.rk_machine.specs.Laws.{is_done, EffectiveOrMisuse, EachEffectiveOrMisuse}
+use Rattle.rk_machine.specs.Steps.{launched}
 
 by_test : (b : Bool) (old mid new : World) (a : Answer) → Unless (refused_if (not b) errno.Einval) old a new (Settles done mid a new)
     → (is_done a ≡ true) ⊎ (a ≡ Refused errno.Einval)

@@ -1,8 +1,5 @@
 -- Every run obeys the laws.
-use Rattle.std.proofs.Common.{List, [], ◌∷◌}
-use Rattle.rk_machine.specs.World.{World}
-use Rattle.rk_machine.specs.Steps.{Beginning, Past, Run, Step}
-use Rattle.rk_machine.specs.Laws.{Lawful, ContinuesTo}
+use Rattle.rk_machine.proofs.Words.{List, [], ◌∷◌, Lawful, ContinuesTo, Step, Past, Beginning, Run, World}
 use Rattle.rk_machine.proofs.OneConstruction.EachOnce.{each_once}
 use Rattle.rk_machine.proofs.OneOutcome.EachOutcome.{each_outcome}
 use Rattle.rk_machine.proofs.OwnAuthority.EachOwn.{each_own}

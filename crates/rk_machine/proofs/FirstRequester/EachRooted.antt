@@ -1,32 +1,11 @@
 -- In every run a construction starts in the context of its first requester, who said HELLO.
-use Rattle.std.proofs.Common.{◌≡◌, ◌⊎◌, ℕ, Bool, true, false, cond, ◌&&◌, List, [], ◌∷◌, refl, sym, ap, ◌∙◌, subst, inl, inr}
-use Rattle.std.specs.Prelude.{Option, Some, None, nat_eq, option_map, option_and_then}
-use Rattle.std.specs.Option.{option_map_or}
-use Rattle.std.specs.Ordering.{nat_cmp}
+use Rattle.rk_machine.proofs.Words.{option_map_or, nat_cmp, Option, Some, None, nat_eq, option_map, option_and_then, ◌≡◌, ℕ, Bool, true, false, cond, refl, ap}
+use Rattle.rk_machine.proofs.Words.{◌∙◌, sym, ◌⊎◌, ◌&&◌, inl, inr, subst, List, [], ◌∷◌, eq-eqb, Context, SessionId, Client, Handler, Subject, Ask, Ring}
+use Rattle.rk_machine.proofs.Words.{RingKind, unspent, Authority, Construction, Session, Asker, asker_of, Event, is_done, Root, goes, starter_in, hello_in}
+use Rattle.rk_machine.proofs.Words.{root_of, holds, HasRoot, Rooted, EachRooted, subject_of, Query, Past, Beginning, Run, World, empty_world, Answer, Start}
+use Rattle.rk_machine.proofs.Words.{Asked, none_some, some_same, was_some}
 use Rattle.std.specs.FinMap as map
-use Rattle.std.proofs.lemmas.Bool.{eq-eqb}
-use Rattle.rk_names.specs.declared.context.Context.{Context}
-use Rattle.rk_names.specs.declared.numbers.SessionId.{SessionId}
-use Rattle.rk_names.specs.declared.numbers.SessionId.TheVariants.{Client, Handler}
-use Rattle.rk_macro.specs.declared.subject.Subject.{Subject}
-use Rattle.rk_message.specs.Ask.{Ask}
-use Rattle.rk_rings.specs.declared.kind.RingKind.{RingKind}
 use Rattle.rk_rings.specs.declared.kind.RingKind.TheVariants as kind
-use Rattle.rk_rings.specs.Ring.{Ring}
-use Rattle.rk_auth.specs.declared.session.Session.{Session}
-use Rattle.rk_auth.specs.declared.construction.Authority.{Authority}
-use Rattle.rk_auth.specs.declared.construction.Construction.{Construction}
-use Rattle.rk_auth.specs.Sessions.{unspent}
-use Rattle.rk_machine.specs.Event.{Event}
-use Rattle.rk_machine.specs.declared.event.EventOf.TheVariants.{Asked}
-use Rattle.rk_machine.specs.declared.event.Answer.{Answer}
-use Rattle.rk_machine.specs.declared.event.Answer.TheVariants.{Start}
-use Rattle.rk_machine.specs.World.{World, empty_world}
-use Rattle.rk_machine.specs.Asker.{Asker, asker_of}
-use Rattle.rk_machine.specs.Search.{Query}
-use Rattle.rk_machine.specs.Request.{subject_of}
-use Rattle.rk_machine.specs.Steps.{Beginning, Past, Run}
-use Rattle.rk_machine.specs.Laws.{Root, is_done, goes, starter_in, hello_in, root_of, holds, HasRoot, Rooted, EachRooted}
 use Rattle.rk_machine.proofs.Effects.KindsOfStep.{effect}
 use Rattle.rk_machine.proofs.Effects.DrawnSerials.{is_drawn}
 use Rattle.rk_machine.proofs.Effects.SerialsStayDrawn.{KeepsDrawn, keeps_drawn}
@@ -39,7 +18,6 @@ use Rattle.rk_machine.proofs.Effects.HelloMakesRings.{Has, its_thread, its_proce
 use Rattle.rk_machine.proofs.Effects.OfContextsAndRings.{root_in, IsCalm, NoStart, goes_in, Move, rests, one_starts, one_comes, one_goes, move, calm_asked}
 use Rattle.rk_machine.proofs.FirstRequester.WhoHoldsRings.{Held, held_same, held_comes, held_goes}
 use Rattle.rk_machine.proofs.FirstRequester.RingsShown.{has_ring, holds_in, Fits, client_fits, fits_on, shows_ring, shows_some}
-use Rattle.rk_machine.proofs.Found.Options.{none_some, some_same, was_some}
 
 -- what the list tells of clients, rings and authorities is what the world has
 pub record KnowsRoots (past : List Past) (w : World) : Type 0 where

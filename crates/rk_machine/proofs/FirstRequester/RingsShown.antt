@@ -1,29 +1,17 @@
 -- What a subject shows of a ring: its number while a client holds it, and 0 after that.
-use Rattle.std.proofs.Common.{◌≡◌, ℕ, Bool, true, false, cond, ◌||◌, List, [], ◌∷◌, refl, sym, ap, ◌∙◌, subst, inl, inr}
-use Rattle.std.specs.Prelude.{Option, Some, None, is_some, option_map, option_and_then, unwrap_or, ◌==◌}
-use Rattle.std.specs.Option.{option_map_or}
-use Rattle.std.specs.List.{list_any}
+use Rattle.rk_machine.proofs.Words.{list_any, option_map_or, Option, Some, None, is_some, option_map, option_and_then, unwrap_or, ◌==◌, ◌≡◌, ℕ, Bool, true}
+use Rattle.rk_machine.proofs.Words.{false, cond, refl, ap, ◌∙◌, ◌||◌, sym, inl, inr, subst, List, [], ◌∷◌, eqb-true, eq-eqb, Context, is_one_of, live, Ring}
+use Rattle.rk_machine.proofs.Words.{RingKind, Session, Root, holds, Shows, Past, World, some_entry, no_entry, none_some, some_same}
 use Rattle.std.specs.FinMap as map
-use Rattle.std.proofs.lemmas.Bool.{eqb-true, eq-eqb}
-use Rattle.rk_names.specs.declared.context.Context.{Context}
-use Rattle.rk_rings.specs.declared.kind.RingKind.{RingKind}
 use Rattle.rk_rings.specs.declared.kind.RingKind.TheVariants as kind
-use Rattle.rk_rings.specs.Ring.{Ring}
-use Rattle.rk_rings.specs.Places.{is_one_of, live}
-use Rattle.rk_auth.specs.declared.session.Session.{Session}
-use Rattle.rk_machine.specs.World.{World}
-use Rattle.rk_machine.specs.Steps.{Past}
-use Rattle.rk_machine.specs.Laws.{Root, holds, Shows}
 use Rattle.rk_machine.proofs.Effects.DrawnSerials.{is_drawn}
 use Rattle.rk_machine.proofs.Effects.SerialsStayDrawn.{KeepsDrawn}
 use Rattle.rk_machine.proofs.OneConstruction.EachOnce.{clash}
-use Rattle.rk_machine.proofs.Found.AllEntries.{some_entry, no_entry}
 use Rattle.rk_machine.proofs.Effects.RingsAfter.{kind_at, is_users_kind}
 use Rattle.rk_machine.proofs.Effects.ContextsAfter.{context_at}
 use Rattle.rk_machine.proofs.Effects.HelloMakesRings.{Has, its_thread, its_process, its_session}
 use Rattle.rk_machine.proofs.Effects.OfContextsAndRings.{root_in}
 use Rattle.rk_machine.proofs.FirstRequester.WhoHoldsRings.{Held}
-use Rattle.rk_machine.proofs.Found.Options.{none_some, some_same}
 
 -- ---- rings of a context, as HELLO was answered
 

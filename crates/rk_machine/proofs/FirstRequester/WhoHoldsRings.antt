@@ -1,27 +1,16 @@
 -- Which clients hold which rings: a ring is there while a client has it, and the user rings stay.
-use Rattle.std.proofs.Common.{◌≡◌, ◌⊎◌, ℕ, Bool, true, false, cond, ◌||◌, ◌&&◌, refl, sym, ap, ◌∙◌, subst, inl, inr}
-use Rattle.std.specs.Prelude.{Option, Some, None, nat_eq, not, option_and_then, ◌==◌}
-use Rattle.std.specs.Option.{option_map_or}
-use Rattle.std.specs.Cmp.{nat_eq_equiv}
+use Rattle.rk_machine.proofs.Words.{nat_eq_equiv, option_map_or, Option, Some, None, nat_eq, option_and_then, ◌==◌, ◌≡◌, ℕ, Bool, true, false, cond, refl, ap}
+use Rattle.rk_machine.proofs.Words.{◌∙◌, ◌||◌, sym, ◌⊎◌, not, ◌&&◌, inl, inr, subst, eqb-true, eq-eqb, Context, RingKind, Sessions, is_shared, Session}
+use Rattle.rk_machine.proofs.Words.{goes_with, is_ring, World, some_entry, no_entry, none_some, some_same, or_left, or_right}
 use Rattle.std.specs.FinMap as map
-use Rattle.std.proofs.lemmas.Bool.{eqb-true, eq-eqb}
-use Rattle.rk_names.specs.declared.context.Context.{Context}
-use Rattle.rk_rings.specs.declared.kind.RingKind.{RingKind}
 use Rattle.rk_rings.specs.declared.kind.RingKind.TheVariants as kind
-use Rattle.rk_auth.specs.declared.session.Session.{Session}
-use Rattle.rk_auth.specs.Sessions.{Sessions, is_shared}
-use Rattle.rk_machine.specs.World.{World}
-use Rattle.rk_machine.specs.Steps.{goes_with, is_ring}
-use Rattle.rk_machine.proofs.Found.Refusals.{or_left, or_right}
 use Rattle.rk_machine.proofs.Effects.DrawnSerials.{is_drawn}
 use Rattle.rk_machine.proofs.Effects.SerialsStayDrawn.{KeepsDrawn}
 use Rattle.rk_machine.proofs.OneConstruction.EachOnce.{clash}
-use Rattle.rk_machine.proofs.Found.AllEntries.{some_entry, no_entry}
 use Rattle.rk_machine.proofs.Effects.RingsAfter.{kind_at, is_users_kind}
 use Rattle.rk_machine.proofs.Effects.ContextsAfter.{context_at}
 use Rattle.rk_machine.proofs.Effects.HelloMakesRings.{Sound, Has, its_thread, its_process, its_session, Made}
 use Rattle.rk_machine.proofs.Effects.OfContextsAndRings.{SameRings, SameContexts, goes_in}
-use Rattle.rk_machine.proofs.Found.Options.{none_some, some_same}
 
 -- both have this thread ring, or this process ring
 abbrev pub Share : Context → Context → ℕ → Type 0

@@ -1,53 +1,16 @@
 -- In every run the waits have no circle: fewer waits keep that, and so does one more wait whose key does not lead back.
-use Rattle.std.proofs.Common.{◌≡◌, ◌⊎◌, ℕ, Bool, true, false, cond, List, [], ◌∷◌, refl, sym, ap, ◌∙◌, subst, inl, inr}
-use Rattle.std.specs.Prelude.{Option, Some, None, is_none, option_map, option_and_then}
-use Rattle.std.specs.Option.{option_map_or}
-use Rattle.std.specs.Ordering.{nat_cmp}
+use Rattle.rk_machine.proofs.Words.{◌≡◌, ℕ, ◌∙◌, ◌⊎◌, ◌∷◌, Bool, true, false, cond, refl, ap, sym, inl, inr, subst, List, [], option_map_or, nat_cmp, Option}
+use Rattle.rk_machine.proofs.Words.{Some, None, option_map, option_and_then, is_none, SessionId, Client, Handler, Leads, its_own, further, Sessions, session_of}
+use Rattle.rk_machine.proofs.Words.{handler_in, Construction, Session, Wait, Event, same_session, is_wait_ended, waited, WaitsFor, at_once, and_further}
+use Rattle.rk_machine.proofs.Words.{NoCircle, NeverCircle, Past, Beginning, Run, World, empty_world, Answer, some_same, some_none}
 use Rattle.std.specs.FinMap as map
-use Rattle.rk_names.specs.declared.numbers.SessionId.{SessionId}
-use Rattle.rk_names.specs.declared.numbers.SessionId.TheVariants.{Client, Handler}
-use Rattle.rk_auth.specs.declared.session.Session.{Session}
-use Rattle.rk_auth.specs.declared.session.Wait.{Wait}
-use Rattle.rk_auth.specs.declared.construction.Construction.{Construction}
-use Rattle.rk_auth.specs.Sessions.{session_of, handler_in}
-use Rattle.rk_auth.specs.Circles.{Leads, its_own, further}
-use Rattle.rk_machine.specs.Event.{Event}
-use Rattle.rk_machine.specs.declared.event.EventOf.TheVariants.{Asked}
-use Rattle.rk_message.specs.declared.ask.AskOf.TheVariants as ask
-use Rattle.rk_machine.specs.declared.event.Answer.{Answer}
-use Rattle.rk_machine.specs.World.{World, empty_world}
-use Rattle.rk_machine.specs.Steps.{Beginning, Past, Run}
-use Rattle.rk_machine.specs.Laws.{same_session, wait_begun, is_wait_ended, waited, WaitsFor, at_once, further as and_further, NoCircle, NeverCircle}
-use Rattle.rk_machine.proofs.Effects.KindsOfStep.{
-  Effect,
-  effect,
-  refused,
-  still,
-  took,
-  came,
-  went,
-  greets,
-  begins,
-  joins,
-  links,
-  unlinks,
-  marks,
-  tells,
-  sets,
-  adds,
-  assumes,
-  concludes,
-  ran_plain,
-  ran_piped,
-  negates,
-  failed,
-  finished,
-}
+use Rattle.rk_machine.specs.Laws.{wait_begun}
 use Rattle.rk_machine.proofs.Effects.StagesAfter.{shape}
 use Rattle.rk_machine.proofs.OneConstruction.EachOnce.{knows}
 use Rattle.rk_machine.proofs.Effects.WaitsAfter.{same-true, flag, flag_in, flag_of}
 use Rattle.rk_machine.proofs.Effects.WaitsAreTheWorlds.{step, begun_refused, after, tied, IdleFresh}
-use Rattle.rk_machine.proofs.Found.Options.{some_none, some_same}
+use Rattle.rk_machine.proofs.Effects.KindsOfStep.{effect}
+use Rattle.rk_machine.proofs.Effects.OfSessions.{InSessions, in_sessions, is_refused, starts, waits_for}
 
 -- ---- circles of any waits
 
@@ -181,35 +144,12 @@ module _ (old : World) (now : ℕ) (e : Event) (a : Answer) (new : World)
   free_after (none_begun none) = fewer (waits_in old) (waits_in new) (λ s k h. by_before s k (none s) h)
   free_after (one_begun t m b begun apart) = added (waits_in old) (waits_in new) t m (λ s k h. by_begun t s m k b (same_session t s) refl (begun s) h) apart
 
--- an ask that is answered begins no wait, and neither does what is no ask
-not_begun : (old : World) (e y : Event) (a z : Answer) → e ≡ y → a ≡ z → ((s : SessionId) → wait_begun s y z ≡ None) → Begun old e a
-not_begun old e y a z ev ra none = none_begun (λ s. ap (λ v. wait_begun s v a) ev ∙ ap (λ v. wait_begun s y v) ra ∙ none s)
-
-begun_by : (old : World) (now : ℕ) (e : Event) (a : Answer) (new : World) → Effect old now e a new → IdleFresh old → Begun old e a
-begun_by old now e a new (refused error ra w free) idle = not_begun old e e a _ refl ra (λ s. begun_refused s e error)
-begun_by old now e a new (still t wait ev is ready ra w) idle = not_begun old e _ a _ ev ra (λ s. refl)
-begun_by old now e a new (took t wait outcome ev is ready ra w) idle = not_begun old e _ a _ ev ra (λ s. refl)
-begun_by old now e a new (came n ev fresh ra w) idle = not_begun old e _ a _ ev ra (λ s. refl)
-begun_by old now e a new (went n ev there ra w) idle = not_begun old e _ a _ ev ra (λ s. refl)
-begun_by old now e a new (greets n hello ev can none joined h) idle = not_begun old e _ a _ ev h.6.0 (λ s. refl)
-begun_by old now e a new (begins t asker typ description callout r ring k ev can is depth fresh ra w) idle =
-    one_begun t k true (λ s. ap (λ v. wait_begun s v a) ev ∙ ap (λ v. wait_begun s (Asked t (ask.Request typ description (Some callout) r)) v) ra)
-    (new_not_reached old k t (idle k fresh.unused) can.there)
-begun_by old now e a new (joins t x ring k ev asks can building apart ra w) idle =
-    one_begun t k false (λ s. ap (λ v. wait_begun s v a) ev ∙ ap (λ v. wait_begun s (Asked t x) v) ra) (not_reached old k t apart)
-begun_by old now e a new (links t x ring k n ev completes_none not_assume ra w) idle = not_begun old e _ a _ ev ra (λ s. refl)
-begun_by old now e a new (unlinks t x ring k ev completes_none not_assume ra w) idle = not_begun old e _ a _ ev ra (λ s. refl)
-begun_by old now e a new (marks t x k f ev completes_none not_assume mild ra w) idle = not_begun old e _ a _ ev ra (λ s. refl)
-begun_by old now e a new (tells t x bytes ev ra w) idle = not_begun old e _ a _ ev ra (λ s. refl)
-begun_by old now e a new (sets t x setting n ev completes_none not_assume can ra w) idle = not_begun old e _ a _ ev ra (λ s. refl)
-begun_by old now e a new (adds t asker typ description payload r ring k ev fresh ra w) idle = not_begun old e _ a _ ev ra (λ s. refl)
-begun_by old now e a new (assumes t key ev can none ra w) idle = not_begun old e _ a _ ev ra (λ s. refl)
-begun_by old now e a new (concludes t x asker ring k condition end ev which can is own final ra w) idle = not_begun old e _ a _ ev ra (λ s. refl)
-begun_by old now e a new (ran_plain k st ev is launches ra w) idle = not_begun old e _ a _ ev ra (λ s. refl)
-begun_by old now e a new (ran_piped k ev is ra w) idle = not_begun old e _ a _ ev ra (λ s. refl)
-begun_by old now e a new (negates k how payload ev is fails ra w) idle = not_begun old e _ a _ ev ra (λ s. refl)
-begun_by old now e a new (failed k st ev is launches ra w) idle = not_begun old e _ a _ ev ra (λ s. refl)
-begun_by old now e a new (finished k how payload st condition ev is running final ra w) idle = not_begun old e _ a _ ev ra (λ s. refl)
+begun_by : (old new : World) (now : ℕ) (e : Event) (a : Answer) (b : Sessions) → InSessions old new now e a b → IdleFresh old → Begun old e a
+begun_by old new now e a b (is_refused y error w free) idle = none_begun (λ s. begun_refused s y error)
+begun_by old new now e a b (starts t typ description callout r k subject authority names can fresh drawn) idle =
+    one_begun t k true (λ s. refl) (new_not_reached old k t (idle k fresh.unused) can.there)
+begun_by old new now e a b (waits_for t x k asks can apart) idle = one_begun t k false (λ s. refl) (not_reached old k t apart)
+begun_by old new now e a b _ idle = none_begun (λ s. refl)
 
 -- ---- every run
 
@@ -244,7 +184,8 @@ waits_known from (s ∷ before) w run =
     tied run.0 s.now s.event s.answer w is idle in
     record {
       same = λ t. ties t ∙ ap (after s.now t s.event s.answer) (known.same t);
-      free = free_after run.0 s.now s.event s.answer w ties (begun_by run.0 s.now s.event s.answer w is idle) known.free;
+      free = free_after run.0 s.now s.event s.answer w ties
+          (begun_by run.0 w s.now s.event s.answer w.sessions (in_sessions run.0 s.now s.event s.answer w is) idle) known.free;
     }
 
 follows_waits : (past : List Past) (w : World) → ((s : SessionId) → flag_of w.sessions s ≡ waited s past) → {s t : SessionId} → WaitsFor past s t

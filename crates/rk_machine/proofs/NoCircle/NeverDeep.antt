@@ -1,30 +1,14 @@
 -- In every run no chain of starts is longer than 8: the depth of an authority is the number of starts that lead to it.
-use Rattle.std.proofs.Common.{zero-le, ◌≡◌, ◌≤◌, ℕ, Bool, true, false, cond, ◌+◌, List, [], ◌∷◌, refl, sym, ap, ◌∙◌, subst}
-use Rattle.std.specs.Prelude.{Option, Some, None, nat_eq, nat_le, option_and_then}
-use Rattle.std.specs.Option.{option_map_or}
-use Rattle.std.specs.Ordering.{nat_cmp}
+use Rattle.rk_machine.proofs.Words.{option_map_or, nat_cmp, Option, Some, None, nat_eq, option_and_then, nat_le, ◌≡◌, ℕ, Bool, true, false, cond, refl, ap, ◌∙◌}
+use Rattle.rk_machine.proofs.Words.{sym, subst, List, [], ◌∷◌, ◌+◌, zero-le, ◌≤◌, le-pred_of_lt, leb-false, SessionId, Client, Handler, Subject, Ask, Sessions}
+use Rattle.rk_machine.proofs.Words.{unspent, Authority, Construction, Asker, asker_of, starter_in, starter_of, start_depth, NotDeep, NeverDeep, Step, Past}
+use Rattle.rk_machine.proofs.Words.{Beginning, Run, World, empty_world, Start, Asked, none_some, some_same}
 use Rattle.std.specs.FinMap as map
-use Rattle.std.proofs.lemmas.Bool.{leb-false}
-use Rattle.std.proofs.Math.Nat.{le-pred_of_lt}
-use Rattle.rk_names.specs.declared.numbers.SessionId.{SessionId}
-use Rattle.rk_names.specs.declared.numbers.SessionId.TheVariants.{Client, Handler}
-use Rattle.rk_auth.specs.declared.construction.Authority.{Authority}
-use Rattle.rk_auth.specs.declared.construction.Construction.{Construction}
-use Rattle.rk_auth.specs.Sessions.{Sessions, unspent}
-use Rattle.rk_machine.specs.declared.event.EventOf.TheVariants.{Asked}
-use Rattle.rk_machine.specs.declared.event.Answer.TheVariants.{Start}
-use Rattle.rk_machine.specs.World.{World, empty_world}
-use Rattle.rk_machine.specs.Asker.{Asker, asker_of}
-use Rattle.rk_machine.specs.Steps.{Beginning, Past, Run, Step}
-use Rattle.rk_machine.specs.Laws.{starter_in, starter_of, start_depth, NotDeep, NeverDeep}
 use Rattle.rk_machine.proofs.Effects.KindsOfStep.{effect}
 use Rattle.rk_machine.proofs.Effects.OfOneConstruction.{Goods}
 use Rattle.rk_machine.proofs.OneConstruction.EachOnce.{knows}
 use Rattle.rk_machine.proofs.Effects.WhoActs.{client_acts, handler_acts}
 use Rattle.rk_machine.proofs.Effects.OfContextsAndRings.{NoStart, NoNewAuthority, Move, rests, one_starts, one_comes, one_goes, move}
-use Rattle.rk_message.specs.Ask.{Ask}
-use Rattle.rk_macro.specs.declared.subject.Subject.{Subject}
-use Rattle.rk_machine.proofs.Found.Options.{none_some, some_same}
 
 -- ---- who asks
 

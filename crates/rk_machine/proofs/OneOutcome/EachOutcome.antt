@@ -1,27 +1,11 @@
 -- In every run each key has one outcome, and all who wait on it get that one.
-use Rattle.std.proofs.Common.{◌≡◌, ◌⊎◌, ℕ, Bool, true, false, cond, List, [], ◌∷◌, refl, sym, ap, ◌∙◌, subst, inl, inr}
-use Rattle.std.specs.Prelude.{Option, Some, None, nat_eq, is_some, option_map, option_and_then}
-use Rattle.std.specs.Option.{option_map_or}
-use Rattle.std.specs.Ordering.{nat_cmp}
-use Rattle.std.specs.Cmp.{nat_eq_equiv}
+use Rattle.rk_machine.proofs.Words.{◌≡◌, ℕ, ◌∙◌, ◌⊎◌, ◌∷◌, Bool, true, false, cond, refl, ap, sym, inl, inr, subst, List, [], nat_eq_equiv, option_map_or}
+use Rattle.rk_machine.proofs.Words.{nat_cmp, Option, Some, None, nat_eq, is_some, option_map, option_and_then, eqb-true, Errno, SessionId, Client, Handler}
+use Rattle.rk_machine.proofs.Words.{told_wait, wait_of, handler_in, Construction, Outcome, Found, Failed, Session, Wait, is_waiting, waited, never, is_ending}
+use Rattle.rk_machine.proofs.Words.{is_completion, EachToldOf, IsOutcome, EachOutcome, told_as, Past, Beginning, Run, World, empty_world, Answer, Waiting}
+use Rattle.rk_machine.proofs.Words.{Refused, Collect, none_some, some_same, Step}
 use Rattle.std.specs.FinMap as map
-use Rattle.std.proofs.lemmas.Bool.{eqb-true}
-use Rattle.rk_names.specs.declared.errors.Errno.{Errno}
-use Rattle.rk_names.specs.declared.numbers.SessionId.{SessionId}
-use Rattle.rk_names.specs.declared.numbers.SessionId.TheVariants.{Client, Handler}
-use Rattle.rk_auth.specs.declared.session.Session.{Session}
-use Rattle.rk_auth.specs.declared.session.Wait.{Wait}
-use Rattle.rk_auth.specs.declared.session.Outcome.{Outcome}
-use Rattle.rk_auth.specs.declared.session.Outcome.TheVariants.{Found, Failed}
-use Rattle.rk_auth.specs.declared.construction.Construction.{Construction}
-use Rattle.rk_auth.specs.Sessions.{wait_of, handler_in}
-use Rattle.rk_auth.specs.Changes.{told_wait}
-use Rattle.rk_machine.specs.declared.event.EventOf.TheVariants.{Collect}
-use Rattle.rk_machine.specs.declared.event.Answer.{Answer}
-use Rattle.rk_machine.specs.declared.event.Answer.TheVariants.{Waiting, Refused}
-use Rattle.rk_machine.specs.World.{World, empty_world}
-use Rattle.rk_machine.specs.Steps.{Beginning, Past, Run, Step, told_as}
-use Rattle.rk_machine.specs.Laws.{never, is_completion, is_ending, is_waiting, waited, wait_collected, EachToldOf, IsOutcome, EachOutcome}
+use Rattle.rk_machine.specs.Laws.{wait_collected}
 use Rattle.rk_machine.proofs.Effects.KindsOfStep.{Effect, effect}
 use Rattle.rk_machine.proofs.Effects.SerialsStayDrawn.{keeps_drawn}
 use Rattle.rk_machine.proofs.Effects.StagesAfter.{Shape, shape, shape_of}
@@ -33,7 +17,6 @@ use Rattle.rk_machine.proofs.NoCircle.NeverCircle.{KnowsWaits, waits_known, idle
 use Rattle.rk_machine.proofs.OneOutcome.WhoIsTold.{IsOpen, WaitsStay, Telling, tells_none, tells_all, telling}
 use Rattle.rk_machine.proofs.OneOutcome.WhatACollectFinds.{Collected, nothing, not_yet, now_told, at_collect, ready_is, not_ready, collect_of}
 use Rattle.rk_machine.proofs.OneOutcome.OutcomeOfAKey.{Judged, Ruled, as_it_was, it_is_told, TurnOf, unspent_is, no_verdict, judged_on}
-use Rattle.rk_machine.proofs.Found.Options.{none_some, some_same}
 
 -- ---- the outcome of each key
 
@@ -191,8 +174,8 @@ module _ (old : World) (s : Past) (new : World) (before : List Past) (known : Kn
   goes_on k there = found (map.get old.sessions.constructions k) refl there
     where
       by_stage : (x : Shape) (b : Bool) → shape_of old.sessions k ≡ Some x → x.starting ≡ b → never (is_ending k) before
-      by_stage x true at e = ((known.1 k).there x at).1
-      by_stage x false at e = ((known.1 k).there x at).1
+      by_stage x true at e = ((known.1 k).there x at).going
+      by_stage x false at e = ((known.1 k).there x at).going
 
       found : (o : Option Construction) → map.get old.sessions.constructions k ≡ o → is_some o ≡ true → never (is_ending k) before
       found None e h = absurd (cc)

@@ -1,37 +1,18 @@
 -- The outcome of one key, and what a step makes of it.
-use Rattle.std.proofs.Common.{◌≡◌, ℕ, Bool, true, false, List, ◌∷◌, refl, sym, ap, ◌∙◌, subst, inl, inr}
-use Rattle.std.specs.Prelude.{Option, Some, None, is_some, option_map, option_and_then}
-use Rattle.std.specs.Option.{option_map_or}
+use Rattle.rk_machine.proofs.Words.{◌≡◌, ℕ, ◌∙◌, ◌⊎◌, ◌∷◌, Bool, true, false, refl, ap, sym, inl, inr, subst, List, option_map_or, Option, Some, None, is_some}
+use Rattle.rk_machine.proofs.Words.{option_map, option_and_then, Construction, Outcome, never, is_ending, is_completion, EachToldOf, IsOutcome, told_as, Past}
+use Rattle.rk_machine.proofs.Words.{World, Answer, none_some, some_same, some_none}
 use Rattle.std.specs.FinMap as map
-use Rattle.rk_auth.specs.declared.session.Outcome.{Outcome}
-use Rattle.rk_auth.specs.declared.construction.Construction.{Construction}
-use Rattle.rk_machine.specs.declared.event.Answer.{Answer}
-use Rattle.rk_machine.specs.World.{World}
-use Rattle.rk_machine.specs.Steps.{Past, told_as}
-use Rattle.rk_machine.specs.Laws.{never, is_completion, is_ending, wait_collected, EachToldOf, IsOutcome}
+use Rattle.rk_machine.specs.Laws.{wait_collected}
 use Rattle.rk_machine.proofs.Effects.DrawnSerials.{is_drawn}
 use Rattle.rk_machine.proofs.Effects.SerialsStayDrawn.{KeepsDrawn}
-use Rattle.rk_machine.proofs.Effects.StagesAfter.{Shape, shape, shape_of, as_spent}
-use Rattle.rk_machine.proofs.Effects.OfOneConstruction.{
-  Tests,
-  tests,
-  Turn,
-  quiet,
-  starts,
-  launched_now,
-  negated_now,
-  failed_now,
-  ended_now,
-  completed_now,
-  assumed_now,
-  IsOwnAsk,
-  Good,
-}
-use Rattle.rk_machine.proofs.OneConstruction.EachOnce.{Tied, clash, some_shape, never_more}
+use Rattle.rk_machine.proofs.Effects.StagesAfter.{Shape, shape, shape_of}
+use Rattle.rk_machine.proofs.OneConstruction.EachOnce.{Tied, clash, never_more}
 use Rattle.rk_machine.proofs.Effects.AuthoritiesAfter.{is_unspent}
 use Rattle.rk_machine.proofs.Effects.BuildingAfter.{is_built}
 use Rattle.rk_machine.proofs.OneOutcome.WhoIsTold.{Still, stays, is_new, IsOpen}
-use Rattle.rk_machine.proofs.Found.Options.{none_some, some_none, some_same}
+use Rattle.rk_machine.proofs.Effects.OfOneConstruction.{Tests, tests, Turn, quiet, started_now, launched_now, negated_now, failed_now, ended_now, completed_now}
+use Rattle.rk_machine.proofs.Effects.OfOneConstruction.{assumed_now, IsOwnAsk, Good}
 
 -- ---- one key and its verdict, which is its outcome or none yet
 
@@ -63,48 +44,43 @@ module _ (old : World) (s : Past) (new : World) (before : List Past) (k : ℕ) w
   abbrev pub TurnOf : Type 0
   TurnOf = Turn k (is_drawn old k) (is_drawn new k) (IsOwnAsk k s.event) (tests k s.event s.answer) (shape_of old.sessions k) (shape_of new.sessions k)
 
-  unspent_old : (x : Shape) → shape_of old.sessions k ≡ Some x → is_unspent old k ≡ x.unspent
-  unspent_old x is = unspent_is old k ∙ ap (λ (o : Option Shape). option_map_or (λ (x : Shape). x.unspent) o false) is
+  abbrev unspent_in : Option Shape → Bool
+  unspent_in o = option_map_or (λ (x : Shape). x.unspent) o false
+
+  -- its authority is as it was, or it is new
+  abbrev Kept : Option Shape → Option Shape → Type 0
+  Kept o n = (unspent_in n ≡ unspent_in o) ⊎ (o ≡ None)
+
+  kept : Tied k before (shape_of old.sessions k) (is_drawn old k) → Still old new k → Kept (shape_of old.sessions k) (shape_of new.sessions k)
+  kept tie (stays b u) = inl (sym (unspent_is new k) ∙ u ∙ unspent_is old k)
+  kept tie (is_new fresh b) = inr (tie.idle fresh)
+
+  -- what is there is unspent
+  abbrev Unspent : Option Shape → Type 0
+  Unspent o = (x : Shape) → o ≡ Some x → x.unspent ≡ false → ⊥
 
   -- an authority is spent only by a step that tells the outcome
-  not_lost : (x : Shape) (o : Option Shape) → Tied k before (shape_of old.sessions k) (is_drawn old k) → Still old new k → shape_of old.sessions k ≡ Some x
-      → x.unspent ≡ true → shape_of new.sessions k ≡ o
-      → option_map_or (λ (x : Shape). x.unspent) o false ≡ false → ⊥
-  not_lost x o tie (stays b u) is free at gone =
-      clash (is_unspent new k) (unspent_is new k ∙ ap (λ (o : Option Shape). option_map_or (λ (x : Shape). x.unspent) o false) at ∙ gone)
-      (u ∙ unspent_old x is ∙ free)
-  not_lost x o tie (is_new fresh b) is free at gone = none_some (sym (tie.idle fresh) ∙ is)
+  not_lost : (x : Shape) → (false ≡ x.unspent) ⊎ (Some x ≡ None) → Unspent (Some x) → ⊥
+  not_lost x (inl gone) free = free x refl (sym gone)
+  not_lost x (inr none) free = some_none none
 
-  module _ (tie : Tied k before (shape_of old.sessions k) (is_drawn old k)) (good : Good k (shape_of old.sessions k)) (verdict : Option Outcome)
-      (spent : (x : Shape) → shape_of old.sessions k ≡ Some x → x.unspent ≡ false → verdict ≡ None → ⊥) where
-    -- who has no outcome was not ended
-    not_ended : (x : Shape) (b : Bool) → Still old new k → verdict ≡ None → shape_of old.sessions k ≡ Some x → shape_of new.sessions k ≡ None → x.unspent ≡ b
-        → ⊥
-    not_ended x true same none is at free = not_lost x None tie same is free at refl
-    not_ended x false same none is at free = spent x is free none
+  -- who has no outcome was not completed, and not ended
+  quiet_tests : (t : Tests) (o n : Option Shape) → Turn k (is_drawn old k) (is_drawn new k) (IsOwnAsk k s.event) t o n → Kept o n → Unspent o
+      → (t.completion ≡ false) × (t.ending ≡ false)
+  quiet_tests t o n (failed_now x waits) as_was free = absurd (not_lost x as_was free)
+  quiet_tests t o n (ended_now x runs) as_was free = absurd (not_lost x as_was free)
+  quiet_tests t o n (completed_now x asks own) as_was free = absurd (not_lost x as_was free)
+  quiet_tests t o n _ as_was free = (refl, refl)
 
-    quiet_tests : TurnOf → Still old new k → verdict ≡ None → (is_completion k s ≡ false) × (is_ending k s ≡ false)
-    quiet_tests (quiet t n) same none = (ap (λ (x : Tests). x.completion) t, ap (λ (x : Tests). x.ending) t)
-    quiet_tests (starts fresh after t n) same none = (ap (λ (x : Tests). x.completion) t, ap (λ (x : Tests). x.ending) t)
-    quiet_tests (launched_now x st t is waits runs firsts n) same none = (ap (λ (x : Tests). x.completion) t, ap (λ (x : Tests). x.ending) t)
-    quiet_tests (negated_now x t is runs firsts free n) same none = (ap (λ (x : Tests). x.completion) t, ap (λ (x : Tests). x.ending) t)
-    quiet_tests (failed_now x t is waits n) same none = absurd (not_ended x x.unspent same none is n refl)
-    quiet_tests (ended_now x t is runs n) same none = absurd (not_ended x x.unspent same none is n refl)
-    quiet_tests (completed_now x asks t is own n) same none = absurd (not_lost x (Some (as_spent x)) tie same is (good x k is own).1 n refl)
-    quiet_tests (assumed_now x key m t named is runs own n) same none = (ap (λ (x : Tests). x.completion) t, ap (λ (x : Tests). x.ending) t)
-
-    still_spent : TurnOf → Still old new k → (y : Shape) → shape_of new.sessions k ≡ Some y → y.unspent ≡ false → verdict ≡ None → ⊥
-    still_spent (quiet t n) same y at free none = spent y (sym n ∙ at) free none
-    still_spent (starts fresh after t n) same y at free none = clash y.unspent free (ap (λ (z : Shape). z.unspent) (some_shape (sym at ∙ n)))
-    still_spent (launched_now x st t is waits runs firsts n) same y at free none =
-        spent x is (ap (λ (z : Shape). z.unspent) (some_shape (sym n ∙ at)) ∙ free) none
-    still_spent (negated_now x t is runs firsts unspent n) same y at free none =
-        spent x is (ap (λ (z : Shape). z.unspent) (some_shape (sym n ∙ at)) ∙ free) none
-    still_spent (failed_now x t is waits n) same y at free none = none_some (sym n ∙ at)
-    still_spent (ended_now x t is runs n) same y at free none = none_some (sym n ∙ at)
-    still_spent (completed_now x asks t is own n) same y at free none = not_lost x (Some (as_spent x)) tie same is (good x k is own).1 n refl
-    still_spent (assumed_now x key m t named is runs own n) same y at free none =
-        spent x is (ap (λ (z : Shape). z.unspent) (some_shape (sym n ∙ at)) ∙ free) none
+  still_unspent : (t : Tests) (o n : Option Shape) → Turn k (is_drawn old k) (is_drawn new k) (IsOwnAsk k s.event) t o n → Kept o n → Unspent o → Unspent n
+  still_unspent t o n quiet as_was free y at gone = free y at gone
+  still_unspent t o n (started_now fresh after) as_was free y at gone = clash _ gone (ap (λ (z : Shape). z.unspent) (sym (some_same at)))
+  still_unspent t o n (failed_now x waits) as_was free y at gone = none_some at
+  still_unspent t o n (ended_now x runs) as_was free y at gone = none_some at
+  still_unspent t o n (completed_now x asks own) as_was free y at gone = not_lost x as_was free
+  still_unspent t o n (launched_now x st waits runs firsts) as_was free y at gone = free x refl (ap (λ (z : Shape). z.unspent) (some_same at) ∙ gone)
+  still_unspent t o n (negated_now x runs firsts spared) as_was free y at gone = free x refl (ap (λ (z : Shape). z.unspent) (some_same at) ∙ gone)
+  still_unspent t o n (assumed_now x key runs own) as_was free y at gone = free x refl (ap (λ (z : Shape). z.unspent) (some_same at) ∙ gone)
 
 -- ---- what is so of a key after a step
 
@@ -156,9 +132,10 @@ module _ (old : World) (s : Past) (new : World) (before : List Past) (k : ℕ) (
   judged_on u (as_it_was same is) = record {
     builds = builds_still is;
     settled = λ o at. let t = j.settled o (sym same ∙ at) in (stays_drawn old new k keeps t.0, built_still is t.0 t.1, t.2);
-    spent = λ x at free none. still_spent old s new before k tie good v j.spent turn is x at free (sym same ∙ none);
+    spent =
+        λ x at free none. still_unspent old s new before k _ _ _ turn (kept old s new before k tie is) (λ y is_at gone. j.spent y is_at gone (sym same ∙ none)) x at free;
     silent = λ none.
-        let quiet_now = quiet_tests old s new before k tie good v j.spent turn is (sym same ∙ none) in
+        let quiet_now = quiet_tests old s new before k _ _ _ turn (kept old s new before k tie is) (λ y at gone. j.spent y at gone (sym same ∙ none)) in
         let rest = j.silent (sym same ∙ none) in
         (never_more (is_completion k) s before quiet_now.0 rest.0, never_more (is_ending k) s before quiet_now.1 rest.1);
     told = more_told u (λ o at. same ∙ at);

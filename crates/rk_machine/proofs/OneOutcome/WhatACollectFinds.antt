@@ -1,21 +1,9 @@
 -- What a collect finds.
-use Rattle.std.proofs.Common.{◌≡◌, ◌⊎◌, ℕ, Bool, true, false, cond, ◌&&◌, List, refl, subst, inl, inr}
-use Rattle.std.specs.Prelude.{Some, None, option_map}
+use Rattle.rk_machine.proofs.Words.{Some, None, option_map, ◌≡◌, ℕ, Bool, true, false, cond, refl, ◌⊎◌, ◌&&◌, inl, inr, subst, List, Errno, SessionId}
+use Rattle.rk_machine.proofs.Words.{ready_outcome, Sessions, wait_of, Outcome, Wait, Event, is_waiting, waited, Step, told_as, Past, World, Answer, Waiting}
+use Rattle.rk_machine.proofs.Words.{Refused, Collect, by_option}
 use Rattle.std.specs.FinMap as map
-use Rattle.rk_names.specs.declared.numbers.SessionId.{SessionId}
-use Rattle.rk_names.specs.declared.errors.Errno.{Errno}
-use Rattle.rk_auth.specs.declared.session.Wait.{Wait}
-use Rattle.rk_auth.specs.declared.session.Outcome.{Outcome}
-use Rattle.rk_auth.specs.Sessions.{Sessions, wait_of}
-use Rattle.rk_auth.specs.Changes.{ready_outcome}
-use Rattle.rk_machine.specs.Event.{Event}
-use Rattle.rk_machine.specs.declared.event.EventOf.TheVariants.{Collect}
-use Rattle.rk_machine.specs.declared.event.Answer.{Answer}
-use Rattle.rk_machine.specs.declared.event.Answer.TheVariants.{Waiting, Refused}
-use Rattle.rk_machine.specs.World.{World}
-use Rattle.rk_machine.specs.Steps.{Past, Step, told_as}
-use Rattle.rk_machine.specs.Laws.{is_waiting, waited, wait_collected}
-use Rattle.rk_machine.proofs.Found.Refusals.{by_option}
+use Rattle.rk_machine.specs.Laws.{wait_collected}
 
 -- no wait; one that may not be collected yet; or one that is
 pub data Collected (w : World) (t : SessionId) (a : Answer) : Type 0 where

@@ -1,82 +1,23 @@
 -- A step tells no wait its outcome, or every wait on one key the same.
-use Rattle.std.proofs.Common.{◌≡◌, ◌⊎◌, ℕ, Bool, true, false, cond, refl, sym, ap, ◌∙◌, subst, inl, inr}
-use Rattle.std.specs.Prelude.{Option, Some, None, nat_eq, is_some, option_map, option_and_then}
-use Rattle.std.specs.Option.{option_map_or}
-use Rattle.std.specs.Ordering.{nat_cmp}
+use Rattle.rk_machine.proofs.Words.{◌≡◌, ℕ, ◌∙◌, ◌⊎◌, Bool, true, false, cond, refl, ap, sym, inl, inr, subst, option_map_or, nat_cmp, Option, Some, None}
+use Rattle.rk_machine.proofs.Words.{nat_eq, is_some, option_map, option_and_then, eqb-true, eq-eqb, SessionId, Client, Handler, changed_at, is_past, concluded}
+use Rattle.rk_machine.proofs.Words.{new_key, Condition, Building, Positive, Negative, Key, spent, without_construction, with_construction, all_told}
+use Rattle.rk_machine.proofs.Words.{with_context, new_wait, told_wait, Sessions, unspent, new_session, wait_of, Authority, Construction, Plain, Piped, Negating}
+use Rattle.rk_machine.proofs.Words.{Outcome, Failed, Wait, announced, outcome_of, ended, completed, outcome_by, expiry_after, Event, same_session, IsOutcome}
+use Rattle.rk_machine.proofs.Words.{unlinked_in, cleared_in, linked_in, told_as, World, tidied, Answer, get_changed_at, of_choice, some_same, was_some, none_is}
 use Rattle.std.specs.FinMap as map
-use Rattle.std.proofs.lemmas.Bool.{eqb-true, eq-eqb}
-use Rattle.rk_names.specs.declared.numbers.SessionId.{SessionId}
-use Rattle.rk_names.specs.declared.numbers.SessionId.TheVariants.{Client, Handler}
 use Rattle.rk_names.specs.declared.errors.KeyError.TheVariants as error
-use Rattle.rk_table.specs.Maps.{changed_at}
-use Rattle.rk_keys.specs.declared.key.Key.{Key}
-use Rattle.rk_keys.specs.declared.key.Condition.{Condition}
-use Rattle.rk_keys.specs.declared.key.Condition.TheVariants.{Building, Positive, Negative}
-use Rattle.rk_keys.specs.Key.{is_past}
-use Rattle.rk_keys.specs.Known.{concluded, new_key}
-use Rattle.rk_auth.specs.declared.session.Wait.{Wait}
-use Rattle.rk_auth.specs.declared.session.Outcome.{Outcome}
-use Rattle.rk_auth.specs.declared.session.Outcome.TheVariants.{Failed}
-use Rattle.rk_auth.specs.declared.construction.Stage.TheVariants.{Plain, Piped, Negating}
-use Rattle.rk_auth.specs.declared.construction.Authority.{Authority}
-use Rattle.rk_auth.specs.declared.construction.Construction.{Construction}
-use Rattle.rk_auth.specs.Sessions.{Sessions, new_session, wait_of, unspent}
-use Rattle.rk_auth.specs.Changes.{spent, all_told, told_wait, new_wait, without_construction, with_construction, with_context}
-use Rattle.rk_machine.specs.Event.{Event}
-use Rattle.rk_machine.specs.declared.event.Answer.{Answer}
-use Rattle.rk_machine.specs.World.{World, tidied}
-use Rattle.rk_machine.specs.Links.{linked_in, unlinked_in, cleared_in}
-use Rattle.rk_machine.specs.Completion.{announced, completed, outcome_of, outcome_by, expiry_after, ended}
-use Rattle.rk_machine.specs.Steps.{told_as}
-use Rattle.rk_machine.specs.Laws.{same_session, IsOutcome}
-use Rattle.rk_machine.proofs.Found.InMaps.{get_changed_at}
-use Rattle.rk_machine.proofs.Found.Refusals.{none_is}
-use Rattle.rk_machine.proofs.Effects.KindsOfStep.{
-  Effect,
-  is_final,
-  authority_for,
-  refused,
-  still,
-  took,
-  came,
-  went,
-  greets,
-  begins,
-  joins,
-  links,
-  unlinks,
-  marks,
-  tells,
-  sets,
-  adds,
-  assumes,
-  concludes,
-  ran_plain,
-  ran_piped,
-  negates,
-  failed,
-  finished,
-}
+use Rattle.rk_machine.proofs.Effects.KindsOfStep.{Effect, is_final, authority_for, refused, still, took, came, went, greets, begins, joins, links, unlinks}
+use Rattle.rk_machine.proofs.Effects.KindsOfStep.{marks, tells, sets, adds, assumes, concludes, ran_plain, ran_piped, negates, failed, finished}
 use Rattle.rk_machine.proofs.Effects.HelloChanges.{greeted_sessions, greeted_keys}
 use Rattle.rk_machine.proofs.Effects.DrawnSerials.{is_drawn}
-use Rattle.rk_machine.proofs.Effects.WaitsAfter.{
-  wait_kept,
-  wait_collected,
-  wait_begun,
-  wait_told,
-  wait_spent,
-  wait_launched,
-  wait_removed,
-  wait_issued,
-  wait_came,
-  wait_went,
-}
+use Rattle.rk_machine.proofs.Effects.WaitsAfter.{wait_kept, wait_collected, wait_begun, wait_told, wait_spent, wait_launched, wait_removed, wait_issued}
+use Rattle.rk_machine.proofs.Effects.WaitsAfter.{wait_came, wait_went}
 use Rattle.rk_machine.proofs.Effects.StagesAfter.{shape_of, Shape, shape}
 use Rattle.rk_machine.proofs.Effects.OfOneConstruction.{Goods, concluder, by_key}
 use Rattle.rk_machine.proofs.Effects.WaitsAreTheWorlds.{IdleFresh, there_issued}
 use Rattle.rk_machine.proofs.Effects.AuthoritiesAfter.{is_unspent, unspent_changed, unspent_launched, unspent_concluded, unspent_ended, unspent_issued}
 use Rattle.rk_machine.proofs.Effects.BuildingAfter.{built_at, is_built, key_there, built_tidied, built_put, built_marked, built_concluded}
-use Rattle.rk_machine.proofs.Found.Options.{some_same, was_some}
 
 -- ---- what a step may do
 
@@ -197,10 +138,6 @@ module _ (now k : ℕ) (condition : Condition) (end : Option ℕ) (w : World) (k
       ap (λ x. wait_of x s) (announces (spent k a)) ∙ wait_told k (told_now now k condition end key) (spent k a) s
       ∙ ap (option_map (told_wait k (told_now now k condition end key))) (wait_spent k a s)
 
-some_in : {A : Type 0} (b : Bool) (o : Option A) → is_some (cond b None o) ≡ cond b false (is_some o)
-some_in true o = refl
-some_in false o = refl
-
 -- k gets its condition, loses its authority, and every wait on it gets the outcome
 concluding : (old new : World) (now k : ℕ) (condition : Condition) (end : Option ℕ) → Builds old → is_unspent old k ≡ true
     → ((j : ℕ) → is_built new j ≡ cond (nat_eq k j) false (is_built old j)) → ((j : ℕ) → is_unspent new j ≡ cond (nat_eq k j) false (is_unspent old j))
@@ -227,7 +164,9 @@ module _ (old new : World) (now k : ℕ) (condition : Condition) (final : is_fin
   ended_is b u = w ∙ ap (λ t. tidied (ended_as t now k condition old)) u
 
   unspent_then : (j : ℕ) → is_unspent new j ≡ cond (nat_eq k j) false (is_unspent old j)
-  unspent_then j = ap (λ (v : World). is_unspent v j) w ∙ ap is_some (unspent_ended now k condition old j) ∙ some_in (nat_eq k j) (unspent old.sessions j)
+  unspent_then j =
+      ap (λ (v : World). is_unspent v j) w ∙ ap is_some (unspent_ended now k condition old j)
+      ∙ of_choice is_some (nat_eq k j) None (unspent old.sessions j)
 
   spent_before : (j : ℕ) (b : Bool) → nat_eq k j ≡ b → is_unspent old k ≡ false → cond b false (is_unspent old j) ≡ is_unspent old j
   spent_before j true same u = sym (ap (is_unspent old) (sym (eqb-true k j same)) ∙ u)
@@ -325,7 +264,7 @@ telling old now e a new (concludes t x asker ring k condition end ev which can i
     let mid : World = tidied (completed now k condition end (linked_in ring k old)) in
     concluding old new now k condition end builds (ap (is_unspent old) mine.0 ∙ unspent_by old by.0 by.1 by.3 mine.1)
     (λ j. built_as old new mid w j _ (built_tidied _ _ j ∙ built_concluded k condition end final old.keys j))
-    (λ j. unspent_as old new mid w j _ (ap is_some (unspent_concluded now k _ old.sessions j) ∙ some_in (nat_eq k j) (unspent old.sessions j)))
+    (λ j. unspent_as old new mid w j _ (ap is_some (unspent_concluded now k _ old.sessions j) ∙ of_choice is_some (nat_eq k j) None (unspent old.sessions j)))
     (λ key there s v at. sym (wait_at old new mid w s _ (wait_concluded now k condition end old key there old.sessions s)) ∙ at)
 telling old now e a new (ran_plain k st ev is launches ra w) good idle builds =
     quiet old new _ w (built_tidied _ _) (λ j. ap is_some (unspent_launched k (Plain new_session) old.sessions j))

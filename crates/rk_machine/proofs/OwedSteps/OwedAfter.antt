@@ -1,44 +1,14 @@
 -- What is owed to each session, after each thing that a step may do.
-use Rattle.std.proofs.Common.{◌≡◌, ℕ, ◌+◌, Bool, true, false, cond, refl, sym, ap, ◌∙◌}
-use Rattle.std.specs.Prelude.{Option, Some, None, nat_eq, is_some, option_map, option_and_then}
-use Rattle.std.specs.Option.{option_map_or}
-use Rattle.std.specs.Ordering.{nat_cmp}
+use Rattle.rk_machine.proofs.Words.{◌≡◌, ℕ, ◌∙◌, ◌+◌, Bool, true, false, cond, refl, ap, sym, option_map_or, nat_cmp, Option, Some, None, nat_eq, is_some}
+use Rattle.rk_machine.proofs.Words.{option_map, option_and_then, eqb-true, SessionId, Client, Handler, Condition, Key, session_changed, in_handler}
+use Rattle.rk_machine.proofs.Words.{in_new_stage, spent, without_authority, without_construction, with_construction, all_told, told, with_client}
+use Rattle.rk_machine.proofs.Words.{without_client, with_assumed, in_stage, told_wait, Sessions, new_session, session_of, stage_of, handler_in, Authority}
+use Rattle.rk_machine.proofs.Words.{Construction, Stage, Starting, Plain, Piped, Negating, Outcome, Session, Wait, announced, sessions_ended, ended}
+use Rattle.rk_machine.proofs.Words.{same_session, client_owes, stage_owes, construction_owes, wait_owes, places, World, get_inserted, get_removed}
+use Rattle.rk_machine.proofs.Words.{get_changed_at, get_changed_all, of_choice}
 use Rattle.std.specs.FinMap as map
-use Rattle.std.proofs.lemmas.Bool.{eqb-true}
-use Rattle.rk_names.specs.declared.numbers.SessionId.{SessionId}
-use Rattle.rk_names.specs.declared.numbers.SessionId.TheVariants.{Client, Handler}
-use Rattle.rk_keys.specs.declared.key.Key.{Key}
-use Rattle.rk_keys.specs.declared.key.Condition.{Condition}
-use Rattle.rk_auth.specs.declared.session.Session.{Session}
-use Rattle.rk_auth.specs.declared.session.Wait.{Wait}
-use Rattle.rk_auth.specs.declared.session.Outcome.{Outcome}
-use Rattle.rk_auth.specs.declared.construction.Stage.{Stage}
-use Rattle.rk_auth.specs.declared.construction.Stage.TheVariants.{Starting, Plain, Piped, Negating}
-use Rattle.rk_auth.specs.declared.construction.Authority.{Authority}
-use Rattle.rk_auth.specs.declared.construction.Construction.{Construction}
-use Rattle.rk_auth.specs.Sessions.{Sessions, new_session, session_of, stage_of, handler_in, unspent}
-use Rattle.rk_auth.specs.Changes.{
-  session_changed,
-  in_handler,
-  in_stage,
-  in_new_stage,
-  with_assumed,
-  launched,
-  spent,
-  without_authority,
-  without_construction,
-  with_construction,
-  all_told,
-  told,
-  told_wait,
-  with_client,
-  without_client,
-}
-use Rattle.rk_machine.specs.World.{World}
-use Rattle.rk_machine.specs.Completion.{announced, outcome_of, sessions_ended, keys_ended, ended}
-use Rattle.rk_machine.specs.Laws.{same_session}
-use Rattle.rk_machine.specs.Owing.{wait_owes, client_owes, stage_owes, construction_owes, places}
-use Rattle.rk_machine.proofs.Found.InMaps.{get_inserted, get_removed, get_changed_at, get_changed_all}
+use Rattle.rk_auth.specs.Changes.{launched}
+use Rattle.rk_machine.proofs.Effects.LeftByOutcomes.{left_announced, left_settled}
 
 abbrev at_client : Option Session → ℕ
 at_client o = option_map_or client_owes o 0
@@ -139,28 +109,17 @@ places_spent k a (Handler j) = ap at_construction (get_changed_at k without_auth
 
 -- an outcome leaves what is owed to each session
 pub places_announced : (now k : ℕ) (keys : map.FinMap nat_cmp Key) (a : Sessions) (s : SessionId) → places (announced now k keys a) s ≡ places a s
-places_announced now k keys a s = told_or_not (map.get keys k)
-  where
-    told_or_not : (o : Option Key) → places (option_map_or (λ key. all_told k (outcome_of k key now) a) o a) s ≡ places a s
-    told_or_not None = refl
-    told_or_not (Some key) = places_told k (outcome_of k key now) a s
+places_announced now k keys a s = left_announced (λ b. places b s) (λ j o b. places_told j o b s) now k keys a
 
 places_settled : (now k : ℕ) (condition : Condition) (w : World) (s : SessionId) → places (sessions_ended now k condition w) s ≡ places w.sessions s
-places_settled now k condition w s = spent_or_not (is_some (unspent w.sessions k))
-  where
-    spent_or_not : (b : Bool) → places (cond b (announced now k (keys_ended now k condition w) (spent k w.sessions)) w.sessions) s ≡ places w.sessions s
-    spent_or_not true = places_announced now k (keys_ended now k condition w) (spent k w.sessions) s ∙ places_spent k w.sessions s
-    spent_or_not false = refl
+places_settled now k condition w s =
+    left_settled (λ b. places b s) (λ j o b. places_told j o b s) (λ j b. places_spent j b s) now k condition w
 
 -- ---- constructions
 
-removed_in : (b : Bool) (o : Option Construction) → at_construction (cond b None o) ≡ cond b 0 (at_construction o)
-removed_in true o = refl
-removed_in false o = refl
-
 pub places_removed : (k : ℕ) (a : Sessions) (s : SessionId) → places (without_construction k a) s ≡ cond (same_session (Handler k) s) 0 (places a s)
 places_removed k a (Client n) = refl
-places_removed k a (Handler j) = ap at_construction (get_removed a.constructions k j) ∙ removed_in (nat_eq k j) (map.get a.constructions j)
+places_removed k a (Handler j) = ap at_construction (get_removed a.constructions k j) ∙ of_choice at_construction (nat_eq k j) None (map.get a.constructions j)
 
 -- nothing is owed to a construction that has ended, and to every other session what was
 pub places_ended : (now k : ℕ) (condition : Condition) (w : World) (s : SessionId)
@@ -168,16 +127,13 @@ pub places_ended : (now k : ℕ) (condition : Condition) (w : World) (s : Sessio
 places_ended now k condition w s =
     places_removed k (sessions_ended now k condition w) s ∙ ap (cond (same_session (Handler k) s) 0) (places_settled now k condition w s)
 
-issued_in : (authority : Authority) (b : Bool) (o : Option Construction)
-    → at_construction (cond b (Some (record { stage = Starting; authority = Some authority })) o) ≡ cond b 4 (at_construction o)
-issued_in authority true o = refl
-issued_in authority false o = refl
-
 -- 4 places are owed to a construction that begins, and to every other session what was
 pub places_issued : (k : ℕ) (authority : Authority) (a : Sessions) (s : SessionId)
     → places (with_construction k authority a) s ≡ cond (same_session (Handler k) s) 4 (places a s)
 places_issued k authority a (Client n) = refl
-places_issued k authority a (Handler j) = ap at_construction (get_inserted a.constructions k _ j) ∙ issued_in authority (nat_eq k j) (map.get a.constructions j)
+places_issued k authority a (Handler j) =
+    ap at_construction (get_inserted a.constructions k _ j)
+    ∙ of_choice at_construction (nat_eq k j) (Some (record { stage = Starting; authority = Some authority })) (map.get a.constructions j)
 
 launched_in : (st : Stage) (b : Bool) (o : Option Construction) → (b ≡ true → is_some o ≡ true)
     → at_construction (cond b (option_map (in_new_stage st) o) o) ≡ cond b (stage_owes st) (at_construction o)
@@ -204,22 +160,14 @@ places_launched k st a (Handler j) there =
 
 -- ---- clients
 
-came_in : (b : Bool) (o : Option Session) → at_client (cond b (Some new_session) o) ≡ cond b 1 (at_client o)
-came_in true o = refl
-came_in false o = refl
-
 -- 1 place is owed to a client that comes, and to every other session what was
 pub places_came : (n : ℕ) (a : Sessions) (s : SessionId) → places (with_client n a) s ≡ cond (same_session (Client n) s) 1 (places a s)
-places_came n a (Client m) = ap at_client (get_inserted a.clients n new_session m) ∙ came_in (nat_eq n m) (map.get a.clients m)
+places_came n a (Client m) = ap at_client (get_inserted a.clients n new_session m) ∙ of_choice at_client (nat_eq n m) (Some new_session) (map.get a.clients m)
 places_came n a (Handler k) = refl
-
-went_in : (b : Bool) (o : Option Session) → at_client (cond b None o) ≡ cond b 0 (at_client o)
-went_in true o = refl
-went_in false o = refl
 
 -- nothing is owed to a client that is gone, and to every other session what was
 pub places_went : (n : ℕ) (a : Sessions) (s : SessionId) → places (without_client n a) s ≡ cond (same_session (Client n) s) 0 (places a s)
-places_went n a (Client m) = ap at_client (get_removed a.clients n m) ∙ went_in (nat_eq n m) (map.get a.clients m)
+places_went n a (Client m) = ap at_client (get_removed a.clients n m) ∙ of_choice at_client (nat_eq n m) None (map.get a.clients m)
 places_went n a (Handler k) = refl
 
 -- a client that is there has a session
