@@ -197,6 +197,28 @@ def one_step(program):
         return None
 
 
+def row(kind, number, rest):
+    """A row with its length before it, after docs/RECORD.md, of which *how* is 0."""
+    return (6 + len(rest)).to_bytes(4, "big") + bytes([kind, 0]) + number.to_bytes(4, "big") + rest
+
+
+def spells_nothing(program):
+    """Steps of which a part is no message: what a client asks, what it is answered, and the names of what a handler is started for. The file's sum is right,
+    so the step is bad; it is not memory that is lacking."""
+    old, front = example()
+    opened, done, bad = row(1, 1, b""), row(1, 0, bytes(5)), b"\xff"
+    subject = (12).to_bytes(4, "big") + bytes(20) + bad
+    steps = [("asked", row(2, 1, bad) + done), ("replied", opened + row(1, 0, bad)), ("started", opened + row(2, 12, subject))]
+    with tempfile.TemporaryDirectory() as folder:
+        target = pathlib.Path(folder) / "bad"
+        for name, step in steps:
+            target.write_bytes(resummed(front + old[:STEPS - VOLUME + 8] + step))
+            status, lines, fault = rejoin(program, [target])
+            if status != 1 or lines or fault != f"reqkeyd: {target}: its step 1 is cut or bad":
+                return f"{name}: {status} {lines} {fault}"
+        return None
+
+
 def runs(program):
     """Volumes of two runs, which begin alike: one of the other run, one of version 1 among those in seals, and the number of the run changed."""
     with tempfile.TemporaryDirectory() as folder, tempfile.TemporaryDirectory() as second:
@@ -280,23 +302,26 @@ def at_once(program):
 
 
 def many(program):
-    """More volumes than one: a second one, and the first left out."""
-    with tempfile.TemporaryDirectory() as folder:
-        with Daemon(program, CONF, "--record", folder, "--clients", "1") as daemon:
-            with Client(daemon.path, 1000) as client:
-                for _ in range(9000):
-                    client.ask(ask.default(-1))
-            daemon.end()
-        files = volumes(folder)
-        names = [f.name for f in files]
-        if "hall-0-volume-000002" not in names:
-            return f"{names}"
-        for order in (files, files[::-1]):
-            status, lines, fault = rejoin(program, order)
-            if status or lines[0].split(",")[0] != "hall 0: 2 volumes":
-                return f"{status} {lines} {fault}"
-        status, lines, fault = rejoin(program, files[1:])
-        return None if status == 1 and fault == "reqkeyd: hall 0, volume 1: it is missing" else f"{status} {fault}"
+    """More volumes than one, of hall 0 and of another hall: a second one, and the first left out."""
+    for hall in (0, 1):
+        with tempfile.TemporaryDirectory() as folder:
+            with Daemon(program, CONF, "--record", folder, "--clients", "1") as daemon:
+                with Client(daemon.path, 1000 + hall) as client:
+                    for _ in range(9000):
+                        client.ask(ask.default(-1))
+                daemon.end()
+            files = volumes(folder)
+            names = [f.name for f in files]
+            if f"hall-{hall}-volume-000002" not in names:
+                return f"{names}"
+            for order in (files, files[::-1]):
+                status, lines, fault = rejoin(program, order)
+                if status or lines[hall].split(",")[0] != f"hall {hall}: 2 volumes":
+                    return f"{status} {lines} {fault}"
+            status, lines, fault = rejoin(program, [f for f in files if f.name != f"hall-{hall}-volume-000001"])
+            if status != 1 or fault != f"reqkeyd: hall {hall}, volume 1: it is missing":
+                return f"{status} {fault}"
+    return None
 
 
 def negative(program):
@@ -388,7 +413,8 @@ def replaces_none(program):
 
 
 CASES = [("a whole record is a run", whole), ("changed, cut, longer and doubled files are refused", changed), ("any bit that is another is seen", flipped),
-         ("the examples of the format", one_step), ("volumes of two runs", runs), ("volumes are chained", chained), ("several clients at once", at_once),
+         ("the examples of the format", one_step), ("messages that spell nothing", spells_nothing),
+         ("volumes of two runs", runs), ("volumes are chained", chained), ("several clients at once", at_once),
          ("a second volume", many), ("another negative time", negative), ("folders that are missing or have volumes", starts),
          ("a signal leaves whole volumes", killed), ("a full disk costs its volume alone", full), ("no file is replaced", replaces_none)]
 

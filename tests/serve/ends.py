@@ -583,12 +583,12 @@ def reads_to_the_end(program):
         return differs((reply, (daemon.room / "rest").read_bytes(), daemon.children()), (12, b"", {})) or daemon.lives()
 
 
-def each_outcome_wakes(program):
+def each_outcome_wakes(program, uid, key):
     """Who waits for the key of another one gets its outcome by the step that gives it: by each ask that completes a key while its handler goes on, or by the
-    end of a handler that has not completed it."""
+    end of a handler that has not completed it. The first key is this one, in the hall of this uid."""
     asks = [lambda key: ask.instantiate(key, b"made", 0), lambda key: ask.negate(key, 4000, 0), lambda key: ask.reject(key, 4000, 129, 0), None]
     told = []
-    with Daemon(program, HELD) as daemon, daemon.client() as first, daemon.client() as waiter:
+    with Daemon(program, HELD) as daemon, daemon.client(uid) as first, daemon.client(uid) as waiter:
         for at, completing in enumerate(asks):
             name = f"h:{at}".encode()
             first.send(want(name))
@@ -602,7 +602,7 @@ def each_outcome_wakes(program):
             if not completing:
                 told.append(waiter.reply())
             told.append(first.reply())
-        return differs(told, [16, 16, "E126", "E126", "E129", "E129", "E126", "E126"])
+        return differs(told, [key, key, "E126", "E126", "E129", "E129", "E126", "E126"])
 
 
 def second_start_fails(program):
@@ -641,8 +641,10 @@ def nothing_left(program):
 def cases():
     for try_it in [client_killed, all_clients_killed, again_after, completed_and_killed, daemon_killed, terminated, no_asks, child_goes_on, replies_unread, told_whole,
                    handler_leaves, stopped, signalled, waits_and_dies, not_followed, not_made, made_or_not, warned, ends_unknown, chain, many_wait, reads_to_the_end,
-                   each_outcome_wakes, second_start_fails, nothing_left]:
+                   second_start_fails, nothing_left]:
         yield try_it.__name__.replace("_", " "), try_it
+    for uid, key in [(1000, 16), (1001, 13)]:
+        yield f"each outcome wakes who waits, of uid {uid}", each_outcome_wakes, uid, key
     for how in ["is killed", "ends"]:
         yield f"many wait for a handler that {how} without completing", many_wait_in_vain, how
     for how in ["is killed", "ends", "rejects", "writes no frame", "closes its output", "is not started"]:

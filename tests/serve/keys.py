@@ -113,15 +113,20 @@ def negated(program):
 
 
 def macros(program):
-    """The words of a handler, and where it runs."""
-    with Daemon(program, "create user * * %room/words %o %k %t %d %c %u %g %T %P %S %{user:other} %%k x%k\n") as daemon:
-        daemon.script("words", '#!/bin/sh\nfor word in "$@"; do echo "$word"; done > %room/words.txt\n')
-        with daemon.client() as client:
-            client.ask(ask.add(b"user", b"other", b"a payload", -4))
-            outcome = client.ask(ask.request(b"user", b"m:1", b"a callout", -4))
-        words = (daemon.room / "words.txt").read_text().split("\n")[:-1]
-        want = ["create", "16", "user", "m:1", "a callout", "1000", "1000", "0", "0", "4", "a payload", "%k", "x%k"]
-        return differs((outcome, words), ("E126", want))
+    """The words of a handler, and where it runs: in hall 0, and in another hall, whose own keys are found there."""
+    conf = "create user * * %room/words %o %k %t %d %c %u %g %T %P %S %{user:other} %%k x%k\n"
+    for uid, ring, key in ((1000, 4, 16), (1001, 1, 13)):
+        with Daemon(program, conf) as daemon:
+            daemon.script("words", '#!/bin/sh\nfor word in "$@"; do echo "$word"; done > %room/words.txt\n')
+            with daemon.client(uid) as client:
+                client.ask(ask.add(b"user", b"other", b"a payload", -4))
+                outcome = client.ask(ask.request(b"user", b"m:1", b"a callout", -4))
+            words = (daemon.room / "words.txt").read_text().split("\n")[:-1]
+            want = ["create", f"{key}", "user", "m:1", "a callout", f"{uid}", f"{uid}", "0", "0", f"{ring}", "a payload", "%k", "x%k"]
+            wrong = differs((outcome, words), ("E126", want))
+            if wrong:
+                return f"uid {uid}: {wrong}"
+    return None
 
 
 def expired(program):

@@ -119,7 +119,16 @@ fn read_body<R: Read>(alloc: Global, reader: &mut R, room: &mut [u8]) -> Result<
         × Consumes (R.remaining reader.old) (R.remaining reader.new) body × SpellsNoReply body }
 {
     fill(reader, room)?;
-    match Reply::read(alloc, room) {
+    reply_of(alloc, room)
+}
+
+/// The reply that a whole body spells; `Malformed` if it spells none. It is never `Lost`, since all of it has come.
+fn reply_of(alloc: Global, body: &[u8]) -> Result<Reply, PeerFault>
+    ensures reply { IfOk result (λ r. IsReply r × (body.now ≡ spelling (reply_message r))) }
+    ensures malformed { result ≡ Err PeerFault.Malformed → SpellsNoReply body.now }
+    ensures came { result ≢ Err PeerFault.Lost }
+{
+    match Reply::read(alloc, body) {
         Ok(reply) => Ok(reply),
         Err(ReadError::Fault(_)) => Err(PeerFault::Malformed),
         Err(ReadError::NoMemory) => Err(PeerFault::NoMemory),
