@@ -99,13 +99,18 @@ fn first_error(before: Option<KeyError>, error: KeyError) -> Option<KeyError>
 /// A search that is under way: the keys and rings in which it looks, for which name, and when.
 #[derive(Clone, Copy)]
 struct Search<'a> {
+    /// How each key stands.
     keys: &'a Keys,
+    /// Which keys are linked in which ring.
     rings: &'a Rings,
+    /// The number of the name.
     name: NameNo,
+    /// When it is made.
     moment: Moment,
 }
 
 impl Search<'_> {
+    /// The key of the name in a ring, if one is given and has it.
     fn match_in(&self, ring: &Option<Serial>) -> Option<Match>
         ensures { (found : Option ℕ) × IsMatch self.now.rings.now self.now.name ring.now found × (result ≡ matched self.now.keys.now self.now.moment found) }
     {
