@@ -474,19 +474,22 @@ def piped(program, name, script, want_payload, callout=b"x", warning=None):
 
 
 def not_made(program):
-    """Where a line fits and its words can't be made nothing is started, also for negate, and a warning says why; where no line fits, none does."""
-    words = {"n": "%{user:none}", "t": "%{user:other}", "l": "%{user:b0} %{user:b1} %{user:b2}"}
+    """Where a line fits and its words can't be made nothing is started, also for negate, and a warning says why; where no line fits, none does. A payload is
+    looked for in the rings of the requester alone."""
+    words = {"n": "%{user:none}", "t": "%{user:other}", "l": "%{user:b0} %{user:b1} %{user:b2}", "s": "%{user:strange}"}
     conf = "".join(f"create user {name}:* * %room/starts {it}\n" for name, it in words.items())
     conf += "create user f:* * |/bin/false\nnegate * * * %room/starts %{user:none}\n"
-    with Daemon(program, conf, "--clients", "1") as daemon:
+    with Daemon(program, conf, "--clients", "2") as daemon:
         daemon.script("starts", "#!/bin/sh\ntouch %room/started\n")
-        with daemon.client() as client:
+        with daemon.client(1004) as stranger, daemon.client() as client:
+            stranger.ask(ask.add(b"user", b"strange", b"v", USER))
             client.ask(ask.add(b"user", b"other", b"\xff", USER), *[ask.add(b"user", b"b%d" % at, b"w" * 32767, USER) for at in range(3)])
-            replies = client.ask(*[want(name + b":1") for name in [b"n", b"t", b"l", b"f", b"o"]])
+            replies = client.ask(*[want(name + b":1") for name in [b"n", b"t", b"l", b"s", b"f", b"o"]])
         status, lines = daemon.end()
         no_key = "X1: an argument %{..} is the payload of a key that the requester doesn't find"
-        told = [f"key 28: {no_key}", "key 32: X2: a payload is no text", "key 36: X3: the words are more than 65536 bytes", "key 40: exit status 1", f"key 40: {no_key}"]
-        return differs((replies, status, warnings(lines), (daemon.room / "started").exists()), (["E126"] * 5, 0, told, False))
+        told = [f"key 40: {no_key}", "key 44: X2: a payload is no text", "key 48: X3: the words are more than 65536 bytes", f"key 52: {no_key}",
+                "key 56: exit status 1", f"key 56: {no_key}"]
+        return differs((replies, status, warnings(lines), (daemon.room / "started").exists()), (["E126"] * 6, 0, told, False))
 
 
 def missing(program, line, why):
