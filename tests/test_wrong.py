@@ -28,7 +28,7 @@ stored = top / "tests" / "replay" / "first_path"
 MADE, ASTRAY = "growths::growths_of_a_key_that_is_made", "settling::tokens_that_went_astray_are_counted"
 COUNTED = "counting::what_is_in_each_hall_is_counted"
 OF_HALLS = {"always_no_memory": MADE, "behind_on_seen": MADE, "stray_for_owed": MADE, "settle_tells_no_stray": ASTRAY, "counts_of_hall_zero": COUNTED}
-LEFT_OUT = ["sessions", "programs"]
+LEFT_OUT = ["children", "fakes", "sessions", "threads"]
 
 
 def made(edit, copy):

@@ -1,9 +1,13 @@
 //! What the client of the tests asks.
 use rk_message::{AskStep, Greeting};
 use rk_names::{
-    CalloutView, Description, DescriptionView, Payload, Serial, SessionId, TypeName, TypeView,
+    CalloutView, Description, DescriptionView, Moment, Payload, Serial, SessionId, TypeName,
+    TypeView,
 };
 use std::alloc::{AllocError, Global};
+
+/// The moment of what is asked by no clock.
+pub const NOW: Moment = Moment(100);
 
 /// The client of the tests.
 pub const CLIENT: SessionId = SessionId::Client(1);

@@ -1,6 +1,6 @@
-//! Handlers over fakes: `handling` brings one to its end and looks at what came of it, `rows` has what a requester gets for each thing that a program does,
-//! and for each call of a device that fails, `growths` where memory is refused, and `told` what passes with a handler.
-pub mod growths;
-pub mod handling;
+//! Handlers over fakes: `handling` brings one to its end and looks at what came of it, `rows` has what a requester gets for each call of a device that fails,
+//! `growths` where memory is refused, and `told` what passes with a handler.
+mod growths;
+mod handling;
 mod rows;
 mod told;

@@ -1,7 +1,9 @@
-//! Devices that tests have in place of real ones: `launcher` starts programs that are lists of bytes, `still` has a clock that stands and a shelf that keeps
-//! nothing, `telling` starts programs too and tells all that passes with them, and `turns` lets threads act in one order, with a clock and a gate that know
-//! whose turn it is.
+//! Devices that tests have in place of real ones: `launcher` starts programs that are lists of bytes, `telling` starts such programs too and tells all that
+//! passes with them, `programs` has programs and what starts them, `giving` what devices have in common, `around` what is around a session or a handler,
+//! and `turns` lets threads act in one order.
+pub mod around;
+pub mod giving;
 pub mod launcher;
-pub mod still;
+pub mod programs;
 pub mod telling;
 pub mod turns;

@@ -1,15 +1,13 @@
 //! Sessions over fakes: what they are answered, in what order, and what of it the halls have recorded.
 //!
-//! `line` is a wire that keeps what happens on it, `stage` plays a scene of up to three sessions, and `bytes` has the frames, written by hand. The tests
-//! are tables of scenes: `alone` of one session, `together` of more, `pipelined` of messages that come in one piece, `growths` of one that lacks memory.
-//! `told` is of one over a wire that tells, of `telling`.
+//! `line` is a wire that keeps what happens on it, `serving` serves a session over it to its end, and `bytes` has the frames, written by hand. `rows` has
+//! sessions whose wire fails, and others that only a fake can be the client of, `growths` ones that lack memory. `told` is of one over a wire that tells, of
+//! `telling`.
 
-mod alone;
 mod bytes;
 mod growths;
 mod line;
-mod pipelined;
-mod stage;
+mod rows;
+mod serving;
 mod telling;
-mod together;
 mod told;

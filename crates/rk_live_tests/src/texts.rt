@@ -18,59 +18,70 @@ fn prints<T: Display + Drop>(
     Ok(())
 }
 
-const BEFORE: &str = "the step has the number 8, not above 9, which was seen before";
-
-const WOULD_BE_BEFORE: &str =
-    "the step would have the number 8, not above 9, which was seen before";
-
-const UNEVEN: &str = "the record has 6 steps, and the seats 3: one is missing";
-
 #[test]
-fn a_call_that_was_not_made(rt: HostRuntime) -> Result<(), Fail> {
+fn what_was_not_done(rt: HostRuntime) -> Result<(), Fail> {
     let alloc = rt.alloc();
-    prints(&rt, alloc, HallFault::Full, "the record's volume is full")?;
-    prints(&rt, alloc, HallFault::NoMemory, "out of memory")?;
-    prints(
-        &rt,
-        alloc,
-        CallFault::Behind { seen: 9, found: 8 },
-        WOULD_BE_BEFORE,
-    )?;
-    prints(&rt, alloc, CallFault::Full, "the record's volume is full")?;
-    prints(&rt, alloc, CallFault::NoMemory, "out of memory")?;
-    prints(&rt, alloc, Lapse::Behind { seen: 9, found: 8 }, BEFORE)?;
-    prints(&rt, alloc, Lapse::Stray, "the event was not owed")
+    for (fault, text) in [
+        (HallFault::Full, "the record's volume is full"),
+        (HallFault::NoMemory, "out of memory"),
+    ] {
+        prints(&rt, alloc, fault, text)?;
+    }
+    for (fault, text) in [
+        (
+            CallFault::Behind { seen: 9, found: 8 },
+            "the step would have the number 8, not above 9, which was seen before",
+        ),
+        (CallFault::Full, "the record's volume is full"),
+        (CallFault::NoMemory, "out of memory"),
+    ] {
+        prints(&rt, alloc, fault, text)?;
+    }
+    for (lapse, text) in [
+        (
+            Lapse::Behind { seen: 9, found: 8 },
+            "the step has the number 8, not above 9, which was seen before",
+        ),
+        (Lapse::Stray, "the event was not owed"),
+    ] {
+        prints(&rt, alloc, lapse, text)?;
+    }
+    Ok(())
 }
 
 #[test]
 fn records_that_do_not_agree(rt: HostRuntime) -> Result<(), Fail> {
     let alloc = rt.alloc();
-    let missing = SettleFault::Missing {
-        hall: HallNo::Two,
-        volume: 1,
-    };
-    let forged = SettleFault::Forged {
-        hall: HallNo::Zero,
-        number: 7,
-    };
-    prints(
-        &rt,
-        alloc,
-        SettleFault::Uneven { steps: 6, held: 3 },
-        UNEVEN,
-    )?;
-    prints(&rt, alloc, missing, "hall 2: volume 1 is missing")?;
-    prints(
-        &rt,
-        alloc,
-        forged,
-        "hall 0: receipt 7 does not stand in the record",
-    )?;
-    prints(
-        &rt,
-        alloc,
-        Rejoin::Broken { number: 4 },
-        "step 4: the machine answers otherwise",
-    )?;
-    prints(&rt, alloc, Rejoin::NoMemory, "out of memory")
+    for (fault, text) in [
+        (
+            SettleFault::Uneven { steps: 6, held: 3 },
+            "the record has 6 steps, and the seats 3: one is missing",
+        ),
+        (
+            SettleFault::Missing {
+                hall: HallNo::Two,
+                volume: 1,
+            },
+            "hall 2: volume 1 is missing",
+        ),
+        (
+            SettleFault::Forged {
+                hall: HallNo::Zero,
+                number: 7,
+            },
+            "hall 0: receipt 7 does not stand in the record",
+        ),
+    ] {
+        prints(&rt, alloc, fault, text)?;
+    }
+    for (fault, text) in [
+        (
+            Rejoin::Broken { number: 4 },
+            "step 4: the machine answers otherwise",
+        ),
+        (Rejoin::NoMemory, "out of memory"),
+    ] {
+        prints(&rt, alloc, fault, text)?;
+    }
+    Ok(())
 }

@@ -4,45 +4,33 @@
 //! last the result is compared with the whole, so that a fault shows both.
 use crate::children::handling::Handling;
 use crate::children::rows::{FOLLOWED, NESTED, PIPED, PLAIN};
-use crate::halls::opening::{Scene, in_new_halls};
-use std::alloc::Global;
-use std::marker::Sync;
-use std::process::Abort;
-use std::sync::Wait;
-use std::thread::Threads;
-use std::time::Clock;
+use crate::halls::opening::in_new_halls;
 
-/// Plays the handling, whose steps are counted. A reply that is lost for lack of memory takes no step, so what was said is not looked at.
-fn counted<R: Wait + Abort + Threads + Clock + Sync>(
-    rt: &R,
-    alloc: Global,
-    whole: Handling,
-    steps: u64,
-) {
-    let counted = Handling {
+/// The handling, whose steps are counted. A reply that is lost for lack of memory takes no step, so what was said is not looked at.
+fn counted(whole: Handling, steps: u64) -> Handling {
+    Handling {
         told: None,
         steps: Some(steps),
         ..whole
-    };
-    in_new_halls(rt, alloc, 100, Scene::Handling(counted));
+    }
 }
 
 #[test]
 fn growths_of_a_plain_handler(rt: HostRuntime) {
-    counted(&rt, rt.alloc(), PLAIN, 8);
+    in_new_halls(&rt, rt.alloc(), 100, &counted(PLAIN, 8));
 }
 
 #[test]
 fn growths_of_a_piped_handler(rt: HostRuntime) {
-    counted(&rt, rt.alloc(), PIPED, 6);
+    in_new_halls(&rt, rt.alloc(), 100, &counted(PIPED, 6));
 }
 
 #[test]
 fn growths_of_a_handler_that_asks_for_another_key(rt: HostRuntime) {
-    counted(&rt, rt.alloc(), NESTED, 14);
+    in_new_halls(&rt, rt.alloc(), 100, &counted(NESTED, 14));
 }
 
 #[test]
 fn growths_of_a_handler_that_is_followed(rt: HostRuntime) {
-    counted(&rt, rt.alloc(), FOLLOWED, 10);
+    in_new_halls(&rt, rt.alloc(), 100, &counted(FOLLOWED, 10));
 }

@@ -2,22 +2,24 @@
 ghost use Rattle.std.specs.Prelude.{◌≡◌, ◌≤◌, [], map};
 ghost use Rattle.rk_live_tests.specs.Telling.{AreTried, HasPassedWith, passed, tried};
 
-use crate::children::handling::{Open, settles};
-use crate::fakes::still::{Bin, Stopped};
+use crate::fakes::around::{Bin, Open, Ticking};
+use crate::fakes::programs::PLAIN;
 use crate::fakes::telling::{Speech, Telling};
 use crate::halls::calls::{greets, requests};
+use crate::halls::opening::{Scene, in_new_halls};
+use crate::halls::paths::settles;
 use crate::kept::{Passed, Tried};
 use crate::same::same;
 use rk_child::{Caller, Crew, Driven, Platform, Stage, drive};
 use rk_conf::Conf;
-use rk_hall::{Fresh, Halls, Launch, Names, Seat};
+use rk_hall::{Halls, Launch, Names, Seat};
 use rk_machine::How;
 use std::alloc::{AllocError, Global};
-use std::marker::{Brand, PhantomData};
+use std::marker::PhantomData;
 use std::process::Abort;
 use std::sync::Wait;
 
-/// What is around a launch of a launcher that tells: it has all of it to itself, and time stands still.
+/// What is around a launch whose launcher tells.
 struct Told<N: Names, R>(PhantomData<(N, R)>);
 
 impl<N: Names, R: Wait + Abort + Copy> Platform for Told<N, R> {
@@ -27,14 +29,14 @@ impl<N: Names, R: Wait + Abort + Copy> Platform for Told<N, R> {
 
     type Launcher = Telling<R>;
 
-    type Clock = Stopped;
+    type Clock = Ticking;
 
     type Gate = Open;
 
     type Shelf = Bin;
 }
 
-/// A launch and its launcher have all of this to themselves.
+/// What it is lent.
 fn told_stage<'a, N: Names, R: Wait + Abort + Copy>(
     rt: &'a R,
     alloc: Global,
@@ -126,8 +128,8 @@ fn tried_text(alloc: Global, tried: &[Tried]) -> Result<Vec<u8>, AllocError> {
 }
 
 /// What is played, and its result.
-#[derive(Clone, Copy)]
-struct Scene {
+#[derive(Drop)]
+struct Story {
     /// What each program outputs, in the order of their starts.
     speeches: &'static [Speech],
     /// How the launch ends.
@@ -140,88 +142,72 @@ struct Scene {
     steps: u64,
 }
 
-/// A client requests a key, and its handler is brought to its end.
-fn plays<N: Names, R: Wait + Abort + Copy>(rt: &R, alloc: Global, halls: Halls<N>, scene: Scene) {
-    let mut seat = halls.seat(rt).expect(rt, "a seat");
-    drop(greets(rt, &halls, &mut seat));
-    let seat = is_driven(rt, alloc, &halls, seat, scene);
-    let mut seats = Vec::with_capacity(alloc, 1).expect(rt, "memory");
-    seats.push(seat).expect(rt, "memory");
-    same(rt, settles(rt, alloc, halls, seats), scene.steps);
+impl Scene for Story {
+    /// A client requests a key, and its handler is brought to its end.
+    fn play<N: Names, R: Wait + Abort + Copy>(&self, rt: &R, alloc: Global, halls: Halls<N>) {
+        let (seat, driven, launcher) = is_driven(rt, alloc, &halls, self.speeches);
+        let tried = tried_text(alloc, &launcher.tried).expect(rt, "memory");
+        let passed = story_text(alloc, &launcher.story).expect(rt, "memory");
+        same(
+            rt,
+            (driven, tried.as_slice(), passed.as_slice()),
+            (self.driven, self.tried, self.passed),
+        );
+        let seats = vec![in alloc; seat].expect(rt, "memory");
+        same(rt, settles(rt, alloc, halls, seats), self.steps);
+    }
 }
 
-/// Drives it, and looks at what was told. The seat comes back.
-fn is_driven<N: Names, R: Wait + Abort + Copy>(
-    rt: &R,
+/// Drives it. The seat and the launcher come back.
+fn is_driven<'a, N: Names, R: Wait + Abort + Copy>(
+    rt: &'a R,
     alloc: Global,
-    halls: &Halls<N>,
-    seat: Seat<N>,
-    scene: Scene,
-) -> Seat<N> {
-    let conf = Conf::read(alloc, b"create * * * /bin/h %k\n").expect(rt, "lines");
-    let mut seat = seat;
+    halls: &'a Halls<N>,
+    speeches: &'static [Speech],
+) -> (Seat<N>, Driven, Telling<R>) {
+    let conf = Conf::read(alloc, PLAIN.conf).expect(rt, "lines");
+    let mut seat = halls.seat(rt).expect(rt, "a seat");
+    drop(greets(rt, halls, &mut seat));
     let (receipt, launch) = requests(rt, halls, &mut seat);
     drop(receipt);
     let (gate, shelf) = (Open::new(), Bin::new());
     let stage = told_stage(rt, alloc, halls, &conf, &gate, &shelf);
     let caller = Caller {
         seat,
-        clock: Stopped,
+        clock: Ticking::new(),
     };
-    let launcher = Telling::new(*rt, alloc, scene.speeches).expect(rt, "memory");
+    let launcher = Telling::new(*rt, alloc, speeches).expect(rt, "memory");
     let mut crew: Crew<Told<N, R>> = Crew { caller, launcher };
     let driven = drive_told(&stage, &mut crew, launch);
-    let Crew { caller, launcher } = crew;
-    let tried = tried_text(alloc, &launcher.tried).expect(rt, "memory");
-    let passed = story_text(alloc, &launcher.story).expect(rt, "memory");
-    same(
-        rt,
-        (driven, tried.as_slice(), passed.as_slice()),
-        (scene.driven, scene.tried, scene.passed),
-    );
-    let Caller {
-        seat,
-        clock: Stopped,
-    } = caller;
-    seat
-}
-
-fn in_halls<N: Names, R: Wait + Abort + Copy>(rt: &R, alloc: Global, fresh: Fresh, scene: Scene)
-    requires zero { (fresh.zero.calls.name ≡ N.name 0) × (fresh.zero.out.name ≡ N.name 1) }
-    requires one { (fresh.one.calls.name ≡ N.name 2) × (fresh.one.out.name ≡ N.name 3) }
-    requires two { (fresh.two.calls.name ≡ N.name 4) × (fresh.two.out.name ≡ N.name 5) }
-    requires three { (fresh.three.calls.name ≡ N.name 6) × (fresh.three.out.name ≡ N.name 7) }
-{
-    let halls: Halls<N> = Halls::with_volume(alloc, fresh, 60, 0, 100).expect(rt, "memory");
-    plays(rt, alloc, halls, scene);
-}
-
-/// Plays it in halls of its own.
-fn is_told<R: Wait + Abort + Copy>(rt: &R, alloc: Global, scene: Scene) {
-    let fresh = Fresh::new();
-    in_halls::<Brand, R>(rt, alloc, fresh, scene);
+    let Crew {
+        caller: Caller { seat, clock },
+        launcher,
+    } = crew;
+    drop(clock);
+    (seat, driven, launcher)
 }
 
 #[test]
 fn all_that_passes_is_told(rt: HostRuntime) {
-    let scene = Scene {
-        speeches: NESTED,
-        driven: Driven::Ended(How::Exit(6)),
-        tried: b"0 /bin/h 12\n+ /bin/h 16\n",
-        passed: PASSED,
-        steps: 13,
-    };
-    is_told(&rt, rt.alloc(), scene);
+    for story in [WITH_ANOTHER_KEY, WITHOUT_A_FRAME] {
+        in_new_halls(&rt, rt.alloc(), 100, &story);
+    }
 }
 
-#[test]
-fn what_passes_with_a_malformed_handler_is_told(rt: HostRuntime) {
-    let scene = Scene {
-        speeches: MALFORMED,
-        driven: Driven::Ended(How::Exit(0)),
-        tried: b"0 /bin/h 12\n",
-        passed: b"<\0\0\0\x05\x03\0\0\0\x0c\0\x01\0\x01aaa>\0\0\0\x05\0\0\0\0\0<",
-        steps: 6,
-    };
-    is_told(&rt, rt.alloc(), scene);
-}
+/// A handler that asks for another key.
+const WITH_ANOTHER_KEY: Story = Story {
+    speeches: NESTED,
+    driven: Driven::Ended(How::Exit(6)),
+    tried: b"0 /bin/h 12\n+ /bin/h 16\n",
+    passed: PASSED,
+    steps: 13,
+};
+
+/// One that says a length that no frame has.
+const WITHOUT_A_FRAME: Story = Story {
+    speeches: MALFORMED,
+    driven: Driven::Ended(How::Exit(0)),
+    tried: b"0 /bin/h 12\n",
+    passed: b"<\0\0\0\x05\x03\0\0\0\x0c\0\x01\0\x01aaa>\0\0\0\x05\0\0\0\0\0<",
+    steps: 6,
+};

@@ -1,6 +1,7 @@
 //! A launcher of programs that are lists of bytes, with a fuse for one call.
-ghost use Rattle.std.specs.Prelude.{◌≡◌, ◌≤◌, length, None, IfOk};
+ghost use Rattle.std.specs.Prelude.{◌≡◌, ◌≤◌, None, IfOk};
 
+use crate::fakes::giving::give;
 use rk_devices::{Child, DeviceFault, Launcher, StartFault};
 use rk_machine::How;
 use rk_macro::Command;
@@ -46,12 +47,10 @@ struct Played {
 }
 
 impl Played {
-    /// The program, which outputs so many bytes at most. An `Err` is out of memory.
-    fn of(alloc: Global, program: &Program, most: usize) -> Result<Played, AllocError> {
-        let mut bytes = spelled(alloc, program.says)?;
-        bytes.truncate(most);
+    /// The program. An `Err` is out of memory.
+    fn of(alloc: Global, program: &Program) -> Result<Played, AllocError> {
         Ok(Played {
-            bytes,
+            bytes: spelled(alloc, program.says)?,
             endless: program.endless,
             ends: program.ends,
         })
@@ -95,27 +94,21 @@ pub struct Fake {
     /// Whether that one was read to the end of its output.
     at_end: bool,
     /// Whether any was waited for while its input was open.
-    pub hasty: bool,
+    hasty: bool,
     /// How that one ended: `None` before it was waited for, `None` inside if the wait failed.
     last: Option<Option<How>>,
 }
 
 impl Fake {
-    /// It starts these programs, each of which outputs so many bytes at most. An `Err` is out of memory. What is kept of a few programs takes no more of
-    /// it.
-    pub fn new(
-        alloc: Global,
-        programs: &[Program],
-        most: usize,
-        fuse: Option<Fuse>,
-    ) -> Result<Fake, AllocError>
+    /// It starts these programs. An `Err` is out of memory. What is kept of a few programs takes no more of it.
+    pub fn new(alloc: Global, programs: &[Program], fuse: Option<Fuse>) -> Result<Fake, AllocError>
         ensures { IfOk result (λ f. f.failed ≡ 0) }
     {
         let told = Vec::with_capacity(alloc, 256)?;
         let words = Vec::with_capacity(alloc, 64)?;
         let mut played = Vec::with_capacity(alloc, programs.len())?;
         for program in programs {
-            played.push(Played::of(alloc, program, most)?)?;
+            played.push(Played::of(alloc, program)?)?;
         }
         Ok(Fake {
             alloc,
@@ -192,16 +185,6 @@ fn spelled(alloc: Global, says: &[(usize, &[u8])]) -> Result<Vec<u8>, AllocError
         }
     }
     Ok(bytes)
-}
-
-/// Copies as many bytes as there is room for, at most 1,000, to the front of the buffer, and says how many.
-pub fn give(bytes: &[u8], buf: &mut [u8]) -> usize
-    ensures bound { result ≤ length buf.old }
-    ensures same { length buf.new ≡ length buf.old }
-{
-    let count = bytes.len().min(buf.len()).min(1_000);
-    buf[..count].copy_from_slice(&bytes[..count]);
-    count
 }
 
 impl Child for Running {

@@ -1,8 +1,8 @@
 //! A launcher that tells which commands it was to start, and all that passes with its children.
-ghost use Rattle.std.specs.Prelude.{◌≡◌, ◌≤◌, [], length, map, IfOk, Some, true};
-ghost use Rattle.rk_devices.specs.Counts.{raised};
+ghost use Rattle.std.specs.Prelude.{◌≡◌, ◌≤◌, [], map, IfOk, Some, true};
 ghost use Rattle.rk_live_tests.specs.Telling.{passed, tried};
 
+use crate::fakes::giving::{give, one_more};
 use crate::kept::{Passed, Tried};
 use rk_conf::Word;
 use rk_devices::{Child, DeviceFault, Launcher, StartFault};
@@ -111,24 +111,6 @@ pub struct Speaking<R> {
     waited: Option<Option<How>>,
     /// What has passed with it, first things first.
     story: Vec<Passed>,
-}
-
-/// One more; the greatest count stays.
-fn one_more(count: u64) -> u64
-    ensures { result ≡ raised count }
-{
-    if count < u64::MAX { count + 1 } else { count }
-}
-
-/// Copies what there is room for to the front of the buffer.
-fn give(bytes: &[u8], buf: &mut [u8]) -> usize
-    ensures bound { result ≤ length buf.old }
-    ensures same { length buf.new ≡ length buf.old }
-    ensures there { result ≤ length bytes.now }
-{
-    let count = bytes.len().min(buf.len());
-    buf[..count].copy_from_slice(&bytes[..count]);
-    count
 }
 
 /// The same command once more.

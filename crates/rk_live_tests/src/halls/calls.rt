@@ -1,8 +1,7 @@
 //! What a client and its handler do, in hall 0 for the most part.
 ghost use Rattle.rk_hall.specs.Seats.{IsCall};
 
-use crate::asks::{CLIENT, hello, request};
-use crate::fakes::still::NOW;
+use crate::asks::{CLIENT, NOW, hello, request};
 use rk_hall::{Called, HallNo, Halls, Launch, Names, Owed, Receipt, Seat};
 use rk_machine::{EventStep, Ran};
 use std::process::Abort;

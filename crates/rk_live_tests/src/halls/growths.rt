@@ -6,16 +6,16 @@
 ghost use Rattle.rk_hall.specs.Seats.{IsCall};
 
 use crate::answers::Said;
-use crate::asks::{CLIENT, OTHER, hello, joining, payload, request};
-use crate::fakes::still::NOW;
+use crate::asks::{CLIENT, NOW, OTHER, hello, joining, payload, request};
 use crate::halls::calls::refuse_launch;
 use crate::halls::opening::{Scene, in_new_halls};
-use crate::halls::paths::{End, all, collects, ends, goes, keep, negates, runs, say, strays};
+use crate::halls::paths::{
+    End, all, collects, ends, goes, keep, negates, runs, say, settled, strays,
+};
 use crate::record::events::key;
 use crate::same::same;
-use rk_hall::{CallFault, Called, HallNo, Halls, Launch, Names, Receipt, Seat, Volume, settle};
+use rk_hall::{CallFault, Called, HallNo, Halls, Launch, Names, Receipt, Seat};
 use rk_machine::{EventStep, How};
-use rk_message::AskStep;
 use rk_names::{Errno, Payload};
 use std::alloc::{AllocError, Global};
 use std::process::Abort;
@@ -32,74 +32,55 @@ pub struct Growths {
     answers: &'static [Said],
 }
 
-/// What takes memory on the path, beside the calls and the receipts.
-#[derive(Drop)]
-struct Needs {
-    /// The client's request for the key.
-    request: AskStep<'static>,
-    /// That of the other client.
-    other: AskStep<'static>,
-    /// What the handler outputs.
-    put_out: Payload,
+impl Scene for Growths {
+    /// Goes the path as far as memory reaches, and settles.
+    fn play<N: Names, R: Wait + Abort + Copy>(&self, rt: &R, alloc: Global, halls: Halls<N>) {
+        let mut seats = Vec::with_capacity(alloc, 1).expect(rt, "memory");
+        let mut receipts = Vec::with_capacity(alloc, 16).expect(rt, "memory");
+        let put_out = payload(alloc, b"v").expect(rt, "memory");
+        let mut seat = halls.seat(rt).expect(rt, "a seat");
+        strays(rt, &halls, &mut seat);
+        self.follow(rt, &halls, &mut seat, &mut receipts, put_out);
+        same(rt, seat.clients(), 0);
+        seats.push(seat).expect(rt, "memory");
+        let total = settled(alloc, halls, seats, &receipts);
+        same(rt, total, Ok(all(receipts.len() as u64)));
+        say(rt, &receipts, self.answers);
+    }
 }
 
 impl Growths {
-    /// Goes the path as far as memory reaches, and settles.
-    pub fn play<N: Names, R: Wait + Abort>(self, rt: &R, alloc: Global, halls: Halls<N>) {
-        let mut seats = Vec::with_capacity(alloc, 1).expect(rt, "memory");
-        let mut receipts = Vec::with_capacity(alloc, 16).expect(rt, "memory");
-        let mut seat = halls.seat(rt).expect(rt, "a seat");
-        strays(rt, &halls, &mut seat);
-        self.follow(rt, alloc, &halls, &mut seat, &mut receipts);
-        same(rt, seat.clients(), 0);
-        seats.push(seat).expect(rt, "memory");
-        let none: Vec<Volume<N>> = Vec::new(alloc);
-        let settled = settle(halls, &none, seats, &receipts);
-        same(rt, settled, Ok(all(receipts.len() as u64)));
-        say(rt, &receipts, self.answers);
-    }
-
     /// The path.
     fn follow<N: Names, R: Wait + Abort>(
-        self,
+        &self,
         rt: &R,
-        alloc: Global,
         halls: &Halls<N>,
         seat: &mut Seat<N>,
         receipts: &mut Vec<Receipt>,
+        put_out: Payload,
     ) {
-        let needs = Needs {
-            request: request(b"a").expect(rt, "a request"),
-            other: request(b"a").expect(rt, "a request"),
-            put_out: payload(alloc, b"v").expect(rt, "memory"),
-        };
-        if !is_made(rt, halls, seat, receipts, EventStep::Opened(CLIENT)) {
-            return;
+        if is_made(rt, halls, seat, receipts, EventStep::Opened(CLIENT)) {
+            if is_made(rt, halls, seat, receipts, EventStep::Asked(CLIENT, hello())) {
+                self.construct(rt, halls, seat, receipts, put_out);
+            }
+            goes(rt, halls, seat, receipts, CLIENT);
         }
-        if is_made(rt, halls, seat, receipts, EventStep::Asked(CLIENT, hello())) {
-            self.construct(rt, halls, seat, receipts, needs);
-        }
-        goes(rt, halls, seat, receipts, CLIENT);
     }
 
     /// The key is requested, and, where there is memory for that call, its construction comes to its end.
     fn construct<N: Names, R: Wait + Abort>(
-        self,
+        &self,
         rt: &R,
         halls: &Halls<N>,
         seat: &mut Seat<N>,
         receipts: &mut Vec<Receipt>,
-        needs: Needs,
+        put_out: Payload,
     ) {
-        let Needs {
-            request,
-            other,
-            put_out,
-        } = needs;
-        let request = EventStep::Asked(CLIENT, request);
-        if let Ok(launch) = tries(rt, halls, seat, receipts, request) {
+        let ask = request(b"a").expect(rt, "a request");
+        let requested = tries(rt, halls, seat, receipts, EventStep::Asked(CLIENT, ask));
+        if let Ok(launch) = requested {
             let launch = launch.expect(rt, "a launch");
-            let waits = self.two && joins(rt, halls, seat, receipts, other);
+            let waits = self.two && joins(rt, halls, seat, receipts);
             let how = How::Exit(self.status);
             finish(rt, halls, seat, receipts, launch, End { how, put_out });
             if waits {
@@ -138,14 +119,16 @@ fn joins<N: Names, R: Wait + Abort>(
     halls: &Halls<N>,
     seat: &mut Seat<N>,
     receipts: &mut Vec<Receipt>,
-    request: AskStep<'_>,
 ) -> bool {
     if !is_made(rt, halls, seat, receipts, EventStep::Opened(OTHER)) {
         return false;
     }
     let joining = EventStep::Asked(OTHER, joining(key(rt, 4)));
-    let waits = is_made(rt, halls, seat, receipts, joining)
-        && is_made(rt, halls, seat, receipts, EventStep::Asked(OTHER, request));
+    let mut waits = is_made(rt, halls, seat, receipts, joining);
+    if waits {
+        let ask = request(b"a").expect(rt, "a request");
+        waits = is_made(rt, halls, seat, receipts, EventStep::Asked(OTHER, ask));
+    }
     if !waits {
         goes(rt, halls, seat, receipts, OTHER);
     }
@@ -208,7 +191,7 @@ fn growths_of_a_key_that_is_made(rt: HostRuntime) {
             Said::Number(0),
         ],
     };
-    in_new_halls(&rt, rt.alloc(), 100, Scene::Growths(made));
+    in_new_halls(&rt, rt.alloc(), 100, &made);
 }
 
 #[test]
@@ -227,7 +210,7 @@ fn growths_of_a_second_handler(rt: HostRuntime) {
             Said::Number(0),
         ],
     };
-    in_new_halls(&rt, rt.alloc(), 100, Scene::Growths(followed));
+    in_new_halls(&rt, rt.alloc(), 100, &followed);
 }
 
 #[test]
@@ -250,5 +233,5 @@ fn growths_of_two_requesters(rt: HostRuntime) {
             Said::Number(0),
         ],
     };
-    in_new_halls(&rt, rt.alloc(), 100, Scene::Growths(shared));
+    in_new_halls(&rt, rt.alloc(), 100, &shared);
 }

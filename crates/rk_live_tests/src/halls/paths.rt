@@ -1,13 +1,17 @@
 //! The steps of a client and of its piped handler, with their receipts.
 use crate::answers::{Said, in_words};
-use crate::fakes::still::NOW;
+use crate::asks::NOW;
 use crate::halls::calls::fails;
 use crate::same::same;
-use rk_hall::{HallNo, Halls, Lapse, Launch, Names, Owed, Receipt, Running, Seat, Total};
+use rk_hall::{
+    HallNo, Halls, Lapse, Launch, Names, Owed, Receipt, Running, Seat, SettleFault, Total, Volume,
+    settle,
+};
 use rk_machine::{How, Ran};
 use rk_macro::Op;
 use rk_names::{Errno, Payload, SessionId};
 use rk_wait::await_outcome;
+use std::alloc::Global;
 use std::process::Abort;
 use std::sync::Wait;
 
@@ -30,6 +34,29 @@ pub fn all(steps: u64) -> Total {
         retired: 0,
         strays: 0,
     }
+}
+
+/// What the halls come to with these seats and receipts, where no volume was handed out.
+pub fn settled<N: Names>(
+    alloc: Global,
+    halls: Halls<N>,
+    seats: Vec<Seat<N>>,
+    receipts: &[Receipt],
+) -> Result<Total, SettleFault> {
+    let none: Vec<Volume<N>> = Vec::new(alloc);
+    settle(halls, &none, seats, receipts)
+}
+
+/// The records agree with all seats, and nothing was done where no client stood. How many steps there were.
+pub fn settles<N: Names>(
+    rt: &impl Abort,
+    alloc: Global,
+    halls: Halls<N>,
+    seats: Vec<Seat<N>>,
+) -> u64 {
+    let total = settled(alloc, halls, seats, &[]).expect(rt, "a total");
+    same(rt, total, all(total.live));
+    total.steps
 }
 
 /// This client goes.

@@ -1,11 +1,10 @@
 //! Whether seats and receipts agree with the records, when all is over.
 ghost use Rattle.rk_hall.specs.Seats.{IsCall};
 
-use crate::asks::{CLIENT, add, hello, request};
-use crate::fakes::still::NOW;
+use crate::asks::{CLIENT, NOW, add, hello, request};
 use crate::halls::calls::{calls, greets, refuse_launch};
 use crate::halls::opening::{Scene, in_new_halls};
-use crate::halls::paths::keep;
+use crate::halls::paths::{keep, settled};
 use crate::record::events::hall;
 use crate::same::same;
 use rk_hall::{
@@ -34,10 +33,8 @@ fn six_calls<N: Names, R: Wait + Abort>(
     receipts: &mut Vec<Receipt>,
 ) {
     for (first, second) in [(1, 2), (3, 4), (5, 6)] {
-        let called = calls(rt, halls, one, comes(first));
-        receipts.push(called).expect(rt, "memory");
-        let called = calls(rt, halls, two, comes(second));
-        receipts.push(called).expect(rt, "memory");
+        keep(rt, receipts, calls(rt, halls, one, comes(first)));
+        keep(rt, receipts, calls(rt, halls, two, comes(second)));
     }
 }
 
@@ -56,22 +53,33 @@ fn turned<R: Abort>(rt: &R, hall: &mut Hall, number: u32, client: u32) -> Receip
     hall.turn(NOW, comes(client)).expect(rt, "a receipt")
 }
 
-/// What is done to the genuine receipts before they are handed in.
+/// A receipt that no hall of the scene gave, among those that they gave.
 #[derive(Clone, Copy)]
-pub enum Change {
-    /// They are handed in as they are.
-    Nothing,
-    /// One numbered 7 is added, though there are six steps.
-    Seventh,
-    /// The second one comes once more.
-    SecondTwice,
-    /// In the place of the second is one of another event.
-    OtherSecond,
+struct Odd {
+    /// Its number.
+    number: u32,
+    /// The client that it is of.
+    client: u32,
+    /// Its place among the receipts.
+    at: usize,
+    /// Whether it stands there in place of the one that was given.
+    replaces: bool,
+}
+
+impl Odd {
+    fn slips_in<R: Abort>(self, rt: &R, alloc: Global, receipts: &mut Vec<Receipt>) {
+        let at = self.at.min(receipts.len());
+        if self.replaces && at < receipts.len() {
+            drop(receipts.remove(at));
+        }
+        let receipt = invented(rt, alloc, self.number, self.client);
+        receipts.insert(at, receipt).expect(rt, "memory");
+    }
 }
 
 /// Who is handed in of two seats.
 #[derive(Clone, Copy)]
-pub enum Handed {
+enum Handed {
     /// Both of them.
     Both,
     /// The first was given back before.
@@ -81,24 +89,25 @@ pub enum Handed {
 }
 
 /// Two seats make three calls each, and what `settle` makes of it.
-#[derive(Clone, Copy)]
-pub struct SixSteps {
+#[derive(Drop)]
+struct SixSteps {
     /// Which seats are handed in.
     handed: Handed,
-    /// What is done to the receipts before.
-    change: Change,
+    /// What slips in among the receipts, if anything does.
+    odd: Option<Odd>,
     /// What the settlement is to say.
     wanted: Result<Total, SettleFault>,
 }
 
-impl SixSteps {
-    /// Plays it, and settles.
-    pub fn play<N: Names, R: Wait + Abort>(self, rt: &R, alloc: Global, halls: Halls<N>) {
+impl Scene for SixSteps {
+    fn play<N: Names, R: Wait + Abort + Copy>(&self, rt: &R, alloc: Global, halls: Halls<N>) {
         let mut one = halls.seat(rt).expect(rt, "a seat");
         let mut two = halls.seat(rt).expect(rt, "a seat");
         let mut receipts = Vec::new(alloc);
         six_calls(rt, &halls, &mut one, &mut two, &mut receipts);
-        alter(rt, alloc, &mut receipts, self.change);
+        if let Some(odd) = self.odd {
+            odd.slips_in(rt, alloc, &mut receipts);
+        }
         let mut seats = Vec::new(alloc);
         match self.handed {
             Handed::Both => seats.push(one).expect(rt, "memory"),
@@ -106,28 +115,7 @@ impl SixSteps {
             Handed::OneMissed => drop(one),
         }
         seats.push(two).expect(rt, "memory");
-        let none: Vec<Volume<N>> = Vec::new(alloc);
-        same(rt, settle(halls, &none, seats, &receipts), self.wanted);
-    }
-}
-
-fn alter<R: Abort>(rt: &R, alloc: Global, receipts: &mut Vec<Receipt>, change: Change) {
-    assert!(rt; receipts.len() > 1);
-    match change {
-        Change::Nothing => {}
-        Change::Seventh => {
-            let seventh = invented(rt, alloc, 7, 7);
-            receipts.push(seventh).expect(rt, "memory");
-        }
-        Change::SecondTwice => {
-            let second = invented(rt, alloc, 2, 2);
-            receipts.insert(1, second).expect(rt, "memory");
-        }
-        Change::OtherSecond => {
-            receipts.remove(1);
-            let second = invented(rt, alloc, 2, 20);
-            receipts.insert(1, second).expect(rt, "memory");
-        }
+        same(rt, settled(alloc, halls, seats, &receipts), self.wanted);
     }
 }
 
@@ -142,39 +130,56 @@ fn total(live: u32, retired: u32) -> Total {
     }
 }
 
-#[test]
-fn seats_are_counted(rt: HostRuntime) {
-    let uneven = Err(SettleFault::Uneven { steps: 6, held: 3 });
-    for (handed, change, wanted) in [
-        (Handed::Both, Change::Nothing, Ok(total(6, 0))),
-        (Handed::OneRetired, Change::Nothing, Ok(total(3, 3))),
-        (Handed::OneMissed, Change::Seventh, uneven),
-    ] {
-        let steps = SixSteps {
-            handed,
-            change,
-            wanted,
-        };
-        in_new_halls(&rt, rt.alloc(), 100, Scene::SixSteps(steps));
+/// One numbered 7, though there are six steps.
+const SEVENTH: Odd = Odd {
+    number: 7,
+    client: 7,
+    at: 6,
+    replaces: false,
+};
+
+/// The second one, once more.
+const SECOND: Odd = Odd {
+    number: 2,
+    client: 2,
+    at: 1,
+    replaces: false,
+};
+
+/// In place of the second, one of another event.
+const OTHER_SECOND: Odd = Odd {
+    client: 20,
+    replaces: true,
+    ..SECOND
+};
+
+/// Six steps, of which one seat made three.
+const UNEVEN: SettleFault = SettleFault::Uneven { steps: 6, held: 3 };
+
+/// The receipt of this number does not stand in hall 0.
+fn forged(number: u64) -> SettleFault {
+    SettleFault::Forged {
+        hall: HallNo::Zero,
+        number,
     }
 }
 
 #[test]
-fn receipts_that_no_hall_gave_are_forged(rt: HostRuntime) {
-    for (change, number) in [
-        (Change::Seventh, 7),
-        (Change::SecondTwice, 2),
-        (Change::OtherSecond, 2),
+fn seats_and_receipts_are_settled(rt: HostRuntime) {
+    for (handed, odd, wanted) in [
+        (Handed::Both, None, Ok(total(6, 0))),
+        (Handed::OneRetired, None, Ok(total(3, 3))),
+        (Handed::OneMissed, Some(SEVENTH), Err(UNEVEN)),
+        (Handed::Both, Some(SEVENTH), Err(forged(7))),
+        (Handed::Both, Some(SECOND), Err(forged(2))),
+        (Handed::Both, Some(OTHER_SECOND), Err(forged(2))),
     ] {
         let steps = SixSteps {
-            handed: Handed::Both,
-            change,
-            wanted: Err(SettleFault::Forged {
-                hall: HallNo::Zero,
-                number,
-            }),
+            handed,
+            odd,
+            wanted,
         };
-        in_new_halls(&rt, rt.alloc(), 100, Scene::SixSteps(steps));
+        in_new_halls(&rt, rt.alloc(), 100, &steps);
     }
 }
 
@@ -197,18 +202,21 @@ fn refused<N: Names, R: Wait + Abort>(
 }
 
 /// Seats that have heard a receipt of another: the next number is above it, or there is no step.
-pub fn hears<N: Names, R: Wait + Abort>(rt: &R, alloc: Global, halls: Halls<N>) {
-    let mut one = halls.seat(rt).expect(rt, "a seat");
-    let mut two = halls.seat(rt).expect(rt, "a seat");
-    let first = calls(rt, &halls, &mut one, comes(1));
-    two.hear(&first);
-    let second = calls(rt, &halls, &mut two, comes(2));
-    same(rt, (first.number(), second.number()), (1, 2));
-    hears_of_nine(rt, alloc, &halls);
-    let seats = vec![in alloc; one, two].expect(rt, "memory");
-    let receipts = vec![in alloc; first, second].expect(rt, "memory");
-    let none: Vec<Volume<N>> = Vec::new(alloc);
-    same(rt, settle(halls, &none, seats, &receipts), Ok(total(2, 0)));
+struct Hearing;
+
+impl Scene for Hearing {
+    fn play<N: Names, R: Wait + Abort + Copy>(&self, rt: &R, alloc: Global, halls: Halls<N>) {
+        let mut one = halls.seat(rt).expect(rt, "a seat");
+        let mut two = halls.seat(rt).expect(rt, "a seat");
+        let first = calls(rt, &halls, &mut one, comes(1));
+        two.hear(&first);
+        let second = calls(rt, &halls, &mut two, comes(2));
+        same(rt, (first.number(), second.number()), (1, 2));
+        hears_of_nine(rt, alloc, &halls);
+        let seats = vec![in alloc; one, two].expect(rt, "memory");
+        let receipts = vec![in alloc; first, second].expect(rt, "memory");
+        same(rt, settled(alloc, halls, seats, &receipts), Ok(total(2, 0)));
+    }
 }
 
 /// A seat that has heard of nine steps, while there are two, takes none.
@@ -222,26 +230,25 @@ fn hears_of_nine<N: Names, R: Wait + Abort>(rt: &R, alloc: Global, halls: &Halls
 
 #[test]
 fn what_was_heard_is_passed(rt: HostRuntime) {
-    in_new_halls(&rt, rt.alloc(), 100, Scene::Hears);
+    in_new_halls(&rt, rt.alloc(), 100, &Hearing);
 }
 
 /// Five steps fill a volume of six, since the client's end is owed; its end is the sixth, in the next volume. A receipt of the first volume wants it.
-#[derive(Clone, Copy)]
-pub struct Volumes {
+#[derive(Drop)]
+struct Volumes {
     /// Whether the first volume is handed in; without it a receipt of it is in no record.
     handed_in: bool,
 }
 
-impl Volumes {
-    /// Plays it, and settles.
-    pub fn play<N: Names, R: Wait + Abort>(self, rt: &R, alloc: Global, halls: Halls<N>) {
+impl Scene for Volumes {
+    fn play<N: Names, R: Wait + Abort + Copy>(&self, rt: &R, alloc: Global, halls: Halls<N>) {
         let mut seat = halls.seat(rt).expect(rt, "a seat");
         let mut receipts = Vec::new(alloc);
         fills(rt, alloc, &halls, &mut seat, &mut receipts);
         let volume = rolls(rt, &halls);
         let next = calls(rt, &halls, &mut seat, comes(2));
         same(rt, (next.volume(), next.number()), (2, 6));
-        receipts.push(next).expect(rt, "memory");
+        keep(rt, &mut receipts, next);
         let seats = vec![in alloc; seat].expect(rt, "memory");
         let (volumes, wanted) = if self.handed_in {
             (vec![in alloc; volume].expect(rt, "memory"), Ok(total(6, 0)))
@@ -267,12 +274,12 @@ fn fills<N: Names, R: Wait + Abort>(
     receipts: &mut Vec<Receipt>,
 ) {
     let (opened, rings) = greets(rt, halls, seat);
-    receipts.push(opened).expect(rt, "memory");
-    receipts.push(rings).expect(rt, "memory");
+    keep(rt, receipts, opened);
+    keep(rt, receipts, rings);
     for name in [b"a", b"b", b"c"] {
         let ask = add(alloc, name).expect(rt, "an ask");
         let added = calls(rt, halls, seat, EventStep::Asked(CLIENT, ask));
-        receipts.push(added).expect(rt, "memory");
+        keep(rt, receipts, added);
     }
     same(
         rt,
@@ -296,27 +303,28 @@ fn rolls<N: Names, R: Wait + Abort>(rt: &R, halls: &Halls<N>) -> Volume<N> {
 #[test]
 fn a_volume_that_was_handed_out_is_wanted(rt: HostRuntime) {
     for handed_in in [true, false] {
-        in_new_halls(&rt, rt.alloc(), 6, Scene::Volumes(Volumes { handed_in }));
+        in_new_halls(&rt, rt.alloc(), 6, &Volumes { handed_in });
     }
 }
 
 /// Three tokens go astray, in two halls: of 18 steps. What is not owed and has no token is no stray.
-pub fn goes_astray<N: Names, R: Wait + Abort>(rt: &R, alloc: Global, halls: Halls<N>) {
-    let mut seat = halls.seat(rt).expect(rt, "a seat");
-    let mut receipts = Vec::new(alloc);
-    for (hall, client) in [(HallNo::Zero, 1), (HallNo::Zero, 2), (HallNo::One, 1)] {
-        let standing = Standing { hall, client };
-        standing.plays(rt, &halls, &mut seat, &mut receipts);
+struct Astray;
+
+impl Scene for Astray {
+    fn play<N: Names, R: Wait + Abort + Copy>(&self, rt: &R, alloc: Global, halls: Halls<N>) {
+        let mut seat = halls.seat(rt).expect(rt, "a seat");
+        let mut receipts = Vec::new(alloc);
+        for (hall, client) in [(HallNo::Zero, 1), (HallNo::Zero, 2), (HallNo::One, 1)] {
+            let standing = Standing { hall, client };
+            standing.plays(rt, &halls, &mut seat, &mut receipts);
+        }
+        let seats = vec![in alloc; seat].expect(rt, "memory");
+        let wanted = Total {
+            strays: 3,
+            ..total(18, 0)
+        };
+        same(rt, settled(alloc, halls, seats, &receipts), Ok(wanted));
     }
-    let seats = vec![in alloc; seat].expect(rt, "memory");
-    let none: Vec<Volume<N>> = Vec::new(alloc);
-    let wanted = Total {
-        steps: 18,
-        live: 18,
-        retired: 0,
-        strays: 3,
-    };
-    same(rt, settle(halls, &none, seats, &receipts), Ok(wanted));
 }
 
 /// A client, and where it stands.
@@ -445,5 +453,5 @@ fn refuse_running<N: Names, R: Wait + Abort>(
 
 #[test]
 fn tokens_that_went_astray_are_counted(rt: HostRuntime) {
-    in_new_halls(&rt, rt.alloc(), 100, Scene::GoesAstray);
+    in_new_halls(&rt, rt.alloc(), 100, &Astray);
 }

@@ -71,79 +71,31 @@ fn tells_of_the_volume(rt: &impl Abort, hall: &Hall, volume: &Volume) {
 }
 
 /// The numbers of steps go on in the next volume, and both join to a run.
-fn joins(rt: &impl Abort, alloc: Global, hall: &mut Hall, volume: &Volume) {
-    play(rt, alloc, hall, NEXT);
+fn joins(rt: &impl Abort, alloc: Global, hall: &Hall, volume: &Volume) {
     same(rt, (hall.index(), hall.count()), (2, 7));
     let joined = rejoin(alloc, limits(rt), &[volume.steps(), hall.steps()]);
     same(rt, joined, Ok(7));
+    same(rt, rejoin(alloc, limits(rt), &[]), Ok(0));
 }
 
 /// What was answered otherwise, or is left out, is found, and where.
-fn breaks(rt: &impl Abort, alloc: Global, hall: &mut Hall, volume: &Volume) {
-    play(rt, alloc, hall, NEXT);
+fn breaks(rt: &impl Abort, alloc: Global, hall: &Hall, volume: &Volume) {
     let changed = copied(rt, alloc, volume.steps(), 4);
     let joined = rejoin(alloc, limits(rt), &[&changed, hall.steps()]);
     same(rt, joined, Err(Rejoin::Broken { number: 5 }));
     let alone = rejoin(alloc, limits(rt), &[hall.steps()]);
     same(rt, alone, Err(Rejoin::Broken { number: 1 }));
-    same(rt, rejoin(alloc, limits(rt), &[]), Ok(0));
-}
-
-/// What is tried of a hall and its first volume.
-#[derive(Clone, Copy)]
-enum Trial {
-    /// The volume and what follows join to a run.
-    Joins,
-    /// A changed answer, and a missing volume, are found.
-    Breaks,
-}
-
-/// Tries a new hall and the volume that it hands out.
-fn tries(rt: &impl Abort, alloc: Global, hall: &mut Hall, trial: Trial) {
-    let volume = rolled(rt, alloc, hall);
-    tells_of_the_volume(rt, hall, &volume);
-    match trial {
-        Trial::Joins => joins(rt, alloc, hall, &volume),
-        Trial::Breaks => breaks(rt, alloc, hall, &volume),
-    }
-}
-
-/// The same, of a hall of its own.
-fn tried(rt: &impl Abort, alloc: Global, trial: Trial) {
-    let mut hall = hall(rt, alloc, 6);
-    tries(rt, alloc, &mut hall, trial);
-    drop(hall);
 }
 
 #[test]
 fn volumes_join_to_a_run(rt: HostRuntime) {
-    tried(&rt, rt.alloc(), Trial::Joins);
-}
-
-#[test]
-fn what_is_no_run_is_broken(rt: HostRuntime) {
-    tried(&rt, rt.alloc(), Trial::Breaks);
-}
-
-/// A hall may roll at any time, also with nothing recorded.
-fn rolls_on(rt: &impl Abort, alloc: Global, hall: &mut Hall) {
-    drop(rolled(rt, alloc, hall));
-    for index in 2u64..50 {
-        let volume = hall.roll().expect(rt, "a volume");
-        same(
-            rt,
-            (volume.index(), volume.before(), volume.steps().len()),
-            (index, 5, 0),
-        );
-    }
-    same(rt, (hall.index(), hall.count()), (50, 5));
-    play(rt, alloc, hall, NEXT);
-    same(rt, hall.count(), 7);
-}
-
-#[test]
-fn a_hall_rolls_many_times_in_a_row(rt: HostRuntime) {
-    let mut hall = hall(&rt, rt.alloc(), 6);
-    rolls_on(&rt, rt.alloc(), &mut hall);
+    let alloc = rt.alloc();
+    let mut hall = hall(&rt, alloc, 6);
+    let volume = rolled(&rt, alloc, &mut hall);
+    tells_of_the_volume(&rt, &hall, &volume);
+    play(&rt, alloc, &mut hall, NEXT);
+    joins(&rt, alloc, &hall, &volume);
+    breaks(&rt, alloc, &hall, &volume);
+    drop(volume);
     drop(hall);
 }

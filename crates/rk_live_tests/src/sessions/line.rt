@@ -3,14 +3,11 @@
 ghost use Rattle.std.specs.Prelude.{◌≡◌, None, false, true};
 ghost use Rattle.rk_devices.specs.Counts.{Rose};
 
-use crate::fakes::launcher::give;
-use crate::fakes::turns::Turns;
-use crate::sessions::stage::Part;
+use crate::fakes::giving::give;
 use rk_devices::DeviceFault;
 use rk_hall::Receipt;
 use rk_session::Wire;
 use std::alloc::{AllocError, Global};
-use std::time::Clock;
 
 /// The call of a wire that fails, counted from 1.
 #[derive(Clone, Copy, PartialEq, Eq)]
@@ -25,37 +22,27 @@ pub enum Cut {
 
 /// The wire of a client.
 #[derive(Drop)]
-pub struct Line<'a, R> {
-    /// The host, by whose clock a wait for a turn is bounded.
-    pub rt: &'a R,
-    /// The turns of the scene.
-    pub turns: &'a Turns,
-    /// What it gives, one for each read, each when its turn has come; then the end.
-    pub pieces: &'a [(u64, &'a [u8])],
+pub struct Line {
+    /// What it gives, one for each read; then the end.
+    pieces: &'static [&'static [u8]],
     /// Whether it gives them again and again.
-    pub endless: bool,
-    /// How many bytes may still come.
-    pub most: usize,
-    /// The turn of the end.
-    pub end: u64,
-    /// Whether a turn begins with each sending of what was kept.
-    pub sends_in_turn: bool,
+    endless: bool,
     /// The call that fails, if there is one.
-    pub cut: Option<Cut>,
+    cut: Option<Cut>,
     /// The place of the next piece among them, the first one 0.
-    pub given: usize,
+    given: usize,
     /// How often it was read.
-    pub reads: u64,
+    reads: u64,
     /// How often it was written to.
-    pub writes: u64,
+    writes: u64,
     /// How often something was sent that was kept.
-    pub sendings: u64,
+    sendings: u64,
     /// How many calls failed.
-    pub failed: u64,
+    failed: u64,
     /// Whether something was written since the last sending.
-    pub kept: bool,
+    kept: bool,
     /// Whether a write or a sending failed.
-    pub is_cut: bool,
+    is_cut: bool,
     /// What was written.
     pub said: Vec<u8>,
     /// The receipts that it was handed, in order.
@@ -64,23 +51,18 @@ pub struct Line<'a, R> {
     pub story: Vec<u8>,
 }
 
-impl<'a, R> Line<'a, R> {
-    /// The wire of this session, on which nothing has happened. An `Err` is out of memory. What is kept of a few messages needs no more of it.
+impl Line {
+    /// A wire that gives these pieces, on which nothing has happened. An `Err` is out of memory. What is kept of a few messages needs no more of it.
     pub fn new(
-        rt: &'a R,
         alloc: Global,
-        turns: &'a Turns,
-        part: &Part<'a>,
-    ) -> Result<Line<'a, R>, AllocError> {
+        pieces: &'static [&'static [u8]],
+        endless: bool,
+        cut: Option<Cut>,
+    ) -> Result<Line, AllocError> {
         Ok(Line {
-            rt,
-            turns,
-            pieces: part.pieces,
-            endless: part.endless,
-            most: part.most,
-            end: part.end,
-            sends_in_turn: part.sends_in_turn,
-            cut: part.cut,
+            pieces,
+            endless,
+            cut,
             given: 0,
             reads: 0,
             writes: 0,
@@ -93,31 +75,19 @@ impl<'a, R> Line<'a, R> {
             story: Vec::with_capacity(alloc, 16)?,
         })
     }
-}
 
-impl<'a, R: Clock> Line<'a, R> {
-    fn next_piece(&mut self) -> &'a [u8]
+    fn next_piece(&mut self) -> &'static [u8]
         ensures counts { (self.new.reads ≡ self.old.reads) × (self.new.failed ≡ self.old.failed) }
         ensures flags { (self.new.kept ≡ self.old.kept) × (self.new.is_cut ≡ self.old.is_cut) }
     {
         if self.endless && self.given == self.pieces.len() {
             self.given = 0;
         }
-        let (turn, piece) = match self.pieces.get(self.given) {
-            Some((turn, piece)) => (*turn, *piece),
-            None => (self.end, b"".as_slice()),
-        };
+        let piece = self.pieces.get(self.given).copied();
         self.given = self.given.saturating_add(1);
-        if !self.turns.wait(self.rt, turn) {
-            return b"";
-        }
-        let count = piece.len().min(self.most);
-        self.most -= count;
-        &piece[..count]
+        piece.unwrap_or(b"")
     }
-}
 
-impl<'a, R> Line<'a, R> {
     /// A write or a sending failed.
     fn fail(&mut self) -> DeviceFault
         ensures rose { Rose self.old.failed self.new.failed }
@@ -131,7 +101,7 @@ impl<'a, R> Line<'a, R> {
     }
 }
 
-impl<'a, R: Clock> Wire for Line<'a, R> {
+impl Wire for Line {
     ghost shown = { λ w. record { count = w.failed; reads = w.reads; kept = w.kept; cut = w.is_cut; story = None } };
 
     fn read(&mut self, buf: &mut [u8]) -> Result<usize, DeviceFault> {
@@ -151,7 +121,6 @@ impl<'a, R: Clock> Wire for Line<'a, R> {
             || self.story.push(b'w').is_err()
             || self.said.extend_from_slice(bytes).is_err()
         {
-            self.turns.next();
             return Err(self.fail());
         }
         self.kept = true;
@@ -170,9 +139,6 @@ impl<'a, R: Clock> Wire for Line<'a, R> {
             return Err(self.fail());
         }
         self.kept = false;
-        if self.sends_in_turn {
-            self.turns.next();
-        }
         Ok(())
     }
 

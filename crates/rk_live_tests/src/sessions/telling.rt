@@ -1,8 +1,8 @@
 //! A wire that tells all that happens on it.
-ghost use Rattle.std.specs.Prelude.{◌≡◌, ◌≤◌, [], length, map, Some, false};
-ghost use Rattle.rk_devices.specs.Counts.{raised};
+ghost use Rattle.std.specs.Prelude.{◌≡◌, ◌≤◌, [], map, Some, false};
 ghost use Rattle.rk_live_tests.specs.Telling.{happened};
 
+use crate::fakes::giving::{give, one_more};
 use crate::kept::Kept;
 use rk_devices::DeviceFault;
 use rk_hall::Receipt;
@@ -39,24 +39,6 @@ impl<'a, R> Telling<'a, R> {
             kept: Vec::new(alloc),
         }
     }
-}
-
-/// One more; the greatest count stays.
-fn one_more(count: u64) -> u64
-    ensures { result ≡ raised count }
-{
-    if count < u64::MAX { count + 1 } else { count }
-}
-
-/// Copies what there is room for to the front of the buffer.
-fn give(bytes: &[u8], buf: &mut [u8]) -> usize
-    ensures bound { result ≤ length buf.old }
-    ensures same { length buf.new ≡ length buf.old }
-    ensures there { result ≤ length bytes.now }
-{
-    let count = bytes.len().min(buf.len());
-    buf[..count].copy_from_slice(&bytes[..count]);
-    count
 }
 
 impl<'a, R: Abort> Wire for Telling<'a, R> {

@@ -2,8 +2,7 @@
 ghost use Rattle.rk_hall.specs.Seats.{IsCall};
 
 use crate::answers::{Said, in_words};
-use crate::asks::hello_of;
-use crate::fakes::still::NOW;
+use crate::asks::{NOW, hello_of};
 use crate::halls::calls::fails;
 use crate::halls::paths::keep;
 use crate::same::same;

@@ -1,9 +1,9 @@
 //! Threads side by side in four halls; when they have ended, records, seats and receipts are compared.
-use crate::halls::opening::{Scene, in_new_halls};
 use crate::halls::paths::all;
 use crate::record::events::limits_of;
 use crate::same::same;
 use crate::threads::caller::{Caller, work};
+use crate::threads::opening::{Scene, in_new_halls};
 use rk_hall::{HallNo, Halls, Names, Receipt, Seat, Volume, rejoin, settle};
 use std::alloc::Global;
 use std::env;
@@ -12,6 +12,7 @@ use std::marker::{Send, Sync};
 use std::process::Abort;
 use std::sync::Wait;
 use std::thread::{Threads, map_indices};
+use std::time::Clock;
 
 /// So many threads, whose clients ask so often each.
 #[derive(Clone, Copy)]
@@ -24,7 +25,7 @@ pub struct SideBySide {
 
 impl SideBySide {
     /// Plays it, joins the volumes of each hall, and settles.
-    pub fn play<N: Names + Send + Sync, R: Wait + Abort + Threads + Sync>(
+    pub fn play<N: Names + Send + Sync, R: Wait + Abort + Threads + Clock + Sync>(
         self,
         rt: &R,
         alloc: Global,
@@ -42,7 +43,9 @@ impl SideBySide {
         same(rt, joined, steps);
         same(rt, settled, Ok(all(steps)));
     }
+}
 
+impl SideBySide {
     /// The threads, each with a seat of its own, to their ends.
     fn work<N: Names + Send + Sync, R: Wait + Abort + Threads + Sync>(
         self,
@@ -134,7 +137,10 @@ fn asks<R: Env + AllocGlobal>(rt: &R) -> u32 {
 fn threads_side_by_side_settle(rt: HostRuntime) {
     let asks = asks(&rt);
     for threads in [2, 8] {
-        let scene = Scene::SideBySide(SideBySide { threads, asks });
-        in_new_halls(&rt, rt.alloc(), 1_048_576, scene);
+        in_new_halls(
+            &rt,
+            rt.alloc(),
+            Scene::SideBySide(SideBySide { threads, asks }),
+        );
     }
 }

@@ -1,15 +1,15 @@
 //! Who waits for a key is woken by each step that gives its outcome.
 use crate::answers::{Said, in_words};
-use crate::asks::{OTHER, joining, payload, request};
-use crate::fakes::still::NOW;
+use crate::asks::{NOW, OTHER, joining, payload, request};
 use crate::fakes::turns::Turns;
 use crate::halls::calls::{calls, fails, greets, refuse_launch, requests};
-use crate::halls::opening::{Scene, in_new_halls};
+use crate::record::events::key;
 use crate::same::same;
-use rk_hall::{HallNo, Halls, Launch, Names, Owed, Seat};
+use crate::threads::opening::{Scene, in_new_halls};
+use rk_hall::{HallNo, Halls, Launch, Names, Owed, Running, Seat};
 use rk_machine::{EventStep, How, Ran};
 use rk_message::AskStep;
-use rk_names::{Errno, KeyError, Serial, SessionId};
+use rk_names::{Errno, KeyError, SessionId};
 use rk_wait::await_outcome;
 use std::alloc::{AllocError, Global};
 use std::marker::{Send, Sync};
@@ -77,21 +77,34 @@ pub struct Waking {
 }
 
 impl Waking {
-    /// Plays it. A wait that nobody ends would last for good.
+    /// A wait that nobody ends would last for good.
     pub fn play<N: Names + Send + Sync, R: Wait + Abort + Threads + Clock + Sync>(
         self,
         rt: &R,
         alloc: Global,
         halls: Halls<N>,
     ) {
-        let made = Turns::new();
-        let (lent, turns) = (&halls, &made);
+        let turns = Turns::new();
+        let told = self.share(rt, alloc, &halls, &turns);
+        same(rt, (told, turns.late()), (self.outcome, 0));
+    }
+}
+
+impl Waking {
+    /// Both threads, to their ends. What the client is answered.
+    fn share<N: Names + Send + Sync, R: Wait + Abort + Threads + Clock + Sync>(
+        self,
+        rt: &R,
+        alloc: Global,
+        halls: &Halls<N>,
+        turns: &Turns,
+    ) -> Said {
         let (told, ()) = join(
             rt,
-            move || waits(rt, alloc, lent, turns),
-            move || self.acts(rt, alloc, lent, turns),
+            move || waits(rt, alloc, halls, turns),
+            move || self.acts(rt, alloc, halls, turns),
         );
-        same(rt, (told, made.late()), (self.outcome, 0));
+        told
     }
 
     /// The first client requests the key, and what is to be done for it is done when the other one waits.
@@ -111,52 +124,47 @@ impl Waking {
             is_waited_for(rt, turns);
             drop(fails(rt, halls, &mut seat, launch));
         } else {
-            let ask = self.step.ask(alloc, 12).expect(rt, "memory");
-            handles(rt, halls, &mut seat, launch, ask, turns);
+            let running = runs(rt, halls, &mut seat, launch);
+            is_waited_for(rt, turns);
+            if let Some(ask) = self.step.ask(alloc, 12).expect(rt, "memory") {
+                asks(rt, halls, &mut seat, ask);
+                turns.wait(rt, TOLD);
+            }
+            ends(rt, halls, &mut seat, running);
         }
     }
 }
 
-/// The handler runs, completes the key where this is its ask for it, and ends once the other client was told.
-fn handles<N: Names, R: Wait + Abort + Clock>(
+/// The handler runs, and assumes its key.
+fn runs<N: Names, R: Wait + Abort>(
     rt: &R,
     halls: &Halls<N>,
     seat: &mut Seat<N>,
     launch: Launch<N>,
-    ask: Option<AskStep<'static>>,
-    turns: &Turns,
-) {
+) -> Running<N> {
     let Owed { value, receipt } = halls.launched(rt, seat, NOW, launch, Ran::Plain);
     drop(receipt);
-    let running = value.expect(rt, "a handler that runs");
-    let key = running.key();
-    drop(calls(
-        rt,
-        halls,
-        seat,
-        EventStep::Asked(SessionId::Handler(key), AskStep::Assume { key: 12 }),
-    ));
-    is_waited_for(rt, turns);
-    if let Some(ask) = ask {
-        completes(rt, halls, seat, key, ask);
-        turns.wait(rt, TOLD);
-    }
-    let Owed { value, receipt } = halls.ended(rt, seat, NOW, running, How::Exit(0), None);
-    drop(receipt);
-    refuse_launch(rt, halls, seat, value);
+    asks(rt, halls, seat, AskStep::Assume { key: 12 });
+    value.expect(rt, "a handler that runs")
 }
 
-/// The handler of the key completes it by this ask.
-fn completes<N: Names, R: Wait + Abort>(
+/// The handler of key 12 asks this, and it is done.
+fn asks<N: Names, R: Wait + Abort>(rt: &R, halls: &Halls<N>, seat: &mut Seat<N>, ask: AskStep<'_>) {
+    let handler = SessionId::Handler(key(rt, 12));
+    let done = calls(rt, halls, seat, EventStep::Asked(handler, ask));
+    same(rt, in_words(done.answer()), Said::Number(0));
+}
+
+/// The handler ends.
+fn ends<N: Names, R: Wait + Abort>(
     rt: &R,
     halls: &Halls<N>,
     seat: &mut Seat<N>,
-    key: Serial,
-    ask: AskStep<'_>,
+    running: Running<N>,
 ) {
-    let asked = EventStep::Asked(SessionId::Handler(key), ask);
-    let done = calls(rt, halls, seat, asked);
-    same(rt, in_words(done.answer()), Said::Number(0));
+    let Owed { value, receipt } = halls.ended(rt, seat, NOW, running, How::Exit(0), None);
+    drop(receipt);
+    refuse_launch(rt, halls, seat, value);
 }
 
 /// Returns when the client waits, or is about to: a few milliseconds more, so that it is nearly always asleep and needs to be woken.
@@ -175,8 +183,8 @@ fn waits<N: Names, R: Wait + Abort + Clock>(
     let mut seat = halls.seat(rt).expect(rt, "a seat");
     turns.wait(rt, REQUESTED);
     drop(calls(rt, halls, &mut seat, EventStep::Opened(OTHER)));
-    let ring = Serial::new(4).expect(rt, "a serial");
-    drop(calls(rt, halls, &mut seat, EventStep::Asked(OTHER, joining(ring))));
+    let joining = joining(key(rt, 4));
+    drop(calls(rt, halls, &mut seat, EventStep::Asked(OTHER, joining)));
     let ask = request(b"a").expect(rt, "an ask");
     let receipt = calls(rt, halls, &mut seat, EventStep::Asked(OTHER, ask));
     same(rt, in_words(receipt.answer()), Said::Waiting(12));
@@ -196,7 +204,6 @@ fn each_outcome_wakes_who_waits(rt: HostRuntime) {
         (Step::End, Said::Refused(Errno::Enokey)),
     ];
     for (step, outcome) in rows {
-        let waking = Waking { step, outcome };
-        in_new_halls(&rt, rt.alloc(), 100, Scene::Waking(waking));
+        in_new_halls(&rt, rt.alloc(), Scene::Waking(Waking { step, outcome }));
     }
 }

@@ -2,7 +2,7 @@ use denote.Param.{param}
 use denote.Param.Send.{sendable}
 use Rattle.rk_hall.proofs.Crossing.{global_send, halls_sync}
 use Rattle.rk_live_tests.proofs.threads.Crossing.{turns_sync}
-use Rattle.rk_live_tests.proofs.threads.waking.Waking.play.Goals as goal
+use Rattle.rk_live_tests.proofs.threads.waking.Waking.share.Goals as goal
 
 -- the threads share the halls and the turns
 pub join-told-requires-send-F : goal.join-told-requires-send-F

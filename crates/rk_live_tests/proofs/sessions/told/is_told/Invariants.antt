@@ -1,5 +1,0 @@
-use Rattle.rk_hall.proofs.LedgerNames.{name_of}
-use Rattle.rk_live_tests.proofs.sessions.told.is_told.Given as goal
-
-abbrev pub ghosts-in_halls : goal.ghosts-in_halls
-ghosts-in_halls g a = record { name = name_of a.fresh }
