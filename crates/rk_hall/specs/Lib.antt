@@ -3,3 +3,4 @@ pub mod Locked
 pub mod Tickets
 pub mod Closed
 pub mod Settle
+pub mod Waking

@@ -2,12 +2,13 @@
 //!
 //! Who waits there for an outcome is woken by the steps that can give one alone: a completion, and the end of a construction. All other steps wake nobody,
 //! so that many who wait cost the others nothing.
-ghost use Rattle.std.specs.Prelude.{◌≡◌, ◌≢◌, ◌+◌, ◌*◌, ◌<◌, ◌≤◌, ◌^◌, is_some, IfOk, IfErr, OnErr, Ok, Err, Some, None, IfSome, MatchOption};
+ghost use Rattle.std.specs.Prelude.{◌≡◌, ◌≢◌, ◌+◌, ◌*◌, ◌<◌, ◌≤◌, ◌^◌, is_some, not, IfOk, IfErr, OnErr, Ok, Err, Some, None, IfSome, MatchOption};
 ghost use Rattle.rk_machine.specs.Owing.{is_followed};
 ghost use Rattle.rk_record.specs.HallNumbers.{hall_number};
 ghost use Rattle.rk_record.specs.Copies.{told_of, started};
 ghost use Rattle.rk_record.specs.declared.hall_no.HallNo.{HallNo};
 ghost use Rattle.rk_hall.specs.Seats.{no_calls, after_call, IsCall, CallRefused, runs_on, without_client, IsOutcomeOrNone, OwedPart};
+ghost use Rattle.rk_hall.specs.Waking.{completes, has_completed};
 
 use crate::closed::Closed;
 use crate::counts::Counts;
@@ -20,9 +21,9 @@ use crate::opening::empty_hall;
 use crate::part::Part;
 use crate::ticket::{Due, Ticket};
 use rk_machine::{Answer, EventOf, EventStep, Ran};
-use rk_message::AskStep;
+use rk_message::Ask;
 use rk_names::{Description, Errno, Moment, Serial, SessionId, TypeName};
-use rk_record::{Copies, HallFault, HallNo, Receipt, Volume};
+use rk_record::{Copies, HallFault, HallNo, Receipt, Told, Volume};
 use std::alloc::{AllocError, Global};
 use std::sync::{Condvar, Mutex, Wait};
 
@@ -37,15 +38,31 @@ pub(crate) struct Lock<N: Names, const H: u64> {
     pub(crate) alloc: Global,
 }
 
-/// Whether the event is an INSTANTIATE, a NEGATE or a REJECT: where that is done, the key is complete, and those who wait for it have their outcome.
-fn completes(event: &EventStep<'_>) -> bool {
+/// Whether it is an ask that completes a key: an INSTANTIATE, a NEGATE or a REJECT.
+fn completes(ask: &Ask) -> bool
+    ensures { result ≡ completes ask.now }
+{
     matches!(
-        event,
-        EventStep::Asked(
-            _,
-            AskStep::Instantiate { .. } | AskStep::Negate { .. } | AskStep::Reject { .. }
-        )
+        ask,
+        Ask::Instantiate { .. } | Ask::Negate { .. } | Ask::Reject { .. }
     )
+}
+
+/// Whether a call was such an ask, and was done: the key is complete, and those who wait for it have their outcome.
+fn has_completed(receipt: &Receipt) -> bool
+    ensures { result ≡ has_completed receipt.now }
+{
+    match (receipt.told(), receipt.answer()) {
+        (Told::Asked(_, ask), Answer::Done(_)) => completes(ask.ask()),
+        _ => false,
+    }
+}
+
+/// Whether no ticket goes on: the construction has ended, and those who wait for its key have their outcome, its starter too.
+fn is_over<N: Names, const H: u64>(owed: &Owed<Option<Ticket<N, H>>>) -> bool
+    ensures { result ≡ not (is_some owed.now.value) }
+{
+    owed.value.is_none()
 }
 
 impl<N: Names, const H: u64> Lock<N, H> {
@@ -101,11 +118,10 @@ impl<N: Names, const H: u64> Lock<N, H> {
         ensures err { IfErr result (λ f. CallRefused part.old f) }
         ensures same { OnErr result (part.new ≡ part.old) }
     {
-        let completes = completes(&event);
         // Before the lock is taken, since others wait for it.
         let copies = Copies::of(self.alloc, &event).ok();
         let (receipt, begun) = self.locked.lock(rt).call(part, now, event, copies)?;
-        if completes && matches!(receipt.answer(), Answer::Done(_)) {
+        if has_completed(&receipt) {
             self.told.notify_all();
         }
         Ok((receipt, begun))
@@ -125,7 +141,9 @@ impl<N: Names, const H: u64> Lock<N, H> {
     {
         let Due { key, ticket } = due;
         let owed = self.locked.lock(rt).launched(part, now, key, ticket, ran);
-        self.tell_if_over(&owed);
+        if is_over(&owed) {
+            self.told.notify_all();
+        }
         owed
     }
 
@@ -144,7 +162,9 @@ impl<N: Names, const H: u64> Lock<N, H> {
     {
         let Due { key, ticket } = due;
         let owed = self.locked.lock(rt).ended(part, now, key, ticket, end);
-        self.tell_if_over(&owed);
+        if is_over(&owed) {
+            self.told.notify_all();
+        }
         owed
     }
 
@@ -175,13 +195,6 @@ impl<N: Names, const H: u64> Lock<N, H> {
         ensures { (hall : HallNo) → hall_number hall ≡ H → OwedPart hall now (EventOf.Gone session) (without_client part.old) part.new result.receipt }
     {
         self.locked.lock(rt).gone(part, now, session)
-    }
-
-    /// If no ticket goes on, the construction has ended: those who wait for its key have their outcome, its starter too.
-    fn tell_if_over(&self, owed: &Owed<Option<Ticket<N, H>>>) {
-        if owed.value.is_none() {
-            self.told.notify_all();
-        }
     }
 
     /// Blocks the thread until the session waits for no key, or for one that has its outcome. It takes no turn.
