@@ -235,7 +235,8 @@ impl Server {
     ) -> Result<(), AllocError>
         requires has_peers { HasItsPeers (left_of self.old) }
         requires owed { is_running self.old.book key ≡ true }
-        ensures { OnOk result (MakesOwnStep occasion.now.conf.now occasion.now.moment (happening.HandlerEnded key how) (left_of self.old) out.old.items (left_of self.new) out.new.items) }
+        ensures { OnOk result (MakesOwnStep occasion.now.conf.now occasion.now.moment (happening.HandlerEnded key how)
+            (left_of self.old) out.old.items (left_of self.new) out.new.items) }
     {
         match peers::take(&mut self.peers, &SessionId::Handler(key)) {
             Some(peer) => {
@@ -260,7 +261,8 @@ impl Server {
     ) -> Result<(), AllocError>
         requires has_peers { HasItsPeers (left_of self.old) }
         requires owed { is_running self.old.book key ≡ true }
-        ensures { OnOk result (MakesOwnStep occasion.now.conf.now occasion.now.moment (happening.WaitFault key) (left_of self.old) out.old.items (left_of self.new) out.new.items) }
+        ensures { OnOk result (MakesOwnStep occasion.now.conf.now occasion.now.moment (happening.WaitFault key)
+            (left_of self.old) out.old.items (left_of self.new) out.new.items) }
     {
         match peers::take(&mut self.peers, &SessionId::Handler(key)) {
             Some(peer) => {
@@ -280,7 +282,8 @@ impl Server {
     ) -> Result<(), AllocError>
         requires has_peers { HasItsPeers (left_of self.old) }
         requires placed { is_misplaced self.old.book happening.now ≡ false }
-        ensures { OnOk result (MakesOwnStep occasion.now.conf.now occasion.now.moment happening.now (left_of self.old) out.old.items (left_of self.new) out.new.items) }
+        ensures { OnOk result (MakesOwnStep occasion.now.conf.now occasion.now.moment happening.now
+            (left_of self.old) out.old.items (left_of self.new) out.new.items) }
     {
         match happening {
             Happening::Accept(client) => self.accept(occasion.moment, *client, out),
@@ -316,7 +319,8 @@ impl Server {
         requires has_peers { HasItsPeers (left_of self.old) }
         requires still { IsStill queue.old (left_of self.old) }
         requires placed { is_misplaced self.old.book happening.now ≡ false }
-        ensures acts { IfOk result (λ out. (steps : List Past) × ActsInOrder occasion.now.conf.now (left_of self.old) occasion.now.moment happening.now out steps (left_of self.new)) }
+        ensures acts { IfOk result (λ out. (steps : List Past)
+            × ActsInOrder occasion.now.conf.now (left_of self.old) occasion.now.moment happening.now out steps (left_of self.new)) }
         ensures still { OnOk result (IsStill queue.new (left_of self.new)) }
     {
         let mut out = Vec::new(occasion.alloc);

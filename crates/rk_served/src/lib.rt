@@ -22,9 +22,10 @@
 //!
 //! `stream` cuts frames and reads asks. A peer is a client, or a construction with its handler; `peer` and `peers` say who is there.
 //! `command` makes the words of a command, `replies` makes frames of answers. `occasion` has what all steps of a turn are made with.
-//! `server` is the machine with the peers, and moves sessions; `acting` takes the own step of a happening, and `replay` is what the crates above see. `queue` knows who may move, and who waits for
-//! which key: only those that a step can have freed are asked again, and not all who are there. Each move makes the rest lighter:
-//! fewer unused bytes, a stream that is shut, or a wait that has ended; so the moves come to an end (`proofs/Weight.antt`).
+//! `server` is the machine with the peers, and moves sessions; `acting` takes the own step of a happening, and `replay` is what the crates above see.
+//! `queue` knows who may move, and who waits for which key: only those that a step can have freed are asked again, and not all who are there. Each
+//! move makes the rest lighter: fewer unused bytes, a stream that is shut, or a wait that has ended; so the moves come to an end
+//! (`proofs/Weight.antt`).
 #![tactic(auto)]
 
 mod acting;

@@ -49,7 +49,8 @@ impl Server {
         subject: Subject,
         out: &mut Vec<Output>,
     ) -> Result<(), AllocError>
-        ensures { OnOk result (StartsNow occasion.now.conf.now occasion.now.moment key subject (left_of self.old) out.old.items (left_of self.new) out.new.items) }
+        ensures { OnOk result (StartsNow occasion.now.conf.now occasion.now.moment key subject
+            (left_of self.old) out.old.items (left_of self.new) out.new.items) }
     {
         match command_for(occasion, &self.book, key, &subject) {
             Some(command) => {
@@ -78,7 +79,8 @@ impl Server {
         ask: Ask,
         out: &mut Vec<Output>,
     ) -> Result<(), AllocError>
-        ensures { OnOk result (AnswersOne occasion.now.conf.now occasion.now.moment (left_of self.old) who.now ask out.old.items (left_of self.new) out.new.items) }
+        ensures { OnOk result (AnswersOne occasion.now.conf.now occasion.now.moment
+            (left_of self.old) who.now ask out.old.items (left_of self.new) out.new.items) }
     {
         let answer = step_of_ask(&mut self.book, occasion, who, ask)?;
         match answer {
@@ -143,7 +145,8 @@ impl Server {
     ) -> Result<bool, AllocError>
         requires within { index < vec_len self.old.peers }
         requires free { IsFreeAt (left_of self.old) index }
-        ensures { IfOk result (λ moved. TriesAt occasion.now.conf.now occasion.now.moment index moved (left_of self.old) out.old.items (left_of self.new) out.new.items) }
+        ensures { IfOk result (λ moved. TriesAt occasion.now.conf.now occasion.now.moment index moved
+            (left_of self.old) out.old.items (left_of self.new) out.new.items) }
     {
         let peer = &mut self.peers[index];
         let who = peer.who;
@@ -172,7 +175,8 @@ impl Server {
         out: &mut Vec<Output>,
     ) -> Result<bool, AllocError>
         requires { index < vec_len self.old.peers }
-        ensures { IfOk result (λ moved. TriesAt occasion.now.conf.now occasion.now.moment index moved (left_of self.old) out.old.items (left_of self.new) out.new.items) }
+        ensures { IfOk result (λ moved. TriesAt occasion.now.conf.now occasion.now.moment index moved
+            (left_of self.old) out.old.items (left_of self.new) out.new.items) }
     {
         let peer = &self.peers[index];
         if !peer.channel.is_stream() {
