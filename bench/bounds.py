@@ -5,7 +5,7 @@ says why, where it raises the bound.
 """
 
 MOST = {
-    "found REQUEST": 4_760,
-    "READ of one byte": 4_820,
-    "ADD displacing": 8_010,
+    "found REQUEST": 4_570,
+    "READ of one byte": 4_740,
+    "ADD displacing": 7_940,
 }
