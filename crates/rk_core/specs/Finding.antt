@@ -14,7 +14,7 @@ use Rattle.rk_machine.specs.declared.event.Answer.TheVariants.{Refused}
 use Rattle.rk_machine.specs.World.{World}
 use Rattle.rk_machine.specs.Allowed.{first_of, refused_if}
 use Rattle.rk_machine.specs.declared.asker.Asker.{Asker}
-use Rattle.rk_machine.specs.Asker.{asker_of, serial_named, ring_for, ring_refusal, ring_or_none_refusal, known_refusal, key_refusal}
+use Rattle.rk_machine.specs.Asker.{asker_of, serial_named, ring_for, ring_refusal, ring_or_none_refusal, key_refusal}
 use Rattle.rk_machine.specs.Links.{is_full_at, full_refusal}
 use Rattle.rk_machine.specs.KeyAsks.{link_refusal, unlink_refusal, add_refusal}
 use Rattle.rk_machine.specs.Asks.{completion_refusal}
@@ -65,13 +65,14 @@ FindsRing w asker r result = Finds (ring_refusal w asker r) (λ ring. ring_for w
 abbrev pub FindsRingOrNone : World → Asker → ℤ → Result (Option ℕ) Errno → Type 0
 FindsRingOrNone w asker r result = Finds (ring_or_none_refusal w asker r) (λ ring. ring_for w asker r ≡ ring) result
 
+-- the serial that a number names, or EINVAL
+abbrev pub FindsSerial : ℤ → Result ℕ Errno → Type 0
+FindsSerial number result =
+    MatchResult result (λ k. serial_named number ≡ Some k) (λ e. (serial_named number ≡ None) × (e ≡ errno.Einval))
+
 -- k has this number, and is there
 abbrev pub IsKeyOf : World → ℤ → ℕ → Type 0
 IsKeyOf w key k = (serial_named key ≡ Some k) × (map.contains_key w.keys k ≡ true)
-
--- the key of a number, which has to be there
-abbrev pub FindsKey : World → ℤ → Result ℕ Errno → Type 0
-FindsKey w key result = Finds (known_refusal w (serial_named key)) (IsKeyOf w key) result
 
 -- the key of a number, which has to be there and to be possessed
 abbrev pub FindsPossessed : World → Asker → ℤ → Result ℕ Errno → Type 0

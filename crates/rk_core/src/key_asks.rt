@@ -1,15 +1,15 @@
 //! The asks on keys: READ, DESCRIBE, CALLOUT, REVOKE, TIMEOUT.
-ghost use Rattle.std.specs.Prelude.{◌≡◌, ◌≤◌, ◌⊎◌, Err, Ok, [], ◌∷◌, length, true, IfOk, IsOk, MatchOption};
+ghost use Rattle.std.specs.Prelude.{◌≡◌, ◌≤◌, ◌⊎◌, Err, Ok, [], ◌∷◌, length, IfOk, IsOk, MatchOption, option_map};
 ghost use Rattle.std.specs.Bool.{MatchBool};
-ghost use Rattle.std.specs.Option.{option_map_or};
-ghost use Rattle.std.specs.FinMap as map;
-ghost use Rattle.rk_keys.specs.Key.{key_passes, is_building, is_revoked};
+ghost use Rattle.rk_names.specs.Numbers.{key_errno};
+ghost use Rattle.rk_keys.specs.Key.{error_of, is_building, is_revoked, key_passes, standing_of};
 ghost use Rattle.rk_keys.specs.Known.{marked, timed};
 ghost use Rattle.rk_machine.specs.Allowed.{first_of, refused_if};
-ghost use Rattle.rk_machine.specs.KeyAsks.{use_refusal, description_of, payload_by, state_word, over_refusal, with_key_changed};
-ghost use Rattle.rk_machine.specs.KeyAsks.{TellsOf, TellsCallout, ReadsKey, Reads, Describes, Revokes, TimesOut};
+ghost use Rattle.rk_machine.specs.KeyAsks.{description_of, payload_by, state_word, over_refusal, with_key_changed};
+ghost use Rattle.rk_machine.specs.KeyAsks.{TellsCallout, ReadsKey, Reads, Describes, Revokes, TimesOut};
 ghost use Rattle.rk_core.specs.Finding.{answer_of, Finds};
 
+use crate::named::serial_of;
 use crate::tables::Tables;
 use itoa::Buffer;
 use rk_keys::{Key, Standing};
@@ -67,6 +67,17 @@ fn description(alloc: Global, fact: &Key, now: Moment) -> Result<Vec<u8>, AllocE
     Ok(bytes)
 }
 
+/// The payload of a key that stands Positive. Its own error where it stands Revoked, Expired or Negative, and EBUSY if it stands Building.
+fn payload(fact: &Key, now: Moment) -> Result<&Payload, Errno>
+    ensures { let refusal = first_of (option_map key_errno (error_of (standing_of fact.now now)) ∷ refused_if (is_building fact.now) Errno.Ebusy ∷ []) in
+        Finds refusal (λ p. payload_by fact.now.condition ≡ p.now) result }
+{
+    match fact.payload(now) {
+        Ok(payload) => Ok(payload),
+        Err(fault) => Err(fault.errno()),
+    }
+}
+
 // ---- CALLOUT, READ, DESCRIBE
 
 impl Tables {
@@ -80,25 +91,12 @@ impl Tables {
         }
     }
 
-    /// The payload of a key that is there and stands Positive. Its own error where it stands Revoked, Expired or Negative, and
-    /// EBUSY if it stands Building.
-    fn payload(&self, key: Serial, now: Moment) -> Result<&Payload, Errno>
-        requires { map.contains_key self.now.keys key ≡ true }
-        ensures { let refusal = first_of (use_refusal self.now key now ∷ refused_if (key_passes self.now.keys key is_building) Errno.Ebusy ∷ []) in
-            let payload = option_map_or (λ one. payload_by one.condition) (map.get self.now.keys key) [] in
-            Finds refusal (λ p. payload ≡ p.now) result }
-    {
-        match self.keys.payload(key, now) {
-            Ok(payload) => Ok(payload),
-            Err(fault) => Err(fault.errno()),
-        }
-    }
-
     fn read_key(&self, now: Moment, asker: &Asker, number: i32) -> Result<Answer, Errno>
         ensures { ReadsKey self.now now asker.now number (answer_of result) self.now }
     {
-        let key = self.possessed_key(asker, number)?;
-        let payload = self.payload(key, now)?;
+        let key = serial_of(number)?;
+        let fact = self.possessed(asker, key)?;
+        let payload = payload(fact, now)?;
         copied(self.alloc, payload.as_bytes())
     }
 
@@ -124,17 +122,8 @@ impl Tables {
     pub fn describe(&self, now: Moment, asker: &Asker, number: i32) -> Result<Answer, Errno>
         ensures { Describes self.now now asker.now number (answer_of result) self.now }
     {
-        let key = self.possessed_key(asker, number)?;
-        self.described(now, key)
-    }
-
-    fn described(&self, now: Moment, key: Serial) -> Result<Answer, Errno>
-        requires { map.contains_key self.now.keys key ≡ true }
-        ensures { TellsOf (description_of now) self.now key (answer_of result) self.now }
-    {
-        let Some(fact) = self.keys.fact(key) else {
-            unreachable!()
-        };
+        let key = serial_of(number)?;
+        let fact = self.possessed(asker, key)?;
         match description(self.alloc, fact, now) {
             Ok(bytes) => Ok(bytes_answer(bytes)),
             Err(_) => Err(Errno::Enomem),

@@ -1,14 +1,17 @@
 //! Who acts in an ask, and the keys and rings that it names.
-ghost use Rattle.std.specs.Prelude.{◌≡◌, None, Some, unwrap_or};
+ghost use Rattle.std.specs.Prelude.{◌≡◌, None, Some, option_map, unwrap_or};
+ghost use Rattle.std.specs.FinMap as map;
+ghost use Rattle.rk_names.specs.Numbers.{key_errno};
+ghost use Rattle.rk_keys.specs.Key.{error_of, standing_of};
 ghost use Rattle.rk_rings.specs.Places.{default_ring};
 ghost use Rattle.rk_auth.specs.Sessions.{session_of};
 ghost use Rattle.rk_machine.specs.declared.asker.Asker.{Asker};
-ghost use Rattle.rk_machine.specs.Asker.{asker_of, serial_named, is_possessed};
-ghost use Rattle.rk_machine.specs.KeyAsks.{use_refusal};
-ghost use Rattle.rk_core.specs.Finding.{Passes, FindsAsker, FindsRing, FindsRingOrNone, FindsKey, FindsPossessed};
+ghost use Rattle.rk_machine.specs.Asker.{asker_of, is_possessed, key_refusal, known_refusal, serial_named};
+ghost use Rattle.rk_core.specs.Finding.{Passes, Finds, FindsAsker, FindsRing, FindsRingOrNone, FindsSerial, FindsPossessed};
 
 use crate::tables::Tables;
 use rk_auth::Session;
+use rk_keys::Key;
 use rk_machine::Asker;
 use rk_names::{Errno, Moment, Serial, SessionId};
 use rk_rings::Place;
@@ -18,6 +21,16 @@ pub fn serial_named(number: i32) -> Option<Serial>
     ensures { result ≡ serial_named number }
 {
     Serial::new(u32::try_from(number).ok()?)
+}
+
+/// The same, and EINVAL for 0 and below.
+pub fn serial_of(number: i32) -> Result<Serial, Errno>
+    ensures { FindsSerial number result }
+{
+    match serial_named(number) {
+        Some(key) => Ok(key),
+        None => Err(Errno::Einval),
+    }
 }
 
 // ---- who acts
@@ -117,40 +130,43 @@ impl Tables {
         self.is_reached(&asker.context, key) || asker.has_assumed(key)
     }
 
-    /// The key of a number, which has to be there: EINVAL for 0 and below, ENOKEY if there is none.
-    pub fn key(&self, number: i32) -> Result<Serial, Errno>
-        ensures { FindsKey self.now number result }
+    /// What is known of a key, which has to be there: ENOKEY if it is not.
+    pub fn known(&self, key: Serial) -> Result<&Key, Errno>
+        ensures { Finds (known_refusal self.now (Some key)) (λ fact. map.get self.now.keys key ≡ Some fact.now) result }
     {
-        let Some(key) = serial_named(number) else {
-            return Err(Errno::Einval);
-        };
-        if self.keys.fact(key).is_none() {
-            return Err(Errno::Enokey);
+        match self.keys.fact(key) {
+            Some(fact) => Ok(fact),
+            None => Err(Errno::Enokey),
         }
-        Ok(key)
     }
 
     /// The same, and EACCES if the key is not possessed.
-    pub fn possessed_key(&self, asker: &Asker, number: i32) -> Result<Serial, Errno>
-        ensures { FindsPossessed self.now asker.now number result }
+    pub fn possessed(&self, asker: &Asker, key: Serial) -> Result<&Key, Errno>
+        ensures { Finds (key_refusal self.now asker.now (Some key)) (λ fact. map.get self.now.keys key ≡ Some fact.now) result }
     {
-        let key = self.key(number)?;
+        let fact = self.known(key)?;
         if !self.is_possessed(asker, key) {
             return Err(Errno::Eacces);
         }
-        Ok(key)
+        Ok(fact)
     }
 
-    /// A key may be used, unless it stands Revoked, Expired or Negative: its error.
-    pub fn may_use(&self, key: Serial, now: Moment) -> Result<(), Errno>
-        ensures { Passes (use_refusal self.now key now) result }
+    /// The key of a number, which has to be there: EINVAL for 0 and below, ENOKEY if there is none; and EACCES if it is not possessed.
+    pub fn possessed_key(&self, asker: &Asker, number: i32) -> Result<Serial, Errno>
+        ensures { FindsPossessed self.now asker.now number result }
     {
-        let Some(fact) = self.keys.fact(key) else {
-            return Ok(());
-        };
-        match fact.standing(now).error() {
-            Some(error) => Err(error.errno()),
-            None => Ok(()),
-        }
+        let key = serial_of(number)?;
+        let _fact = self.possessed(asker, key)?;
+        Ok(key)
+    }
+}
+
+/// A key may be used, unless it stands Revoked, Expired or Negative: its error.
+pub fn may_use(fact: &Key, now: Moment) -> Result<(), Errno>
+    ensures { Passes (option_map key_errno (error_of (standing_of fact.now now))) result }
+{
+    match fact.standing(now).error() {
+        Some(error) => Err(error.errno()),
+        None => Ok(()),
     }
 }

@@ -4,6 +4,7 @@ ghost use Rattle.rk_machine.specs.KeyAsks.{LinksIn, Unlinks, Clears};
 ghost use Rattle.rk_core.specs.Finding.{answer_of, FindsLinkable, FindsLink};
 ghost use Rattle.rk_core.specs.Sound.{IsSound};
 
+use crate::named::{may_use, serial_of};
 use crate::tables::Tables;
 use rk_machine::{Answer, Asker, done};
 use rk_names::{Errno, Moment, Serial};
@@ -19,9 +20,10 @@ impl Tables {
     ) -> Result<(Serial, Serial), Errno>
         ensures { FindsLinkable self.now now asker.now number ring result }
     {
-        let key = self.possessed_key(asker, number)?;
+        let key = serial_of(number)?;
+        let fact = self.possessed(asker, key)?;
         let ring = self.ring(asker, ring)?;
-        self.may_use(key, now)?;
+        may_use(fact, now)?;
         self.may_link(&Some(ring), key)?;
         Ok((key, ring))
     }
@@ -47,7 +49,8 @@ impl Tables {
     fn linked(&self, asker: &Asker, number: i32, ring: i32) -> Result<(Serial, Serial), Errno>
         ensures { FindsLink self.now asker.now number ring result }
     {
-        let key = self.key(number)?;
+        let key = serial_of(number)?;
+        let _fact = self.known(key)?;
         let ring = self.ring(asker, ring)?;
         if !self.is_linked(ring, key) {
             return Err(Errno::Enoent);
