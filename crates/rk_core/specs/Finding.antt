@@ -14,10 +14,9 @@ use Rattle.rk_machine.specs.declared.event.Answer.TheVariants.{Refused}
 use Rattle.rk_machine.specs.World.{World}
 use Rattle.rk_machine.specs.Allowed.{first_of, refused_if}
 use Rattle.rk_machine.specs.declared.asker.Asker.{Asker}
-use Rattle.rk_machine.specs.Asker.{asker_of, serial_named, ring_for, ring_refusal, ring_or_none_refusal, key_refusal}
-use Rattle.rk_machine.specs.Links.{is_full_at, full_refusal}
-use Rattle.rk_machine.specs.KeyAsks.{link_refusal, unlink_refusal, add_refusal}
-use Rattle.rk_machine.specs.Asks.{completion_refusal}
+use Rattle.rk_machine.specs.Asker.{asker_of, serial_named, ring_for, ring_refusal, ring_or_none_refusal, key_refusal, own_refusal}
+use Rattle.rk_machine.specs.Links.{is_full_at}
+use Rattle.rk_machine.specs.KeyAsks.{serial_in, use_refusal, unlink_refusal, add_refusal}
 
 -- ---- results
 
@@ -80,11 +79,11 @@ FindsPossessed w asker key result = Finds (key_refusal w asker (serial_named key
 
 -- ---- what an ask names
 
--- LINK: a key, and a ring that has room for it
+-- LINK: a key and a ring, if no refusal but that of a full ring applies
 abbrev pub FindsLinkable : World → ℕ → Asker → ℤ → ℤ → Result (ℕ × ℕ) Errno → Type 0
 FindsLinkable w now asker key r result =
-    Finds (link_refusal w now asker key r)
-    (λ p. IsKeyOf w key p.0 × (ring_for w asker r ≡ Some p.1) × (full_refusal w (Some p.1) p.0 ≡ None)) result
+    Finds (first_of (key_refusal w asker (serial_named key) ∷ ring_refusal w asker r ∷ use_refusal w (serial_in key) now ∷ []))
+    (λ p. IsKeyOf w key p.0 × (ring_for w asker r ≡ Some p.1)) result
 
 -- UNLINK: a key, and a ring in which it is linked
 abbrev pub FindsLink : World → Asker → ℤ → ℤ → Result (ℕ × ℕ) Errno → Type 0
@@ -98,8 +97,8 @@ FindsRoom w asker typ description r left result =
     Finds (add_refusal w asker typ description r left)
     (λ ring. (ring_for w asker r ≡ Some ring) × (is_full_at w ring typ description ≡ false)) result
 
--- INSTANTIATE, NEGATE and REJECT: a key whose authority is assumed, and the ring that is named, if one is, which has room for it
+-- INSTANTIATE, NEGATE and REJECT: a key whose authority is assumed, and the ring that is named, if one is
 abbrev pub FindsOwn : World → Asker → ℤ → ℤ → Result (ℕ × Option ℕ) Errno → Type 0
 FindsOwn w asker key r result =
-    Finds (completion_refusal w asker key r)
-    (λ p. (serial_named key ≡ Some p.0) × (asker.assumed ≡ Some p.0) × (ring_for w asker r ≡ p.1) × (full_refusal w p.1 p.0 ≡ None)) result
+    Finds (first_of (own_refusal asker (serial_named key) ∷ ring_or_none_refusal w asker r ∷ []))
+    (λ p. (serial_named key ≡ Some p.0) × (asker.assumed ≡ Some p.0) × (ring_for w asker r ≡ p.1)) result

@@ -69,7 +69,7 @@ impl Tables {
         ensures err { OnErr result (self.new ≡ self.old) }
     {
         let key = self.make_key(typ, description, asker.context.uid, payload)?;
-        self.link(ring, key);
+        self.link_in_room(ring, key);
         Ok(key)
     }
 

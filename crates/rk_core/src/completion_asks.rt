@@ -44,7 +44,7 @@ impl Completion {
 }
 
 impl Tables {
-    /// The key that the asker may complete, and the ring in which it is to be linked, if one is named, in the order of the refusals.
+    /// The key that the asker may complete, and the ring in which it is to be linked, if one is named, in the order of the refusals but the last.
     fn own_key(
         &self,
         asker: &Asker,
@@ -60,7 +60,6 @@ impl Tables {
             return Err(Errno::Eperm);
         }
         let ring = self.ring_or_none(asker, ring)?;
-        self.may_link(&ring, key)?;
         Ok((key, ring))
     }
 
@@ -81,8 +80,7 @@ impl Tables {
         ensures { Completes self.old now asker.now number ring completion.condition completion.expiry (answer_of result) self.new }
     {
         let (key, ring) = self.own_key(asker, number, ring)?;
-        let rival = self.rival(&ring, key);
-        self.add_link(&ring, key);
+        let rival = self.put_link(&ring, key)?;
         let Completion { condition, expiry } = completion;
         self.complete(now, key, condition, expiry);
         self.let_both_vanish(rival, key);

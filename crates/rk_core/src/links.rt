@@ -1,16 +1,22 @@
 //! Links of keys in rings, and the keys that vanish with their last link.
-ghost use Rattle.std.specs.Prelude.{◌≡◌, true, false, None, Some, [], ◌∷◌, ◌||◌, ◌==◌, MatchOption, ℕ};
+ghost use Rattle.std.specs.Prelude.{◌≡◌, true, false, not, None, Some, ◌||◌, ◌&&◌, ◌==◌, MatchOption, ℕ};
 ghost use Rattle.std.specs.Option.{option_map_or};
 ghost use Rattle.std.specs.FinMap as map;
-ghost use Rattle.rk_keys.specs.Key.{is_rival};
 ghost use Rattle.rk_rings.specs.Ring.{is_linked};
 ghost use Rattle.rk_machine.specs.World.{tidied};
-ghost use Rattle.rk_machine.specs.Links.{is_full_at, is_full_for, full_refusal, linked_in, unlinked_in, cleared_in};
-ghost use Rattle.rk_core.specs.Finding.{Passes};
-ghost use Rattle.rk_core.specs.Vanishing.{vanished_at, without_ring, StayBut, rival_in};
+ghost use Rattle.rk_machine.specs.Links.{is_full_at, full_refusal, linked_in, unlinked_in, cleared_in};
+ghost use Rattle.rk_core.specs.Vanishing.{Links, PutsLink, StayBut, vanished_at, without_ring};
 
 use crate::tables::Tables;
 use rk_names::{DescriptionView, Errno, Serial, TypeView};
+
+/// The key that was found, unless it is this one.
+fn other_than(found: Option<Serial>, key: Serial) -> Option<Serial>
+    ensures { (j : ℕ) → option_map_or (λ f. (j == f) && not (f == key)) found false ≡ option_map_or (λ r. j == r) result false }
+{
+    let found = found?;
+    if found == key { None } else { Some(found) }
+}
 
 impl Tables {
     /// Whether a ring has no room for a key of that name.
@@ -25,51 +31,24 @@ impl Tables {
         self.rings.is_full(ring, self.keys.name(typ, description))
     }
 
-    /// The same for a key that is there, by the number of its name.
-    fn is_full_for(&self, ring: Serial, key: Serial) -> bool
-        ensures { result ≡ is_full_for self.now ring key }
-    {
-        match self.keys.number(key) {
-            Some(name) => self.rings.is_full(ring, Some(name)),
-            None => false,
-        }
-    }
-
-    /// A key may be linked in a ring, if one is given, that has room for it. EDQUOT if that is full.
-    pub fn may_link(&self, ring: &Option<Serial>, key: Serial) -> Result<(), Errno>
-        ensures { Passes (full_refusal self.now ring.now key) result }
-    {
-        match ring {
-            Some(ring) if self.is_full_for(*ring, key) => Err(Errno::Edquot),
-            _ => Ok(()),
-        }
-    }
-
-    /// The key that gives way where this one is linked.
-    pub fn rival(&self, ring: &Option<Serial>, key: Serial) -> Option<Serial>
-        ensures { (j : ℕ) → rival_in self.now ring.now key j ≡ option_map_or (λ r. j == r) result false }
+    /// Links a key in a ring, if one is given. The result is the key that gives way. EDQUOT if the ring is full; then nothing has changed. The number of
+    /// the key's name is looked up once.
+    pub fn put_link(&mut self, ring: &Option<Serial>, key: Serial) -> Result<Option<Serial>, Errno>
+        requires { map.contains_key self.old.keys key ≡ true }
+        ensures { PutsLink self.old ring.now key result self.new }
     {
         let Some(ring) = ring else {
-            return None;
+            return Ok(None);
         };
-        let name = self.keys.number(key)?;
-        match self.rings.find_in(*ring, name) {
-            Some(rival) => { if rival == key { None } else { Some(rival) } }
-            None => None,
+        let Some(name) = self.keys.number(key) else {
+            return Ok(None);
+        };
+        if self.rings.is_full(*ring, Some(name)) {
+            return Err(Errno::Edquot);
         }
-    }
-
-    /// Links a key in a ring, if one is given.
-    pub fn add_link(&mut self, ring: &Option<Serial>, key: Serial)
-        requires known { map.contains_key self.old.keys key ≡ true }
-        requires room { full_refusal self.old ring.now key ≡ None }
-        ensures { self.new ≡ linked_in ring.now key self.old }
-    {
-        if let Some(ring) = ring {
-            if let Some(name) = self.keys.number(key) {
-                let _ = self.rings.link(*ring, key, name);
-            }
-        }
+        let rival = other_than(self.rings.find_in(*ring, name), key);
+        let _ = self.rings.link(*ring, key, name);
+        Ok(rival)
     }
 
     /// Takes the link of a key out of a ring.
@@ -120,29 +99,37 @@ impl Tables {
         }
     }
 
-    /// Links a key in a ring. The key that gives way vanishes with its last link.
-    pub fn link(&mut self, ring: Serial, key: Serial)
+    /// Links a key in a ring. The key that gives way vanishes with its last link. EDQUOT if the ring is full; then nothing has changed.
+    pub fn link(&mut self, ring: Serial, key: Serial) -> Result<(), Errno>
+        requires known { map.contains_key self.old.keys key ≡ true }
+        requires tidy { StayBut (λ j. j == key) self.old }
+        ensures { Links self.old (Some ring) key result self.new }
+    {
+        let rival = self.put_link(&Some(ring), key)?;
+        self.let_both_vanish(rival, key);
+        Ok(())
+    }
+
+    /// The same if a ring is given. Without one nothing is looked up.
+    pub fn link_if(&mut self, ring: &Option<Serial>, key: Serial) -> Result<(), Errno>
+        requires known { map.contains_key self.old.keys key ≡ true }
+        requires tidy { StayBut (λ j. false) self.old }
+        ensures { Links self.old ring.now key result self.new }
+    {
+        match ring {
+            Some(ring) => self.link(*ring, key),
+            None => Ok(()),
+        }
+    }
+
+    /// The same for a ring that has room.
+    pub fn link_in_room(&mut self, ring: Serial, key: Serial)
         requires known { map.contains_key self.old.keys key ≡ true }
         requires room { full_refusal self.old (Some ring) key ≡ None }
         requires tidy { StayBut (λ j. j == key) self.old }
         ensures { self.new ≡ tidied (linked_in (Some ring) key self.old) }
     {
-        let ring = Some(ring);
-        let rival = self.rival(&ring, key);
-        self.add_link(&ring, key);
-        self.let_both_vanish(rival, key);
-    }
-
-    /// The same if a ring is given. Without one nothing is looked up.
-    pub fn link_if(&mut self, ring: &Option<Serial>, key: Serial)
-        requires known { map.contains_key self.old.keys key ≡ true }
-        requires room { full_refusal self.old ring.now key ≡ None }
-        requires tidy { StayBut (λ j. false) self.old }
-        ensures { self.new ≡ tidied (linked_in ring.now key self.old) }
-    {
-        if let Some(ring) = ring {
-            self.link(*ring, key);
-        }
+        let _ = self.link(ring, key);
     }
 
     /// Takes the link of a key out of a ring. The key vanishes with its last link.

@@ -10,7 +10,7 @@ use rk_machine::{Answer, Asker, done};
 use rk_names::{Errno, Moment, Serial};
 
 impl Tables {
-    /// The key and the ring of LINK, in the order of its refusals.
+    /// The key and the ring of LINK, in the order of its refusals but the last.
     fn linkable(
         &self,
         now: Moment,
@@ -24,7 +24,6 @@ impl Tables {
         let fact = self.possessed(asker, key)?;
         let ring = self.ring(asker, ring)?;
         may_use(fact, now)?;
-        self.may_link(&Some(ring), key)?;
         Ok((key, ring))
     }
 
@@ -41,7 +40,7 @@ impl Tables {
         ensures { LinksIn self.old now asker.now number ring (answer_of result) self.new }
     {
         let (key, ring) = self.linkable(now, asker, number, ring)?;
-        self.link(ring, key);
+        self.link(ring, key)?;
         Ok(done())
     }
 

@@ -14,18 +14,18 @@ use Rattle.rk_core.specs.declared.wanted.Names.{Names}
 use Rattle.rk_core.proofs.Requests.NewKey.{new_known, others_stay, has_room, leads_nowhere}
 use Rattle.rk_core.proofs.tables.Tables.start.Goals as goal
 
-pub link-requires-clause-known : goal.link-requires-clause-known
-link-requires-clause-known c =
+pub link_in_room-requires-clause-known : goal.link_in_room-requires-clause-known
+link_in_room-requires-clause-known c =
     new_known c.args.self.now c.make_construction.new.self c.in_ok-key.key (new_key c.args.names.typ c.args.names.description c.args.asker.now.context.uid None)
     (ap (λ (w : World). w.keys) c.in_ok-key.ensures.ok) (ap (λ (w : World). w.rings) c.in_ok-key.ensures.ok)
 
-pub link-requires-clause-tidy : goal.link-requires-clause-tidy
-link-requires-clause-tidy c =
+pub link_in_room-requires-clause-tidy : goal.link_in_room-requires-clause-tidy
+link_in_room-requires-clause-tidy c =
     others_stay c.args.self.now c.make_construction.new.self c.in_ok-key.key (new_key c.args.names.typ c.args.names.description c.args.asker.now.context.uid None)
     (ap (λ (w : World). w.keys) c.in_ok-key.ensures.ok) (ap (λ (w : World). w.rings) c.in_ok-key.ensures.ok) c.requires.sound.tidy
 
-pub link-requires-clause-room : goal.link-requires-clause-room
-link-requires-clause-room c =
+pub link_in_room-requires-clause-room : goal.link_in_room-requires-clause-room
+link_in_room-requires-clause-room c =
     has_room c.args.self.now c.make_construction.new.self c.in_ok-key.key (new_key c.args.names.typ c.args.names.description c.args.asker.now.context.uid None)
     (ap (λ (w : World). w.keys) c.in_ok-key.ensures.ok) (ap (λ
     (w : World). w.rings) c.in_ok-key.ensures.ok) c.in_ok-key.ensures.unlinked c.args.ring c.requires.room
@@ -35,7 +35,7 @@ wait-requires c =
     let authority : Authority =
     record { context = c.args.asker.now.context; destination = c.args.ring; callout = c.args.names.callout; depth = c.args.asker.now.depth } in
     subst (λ (a : Sessions). ¬ (Leads a c.in_ok-key.key c.args.id.now))
-    (sym (ap (λ (w : World). w.sessions) (c.link.ensures) ∙ ap (λ (w : World). w.sessions) c.in_ok-key.ensures.ok))
+    (sym (ap (λ (w : World). w.sessions) (c.link_in_room.ensures) ∙ ap (λ (w : World). w.sessions) c.in_ok-key.ensures.ok))
     (leads_nowhere c.args.self.now.sessions c.in_ok-key.key authority c.args.id.now
     (c.requires.sound.constructions c.in_ok-key.key c.in_ok-key.ensures.fresh.unused) c.requires.there)
 
@@ -51,7 +51,7 @@ returns-clause-ok c = λ now.
             ∙ ap (λ (s : Subject). record s { key = k }) (c.in_ok-subject.ensures ∙ c.subject-subject.ensures now)
             ∙ ap (λ (n : Names). subject_of c.args.self.now k (record q { typ = n.typ; description = n.description }) n.callout)
             c.in_ok-told.ensures.cases) i),
-        c.wait.ensures ∙ ap (waiting c.args.id.now k true) (c.link.ensures
+        c.wait.ensures ∙ ap (waiting c.args.id.now k true) (c.link_in_room.ensures
             ∙ ap (λ (w : World). tidied (linked_in (Some c.args.ring) k w)) c.in_ok-key.ensures.ok),
       ),
     )
