@@ -451,8 +451,8 @@ fn turn_owed<N: Names, const H: u64>(
     ensures part { part.new ≡ record part.old { calls = part.old.calls + 1 } }
     ensures counted { calls.new.total ≡ taken hall.new }
 {
-    match hall.turn(now, event) {
-        Ok(receipt) => {
+    match hall.turn_to_start(now, event, None) {
+        Ok((receipt, _)) => {
             let _steps = hall.count();
             calls.audit(&mut part.share);
             calls.add(&mut part.share, 1);
