@@ -43,8 +43,8 @@ def sections(page):
 
 
 def tagged(lines):
-    """The tags of a section: the line behind each `.TP`."""
-    return [spoken(after) for line, after in zip(lines, lines[1:]) if line == ".TP"]
+    """The tags of a section: the words of each `.IP` that has them in quotes."""
+    return [spoken(line) for line in lines if line.startswith('.IP "')]
 
 
 def options(*helps):

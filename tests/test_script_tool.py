@@ -157,7 +157,7 @@ def tables():
     """The tables of the tool are those of the page."""
     page = (top / "docs" / "PROTOCOL.md").read_text().replace("`", "")
     parts = {text.split("\n")[0]: text for text in page.split("\n## ")}
-    asks = [" ".join(row) for row in re.findall(r"^\| (\d+) \| ([A-Z]+) \| (.*?) \|$", parts["Asks"], re.MULTILINE)]
+    asks = [" ".join(row) for row in re.findall(r"^\| (\d+) \| ([A-Z]+) \| ([^|]*) \|", parts["Asks"], re.MULTILINE)]
     count.same("the asks of docs/PROTOCOL.md", asks, messages.ASKS.strip().split("\n"))
     replies = [(int(kind), name) for kind, name in re.findall(r"^\| (\d) \| ([A-Z][a-z]+) \|", parts["Replies"], re.MULTILINE)]
     count.same("its replies", replies, [row[:2] for row in messages.REPLIES])
@@ -269,7 +269,7 @@ def examples():
     count.same("the example's words stand in docs/SCRIPTS.md", f"```\n{(first / 'words').read_text()}```\n" in page, True)
     played = [case.words.decode("latin-1") for case in scenarios()]
     shown = (top / "docs" / "MACHINE.md").read_text().split("```\n")[1::2]
-    count.same("docs/MACHINE.md shows scenarios", ([it for it in shown if it not in played], len(shown)), ([], 2))
+    count.same("docs/MACHINE.md shows scenarios", ([it for it in shown if it not in played], len(shown)), ([], 1))
 
 
 for test in [tables, one_by_one, whole_texts, any_bytes, of_words, calls, examples]:
