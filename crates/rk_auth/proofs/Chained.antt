@@ -1,15 +1,9 @@
 -- The chains through the slots, where one is put in front and where one is taken out.
-use Rattle.std.proofs.Common.{◌≡◌, ◌∙◌, ap, sym, subst, refl, ℕ, Bool, true, false, cond, ◌||◌, List, ◌∷◌, inl, inr}
-use Rattle.std.specs.Prelude.{Option, Some, None, is_some, nat_eq, option_map, option_and_then}
-use Rattle.std.specs.Ordering.{nat_cmp}
-use Rattle.std.specs.FinMap.{FinMap, get}
-use Rattle.std.proofs.lemmas.Bool.{both_ways, cases_eq, eq-eqb, ne_eqb}
-use Rattle.std.proofs.lemmas.Option.{none-some, same_Some}
-use Rattle.rk_table.specs.Maps.{changed_at}
-use Rattle.rk_table.proofs.Gets.{get_changed_at}
-use Rattle.rk_auth.specs.declared.slot.Slot.{Slot}
-use Rattle.rk_auth.specs.declared.slot.Link.{Link}
-use Rattle.rk_auth.specs.Chains.{has, names, IsChain, standing_in, first_in, link_in, home_in, next_in, before_in, standing_at, first_at, home_at, next_at, before_at, IsChainOf, AreChained, with_first, with_link, with_before, with_next, changed_if, led_to}
+use Rattle.rk_auth.proofs.Words.{◌∙◌, ap, sym, ◌≡◌, subst, refl, ℕ, cond, true, false, inl, inr, ◌||◌, Bool, List, ◌∷◌, both_ways, cases_eq, eq-eqb, ne_eqb}
+use Rattle.rk_auth.proofs.Words.{none-some, same_Some, get, FinMap, nat_cmp, Some, None, nat_eq, is_some, Option, option_map, option_and_then, get_changed_at}
+use Rattle.rk_auth.proofs.Words.{changed_at, standing_at, home_at, AreChained, has, names, standing_in, home_in, IsChain, first_in, next_in, first_at}
+use Rattle.rk_auth.proofs.Words.{IsChainOf, with_link, with_before, changed_if, link_in, before_in, next_at, before_at, with_first, with_next, led_to, Link}
+use Rattle.rk_auth.proofs.Words.{Slot}
 use Rattle.rk_auth.proofs.Lists.{without, has_without, once_without}
 use Rattle.rk_auth.proofs.Links.{at_same, at_apart, named_is, is_named, not_named, over, over_named, over_other, frame, in_front, taken_from, head_is, next_back, before_on, first_is}
 

@@ -1,9 +1,6 @@
 -- Chains by what follows each place and what stands before it.
-use Rattle.std.proofs.Common.{◌≡◌, ◌∙◌, ap, sym, subst, refl, ℕ, ◌⊎◌, true, false, cond, ◌||◌, List, [], ◌∷◌, inl, inr}
-use Rattle.std.specs.Prelude.{Option, Some, None, nat_eq}
-use Rattle.std.proofs.lemmas.Bool.{both_ways, cases_eq, eqb-true, eq-eqb, ne_eqb}
-use Rattle.std.proofs.lemmas.Option.{none-some, same_Some}
-use Rattle.rk_auth.specs.Chains.{has, EachOnce, names, IsChain}
+use Rattle.rk_auth.proofs.Words.{◌∙◌, ap, sym, ◌≡◌, subst, refl, ℕ, cond, true, false, inl, inr, ◌||◌, List, ◌∷◌, [], ◌⊎◌, both_ways, cases_eq, eq-eqb, ne_eqb}
+use Rattle.rk_auth.proofs.Words.{eqb-true, none-some, same_Some, Some, None, nat_eq, Option, has, names, EachOnce, IsChain}
 use Rattle.rk_auth.proofs.Lists.{without, at_head, in_tail, not_head, none_head}
 
 -- ---- choices by number

@@ -1,8 +1,6 @@
 -- Lists of places.
-use Rattle.std.proofs.Common.{◌≡◌, ◌∙◌, ap, sym, refl, ℕ, ◌<◌, ◌≤◌, Bool, true, false, cond, ◌||◌, List, [], ◌∷◌, length, inl, inr, arith}
-use Rattle.std.specs.Prelude.{nat_eq}
-use Rattle.std.proofs.lemmas.Bool.{both_ways, cases_eq, eq-eqb, ne_eqb}
-use Rattle.rk_auth.specs.Chains.{has, EachOnce}
+use Rattle.rk_auth.proofs.Words.{◌∙◌, ap, sym, ◌≡◌, refl, ℕ, cond, arith, true, false, inl, inr, ◌||◌, Bool, List, ◌∷◌, [], ◌<◌, ◌≤◌, length, both_ways}
+use Rattle.rk_auth.proofs.Words.{cases_eq, eq-eqb, ne_eqb, nat_eq, has, EachOnce}
 
 -- all but this place
 abbrev pub without : ℕ → List ℕ → List ℕ

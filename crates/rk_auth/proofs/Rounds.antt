@@ -1,14 +1,8 @@
 -- Rounds through one chain.
-use Rattle.std.proofs.Common.{◌≡◌, ◌∙◌, ap, sym, subst, refl, ℕ, ◌+◌, ◌≤◌, true, false, cond, ◌||◌, List, [], ◌∷◌, length, inl, inr, arith}
-use Rattle.std.specs.Prelude.{Option, Some, None, is_some, nat_eq, option_map}
-use Rattle.std.specs.Ordering.{nat_cmp}
-use Rattle.std.specs.FinMap.{FinMap, get}
-use Rattle.std.proofs.lemmas.Bool.{both_ways, cases_eq, ne_eqb}
-use Rattle.std.proofs.lemmas.Option.{none-some, same_Some}
-use Rattle.rk_table.specs.Maps.{changed_at}
-use Rattle.rk_auth.specs.declared.slot.Slot.{Slot}
-use Rattle.rk_auth.specs.declared.slot.Standing.{Standing}
-use Rattle.rk_auth.specs.Chains.{has, EachOnce, names, IsChain, standing_in, home_in, next_in, standing_at, first_at, home_at, next_at, before_at, IsChainOf, AreChained, in_standing, changed_each_at, rehomed}
+use Rattle.rk_auth.proofs.Words.{◌∙◌, ap, sym, ◌≡◌, subst, refl, ℕ, cond, arith, true, false, inl, inr, ◌||◌, List, ◌∷◌, [], ◌≤◌, length, ◌+◌, both_ways}
+use Rattle.rk_auth.proofs.Words.{cases_eq, ne_eqb, none-some, same_Some, get, FinMap, nat_cmp, Some, None, nat_eq, is_some, Option, option_map, changed_at}
+use Rattle.rk_auth.proofs.Words.{standing_at, home_at, AreChained, has, names, standing_in, home_in, EachOnce, in_standing, IsChain, next_in, first_at}
+use Rattle.rk_auth.proofs.Words.{IsChainOf, next_at, before_at, changed_each_at, rehomed, Slot, Standing}
 use Rattle.rk_auth.proofs.Lists.{not_more}
 use Rattle.rk_auth.proofs.Links.{at_same, at_apart, named_is, is_named, not_named}
 use Rattle.rk_auth.proofs.Chained.{untouched, heads}

@@ -1,25 +1,13 @@
 -- Who is seated where, through all that is done to the slots and their names.
-use Rattle.std.proofs.Common.{◌≡◌, ◌∙◌, ap, sym, subst, refl, ℕ, zero, suc, ◌-◌, ◌<◌, ◌⊎◌, Bool, true, false, cond, [], inl, inr, arith}
-use Rattle.std.specs.Prelude.{Option, Some, None, is_some, nat_eq, option_map, option_and_then}
-use Rattle.std.specs.Ordering.{nat_cmp}
-use Rattle.std.specs.Cmp.{nat_cmp_total}
-use Rattle.std.specs.FinMap.{FinMap, get, insert, remove, len, empty, get-empty, empty_of_len, len-empty, len-remove}
-use Rattle.std.proofs.lemmas.Bool.{both_ways, cases_eq, eq-eqb}
-use Rattle.std.proofs.lemmas.Option.{none-some, same_Some}
-use Rattle.rk_names.specs.declared.numbers.SessionId.{SessionId}
+use Rattle.rk_auth.proofs.Words.{◌∙◌, ap, sym, ◌≡◌, subst, refl, ℕ, cond, arith, true, false, inl, inr, Bool, [], ◌-◌, ◌⊎◌, ◌<◌, zero, suc, both_ways, cases_eq}
+use Rattle.rk_auth.proofs.Words.{eq-eqb, none-some, same_Some, nat_cmp_total, get, FinMap, remove, insert, len, get-empty, empty_of_len, len-remove, empty}
+use Rattle.rk_auth.proofs.Words.{len-empty, nat_cmp, Some, None, nat_eq, is_some, Option, option_map, option_and_then, at_new, at_other, left_in, taken_out}
+use Rattle.rk_auth.proofs.Words.{changed_at, SessionId, standing_at, home_at, AreChained, names, standing_in, home_in, first_in, rehomed, in_handler}
+use Rattle.rk_auth.proofs.Words.{session_changed, client_of, construction_of, IsTied, who_at, who_of, waited_in, in_session, seen, waited_of, in_construction}
+use Rattle.rk_auth.proofs.Words.{client_named, construction_named, place_of, AreSeated, Sessions, Construction, Session, Slot, Standing}
 use Rattle.rk_names.specs.declared.numbers.SessionId.TheVariants as id
-use Rattle.rk_table.specs.Maps.{changed_at}
 use Rattle.rk_table.specs.Stored.{Stored}
-use Rattle.rk_table.proofs.Gets.{at_new, at_other, left_in, taken_out}
-use Rattle.rk_auth.specs.declared.session.Session.{Session}
-use Rattle.rk_auth.specs.declared.construction.Construction.{Construction}
-use Rattle.rk_auth.specs.declared.slot.Slot.{Slot}
-use Rattle.rk_auth.specs.declared.slot.Standing.{Standing}
 use Rattle.rk_auth.specs.declared.slot.Standing.TheVariants as standing
-use Rattle.rk_auth.specs.Sessions.{Sessions}
-use Rattle.rk_auth.specs.Changes.{in_handler, session_changed}
-use Rattle.rk_auth.specs.Chains.{names, standing_in, first_in, home_in, standing_at, home_at, AreChained, rehomed}
-use Rattle.rk_auth.specs.Seats.{who_of, who_at, waited_of, waited_in, client_of, construction_of, client_named, construction_named, in_session, in_construction, seen, place_of, IsTied, AreSeated}
 use Rattle.rk_auth.proofs.Links.{at_same, at_apart, is_named}
 use Rattle.rk_auth.proofs.Seen.{seen_len, seen_same, seen_changed, seen_unchanged, seen_put, seen_out, seen_not_out}
 use Rattle.rk_auth.proofs.Stands.{who_kept, new_slot, put_chained, put_homes, put_stands}

@@ -1,25 +1,14 @@
 -- What one sees by the names of an index, through changes of who stands in the slots.
-use Rattle.std.proofs.Common.{◌≡◌, ◌∙◌, ap, sym, refl, ℕ, Bool, true, false, cond, ◌||◌, ◌&&◌, T, List, [], ◌∷◌, length, inl, inr, arith}
-use Rattle.std.specs.Prelude.{Option, Some, None, option_map}
-use Rattle.std.specs.Prelude.{map as list_map}
-use Rattle.std.specs.Option.{option_map_or}
+use Rattle.rk_auth.proofs.Words.{◌∙◌, ap, sym, ◌≡◌, refl, ℕ, cond, arith, true, false, inl, inr, ◌||◌, Bool, List, ◌∷◌, [], length, ◌&&◌, T, cases_eq}
+use Rattle.rk_auth.proofs.Words.{none-some, nat_cmp_total, get, FinMap, remove, insert, len, find, same_map, nat_cmp-IsAntisymmetric, entries, is_sorted}
+use Rattle.rk_auth.proofs.Words.{entries_sorted, get-entries, len-entries, option_map_or, nat_cmp, eq_by_cmp, is_lt, is_eq, Some, None, Option, option_map}
+use Rattle.rk_auth.proofs.Words.{list_map, get_in, get_changed_all, at_new, at_other, left_in, taken_out, get_changed_at, changed_at, changed_all, standing_at}
+use Rattle.rk_auth.proofs.Words.{seen, Slot, Standing}
 use Rattle.std.specs.List.{list_any}
-use Rattle.std.specs.Ordering.{nat_cmp, eq_by_cmp, is_lt, is_eq}
 use Rattle.std.specs.declared.cmp.Ordering.{Ordering}
 use Rattle.std.specs.declared.cmp.Ordering.TheVariants.{Less, Equal, Greater}
-use Rattle.std.specs.Cmp.{nat_cmp_total}
-use Rattle.std.specs.FinMap.{FinMap, get, insert, remove, find, len, entries, is_sorted, entries_sorted, get-entries, len-entries, same_map, nat_cmp-IsAntisymmetric}
 use Rattle.std.specs.FinMap.Entries.{below_all}
-use Rattle.std.proofs.lemmas.Bool.{cases_eq}
-use Rattle.std.proofs.lemmas.Option.{none-some}
-use Rattle.rk_table.specs.Maps.{changed_at, changed_all}
-use Rattle.rk_table.proofs.Entries.{get_in, get_changed_all}
-use Rattle.rk_table.proofs.Gets.{get_changed_at, at_new, at_other, left_in, taken_out}
 use Rattle.rk_table.proofs.Once.{HasEachOnce, len_once, any_once}
-use Rattle.rk_auth.specs.declared.slot.Slot.{Slot}
-use Rattle.rk_auth.specs.declared.slot.Standing.{Standing}
-use Rattle.rk_auth.specs.Chains.{standing_at}
-use Rattle.rk_auth.specs.Seats.{seen}
 use Rattle.rk_auth.proofs.Links.{at_same, at_apart}
 
 abbrev Slots : Type 0

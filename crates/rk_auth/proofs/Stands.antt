@@ -1,19 +1,10 @@
 -- Who waits for what, through the changes of who stands in the slots.
-use Rattle.std.proofs.Common.{◌≡◌, ◌∙◌, ap, sym, subst, refl, ℕ, ◌⊎◌, Bool, true, false, cond, ◌||◌, List, [], ◌∷◌, inl, inr}
-use Rattle.std.specs.Prelude.{Option, Some, None, is_some, nat_eq, option_map, option_and_then, unwrap_or}
-use Rattle.std.specs.Ordering.{nat_cmp}
-use Rattle.std.specs.FinMap.{FinMap, get, insert, remove}
-use Rattle.std.proofs.lemmas.Bool.{both_ways, cases_eq}
-use Rattle.std.proofs.lemmas.Option.{none-some, same_Some}
-use Rattle.rk_names.specs.declared.numbers.SessionId.{SessionId}
+use Rattle.rk_auth.proofs.Words.{◌∙◌, ap, sym, ◌≡◌, subst, refl, ℕ, cond, true, false, inl, inr, ◌||◌, Bool, List, ◌∷◌, [], ◌⊎◌, both_ways, cases_eq, none-some}
+use Rattle.rk_auth.proofs.Words.{same_Some, get, FinMap, remove, insert, nat_cmp, Some, None, nat_eq, is_some, Option, option_map, option_and_then, unwrap_or}
+use Rattle.rk_auth.proofs.Words.{at_new, at_other, left_in, taken_out, changed_at, SessionId, standing_at, home_at, AreChained, has, standing_in, home_in}
+use Rattle.rk_auth.proofs.Words.{in_standing, first_in, next_in, first_at, IsChainOf, before_in, changed_each_at, IsTied, who_at, who_of, waited_in, same_home}
+use Rattle.rk_auth.proofs.Words.{home_for, Link, Slot, Standing}
 use Rattle.rk_names.specs.declared.numbers.SessionId.TheVariants as id
-use Rattle.rk_table.specs.Maps.{changed_at}
-use Rattle.rk_table.proofs.Gets.{at_new, at_other, left_in, taken_out}
-use Rattle.rk_auth.specs.declared.slot.Slot.{Slot}
-use Rattle.rk_auth.specs.declared.slot.Link.{Link}
-use Rattle.rk_auth.specs.declared.slot.Standing.{Standing}
-use Rattle.rk_auth.specs.Chains.{has, standing_in, first_in, home_in, next_in, before_in, standing_at, first_at, home_at, IsChainOf, AreChained, in_standing, changed_each_at}
-use Rattle.rk_auth.specs.Seats.{who_of, who_at, waited_in, home_for, same_home, IsTied}
 use Rattle.rk_auth.proofs.Links.{at_same, at_apart}
 use Rattle.rk_auth.proofs.Chained.{untouched, changed, heads, chained_same}
 

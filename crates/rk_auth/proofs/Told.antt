@@ -1,24 +1,14 @@
 -- All who wait for a key get its outcome, where those of two chains do.
-use Rattle.std.proofs.Common.{◌≡◌, ◌∙◌, ap, sym, subst, refl, ℕ, ◌⊎◌, Bool, true, false, cond, ◌||◌, inl, inr}
-use Rattle.std.specs.Prelude.{Option, Some, None, is_some, nat_eq, option_map, option_and_then}
-use Rattle.std.specs.Ordering.{nat_cmp}
-use Rattle.std.specs.FinMap.{FinMap, get}
-use Rattle.std.proofs.lemmas.Bool.{both_ways, cases_eq, ne_eqb}
-use Rattle.std.proofs.lemmas.Option.{none-some, same_Some}
+use Rattle.rk_auth.proofs.Words.{◌∙◌, ap, sym, ◌≡◌, subst, refl, ℕ, cond, true, false, inl, inr, ◌||◌, Bool, ◌⊎◌, both_ways, cases_eq, ne_eqb, none-some}
+use Rattle.rk_auth.proofs.Words.{same_Some, get, FinMap, nat_cmp, Some, None, nat_eq, is_some, Option, option_map, option_and_then, changed_all, standing_at}
+use Rattle.rk_auth.proofs.Words.{home_at, AreChained, in_handler, all_told, in_stage, told_wait, told, client_of, construction_of, IsTied, who_at, who_of}
+use Rattle.rk_auth.proofs.Words.{waited_in, in_session, seen, same_home, waited_of, AreBothTold, handler_in, waited_key, Session, Slot, Standing}
 use Rattle.rk_names.specs.declared.numbers.SessionId.TheVariants as id
-use Rattle.rk_table.specs.Maps.{changed_all}
-use Rattle.rk_auth.specs.declared.session.Session.{Session}
 use Rattle.rk_auth.specs.declared.session.Wait.{Wait}
 use Rattle.rk_auth.specs.declared.session.Outcome.{Outcome}
 use Rattle.rk_auth.specs.declared.construction.Stage.{Stage}
 use Rattle.rk_auth.specs.declared.construction.Stage.TheVariants.{Starting, Plain, Piped, Negating}
-use Rattle.rk_auth.specs.declared.slot.Slot.{Slot}
-use Rattle.rk_auth.specs.declared.slot.Standing.{Standing}
 use Rattle.rk_auth.specs.declared.slot.Standing.TheVariants as standing
-use Rattle.rk_auth.specs.Sessions.{waited_key, handler_in}
-use Rattle.rk_auth.specs.Changes.{in_stage, in_handler, told_wait, told, all_told}
-use Rattle.rk_auth.specs.Chains.{standing_at, home_at, AreChained}
-use Rattle.rk_auth.specs.Seats.{who_of, who_at, waited_of, waited_in, client_of, construction_of, in_session, same_home, seen, IsTied, AreBothTold}
 use Rattle.rk_auth.proofs.Links.{is_named}
 use Rattle.rk_auth.proofs.Seen.{seen_all}
 use Rattle.rk_auth.proofs.Stands.{who_kept}

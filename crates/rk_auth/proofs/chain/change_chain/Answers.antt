@@ -1,5 +1,4 @@
-use Rattle.std.proofs.Common.{◌∙◌, refl}
-use Rattle.rk_auth.specs.Chains.{in_standing}
+use Rattle.rk_auth.proofs.Words.{◌∙◌, refl, in_standing}
 use Rattle.rk_auth.proofs.Rounds.{round_begins, round_goes_on, round_ends, round_is_over}
 use Rattle.rk_auth.proofs.chain.change_chain.Goals as goal
 

@@ -1,4 +1,4 @@
-use Rattle.std.proofs.Common.{sym, ◌∙◌, refl}
+use Rattle.rk_auth.proofs.Words.{◌∙◌, sym, refl}
 use Rattle.rk_auth.proofs.Rounds.{loosening_begins, loosening_goes_on, loosened, loosened_at_last, there_still, there_first}
 use Rattle.rk_auth.proofs.chain.loosen.Goals as goal
 

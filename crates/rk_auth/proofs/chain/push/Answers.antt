@@ -1,7 +1,5 @@
-use Rattle.std.proofs.Common.{ap, sym, subst, ◌∙◌, ◌≡◌}
-use Rattle.std.specs.Prelude.{Some, None}
-use Rattle.rk_table.specs.Maps.{changed_at}
-use Rattle.rk_auth.specs.Chains.{AreChained, standing_at, home_at, with_first, with_link, with_before, changed_if}
+use Rattle.rk_auth.proofs.Words.{◌∙◌, ap, sym, ◌≡◌, subst, Some, None, changed_at, standing_at, home_at, AreChained, with_link, with_before, changed_if}
+use Rattle.rk_auth.proofs.Words.{with_first}
 use Rattle.rk_auth.proofs.Chained.{put_3, is_put, put_standing, chained_put}
 use Rattle.rk_auth.proofs.chain.push.Goals as goal
 

@@ -1,8 +1,5 @@
-use Rattle.std.proofs.Common.{ap, sym, subst, refl, ◌∙◌, ◌≡◌}
-use Rattle.std.specs.Prelude.{Some, None}
-use Rattle.rk_table.specs.Maps.{changed_at}
-use Rattle.std.specs.FinMap.{get}
-use Rattle.rk_auth.specs.Chains.{AreChained, standing_at, home_at, link_in, with_link, with_before, changed_if}
+use Rattle.rk_auth.proofs.Words.{◌∙◌, ap, sym, ◌≡◌, subst, refl, get, Some, None, changed_at, standing_at, home_at, AreChained, with_link, with_before}
+use Rattle.rk_auth.proofs.Words.{changed_if, link_in}
 use Rattle.rk_auth.proofs.Chained.{out_3, is_taken, out_standing, chained_taken, no_link}
 use Rattle.rk_auth.proofs.chain.unlink.Goals as goal
 

@@ -1,7 +1,4 @@
-use Rattle.std.proofs.Common.{ap, sym, subst, ◌∙◌, cond}
-use Rattle.std.specs.Prelude.{option_map}
-use Rattle.rk_auth.specs.Chains.{AreChained, standing_at, home_at}
-use Rattle.rk_auth.specs.Seats.{same_home}
+use Rattle.rk_auth.proofs.Words.{◌∙◌, ap, sym, subst, cond, option_map, standing_at, home_at, AreChained, same_home}
 use Rattle.rk_auth.proofs.Stands.{each_chained, each_homes, chain_stands}
 use Rattle.rk_auth.proofs.waits.change_waiters.Goals as goal
 

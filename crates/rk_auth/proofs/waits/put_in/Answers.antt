@@ -1,5 +1,4 @@
-use Rattle.std.proofs.Common.{ap, sym, subst, ◌∙◌}
-use Rattle.rk_auth.specs.Chains.{AreChained, standing_at, home_at}
+use Rattle.rk_auth.proofs.Words.{◌∙◌, ap, sym, subst, standing_at, home_at, AreChained}
 use Rattle.rk_auth.proofs.Stands.{put_chained, put_homes, put_stands}
 use Rattle.rk_auth.proofs.waits.put_in.Goals as goal
 

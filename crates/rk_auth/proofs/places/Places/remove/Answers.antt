@@ -1,5 +1,4 @@
-use Rattle.std.proofs.Common.{ap, ◌∙◌, ◌+◌, cond}
-use Rattle.std.specs.Prelude.{is_some}
+use Rattle.rk_auth.proofs.Words.{◌∙◌, ap, cond, ◌+◌, is_some}
 use Rattle.std.specs.FinMap as map
 use Rattle.rk_auth.proofs.Slabs.{out_place, room_again}
 use Rattle.rk_auth.proofs.places.Places.remove.Goals as goal

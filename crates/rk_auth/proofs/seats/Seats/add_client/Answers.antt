@@ -1,10 +1,7 @@
-use Rattle.std.proofs.Common.{ap, sym, subst, ◌∙◌, ◌≡◌, arith}
-use Rattle.std.specs.Prelude.{Some, ℕ}
+use Rattle.rk_auth.proofs.Words.{◌∙◌, ap, sym, ◌≡◌, subst, ℕ, arith, Some, client_of, who_at, Sessions}
 use Rattle.std.specs.FinMap as map
 use Rattle.rk_names.specs.declared.numbers.SessionId.TheVariants as id
-use Rattle.rk_auth.specs.Sessions.{Sessions}
 use Rattle.rk_auth.specs.declared.slot.Standing.TheVariants as standing
-use Rattle.rk_auth.specs.Seats.{client_of, who_at}
 use Rattle.rk_auth.proofs.Seen.{seen_len, unseen}
 use Rattle.rk_auth.proofs.Seated.{View, tied_put, named_new, client_put_view}
 use Rattle.rk_auth.proofs.seats.Seats.add_client.Goals as goal

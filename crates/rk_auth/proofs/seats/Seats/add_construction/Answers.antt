@@ -1,9 +1,6 @@
-use Rattle.std.proofs.Common.{ap, sym, subst, ◌∙◌, ◌≡◌, arith}
-use Rattle.std.specs.Prelude.{None, option_map}
+use Rattle.rk_auth.proofs.Words.{◌∙◌, ap, sym, ◌≡◌, subst, arith, None, option_map, construction_of, IsTied, who_of, Sessions}
 use Rattle.std.specs.FinMap as map
-use Rattle.rk_auth.specs.Sessions.{Sessions}
 use Rattle.rk_auth.specs.declared.slot.Standing.TheVariants as standing
-use Rattle.rk_auth.specs.Seats.{construction_of, who_of, IsTied}
 use Rattle.rk_auth.proofs.Seen.{unseen}
 use Rattle.rk_auth.proofs.Seated.{View, put_at, tied_put, tied_named, named_put, construction_put_view}
 use Rattle.rk_auth.proofs.seats.Seats.add_construction.Goals as goal

@@ -1,8 +1,5 @@
-use Rattle.std.proofs.Common.{ap, sym, ◌∙◌}
+use Rattle.rk_auth.proofs.Words.{◌∙◌, ap, sym, changed_at, in_construction, Sessions}
 use Rattle.std.specs.FinMap as map
-use Rattle.rk_table.specs.Maps.{changed_at}
-use Rattle.rk_auth.specs.Sessions.{Sessions}
-use Rattle.rk_auth.specs.Seats.{in_construction}
 use Rattle.rk_auth.proofs.Seated.{construction_view, unchanged_construction, seated_changed, construction_who}
 use Rattle.rk_auth.proofs.seats.Seats.change_construction.Goals as goal
 

@@ -1,6 +1,4 @@
-use Rattle.std.proofs.Common.{ap, sym, ◌∙◌}
-use Rattle.rk_auth.specs.Changes.{session_changed}
-use Rattle.rk_auth.specs.Seats.{in_session}
+use Rattle.rk_auth.proofs.Words.{◌∙◌, ap, sym, session_changed, in_session}
 use Rattle.rk_auth.proofs.Seated.{changed_view, unchanged_view, seated_changed, session_who}
 use Rattle.rk_auth.proofs.seats.Seats.change_session.Goals as goal
 

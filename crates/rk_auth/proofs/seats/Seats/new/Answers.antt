@@ -1,9 +1,5 @@
-use Rattle.std.proofs.Common.{ap, sym, subst, ◌∙◌, ◌≡◌, arith}
-use Rattle.std.specs.Prelude.{ℕ}
-use Rattle.std.specs.Ordering.{nat_cmp}
-use Rattle.std.proofs.lemmas.Option.{none-some}
+use Rattle.rk_auth.proofs.Words.{◌∙◌, ap, sym, ◌≡◌, subst, ℕ, arith, none-some, nat_cmp, client_of, construction_of, IsTied}
 use Rattle.std.specs.FinMap as map
-use Rattle.rk_auth.specs.Seats.{client_of, construction_of, IsTied}
 use Rattle.rk_auth.proofs.Seated.{views, tied_first, nothing_seen}
 use Rattle.rk_auth.proofs.seats.Seats.new.Goals as goal
 

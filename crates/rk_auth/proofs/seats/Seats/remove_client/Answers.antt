@@ -1,9 +1,6 @@
-use Rattle.std.proofs.Common.{ap, sym, subst, ◌∙◌, ◌≡◌, ◌<◌, ◌-◌, arith}
-use Rattle.std.specs.Prelude.{Some, ℕ}
+use Rattle.rk_auth.proofs.Words.{◌∙◌, ap, sym, ◌≡◌, subst, ℕ, arith, ◌-◌, ◌<◌, Some, who_at, Sessions}
 use Rattle.std.specs.FinMap as map
 use Rattle.rk_names.specs.declared.numbers.SessionId.TheVariants as id
-use Rattle.rk_auth.specs.Sessions.{Sessions}
-use Rattle.rk_auth.specs.Seats.{who_at}
 use Rattle.rk_auth.proofs.Seated.{View, nobody_homes, is_standing_there, tied_out, named_others, client_out_view, not_there_view, one_less, one_at_least}
 use Rattle.rk_auth.proofs.seats.Seats.remove_client.Goals as goal
 

@@ -1,10 +1,6 @@
-use Rattle.std.proofs.Common.{ap, sym, subst, ◌∙◌, ◌≡◌, ◌<◌, ◌-◌, arith}
-use Rattle.std.specs.Prelude.{Some, None, is_some, cond, nat_eq}
+use Rattle.rk_auth.proofs.Words.{◌∙◌, ap, sym, ◌≡◌, subst, cond, arith, ◌-◌, ◌<◌, Some, None, nat_eq, is_some, home_at, IsTied, Sessions}
 use Rattle.std.specs.FinMap as map
 use Rattle.rk_names.specs.declared.numbers.SessionId.TheVariants as id
-use Rattle.rk_auth.specs.Sessions.{Sessions}
-use Rattle.rk_auth.specs.Chains.{home_at}
-use Rattle.rk_auth.specs.Seats.{IsTied}
 use Rattle.rk_auth.proofs.Stands.{who_there}
 use Rattle.rk_auth.proofs.Seated.{View, not_nobody, not_homed, is_standing_there, tied_ended, named_left, construction_out_view, not_made_view, one_less, one_at_least}
 use Rattle.rk_auth.proofs.seats.Seats.remove_construction.Goals as goal

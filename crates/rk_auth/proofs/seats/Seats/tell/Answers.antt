@@ -1,7 +1,5 @@
-use Rattle.std.proofs.Common.{ap, subst, ◌∙◌, arith}
+use Rattle.rk_auth.proofs.Words.{◌∙◌, ap, subst, arith, all_told, AreBothTold}
 use Rattle.std.specs.FinMap as map
-use Rattle.rk_auth.specs.Changes.{all_told}
-use Rattle.rk_auth.specs.Seats.{AreBothTold}
 use Rattle.rk_auth.proofs.Told.{tied_told, named_told, told_view}
 use Rattle.rk_auth.proofs.seats.Seats.tell.Goals as goal
 
