@@ -1,86 +1,12 @@
 -- How often each key is linked, through each change of the rings.
-use Rattle.std.proofs.Common.{
-  ◌≡◌,
-  ◌∙◌,
-  ap,
-  sym,
-  subst,
-  refl,
-  ℕ,
-  zero,
-  suc,
-  ◌+◌,
-  ◌-◌,
-  ◌*◌,
-  ◌<◌,
-  ◌≤◌,
-  Bool,
-  true,
-  false,
-  cond,
-  not,
-  ◌&&◌,
-  ◌||◌,
-  ltb,
-  List,
-  [],
-  ◌∷◌,
-  length,
-  arith,
-}
-use Rattle.std.specs.Prelude.{Option, Some, None, is_some, nat_eq, unwrap_or}
-use Rattle.std.specs.Option.{option_map, option_map_or}
-use Rattle.std.specs.List.{list_any, AllByRecursion}
-use Rattle.std.specs.Ordering.{nat_cmp, eq_by_cmp}
-use Rattle.std.specs.Cmp.{nat_cmp_total}
-use Rattle.std.specs.FinMap.{
-  FinMap,
-  get,
-  insert,
-  remove,
-  empty,
-  len,
-  entries,
-  contains_key,
-  find,
-  same_map,
-  get-empty,
-  get-entries,
-  len-insert,
-  len-remove,
-  len-empty,
-  len-entries,
-  nat_cmp-IsAntisymmetric,
-}
-use Rattle.std.proofs.lemmas.Bool.{both_ways, eqb-true, eq-eqb, lt-ltb}
-use Rattle.std.proofs.lemmas.Option.{none-some, same_Some}
-use Rattle.rk_table.specs.Maps.{changed_at, kept_where}
-use Rattle.rk_table.specs.Stored.{Stored, places}
-use Rattle.rk_table.specs.Counts.{count_at, ArePositive}
-use Rattle.rk_table.proofs.Entries.{tie}
-use Rattle.rk_table.proofs.Gets.{get_kept_where, get_inserted, get_removed, get_changed_at}
+use Rattle.rk_rings.proofs.Words.{◌∙◌, ap, sym, ◌≡◌, subst, arith, ℕ, cond, ◌≤◌, false, ◌+◌, refl, true, Bool, ◌-◌, not, length, ◌<◌, List, [], ◌∷◌, ◌&&◌, ◌||◌}
+use Rattle.rk_rings.proofs.Words.{ltb, zero, suc, ◌*◌, both_ways, eq-eqb, eqb-true, lt-ltb, none-some, same_Some, nat_cmp_total, get, len, insert, remove}
+use Rattle.rk_rings.proofs.Words.{empty, FinMap, contains_key, get-empty, len-remove, len-insert, entries, same_map, nat_cmp-IsAntisymmetric, len-empty, find}
+use Rattle.rk_rings.proofs.Words.{get-entries, len-entries, list_any, AllByRecursion, option_map_or, option_map, nat_cmp, eq_by_cmp, None, Some, nat_eq}
+use Rattle.rk_rings.proofs.Words.{is_some, Option, unwrap_or, positive_empty, tie, get_kept_where, get_changed_at, get_inserted, get_removed, HasEachOnce}
+use Rattle.rk_rings.proofs.Words.{count_at, ArePositive, changed_at, kept_where, places, Stored, AreCounted, links_of, Numbered, Rings, unlinked, new_ring}
+use Rattle.rk_rings.proofs.Words.{is_full, linked_in_room, holds, is_held, linked, cleared, IsMatch, links_with, with_rings, AreNew, is_full_at, NewRing}
 use Rattle.rk_table.proofs.KeptCounts.{was_there, kept_len-empty, kept_len-insert, kept_len-remove, kept_len-remove_none, kept_len-changed}
-use Rattle.rk_table.proofs.CountsAt.{positive_empty}
-use Rattle.rk_table.proofs.Once.{HasEachOnce}
-use Rattle.rk_rings.specs.declared.kind.NewRing.{NewRing}
-use Rattle.rk_rings.specs.Numbered.{
-  Numbered,
-  Rings,
-  holds,
-  is_held,
-  is_full,
-  is_full_at,
-  links_with,
-  linked,
-  linked_in_room,
-  unlinked,
-  cleared,
-  new_ring,
-  with_rings,
-  AreNew,
-  IsMatch,
-}
-use Rattle.rk_rings.specs.Counted.{links_of, AreCounted}
 use Rattle.rk_rings.proofs.Finds.{tied, tied_itself, entries_once, some_entry, entry_found, any_value}
 use Rattle.rk_rings.proofs.Counts.{IsWithin, some_key, has_some, contains_key-remove, no_more}
 use Rattle.rk_rings.proofs.Links.{kept_within, still_new, room_left}

@@ -1,11 +1,7 @@
 -- How many entries a map has, by its keys.
-use Rattle.std.proofs.Common.{◌≡◌, ℕ, zero, suc, ◌+◌, ◌-◌, ◌<◌, ◌≤◌, Bool, true, false, cond, not, ◌&&◌, List, [], ◌∷◌, length, refl, ap, sym, ◌∙◌, arith}
-use Rattle.std.specs.Prelude.{Option, Some, None, is_some}
-use Rattle.std.specs.Ordering.{nat_cmp, eq_by_cmp}
-use Rattle.std.specs.Cmp.{nat_cmp_total}
-use Rattle.std.specs.FinMap.{FinMap, get, entries, len, find, remove, contains_key, get-remove, get-entries, len-entries, len-remove}
-use Rattle.std.proofs.lemmas.Bool.{both_ways, and_from}
-use Rattle.rk_lemmas.proofs.Maps.{map_not_empty}
+use Rattle.rk_rings.proofs.Words.{◌∙◌, ap, sym, ◌≡◌, arith, ℕ, cond, ◌≤◌, false, ◌+◌, refl, true, Bool, ◌-◌, not, length, ◌<◌, List, [], ◌∷◌, ◌&&◌, zero, suc}
+use Rattle.rk_rings.proofs.Words.{both_ways, and_from, nat_cmp_total, get, len, remove, FinMap, contains_key, len-remove, entries, find, get-entries}
+use Rattle.rk_rings.proofs.Words.{len-entries, get-remove, nat_cmp, eq_by_cmp, None, Some, is_some, Option, map_not_empty}
 use Rattle.rk_rings.proofs.Finds.{tied, tied_itself}
 
 both_kept : (t x y : Bool) → (x ≡ true → y ≡ true) → (not t && x) ≡ true → (not t && y) ≡ true

@@ -1,17 +1,10 @@
 -- What some entry of a map passes, and what stands at a key.
-use Rattle.std.proofs.Common.{◌≡◌, ℕ, Bool, true, false, cond, ◌&&◌, ◌||◌, T, List, [], ◌∷◌, refl, ap, sym, ◌∙◌}
-use Rattle.std.specs.Prelude.{Option, Some, None}
-use Rattle.std.specs.Prelude.{map as list_map}
-use Rattle.std.specs.List.{list_any}
-use Rattle.std.specs.Ordering.{nat_cmp, eq_by_cmp, is_lt, is_eq}
+use Rattle.rk_rings.proofs.Words.{◌∙◌, ap, sym, ◌≡◌, ℕ, cond, false, refl, true, Bool, List, [], ◌∷◌, ◌&&◌, ◌||◌, T, both_ways, eq-eqb, eqb-true, none-some}
+use Rattle.rk_rings.proofs.Words.{get, FinMap, entries, find, get-entries, values, is_sorted, entries_sorted, list_any, nat_cmp, eq_by_cmp, is_lt, is_eq, None}
+use Rattle.rk_rings.proofs.Words.{Some, Option, list_map, tie, HasEachOnce}
 use Rattle.std.specs.declared.cmp.Ordering.{Ordering}
 use Rattle.std.specs.declared.cmp.Ordering.TheVariants.{Less, Equal, Greater}
-use Rattle.std.specs.FinMap.{FinMap, get, entries, values, find, is_sorted, entries_sorted, get-entries}
 use Rattle.std.specs.FinMap.Entries.{below_all}
-use Rattle.std.proofs.lemmas.Bool.{both_ways, eqb-true, eq-eqb}
-use Rattle.std.proofs.lemmas.Option.{none-some}
-use Rattle.rk_table.proofs.Once.{HasEachOnce}
-use Rattle.rk_table.proofs.Entries.{tie}
 
 first : (a b : Bool) → T (a && b) → T a
 first true b h = tt

@@ -1,20 +1,9 @@
 -- The keys of names as the entries of a map whose places last.
-use Rattle.std.proofs.Common.{◌≡◌, ◌∙◌, ap, sym, refl, ℕ, ◌+◌, ◌-◌, ◌≤◌, Bool, true, false, cond, List, [], ◌∷◌, length, fold, inl, inr, arith}
-use Rattle.std.specs.Prelude.{Option, Some, None, is_some, nat_eq}
-use Rattle.std.specs.List.{AllByRecursion}
-use Rattle.std.specs.Map.{lookup}
-use Rattle.std.specs.Ordering.{nat_cmp, eq_by_cmp}
-use Rattle.std.specs.Cmp.{nat_cmp_total, unsigned_tied}
-use Rattle.std.specs.FinMap.{FinMap, get, len, insert, remove, empty, entries, find, same_map, nat_cmp-IsAntisymmetric}
-use Rattle.std.specs.FinMap.{get-empty, get-entries, len-empty, len-insert, len-remove}
-use Rattle.std.proofs.lemmas.Bool.{cases_eq}
-use Rattle.std.proofs.lemmas.Option.{none-some, same_Some}
-use Rattle.rk_table.proofs.Entries.{tie}
-use Rattle.rk_table.proofs.Gets.{get_inserted, get_removed, at_new, at_other}
-use Rattle.rk_table.proofs.Once.{HasEachOnce}
-use Rattle.rk_names.specs.Numbers.{serial_of}
-use Rattle.rk_rings.specs.Numbered.{AreSerials}
-use Rattle.rk_rings.specs.ByName.{AreByName, named, with_name, turned_more}
+use Rattle.rk_rings.proofs.Words.{◌∙◌, ap, sym, ◌≡◌, arith, ℕ, cond, ◌≤◌, false, ◌+◌, refl, true, Bool, ◌-◌, length, List, [], ◌∷◌, inl, inr, fold, cases_eq}
+use Rattle.rk_rings.proofs.Words.{none-some, same_Some, nat_cmp_total, unsigned_tied, get, len, insert, remove, empty, FinMap, get-empty, len-remove}
+use Rattle.rk_rings.proofs.Words.{len-insert, entries, same_map, nat_cmp-IsAntisymmetric, len-empty, find, get-entries, AllByRecursion, lookup, nat_cmp}
+use Rattle.rk_rings.proofs.Words.{eq_by_cmp, None, Some, nat_eq, is_some, Option, tie, get_inserted, at_new, at_other, get_removed, HasEachOnce, serial_of}
+use Rattle.rk_rings.proofs.Words.{named, AreByName, turned_more, with_name, AreSerials}
 use Rattle.rk_rings.proofs.Finds.{tied, tied_itself, entries_once}
 use Rattle.rk_rings.proofs.Turned.{nothing_out}
 

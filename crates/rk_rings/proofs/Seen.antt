@@ -1,22 +1,11 @@
 -- Rings as they are seen without the numbers of names.
-use Rattle.std.proofs.Common.{◌≡◌, ℕ, zero, suc, ◌-◌, Bool, true, false, cond, not, ◌&&◌, ◌||◌, List, [], ◌∷◌, refl, ap, sym, ◌∙◌, arith}
-use Rattle.std.specs.Prelude.{Option, Some, None, is_some, nat_eq}
-use Rattle.std.specs.Prelude.{map as list_map}
-use Rattle.std.specs.Option.{option_map, option_map_or}
-use Rattle.std.specs.List.{list_any}
-use Rattle.std.specs.Ordering.{nat_cmp, eq_by_cmp}
-use Rattle.std.specs.Cmp.{nat_cmp_total, both_ways as same_answer}
+use Rattle.rk_rings.proofs.Words.{◌∙◌, ap, sym, ◌≡◌, arith, ℕ, cond, false, refl, true, Bool, ◌-◌, not, List, [], ◌∷◌, ◌&&◌, ◌||◌, zero, suc, both_ways, eq-eqb}
+use Rattle.rk_rings.proofs.Words.{nat_cmp_total, same_answer, list_any, option_map_or, option_map, nat_cmp, eq_by_cmp, None, Some, nat_eq, is_some, Option}
+use Rattle.rk_rings.proofs.Words.{list_map, set_not_empty, tie, get_in, get_kept_where, changed_at, kept_where, Numbered, Rings, unlinked, new_ring, holds}
+use Rattle.rk_rings.proofs.Words.{is_held, linked, rings_seen, ring_seen, Ring, empty_ring, is_linked, has_link, with_link, without_link, NewRing}
 use Rattle.std.specs.FinMap as map
 use Rattle.std.specs.FinSet as set
-use Rattle.std.proofs.lemmas.Bool.{both_ways, eq-eqb}
-use Rattle.rk_table.specs.Maps.{changed_at, kept_where}
 use Rattle.rk_lemmas.proofs.Options.{is_some-option_map, made_of}
-use Rattle.rk_lemmas.proofs.Maps.{set_not_empty}
-use Rattle.rk_table.proofs.Entries.{get_in, tie}
-use Rattle.rk_table.proofs.Gets.{get_kept_where}
-use Rattle.rk_rings.specs.declared.kind.NewRing.{NewRing}
-use Rattle.rk_rings.specs.Ring.{Ring, empty_ring, is_linked, has_link, with_link, without_link}
-use Rattle.rk_rings.specs.Numbered.{Numbered, Rings, ring_seen, rings_seen, holds, is_held, linked, unlinked, new_ring}
 use Rattle.rk_rings.proofs.Finds.{tied, some_entry, entry_found, any_value}
 use Rattle.rk_rings.proofs.Counts.{some_key, one_less, contains_key-remove}
 

@@ -1,12 +1,9 @@
 -- Places in rings that are seen without the numbers of names are those in the rings.
-use Rattle.std.proofs.Common.{◌≡◌, ℕ, cond, refl, ap, ◌∙◌, List, [], ◌∷◌}
-use Rattle.std.specs.Prelude.{Option, Some, None, unwrap_or}
-use Rattle.std.specs.Option.{option_map_or}
+use Rattle.rk_rings.proofs.Words.{◌∙◌, ap, ◌≡◌, ℕ, cond, refl, List, [], ◌∷◌, option_map_or, None, Some, Option, unwrap_or, Rings, rings_seen}
 use Rattle.rk_names.specs.declared.context.Context.{Context}
 use Rattle.rk_names.specs.declared.context.Setting.{Setting}
 use Rattle.rk_rings.specs.declared.place.Place.{Place}
 use Rattle.rk_rings.specs.declared.place.Place.TheVariants.{Nowhere, Thread, Process, Session, User, Requestor, Numbered}
-use Rattle.rk_rings.specs.Numbered.{Rings, rings_seen}
 use Rattle.rk_rings.specs.Places.{live, ring_at, rings_of, is_one_of, is_numbered_live, first_ring, default_places, default_ring}
 use Rattle.rk_rings.proofs.Seen.{contains_key-rings_seen}
 

@@ -1,17 +1,8 @@
 -- The links of a ring by the numbers of their names, through each change.
-use Rattle.std.proofs.Common.{◌≡◌, ◌∙◌, ap, sym, subst, refl, ℕ, ◌+◌, ◌-◌, Bool, true, false, cond, not, inl, inr}
-use Rattle.std.specs.Prelude.{Option, Some, None, is_some, nat_eq, MatchOption}
-use Rattle.std.specs.Option.{option_map_or}
-use Rattle.std.specs.List.{list_any}
-use Rattle.std.specs.Ordering.{nat_cmp}
-use Rattle.std.specs.Cmp.{nat_cmp_total}
-use Rattle.std.specs.FinMap.{FinMap, get, entries, values, len, insert, remove, empty, contains_key}
-use Rattle.std.specs.FinMap.{get-empty, len-insert, len-remove, same_map, nat_cmp-IsAntisymmetric}
-use Rattle.std.proofs.lemmas.Bool.{cases_eq, eqb-true, eq-eqb, ne_eqb}
-use Rattle.std.proofs.lemmas.Option.{none-some, same_Some}
-use Rattle.rk_table.specs.Maps.{kept_where}
-use Rattle.rk_table.proofs.Gets.{get_kept_where, at_new, at_other, left_in, taken_out}
-use Rattle.rk_rings.specs.ByName.{IsTurned, AreByName}
+use Rattle.rk_rings.proofs.Words.{◌∙◌, ap, sym, ◌≡◌, subst, ℕ, cond, false, ◌+◌, refl, true, Bool, ◌-◌, not, inl, inr, eq-eqb, eqb-true, cases_eq, ne_eqb}
+use Rattle.rk_rings.proofs.Words.{none-some, same_Some, nat_cmp_total, get, len, insert, remove, empty, FinMap, contains_key, get-empty, len-remove, len-insert}
+use Rattle.rk_rings.proofs.Words.{entries, same_map, nat_cmp-IsAntisymmetric, values, list_any, option_map_or, nat_cmp, None, Some, nat_eq, is_some, Option}
+use Rattle.rk_rings.proofs.Words.{MatchOption, get_kept_where, at_new, at_other, taken_out, left_in, kept_where, AreByName, IsTurned}
 use Rattle.rk_rings.proofs.Finds.{entry_found, some_entry, any_value}
 
 -- ---- what the index tells

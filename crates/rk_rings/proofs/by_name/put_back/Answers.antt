@@ -1,7 +1,5 @@
-use Rattle.std.proofs.Common.{ap, sym, ◌∙◌, fold, take, arith}
-use Rattle.std.specs.FinMap.{empty}
+use Rattle.rk_rings.proofs.Words.{◌∙◌, ap, sym, arith, fold, take, empty, named, turned_more, with_name}
 use Rattle.std.proofs.lemmas.List.Sums.{fold_more}
-use Rattle.rk_rings.specs.ByName.{named, with_name, turned_more}
 use Rattle.rk_rings.proofs.by_name.put_back.Goals as goal
 
 pub loop-link-preserved : goal.loop-link-preserved

@@ -1,7 +1,4 @@
-use Rattle.std.proofs.Common.{◌∙◌, ap, ltb}
-use Rattle.std.specs.FinMap.{get}
-use Rattle.rk_table.proofs.Gets.{none_kept}
-use Rattle.rk_rings.specs.Counting.{counting}
+use Rattle.rk_rings.proofs.Words.{◌∙◌, ap, ltb, get, none_kept, counting}
 use Rattle.rk_rings.proofs.Counting.{counting_again}
 use Rattle.rk_rings.proofs.link_counts.make_way.Goals as goal
 

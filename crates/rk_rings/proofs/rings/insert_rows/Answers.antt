@@ -1,8 +1,4 @@
-use Rattle.std.proofs.Common.{◌≡◌, ap, sym, subst, ◌∙◌, arith, length}
-use Rattle.std.specs.FinMap.{insert, get}
-use Rattle.rk_rings.specs.Numbered.{AreSerials}
-use Rattle.rk_rings.specs.Making.{with_entries, HasEachNew}
-use Rattle.rk_rings.specs.UserRings.{AreUserRings}
+use Rattle.rk_rings.proofs.Words.{◌∙◌, ap, sym, ◌≡◌, subst, arith, length, get, insert, with_entries, HasEachNew, AreSerials, AreUserRings}
 use Rattle.rk_rings.proofs.Links.{serials-insert, is_serial}
 use Rattle.rk_rings.proofs.Made.{left_facts, left_new, next_new, none_left}
 use Rattle.rk_rings.proofs.rings.insert_rows.Goals as goal

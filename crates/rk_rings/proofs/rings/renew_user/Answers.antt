@@ -1,9 +1,4 @@
-use Rattle.std.proofs.Common.{◌≡◌, ◌∙◌, ap, sym, subst, refl, ◌+◌}
-use Rattle.std.specs.Prelude.{Some, None}
-use Rattle.std.specs.FinMap.{get, len, insert, remove}
-use Rattle.std.proofs.lemmas.Option.{same_Some}
-use Rattle.rk_table.proofs.Gets.{taken_out}
-use Rattle.rk_rings.specs.UserRings.{IsHis, AreUserRings}
+use Rattle.rk_rings.proofs.Words.{◌∙◌, ap, sym, ◌≡◌, subst, ◌+◌, refl, same_Some, get, len, insert, remove, None, Some, taken_out, AreUserRings, IsHis}
 use Rattle.rk_rings.proofs.UserRings.{renewed, place_left}
 use Rattle.rk_rings.proofs.rings.renew_user.Goals as goal
 

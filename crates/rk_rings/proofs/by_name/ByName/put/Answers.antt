@@ -1,9 +1,6 @@
-use Rattle.std.proofs.Common.{◌≡◌, Some, None, nat_eq, is_some, ap, sym, subst, ◌∙◌, ◌≤◌, ◌+◌, arith}
-use Rattle.std.specs.Map.{lookup}
-use Rattle.std.specs.Option.{option_copied_mut}
+use Rattle.rk_rings.proofs.Words.{spare, index_map_len, ◌∙◌, ap, sym, ◌≡◌, subst, arith, ◌≤◌, ◌+◌, lookup, option_copied_mut, None, Some, nat_eq, is_some}
+use Rattle.rk_rings.proofs.Words.{named}
 use Rattle.std.specs.FinMap as map
-use Rattle.indexmap.specs.IndexMap.{index_map_len, spare}
-use Rattle.rk_rings.specs.ByName.{named}
 use Rattle.rk_rings.proofs.Placed.{held, get_named, named_put}
 use Rattle.rk_rings.proofs.by_name.ByName.put.Goals as goal
 

@@ -1,8 +1,5 @@
-use Rattle.std.proofs.Common.{◌≡◌, Some, None, nat_eq, is_some, ap, sym, ◌∙◌}
-use Rattle.std.specs.Map.{lookup}
-use Rattle.std.specs.Option.{option_copied_mut}
+use Rattle.rk_rings.proofs.Words.{◌∙◌, ap, sym, ◌≡◌, lookup, option_copied_mut, None, Some, nat_eq, is_some, named}
 use Rattle.std.specs.FinMap as map
-use Rattle.rk_rings.specs.ByName.{named}
 use Rattle.rk_rings.proofs.Placed.{named_put, named_without}
 use Rattle.rk_rings.proofs.by_name.ByName.remove.Goals as goal
 

@@ -1,9 +1,5 @@
-use Rattle.std.proofs.Common.{◌≡◌, ◌≤◌, ◌<◌, ◌∙◌, ap, sym, ◌+◌, cond, arith}
-use Rattle.std.specs.Prelude.{Some, None, is_some, nat_eq, unwrap_or}
-use Rattle.std.specs.FinMap.{get, len}
-use Rattle.rk_table.specs.Stored.{places}
-use Rattle.rk_table.specs.Counts.{count_at}
-use Rattle.rk_table.proofs.CountsAt.{count_put, count_become, count_by}
+use Rattle.rk_rings.proofs.Words.{◌∙◌, ap, sym, ◌≡◌, arith, cond, ◌≤◌, ◌+◌, ◌<◌, get, len, None, Some, nat_eq, is_some, unwrap_or, count_become, count_by}
+use Rattle.rk_rings.proofs.Words.{count_put, count_at, places}
 use Rattle.rk_rings.proofs.Changed.{len-changed_at}
 use Rattle.rk_rings.proofs.Counting.{count_counting, positive_counting, each_seen, same_counts, same_places, place_free}
 use Rattle.rk_rings.proofs.link_counts.LinkCounts.one_more.Goals as goal

@@ -1,10 +1,6 @@
-use Rattle.std.proofs.Common.{ℕ, ◌≤◌, ◌*◌, ◌+◌, length, ap, sym, subst, ◌∙◌, rules, arith}
+use Rattle.rk_rings.proofs.Words.{◌∙◌, ap, sym, subst, arith, ℕ, ◌≤◌, ◌+◌, length, ◌*◌, rules, len, places, AreCounted, AreSerials, Numbered, new_ring}
+use Rattle.rk_rings.proofs.Words.{HaveEachNameOnce, AreUserRings}
 use Rattle.std.proofs.lemmas.List.{length-map}
-use Rattle.std.specs.FinMap.{len}
-use Rattle.rk_table.specs.Stored.{places}
-use Rattle.rk_rings.specs.Numbered.{Numbered, new_ring, AreSerials, HaveEachNameOnce}
-use Rattle.rk_rings.specs.Counted.{AreCounted}
-use Rattle.rk_rings.specs.UserRings.{AreUserRings}
 use Rattle.rk_rings.proofs.Made.{put_new, put_made, rows_made}
 use Rattle.rk_rings.proofs.Counted.{counted_made}
 use Rattle.rk_rings.proofs.rings.Rings.make.Goals as goal

@@ -1,10 +1,7 @@
-use Rattle.std.proofs.Common.{◌≡◌, ℕ, sym}
-use Rattle.std.specs.Prelude.{Option, Some, None, IfSome}
-use Rattle.std.specs.Option.{option_copied}
+use Rattle.rk_rings.proofs.Words.{sym, ◌≡◌, ℕ, option_copied, None, Some, Option, IfSome, Rings, HasEachNameOnce, HaveEachNameOnce}
 use Rattle.std.specs.FinMap as map
 use denote.Bor.{Bor}
 use Rattle.rk_rings.specs.declared.row.Row.{Row}
-use Rattle.rk_rings.specs.Numbered.{Rings, HasEachNameOnce, HaveEachNameOnce}
 use Rattle.rk_rings.proofs.rings.Rings.row.Goals as goal
 
 once_at : (rings : Rings) (ring : ℕ) (o : Option (Bor Row)) → option_copied o ≡ map.get rings ring → HaveEachNameOnce rings

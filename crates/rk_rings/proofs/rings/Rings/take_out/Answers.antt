@@ -1,9 +1,4 @@
-use Rattle.std.proofs.Common.{◌≡◌, ap, sym, subst, cond, ◌-◌, ◌∙◌}
-use Rattle.std.specs.Prelude.{nat_eq}
-use Rattle.rk_table.specs.Maps.{changed_at}
-use Rattle.rk_table.specs.Counts.{count_at}
-use Rattle.rk_rings.specs.Numbered.{unlinked, holds}
-use Rattle.rk_rings.specs.Counted.{AreCounted}
+use Rattle.rk_rings.proofs.Words.{◌∙◌, ap, sym, ◌≡◌, subst, cond, ◌-◌, nat_eq, count_at, changed_at, AreCounted, unlinked, holds}
 use Rattle.rk_rings.proofs.Named.{once_unlinked}
 use Rattle.rk_rings.proofs.Changed.{rows-changed_at}
 use Rattle.rk_rings.proofs.UserRings.{users_changed, user_unlinked}

@@ -1,5 +1,4 @@
-use Rattle.std.proofs.Common.{◌∙◌, subst}
-use Rattle.rk_rings.specs.UserRings.{AreUserRings}
+use Rattle.rk_rings.proofs.Words.{◌∙◌, subst, AreUserRings}
 use Rattle.rk_rings.proofs.UserRings.{user_told}
 use Rattle.rk_rings.proofs.rings.Rings.user_ring.Goals as goal
 

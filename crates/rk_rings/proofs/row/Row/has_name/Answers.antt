@@ -1,6 +1,4 @@
-use Rattle.std.proofs.Common.{ap, sym, ◌∙◌, false, is_some}
-use Rattle.std.specs.Option.{option_map_or}
-use Rattle.rk_rings.specs.Numbered.{has_number}
+use Rattle.rk_rings.proofs.Words.{◌∙◌, ap, sym, false, option_map_or, is_some, has_number}
 use Rattle.rk_rings.proofs.Turned.{number_known}
 use Rattle.rk_rings.proofs.row.Row.has_name.Goals as goal
 

@@ -1,8 +1,4 @@
-use Rattle.std.proofs.Common.{◌≡◌, ap, subst, sym, ◌∙◌}
-use Rattle.std.specs.Prelude.{Some, None}
-use Rattle.std.specs.FinMap.{get, remove}
-use Rattle.rk_rings.specs.Numbered.{AreSerials}
-use Rattle.rk_rings.specs.ByName.{AreByName}
+use Rattle.rk_rings.proofs.Words.{◌∙◌, ap, sym, ◌≡◌, subst, get, remove, None, Some, AreByName, AreSerials}
 use Rattle.rk_rings.proofs.Links.{serials-remove}
 use Rattle.rk_rings.proofs.Turned.{by_name_out, nothing_out}
 use Rattle.rk_rings.proofs.row.Row.unlink.Goals as goal
