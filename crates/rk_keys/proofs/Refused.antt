@@ -1,8 +1,5 @@
 -- When a maker of keys is refused.
-use Rattle.std.proofs.Common.{◌≡◌, ◌∙◌, sym, ℕ, Bool, false, inl, inr}
-use Rattle.std.proofs.lemmas.Bool.{both_ways}
-use Rattle.rk_keys.specs.Serials.{IsNext}
-use Rattle.rk_keys.specs.Known.{Known, IsRefused, has_all_keys}
+use Rattle.rk_keys.proofs.Words.{◌∙◌, ◌≡◌, sym, ℕ, false, Bool, inl, inr, both_ways, Known, has_all_keys, IsRefused, IsNext}
 use Rattle.rk_keys.proofs.Drawn.{IsNext-HasSerials}
 
 -- a user with fewer keys is not, while there is a next serial

@@ -1,6 +1,4 @@
-use Rattle.std.proofs.Common.{◌∙◌, ap}
-use Rattle.std.specs.Prelude.{nat_le}
-use Rattle.rk_keys.specs.Known.{Known, keys_of}
+use Rattle.rk_keys.proofs.Words.{◌∙◌, ap, nat_le, Known, keys_of}
 use Rattle.rk_keys.proofs.keys.Keys.is_full.Goals as goal
 
 pub returns : goal.returns

@@ -1,20 +1,11 @@
-use Rattle.std.proofs.Common.{◌≡◌, ◌<◌, subst, ◌∙◌, ap, ℕ, cond, List, refl, arith}
-use Rattle.std.specs.Prelude.{Option, Some, None, unwrap_or}
-use Rattle.std.specs.Ordering.{nat_cmp}
+use Rattle.rk_keys.proofs.Words.{◌∙◌, ap, ◌≡◌, refl, ℕ, subst, ◌<◌, cond, arith, List, nat_cmp, Some, None, Option, unwrap_or, at_new, kept_of, counted_in}
+use Rattle.rk_keys.proofs.Words.{is_same, IsIndex, number_in, Known, IsHeld, new_key, IsNumberFor, AreCounts, IsNext, with_drawn, Key, Named}
 use Rattle.std.specs.FinMap as map
 use Rattle.std.specs.FinSet as set
 use Rattle.std.proofs.lemmas.Result.{err_from_is_err_and}
-use Rattle.rk_keys.specs.declared.key.Key.{Key}
-use Rattle.rk_keys.specs.Serials.{IsNext, with_drawn}
-use Rattle.rk_keys.specs.Known.{Known, new_key, IsHeld}
-use Rattle.rk_keys.specs.Names.{IsNumberFor}
 use Rattle.rk_keys.proofs.Names.{number_of_new, number_for_new}
 use Rattle.rk_keys.proofs.Held.{held_made_so}
-use Rattle.rk_table.proofs.Gets.{at_new}
-use Rattle.rk_keys.specs.declared.named.Named.{Named}
-use Rattle.rk_keys.specs.Buckets.{IsIndex, is_same, kept_of, number_in, counted_in}
 use Rattle.rk_keys.proofs.Indexed.{index_with, index_same, none_of, some_of, few_named}
-use Rattle.rk_keys.specs.Owners.{AreCounts}
 use Rattle.rk_keys.proofs.UserCounts.{counts_with}
 use Rattle.rk_keys.proofs.Refused.{not_refused}
 use Rattle.rk_keys.proofs.keys.Keys.make.Goals as goal
