@@ -2,9 +2,9 @@
 use Rattle.rk_rings.proofs.Words.{◌∙◌, ap, sym, ◌≡◌, arith, ℕ, cond, ◌≤◌, false, ◌+◌, refl, true, Bool, ◌-◌, length, List, [], ◌∷◌, inl, inr, fold, cases_eq}
 use Rattle.rk_rings.proofs.Words.{none-some, same_Some, nat_cmp_total, unsigned_tied, get, len, insert, remove, empty, FinMap, get-empty, len-remove}
 use Rattle.rk_rings.proofs.Words.{len-insert, entries, same_map, nat_cmp-IsAntisymmetric, len-empty, find, get-entries, AllByRecursion, lookup, nat_cmp}
-use Rattle.rk_rings.proofs.Words.{eq_by_cmp, None, Some, nat_eq, is_some, Option, tie, get_inserted, at_new, at_other, get_removed, HasEachOnce, serial_of}
-use Rattle.rk_rings.proofs.Words.{named, AreByName, turned_more, with_name, AreSerials}
-use Rattle.rk_rings.proofs.Finds.{tied, tied_itself, entries_once}
+use Rattle.rk_rings.proofs.Words.{eq_by_cmp, None, Some, nat_eq, is_some, Option, tie, get_inserted, at_new, at_other, get_removed, HasEachOnce, entries_once}
+use Rattle.rk_rings.proofs.Words.{serial_of, named, AreByName, turned_more, with_name, AreSerials}
+use Rattle.rk_rings.proofs.Finds.{tied, tied_itself}
 use Rattle.rk_rings.proofs.Turned.{nothing_out}
 
 -- ---- what the entries tell

@@ -1,12 +1,7 @@
 -- One count changed.
-use Rattle.std.proofs.Common.{◌≡◌, ◌∙◌, ap, sym, refl, ℕ, ◌<◌, true, false, cond, inl, inr, arith}
-use Rattle.std.specs.Prelude.{Option, Some, None, is_some, nat_eq, option_map, unwrap_or}
-use Rattle.std.specs.Ordering.{nat_cmp}
+use Rattle.rk_table.proofs.Words.{◌∙◌, ap, sym, ◌≡◌, cond, ℕ, refl, true, false, arith, ◌<◌, inl, inr, eq-eqb, ne_eqb, cases_eq, none-some, same_Some, nat_cmp}
+use Rattle.rk_table.proofs.Words.{Some, None, nat_eq, Option, is_some, option_map, unwrap_or, count_at, ArePositive, changed_at}
 use Rattle.std.specs.FinMap as map
-use Rattle.std.proofs.lemmas.Bool.{cases_eq, eq-eqb, ne_eqb}
-use Rattle.std.proofs.lemmas.Option.{none-some, same_Some}
-use Rattle.rk_table.specs.Maps.{changed_at}
-use Rattle.rk_table.specs.Counts.{count_at, ArePositive}
 use Rattle.rk_table.proofs.Gets.{get_changed_at, get_inserted, get_removed}
 
 -- a count that is put at k is the count there, and every other stays

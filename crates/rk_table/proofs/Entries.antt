@@ -1,14 +1,9 @@
 -- A list of entries as a finite map.
-use Rattle.std.proofs.Common.{◌≡◌, ℕ, ◌+◌, ◌<◌, Bool, true, false, cond, not, List, [], ◌∷◌, ◌++◌, length, get_or, drop, refl, ap, sym, ◌∙◌, add-one, drop-cons}
-use Rattle.std.specs.Prelude.{Option, Some, None, filter, nat_eq}
-use Rattle.std.specs.Prelude.{map as list_map}
-use Rattle.std.specs.Ordering.{nat_cmp, eq_by_cmp}
-use Rattle.std.specs.Cmp.{nat_cmp_total, unsigned_tied, nat_eq_equiv}
-use Rattle.std.specs.FinMap.{FinMap, from_entries, get, insert, find, get-from_entries, same_map, entries, get-entries, remove, retain_keys, get-remove, get-retain_keys, from_entries_push, nat_cmp-IsAntisymmetric}
-use Rattle.std.proofs.lemmas.Bool.{ne_eqb}
-use Rattle.rk_table.specs.Maps.{changed_all}
+use Rattle.rk_table.proofs.Words.{◌∙◌, ap, sym, ◌≡◌, cond, ℕ, refl, true, false, ◌<◌, Bool, List, [], ◌∷◌, length, ◌+◌, get_or, not, ◌++◌, drop, add-one}
+use Rattle.rk_table.proofs.Words.{drop-cons, ne_eqb, nat_cmp_total, unsigned_tied, nat_eq_equiv, FinMap, get, nat_cmp-IsAntisymmetric, from_entries, insert}
+use Rattle.rk_table.proofs.Words.{find, same_map, remove, get-retain_keys, entries, get-entries, get-remove, get-from_entries, retain_keys, from_entries_push}
+use Rattle.rk_table.proofs.Words.{find-where_key, nat_cmp, eq_by_cmp, Some, None, nat_eq, Option, filter, list_map, changed_all}
 use Rattle.std.specs.Option.{option_map}
-use Rattle.std.specs.FinMap.Entries.{find-where_key}
 
 -- keys tie in the order of a map exactly if they are equal
 pub tie : (q k : ℕ) → eq_by_cmp nat_cmp q k ≡ nat_eq k q

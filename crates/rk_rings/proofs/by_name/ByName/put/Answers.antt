@@ -30,8 +30,3 @@ pub returns-in-None-clause-old : goal.returns-in-None-clause-old
 returns-in-None-clause-old c =
     let is : lookup (nat_eq c.args.name) c.self.inside.keys.entries ≡ None = sym c.get_mut.ensures.value ∙ ap option_copied_mut c.in-None.is in
     sym (get_named c.self.inside.keys.entries c.args.name ∙ ap held is) ∙ ap (λ s. map.get s.facts c.args.name) c.self.view_is
-
-pub returns-in-None-clause-facts : goal.returns-in-None-clause-facts
-returns-in-None-clause-facts c =
-    c.add.ensures.facts ∙ ap (λ m. map.insert (named m.entries) c.args.name c.args.key) c.get_mut.follows.holds-at-none
-    ∙ ap (λ s. map.insert s.facts c.args.name c.args.key) c.self.view_is

@@ -1,4 +1,4 @@
-use Rattle.std.proofs.Common.{take_all, rules}
+use Rattle.rk_table.proofs.Words.{rules, take_all}
 use Rattle.std.proofs.hash.Loops.{byte_more}
 use Rattle.rk_table.proofs.hashing.NumberHasherHasher.write.Goals as goal
 
