@@ -1,14 +1,11 @@
 -- Rounds through one chain.
 use Rattle.rk_auth.proofs.Words.{◌∙◌, ap, sym, ◌≡◌, subst, refl, ℕ, cond, arith, true, false, inl, inr, ◌||◌, List, ◌∷◌, [], ◌≤◌, length, ◌+◌, both_ways}
-use Rattle.rk_auth.proofs.Words.{cases_eq, ne_eqb, none-some, same_Some, get, FinMap, nat_cmp, Some, None, nat_eq, is_some, Option, option_map, changed_at}
-use Rattle.rk_auth.proofs.Words.{standing_at, home_at, AreChained, has, names, standing_in, home_in, EachOnce, in_standing, IsChain, next_in, first_at}
-use Rattle.rk_auth.proofs.Words.{IsChainOf, next_at, before_at, changed_each_at, rehomed, Slot, Standing}
+use Rattle.rk_auth.proofs.Words.{cases_eq, ne_eqb, none-some, same_Some, get, Some, None, nat_eq, is_some, Option, changed_at, standing_at, home_at, AreChained}
+use Rattle.rk_auth.proofs.Words.{has, names, standing_in, home_in, EachOnce, in_standing, IsChain, next_in, first_at, IsChainOf, next_at, before_at}
+use Rattle.rk_auth.proofs.Words.{changed_each_at, rehomed, Slot, Standing, Slots}
 use Rattle.rk_auth.proofs.Lists.{not_more}
 use Rattle.rk_auth.proofs.Links.{at_same, at_apart, named_is, is_named, not_named}
 use Rattle.rk_auth.proofs.Chained.{untouched, heads}
-
-abbrev Slots : Type 0
-Slots = FinMap nat_cmp Slot
 
 -- ---- the way through a chain
 
@@ -74,11 +71,7 @@ pub round_goes_on : (f : Standing → Standing) (old now new : Slots) (h : ℕ) 
 round_goes_on f old now new h at p then step end round is by next = by_left round.left round.way round.leads round.short
   where
     same : (q : ℕ) → next_at new q ≡ next_at now q
-    same q = ap (λ x. next_at x q) by ∙ untouched next_in p (in_standing f) kept now q
-      where
-        kept : (o : Option Slot) → next_in (option_map (in_standing f) o) ≡ next_in o
-        kept None = refl
-        kept (Some s) = refl
+    same q = ap (λ x. next_at x q) by ∙ untouched next_in p (in_standing f) (λ s. refl) now q
 
     by_left : (left : List ℕ) → IsWay (next_at now) at left → ((xs : List ℕ) → IsChainOf old h xs → changed_each_at (in_standing f) left now ≡ changed_each_at (in_standing f) xs old)
         → length left + step ≤ end → IsRound (in_standing f) old new h then (step + 1) end

@@ -4,19 +4,13 @@ use Rattle.rk_auth.proofs.Words.{eq-eqb, none-some, same_Some, nat_cmp_total, ge
 use Rattle.rk_auth.proofs.Words.{len-empty, nat_cmp, Some, None, nat_eq, is_some, Option, option_map, option_and_then, at_new, at_other, left_in, taken_out}
 use Rattle.rk_auth.proofs.Words.{changed_at, SessionId, standing_at, home_at, AreChained, names, standing_in, home_in, first_in, rehomed, in_handler}
 use Rattle.rk_auth.proofs.Words.{session_changed, client_of, construction_of, IsTied, who_at, who_of, waited_in, in_session, seen, waited_of, in_construction}
-use Rattle.rk_auth.proofs.Words.{client_named, construction_named, place_of, AreSeated, Sessions, Construction, Session, Slot, Standing}
+use Rattle.rk_auth.proofs.Words.{client_named, construction_named, place_of, AreSeated, Sessions, Construction, Session, Slot, Standing, Index, Slots}
 use Rattle.rk_names.specs.declared.numbers.SessionId.TheVariants as id
 use Rattle.rk_table.specs.Stored.{Stored}
 use Rattle.rk_auth.specs.declared.slot.Standing.TheVariants as standing
 use Rattle.rk_auth.proofs.Links.{at_same, at_apart, is_named}
 use Rattle.rk_auth.proofs.Seen.{seen_len, seen_same, seen_changed, seen_unchanged, seen_put, seen_out, seen_not_out}
 use Rattle.rk_auth.proofs.Stands.{who_kept, new_slot, put_chained, put_homes, put_stands}
-
-abbrev Slots : Type 0
-Slots = FinMap nat_cmp Slot
-
-abbrev Index : Type 0
-Index = FinMap nat_cmp ℕ
 
 -- ---- names
 
@@ -52,43 +46,46 @@ not_nobody m i j a at nobody e = none-some a (same_Some None (Some a) (sym nobod
 
 -- ---- what is read
 
+-- what holds of client n, whatever his session, holds of a slot in which client n stands
+at_client : (P : Option Standing → Type 0) (o : Option Standing) (n : ℕ) → ((s : Session) → P (Some (standing.Client n s)))
+    → option_map who_of o ≡ Some (Some (id.Client n)) → P o
+at_client P None n h e = absurd (none-some (Some (id.Client n)) e)
+at_client P (Some standing.Nobody) n h e = absurd (none-some (id.Client n) (same_Some None (Some (id.Client n)) e))
+at_client P (Some (standing.Client own s)) n h e =
+    subst (λ m. P (Some (standing.Client m s))) (sym (same_client own n (some_name (id.Client own) (id.Client n) e))) (h s)
+at_client P (Some (standing.Construction k c)) n h e = absurd (not_both n k (sym (some_name (id.Handler k) (id.Client n) e)))
+
+-- what holds of the construction of k, however far it is, holds of a slot in which that construction stands
+at_construction : (P : Option Standing → Type 0) (o : Option Standing) (k : ℕ) → ((c : Construction) → P (Some (standing.Construction k c)))
+    → option_map who_of o ≡ Some (Some (id.Handler k)) → P o
+at_construction P None k h e = absurd (none-some (Some (id.Handler k)) e)
+at_construction P (Some standing.Nobody) k h e = absurd (none-some (id.Handler k) (same_Some None (Some (id.Handler k)) e))
+at_construction P (Some (standing.Client n s)) k h e = absurd (not_both n k (some_name (id.Client n) (id.Handler k) e))
+at_construction P (Some (standing.Construction own c)) k h e =
+    subst (λ m. P (Some (standing.Construction m c))) (sym (same_handler own k (some_name (id.Handler own) (id.Handler k) e))) (h c)
+
 -- a slot in which client n stands is read as that client
 pub client_read : (o : Option Standing) (n : ℕ) → option_map who_of o ≡ Some (Some (id.Client n)) → client_named n o ≡ Some (client_of o)
-client_read None n e = absurd (none-some (Some (id.Client n)) e)
-client_read (Some standing.Nobody) n e = absurd (none-some (id.Client n) (same_Some None (Some (id.Client n)) e))
-client_read (Some (standing.Client own s)) n e = ap (λ b. cond b (Some s) None) (eq-eqb own n (same_client own n (some_name (id.Client own) (id.Client n) e)))
-client_read (Some (standing.Construction k c)) n e = absurd (not_both n k (sym (some_name (id.Handler k) (id.Client n) e)))
+client_read o n = at_client (λ o. client_named n o ≡ Some (client_of o)) o n (λ s. ap (λ b. cond b (Some s) None) (eq-eqb n n refl))
 
 -- a slot in which the construction of k stands is read as that construction
 pub construction_read : (o : Option Standing) (k : ℕ) → option_map who_of o ≡ Some (Some (id.Handler k)) → construction_named k o ≡ Some (construction_of o)
-construction_read None k e = absurd (none-some (Some (id.Handler k)) e)
-construction_read (Some standing.Nobody) k e = absurd (none-some (id.Handler k) (same_Some None (Some (id.Handler k)) e))
-construction_read (Some (standing.Client n s)) k e = absurd (not_both n k (some_name (id.Client n) (id.Handler k) e))
-construction_read (Some (standing.Construction own c)) k e = ap (λ b. cond b (Some c) None) (eq-eqb own k (same_handler own k (some_name (id.Handler own) (id.Handler k) e)))
+construction_read o k = at_construction (λ o. construction_named k o ≡ Some (construction_of o)) o k (λ c. ap (λ b. cond b (Some c) None) (eq-eqb k k refl))
 
 -- ---- what a change makes
 
 -- a change of who stands in a client's slot changes that client's session
 pub made_client : (g : Session → Session) (o : Option Standing) (n : ℕ) → option_map who_of o ≡ Some (Some (id.Client n)) → client_of (option_map (in_session g) o) ≡ g (client_of o)
-made_client g None n e = absurd (none-some (Some (id.Client n)) e)
-made_client g (Some standing.Nobody) n e = absurd (none-some (id.Client n) (same_Some None (Some (id.Client n)) e))
-made_client g (Some (standing.Client own s)) n e = refl
-made_client g (Some (standing.Construction k c)) n e = absurd (not_both n k (sym (some_name (id.Handler k) (id.Client n) e)))
+made_client g o n = at_client (λ o. client_of (option_map (in_session g) o) ≡ g (client_of o)) o n (λ s. refl)
 
 -- a change of the session in a construction's slot changes its handler's session
 pub made_handler : (g : Session → Session) (o : Option Standing) (k : ℕ) → option_map who_of o ≡ Some (Some (id.Handler k))
     → construction_of (option_map (in_session g) o) ≡ in_handler g (construction_of o)
-made_handler g None k e = absurd (none-some (Some (id.Handler k)) e)
-made_handler g (Some standing.Nobody) k e = absurd (none-some (id.Handler k) (same_Some None (Some (id.Handler k)) e))
-made_handler g (Some (standing.Client n s)) k e = absurd (not_both n k (some_name (id.Client n) (id.Handler k) e))
-made_handler g (Some (standing.Construction own c)) k e = refl
+made_handler g o k = at_construction (λ o. construction_of (option_map (in_session g) o) ≡ in_handler g (construction_of o)) o k (λ c. refl)
 
 pub made_construction : (h : Construction → Construction) (o : Option Standing) (k : ℕ) → option_map who_of o ≡ Some (Some (id.Handler k))
     → construction_of (option_map (in_construction h) o) ≡ h (construction_of o)
-made_construction h None k e = absurd (none-some (Some (id.Handler k)) e)
-made_construction h (Some standing.Nobody) k e = absurd (none-some (id.Handler k) (same_Some None (Some (id.Handler k)) e))
-made_construction h (Some (standing.Client n s)) k e = absurd (not_both n k (some_name (id.Client n) (id.Handler k) e))
-made_construction h (Some (standing.Construction own c)) k e = refl
+made_construction h o k = at_construction (λ o. construction_of (option_map (in_construction h) o) ≡ h (construction_of o)) o k (λ c. refl)
 
 -- a change of a session leaves whose it is
 pub session_who : (g : Session → Session) (s : Standing) → who_of (in_session g s) ≡ who_of s
@@ -109,9 +106,9 @@ abbrev pub View : Slots → Index → Index → Sessions
 View m clients constructions = record { constructions = seen construction_of m constructions; clients = seen client_of m clients }
 
 -- equal constructions and equal clients make equal sessions
-pub views : (a b : FinMap nat_cmp Construction) (c d : FinMap nat_cmp Session) → a ≡ b → c ≡ d
+pub views : {a b : FinMap nat_cmp Construction} {c d : FinMap nat_cmp Session} → a ≡ b → c ≡ d
     → ◌≡◌ {A = Sessions} (record { constructions = a; clients = c }) (record { constructions = b; clients = d })
-views a b c d e f i = record { constructions = e i; clients = f i }
+views e f i = record { constructions = e i; clients = f i }
 
 module _ (m n : Slots) (clients constructions : Index) (nobody : ℕ) (tied : IsTied m constructions nobody)
     (named : (q i : ℕ) → get clients q ≡ Some i → who_at m i ≡ Some (Some (id.Client q))) where
@@ -128,15 +125,13 @@ module _ (m n : Slots) (clients constructions : Index) (nobody : ℕ) (tied : Is
       → ((q : ℕ) → standing_at n q ≡ cond (nat_eq p q) (option_map (in_session g) (standing_at m q)) (standing_at m q))
       → View n clients constructions ≡ session_changed s g (View m clients constructions)
   changed_view g (id.Client k) p is stands =
-      views (seen construction_of n constructions) (seen construction_of m constructions) (seen client_of n clients) (changed_at k g (seen client_of m clients))
-      (seen_same construction_of m n constructions (λ q j at. ap construction_of (elsewhere (in_session g) p stands j
+      views (seen_same construction_of m n constructions (λ q j at. ap construction_of (elsewhere (in_session g) p stands j
       (apart_places m p j (id.Client k) (id.Handler q) (named k p is) (tied.heads q j at) (not_both k q)))))
       (seen_changed client_of m n clients k p g is (ap client_of (at_place (in_session g) p stands) ∙ made_client g (standing_at m p) k (named k p is))
       (λ q j ne at. ap client_of (elsewhere (in_session g) p stands j
       (apart_places m p j (id.Client k) (id.Client q) (named k p is) (named q j at) (λ e. ne (same_client k q e))))))
   changed_view g (id.Handler k) p is stands =
-      views (seen construction_of n constructions) (changed_at k (in_handler g) (seen construction_of m constructions)) (seen client_of n clients) (seen client_of m clients)
-      (seen_changed construction_of m n constructions k p (in_handler g) is
+      views (seen_changed construction_of m n constructions k p (in_handler g) is
       (ap construction_of (at_place (in_session g) p stands) ∙ made_handler g (standing_at m p) k (tied.heads k p is))
       (λ q j ne at. ap construction_of (elsewhere (in_session g) p stands j
       (apart_places m p j (id.Handler k) (id.Handler q) (tied.heads k p is) (tied.heads q j at) (λ e. ne (same_handler k q e))))))
@@ -148,8 +143,7 @@ module _ (m n : Slots) (clients constructions : Index) (nobody : ℕ) (tied : Is
       → ((q : ℕ) → standing_at n q ≡ cond (nat_eq p q) (option_map (in_construction h) (standing_at m q)) (standing_at m q))
       → View n clients constructions ≡ record { constructions = changed_at k h (seen construction_of m constructions); clients = seen client_of m clients }
   construction_view h k p is stands =
-      views (seen construction_of n constructions) (changed_at k h (seen construction_of m constructions)) (seen client_of n clients) (seen client_of m clients)
-      (seen_changed construction_of m n constructions k p h is
+      views (seen_changed construction_of m n constructions k p h is
       (ap construction_of (at_place (in_construction h) p stands) ∙ made_construction h (standing_at m p) k (tied.heads k p is))
       (λ q j ne at. ap construction_of (elsewhere (in_construction h) p stands j
       (apart_places m p j (id.Handler k) (id.Handler q) (tied.heads k p is) (tied.heads q j at) (λ e. ne (same_handler k q e))))))
@@ -160,18 +154,16 @@ module _ (m n : Slots) (clients constructions : Index) (nobody : ℕ) (tied : Is
 pub unchanged_view : (m : Slots) (clients constructions : Index) (g : Session → Session) (s : SessionId) → place_of clients constructions s ≡ None
     → View m clients constructions ≡ session_changed s g (View m clients constructions)
 unchanged_view m clients constructions g (id.Client k) none =
-    views (seen construction_of m constructions) (seen construction_of m constructions) (seen client_of m clients) (changed_at k g (seen client_of m clients)) refl
+    views refl
     (seen_unchanged client_of m clients k g none)
 unchanged_view m clients constructions g (id.Handler k) none =
-    views (seen construction_of m constructions) (changed_at k (in_handler g) (seen construction_of m constructions)) (seen client_of m clients) (seen client_of m clients)
-    (seen_unchanged construction_of m constructions k (in_handler g) none) refl
+    views (seen_unchanged construction_of m constructions k (in_handler g) none) refl
 
 -- a change of a construction that has no slot leaves the view
 pub unchanged_construction : (m : Slots) (clients constructions : Index) (h : Construction → Construction) (k : ℕ) → get constructions k ≡ None
     → View m clients constructions ≡ record { constructions = changed_at k h (seen construction_of m constructions); clients = seen client_of m clients }
 unchanged_construction m clients constructions h k none =
-    views (seen construction_of m constructions) (changed_at k h (seen construction_of m constructions)) (seen client_of m clients) (seen client_of m clients)
-    (seen_unchanged construction_of m constructions k h none) refl
+    views (seen_unchanged construction_of m constructions k h none) refl
 
 -- all stay seated where only who stands there was changed
 pub seated_changed : (f : Standing → Standing) (s t : Stored Slot) (clients constructions : Stored ℕ) (nobody reserved p : ℕ) → AreSeated s clients constructions nobody reserved
@@ -358,8 +350,7 @@ module _ (m n : Slots) (clients constructions : Index) (nobody p : ℕ) (tied : 
       → View n (insert clients k p) constructions ≡ record { constructions = seen construction_of m constructions; clients = insert (seen client_of m clients) k s }
   client_put_view k s new stands =
       let st = standing.Client k s in
-      views (seen construction_of n constructions) (seen construction_of m constructions) (seen client_of n (insert clients k p)) (insert (seen client_of m clients) k s)
-      (seen_same construction_of m n constructions (λ q j at. ap construction_of (put_elsewhere m n st p new stands j (put_not m n st p new stands j (Some (id.Handler q)) (tied.heads q j at)))))
+      views (seen_same construction_of m n constructions (λ q j at. ap construction_of (put_elsewhere m n st p new stands j (put_not m n st p new stands j (Some (id.Handler q)) (tied.heads q j at)))))
       (seen_put client_of m n clients k p s (ap client_of (put_at m n st p new stands))
       (λ q j at. ap client_of (put_elsewhere m n st p new stands j (put_not m n st p new stands j (Some (id.Client q)) (named q j at)))))
 
@@ -369,8 +360,7 @@ module _ (m n : Slots) (clients constructions : Index) (nobody p : ℕ) (tied : 
       → View n clients (insert constructions k p) ≡ record { constructions = insert (seen construction_of m constructions) k c; clients = seen client_of m clients }
   construction_put_view k c new stands =
       let st = standing.Construction k c in
-      views (seen construction_of n (insert constructions k p)) (insert (seen construction_of m constructions) k c) (seen client_of n clients) (seen client_of m clients)
-      (seen_put construction_of m n constructions k p c (ap construction_of (put_at m n st p new stands))
+      views (seen_put construction_of m n constructions k p c (ap construction_of (put_at m n st p new stands))
       (λ q j at. ap construction_of (put_elsewhere m n st p new stands j (put_not m n st p new stands j (Some (id.Handler q)) (tied.heads q j at)))))
       (seen_same client_of m n clients (λ q j at. ap client_of (put_elsewhere m n st p new stands j (put_not m n st p new stands j (Some (id.Client q)) (named q j at)))))
 
@@ -378,8 +368,7 @@ module _ (m n : Slots) (clients constructions : Index) (nobody p : ℕ) (tied : 
   pub client_out_view : (k : ℕ) → get clients k ≡ Some p → ((q : ℕ) → standing_at n q ≡ cond (nat_eq p q) None (standing_at m q))
       → View n (remove clients k) constructions ≡ record { constructions = seen construction_of m constructions; clients = remove (seen client_of m clients) k }
   client_out_view k is stands =
-      views (seen construction_of n constructions) (seen construction_of m constructions) (seen client_of n (remove clients k)) (remove (seen client_of m clients) k)
-      (seen_same construction_of m n constructions (λ q j at. ap construction_of (out_elsewhere m n p stands j
+      views (seen_same construction_of m n constructions (λ q j at. ap construction_of (out_elsewhere m n p stands j
       (apart_places m p j (id.Client k) (id.Handler q) (named k p is) (tied.heads q j at) (not_both k q)))))
       (seen_out client_of m n clients k (λ q j ne at. ap client_of (out_elsewhere m n p stands j
       (apart_places m p j (id.Client k) (id.Client q) (named k p is) (named q j at) (λ e. ne (same_client k q e))))))
@@ -388,8 +377,7 @@ module _ (m n : Slots) (clients constructions : Index) (nobody p : ℕ) (tied : 
   pub construction_out_view : (k : ℕ) → get constructions k ≡ Some p → ((q : ℕ) → standing_at n q ≡ cond (nat_eq p q) None (standing_at m q))
       → View n clients (remove constructions k) ≡ record { constructions = remove (seen construction_of m constructions) k; clients = seen client_of m clients }
   construction_out_view k is stands =
-      views (seen construction_of n (remove constructions k)) (remove (seen construction_of m constructions) k) (seen client_of n clients) (seen client_of m clients)
-      (seen_out construction_of m n constructions k (λ q j ne at. ap construction_of (out_elsewhere m n p stands j
+      views (seen_out construction_of m n constructions k (λ q j ne at. ap construction_of (out_elsewhere m n p stands j
       (apart_places m p j (id.Handler k) (id.Handler q) (tied.heads k p is) (tied.heads q j at) (λ e. ne (same_handler k q e))))))
       (seen_same client_of m n clients (λ q j at. ap client_of (out_elsewhere m n p stands j
       (apart_places m p j (id.Handler k) (id.Client q) (tied.heads k p is) (named q j at) (λ e. not_both q k (sym e))))))
@@ -429,15 +417,14 @@ module _ (m n : Slots) (clients constructions : Index) (nobody p : ℕ) (tied : 
 pub not_there_view : (m : Slots) (clients constructions : Index) (k : ℕ) → get clients k ≡ None
     → View m clients constructions ≡ record { constructions = seen construction_of m constructions; clients = remove (seen client_of m clients) k }
 not_there_view m clients constructions k none =
-    views (seen construction_of m constructions) (seen construction_of m constructions) (seen client_of m clients) (remove (seen client_of m clients) k) refl
+    views refl
     (seen_not_out client_of m clients k none)
 
 -- removing a construction that has no place leaves the view
 pub not_made_view : (m : Slots) (clients constructions : Index) (k : ℕ) → get constructions k ≡ None
     → View m clients constructions ≡ record { constructions = remove (seen construction_of m constructions) k; clients = seen client_of m clients }
 not_made_view m clients constructions k none =
-    views (seen construction_of m constructions) (remove (seen construction_of m constructions) k) (seen client_of m clients) (seen client_of m clients)
-    (seen_not_out construction_of m constructions k none) refl
+    views (seen_not_out construction_of m constructions k none) refl
 
 -- one name fewer
 pub one_less : (index : Index) (k p : ℕ) → get index k ≡ Some p → len (remove index k) ≡ len index - 1

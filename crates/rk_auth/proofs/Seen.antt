@@ -1,44 +1,11 @@
 -- What one sees by the names of an index, through changes of who stands in the slots.
-use Rattle.rk_auth.proofs.Words.{◌∙◌, ap, sym, ◌≡◌, refl, ℕ, cond, arith, true, false, inl, inr, ◌||◌, Bool, List, ◌∷◌, [], length, ◌&&◌, T, cases_eq}
-use Rattle.rk_auth.proofs.Words.{none-some, nat_cmp_total, get, FinMap, remove, insert, len, find, same_map, nat_cmp-IsAntisymmetric, entries, is_sorted}
-use Rattle.rk_auth.proofs.Words.{entries_sorted, get-entries, len-entries, option_map_or, nat_cmp, eq_by_cmp, is_lt, is_eq, Some, None, Option, option_map}
-use Rattle.rk_auth.proofs.Words.{list_map, get_in, get_changed_all, at_new, at_other, left_in, taken_out, get_changed_at, changed_at, changed_all, standing_at}
-use Rattle.rk_auth.proofs.Words.{seen, Slot, Standing}
+use Rattle.rk_auth.proofs.Words.{◌∙◌, ap, sym, ◌≡◌, refl, ℕ, cond, arith, true, false, inl, inr, ◌||◌, Bool, List, ◌∷◌, [], length, cases_eq, none-some}
+use Rattle.rk_auth.proofs.Words.{nat_cmp_total, get, remove, insert, len, find, same_map, nat_cmp-IsAntisymmetric, entries, get-entries, len-entries}
+use Rattle.rk_auth.proofs.Words.{option_map_or, nat_cmp, eq_by_cmp, Some, None, Option, option_map, list_map, get_in, get_changed_all, at_new, at_other}
+use Rattle.rk_auth.proofs.Words.{left_in, taken_out, get_changed_at, changed_at, changed_all, standing_at, seen, Standing, Index, Slots}
 use Rattle.std.specs.List.{list_any}
-use Rattle.std.specs.declared.cmp.Ordering.{Ordering}
-use Rattle.std.specs.declared.cmp.Ordering.TheVariants.{Less, Equal, Greater}
-use Rattle.std.specs.FinMap.Entries.{below_all}
-use Rattle.rk_table.proofs.Once.{HasEachOnce, len_once, any_once}
+use Rattle.rk_table.proofs.Once.{HasEachOnce, len_once, any_once, entries_once}
 use Rattle.rk_auth.proofs.Links.{at_same, at_apart}
-
-abbrev Slots : Type 0
-Slots = FinMap nat_cmp Slot
-
-abbrev Index : Type 0
-Index = FinMap nat_cmp ℕ
-
--- ---- an index has each name once
-
-first : (a b : Bool) → T (a && b) → T a
-first true b h = tt
-first false b h = h
-
-second : (a b : Bool) → T (a && b) → T b
-second true b h = h
-second false b h = absurd h
-
-not_tied : (r : Ordering) → T (is_lt r) → is_eq r ≡ false
-not_tied Less h = refl
-not_tied Equal h = absurd h
-not_tied Greater h = absurd h
-
-none_above : (x : ℕ) (es : List (ℕ × ℕ)) → T (below_all nat_cmp x es) → find nat_cmp x es ≡ None
-none_above x [] h = refl
-none_above x (e ∷ es) h = ap (λ b. cond b (Some e.1) (find nat_cmp x es)) (not_tied (nat_cmp x e.0) (first _ _ h)) ∙ none_above x es (second _ _ h)
-
-once_sorted : (es : List (ℕ × ℕ)) → T (is_sorted nat_cmp es) → HasEachOnce es
-once_sorted [] h = tt
-once_sorted (e ∷ es) h = (none_above e.0 es (first _ _ h), once_sorted es (second _ _ h))
 
 -- ---- what is seen at a name
 
@@ -96,7 +63,7 @@ module _ {V : Type 0} where
     pub seen_len : (m : Slots) (index : Index) → len (seen pick m index) ≡ len index
     seen_len m index =
         len_once (list_map (λ (e : ℕ × ℕ). (e.0, pick (standing_at m e.1))) (entries index))
-        (once_named (λ i. pick (standing_at m i)) (entries index) (once_sorted (entries index) (entries_sorted index)))
+        (once_named (λ i. pick (standing_at m i)) (entries index) (entries_once index))
         ∙ length_named (λ i. pick (standing_at m i)) (entries index) ∙ sym (len-entries index)
 
     -- a test passes one of what is seen exactly if it passes what stands in one of the index's slots
@@ -104,7 +71,7 @@ module _ {V : Type 0} where
         → list_any p (entries (seen pick m index)) ≡ list_any (λ (e : ℕ × ℕ). p (e.0, pick (standing_at m e.1))) (entries index)
     seen_any p m index =
         any_once p (list_map (λ (e : ℕ × ℕ). (e.0, pick (standing_at m e.1))) (entries index))
-        (once_named (λ i. pick (standing_at m i)) (entries index) (once_sorted (entries index) (entries_sorted index)))
+        (once_named (λ i. pick (standing_at m i)) (entries index) (entries_once index))
         ∙ any_named p (λ i. pick (standing_at m i)) (entries index)
 
     -- nothing that the index names has changed

@@ -1,8 +1,8 @@
 -- All who wait for a key get its outcome, where those of two chains do.
 use Rattle.rk_auth.proofs.Words.{◌∙◌, ap, sym, ◌≡◌, subst, refl, ℕ, cond, true, false, inl, inr, ◌||◌, Bool, ◌⊎◌, both_ways, cases_eq, ne_eqb, none-some}
-use Rattle.rk_auth.proofs.Words.{same_Some, get, FinMap, nat_cmp, Some, None, nat_eq, is_some, Option, option_map, option_and_then, changed_all, standing_at}
-use Rattle.rk_auth.proofs.Words.{home_at, AreChained, in_handler, all_told, in_stage, told_wait, told, client_of, construction_of, IsTied, who_at, who_of}
-use Rattle.rk_auth.proofs.Words.{waited_in, in_session, seen, same_home, waited_of, AreBothTold, handler_in, waited_key, Session, Slot, Standing}
+use Rattle.rk_auth.proofs.Words.{same_Some, get, Some, None, nat_eq, is_some, Option, option_map, option_and_then, standing_at, home_at, AreChained, in_handler}
+use Rattle.rk_auth.proofs.Words.{all_told, in_stage, told_wait, told, client_of, construction_of, IsTied, who_at, who_of, waited_in, in_session, same_home}
+use Rattle.rk_auth.proofs.Words.{waited_of, AreBothTold, handler_in, waited_key, Session, Standing, Index, Slots}
 use Rattle.rk_names.specs.declared.numbers.SessionId.TheVariants as id
 use Rattle.rk_auth.specs.declared.session.Wait.{Wait}
 use Rattle.rk_auth.specs.declared.session.Outcome.{Outcome}
@@ -13,12 +13,6 @@ use Rattle.rk_auth.proofs.Links.{is_named}
 use Rattle.rk_auth.proofs.Seen.{seen_all}
 use Rattle.rk_auth.proofs.Stands.{who_kept}
 use Rattle.rk_auth.proofs.Seated.{View, views, made_client, made_handler, session_who}
-
-abbrev Slots : Type 0
-Slots = FinMap nat_cmp Slot
-
-abbrev Index : Type 0
-Index = FinMap nat_cmp ℕ
 
 module _ (k : ℕ) (outcome : Outcome) where
   -- ---- one gets the outcome
@@ -193,7 +187,5 @@ module _ (k : ℕ) (outcome : Outcome) where
       -- where both chains get the outcome, every session that waits for the key has it
       pub told_view : View n clients index ≡ all_told k outcome (View m clients index)
       told_view =
-          views (seen construction_of n index) (changed_all (in_handler (told k outcome)) (seen construction_of m index)) (seen client_of n clients)
-          (changed_all (told k outcome) (seen client_of m clients))
-          (seen_all construction_of m n index (in_handler (told k outcome)) (λ q i is. ap construction_of (stands i) ∙ made_handler (told k outcome) (standing_at m i) q (tied.heads q i is)))
+          views (seen_all construction_of m n index (in_handler (told k outcome)) (λ q i is. ap construction_of (stands i) ∙ made_handler (told k outcome) (standing_at m i) q (tied.heads q i is)))
           (seen_all client_of m n clients (told k outcome) (λ q i is. ap client_of (stands i) ∙ made_client (told k outcome) (standing_at m i) q (named q i is)))

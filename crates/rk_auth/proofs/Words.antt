@@ -1,13 +1,13 @@
 -- The words in which the lemmas speak: of std, of the libraries below, and of the definitions. A lemma file names those that it needs.
 pub use Rattle.std.proofs.Common.{◌∙◌, ap, sym, ◌≡◌, subst, refl, ℕ, cond, arith, true, false, inl, inr, ◌||◌, Bool, List, ◌∷◌, [], ◌-◌, ◌⊎◌, ◌<◌, ◌≤◌, length}
-pub use Rattle.std.proofs.Common.{◌+◌, zero, suc, ◌&&◌, T, get_or, zero-add}
+pub use Rattle.std.proofs.Common.{◌+◌, zero, suc, get_or, zero-add}
 pub use Rattle.std.proofs.lemmas.Bool.{both_ways, cases_eq, eq-eqb, ne_eqb, eqb-true}
 pub use Rattle.std.proofs.lemmas.Option.{none-some, same_Some}
 pub use Rattle.std.specs.Cmp.{nat_cmp_total}
 pub use Rattle.std.specs.FinMap.{get, FinMap, remove, insert, len, get-empty, empty_of_len, len-remove, find, same_map, nat_cmp-IsAntisymmetric, empty}
-pub use Rattle.std.specs.FinMap.{len-empty, entries, is_sorted, entries_sorted, get-entries, len-entries, from_entries, get-remove, contains_key}
+pub use Rattle.std.specs.FinMap.{len-empty, entries, get-entries, len-entries, from_entries, get-remove, contains_key}
 pub use Rattle.std.specs.Option.{option_map_or, option_copied, option_copied_mut}
-pub use Rattle.std.specs.Ordering.{nat_cmp, eq_by_cmp, is_lt, is_eq}
+pub use Rattle.std.specs.Ordering.{nat_cmp, eq_by_cmp}
 pub use Rattle.std.specs.Prelude.{Some, None, nat_eq, is_some, Option, option_map, option_and_then, map as list_map, IsSome, OnSome, IfNone, unwrap_or}
 pub use Rattle.rk_table.proofs.Entries.{get_in, tie, get_changed_all}
 pub use Rattle.rk_table.proofs.Gets.{at_new, at_other, left_in, taken_out, get_changed_at}
@@ -28,3 +28,11 @@ pub use Rattle.rk_auth.specs.declared.session.Session.{Session}
 pub use Rattle.rk_auth.specs.declared.slot.Link.{Link}
 pub use Rattle.rk_auth.specs.declared.slot.Slot.{Slot}
 pub use Rattle.rk_auth.specs.declared.slot.Standing.{Standing}
+
+-- the slots by their places
+abbrev pub Slots : Type 0
+Slots = FinMap nat_cmp Slot
+
+-- the slots' places by a name: a client's number, or a construction's key
+abbrev pub Index : Type 0
+Index = FinMap nat_cmp ℕ

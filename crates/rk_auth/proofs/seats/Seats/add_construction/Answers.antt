@@ -5,21 +5,11 @@ use Rattle.rk_auth.proofs.Seen.{unseen}
 use Rattle.rk_auth.proofs.Seated.{View, put_at, tied_put, tied_named, named_put, construction_put_view}
 use Rattle.rk_auth.proofs.seats.Seats.add_construction.Goals as goal
 
-pub put_in-place-requires-clause-room : goal.put_in-place-requires-clause-room
-put_in-place-requires-clause-room c =
-    let room = ap (λ h. h.room) c.self.view_is in
-    omega (arith, room, c.requires.room, c.self.invariant.in_slots, c.self.invariant.few)
-
 pub insert-requires-clause-new : goal.insert-requires-clause-new
 insert-requires-clause-new c =
     ap (map.get c.self.inside.constructions.facts) c.get.ensures.number
     ∙ unseen construction_of c.self.inside.slots.facts c.self.inside.constructions.facts c.args.key
     (ap (λ h. map.get h.sessions.constructions c.args.key) c.self.view_is ∙ c.requires.new)
-
-pub insert-requires-clause-room : goal.insert-requires-clause-room
-insert-requires-clause-room c =
-    let room = ap (λ h. h.room) c.self.view_is in
-    omega (arith, room, c.requires.room, c.self.invariant.in_constructions)
 
 pub invariant_of-self : goal.invariant_of-self
 invariant_of-self c =

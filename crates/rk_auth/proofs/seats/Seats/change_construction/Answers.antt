@@ -3,9 +3,6 @@ use Rattle.std.specs.FinMap as map
 use Rattle.rk_auth.proofs.Seated.{construction_view, unchanged_construction, seated_changed, construction_who}
 use Rattle.rk_auth.proofs.seats.Seats.change_construction.Goals as goal
 
-pub change_at-requires-clause-who : goal.change_at-requires-clause-who
-change_at-requires-clause-who g c = construction_who (g.C.ChangeOnce.changed c.args.change)
-
 pub invariant_of-self : goal.invariant_of-self
 invariant_of-self g c =
     seated_changed (in_construction (g.C.ChangeOnce.changed c.args.change)) c.self.inside.slots c.change_at.new.slots c.self.inside.clients

@@ -2,9 +2,6 @@ use Rattle.rk_auth.proofs.Words.{◌∙◌, ap, sym, session_changed, in_session
 use Rattle.rk_auth.proofs.Seated.{changed_view, unchanged_view, seated_changed, session_who}
 use Rattle.rk_auth.proofs.seats.Seats.change_session.Goals as goal
 
-pub change_at-requires-clause-who : goal.change_at-requires-clause-who
-change_at-requires-clause-who g c = session_who (g.C.ChangeOnce.changed c.args.change)
-
 pub invariant_of-self : goal.invariant_of-self
 invariant_of-self g c =
     seated_changed (in_session (g.C.ChangeOnce.changed c.args.change)) c.self.inside.slots c.change_at.new.slots c.self.inside.clients c.self.inside.constructions

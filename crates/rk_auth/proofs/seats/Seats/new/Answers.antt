@@ -19,5 +19,5 @@ invariant_of-result c =
 
 pub returns : goal.returns
 returns c =
-    views _ _ _ _ (nothing_seen construction_of c.put-nobody.new.self.facts c.new.result.facts c.new.ensures)
+    views (nothing_seen construction_of c.put-nobody.new.self.facts c.new.result.facts c.new.ensures)
     (nothing_seen client_of c.put-nobody.new.self.facts c.in_ok-clients.clients.facts c.in_ok-clients.ensures.empty)

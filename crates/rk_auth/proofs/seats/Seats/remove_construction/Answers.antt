@@ -1,20 +1,8 @@
-use Rattle.rk_auth.proofs.Words.{◌∙◌, ap, sym, ◌≡◌, subst, cond, arith, ◌-◌, ◌<◌, Some, None, nat_eq, is_some, home_at, IsTied, Sessions}
+use Rattle.rk_auth.proofs.Words.{◌∙◌, ap, sym, ◌≡◌, subst, cond, arith, ◌-◌, ◌<◌, Some, None, nat_eq, is_some, IsTied, Sessions}
 use Rattle.std.specs.FinMap as map
 use Rattle.rk_names.specs.declared.numbers.SessionId.TheVariants as id
-use Rattle.rk_auth.proofs.Stands.{who_there}
-use Rattle.rk_auth.proofs.Seated.{View, not_nobody, not_homed, is_standing_there, tied_ended, named_left, construction_out_view, not_made_view, one_less, one_at_least}
+use Rattle.rk_auth.proofs.Seated.{View, is_standing_there, tied_ended, named_left, construction_out_view, not_made_view, one_less, one_at_least}
 use Rattle.rk_auth.proofs.seats.Seats.remove_construction.Goals as goal
-
-pub loosen-requires-clause-other : goal.loosen-requires-clause-other
-loosen-requires-clause-other c = who_there c.self.inside.slots.facts c.self.inside.nobody None c.self.invariant.tied.nobody_there
-
-pub loosen-requires-clause-apart : goal.loosen-requires-clause-apart
-loosen-requires-clause-apart c e =
-    let inside = c.self.inside in
-    let at : map.get inside.constructions.facts c.args.key ≡ Some c.in-Some.place =
-    ap (map.get inside.constructions.facts) (sym c.get.ensures.number) ∙ sym c.get-2.ensures ∙ sym c.copied.ensures ∙ c.in-Some.is in
-    not_nobody inside.slots.facts c.in-Some.place inside.nobody (id.Handler c.args.key) (c.self.invariant.tied.heads c.args.key c.in-Some.place at)
-    c.self.invariant.tied.nobody_there (sym e)
 
 pub take_out-requires-clause-there : goal.take_out-requires-clause-there
 take_out-requires-clause-there c =
@@ -23,16 +11,6 @@ take_out-requires-clause-there c =
     ap (map.get inside.constructions.facts) (sym c.get.ensures.number) ∙ sym c.get-2.ensures ∙ sym c.copied.ensures ∙ c.in-Some.is in
     ap is_some (c.loosen.ensures.standing c.in-Some.place)
     ∙ is_standing_there inside.slots.facts c.in-Some.place (Some (id.Handler c.args.key)) (c.self.invariant.tied.heads c.args.key c.in-Some.place at)
-
-pub take_out-requires-clause-alone : goal.take_out-requires-clause-alone
-take_out-requires-clause-alone c q e =
-    let inside = c.self.inside in
-    let at : map.get inside.constructions.facts c.args.key ≡ Some c.in-Some.place =
-    ap (map.get inside.constructions.facts) (sym c.get.ensures.number) ∙ sym c.get-2.ensures ∙ sym c.copied.ensures ∙ c.in-Some.is in
-    not_homed c.in-Some.place inside.nobody (home_at inside.slots.facts q)
-    (λ s. not_nobody inside.slots.facts c.in-Some.place inside.nobody (id.Handler c.args.key) (c.self.invariant.tied.heads c.args.key c.in-Some.place at)
-    c.self.invariant.tied.nobody_there (sym s))
-    (sym (c.loosen.ensures.homes q) ∙ e)
 
 pub invariant_of-self : goal.invariant_of-self
 invariant_of-self c =
