@@ -92,24 +92,6 @@ invariant_of-self-2 c =
       counts = rw put (counts_with keys c.reserve-3.new.self.facts c.one_more.new.self.facts k key counts new c.one_more.ensures.each);
     }
 
-pub returns-clause-ok : goal.returns-clause-ok
-returns-clause-ok c =
-    let k : ℕ = c.in-Some.serial in
-    let key : Key = new_key c.args.typ c.args.description c.args.owner c.args.payload in
-    let keys : c.insert-2.new.self.facts ≡ map.insert c.reserve.new.self.facts k key = cc (c.insert-2.ensures.facts, c.get-3.ensures.number) in
-    let numbers : c.insert.new.self.facts ≡ map.insert c.reserve-2.new.self.facts k c.in_ok-number.number = cc (
-      c.insert.ensures.facts,
-      c.get-2.ensures.number,
-    ) in (
-      subst (λ (n : Known). IsNext n.serials k) c.self.view_is c.in-Some.ensures.cases.0,
-      record {
-        keys = keys ∙ ap (λ m. map.insert m k key) (c.reserve.ensures.facts ∙ ap (λ (n : Known). n.keys) c.self.view_is);
-        number = c.in_ok-number.number;
-        numbers = numbers ∙ ap (λ m. map.insert m k c.in_ok-number.number) (c.reserve-2.ensures.facts ∙ ap (λ (n : Known). n.numbers) c.self.view_is);
-        serials = c.in-Some.ensures.cases.1 ∙ ap (λ (n : Known). with_drawn k n.serials) c.self.view_is;
-      },
-    )
-
 pub returns-clause-number : goal.returns-clause-number
 returns-clause-number c =
     let known : Known = record { keys = c.reserve.new.self.facts; numbers = c.reserve-2.new.self.facts; serials = c.self.inside.serials } in
