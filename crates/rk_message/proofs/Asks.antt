@@ -1,18 +1,10 @@
 -- An ask can be told from its message.
-use Rattle.std.proofs.Common.{◌≡◌, ℕ, ℤ, zero, suc, true, false, Bool, List, [], ◌∷◌, Option, Some, None, Result, Ok, Err, refl, sym, ap, subst, ◌∙◌, arith}
-use Rattle.std.specs.Prelude.{◌||◌, ◌==◌, pos, unwrap_or, IfOk, if◌then◌else◌}
-use Rattle.rk_names.specs.declared.errors.KeyError.{KeyError}
+use Rattle.rk_message.proofs.Words.{◌≡◌, ap, refl, ℕ, sym, List, ◌∙◌, arith, true, false, Bool, ◌∷◌, Option, Some, None, Ok, Err, subst, [], Result, suc, zero}
+use Rattle.rk_message.proofs.Words.{ℤ, ◌==◌, unwrap_or, IfOk, if◌then◌else◌, ◌||◌, pos, key_error_named, KeyError, Ask, ask_message, IsAsk, JoinsASerial}
+use Rattle.rk_message.proofs.Words.{ReadsAsk, IsFaultOf, message_at, asks, Message, Value, spelling, U8, U32, I32, Blob, Maybe, Fault}
 use Rattle.rk_names.specs.declared.errors.KeyError.TheVariants as error
-use Rattle.rk_names.specs.Numbers.{key_error_named}
-use Rattle.rk_message.specs.Ask.{Ask}
 use Rattle.rk_message.specs.declared.ask.AskOf.TheVariants as ask
 use Rattle.rk_message.specs.declared.greeting.Greeting.{Greeting}
-use Rattle.rk_message.specs.declared.fault.Fault.{Fault}
-use Rattle.rk_message.specs.Wire.{Value, U8, U32, I32, Blob, Maybe, Message, spelling}
-use Rattle.rk_message.specs.Table.{asks}
-use Rattle.rk_message.specs.Reading.{message_at}
-use Rattle.rk_message.specs.Asks.{ask_message, JoinsASerial, IsAsk, ReadsAsk}
-use Rattle.rk_message.specs.Leftmost.{IsFaultOf}
 use Rattle.rk_message.proofs.Numbers.{IsBytes}
 use Rattle.rk_message.proofs.Messages.{message_takes, message_again}
 use Rattle.rk_message.proofs.Faults.{fault_of_body}

@@ -1,15 +1,11 @@
 -- A field that is read is the field that was written, and what was written is read again.
-use Rattle.std.proofs.Common.{◌≡◌, ℕ, zero, suc, ◌^◌, ◌<◌, ◌≤◌, false, cond, ltb, List, [], ◌∷◌, ◌++◌, length, take, drop, Option, Some, None, Ok, Err, refl, sym, ap, subst, arith}
-use Rattle.std.specs.Int.{w16, w32, to_be_bytes, cast_signed, cast_unsigned}
-use Rattle.std.proofs.lemmas.Bool.{ltb-false, le-ltb}
-use Rattle.std.proofs.lemmas.List.{take_at, drop_at, take-append-drop, length-append, length-take}
+use Rattle.rk_message.proofs.Words.{◌≡◌, ap, refl, ℕ, sym, List, arith, false, ◌∷◌, Option, Some, None, Ok, Err, subst, length, [], cond, suc, ◌<◌, ltb, ◌++◌}
+use Rattle.rk_message.proofs.Words.{zero, ◌^◌, ◌≤◌, take, drop, ltb-false, le-ltb, take_at, drop_at, take-append-drop, length-append, length-take, w32, w16}
+use Rattle.rk_message.proofs.Words.{to_be_bytes, cast_signed, cast_unsigned, Errno, value_at, number_at, block_at, unless, checked_at, Value, U8, U32, Kind}
+use Rattle.rk_message.proofs.Words.{I32, Blob, Maybe, spelled, IsValue, Byte, Word, Signed, Block, Optional, IsBlock, block, Short, Bad}
 use Rattle.std.proofs.lemmas.Int.{of_z-to_z, to_z-of_z}
 use Rattle.std.proofs.Math.Facts.{Fits-of_z, Fits-of_lt, sfits_to_z}
-use Rattle.rk_names.specs.declared.errors.Errno.{Errno}
 use Rattle.rk_names.specs.declared.errors.Errno.TheVariants.{Einval}
-use Rattle.rk_message.specs.declared.fault.Fault.TheVariants.{Short, Bad}
-use Rattle.rk_message.specs.Wire.{Value, U8, U32, I32, Blob, Maybe, Kind, Byte, Word, Signed, Block, Optional, block, spelled, IsBlock, IsValue}
-use Rattle.rk_message.specs.Reading.{number_at, block_at, unless, checked_at, value_at}
 use Rattle.rk_message.proofs.Numbers.{IsBytes, IsBytes-drop, IsBytes-rest, bind_ok, guard_ok, passed_ok, ok_is, Takes, Takes-then, wide16, wide32, number_takes, number_again}
 
 block_takes : (bytes text rest : List ℕ) → IsBytes bytes → block_at bytes ≡ Ok (text, rest) → Takes bytes (block text) rest × (length text < 2 ^ 16)

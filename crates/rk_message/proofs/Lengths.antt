@@ -1,19 +1,13 @@
 -- Lengths of spellings, and what several writes at the end come to.
-use Rattle.std.proofs.Common.{◌≡◌, ℕ, suc, ◌+◌, ◌≤◌, Bool, true, false, cond, ltb, eqb, List, [], ◌∷◌, ◌++◌, length, Option, Some, None, refl, sym, ap, ◌∙◌, append_assoc, length-append, arith}
-use Rattle.std.specs.List.{flat_map}
-use Rattle.std.proofs.lemmas.List.{append-nil}
-use Rattle.std.proofs.lemmas.Bool.{ltb-false}
-use Rattle.std.proofs.lemmas.List.Concat.{flat_map-cons}
+use Rattle.rk_message.proofs.Words.{◌≡◌, ap, refl, ℕ, sym, List, ◌∙◌, arith, true, false, Bool, ◌∷◌, Option, Some, None, length, [], cond, suc, eqb, ltb, ◌++◌}
+use Rattle.rk_message.proofs.Words.{◌≤◌, append_assoc, ◌+◌, ltb-false, append-nil, flat_map-cons, flat_map, Ask, ask_message, IsAsk, ask_values, reply_message}
+use Rattle.rk_message.proofs.Words.{IsReply, refusal, type_rule, description_rule, callout_rule, payload_rule, reply_rule, Value, spelling, U8, U32, I32, Blob}
+use Rattle.rk_message.proofs.Words.{Maybe, spelled, Reply}
+use Rattle.std.proofs.Common.{length-append}
 use Rattle.rk_names.specs.declared.errors.NameFault.{NameFault}
 use Rattle.rk_names.specs.Rules.{type_fault, description_fault, callout_fault, payload_fault}
-use Rattle.rk_message.specs.Ask.{Ask}
 use Rattle.rk_message.specs.declared.ask.AskOf.TheVariants as ask
-use Rattle.rk_message.specs.declared.reply.Reply.{Reply}
 use Rattle.rk_message.specs.declared.reply.Reply.TheVariants as reply
-use Rattle.rk_message.specs.Wire.{Value, U8, U32, I32, Blob, Maybe, spelled, spelling}
-use Rattle.rk_message.specs.Table.{refusal, type_rule, description_rule, callout_rule, payload_rule, reply_rule}
-use Rattle.rk_message.specs.Asks.{ask_values, ask_message, IsAsk}
-use Rattle.rk_message.specs.Replies.{reply_message, IsReply}
 
 join2 : (o p q a b : List ℕ) → p ≡ o ++ a → q ≡ p ++ b → q ≡ o ++ (a ++ b)
 join2 o p q a b e f = f ∙ ap (λ (x : List ℕ). x ++ b) e ∙ append_assoc o a b

@@ -1,15 +1,11 @@
 -- The table in the code is the table of asks.
-use Rattle.std.proofs.Common.{◌≡◌, ℕ, ◌-◌, Bool, true, false, cond, List, [], ◌∷◌, length, Option, Some, None, refl, sym, ap, subst, ◌∙◌, get_or}
-use Rattle.std.proofs.lemmas.Bool.{eqb-true}
-use Rattle.std.proofs.lemmas.List.{length-map}
+use Rattle.rk_message.proofs.Words.{◌≡◌, ap, refl, ℕ, sym, List, ◌∙◌, true, false, Bool, ◌∷◌, Option, Some, None, subst, length, [], cond, get_or, ◌-◌}
+use Rattle.rk_message.proofs.Words.{eqb-true, length-map, ◌==◌, MatchOption, map, find, option_map, asks, op_byte, ops, ask_line, ask_fields, form, line_of}
+use Rattle.rk_message.proofs.Words.{Kind, kinds_of, Op}
 use Rattle.std.proofs.Math.ListN.{get_or-map}
-use Rattle.std.specs.Prelude.{◌==◌, map, find, MatchOption, option_map}
-use Rattle.rk_message.specs.declared.shape.Op.{Op}
 use Rattle.rk_message.specs.declared.shape.Op.TheVariants as op
 use Rattle.rk_message.specs.declared.shape.FieldKind.{FieldKind}
 use Rattle.rk_message.specs.declared.shape.AskShape.{AskShape}
-use Rattle.rk_message.specs.Wire.{Kind, kinds_of}
-use Rattle.rk_message.specs.Table.{asks, ops, ask_line, op_byte, ask_fields, form, line_of}
 
 abbrev pub paired : Op → Op × (ℕ × List ℕ × List FieldKind)
 paired o = (o, ask_line o)

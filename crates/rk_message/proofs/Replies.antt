@@ -1,17 +1,8 @@
 -- A reply can be told from its message.
-use Rattle.std.proofs.Common.{◌≡◌, ℕ, List, Result, Ok, Err, refl, sym, ap, ◌∙◌}
-use Rattle.std.specs.Prelude.{◌==◌, unwrap_or, MatchResult, if◌then◌else◌}
-use Rattle.rk_names.specs.declared.errors.Errno.{Errno}
+use Rattle.rk_message.proofs.Words.{◌≡◌, ap, refl, ℕ, sym, List, ◌∙◌, Ok, Err, Result, ◌==◌, unwrap_or, if◌then◌else◌, MatchResult, errno_number, errno_named}
+use Rattle.rk_message.proofs.Words.{Errno, message_at, Gives, reply_message, IsReply, replies, Message, spelling, ReadError, NoMemory, Reply}
 use Rattle.rk_names.specs.declared.errors.Errno.TheVariants as errno
-use Rattle.rk_names.specs.Numbers.{errno_number, errno_named}
-use Rattle.rk_message.specs.declared.reply.Reply.{Reply}
 use Rattle.rk_message.specs.declared.reply.Reply.TheVariants as reply
-use Rattle.rk_message.specs.declared.fault.ReadError.{ReadError}
-use Rattle.rk_message.specs.declared.fault.ReadError.TheVariants.{NoMemory}
-use Rattle.rk_message.specs.Wire.{Message, spelling}
-use Rattle.rk_message.specs.Table.{replies}
-use Rattle.rk_message.specs.Reading.{Gives, message_at}
-use Rattle.rk_message.specs.Replies.{reply_message, IsReply}
 use Rattle.rk_message.proofs.Asks.{at, number, bytes}
 use Rattle.rk_message.proofs.Messages.{message_again}
 use Rattle.rk_message.proofs.Readers.{is_only}

@@ -1,21 +1,13 @@
 -- Each message of the table is an ask's, or a reply's.
-use Rattle.std.proofs.Common.{◌≡◌, ℕ, ℤ, zero, suc, ◌^◌, ◌<◌, Bool, true, false, cond, eqb, ltb, List, [], ◌∷◌, Option, Some, None, refl, sym, subst, ◌∙◌, arith}
-use Rattle.std.specs.Prelude.{FitsSigned, IsSomeAnd, is_some}
-use Rattle.std.specs.Int.{w32}
-use Rattle.std.proofs.lemmas.Bool.{eqb-true, ltb-true}
-use Rattle.rk_names.specs.declared.errors.Errno.{Errno}
+use Rattle.rk_message.proofs.Words.{◌≡◌, refl, ℕ, sym, List, ◌∙◌, arith, true, false, Bool, ◌∷◌, Option, Some, None, subst, [], cond, suc, ◌<◌, eqb, ltb, zero}
+use Rattle.rk_message.proofs.Words.{◌^◌, ℤ, eqb-true, ltb-true, w32, IsSomeAnd, FitsSigned, is_some, key_error_named, errno_number, errno_named, Errno}
+use Rattle.rk_message.proofs.Words.{KeyError, Ask, ask_message, IsAsk, flag_bits, error_number, reply_message, IsReply, asks, replies, Message, Value, U8, U32}
+use Rattle.rk_message.proofs.Words.{Kind, Fields, kinds_of, I32, Blob, Maybe, IsMessage, IsValue, Byte, Word, Signed, Block, Optional, IsBlock, AreValues}
+use Rattle.rk_message.proofs.Words.{Reply}
 use Rattle.rk_names.specs.declared.errors.Errno.TheVariants as errno
-use Rattle.rk_names.specs.declared.errors.KeyError.{KeyError}
 use Rattle.rk_names.specs.declared.errors.KeyError.TheVariants as error
-use Rattle.rk_names.specs.Numbers.{errno_number, errno_named, key_error_named}
-use Rattle.rk_message.specs.Ask.{Ask}
 use Rattle.rk_message.specs.declared.ask.AskOf.TheVariants as ask
-use Rattle.rk_message.specs.declared.reply.Reply.{Reply}
 use Rattle.rk_message.specs.declared.reply.Reply.TheVariants as reply
-use Rattle.rk_message.specs.Wire.{Value, U8, U32, I32, Blob, Maybe, Kind, Byte, Word, Signed, Block, Optional, Message, Fields, kinds_of, IsBlock, IsValue, AreValues, IsMessage}
-use Rattle.rk_message.specs.Table.{asks, replies}
-use Rattle.rk_message.specs.Asks.{ask_message, flag_bits, error_number, IsAsk}
-use Rattle.rk_message.specs.Replies.{reply_message, IsReply}
 
 -- P of any fields of the kinds
 abbrev pub ForFields : List Kind → (List Value → Type 0) → Type 0

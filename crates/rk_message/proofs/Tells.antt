@@ -1,6 +1,5 @@
 -- Tests of which `true` tells that two values are equal, and what a derived test makes of them: it goes by variant, and then field by field.
-use Rattle.std.proofs.Common.{◌≡◌, Some, None, refl, ap, inl, inr}
-use Rattle.std.specs.Prelude.{Bool, true, false, ◌⊎◌, ◌==◌, ◌&&◌}
+use Rattle.rk_message.proofs.Words.{◌≡◌, ap, refl, true, false, Bool, Some, None, inl, inr, ◌==◌, ◌⊎◌, ◌&&◌}
 use Rattle.std.specs.Cmp.{signed_Decides, unsigned_Decides}
 use Rattle.std.specs.Cmp.Lexicographic.{pointwise, pointwise_decides}
 use Rattle.std.specs.Ordering.{int_eq}
