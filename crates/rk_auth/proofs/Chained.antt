@@ -252,8 +252,7 @@ module _ (m : Slots) (j h : ℕ) (chained : AreChained m) (idle : home_at m j �
 
   firsts_3 : (n : Option ℕ) (q : ℕ) → first_at (put_3 n) q ≡ cond (nat_eq h q) (Some j) (first_at m q)
   firsts_3 n q =
-      last_left first_in (λ s. refl) n q
-      ∙ elim (cases_eq h q) [
+      last_left first_in (λ s. refl) n q ∙ elim (cases_eq h q) [
         | inl e ↦
             touched first_in h (with_first (Some j)) put_1 q e
             ∙ written first_in (with_first (Some j)) (Some j) (λ s. refl) (get put_1 q) (untouched is_some j (with_link (Some put_link)) (λ s. refl) m q ∙ ap (λ x. is_some (get m x)) (sym e) ∙ home)
@@ -268,8 +267,7 @@ module _ (m : Slots) (j h : ℕ) (chained : AreChained m) (idle : home_at m j �
   is_put n is = record {
     next = last_left next_in (before_next (Some j)) n j ∙ next_2 j ∙ touched next_in j (with_link (Some put_link)) m j refl ∙ written next_in (with_link (Some put_link)) (first_at m h) (λ s. refl) (get m j) there;
     before =
-        befores_3 n is j
-        ∙ ap (λ b. cond b (Some j) (before_at put_1 j)) (not_named n j (λ e. none-some h (sym idle ∙ (heads m chained j h (sym is ∙ e)).0)))
+        befores_3 n is j ∙ ap (λ b. cond b (Some j) (before_at put_1 j)) (not_named n j (λ e. none-some h (sym idle ∙ (heads m chained j h (sym is ∙ e)).0)))
         ∙ touched before_in j (with_link (Some put_link)) m j refl ∙ written before_in (with_link (Some put_link)) None (λ s. refl) (get m j) there;
     nexts = λ q ne. last_left next_in (before_next (Some j)) n q ∙ next_2 q ∙ passed next_in j (with_link (Some put_link)) m q (λ e. ne (sym e));
     befores = λ q ne.
@@ -355,8 +353,7 @@ module _ (m : Slots) (j : ℕ) (l : Link) (chained : AreChained m) (at : link_in
       ∙ sym (over_other (next_at m) j (first_at m q) (λ e. none-some p (sym (heads m chained j q e).1 ∙ before_is ∙ sym is)))
 
   befores_2 : (b n : Option ℕ) → n ≡ l.next → (q : ℕ) → before_at (out_2 b n) q ≡ over (before_at m) j (before_at m q)
-  befores_2 b None is q =
-      before_1 b q ∙ sym (over_other (before_at m) j (before_at m q) (λ e. none-some q (is ∙ sym next_is ∙ on m chained j q e)))
+  befores_2 b None is q = before_1 b q ∙ sym (over_other (before_at m) j (before_at m q) (λ e. none-some q (is ∙ sym next_is ∙ on m chained j q e)))
   befores_2 b (Some y) is q = elim (cases_eq y q) [
     | inl e ↦
         let before : before_at m q ≡ Some j = back m chained j q (next_is ∙ sym is ∙ ap (λ x. Some x) e) in
@@ -385,8 +382,7 @@ module _ (m : Slots) (j : ℕ) (l : Link) (chained : AreChained m) (at : link_in
   -- taking a slot out of its chain leaves who stands at each place
   pub out_standing : (b n : Option ℕ) (q : ℕ) → standing_at (out_3 b n) q ≡ standing_at m q
   out_standing b n q =
-      untouched standing_in j (with_link None) (λ s. refl) (out_2 b n) q ∙ left_2 standing_in (λ s. refl) b n q
-      ∙ left_1 standing_in (λ s. refl) (λ s. refl) b q
+      untouched standing_in j (with_link None) (λ s. refl) (out_2 b n) q ∙ left_2 standing_in (λ s. refl) b n q ∙ left_1 standing_in (λ s. refl) (λ s. refl) b q
 
 -- who stands in no chain is in none once he is taken out
 pub no_link : (m : Slots) (j : ℕ) → link_in (get m j) ≡ None → (q : ℕ) → home_at m q ≡ cond (nat_eq j q) None (home_at m q)

@@ -28,12 +28,10 @@ has_without j (x ∷ xs) q = elim (cases_eq x j) [
     kept : (x ≡ j → ⊥) → (nat_eq x q || cond (nat_eq j q) false (has xs q)) ≡ cond (nat_eq j q) false (nat_eq x q || has xs q)
     kept ne = elim (cases_eq j q) [
       | inl same ↦
-          ap (λ b. nat_eq x q || cond b false (has xs q)) (eq-eqb j q same)
-          ∙ ap (λ b. b || false) (ne_eqb x q (λ s. ne (s ∙ sym same)))
+          ap (λ b. nat_eq x q || cond b false (has xs q)) (eq-eqb j q same) ∙ ap (λ b. b || false) (ne_eqb x q (λ s. ne (s ∙ sym same)))
           ∙ sym (ap (λ b. cond b false (nat_eq x q || has xs q)) (eq-eqb j q same))
       | inr other ↦
-          ap (λ b. nat_eq x q || cond b false (has xs q)) (ne_eqb j q other)
-          ∙ sym (ap (λ b. cond b false (nat_eq x q || has xs q)) (ne_eqb j q other))
+          ap (λ b. nat_eq x q || cond b false (has xs q)) (ne_eqb j q other) ∙ sym (ap (λ b. cond b false (nat_eq x q || has xs q)) (ne_eqb j q other))
     ]
 
 -- a list in which none stands twice keeps that without j

@@ -106,8 +106,7 @@ round_ends f old now h at step end round is =
 -- a round that has used its steps has changed each of the chain
 pub round_is_over : (f : Slot → Slot) (old now : Slots) (h : ℕ) (at : Option ℕ) (step end : ℕ) → IsRound f old now h at step end → end ≤ step
     → (xs : List ℕ) → IsChainOf old h xs → now ≡ changed_each_at f xs old
-round_is_over f old now h at step end round le =
-    none_left f old now h round.left (no_length round.left (omega (arith, round.short, le))) round.leads
+round_is_over f old now h at step end round le = none_left f old now h round.left (no_length round.left (omega (arith, round.short, le))) round.leads
 
 -- ---- the round that takes each to another chain
 
@@ -151,10 +150,8 @@ loosening_goes_on old now mid new h other p step end was apart first mid_standin
   standing = λ q. standing q ∙ mid_standing q ∙ was.standing q;
   homes = λ q. elim (cases_eq p q) [
     | inl e ↦
-        ap (rehomed h other) (homes q ∙ at_same p q (Some other) (home_at mid q) e)
-        ∙ ap (λ b. cond b (Some other) (Some other)) (ne_eqb other h apart)
-        ∙ sym (ap (λ b. cond b (Some other) (home_at now q)) (is_named (home_at now q) h (ap (home_at now) (sym e) ∙ home)))
-        ∙ was.homes q
+        ap (rehomed h other) (homes q ∙ at_same p q (Some other) (home_at mid q) e) ∙ ap (λ b. cond b (Some other) (Some other)) (ne_eqb other h apart)
+        ∙ sym (ap (λ b. cond b (Some other) (home_at now q)) (is_named (home_at now q) h (ap (home_at now) (sym e) ∙ home))) ∙ was.homes q
     | inr ne ↦ ap (rehomed h other) (homes q ∙ at_apart p q (Some other) (home_at mid q) ne ∙ mid_homes q ∙ at_apart p q None (home_at now q) ne) ∙ was.homes q
   ];
   short = λ xs is.
@@ -178,8 +175,7 @@ empty_chain : (m : Slots) (h : ℕ) (xs : List ℕ) → IsChainOf m h xs → xs 
 empty_chain m h xs is none q e = both_ways _ (ap (λ l. has l q) none) (is.exact q ∙ is_named (home_at m q) h e)
 
 nobody_left : (old now : Slots) (h other step end : ℕ) → IsLoosened old now h other step end → ((q : ℕ) → home_at now q ≡ Some h → ⊥) → (q : ℕ) → home_at now q ≡ rehomed h other (home_at old q)
-nobody_left old now h other step end was nobody q =
-    sym (ap (λ b. cond b (Some other) (home_at now q)) (not_named (home_at now q) h (nobody q))) ∙ was.homes q
+nobody_left old now h other step end was nobody q = sym (ap (λ b. cond b (Some other) (home_at now q)) (not_named (home_at now q) h (nobody q))) ∙ was.homes q
 
 -- if the chain has no first place any more, all that were in it are in the other
 pub loosened : (old now : Slots) (h other step end : ℕ) → IsLoosened old now h other step end → None ≡ first_at now h → (q : ℕ) → home_at now q ≡ rehomed h other (home_at old q)

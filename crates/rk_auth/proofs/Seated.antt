@@ -110,67 +110,24 @@ pub views : {a b : FinMap nat_cmp Construction} {c d : FinMap nat_cmp Session} �
     → ◌≡◌ {A = Sessions} (record { constructions = a; clients = c }) (record { constructions = b; clients = d })
 views e f i = record { constructions = e i; clients = f i }
 
-module _ (m n : Slots) (clients constructions : Index) (nobody : ℕ) (tied : IsTied m constructions nobody)
-    (named : (q i : ℕ) → get clients q ≡ Some i → who_at m i ≡ Some (Some (id.Client q))) where
-  -- one was changed
-  module _ (f : Standing → Standing) (p : ℕ) (stands : (q : ℕ) → standing_at n q ≡ cond (nat_eq p q) (option_map f (standing_at m q)) (standing_at m q)) where
-    at_place : standing_at n p ≡ option_map f (standing_at m p)
-    at_place = stands p ∙ at_same p p (option_map f (standing_at m p)) (standing_at m p) refl
-
-    elsewhere : (q : ℕ) → (p ≡ q → ⊥) → standing_at n q ≡ standing_at m q
-    elsewhere q ne = stands q ∙ at_apart p q (option_map f (standing_at m q)) (standing_at m q) ne
-
-  -- a session that is changed in its slot is changed in the view, and no other is
-  pub changed_view : (g : Session → Session) (s : SessionId) (p : ℕ) → place_of clients constructions s ≡ Some p
-      → ((q : ℕ) → standing_at n q ≡ cond (nat_eq p q) (option_map (in_session g) (standing_at m q)) (standing_at m q))
-      → View n clients constructions ≡ session_changed s g (View m clients constructions)
-  changed_view g (id.Client k) p is stands =
-      views (seen_same construction_of m n constructions (λ q j at. ap construction_of (elsewhere (in_session g) p stands j
-      (apart_places m p j (id.Client k) (id.Handler q) (named k p is) (tied.heads q j at) (not_both k q)))))
-      (seen_changed client_of m n clients k p g is (ap client_of (at_place (in_session g) p stands) ∙ made_client g (standing_at m p) k (named k p is))
-      (λ q j ne at. ap client_of (elsewhere (in_session g) p stands j
-      (apart_places m p j (id.Client k) (id.Client q) (named k p is) (named q j at) (λ e. ne (same_client k q e))))))
-  changed_view g (id.Handler k) p is stands =
-      views (seen_changed construction_of m n constructions k p (in_handler g) is
-      (ap construction_of (at_place (in_session g) p stands) ∙ made_handler g (standing_at m p) k (tied.heads k p is))
-      (λ q j ne at. ap construction_of (elsewhere (in_session g) p stands j
-      (apart_places m p j (id.Handler k) (id.Handler q) (tied.heads k p is) (tied.heads q j at) (λ e. ne (same_handler k q e))))))
-      (seen_same client_of m n clients (λ q j at. ap client_of (elsewhere (in_session g) p stands j
-      (apart_places m p j (id.Handler k) (id.Client q) (tied.heads k p is) (named q j at) (λ e. not_both q k (sym e))))))
-
-  -- a construction that is changed in its slot is changed in the view, and no other is
-  pub construction_view : (h : Construction → Construction) (k p : ℕ) → get constructions k ≡ Some p
-      → ((q : ℕ) → standing_at n q ≡ cond (nat_eq p q) (option_map (in_construction h) (standing_at m q)) (standing_at m q))
-      → View n clients constructions ≡ record { constructions = changed_at k h (seen construction_of m constructions); clients = seen client_of m clients }
-  construction_view h k p is stands =
-      views (seen_changed construction_of m n constructions k p h is
-      (ap construction_of (at_place (in_construction h) p stands) ∙ made_construction h (standing_at m p) k (tied.heads k p is))
-      (λ q j ne at. ap construction_of (elsewhere (in_construction h) p stands j
-      (apart_places m p j (id.Handler k) (id.Handler q) (tied.heads k p is) (tied.heads q j at) (λ e. ne (same_handler k q e))))))
-      (seen_same client_of m n clients (λ q j at. ap client_of (elsewhere (in_construction h) p stands j
-      (apart_places m p j (id.Handler k) (id.Client q) (tied.heads k p is) (named q j at) (λ e. not_both q k (sym e))))))
-
 -- a change of a session that has no slot leaves the view
 pub unchanged_view : (m : Slots) (clients constructions : Index) (g : Session → Session) (s : SessionId) → place_of clients constructions s ≡ None
     → View m clients constructions ≡ session_changed s g (View m clients constructions)
-unchanged_view m clients constructions g (id.Client k) none =
-    views refl
-    (seen_unchanged client_of m clients k g none)
-unchanged_view m clients constructions g (id.Handler k) none =
-    views (seen_unchanged construction_of m constructions k (in_handler g) none) refl
+unchanged_view m clients constructions g (id.Client k) none = views refl (seen_unchanged client_of m clients k g none)
+unchanged_view m clients constructions g (id.Handler k) none = views (seen_unchanged construction_of m constructions k (in_handler g) none) refl
 
 -- a change of a construction that has no slot leaves the view
 pub unchanged_construction : (m : Slots) (clients constructions : Index) (h : Construction → Construction) (k : ℕ) → get constructions k ≡ None
     → View m clients constructions ≡ record { constructions = changed_at k h (seen construction_of m constructions); clients = seen client_of m clients }
-unchanged_construction m clients constructions h k none =
-    views (seen_unchanged construction_of m constructions k h none) refl
+unchanged_construction m clients constructions h k none = views (seen_unchanged construction_of m constructions k h none) refl
 
 -- all stay seated where only who stands there was changed
-pub seated_changed : (f : Standing → Standing) (s t : Stored Slot) (clients constructions : Stored ℕ) (nobody reserved p : ℕ) → AreSeated s clients constructions nobody reserved
+pub seated_changed : {s : Stored Slot} {clients constructions : Stored ℕ} {nobody reserved : ℕ} (f : Standing → Standing) (t : Stored Slot) (p : ℕ)
+    → AreSeated s clients constructions nobody reserved
     → ((x : Standing) → who_of (f x) ≡ who_of x) → IsTied t.facts constructions.facts nobody
     → ((q : ℕ) → standing_at t.facts q ≡ cond (nat_eq p q) (option_map f (standing_at s.facts q)) (standing_at s.facts q)) → t.room ≡ s.room
     → AreSeated t clients constructions nobody reserved
-seated_changed f s t clients constructions nobody reserved p was same tied stands room = record {
+seated_changed {s} f t p was same tied stands room = record {
   tied = tied;
   names = λ n i is. ap (option_map who_of) (stands i) ∙ who_kept f same (nat_eq p i) (standing_at s.facts i) ∙ was.names n i is;
   few = was.few;
@@ -334,97 +291,142 @@ tied_ended m l n index nobody k p tied is standing_l homes_l chained standing_n 
       let at : get index q ≡ Some i = sym (left_in index k q (λ s. other (sym s))) ∙ e in
       let who = tied.heads q i at in
       ap (option_map who_of) (left i (apart_places m p i (id.Handler k) (id.Handler q) (tied.heads k p is) who (λ s. other (same_handler k q s)))) ∙ who;
-  nobody_there =
-      ap (option_map who_of) (left nobody (not_nobody m p nobody (id.Handler k) (tied.heads k p is) tied.nobody_there)) ∙ tied.nobody_there;
+  nobody_there = ap (option_map who_of) (left nobody (not_nobody m p nobody (id.Handler k) (tied.heads k p is) tied.nobody_there)) ∙ tied.nobody_there;
 }
   where
     left : (q : ℕ) → (p ≡ q → ⊥) → standing_at n q ≡ standing_at m q
     left q ne = standing_n q ∙ at_apart p q None (standing_at l q) ne ∙ standing_l q
 
--- ---- the views of those who come and go
+-- ---- the views, through a change of one slot
 
-module _ (m n : Slots) (clients constructions : Index) (nobody p : ℕ) (tied : IsTied m constructions nobody)
-    (named : (q i : ℕ) → get clients q ≡ Some i → who_at m i ≡ Some (Some (id.Client q))) where
-  -- a client that takes a place is in the view, and all others are as they were
-  pub client_put_view : (k : ℕ) (s : Session) → standing_at m p ≡ None → ((q : ℕ) → standing_at n q ≡ cond (nat_eq p q) (Some (standing.Client k s)) (standing_at m q))
-      → View n (insert clients k p) constructions ≡ record { constructions = seen construction_of m constructions; clients = insert (seen client_of m clients) k s }
-  client_put_view k s new stands =
-      let st = standing.Client k s in
-      views (seen_same construction_of m n constructions (λ q j at. ap construction_of (put_elsewhere m n st p new stands j (put_not m n st p new stands j (Some (id.Handler q)) (tied.heads q j at)))))
-      (seen_put client_of m n clients k p s (ap client_of (put_at m n st p new stands))
-      (λ q j at. ap client_of (put_elsewhere m n st p new stands j (put_not m n st p new stands j (Some (id.Client q)) (named q j at)))))
+module _ {s : Stored Slot} {cs ks : Stored ℕ} {nobody reserved : ℕ} (was : AreSeated s cs ks nobody reserved) (n : Slots) where
+  abbrev m : Slots
+  m = s.facts
 
-  -- a construction that takes a place is in the view, and all others are as they were
-  pub construction_put_view : (k : ℕ) (c : Construction) → standing_at m p ≡ None
-      → ((q : ℕ) → standing_at n q ≡ cond (nat_eq p q) (Some (standing.Construction k c)) (standing_at m q))
-      → View n clients (insert constructions k p) ≡ record { constructions = insert (seen construction_of m constructions) k c; clients = seen client_of m clients }
-  construction_put_view k c new stands =
-      let st = standing.Construction k c in
-      views (seen_put construction_of m n constructions k p c (ap construction_of (put_at m n st p new stands))
-      (λ q j at. ap construction_of (put_elsewhere m n st p new stands j (put_not m n st p new stands j (Some (id.Handler q)) (tied.heads q j at)))))
-      (seen_same client_of m n clients (λ q j at. ap client_of (put_elsewhere m n st p new stands j (put_not m n st p new stands j (Some (id.Client q)) (named q j at)))))
+  abbrev clients : Index
+  clients = cs.facts
 
-  -- a client that gives its place back is no more in the view, and all others are as they were
-  pub client_out_view : (k : ℕ) → get clients k ≡ Some p → ((q : ℕ) → standing_at n q ≡ cond (nat_eq p q) None (standing_at m q))
-      → View n (remove clients k) constructions ≡ record { constructions = seen construction_of m constructions; clients = remove (seen client_of m clients) k }
-  client_out_view k is stands =
-      views (seen_same construction_of m n constructions (λ q j at. ap construction_of (out_elsewhere m n p stands j
-      (apart_places m p j (id.Client k) (id.Handler q) (named k p is) (tied.heads q j at) (not_both k q)))))
-      (seen_out client_of m n clients k (λ q j ne at. ap client_of (out_elsewhere m n p stands j
-      (apart_places m p j (id.Client k) (id.Client q) (named k p is) (named q j at) (λ e. ne (same_client k q e))))))
+  abbrev constructions : Index
+  constructions = ks.facts
 
-  -- a construction that gives its place back is no more in the view, and all others are as they were
-  pub construction_out_view : (k : ℕ) → get constructions k ≡ Some p → ((q : ℕ) → standing_at n q ≡ cond (nat_eq p q) None (standing_at m q))
-      → View n clients (remove constructions k) ≡ record { constructions = remove (seen construction_of m constructions) k; clients = seen client_of m clients }
-  construction_out_view k is stands =
-      views (seen_out construction_of m n constructions k (λ q j ne at. ap construction_of (out_elsewhere m n p stands j
-      (apart_places m p j (id.Handler k) (id.Handler q) (tied.heads k p is) (tied.heads q j at) (λ e. ne (same_handler k q e))))))
-      (seen_same client_of m n clients (λ q j at. ap client_of (out_elsewhere m n p stands j
-      (apart_places m p j (id.Handler k) (id.Client q) (tied.heads k p is) (named q j at) (λ e. not_both q k (sym e))))))
+  -- the slots of two sessions are two
+  apart_of_both : (k q p j : ℕ) → get clients k ≡ Some p → get constructions q ≡ Some j → p ≡ j → ⊥
+  apart_of_both k q p j is at = apart_places m p j (id.Client k) (id.Handler q) (was.names k p is) (was.tied.heads q j at) (not_both k q)
 
-  -- the names of the clients, once one is there or gone
-  pub named_put : (st : Standing) → standing_at m p ≡ None → ((q : ℕ) → standing_at n q ≡ cond (nat_eq p q) (Some st) (standing_at m q))
-      → (q i : ℕ) → get clients q ≡ Some i → who_at n i ≡ Some (Some (id.Client q))
-  named_put st new stands q i at = put_who m n st p new stands i (Some (id.Client q)) (named q i at)
+  apart_of_clients : (k q p j : ℕ) → (k ≡ q → ⊥) → get clients k ≡ Some p → get clients q ≡ Some j → p ≡ j → ⊥
+  apart_of_clients k q p j ne is at = apart_places m p j (id.Client k) (id.Client q) (was.names k p is) (was.names q j at) (λ e. ne (same_client k q e))
 
-  -- each client's number names its slot where a client takes a place
-  pub named_new : (k : ℕ) (s : Session) → standing_at m p ≡ None → ((q : ℕ) → standing_at n q ≡ cond (nat_eq p q) (Some (standing.Client k s)) (standing_at m q))
-      → (q i : ℕ) → get (insert clients k p) q ≡ Some i → who_at n i ≡ Some (Some (id.Client q))
-  named_new k s new stands q i is = elim (cases_eq q k) [
-    | inl e ↦
-        let same : p ≡ i = same_Some p i (sym (at_new clients k p q e) ∙ is) in
-        sym (ap (who_at n) same) ∙ ap (option_map who_of) (put_at m n (standing.Client k s) p new stands) ∙ ap (λ x. Some (Some (id.Client x))) (sym e)
-    | inr ne ↦ named_put (standing.Client k s) new stands q i (sym (at_other clients k p q ne) ∙ is)
-  ]
+  apart_of_constructions : (k q p j : ℕ) → (k ≡ q → ⊥) → get constructions k ≡ Some p → get constructions q ≡ Some j → p ≡ j → ⊥
+  apart_of_constructions k q p j ne is at =
+      apart_places m p j (id.Handler k) (id.Handler q) (was.tied.heads k p is) (was.tied.heads q j at) (λ e. ne (same_handler k q e))
 
-  -- each client's number names its slot where a construction gives its place back
-  pub named_left : (k : ℕ) → get constructions k ≡ Some p → ((q : ℕ) → standing_at n q ≡ cond (nat_eq p q) None (standing_at m q))
-      → (q i : ℕ) → get clients q ≡ Some i → who_at n i ≡ Some (Some (id.Client q))
-  named_left k is stands q i at =
-      ap (option_map who_of) (out_elsewhere m n p stands i (apart_places m p i (id.Handler k) (id.Client q) (tied.heads k p is) (named q i at) (λ e. not_both q k (sym e))))
-      ∙ named q i at
+  -- ---- one is changed
 
-  -- each client's number names its slot where another client gives its place back
-  pub named_others : (k : ℕ) → get clients k ≡ Some p → ((q : ℕ) → standing_at n q ≡ cond (nat_eq p q) None (standing_at m q))
-      → (q i : ℕ) → get (remove clients k) q ≡ Some i → who_at n i ≡ Some (Some (id.Client q))
-  named_others k is stands q i e =
-      let other : k ≡ q → ⊥ = λ same. none-some i (sym (taken_out clients k q (sym same)) ∙ e) in
-      let at : get clients q ≡ Some i = sym (left_in clients k q (λ s. other (sym s))) ∙ e in
-      ap (option_map who_of) (out_elsewhere m n p stands i (apart_places m p i (id.Client k) (id.Client q) (named k p is) (named q i at) (λ s. other (same_client k q s))))
-      ∙ named q i at
+  module _ (f : Standing → Standing) (p : ℕ) (stands : (q : ℕ) → standing_at n q ≡ cond (nat_eq p q) (option_map f (standing_at m q)) (standing_at m q)) where
+    at_place : standing_at n p ≡ option_map f (standing_at m p)
+    at_place = stands p ∙ at_same p p (option_map f (standing_at m p)) (standing_at m p) refl
+
+    elsewhere : (q : ℕ) → (p ≡ q → ⊥) → standing_at n q ≡ standing_at m q
+    elsewhere q ne = stands q ∙ at_apart p q (option_map f (standing_at m q)) (standing_at m q) ne
+
+  -- a session that is changed in its slot is changed in the view, and no other is
+  pub changed_view : (g : Session → Session) (s : SessionId) (p : ℕ) → place_of clients constructions s ≡ Some p
+      → ((q : ℕ) → standing_at n q ≡ cond (nat_eq p q) (option_map (in_session g) (standing_at m q)) (standing_at m q))
+      → View n clients constructions ≡ session_changed s g (View m clients constructions)
+  changed_view g (id.Client k) p is stands =
+      views (seen_same construction_of m n constructions (λ q j at. ap construction_of (elsewhere (in_session g) p stands j (apart_of_both k q p j is at))))
+      (seen_changed client_of m n clients k p g is (ap client_of (at_place (in_session g) p stands) ∙ made_client g (standing_at m p) k (was.names k p is))
+      (λ q j ne at. ap client_of (elsewhere (in_session g) p stands j (apart_of_clients k q p j ne is at))))
+  changed_view g (id.Handler k) p is stands =
+      views (seen_changed construction_of m n constructions k p (in_handler g) is
+      (ap construction_of (at_place (in_session g) p stands) ∙ made_handler g (standing_at m p) k (was.tied.heads k p is))
+      (λ q j ne at. ap construction_of (elsewhere (in_session g) p stands j (apart_of_constructions k q p j ne is at))))
+      (seen_same client_of m n clients (λ q j at. ap client_of (elsewhere (in_session g) p stands j (λ e. apart_of_both q k j p at is (sym e)))))
+
+  -- a construction that is changed in its slot is changed in the view, and no other is
+  pub construction_view : (h : Construction → Construction) (k p : ℕ) → get constructions k ≡ Some p
+      → ((q : ℕ) → standing_at n q ≡ cond (nat_eq p q) (option_map (in_construction h) (standing_at m q)) (standing_at m q))
+      → View n clients constructions ≡ record { constructions = changed_at k h (seen construction_of m constructions); clients = seen client_of m clients }
+  construction_view h k p is stands =
+      views (seen_changed construction_of m n constructions k p h is
+      (ap construction_of (at_place (in_construction h) p stands) ∙ made_construction h (standing_at m p) k (was.tied.heads k p is))
+      (λ q j ne at. ap construction_of (elsewhere (in_construction h) p stands j (apart_of_constructions k q p j ne is at))))
+      (seen_same client_of m n clients (λ q j at. ap client_of (elsewhere (in_construction h) p stands j (λ e. apart_of_both q k j p at is (sym e)))))
+
+  -- ---- one comes or goes
+
+  module _ (p : ℕ) where
+    -- a client that takes a place is in the view, and all others are as they were
+    pub client_put_view : (k : ℕ) (s : Session) → standing_at m p ≡ None → ((q : ℕ) → standing_at n q ≡ cond (nat_eq p q) (Some (standing.Client k s)) (standing_at m q))
+        → View n (insert clients k p) constructions ≡ record { constructions = seen construction_of m constructions; clients = insert (seen client_of m clients) k s }
+    client_put_view k s new stands =
+        let st = standing.Client k s in
+        views (seen_same construction_of m n constructions (λ q j at. ap construction_of (put_elsewhere m n st p new stands j (put_not m n st p new stands j (Some (id.Handler q)) (was.tied.heads q j at)))))
+        (seen_put client_of m n clients k p s (ap client_of (put_at m n st p new stands))
+        (λ q j at. ap client_of (put_elsewhere m n st p new stands j (put_not m n st p new stands j (Some (id.Client q)) (was.names q j at)))))
+
+    -- a construction that takes a place is in the view, and all others are as they were
+    pub construction_put_view : (k : ℕ) (c : Construction) → standing_at m p ≡ None
+        → ((q : ℕ) → standing_at n q ≡ cond (nat_eq p q) (Some (standing.Construction k c)) (standing_at m q))
+        → View n clients (insert constructions k p) ≡ record { constructions = insert (seen construction_of m constructions) k c; clients = seen client_of m clients }
+    construction_put_view k c new stands =
+        let st = standing.Construction k c in
+        views (seen_put construction_of m n constructions k p c (ap construction_of (put_at m n st p new stands))
+        (λ q j at. ap construction_of (put_elsewhere m n st p new stands j (put_not m n st p new stands j (Some (id.Handler q)) (was.tied.heads q j at)))))
+        (seen_same client_of m n clients (λ q j at. ap client_of (put_elsewhere m n st p new stands j (put_not m n st p new stands j (Some (id.Client q)) (was.names q j at)))))
+
+    -- a client that gives its place back is no more in the view, and all others are as they were
+    pub client_out_view : (k : ℕ) → get clients k ≡ Some p → ((q : ℕ) → standing_at n q ≡ cond (nat_eq p q) None (standing_at m q))
+        → View n (remove clients k) constructions ≡ record { constructions = seen construction_of m constructions; clients = remove (seen client_of m clients) k }
+    client_out_view k is stands =
+        views (seen_same construction_of m n constructions (λ q j at. ap construction_of (out_elsewhere m n p stands j (apart_of_both k q p j is at))))
+        (seen_out client_of m n clients k (λ q j ne at. ap client_of (out_elsewhere m n p stands j (apart_of_clients k q p j ne is at))))
+
+    -- a construction that gives its place back is no more in the view, and all others are as they were
+    pub construction_out_view : (k : ℕ) → get constructions k ≡ Some p → ((q : ℕ) → standing_at n q ≡ cond (nat_eq p q) None (standing_at m q))
+        → View n clients (remove constructions k) ≡ record { constructions = remove (seen construction_of m constructions) k; clients = seen client_of m clients }
+    construction_out_view k is stands =
+        views (seen_out construction_of m n constructions k (λ q j ne at. ap construction_of (out_elsewhere m n p stands j
+        (apart_of_constructions k q p j ne is at))))
+        (seen_same client_of m n clients (λ q j at. ap client_of (out_elsewhere m n p stands j (λ e. apart_of_both q k j p at is (sym e)))))
+
+    -- the names of the clients, once one is there or gone
+    pub named_put : (st : Standing) → standing_at m p ≡ None → ((q : ℕ) → standing_at n q ≡ cond (nat_eq p q) (Some st) (standing_at m q))
+        → (q i : ℕ) → get clients q ≡ Some i → who_at n i ≡ Some (Some (id.Client q))
+    named_put st new stands q i at = put_who m n st p new stands i (Some (id.Client q)) (was.names q i at)
+
+    -- each client's number names its slot where a client takes a place
+    pub named_new : (k : ℕ) (s : Session) → standing_at m p ≡ None → ((q : ℕ) → standing_at n q ≡ cond (nat_eq p q) (Some (standing.Client k s)) (standing_at m q))
+        → (q i : ℕ) → get (insert clients k p) q ≡ Some i → who_at n i ≡ Some (Some (id.Client q))
+    named_new k s new stands q i is = elim (cases_eq q k) [
+      | inl e ↦
+          let same : p ≡ i = same_Some p i (sym (at_new clients k p q e) ∙ is) in
+          sym (ap (who_at n) same) ∙ ap (option_map who_of) (put_at m n (standing.Client k s) p new stands) ∙ ap (λ x. Some (Some (id.Client x))) (sym e)
+      | inr ne ↦ named_put (standing.Client k s) new stands q i (sym (at_other clients k p q ne) ∙ is)
+    ]
+
+    -- each client's number names its slot where a construction gives its place back
+    pub named_left : (k : ℕ) → get constructions k ≡ Some p → ((q : ℕ) → standing_at n q ≡ cond (nat_eq p q) None (standing_at m q))
+        → (q i : ℕ) → get clients q ≡ Some i → who_at n i ≡ Some (Some (id.Client q))
+    named_left k is stands q i at = ap (option_map who_of) (out_elsewhere m n p stands i (λ e. apart_of_both q k i p at is (sym e))) ∙ was.names q i at
+
+    -- each client's number names its slot where another client gives its place back
+    pub named_others : (k : ℕ) → get clients k ≡ Some p → ((q : ℕ) → standing_at n q ≡ cond (nat_eq p q) None (standing_at m q))
+        → (q i : ℕ) → get (remove clients k) q ≡ Some i → who_at n i ≡ Some (Some (id.Client q))
+    named_others k is stands q i e =
+        let other : k ≡ q → ⊥ = λ same. none-some i (sym (taken_out clients k q (sym same)) ∙ e) in
+        let at : get clients q ≡ Some i = sym (left_in clients k q (λ s. other (sym s))) ∙ e in
+        ap (option_map who_of) (out_elsewhere m n p stands i (apart_of_clients k q p i other is at)) ∙ was.names q i at
 
 -- removing a client that has no place leaves the view
 pub not_there_view : (m : Slots) (clients constructions : Index) (k : ℕ) → get clients k ≡ None
     → View m clients constructions ≡ record { constructions = seen construction_of m constructions; clients = remove (seen client_of m clients) k }
-not_there_view m clients constructions k none =
-    views refl
-    (seen_not_out client_of m clients k none)
+not_there_view m clients constructions k none = views refl (seen_not_out client_of m clients k none)
 
 -- removing a construction that has no place leaves the view
 pub not_made_view : (m : Slots) (clients constructions : Index) (k : ℕ) → get constructions k ≡ None
     → View m clients constructions ≡ record { constructions = remove (seen construction_of m constructions) k; clients = seen client_of m clients }
-not_made_view m clients constructions k none =
-    views (seen_not_out construction_of m constructions k none) refl
+not_made_view m clients constructions k none = views (seen_not_out construction_of m constructions k none) refl
 
 -- one name fewer
 pub one_less : (index : Index) (k p : ℕ) → get index k ≡ Some p → len (remove index k) ≡ len index - 1

@@ -71,8 +71,7 @@ module _ {V : Type 0} where
         → list_any p (entries (seen pick m index)) ≡ list_any (λ (e : ℕ × ℕ). p (e.0, pick (standing_at m e.1))) (entries index)
     seen_any p m index =
         any_once p (list_map (λ (e : ℕ × ℕ). (e.0, pick (standing_at m e.1))) (entries index))
-        (once_named (λ i. pick (standing_at m i)) (entries index) (entries_once index))
-        ∙ any_named p (λ i. pick (standing_at m i)) (entries index)
+        (once_named (λ i. pick (standing_at m i)) (entries index) (entries_once index)) ∙ any_named p (λ i. pick (standing_at m i)) (entries index)
 
     -- nothing that the index names has changed
     pub seen_same : (m n : Slots) (index : Index) → ((q i : ℕ) → get index q ≡ Some i → pick (standing_at n i) ≡ pick (standing_at m i)) → seen pick n index ≡ seen pick m index

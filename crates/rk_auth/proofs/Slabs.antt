@@ -59,8 +59,7 @@ module _ {T : Type 0} where
   -- a value that is changed at a place of the slab is changed in its map
   pub change_place : (s : Slab T) (k : ℕ) (f : T → T) (v w : T) → get s k ≡ Some v → w ≡ f v → facts_of (with_value s k w) ≡ changed_at k f (facts_of s)
   change_place s k f v w is by =
-      put_place s (with_value s k w) k w (Updates-with_value s k w (subst IsSome (sym is) refl))
-      ∙ ap (map.insert (facts_of s) k) by
+      put_place s (with_value s k w) k w (Updates-with_value s k w (subst IsSome (sym is) refl)) ∙ ap (map.insert (facts_of s) k) by
       ∙ sym (ap (λ o. option_map_or (λ x. map.insert (facts_of s) k (f x)) o (facts_of s)) (get_place s k ∙ is))
 
   -- a change at a place where there is nothing leaves the map of the slab

@@ -128,8 +128,7 @@ module _ (f : Standing → Standing) where
     each_stands : (xs : List ℕ) (m : Slots) (q : ℕ) → standing_at (changed_each_at (in_standing f) xs m) q ≡ cond (has xs q) (option_map f (standing_at m q)) (standing_at m q)
     each_stands [] m q = refl
     each_stands (x ∷ xs) m q =
-        each_stands xs (changed_at x (in_standing f) m) q
-        ∙ ap (λ o. cond (has xs q) (option_map f o) o) (changed_stands m x q)
+        each_stands xs (changed_at x (in_standing f) m) q ∙ ap (λ o. cond (has xs q) (option_map f o) o) (changed_stands m x q)
         ∙ once_more (nat_eq x q) (has xs q) (standing_at m q)
 
     -- a change of who stands at each place of a chain changes exactly those whose chain it is

@@ -149,8 +149,7 @@ module _ (k : ℕ) (outcome : Outcome) where
     stands : (q : ℕ) → standing_at n q ≡ option_map (in_session (told k outcome)) (standing_at m q)
     stands q = is_told.standing q ∙ by_wait (waited_in (standing_at m q)) refl
       where
-        by_wait : (o : Option ℕ) → waited_in (standing_at m q) ≡ o
-            → cond (same_home (Some nobody) (home_at m q))
+        by_wait : (o : Option ℕ) → waited_in (standing_at m q) ≡ o → cond (same_home (Some nobody) (home_at m q))
             (option_map (in_session (told k outcome)) (cond (same_home (get index k) (home_at m q)) (option_map (in_session (told k outcome)) (standing_at m q)) (standing_at m q)))
             (cond (same_home (get index k) (home_at m q)) (option_map (in_session (told k outcome)) (standing_at m q)) (standing_at m q))
             ≡ option_map (in_session (told k outcome)) (standing_at m q)

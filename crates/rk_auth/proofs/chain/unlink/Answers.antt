@@ -9,8 +9,7 @@ at c = sym c.link_of.ensures ∙ c.in-Some.is
 written : (c : goal.After-change) → c.change.new.self.facts
     ≡ out_3 c.args.slots.now.facts c.args.place c.in-Some.link c.requires.chained (at c) c.in-Some.link.before c.in-Some.link.next
 written c =
-    c.change.ensures.facts
-    ∙ ap (changed_at c.args.place (with_link None))
+    c.change.ensures.facts ∙ ap (changed_at c.args.place (with_link None))
     (c.set_before.ensures.facts ∙ ap (changed_if c.in-Some.link.next (with_before c.in-Some.link.before)) c.set_next.ensures.facts)
 
 pub returns-clause-chained : goal.returns-clause-chained

@@ -20,5 +20,4 @@ returns-in-Some-clause-standing g c q =
 pub returns-in-Some-clause-homes : goal.returns-in-Some-clause-homes
 returns-in-Some-clause-homes g c q =
     let chain = c.requires.chained c.in-Some.home in
-    ap (λ n. home_at n q) (c.change_chain.ensures.facts chain.0 chain.1)
-    ∙ each_homes (g.C.ChangeOnce.changed c.args.change) chain.0 c.args.slots.now.facts q
+    ap (λ n. home_at n q) (c.change_chain.ensures.facts chain.0 chain.1) ∙ each_homes (g.C.ChangeOnce.changed c.args.change) chain.0 c.args.slots.now.facts q

@@ -5,8 +5,7 @@ use Rattle.rk_auth.proofs.places.Places.remove.Goals as goal
 
 pub returns-clause-facts : goal.returns-clause-facts
 returns-clause-facts g c =
-    out_place c.self.inside.slab c.try_remove.new.self c.args.place c.try_remove.ensures.updates
-    ∙ ap (λ s. map.remove s.facts c.args.place) c.self.view_is
+    out_place c.self.inside.slab c.try_remove.new.self c.args.place c.try_remove.ensures.updates ∙ ap (λ s. map.remove s.facts c.args.place) c.self.view_is
 
 pub returns-clause-room : goal.returns-clause-room
 returns-clause-room g c =

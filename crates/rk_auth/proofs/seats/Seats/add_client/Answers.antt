@@ -32,8 +32,7 @@ invariant_of-self c =
       tied = tied_put inside.slots.facts c.put_in-place.new.slots.facts (standing.Client c.args.number c.args.session) c.put_in-place.result c.put_in-place.ensures.new
           stands inside.constructions.facts inside.nobody c.self.invariant.tied c.requires.idle c.put_in-place.ensures.chained c.put_in-place.ensures.homes;
       names = subst (λ index. (n i : ℕ) → map.get index n ≡ Some i → who_at c.put_in-place.new.slots.facts i ≡ Some (Some (id.Client n))) (sym c.insert.ensures.facts)
-          (named_new inside.slots.facts c.put_in-place.new.slots.facts inside.clients.facts inside.constructions.facts inside.nobody c.put_in-place.result
-          c.self.invariant.tied c.self.invariant.names c.args.number c.args.session c.put_in-place.ensures.new stands);
+          (named_new c.self.invariant c.put_in-place.new.slots.facts c.put_in-place.result c.args.number c.args.session c.put_in-place.ensures.new stands);
       few = omega (arith, same, seen, c.requires.few, c.insert.ensures.places, c.insert.ensures.room, c.self.invariant.in_clients);
       in_clients = omega (arith, c.insert.ensures.places, c.self.invariant.in_clients);
       fits = c.self.invariant.fits;
@@ -56,6 +55,5 @@ pub returns-clause-sessions : goal.returns-clause-sessions
 returns-clause-sessions c =
     let inside = c.self.inside in
     ap {B = Sessions} (λ index. View c.put_in-place.new.slots.facts index inside.constructions.facts) c.insert.ensures.facts
-    ∙ client_put_view inside.slots.facts c.put_in-place.new.slots.facts inside.clients.facts inside.constructions.facts inside.nobody c.put_in-place.result
-    c.self.invariant.tied c.self.invariant.names c.args.number c.args.session c.put_in-place.ensures.new c.put_in-place.ensures.standing
+    ∙ client_put_view c.self.invariant c.put_in-place.new.slots.facts c.put_in-place.result c.args.number c.args.session c.put_in-place.ensures.new c.put_in-place.ensures.standing
     ∙ ap {B = Sessions} (λ h. record { constructions = h.sessions.constructions; clients = map.insert h.sessions.clients c.args.number c.args.session }) c.self.view_is

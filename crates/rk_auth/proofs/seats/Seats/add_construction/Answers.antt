@@ -27,8 +27,7 @@ invariant_of-self c =
           (tied_put inside.slots.facts c.put_in-place.new.slots.facts st c.put_in-place.result c.put_in-place.ensures.new
           stands inside.constructions.facts inside.nobody c.self.invariant.tied c.requires.idle c.put_in-place.ensures.chained c.put_in-place.ensures.homes)
           none (ap (option_map who_of) (put_at inside.slots.facts c.put_in-place.new.slots.facts st c.put_in-place.result c.put_in-place.ensures.new stands)));
-      names = named_put inside.slots.facts c.put_in-place.new.slots.facts inside.clients.facts inside.constructions.facts inside.nobody c.put_in-place.result
-          c.self.invariant.tied c.self.invariant.names st c.put_in-place.ensures.new stands;
+      names = named_put c.self.invariant c.put_in-place.new.slots.facts c.put_in-place.result st c.put_in-place.ensures.new stands;
       few = c.self.invariant.few;
       in_clients = c.self.invariant.in_clients;
       fits = omega (arith, room, c.requires.room, c.insert.ensures.places, c.insert.ensures.room, c.self.invariant.in_constructions);
@@ -51,7 +50,6 @@ returns c =
     let inside = c.self.inside in
     ap {B = Sessions} (λ index. View c.put_in-place.new.slots.facts inside.clients.facts index)
     (c.insert.ensures.facts ∙ ap (λ k. map.insert inside.constructions.facts k c.put_in-place.result) c.get.ensures.number)
-    ∙ construction_put_view inside.slots.facts c.put_in-place.new.slots.facts inside.clients.facts inside.constructions.facts inside.nobody c.put_in-place.result
-    c.self.invariant.tied c.self.invariant.names c.args.key c.args.construction c.put_in-place.ensures.new c.put_in-place.ensures.standing
+    ∙ construction_put_view c.self.invariant c.put_in-place.new.slots.facts c.put_in-place.result c.args.key c.args.construction c.put_in-place.ensures.new c.put_in-place.ensures.standing
     ∙ ap {B = Sessions} (λ h. record { constructions = map.insert h.sessions.constructions c.args.key c.args.construction; clients = h.sessions.clients })
     c.self.view_is

@@ -26,8 +26,7 @@ invariant_of-self c =
       tied = subst (λ index. IsTied c.take_out.new.slots.facts index inside.nobody) (sym facts)
           (tied_ended inside.slots.facts c.loosen.new.slots.facts c.take_out.new.slots.facts inside.constructions.facts inside.nobody c.args.key c.in-Some.place
           c.self.invariant.tied at c.loosen.ensures.standing c.loosen.ensures.homes c.take_out.ensures.chained c.take_out.ensures.standing c.take_out.ensures.homes);
-      names = named_left inside.slots.facts c.take_out.new.slots.facts inside.clients.facts inside.constructions.facts inside.nobody c.in-Some.place
-          c.self.invariant.tied c.self.invariant.names c.args.key at
+      names = named_left c.self.invariant c.take_out.new.slots.facts c.in-Some.place c.args.key at
           (λ q. c.take_out.ensures.standing q ∙ ap (λ o. cond (nat_eq c.in-Some.place q) None o) (c.loosen.ensures.standing q));
       few = c.self.invariant.few;
       in_clients = c.self.invariant.in_clients;
@@ -43,15 +42,13 @@ returns-in-Some-clause-sessions c =
     ap (map.get inside.constructions.facts) (sym c.get.ensures.number) ∙ sym c.get-2.ensures ∙ sym c.copied.ensures ∙ c.in-Some.is in
     ap {B = Sessions} (λ index. View c.take_out.new.slots.facts inside.clients.facts index)
     (c.remove.ensures.facts ∙ ap (map.remove inside.constructions.facts) c.get-in-Some.ensures.number)
-    ∙ construction_out_view inside.slots.facts c.take_out.new.slots.facts inside.clients.facts inside.constructions.facts inside.nobody c.in-Some.place
-    c.self.invariant.tied c.self.invariant.names c.args.key at
+    ∙ construction_out_view c.self.invariant c.take_out.new.slots.facts c.in-Some.place c.args.key at
     (λ q. c.take_out.ensures.standing q ∙ ap (λ o. cond (nat_eq c.in-Some.place q) None o) (c.loosen.ensures.standing q))
     ∙ ap {B = Sessions} (λ h. record { constructions = map.remove h.sessions.constructions c.args.key; clients = h.sessions.clients }) c.self.view_is
 
 pub returns-in_default-clause-sessions : goal.returns-in_default-clause-sessions
 returns-in_default-clause-sessions c =
     let inside = c.self.inside in
-    ap (λ h. h.sessions) (sym c.self.view_is)
-    ∙ not_made_view inside.slots.facts inside.clients.facts inside.constructions.facts c.args.key
+    ap (λ h. h.sessions) (sym c.self.view_is) ∙ not_made_view inside.slots.facts inside.clients.facts inside.constructions.facts c.args.key
     (ap (map.get inside.constructions.facts) (sym c.get.ensures.number) ∙ sym c.get-2.ensures ∙ sym c.copied.ensures ∙ c.in_default.is)
     ∙ ap {B = Sessions} (λ h. record { constructions = map.remove h.sessions.constructions c.args.key; clients = h.sessions.clients }) c.self.view_is

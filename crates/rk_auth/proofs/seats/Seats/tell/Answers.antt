@@ -28,5 +28,4 @@ pub returns-clause-sessions : goal.returns-clause-sessions
 returns-clause-sessions c =
     let inside = c.self.inside in
     told_view c.args.key c.args.outcome inside.slots.facts c.tell_both.new.slots.facts inside.constructions.facts inside.nobody c.self.invariant.tied (is_told c)
-    inside.clients.facts c.self.invariant.names
-    ∙ ap (λ h. all_told c.args.key c.args.outcome h.sessions) c.self.view_is
+    inside.clients.facts c.self.invariant.names ∙ ap (λ h. all_told c.args.key c.args.outcome h.sessions) c.self.view_is
