@@ -82,24 +82,8 @@ hello_of-message uid gid false false (Some (suc n)) joins = refl
 
 ask_of-message : (a : Ask) → JoinsASerial a → ask_of (ask_message a) ≡ a
 ask_of-message (ask.Hello hello) joins = hello_of-message hello.uid hello.gid hello.thread hello.process hello.join joins
-ask_of-message (ask.Request typ description callout destination) joins = refl
-ask_of-message (ask.Assume key) joins = refl
-ask_of-message (ask.Instantiate key payload ring) joins = refl
-ask_of-message (ask.Negate key timeout ring) joins = refl
 ask_of-message (ask.Reject key timeout error.Revoked ring) joins = refl
-ask_of-message (ask.Reject key timeout error.Expired ring) joins = refl
-ask_of-message (ask.Reject key timeout error.Rejected ring) joins = refl
-ask_of-message (ask.Reject key timeout error.NoKey ring) joins = refl
-ask_of-message (ask.Read key) joins = refl
-ask_of-message (ask.Describe key) joins = refl
-ask_of-message (ask.Revoke key) joins = refl
-ask_of-message (ask.Timeout key seconds) joins = refl
-ask_of-message (ask.Link key ring) joins = refl
-ask_of-message (ask.Unlink key ring) joins = refl
-ask_of-message (ask.Clear ring) joins = refl
-ask_of-message (ask.Default setting) joins = refl
-ask_of-message (ask.Add typ description payload ring) joins = refl
-ask_of-message ask.Callout joins = refl
+ask_of-message _ joins = refl
 
 -- asks of the same message are the same ask
 pub same_ask : (a b : Ask) → JoinsASerial a → JoinsASerial b → ask_message a ≡ ask_message b → a ≡ b

@@ -18,9 +18,7 @@ use Rattle.rk_message.proofs.Tells.{Tells, signed, unsigned, text, optional, non
 
 error_test : Tells of_errors.ghosts.eq
 error_test error.Revoked y = search rules
-error_test error.Expired y = search rules
-error_test error.Rejected y = search rules
-error_test error.NoKey y = search rules
+error_test _ y = search rules
 
 greeting_test : Tells of_greetings.ghosts.eq
 greeting_test x y = search rules
@@ -46,8 +44,7 @@ same_values a b =
     or (last signed) (
     or (last signed) (
     or (and text (and text (and text (last signed)))) (
-    or none (no_more _))))))))))))))))
-    (as_values T D C P a) (as_values T D C P b)
+    or none (no_more _)))))))))))))))) (as_values T D C P a) (as_values T D C P b)
 
 told : (a b : Ask) → test a b ≡ true → a ≡ b
 told a b is = sym (the_eta T D C P a) ∙ ap (the_make T D C P) (same_values a b is) ∙ the_eta T D C P b

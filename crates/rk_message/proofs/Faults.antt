@@ -1,7 +1,7 @@
 -- The fault of a body is its leftmost.
 use Rattle.rk_message.proofs.Words.{◌≡◌, ap, refl, ℕ, sym, List, ◌∙◌, arith, true, false, Bool, ◌∷◌, Option, Some, None, Ok, Err, length, [], cond, Result, ◌<◌}
-use Rattle.rk_message.proofs.Words.{eqb, inl, inr, eq-eqb, eqb-true, cases_lt, ◌⊎◌, MatchOption, IsFaultOf, IsLeftmost, message_at, ◌>>=◌, value_at, values_at}
-use Rattle.rk_message.proofs.Words.{all_values, message_with, message_behind, Message, Value, Kind, Fields, kinds_of, Fault, Short, Trailing, UnknownOp}
+use Rattle.rk_message.proofs.Words.{eqb, inl, inr, eq-eqb, eqb-true, cases_lt, ◌⊎◌, MatchOption, IsFaultOf, IsLeftmost, ◌>>=◌, message_with, message_at}
+use Rattle.rk_message.proofs.Words.{value_at, values_at, all_values, message_behind, Message, Value, Kind, Fields, kinds_of, Fault, Short, Trailing, UnknownOp}
 use Rattle.rk_message.proofs.Numbers.{IsBytes, IsBytes-rest}
 use Rattle.rk_message.proofs.Fields.{value_takes, value_again}
 

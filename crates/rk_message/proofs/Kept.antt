@@ -13,6 +13,4 @@ flags_kept false false = (lit< tt, refl)
 -- so does the error of a REJECT
 pub error_kept : (e : KeyError) → IsValue table.error (U32 (error_number e))
 error_kept error.Revoked = (lit< tt, refl)
-error_kept error.Expired = (lit< tt, refl)
-error_kept error.Rejected = (lit< tt, refl)
-error_kept error.NoKey = (lit< tt, refl)
+error_kept _ = (lit< tt, refl)

@@ -31,12 +31,9 @@ width (Maybe (Some bytes)) = 3 + length bytes
 
 length-spelled : (v : Value) → length (spelled v) ≡ width v
 unfolding spelled
-length-spelled (U8 n) = refl
-length-spelled (U32 n) = refl
-length-spelled (I32 z) = refl
 length-spelled (Blob bytes) = omega arith
-length-spelled (Maybe None) = refl
 length-spelled (Maybe (Some bytes)) = omega arith
+length-spelled _ = refl
 
 abbrev widths : List Value → ℕ
 widths [] = 0
@@ -85,36 +82,21 @@ reply_len : (bytes : List ℕ) → reply_rule bytes ≡ None → length bytes �
 reply_len bytes is = let first = passed (ltb 65533 (length bytes)) _ _ is in ltb-false 65533 (length bytes) first.0
 
 ask_width : (a : Ask) → IsAsk a → widths (ask_values a) ≤ 65535
-ask_width (ask.Hello hello) is = omega arith
-ask_width (ask.Request typ description None destination) is =
-    omega (arith, type_len typ is.0.0.1, description_len description is.0.1.0.1)
+ask_width (ask.Request typ description None destination) is = omega (arith, type_len typ is.0.0.1, description_len description is.0.1.0.1)
 ask_width (ask.Request typ description (Some callout) destination) is =
     omega (arith, type_len typ is.0.0.1, description_len description is.0.1.0.1, callout_len callout is.0.1.1.0.1)
-ask_width (ask.Assume key) is = omega arith
 ask_width (ask.Instantiate key payload ring) is = omega (arith, payload_len payload is.0.1.0.1)
-ask_width (ask.Negate key timeout ring) is = omega arith
-ask_width (ask.Reject key timeout error ring) is = omega arith
-ask_width (ask.Read key) is = omega arith
-ask_width (ask.Describe key) is = omega arith
-ask_width (ask.Revoke key) is = omega arith
-ask_width (ask.Timeout key seconds) is = omega arith
-ask_width (ask.Link key ring) is = omega arith
-ask_width (ask.Unlink key ring) is = omega arith
-ask_width (ask.Clear ring) is = omega arith
-ask_width (ask.Default setting) is = omega arith
 ask_width (ask.Add typ description payload ring) is =
     omega (arith, type_len typ is.0.0.1, description_len description is.0.1.0.1, payload_len payload is.0.1.1.0.1)
-ask_width ask.Callout is = omega arith
+ask_width _ is = omega arith
 
 -- an ask fits a frame
 pub ask_fits : (a : Ask) → IsAsk a → length (spelling (ask_message a)) ≤ 65536
 ask_fits a is = under (ask_values a) 65535 (ask_width a is)
 
 reply_width : (a : Reply) → IsReply a → widths ((reply_message a).values) ≤ 65535
-reply_width (reply.Number n) is = omega arith
 reply_width (reply.Bytes bytes) is = omega (arith, reply_len bytes is.0.1)
-reply_width (reply.Rings thread process session user) is = omega arith
-reply_width (reply.Refused e) is = omega arith
+reply_width _ is = omega arith
 
 -- a reply fits a frame
 pub reply_fits : (a : Reply) → IsReply a → length (spelling (reply_message a)) ≤ 65536

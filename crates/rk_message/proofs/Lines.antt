@@ -48,21 +48,7 @@ lines_len lines e = sym (length-map lines line_of) ∙ ap length e
 
 in_order : (o : Op) (other : Op × (ℕ × List ℕ × List FieldKind)) → get_or (map paired ops) (op_byte o - 1) other ≡ paired o
 in_order op.Hello other = refl
-in_order op.Request other = refl
-in_order op.Assume other = refl
-in_order op.Instantiate other = refl
-in_order op.Negate other = refl
-in_order op.Reject other = refl
-in_order op.Read other = refl
-in_order op.Describe other = refl
-in_order op.Revoke other = refl
-in_order op.Timeout other = refl
-in_order op.Link other = refl
-in_order op.Unlink other = refl
-in_order op.Clear other = refl
-in_order op.Default other = refl
-in_order op.Add other = refl
-in_order op.Callout other = refl
+in_order _ other = refl
 
 -- the line of an op stands at its byte
 pub line_at : (lines : List AskShape) (o : Op) (n : ℕ) (other : AskShape) → n ≡ op_byte o → map line_of lines ≡ map paired ops

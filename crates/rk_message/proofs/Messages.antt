@@ -1,7 +1,7 @@
 -- What is read is spelled so, and what is spelled so is read.
 use Rattle.rk_message.proofs.Words.{◌≡◌, ap, refl, ℕ, sym, List, ◌∙◌, ◌∷◌, Option, Some, None, Ok, Err, subst, length, [], cond, eqb, ◌++◌, append_assoc}
-use Rattle.rk_message.proofs.Words.{eqb-true, append-nil, nil_from_length, flat_map-cons, flat_map, IsSomeAnd, message_at, ◌>>=◌, value_at, values_at}
-use Rattle.rk_message.proofs.Words.{all_values, message_with, message_behind, Message, Value, spelling, Kind, Fields, kinds_of, IsMessage, spelled, AreValues}
+use Rattle.rk_message.proofs.Words.{eqb-true, append-nil, nil_from_length, flat_map-cons, flat_map, IsSomeAnd, ◌>>=◌, message_with, message_at, value_at}
+use Rattle.rk_message.proofs.Words.{values_at, all_values, message_behind, Message, Value, spelling, Kind, Fields, kinds_of, IsMessage, AreValues, spelled}
 use Rattle.rk_message.proofs.Words.{Trailing}
 use Rattle.rk_message.proofs.Numbers.{IsBytes, IsBytes-rest, bind_ok, passed_ok, ok_is, Takes, Takes-then}
 use Rattle.rk_message.proofs.Fields.{value_takes, value_again}

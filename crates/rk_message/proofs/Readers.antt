@@ -1,5 +1,5 @@
 -- What a reader's answer says of the body: for Ask::read and Reply::read.
-use Rattle.rk_message.proofs.Words.{◌≡◌, ap, refl, ℕ, List, ◌∙◌, Ok, Err, subst, Result, IfOk, MatchResult, IsFaultOf, message_at, Gives, Message, spelling}
+use Rattle.rk_message.proofs.Words.{◌≡◌, ap, refl, ℕ, List, ◌∙◌, Ok, Err, subst, Result, IfOk, MatchResult, IsFaultOf, Gives, message_at, Message, spelling}
 use Rattle.rk_message.proofs.Words.{Fields, IsMessage, Fault, ReadError, NoMemory, Fault-error}
 use Rattle.rk_message.proofs.Numbers.{IsBytes}
 use Rattle.rk_message.proofs.Messages.{message_takes, message_again}

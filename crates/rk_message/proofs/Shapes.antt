@@ -71,8 +71,7 @@ error_step n k e false others same is later some = later some
 
 errors : (n : ℕ) → is_some (key_error_named n) ≡ true → (e : KeyError) × (error_number e ≡ n)
 errors n some =
-    error_step n 126 error.NoKey (eqb n 126) _ (λ e. eqb-true n 126 e) refl
-    (error_step n 127 error.Expired (eqb n 127) _ (λ e. eqb-true n 127 e) refl
+    error_step n 126 error.NoKey (eqb n 126) _ (λ e. eqb-true n 126 e) refl (error_step n 127 error.Expired (eqb n 127) _ (λ e. eqb-true n 127 e) refl
     (error_step n 128 error.Revoked (eqb n 128) _ (λ e. eqb-true n 128 e) refl
     (error_step n 129 error.Rejected (eqb n 129) None (λ e. eqb-true n 129 e) refl (λ none. absurd cc)))) some
 
@@ -143,16 +142,11 @@ errno_step n k e false others same is later some = later some
 
 errnos : (n : ℕ) → is_some (errno_named n) ≡ true → (e : Errno) × (errno_number e ≡ n)
 errnos n some =
-    errno_step n 1 errno.Eperm (eqb n 1) _ (λ e. eqb-true n 1 e) refl
-    (errno_step n 2 errno.Enoent (eqb n 2) _ (λ e. eqb-true n 2 e) refl
-    (errno_step n 12 errno.Enomem (eqb n 12) _ (λ e. eqb-true n 12 e) refl
-    (errno_step n 13 errno.Eacces (eqb n 13) _ (λ e. eqb-true n 13 e) refl
-    (errno_step n 16 errno.Ebusy (eqb n 16) _ (λ e. eqb-true n 16 e) refl
-    (errno_step n 22 errno.Einval (eqb n 22) _ (λ e. eqb-true n 22 e) refl
-    (errno_step n 35 errno.Edeadlk (eqb n 35) _ (λ e. eqb-true n 35 e) refl
-    (errno_step n 122 errno.Edquot (eqb n 122) _ (λ e. eqb-true n 122 e) refl
-    (errno_step n 126 errno.Enokey (eqb n 126) _ (λ e. eqb-true n 126 e) refl
-    (errno_step n 127 errno.Ekeyexpired (eqb n 127) _ (λ e. eqb-true n 127 e) refl
+    errno_step n 1 errno.Eperm (eqb n 1) _ (λ e. eqb-true n 1 e) refl (errno_step n 2 errno.Enoent (eqb n 2) _ (λ e. eqb-true n 2 e) refl
+    (errno_step n 12 errno.Enomem (eqb n 12) _ (λ e. eqb-true n 12 e) refl (errno_step n 13 errno.Eacces (eqb n 13) _ (λ e. eqb-true n 13 e) refl
+    (errno_step n 16 errno.Ebusy (eqb n 16) _ (λ e. eqb-true n 16 e) refl (errno_step n 22 errno.Einval (eqb n 22) _ (λ e. eqb-true n 22 e) refl
+    (errno_step n 35 errno.Edeadlk (eqb n 35) _ (λ e. eqb-true n 35 e) refl (errno_step n 122 errno.Edquot (eqb n 122) _ (λ e. eqb-true n 122 e) refl
+    (errno_step n 126 errno.Enokey (eqb n 126) _ (λ e. eqb-true n 126 e) refl (errno_step n 127 errno.Ekeyexpired (eqb n 127) _ (λ e. eqb-true n 127 e) refl
     (errno_step n 128 errno.Ekeyrevoked (eqb n 128) _ (λ e. eqb-true n 128 e) refl
     (errno_step n 129 errno.Ekeyrejected (eqb n 129) None (λ e. eqb-true n 129 e) refl (λ none. absurd cc)))))))))))) some
 

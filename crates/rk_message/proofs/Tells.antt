@@ -46,8 +46,7 @@ passed true y is = (refl, is)
 passed false y is = absurd cc
 
 -- the tests of one field and of the others pass only if both are equal
-pub and : {A B : Type 0} {test : A → A → Bool} {others : B → B → Bool} → Tells test → Tells others
-    → Tells {A = A × B} (λ p q. test p.0 q.0 && others p.1 q.1)
+pub and : {A B : Type 0} {test : A → A → Bool} {others : B → B → Bool} → Tells test → Tells others → Tells {A = A × B} (λ p q. test p.0 q.0 && others p.1 q.1)
 and {A} {B} {test} {others} one more (x, xs) (y, ys) is =
     let e = passed (test x y) (others xs ys) is in
     let first = one x y e.0 in
