@@ -287,11 +287,9 @@ links_linked m ring k n r o is lacks room match q =
 pub few_linked : (m : Rings) (ring k n : ℕ) (r : Numbered) → get m ring ≡ Some r → contains_key r.links k ≡ false → is_full (Some n) r ≡ false
     → AreFew m → AreFew (changed_at ring (linked_in_room k n) m)
 few_linked m ring k n r is lacks room few =
-    few_changed m ring (linked_in_room k n)
-    (λ x there most.
+    few_changed m ring (linked_in_room k n) (λ x there most.
     let same : r ≡ x = same_Some r x (sym is ∙ there) in
-    subst (λ (y : Numbered). len (linked_in_room k n y).links ≤ 256) same
-    (subst (λ (y : Numbered). len y.links ≤ 256) (sym (in_room k n r lacks room))
+    subst (λ (y : Numbered). len (linked_in_room k n y).links ≤ 256) same (subst (λ (y : Numbered). len y.links ≤ 256) (sym (in_room k n r lacks room))
     (few_put k n r lacks room (subst (λ (y : Numbered). len y.links ≤ 256) (sym same) most))))
     few
 
@@ -475,8 +473,7 @@ pub room_linked : (m : Rings) (old mid : Stored ℕ) (ring k n : ℕ) (o : Optio
     count_at mid.facts k ≡ 0 → 0 < mid.room
 room_linked m old mid ring k n o counted t match each positive same none =
     room_for (changed_at ring (linked_in_room k n) m) mid k (len m) (few_linked m ring k n t.0 t.1 t.2 t.3 counted.few) positive
-    (links_after m old mid ring k n o counted t match each)
-    (len-changed_at ring (linked_in_room k n) m) (omega (arith, counted.room, same)) none
+    (links_after m old mid ring k n o counted t match each) (len-changed_at ring (linked_in_room k n) m) (omega (arith, counted.room, same)) none
 
 one_more_bit : (b : Bool) (n : ℕ) → cond b (n + 1) n ≡ n + bit b
 one_more_bit true n = refl

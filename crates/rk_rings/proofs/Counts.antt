@@ -42,8 +42,7 @@ module _ {X : Type 0} where
 
   without : (a b : FinMap nat_cmp X) (k : ℕ) → IsWithin a b → IsWithin (remove a k) (remove b k)
   without a b k h q is =
-      contains_key-remove b k q
-      ∙ both_kept (eq_by_cmp nat_cmp q k) (contains_key a q) (contains_key b q) (h q) (sym (contains_key-remove a k q) ∙ is)
+      contains_key-remove b k q ∙ both_kept (eq_by_cmp nat_cmp q k) (contains_key a q) (contains_key b q) (h q) (sym (contains_key-remove a k q) ∙ is)
 
   fewer_by : (n : ℕ) (a b : FinMap nat_cmp X) → len a ≡ n → IsWithin a b → n ≤ len b
   fewer_by zero a b e h = omega arith

@@ -26,10 +26,8 @@ get_with_name m n (Some k) q = get_inserted m n k q
 pub get_named : (es : List (ℕ × Option ℕ)) (q : ℕ) → get (named es) q ≡ held (lookup (nat_eq q) es)
 get_named [] q = get-empty nat_cmp q
 get_named (e ∷ es) q =
-    get_with_name (named es) e.0 e.1 q
-    ∙ ap (cond (nat_eq e.0 q) e.1) (get_named es q)
-    ∙ held_if (nat_eq e.0 q) e.1 (lookup (nat_eq q) es)
-    ∙ ap (λ b. held (cond b (Some e.1) (lookup (nat_eq q) es))) (sym (tie q e.0) ∙ unsigned_tied q e.0)
+    get_with_name (named es) e.0 e.1 q ∙ ap (cond (nat_eq e.0 q) e.1) (get_named es q)
+    ∙ held_if (nat_eq e.0 q) e.1 (lookup (nat_eq q) es) ∙ ap (λ b. held (cond b (Some e.1) (lookup (nat_eq q) es))) (sym (tie q e.0) ∙ unsigned_tied q e.0)
 
 -- one place is written
 pub named_put : (old new : List (ℕ × Option ℕ)) (n : ℕ) (o : Option ℕ)

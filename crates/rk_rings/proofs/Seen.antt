@@ -52,19 +52,15 @@ rings_seen-empty = same_rings _ _ (λ q. get-rings_seen map.empty q ∙ ap (opti
 -- a ring that is put in is seen as put in
 pub rings_seen-insert : (m : Rings) (k : ℕ) (r : Numbered) → rings_seen (map.insert m k r) ≡ map.insert (rings_seen m) k (ring_seen r)
 rings_seen-insert m k r = same_rings _ _ (λ q.
-    get-rings_seen (map.insert m k r) q
-    ∙ ap (option_map ring_seen) (map.get-insert nat_cmp_total m k r q)
-    ∙ put_alike ring_seen (eq_by_cmp nat_cmp q k) r (map.get m q)
-    ∙ ap (cond (eq_by_cmp nat_cmp q k) (Some (ring_seen r))) (sym (get-rings_seen m q))
+    get-rings_seen (map.insert m k r) q ∙ ap (option_map ring_seen) (map.get-insert nat_cmp_total m k r q)
+    ∙ put_alike ring_seen (eq_by_cmp nat_cmp q k) r (map.get m q) ∙ ap (cond (eq_by_cmp nat_cmp q k) (Some (ring_seen r))) (sym (get-rings_seen m q))
     ∙ sym (map.get-insert nat_cmp_total (rings_seen m) k (ring_seen r) q))
 
 -- a ring that is removed is seen as removed
 pub rings_seen-remove : (m : Rings) (k : ℕ) → rings_seen (map.remove m k) ≡ map.remove (rings_seen m) k
 rings_seen-remove m k = same_rings _ _ (λ q.
-    get-rings_seen (map.remove m k) q
-    ∙ ap (option_map ring_seen) (map.get-remove nat_cmp_total m k q)
-    ∙ gone_alike ring_seen (eq_by_cmp nat_cmp q k) (map.get m q)
-    ∙ ap (cond (eq_by_cmp nat_cmp q k) None) (sym (get-rings_seen m q))
+    get-rings_seen (map.remove m k) q ∙ ap (option_map ring_seen) (map.get-remove nat_cmp_total m k q)
+    ∙ gone_alike ring_seen (eq_by_cmp nat_cmp q k) (map.get m q) ∙ ap (cond (eq_by_cmp nat_cmp q k) None) (sym (get-rings_seen m q))
     ∙ sym (map.get-remove nat_cmp_total (rings_seen m) k q))
 
 -- a change of one ring is seen as the change that does the same to the ring without numbers
@@ -77,8 +73,7 @@ rings_seen-changed_at k f g m h =
     (rings_seen m)) [
       | None ↦ λ e. refl
       | Some v ↦ λ e. rings_seen-insert m k (f v) ∙ ap (map.insert (rings_seen m) k) (h v e)
-    ] refl
-    ∙ ap (λ o. option_map_or (λ v. map.insert (rings_seen m) k (g v)) o (rings_seen m)) (sym (get-rings_seen m k))
+    ] refl ∙ ap (λ o. option_map_or (λ v. map.insert (rings_seen m) k (g v)) o (rings_seen m)) (sym (get-rings_seen m k))
 
 -- ---- what is linked
 
@@ -96,13 +91,10 @@ is_linked-rings_seen m ring k =
 pub any-rings_seen : (p : Ring → Bool) (t : Numbered → Bool) → ((r : Numbered) → p (ring_seen r) ≡ t r) → (m : Rings) →
     list_any p (map.values (rings_seen m)) ≡ list_any t (map.values m)
 any-rings_seen p t alike m =
-    any_value p (rings_seen m)
-    ∙ same_answer _ _
-    (λ is.
+    any_value p (rings_seen m) ∙ same_answer _ _ (λ is.
     let f = entry_found (λ (e : ℕ × Ring). p e.1) (rings_seen m) is in
     let r = made_of ring_seen (map.get m f.0) f.1 (sym (get-rings_seen m f.0) ∙ f.2) in
-    some_entry (λ (e : ℕ × Numbered). t e.1) m f.0 r.0 r.1 (sym (alike r.0) ∙ ap p r.2 ∙ f.3))
-    (λ is.
+    some_entry (λ (e : ℕ × Numbered). t e.1) m f.0 r.0 r.1 (sym (alike r.0) ∙ ap p r.2 ∙ f.3)) (λ is.
     let f = entry_found (λ (e : ℕ × Numbered). t e.1) m is in
     some_entry (λ (e : ℕ × Ring). p e.1) (rings_seen m) f.0 (ring_seen f.1) (get-rings_seen m f.0 ∙ ap (option_map ring_seen) f.2) (alike f.1 ∙ f.3))
     ∙ sym (any_value t m)
@@ -120,10 +112,8 @@ same_keys s t h = set.same_set nat_cmp_total set.nat_cmp-IsAntisymmetric s t h
 pub ring_seen-unlinked : (k : ℕ) (r : Numbered) → ring_seen (unlinked k r) ≡ without_link k (ring_seen r)
 ring_seen-unlinked k r =
     ap (λ s. record { kind = r.kind; uid = r.uid; keys = s }) (same_keys (ring_seen (unlinked k r)).keys (set.remove (ring_seen r).keys k) (λ q.
-    contains-ring_seen (unlinked k r) q
-    ∙ contains_key-remove r.links k q
-    ∙ ap (λ b. not (eq_by_cmp nat_cmp q k) && b) (sym (contains-ring_seen r q))
-    ∙ sym (set.contains-remove nat_cmp_total (ring_seen r).keys k q)))
+    contains-ring_seen (unlinked k r) q ∙ contains_key-remove r.links k q
+    ∙ ap (λ b. not (eq_by_cmp nat_cmp q k) && b) (sym (contains-ring_seen r q)) ∙ sym (set.contains-remove nat_cmp_total (ring_seen r).keys k q)))
 
 no_keys : (r : Numbered) → r.links ≡ map.empty → (ring_seen r).keys ≡ set.empty
 no_keys r e = same_keys _ _ (λ q. contains-ring_seen r q ∙ ap (λ m. map.contains_key m q) e ∙ ap is_some (map.get-empty nat_cmp q) ∙
@@ -171,14 +161,12 @@ ring_seen-linked gives_way k n r h =
     elim (map.contains_key r.links k) as (λ b. set.from_list (map.keys (cond b r.links m)) ≡ cond b s (set.retain (set.insert s k) (λ j. not (gives_way j)))) [
       | true ↦ refl
       | false ↦ same_keys _ _ (λ q.
-          contains-ring_seen (record r { links = m }) q
-          ∙ new_links gives_way k n r h q
+          contains-ring_seen (record r { links = m }) q ∙ new_links gives_way k n r h q
           ∙ ap (λ b. (eq_by_cmp nat_cmp q k || b) && not (gives_way q)) (sym (contains-ring_seen r q))
           ∙ ap (λ b. b && not (gives_way q)) (sym (set.contains-insert nat_cmp_total s k q))
           ∙ sym (set.contains-retain (set.insert s k) (λ j. not (gives_way j)) q
           (λ x t. ap (λ j. not (gives_way j)) (sym (set.nat_cmp-IsAntisymmetric q x t)))))
-    ]
-    ∙ ap (λ b. cond b s (set.retain (set.insert s k) (λ j. not (gives_way j)))) (sym (contains-ring_seen r k))
+    ] ∙ ap (λ b. cond b s (set.retain (set.insert s k) (λ j. not (gives_way j)))) (sym (contains-ring_seen r k))
     )
 
 -- ---- how many links

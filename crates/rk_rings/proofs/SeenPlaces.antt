@@ -23,13 +23,8 @@ ring_at-rings_seen m c requestor (Numbered ring) = ap (λ o. cond (is_one_of rin
 
 -- whether a numbered ring is there is the same without the numbers of names
 pub is_numbered_live-rings_seen : (m : Rings) (p : Place) → is_numbered_live (rings_seen m) p ≡ is_numbered_live m p
-is_numbered_live-rings_seen m Nowhere = refl
-is_numbered_live-rings_seen m Thread = refl
-is_numbered_live-rings_seen m Process = refl
-is_numbered_live-rings_seen m Session = refl
-is_numbered_live-rings_seen m User = refl
-is_numbered_live-rings_seen m Requestor = refl
 is_numbered_live-rings_seen m (Numbered ring) = contains_key-rings_seen m ring
+is_numbered_live-rings_seen m _ = refl
 
 pub first_ring-rings_seen : (m : Rings) (c : Context) (requestor : Option ℕ) (ps : List Place) →
     first_ring (rings_seen m) c requestor ps ≡ first_ring m c requestor ps

@@ -82,18 +82,15 @@ by_name_out a b k n h is = record {
 pub kept_rival : (a b : FinMap nat_cmp ℕ) (r n : ℕ) → AreByName a b → get b n ≡ Some r → remove a r ≡ kept_where (λ j m. not (nat_eq m n)) a
 kept_rival a b r n h is = same_map nat_cmp_total nat_cmp-IsAntisymmetric _ _ (λ q. elim (cases_eq q r) [
   | inl e ↦
-      taken_out a r q e
-      ∙ sym (ap (λ (o : Option ℕ). cond (option_map_or (λ m. not (nat_eq m n)) o false) o None) (ap (get a) e ∙ h.linked n r is)
-      ∙ ap (λ b. cond (not b) (Some n) None) (eq-eqb n n refl))
-      ∙ sym (get_kept_where (λ j m. not (nat_eq m n)) a q)
+      taken_out a r q e ∙ sym (ap (λ (o : Option ℕ). cond (option_map_or (λ m. not (nat_eq m n)) o false) o None) (ap (get a) e ∙ h.linked n r is)
+      ∙ ap (λ b. cond (not b) (Some n) None) (eq-eqb n n refl)) ∙ sym (get_kept_where (λ j m. not (nat_eq m n)) a q)
   | inr ne ↦ left_in a r q ne ∙ by_link q ne (get a q) refl ∙ sym (get_kept_where (λ j m. not (nat_eq m n)) a q)
 ])
   where
     by_link : (q : ℕ) → (q ≡ r → ⊥) → (o : Option ℕ) → get a q ≡ o → get a q ≡ cond (option_map_or (λ m. not (nat_eq m n)) (get a q) false) (get a q) None
     by_link q ne None at = at ∙ sym (ap (λ (o : Option ℕ). cond (option_map_or (λ m. not (nat_eq m n)) o false) o None) at)
     by_link q ne (Some m) at =
-        at
-        ∙ sym (ap (λ (o : Option ℕ). cond (option_map_or (λ m. not (nat_eq m n)) o false) o None) at
+        at ∙ sym (ap (λ (o : Option ℕ). cond (option_map_or (λ m. not (nat_eq m n)) o false) o None) at
         ∙ ap (λ b. cond (not b) (Some m) None) (ne_eqb m n (λ e. ne (same_Some q r (sym (h.found q m at) ∙ ap (get b) e ∙ is)))))
 
 -- no key has the name
@@ -103,8 +100,7 @@ kept_all a b n h is = same_map nat_cmp_total nat_cmp-IsAntisymmetric _ _ (λ q. 
     by_link : (q : ℕ) (o : Option ℕ) → get a q ≡ o → get a q ≡ cond (option_map_or (λ m. not (nat_eq m n)) (get a q) false) (get a q) None
     by_link q None at = at ∙ sym (ap (λ (o : Option ℕ). cond (option_map_or (λ m. not (nat_eq m n)) o false) o None) at)
     by_link q (Some m) at =
-        at
-        ∙ sym (ap (λ (o : Option ℕ). cond (option_map_or (λ m. not (nat_eq m n)) o false) o None) at
+        at ∙ sym (ap (λ (o : Option ℕ). cond (option_map_or (λ m. not (nat_eq m n)) o false) o None) at
         ∙ ap (λ b. cond (not b) (Some m) None) (ne_eqb m n (λ e. none-some q (sym is ∙ ap (get b) (sym e) ∙ h.found q m at))))
 
 -- the name stands for another key
@@ -123,10 +119,8 @@ pub by_name_given : (a b : FinMap nat_cmp ℕ) (r k n : ℕ) → AreByName a b �
     AreByName (insert (remove a r) k n) (insert b n k)
 by_name_given a b r k n h is lacks =
     let none : get a k ≡ None = none_of true (get a k) lacks in
-    subst (AreByName (insert (remove a r) k n)) (sym (renamed b n k))
-    (by_name_put (remove a r) (remove b n) k n (by_name_out a b r n h (h.linked n r is))
-    (elim (cases_eq k r) [ inl e ↦ taken_out a r k e | inr ne ↦ left_in a r k ne ∙ none ])
-    (taken_out b n n refl))
+    subst (AreByName (insert (remove a r) k n)) (sym (renamed b n k)) (by_name_put (remove a r) (remove b n) k n (by_name_out a b r n h (h.linked n r is))
+    (elim (cases_eq k r) [ inl e ↦ taken_out a r k e | inr ne ↦ left_in a r k ne ∙ none ]) (taken_out b n n refl))
 
 -- the names are those of the links after a key with a new name is linked
 pub by_name_new : (a b : FinMap nat_cmp ℕ) (k n : ℕ) → AreByName a b → get b n ≡ None → contains_key a k ≡ false → AreByName (insert a k n) (insert b n k)

@@ -23,8 +23,7 @@ returns-in-Some-clause-facts c =
     sym c.get_mut.ensures.value ∙ ap option_copied_mut c.in-Some.is in
     ap (λ w. named (c.get_mut.follows.lender w).entries) c.replace.ensures.after
     ∙ named_put c.self.inside.keys.entries (c.get_mut.follows.lender (Some c.args.key)).entries c.args.name (Some c.args.key)
-    ((c.get_mut.follows.holds (Some c.args.key)).3 (ap is_some is)).0
-    ∙ ap (λ s. map.insert s.facts c.args.name c.args.key) c.self.view_is
+    ((c.get_mut.follows.holds (Some c.args.key)).3 (ap is_some is)).0 ∙ ap (λ s. map.insert s.facts c.args.name c.args.key) c.self.view_is
 
 pub returns-in-None-clause-old : goal.returns-in-None-clause-old
 returns-in-None-clause-old c =

@@ -16,7 +16,6 @@ returns c =
     let is : lookup (nat_eq c.args.name) c.self.inside.keys.entries ≡ Some c.in-Some.place.now =
     sym c.get_mut.ensures.value ∙ ap option_copied_mut c.in-Some.is in
     record {
-      facts = named_put c.self.inside.keys.entries (c.get_mut.follows.lender None).entries c.args.name None
-          ((c.get_mut.follows.holds None).3 (ap is_some is)).0
+      facts = named_put c.self.inside.keys.entries (c.get_mut.follows.lender None).entries c.args.name None ((c.get_mut.follows.holds None).3 (ap is_some is)).0
           ∙ ap (λ s. map.remove s.facts c.args.name) c.self.view_is;
     }

@@ -57,8 +57,7 @@ returns-in-None-clause-each c q =
     let m = c.self.inside.counts.facts in
     let w = c.make_way.new.counts.facts in
     let none : get w c.args.key ≡ None = c.make_way.ensures.absent c.args.key (sym (c.in-None.ensures ∙ c.get.ensures)) in
-    each_seen m c.insert.new.self.facts (λ n. n + 1) c.args.key q
-    (ap (λ x. count_at x q) c.insert.ensures.facts ∙ count_put w c.args.key 1 q
+    each_seen m c.insert.new.self.facts (λ n. n + 1) c.args.key q (ap (λ x. count_at x q) c.insert.ensures.facts ∙ count_put w c.args.key 1 q
     ∙ count_by w (λ n. n + 1) c.args.key 1 q (ap (λ o. unwrap_or o 0 + 1) (sym none))
     ∙ ap (λ n. cond (nat_eq c.args.key q) (n + 1) n) (same_counts m w q c.make_way.ensures.facts))
     ∙ ap (λ s. cond (nat_eq c.args.key q) (count_at s.facts q + 1) (count_at s.facts q)) c.self.view_is

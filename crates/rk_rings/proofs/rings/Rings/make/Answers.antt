@@ -33,6 +33,5 @@ invariant_of-self-2 c =
       users = c.insert_rows.ensures.users (subst (λ m. AreUserRings m c.reserve-else-is_err.new.self.facts) (sym c.reserve.ensures.facts)
           (subst (AreUserRings c.self.inside.rows.facts) (sym c.reserve-else-is_err.ensures.facts) c.self.invariant.users));
       counted = counted_made c.args.wanted.now c.args.self.now c.insert_rows.new.table.facts c.self.inside.counts c.reserve-2.new.self (returns-clause-ok c)
-          c.requires
-          (subst (λ n. AreCounted n c.self.inside.counts) c.self.view_is c.self.invariant.counted) c.reserve-2.ensures.facts enough;
+          c.requires (subst (λ n. AreCounted n c.self.inside.counts) c.self.view_is c.self.invariant.counted) c.reserve-2.ensures.facts enough;
     }

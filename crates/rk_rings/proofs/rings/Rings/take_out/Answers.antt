@@ -16,7 +16,6 @@ invariant_of-self c =
       users = users_changed _ _ _ _ _ c.change.ensures.facts (user_unlinked c.args.key) c.self.invariant.users;
       counted = subst (λ n. AreCounted n c.one_less.new.self) (sym put)
           (counted_unlinked m old c.one_less.new.self c.args.ring c.args.key c.self.invariant.counted (ap (λ n. holds n c.args.ring c.args.key) c.self.view_is ∙
-          c.requires)
-          (λ q. c.one_less.ensures.each q ∙ ap (λ k. cond (nat_eq k q) (count_at old.facts q - 1) (count_at old.facts q)) c.get-2.ensures.number)
+          c.requires) (λ q. c.one_less.ensures.each q ∙ ap (λ k. cond (nat_eq k q) (count_at old.facts q - 1) (count_at old.facts q)) c.get-2.ensures.number)
           c.one_less.ensures.positive c.one_less.ensures.places);
     }
