@@ -4,7 +4,7 @@ use Rattle.rk_auth.proofs.Words.{none-some, same_Some, get, Some, None, nat_eq, 
 use Rattle.rk_auth.proofs.Words.{standing_at, home_at, AreChained, has, names, standing_in, home_in, IsChain, first_in, next_in, first_at, IsChainOf, with_link}
 use Rattle.rk_auth.proofs.Words.{with_before, changed_if, link_in, before_in, next_at, before_at, with_first, with_next, led_to, Link, Slot, Slots}
 use Rattle.rk_auth.proofs.Lists.{without, has_without, once_without}
-use Rattle.rk_auth.proofs.Links.{at_same, at_apart, named_is, is_named, not_named, over, over_named, over_other, frame, in_front, taken_from, head_is, next_back, before_on, first_is}
+use Rattle.rk_auth.proofs.Links.{at_same, at_apart, chosen, named_is, is_named, not_named, over, over_named, over_other, frame, in_front, taken_from, head_is, next_back, before_on, first_is}
 
 -- ---- what a change of one slot does to a part of it
 
@@ -12,7 +12,8 @@ same_cond : {X : Type 0} (b : Bool) (x : X) → cond b x x ≡ x
 same_cond true x = refl
 same_cond false x = refl
 
-part : {X : Type 0} (P : Option Slot → X) (b : Bool) (o w : Option Slot) → P (cond b o w) ≡ cond b (P o) (P w)
+-- what is read of a choice is a choice of what is read
+pub part : {X : Type 0} (P : Option Slot → X) (b : Bool) (o w : Option Slot) → P (cond b o w) ≡ cond b (P o) (P w)
 part P true o w = refl
 part P false o w = refl
 
@@ -240,27 +241,21 @@ module _ (m : Slots) (j h : ℕ) (chained : AreChained m) (idle : home_at m j �
 
   befores_3 : (n : Option ℕ) → n ≡ first_at m h → (q : ℕ) → before_at (put_3 n) q ≡ cond (names n q) (Some j) (before_at put_1 q)
   befores_3 None is q = before_2 q
-  befores_3 (Some y) is q = elim (cases_eq y q) [
-    | inl e ↦
-        let homed : home_at m q ≡ Some h = (heads m chained q h (sym is ∙ ap (λ x. Some x) e)).0 in
-        let apart : j ≡ q → ⊥ = λ s. none-some h (sym idle ∙ ap (home_at m) s ∙ homed) in
-        touched before_in y (with_before (Some j)) put_2 q e
-        ∙ before_written (Some j) (get put_2 q) (ap is_some (home_2 q ∙ passed home_in j (with_link (Some put_link)) m q apart ∙ homed))
-        ∙ sym (at_same y q (Some j) (before_at put_1 q) e)
-    | inr ne ↦ passed before_in y (with_before (Some j)) put_2 q ne ∙ before_2 q ∙ sym (at_apart y q (Some j) (before_at put_1 q) ne)
-  ]
+  befores_3 (Some y) is q =
+      chosen y q (λ e.
+      let homed : home_at m q ≡ Some h = (heads m chained q h (sym is ∙ ap (λ x. Some x) e)).0 in
+      let apart : j ≡ q → ⊥ = λ s. none-some h (sym idle ∙ ap (home_at m) s ∙ homed) in
+      touched before_in y (with_before (Some j)) put_2 q e
+      ∙ before_written (Some j) (get put_2 q) (ap is_some (home_2 q ∙ passed home_in j (with_link (Some put_link)) m q apart ∙ homed)))
+      (λ ne. passed before_in y (with_before (Some j)) put_2 q ne ∙ before_2 q)
 
   firsts_3 : (n : Option ℕ) (q : ℕ) → first_at (put_3 n) q ≡ cond (nat_eq h q) (Some j) (first_at m q)
   firsts_3 n q =
-      last_left first_in (λ s. refl) n q ∙ elim (cases_eq h q) [
-        | inl e ↦
-            touched first_in h (with_first (Some j)) put_1 q e
-            ∙ written first_in (with_first (Some j)) (Some j) (λ s. refl) (get put_1 q) (untouched is_some j (with_link (Some put_link)) (λ s. refl) m q ∙ ap (λ x. is_some (get m x)) (sym e) ∙ home)
-            ∙ sym (at_same h q (Some j) (first_at m q) e)
-        | inr ne ↦
-            passed first_in h (with_first (Some j)) put_1 q ne ∙ untouched first_in j (with_link (Some put_link)) (λ s. refl) m q
-            ∙ sym (at_apart h q (Some j) (first_at m q) ne)
-      ]
+      last_left first_in (λ s. refl) n q
+      ∙ chosen h q (λ e. touched first_in h (with_first (Some j)) put_1 q e
+      ∙ written first_in (with_first (Some j)) (Some j) (λ s. refl) (get put_1 q)
+      (untouched is_some j (with_link (Some put_link)) (λ s. refl) m q ∙ ap (λ x. is_some (get m x)) (sym e) ∙ home))
+      (λ ne. passed first_in h (with_first (Some j)) put_1 q ne ∙ untouched first_in j (with_link (Some put_link)) (λ s. refl) m q)
 
   -- the three changes put j before the chain that h heads
   pub is_put : (n : Option ℕ) → n ≡ first_at m h → IsPut m (put_3 n) j h
@@ -274,11 +269,9 @@ module _ (m : Slots) (j h : ℕ) (chained : AreChained m) (idle : home_at m j �
         befores_3 n is q ∙ ap (cond (names n q) (Some j)) (passed before_in j (with_link (Some put_link)) m q (λ e. ne (sym e)))
         ∙ ap (λ o. cond (names o q) (Some j) (before_at m q)) is;
     firsts = firsts_3 n;
-    homes = λ q. last_left home_in (before_home (Some j)) n q ∙ home_2 q ∙ elim (cases_eq j q) [
-      | inl e ↦
-          touched home_in j (with_link (Some put_link)) m q e ∙ written home_in (with_link (Some put_link)) (Some h) (λ s. refl) (get m q) (there_at q e) ∙ sym (at_same j q (Some h) (home_at m q) e)
-      | inr ne ↦ passed home_in j (with_link (Some put_link)) m q ne ∙ sym (at_apart j q (Some h) (home_at m q) ne)
-    ];
+    homes = λ q. last_left home_in (before_home (Some j)) n q ∙ home_2 q
+        ∙ chosen j q (λ e. touched home_in j (with_link (Some put_link)) m q e
+        ∙ written home_in (with_link (Some put_link)) (Some h) (λ s. refl) (get m q) (there_at q e)) (passed home_in j (with_link (Some put_link)) m q);
   }
 
   -- putting a slot before a chain leaves who stands at each place
@@ -371,12 +364,8 @@ module _ (m : Slots) (j : ℕ) (l : Link) (chained : AreChained m) (at : link_in
     nexts = λ q ne. passed next_in j (with_link None) (out_2 b n) q (λ e. ne (sym e)) ∙ left_2 next_in (before_next l.before) b n q ∙ nexts_1 b b_is q;
     befores = λ q ne. passed before_in j (with_link None) (out_2 b n) q (λ e. ne (sym e)) ∙ befores_2 b n n_is q;
     firsts = λ q. untouched first_in j (with_link None) (λ s. refl) (out_2 b n) q ∙ left_2 first_in (λ s. refl) b n q ∙ firsts_1 b b_is q;
-    homes = λ q. elim (cases_eq j q) [
-      | inl e ↦ touched home_in j (with_link None) (out_2 b n) q e ∙ home_out (get (out_2 b n) q) ∙ sym (at_same j q None (home_at m q) e)
-      | inr ne ↦
-          passed home_in j (with_link None) (out_2 b n) q ne ∙ left_2 home_in (before_home l.before) b n q ∙ home_1 b q
-          ∙ sym (at_apart j q None (home_at m q) ne)
-    ];
+    homes = λ q. chosen j q (λ e. touched home_in j (with_link None) (out_2 b n) q e ∙ home_out (get (out_2 b n) q))
+        (λ ne. passed home_in j (with_link None) (out_2 b n) q ne ∙ left_2 home_in (before_home l.before) b n q ∙ home_1 b q);
   }
 
   -- taking a slot out of its chain leaves who stands at each place
@@ -386,7 +375,4 @@ module _ (m : Slots) (j : ℕ) (l : Link) (chained : AreChained m) (at : link_in
 
 -- who stands in no chain is in none once he is taken out
 pub no_link : (m : Slots) (j : ℕ) → link_in (get m j) ≡ None → (q : ℕ) → home_at m q ≡ cond (nat_eq j q) None (home_at m q)
-no_link m j none q = elim (cases_eq j q) [
-  | inl e ↦ ap (home_at m) (sym e) ∙ ap (option_map (λ (k : Link). k.home)) none ∙ sym (at_same j q None (home_at m q) e)
-  | inr ne ↦ sym (at_apart j q None (home_at m q) ne)
-]
+no_link m j none q = chosen j q (λ e. ap (home_at m) (sym e) ∙ ap (option_map (λ (k : Link). k.home)) none) (λ ne. refl)

@@ -13,6 +13,13 @@ at_same k q x y e = ap (λ b. cond b x y) (eq-eqb k q e)
 pub at_apart : {X : Type 0} (k q : ℕ) (x y : X) → (k ≡ q → ⊥) → cond (nat_eq k q) x y ≡ y
 at_apart k q x y ne = ap (λ b. cond b x y) (ne_eqb k q ne)
 
+-- what is x at k, and y at every other place, is the choice between them
+pub chosen : {X : Type 0} (k q : ℕ) {x y z : X} → (k ≡ q → z ≡ x) → ((k ≡ q → ⊥) → z ≡ y) → z ≡ cond (nat_eq k q) x y
+chosen k q {x} {y} here there = elim (cases_eq k q) [
+  | inl e ↦ here e ∙ sym (at_same k q x y e)
+  | inr ne ↦ there ne ∙ sym (at_apart k q x y ne)
+]
+
 -- an option that names j is j
 pub named_is : (o : Option ℕ) (j : ℕ) → names o j ≡ true → o ≡ Some j
 named_is None j t = absurd (both_ways _ refl t)

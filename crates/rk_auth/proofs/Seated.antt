@@ -90,14 +90,12 @@ made_construction h o k = at_construction (λ o. construction_of (option_map (in
 -- a change of a session leaves whose it is
 pub session_who : (g : Session → Session) (s : Standing) → who_of (in_session g s) ≡ who_of s
 session_who g standing.Nobody = refl
-session_who g (standing.Client n s) = refl
-session_who g (standing.Construction k c) = refl
+session_who g _ = refl
 
 -- a change of a construction leaves whose it is
 pub construction_who : (h : Construction → Construction) (s : Standing) → who_of (in_construction h s) ≡ who_of s
 construction_who h standing.Nobody = refl
-construction_who h (standing.Client n s) = refl
-construction_who h (standing.Construction k c) = refl
+construction_who h _ = refl
 
 -- ---- what is seen of all
 

@@ -1,12 +1,12 @@
 -- Who waits for what, through the changes of who stands in the slots.
 use Rattle.rk_auth.proofs.Words.{◌∙◌, ap, sym, ◌≡◌, subst, refl, ℕ, cond, true, false, inl, inr, ◌||◌, Bool, List, ◌∷◌, [], ◌⊎◌, cases_eq, none-some, same_Some}
 use Rattle.rk_auth.proofs.Words.{get, FinMap, remove, insert, nat_cmp, Some, None, nat_eq, is_some, Option, option_map, option_and_then, unwrap_or, at_new}
-use Rattle.rk_auth.proofs.Words.{at_other, left_in, taken_out, changed_at, SessionId, standing_at, home_at, AreChained, has, standing_in, home_in, in_standing}
-use Rattle.rk_auth.proofs.Words.{first_in, next_in, first_at, IsChainOf, link_in, before_in, changed_each_at, IsTied, who_at, who_of, waited_in, same_home}
-use Rattle.rk_auth.proofs.Words.{home_for, Link, Slot, Standing, Slots}
+use Rattle.rk_auth.proofs.Words.{at_other, left_in, taken_out, get_inserted, get_removed, changed_at, SessionId, standing_at, home_at, AreChained, has}
+use Rattle.rk_auth.proofs.Words.{standing_in, home_in, in_standing, first_in, next_in, first_at, IsChainOf, link_in, before_in, changed_each_at, IsTied, who_at}
+use Rattle.rk_auth.proofs.Words.{who_of, waited_in, same_home, home_for, Link, Slot, Standing, Slots}
 use Rattle.rk_names.specs.declared.numbers.SessionId.TheVariants as id
 use Rattle.rk_auth.proofs.Links.{at_same, at_apart}
-use Rattle.rk_auth.proofs.Chained.{untouched, changed, heads, chained_same}
+use Rattle.rk_auth.proofs.Chained.{part, untouched, changed, heads, chained_same}
 
 -- ---- options
 
@@ -38,10 +38,7 @@ module _ (m : Slots) (p : ℕ) (st : Standing) (none : get m p ≡ None) where
 
   -- who is put into a new slot stands there, and all others as before
   pub put_stands : (q : ℕ) → standing_at (insert m p (new_slot st)) q ≡ cond (nat_eq p q) (Some st) (standing_at m q)
-  put_stands q = elim (cases_eq p q) [
-    | inl e ↦ ap standing_in (at_new m p (new_slot st) q (sym e)) ∙ sym (at_same p q (Some st) (standing_at m q) e)
-    | inr ne ↦ ap standing_in (at_other m p (new_slot st) q (λ e. ne (sym e))) ∙ sym (at_apart p q (Some st) (standing_at m q) ne)
-  ]
+  put_stands q = ap standing_in (get_inserted m p (new_slot st) q) ∙ part standing_in (nat_eq p q) (Some (new_slot st)) (get m q)
 
 -- ---- one is taken out
 
@@ -68,10 +65,7 @@ module _ (m : Slots) (p : ℕ) (idle : home_at m p ≡ None) (chained : AreChain
 
 -- after a slot is removed nobody stands there, and all others as before
 pub out_stands : (m : Slots) (p q : ℕ) → standing_at (remove m p) q ≡ cond (nat_eq p q) None (standing_at m q)
-out_stands m p q = elim (cases_eq p q) [
-  | inl e ↦ ap standing_in (taken_out m p q (sym e)) ∙ sym (at_same p q None (standing_at m q) e)
-  | inr ne ↦ ap standing_in (left_in m p q (λ e. ne (sym e))) ∙ sym (at_apart p q None (standing_at m q) ne)
-]
+out_stands m p q = ap standing_in (get_removed m p q) ∙ part standing_in (nat_eq p q) None (get m q)
 
 -- if nobody was in the chain of p, nobody is in it once the place p is taken out of its own
 pub still_alone : (p q : ℕ) (o : Option ℕ) → (o ≡ Some p → ⊥) → cond (nat_eq p q) None o ≡ Some p → ⊥

@@ -7,7 +7,7 @@ use Rattle.rk_names.specs.declared.numbers.SessionId.TheVariants as id
 use Rattle.rk_auth.specs.declared.session.Wait.{Wait}
 use Rattle.rk_auth.specs.declared.session.Outcome.{Outcome}
 use Rattle.rk_auth.specs.declared.construction.Stage.{Stage}
-use Rattle.rk_auth.specs.declared.construction.Stage.TheVariants.{Starting, Plain, Piped, Negating}
+use Rattle.rk_auth.specs.declared.construction.Stage.TheVariants.{Plain}
 use Rattle.rk_auth.specs.declared.slot.Standing.TheVariants as standing
 use Rattle.rk_auth.proofs.Links.{is_named}
 use Rattle.rk_auth.proofs.Seen.{seen_all}
@@ -28,10 +28,8 @@ module _ (k : ℕ) (outcome : Outcome) where
   session_same s ne = ap {B = Session} (λ x. record s { wait = x }) (waits_same s.wait ne)
 
   stage_same : (st : Stage) → (option_and_then waited_key (handler_in st) ≡ Some k → ⊥) → in_stage (told k outcome) st ≡ st
-  stage_same Starting ne = refl
   stage_same (Plain s) ne = ap Plain (session_same s ne)
-  stage_same Piped ne = refl
-  stage_same Negating ne = refl
+  stage_same _ ne = refl
 
   standing_same : (s : Standing) → (waited_of s ≡ Some k → ⊥) → in_session (told k outcome) s ≡ s
   standing_same standing.Nobody ne = refl
@@ -56,10 +54,8 @@ module _ (k : ℕ) (outcome : Outcome) where
   session_twice s = ap {B = Session} (λ x. record s { wait = x }) (waits_twice s.wait)
 
   stage_twice : (st : Stage) → in_stage (told k outcome) (in_stage (told k outcome) st) ≡ in_stage (told k outcome) st
-  stage_twice Starting = refl
   stage_twice (Plain s) = ap Plain (session_twice s)
-  stage_twice Piped = refl
-  stage_twice Negating = refl
+  stage_twice _ = refl
 
   -- getting the outcome of a key twice is as getting it once
   pub standing_twice : (s : Standing) → in_session (told k outcome) (in_session (told k outcome) s) ≡ in_session (told k outcome) s
@@ -74,10 +70,8 @@ module _ (k : ℕ) (outcome : Outcome) where
   waits_kept (Some w) = refl
 
   stage_kept : (st : Stage) → option_and_then waited_key (handler_in (in_stage (told k outcome) st)) ≡ option_and_then waited_key (handler_in st)
-  stage_kept Starting = refl
   stage_kept (Plain s) = waits_kept s.wait
-  stage_kept Piped = refl
-  stage_kept Negating = refl
+  stage_kept _ = refl
 
   standing_kept : (s : Standing) → waited_of (in_session (told k outcome) s) ≡ waited_of s
   standing_kept standing.Nobody = refl

@@ -10,7 +10,7 @@ pub use Rattle.std.specs.Option.{option_map_or, option_copied, option_copied_mut
 pub use Rattle.std.specs.Ordering.{nat_cmp, eq_by_cmp}
 pub use Rattle.std.specs.Prelude.{Some, None, nat_eq, is_some, Option, option_map, option_and_then, map as list_map, IsSome, OnSome, IfNone, unwrap_or}
 pub use Rattle.rk_table.proofs.Entries.{get_in, tie, get_changed_all}
-pub use Rattle.rk_table.proofs.Gets.{at_new, at_other, left_in, taken_out, get_changed_at}
+pub use Rattle.rk_table.proofs.Gets.{at_new, at_other, left_in, taken_out, get_changed_at, get_inserted, get_removed}
 pub use Rattle.rk_table.specs.Maps.{changed_at, changed_all}
 pub use Rattle.rk_table.specs.Says.{Says}
 pub use Rattle.rk_names.specs.declared.numbers.SessionId.{SessionId}
