@@ -1,8 +1,8 @@
 -- What is kept of names: what is found under their hashes after each change.
 use Rattle.rk_keys.proofs.Words.{◌∙◌, ap, ◌≡◌, refl, sym, ℕ, subst, ◌<◌, false, cond, arith, List, ◌-◌, ◌≤◌, true, Bool, not, [], ◌∷◌, ◌++◌, filter, both_ways}
 use Rattle.rk_keys.proofs.Words.{eq-eqb, eqb-true, false_from_ne_true, and_parts, and_from, nat_tests, bytes_eq-Decides, option_or, nat_cmp, Some, None, Option}
-use Rattle.rk_keys.proofs.Words.{nat_eq, unwrap_or, list_map, option_map, list_find, nat_le, bytes_eq, get_changed_at, get_inserted, get_removed, changed_at}
-use Rattle.rk_keys.proofs.Words.{names_at, recounted, is_of, kept_of, counted_in, name_hash, is_same, count_of, counted_out, Named}
+use Rattle.rk_keys.proofs.Words.{nat_eq, unwrap_or, list_map, option_map, list_find, nat_le, bytes_eq, of_choice, shadow, get_changed_at, get_inserted}
+use Rattle.rk_keys.proofs.Words.{get_removed, changed_at, names_at, recounted, is_of, kept_of, counted_in, name_hash, is_same, count_of, counted_out, Named}
 use Rattle.std.specs.FinMap as map
 use Rattle.std.proofs.lemmas.List.Folds.{find-append}
 
@@ -53,7 +53,7 @@ module _ {X : Type 0} (p : X → Bool) where
 pub names_put : (m : Buckets) (k : ℕ) (b : List Named) (h : ℕ) → names_at (map.insert (map.remove m k) k b) h ≡ cond (nat_eq k h) b (names_at m h)
 names_put m k b h =
     ap (λ o. unwrap_or o []) (get_inserted (map.remove m k) k b h ∙ ap (cond (nat_eq k h) (Some b)) (get_removed m k h))
-    ∙ elim (nat_eq k h) as (λ t. unwrap_or (cond t (Some b) (cond t None (map.get m h))) [] ≡ cond t b (names_at m h)) [ true ↦ refl | false ↦ refl ]
+    ∙ ap (λ o. unwrap_or o []) (shadow (nat_eq k h) (Some b) None (map.get m h)) ∙ of_choice (λ o. unwrap_or o []) (nat_eq k h) (Some b) (map.get m h)
 
 -- a bucket is put back as it was
 pub names_back : (m : Buckets) (k : ℕ) (b : List Named) → b ≡ names_at m k → (h : ℕ) → names_at (map.insert (map.remove m k) k b) h ≡ names_at m h

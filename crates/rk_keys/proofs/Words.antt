@@ -14,7 +14,7 @@ pub use Rattle.std.specs.Ordering.{nat_cmp, eq_by_cmp}
 pub use Rattle.std.specs.Prelude.{Some, None, Option, nat_eq, unwrap_or, map as list_map, is_some, option_map, find as list_find, ◌==◌, nat_le, IfSome}
 pub use Rattle.std.specs.Prelude.{bytes_eq, MatchOption}
 pub use Rattle.rk_lemmas.proofs.Options.{passing}
-pub use Rattle.rk_table.proofs.Entries.{tie}
+pub use Rattle.rk_table.proofs.Entries.{tie, of_choice, shadow}
 pub use Rattle.rk_table.proofs.Gets.{get_changed_at, at_new, taken_out, at_other, left_in, contains_key_changed_at, get_kept_where, none_kept, get_inserted}
 pub use Rattle.rk_table.proofs.Gets.{get_removed}
 pub use Rattle.rk_table.proofs.KeptCounts.{kept_len-empty, kept_len-insert, kept_len-remove, kept_len-remove_none, kept_len-changed}

@@ -9,6 +9,17 @@ use Rattle.std.specs.Option.{option_map}
 pub tie : (q k : ℕ) → eq_by_cmp nat_cmp q k ≡ nat_eq k q
 tie q k = unsigned_tied q k ∙ nat_eq_equiv.symm q k
 
+-- what is made of a choice is a choice of what is made
+pub of_choice : {A B : Type 0} (f : A → B) (b : Bool) (x y : A) → f (cond b x y) ≡ cond b (f x) (f y)
+of_choice f true x y = refl
+of_choice f false x y = refl
+
+-- what is found in a list whose values were all changed is the changed value
+pub find_mapped : {A B : Type 0} (f : A → B) (q : ℕ) (es : List (ℕ × A)) → find nat_cmp q (list_map (λ e. (e.0, f e.1)) es) ≡ option_map f (find nat_cmp q es)
+find_mapped f q [] = refl
+find_mapped f q (e ∷ es) =
+    ap (cond (eq_by_cmp nat_cmp q e.0) (Some (f e.1))) (find_mapped f q es) ∙ sym (of_choice (option_map f) (eq_by_cmp nat_cmp q e.0) (Some e.1) (find nat_cmp q es))
+
 module _ {X : Type 0} where
   find_drop : (q : ℕ) (es : List (ℕ × X)) (i : ℕ) (d : ℕ × X) → i < length es
       → find nat_cmp q (drop i es) ≡ cond (eq_by_cmp nat_cmp q (get_or es i d).0) (Some (get_or es i d).1) (find nat_cmp q (drop (i + 1) es))
@@ -60,15 +71,7 @@ module _ {X : Type 0} where
   swap_tests true false x y z apart = refl
   swap_tests false b x y z apart = refl
 
-  mapped : (f : X → X) (b : Bool) (x : X) (o : Option X) → cond b (Some (f x)) (option_map f o) ≡ option_map f (cond b (Some x) o)
-  mapped f true x o = refl
-  mapped f false x o = refl
-
-  find_changed : (f : X → X) (q : ℕ) (es : List (ℕ × X)) → find nat_cmp q (list_map (λ e. (e.0, f e.1)) es) ≡ option_map f (find nat_cmp q es)
-  find_changed f q [] = refl
-  find_changed f q (e ∷ es) = ap (cond (eq_by_cmp nat_cmp q e.0) (Some (f e.1))) (find_changed f q es) ∙ mapped f (eq_by_cmp nat_cmp q e.0) e.1 (find nat_cmp q es)
-
   -- where all values of a map are changed, the one at each key is
   pub get_changed_all : (f : X → X) (m : FinMap nat_cmp X) (q : ℕ) → get (changed_all f m) q ≡ option_map f (get m q)
   get_changed_all f m q =
-      get_in (list_map (λ e. (e.0, f e.1)) (entries m)) q ∙ find_changed f q (entries m) ∙ ap (option_map f) (sym (get-entries m q))
+      get_in (list_map (λ e. (e.0, f e.1)) (entries m)) q ∙ find_mapped f q (entries m) ∙ ap (option_map f) (sym (get-entries m q))

@@ -1,7 +1,6 @@
 -- The words in which the lemmas speak: of std, of the libraries below, and of the definitions. A lemma file names those that it needs.
 pub use Rattle.std.proofs.Common.{◌∙◌, ap, sym, ◌≡◌, cond, subst, ℕ, refl, true, false, arith, ◌<◌, Bool, List, [], ◌∷◌, length, ◌+◌, get_or, inl, inr, zero}
-pub use Rattle.std.proofs.Common.{suc, ◌-◌, rules, not, ◌≢◌, ◌≤◌, set, ◌++◌, drop, add-one, drop-cons, Result, Ok, Err, IfOk, IfErr, ◌||◌, take_all, take, fold}
-pub use Rattle.std.proofs.Common.{T, ◌&&◌}
+pub use Rattle.std.proofs.Common.{suc, ◌-◌, rules, not, ◌≢◌, ◌≤◌, set, ◌++◌, drop, add-one, drop-cons, Result, Ok, Err, IfOk, IfErr, ◌||◌, take, fold, T, ◌&&◌}
 pub use Rattle.std.proofs.lemmas.Bool.{eq-eqb, ne_eqb, eqb-true, cases_eq, cases_lt, both_ways}
 pub use Rattle.std.proofs.lemmas.Option.{none-some, same_Some}
 pub use Rattle.std.specs.Cmp.{nat_cmp_total, unsigned_tied, nat_eq_equiv, nat_cmp_is}

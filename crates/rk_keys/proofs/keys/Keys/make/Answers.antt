@@ -1,5 +1,5 @@
 use Rattle.rk_keys.proofs.Words.{◌∙◌, ap, ◌≡◌, refl, ℕ, subst, ◌<◌, cond, arith, List, nat_cmp, Some, None, Option, unwrap_or, at_new, kept_of, counted_in}
-use Rattle.rk_keys.proofs.Words.{is_same, IsIndex, number_in, Known, IsHeld, new_key, IsNumberFor, AreCounts, IsNext, with_drawn, Key, Named}
+use Rattle.rk_keys.proofs.Words.{is_same, IsIndex, number_in, Known, IsHeld, new_key, IsNumberFor, AreCounts, Key, Named}
 use Rattle.std.specs.FinMap as map
 use Rattle.std.specs.FinSet as set
 use Rattle.std.proofs.lemmas.Result.{err_from_is_err_and}
@@ -7,57 +7,37 @@ use Rattle.rk_keys.proofs.Names.{number_of_new, number_for_new}
 use Rattle.rk_keys.proofs.Held.{held_made_so}
 use Rattle.rk_keys.proofs.Indexed.{index_with, index_same, none_of, some_of, few_named}
 use Rattle.rk_keys.proofs.UserCounts.{counts_with}
-use Rattle.rk_keys.proofs.Refused.{not_refused}
+use Rattle.rk_keys.proofs.Refused.{no_quota}
 use Rattle.rk_keys.proofs.keys.Keys.make.Goals as goal
 
 pub returns-in_err-reserve-clause-quota : goal.returns-in_err-reserve-clause-quota
 returns-in_err-reserve-clause-quota c =
-    let next : IsNext c.args.self.now.serials c.in-Some.serial = subst (λ (n : Known). IsNext n.serials c.in-Some.serial) c.self.view_is
-    c.in-Some.ensures.cases.0 in
     let p = err_from_is_err_and c.from_residual.result c.from_residual.ensures.1 in
-    rw (p.1, p.2) (
-      λ e. absurd (cc),
-      λ refused. absurd (not_refused c.args.self.now c.args.owner c.in-Some.serial c.is_full.result c.is_full.ensures c.if-is_full.false next refused),
-    )
+    rw (p.1, p.2) (no_quota _ c.args.self.now c.args.owner c.in-Some.serial c.is_full.result _ (λ e. cc) c.self.view_is c.is_full.ensures
+    c.if-is_full.false c.in-Some.ensures.cases.0)
 
 pub returns-in_err-reserve-2-clause-quota : goal.returns-in_err-reserve-2-clause-quota
 returns-in_err-reserve-2-clause-quota c =
-    let next : IsNext c.args.self.now.serials c.in-Some.serial = subst (λ (n : Known). IsNext n.serials c.in-Some.serial) c.self.view_is
-    c.in-Some.ensures.cases.0 in
     let p = err_from_is_err_and c.from_residual-in_err-reserve-2.result c.from_residual-in_err-reserve-2.ensures.1 in
-    rw (p.1, p.2) (
-      λ e. absurd (cc),
-      λ refused. absurd (not_refused c.args.self.now c.args.owner c.in-Some.serial c.is_full.result c.is_full.ensures c.if-is_full.false next refused),
-    )
+    rw (p.1, p.2) (no_quota _ c.args.self.now c.args.owner c.in-Some.serial c.is_full.result _ (λ e. cc) c.self.view_is c.is_full.ensures
+    c.if-is_full.false c.in-Some.ensures.cases.0)
 
 pub returns-in_err-reserve-3-clause-quota : goal.returns-in_err-reserve-3-clause-quota
 returns-in_err-reserve-3-clause-quota c =
-    let next : IsNext c.args.self.now.serials c.in-Some.serial = subst (λ (n : Known). IsNext n.serials c.in-Some.serial) c.self.view_is
-    c.in-Some.ensures.cases.0 in
     let p = err_from_is_err_and c.from_residual-in_err-reserve-3.result c.from_residual-in_err-reserve-3.ensures.1 in
-    rw (p.1, p.2) (
-      λ e. absurd (cc),
-      λ refused. absurd (not_refused c.args.self.now c.args.owner c.in-Some.serial c.is_full.result c.is_full.ensures c.if-is_full.false next refused),
-    )
+    rw (p.1, p.2) (no_quota _ c.args.self.now c.args.owner c.in-Some.serial c.is_full.result _ (λ e. cc) c.self.view_is c.is_full.ensures
+    c.if-is_full.false c.in-Some.ensures.cases.0)
 
 pub returns-in_err-number-clause-quota : goal.returns-in_err-number-clause-quota
 returns-in_err-number-clause-quota c =
-    let next : IsNext c.args.self.now.serials c.in-Some.serial = subst (λ (n : Known). IsNext n.serials c.in-Some.serial) c.self.view_is
-    c.in-Some.ensures.cases.0 in
     let p = err_from_is_err_and c.from_residual-in_err-number.result c.from_residual-in_err-number.ensures.1 in
-    rw (p.1, p.2) (
-      λ e. absurd (cc),
-      λ refused. absurd (not_refused c.args.self.now c.args.owner c.in-Some.serial c.is_full.result c.is_full.ensures c.if-is_full.false next refused),
-    )
+    rw (p.1, p.2) (no_quota _ c.args.self.now c.args.owner c.in-Some.serial c.is_full.result _ (λ e. cc) c.self.view_is c.is_full.ensures
+    c.if-is_full.false c.in-Some.ensures.cases.0)
 
 pub returns-clause-quota : goal.returns-clause-quota
 returns-clause-quota c =
-    let next : IsNext c.args.self.now.serials c.in-Some.serial = subst (λ (n : Known). IsNext n.serials c.in-Some.serial) c.self.view_is
-    c.in-Some.ensures.cases.0 in (
-      λ e. absurd (cc),
-      λ refused. absurd (not_refused c.args.self.now c.args.owner c.in-Some.serial c.is_full.result c.is_full.ensures c.if-is_full.false next
-          refused),
-    )
+    no_quota _ c.args.self.now c.args.owner c.in-Some.serial c.is_full.result _ (λ e. cc) c.self.view_is c.is_full.ensures
+    c.if-is_full.false c.in-Some.ensures.cases.0
 
 pub invariant_of-self-2 : goal.invariant_of-self-2
 invariant_of-self-2 c =
