@@ -3,10 +3,10 @@ use Rattle.rk_rings.proofs.Words.{◌∙◌, ap, sym, ◌≡◌, subst, arith, �
 use Rattle.rk_rings.proofs.Words.{ltb, zero, suc, ◌*◌, both_ways, eq-eqb, eqb-true, lt-ltb, none-some, same_Some, nat_cmp_total, get, len, insert, remove}
 use Rattle.rk_rings.proofs.Words.{empty, FinMap, contains_key, get-empty, len-remove, len-insert, entries, same_map, nat_cmp-IsAntisymmetric, len-empty, find}
 use Rattle.rk_rings.proofs.Words.{get-entries, len-entries, list_any, AllByRecursion, option_map_or, option_map, nat_cmp, eq_by_cmp, None, Some, nat_eq}
-use Rattle.rk_rings.proofs.Words.{is_some, Option, unwrap_or, positive_empty, tie, get_kept_where, get_changed_at, get_inserted, get_removed, HasEachOnce}
-use Rattle.rk_rings.proofs.Words.{entries_once, count_at, ArePositive, changed_at, kept_where, places, Stored, AreCounted, links_of, Numbered, Rings, unlinked}
-use Rattle.rk_rings.proofs.Words.{new_ring, is_full, linked_in_room, holds, is_held, linked, cleared, IsMatch, links_with, with_rings, AreNew, is_full_at}
-use Rattle.rk_rings.proofs.Words.{NewRing}
+use Rattle.rk_rings.proofs.Words.{is_some, Option, unwrap_or, positive_empty, tie, shadow, get_kept_where, get_changed_at, get_inserted, get_removed}
+use Rattle.rk_rings.proofs.Words.{HasEachOnce, entries_once, count_at, ArePositive, changed_at, kept_where, places, Stored, AreCounted, links_of, Numbered}
+use Rattle.rk_rings.proofs.Words.{Rings, unlinked, new_ring, is_full, linked_in_room, holds, is_held, linked, cleared, IsMatch, links_with, with_rings, AreNew}
+use Rattle.rk_rings.proofs.Words.{is_full_at, NewRing}
 use Rattle.rk_table.proofs.KeptCounts.{was_there, kept_len-empty, kept_len-insert, kept_len-remove, kept_len-remove_none, kept_len-changed}
 use Rattle.rk_rings.proofs.Finds.{tied, tied_itself, some_entry, entry_found, any_value}
 use Rattle.rk_rings.proofs.Counts.{IsWithin, some_key, has_some, contains_key-remove, no_more}
@@ -365,12 +365,8 @@ all_cleared m ring none = changed_by_nothing m ring cleared (λ r is i. record r
 -- clearing a ring before it is removed leaves what removing makes
 pub dropped : (m : Rings) (ring : ℕ) → remove (changed_at ring cleared m) ring ≡ remove m ring
 dropped m ring = same_map nat_cmp_total nat_cmp-IsAntisymmetric _ _ (λ q.
-    get_removed (changed_at ring cleared m) ring q ∙ ap (cond (nat_eq ring q) None) (get_changed_at ring cleared m q) ∙ by_ring (nat_eq ring q) (get m q) ∙
-    sym (get_removed m ring q))
-  where
-    by_ring : (b : Bool) (o : Option Numbered) → cond b None (cond b (option_map cleared o) o) ≡ cond b None o
-    by_ring true o = refl
-    by_ring false o = refl
+    get_removed (changed_at ring cleared m) ring q ∙ ap (cond (nat_eq ring q) None) (get_changed_at ring cleared m q) ∙ shadow (nat_eq ring q) None (option_map cleared (get m q)) (get m q)
+    ∙ sym (get_removed m ring q))
 
 pub links_dropped : (m : Rings) (ring : ℕ) (q : ℕ) → links_of (remove (changed_at ring cleared m) ring) q ≡ links_of (changed_at ring cleared m) q
 links_dropped m ring q = by_ring (get m ring) refl

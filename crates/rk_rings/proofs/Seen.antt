@@ -1,8 +1,9 @@
 -- Rings as they are seen without the numbers of names.
-use Rattle.rk_rings.proofs.Words.{◌∙◌, ap, sym, ◌≡◌, arith, ℕ, cond, false, refl, true, Bool, ◌-◌, not, List, [], ◌∷◌, ◌&&◌, ◌||◌, zero, suc, both_ways, eq-eqb}
-use Rattle.rk_rings.proofs.Words.{nat_cmp_total, same_answer, list_any, option_map_or, option_map, nat_cmp, eq_by_cmp, None, Some, nat_eq, is_some, Option}
-use Rattle.rk_rings.proofs.Words.{list_map, set_not_empty, tie, get_in, get_kept_where, changed_at, kept_where, Numbered, Rings, unlinked, new_ring, holds}
-use Rattle.rk_rings.proofs.Words.{is_held, linked, rings_seen, ring_seen, Ring, empty_ring, is_linked, has_link, with_link, without_link, NewRing}
+use Rattle.rk_rings.proofs.Words.{◌∙◌, ap, sym, ◌≡◌, arith, ℕ, cond, false, refl, true, Bool, ◌-◌, not, ◌&&◌, ◌||◌, zero, suc, both_ways, eq-eqb, nat_cmp_total}
+use Rattle.rk_rings.proofs.Words.{same_answer, list_any, option_map_or, option_map, nat_cmp, eq_by_cmp, None, Some, nat_eq, is_some, Option, list_map}
+use Rattle.rk_rings.proofs.Words.{set_not_empty, tie, get_in, of_choice, find_mapped, get_kept_where, changed_at, kept_where, Numbered, Rings, unlinked}
+use Rattle.rk_rings.proofs.Words.{new_ring, holds, is_held, linked, rings_seen, ring_seen, Ring, empty_ring, is_linked, has_link, with_link, without_link}
+use Rattle.rk_rings.proofs.Words.{NewRing}
 use Rattle.std.specs.FinMap as map
 use Rattle.std.specs.FinSet as set
 use Rattle.rk_lemmas.proofs.Options.{is_some-option_map, made_of}
@@ -14,28 +15,12 @@ map_or : {A B : Type 0} (f : A → B) (p : B → Bool) (t : A → Bool) → ((x 
 map_or f p t h None = refl
 map_or f p t h (Some x) = h x
 
-module _ {A B : Type 0} (f : A → B) where
-  found_alike : (q : ℕ) (es : List (ℕ × A)) → map.find nat_cmp q (list_map (λ e. (e.0, f e.1)) es) ≡ option_map f (map.find nat_cmp q es)
-  found_alike q [] = refl
-  found_alike q (e ∷ es) =
-      ap (cond (eq_by_cmp nat_cmp q e.0) (Some (f e.1))) (found_alike q es)
-      ∙ elim (eq_by_cmp nat_cmp q e.0) as (λ b. cond b (Some (f e.1)) (option_map f (map.find nat_cmp q es)) ≡ option_map f
-      (cond b (Some e.1) (map.find nat_cmp q es))) [ true ↦ refl | false ↦ refl ]
-
-  put_alike : (b : Bool) (x : A) (o : Option A) → option_map f (cond b (Some x) o) ≡ cond b (Some (f x)) (option_map f o)
-  put_alike true x o = refl
-  put_alike false x o = refl
-
-  gone_alike : (b : Bool) (o : Option A) → option_map f (cond b None o) ≡ cond b None (option_map f o)
-  gone_alike true o = refl
-  gone_alike false o = refl
-
 -- ---- the rings by their serials
 
 -- each ring is seen as it is without the numbers
 pub get-rings_seen : (m : Rings) (q : ℕ) → map.get (rings_seen m) q ≡ option_map ring_seen (map.get m q)
 get-rings_seen m q =
-    get_in (list_map (λ e. (e.0, ring_seen e.1)) (map.entries m)) q ∙ found_alike ring_seen q (map.entries m) ∙
+    get_in (list_map (λ e. (e.0, ring_seen e.1)) (map.entries m)) q ∙ find_mapped ring_seen q (map.entries m) ∙
     ap (option_map ring_seen) (sym (map.get-entries m q))
 
 -- the rings that are seen are those that are there
@@ -53,14 +38,14 @@ rings_seen-empty = same_rings _ _ (λ q. get-rings_seen map.empty q ∙ ap (opti
 pub rings_seen-insert : (m : Rings) (k : ℕ) (r : Numbered) → rings_seen (map.insert m k r) ≡ map.insert (rings_seen m) k (ring_seen r)
 rings_seen-insert m k r = same_rings _ _ (λ q.
     get-rings_seen (map.insert m k r) q ∙ ap (option_map ring_seen) (map.get-insert nat_cmp_total m k r q)
-    ∙ put_alike ring_seen (eq_by_cmp nat_cmp q k) r (map.get m q) ∙ ap (cond (eq_by_cmp nat_cmp q k) (Some (ring_seen r))) (sym (get-rings_seen m q))
+    ∙ of_choice (option_map ring_seen) (eq_by_cmp nat_cmp q k) (Some r) (map.get m q) ∙ ap (cond (eq_by_cmp nat_cmp q k) (Some (ring_seen r))) (sym (get-rings_seen m q))
     ∙ sym (map.get-insert nat_cmp_total (rings_seen m) k (ring_seen r) q))
 
 -- a ring that is removed is seen as removed
 pub rings_seen-remove : (m : Rings) (k : ℕ) → rings_seen (map.remove m k) ≡ map.remove (rings_seen m) k
 rings_seen-remove m k = same_rings _ _ (λ q.
     get-rings_seen (map.remove m k) q ∙ ap (option_map ring_seen) (map.get-remove nat_cmp_total m k q)
-    ∙ gone_alike ring_seen (eq_by_cmp nat_cmp q k) (map.get m q) ∙ ap (cond (eq_by_cmp nat_cmp q k) None) (sym (get-rings_seen m q))
+    ∙ of_choice (option_map ring_seen) (eq_by_cmp nat_cmp q k) None (map.get m q) ∙ ap (cond (eq_by_cmp nat_cmp q k) None) (sym (get-rings_seen m q))
     ∙ sym (map.get-remove nat_cmp_total (rings_seen m) k q))
 
 -- a change of one ring is seen as the change that does the same to the ring without numbers

@@ -14,7 +14,7 @@ pub use Rattle.std.specs.Ordering.{nat_cmp, eq_by_cmp}
 pub use Rattle.std.specs.Prelude.{None, Some, nat_eq, is_some, Option, unwrap_or, MatchOption, map as list_map}
 pub use Rattle.rk_lemmas.proofs.Maps.{map_not_empty, set_not_empty}
 pub use Rattle.rk_table.proofs.CountsAt.{count_become, count_by, positive_empty, count_put}
-pub use Rattle.rk_table.proofs.Entries.{tie, get_in}
+pub use Rattle.rk_table.proofs.Entries.{tie, get_in, of_choice, find_mapped, shadow}
 pub use Rattle.rk_table.proofs.Gets.{get_kept_where, get_changed_at, get_inserted, at_new, at_other, taken_out, get_removed, none_kept, left_in}
 pub use Rattle.rk_table.proofs.Gets.{contains_key_changed_at}
 pub use Rattle.rk_table.proofs.Once.{HasEachOnce, FindsEntry, entries_once}
