@@ -1,8 +1,9 @@
 -- The chains through the slots, where one is put in front and where one is taken out.
 use Rattle.rk_auth.proofs.Words.{◌∙◌, ap, sym, ◌≡◌, subst, refl, ℕ, cond, true, false, inl, inr, ◌||◌, Bool, List, ◌∷◌, both_ways, cases_eq, eq-eqb, ne_eqb}
-use Rattle.rk_auth.proofs.Words.{none-some, same_Some, get, Some, None, nat_eq, is_some, Option, option_map, option_and_then, get_changed_at, changed_at}
-use Rattle.rk_auth.proofs.Words.{standing_at, home_at, AreChained, has, names, standing_in, home_in, IsChain, first_in, next_in, first_at, IsChainOf, with_link}
-use Rattle.rk_auth.proofs.Words.{with_before, changed_if, link_in, before_in, next_at, before_at, with_first, with_next, led_to, Link, Slot, Slots}
+use Rattle.rk_auth.proofs.Words.{none-some, same_Some, get, Some, None, nat_eq, is_some, Option, option_map, option_and_then, of_choice, get_changed_at}
+use Rattle.rk_auth.proofs.Words.{changed_at, standing_at, home_at, AreChained, has, names, standing_in, home_in, IsChain, first_in, next_in, first_at}
+use Rattle.rk_auth.proofs.Words.{IsChainOf, with_link, with_before, changed_if, link_in, before_in, next_at, before_at, with_first, with_next, led_to, Link}
+use Rattle.rk_auth.proofs.Words.{Slot, Slots}
 use Rattle.rk_auth.proofs.Lists.{without, has_without, once_without}
 use Rattle.rk_auth.proofs.Links.{at_same, at_apart, chosen, named_is, is_named, not_named, over, over_named, over_other, frame, in_front, taken_from, head_is, next_back, before_on, first_is}
 
@@ -12,14 +13,9 @@ same_cond : {X : Type 0} (b : Bool) (x : X) → cond b x x ≡ x
 same_cond true x = refl
 same_cond false x = refl
 
--- what is read of a choice is a choice of what is read
-pub part : {X : Type 0} (P : Option Slot → X) (b : Bool) (o w : Option Slot) → P (cond b o w) ≡ cond b (P o) (P w)
-part P true o w = refl
-part P false o w = refl
-
 -- after a change of the slot at k, what is read at k is read of the changed slot, and at every other place as before
 pub changed : {X : Type 0} (P : Option Slot → X) (k : ℕ) (f : Slot → Slot) (m : Slots) (q : ℕ) → P (get (changed_at k f m) q) ≡ cond (nat_eq k q) (P (option_map f (get m q))) (P (get m q))
-changed P k f m q = ap P (get_changed_at k f m q) ∙ part P (nat_eq k q) (option_map f (get m q)) (get m q)
+changed P k f m q = ap P (get_changed_at k f m q) ∙ of_choice P (nat_eq k q) (option_map f (get m q)) (get m q)
 
 left_alone : {X : Type 0} (P : Option Slot → X) (f : Slot → Slot) → ((s : Slot) → P (Some (f s)) ≡ P (Some s)) → (o : Option Slot) → P (option_map f o) ≡ P o
 left_alone P f same None = refl
@@ -148,13 +144,9 @@ chained_taken m n j chained taken h =
         linked = subst (λ o. IsChain (next_at n) (before_at n) None o (without j xs)) (sym (taken.firsts h))
             (taken_from (next_at m) (before_at m) (next_at n) (before_at n) j None (first_at m h) xs (chained h).1.once taken.nexts taken.befores (chained h).1.linked);
         once = once_without j xs (chained h).1.once;
-        exact = λ q. has_without j xs q ∙ ap (cond (nat_eq j q) false) ((chained h).1.exact q) ∙ by_test (nat_eq j q) (home_at m q) h ∙ ap (λ o. names o h) (sym (taken.homes q));
+        exact = λ q. has_without j xs q ∙ ap (cond (nat_eq j q) false) ((chained h).1.exact q) ∙ sym (of_choice (λ o. names o h) (nat_eq j q) None (home_at m q)) ∙ ap (λ o. names o h) (sym (taken.homes q));
       },
     )
-  where
-    by_test : (b : Bool) (o : Option ℕ) (h : ℕ) → cond b false (names o h) ≡ names (cond b None o) h
-    by_test true o h = refl
-    by_test false o h = refl
 
 -- ---- one is put in front
 

@@ -1,8 +1,8 @@
 -- What one sees by the names of an index, through changes of who stands in the slots.
-use Rattle.rk_auth.proofs.Words.{◌∙◌, ap, sym, ◌≡◌, refl, ℕ, cond, arith, true, false, inl, inr, ◌||◌, Bool, List, ◌∷◌, [], length, cases_eq, none-some}
-use Rattle.rk_auth.proofs.Words.{nat_cmp_total, get, remove, insert, len, find, same_map, nat_cmp-IsAntisymmetric, entries, get-entries, len-entries}
-use Rattle.rk_auth.proofs.Words.{option_map_or, nat_cmp, eq_by_cmp, Some, None, Option, option_map, list_map, get_in, get_changed_all, at_new, at_other}
-use Rattle.rk_auth.proofs.Words.{left_in, taken_out, get_changed_at, changed_at, changed_all, standing_at, seen, Standing, Index, Slots}
+use Rattle.rk_auth.proofs.Words.{◌∙◌, ap, sym, ◌≡◌, refl, ℕ, arith, inl, inr, ◌||◌, Bool, List, ◌∷◌, [], length, cases_eq, none-some, nat_cmp_total, get}
+use Rattle.rk_auth.proofs.Words.{remove, insert, len, same_map, nat_cmp-IsAntisymmetric, entries, get-entries, len-entries, option_map_or, Some, None, Option}
+use Rattle.rk_auth.proofs.Words.{option_map, list_map, get_in, get_changed_all, find_mapped, at_new, at_other, left_in, taken_out, get_changed_at, changed_at}
+use Rattle.rk_auth.proofs.Words.{changed_all, standing_at, seen, Standing, Index, Slots}
 use Rattle.std.specs.List.{list_any}
 use Rattle.rk_table.proofs.Once.{HasEachOnce, len_once, any_once, entries_once}
 use Rattle.rk_auth.proofs.Links.{at_same, at_apart}
@@ -13,17 +13,9 @@ module _ {V : Type 0} where
   named_by : (g : ℕ → V) → List (ℕ × ℕ) → List (ℕ × V)
   named_by g es = list_map (λ (e : ℕ × ℕ). (e.0, g e.1)) es
 
-  found_if : (g : ℕ → V) (b : Bool) (i : ℕ) (o : Option ℕ) → cond b (Some (g i)) (option_map g o) ≡ option_map g (cond b (Some i) o)
-  found_if g true i o = refl
-  found_if g false i o = refl
-
-  find_named : (g : ℕ → V) (q : ℕ) (es : List (ℕ × ℕ)) → find nat_cmp q (list_map (λ (e : ℕ × ℕ). (e.0, g e.1)) es) ≡ option_map g (find nat_cmp q es)
-  find_named g q [] = refl
-  find_named g q (e ∷ es) = ap (cond (eq_by_cmp nat_cmp q e.0) (Some (g e.1))) (find_named g q es) ∙ found_if g (eq_by_cmp nat_cmp q e.0) e.1 (find nat_cmp q es)
-
   once_named : (g : ℕ → V) (es : List (ℕ × ℕ)) → HasEachOnce es → HasEachOnce (list_map (λ (e : ℕ × ℕ). (e.0, g e.1)) es)
   once_named g [] h = tt
-  once_named g (e ∷ es) h = (find_named g e.0 es ∙ ap (option_map g) h.0, once_named g es h.1)
+  once_named g (e ∷ es) h = (find_mapped g e.0 es ∙ ap (option_map g) h.0, once_named g es h.1)
 
   length_named : (g : ℕ → V) (es : List (ℕ × ℕ)) → length {A = ℕ × V} (list_map (λ (e : ℕ × ℕ). (e.0, g e.1)) es) ≡ length es
   length_named g [] = refl
@@ -40,7 +32,7 @@ module _ {V : Type 0} where
   module _ (pick : Option Standing → V) where
     pub seen_get : (m : Slots) (index : Index) (q : ℕ) → get (seen pick m index) q ≡ option_map (λ i. pick (standing_at m i)) (get index q)
     seen_get m index q =
-        get_in (list_map (λ (e : ℕ × ℕ). (e.0, pick (standing_at m e.1))) (entries index)) q ∙ find_named (λ i. pick (standing_at m i)) q (entries index)
+        get_in (list_map (λ (e : ℕ × ℕ). (e.0, pick (standing_at m e.1))) (entries index)) q ∙ find_mapped (λ i. pick (standing_at m i)) q (entries index)
         ∙ ap (option_map (λ i. pick (standing_at m i))) (sym (get-entries index q))
 
     -- what is seen by a name is what stands in its slot

@@ -1,12 +1,12 @@
 -- Who waits for what, through the changes of who stands in the slots.
 use Rattle.rk_auth.proofs.Words.{◌∙◌, ap, sym, ◌≡◌, subst, refl, ℕ, cond, true, false, inl, inr, ◌||◌, Bool, List, ◌∷◌, [], ◌⊎◌, cases_eq, none-some, same_Some}
-use Rattle.rk_auth.proofs.Words.{get, FinMap, remove, insert, nat_cmp, Some, None, nat_eq, is_some, Option, option_map, option_and_then, unwrap_or, at_new}
-use Rattle.rk_auth.proofs.Words.{at_other, left_in, taken_out, get_inserted, get_removed, changed_at, SessionId, standing_at, home_at, AreChained, has}
-use Rattle.rk_auth.proofs.Words.{standing_in, home_in, in_standing, first_in, next_in, first_at, IsChainOf, link_in, before_in, changed_each_at, IsTied, who_at}
-use Rattle.rk_auth.proofs.Words.{who_of, waited_in, same_home, home_for, Link, Slot, Standing, Slots}
+use Rattle.rk_auth.proofs.Words.{get, FinMap, remove, insert, nat_cmp, Some, None, nat_eq, is_some, Option, option_map, option_and_then, unwrap_or, of_choice}
+use Rattle.rk_auth.proofs.Words.{shadow, at_new, at_other, left_in, taken_out, get_inserted, get_removed, changed_at, SessionId, standing_at, home_at}
+use Rattle.rk_auth.proofs.Words.{AreChained, has, standing_in, home_in, in_standing, first_in, next_in, first_at, IsChainOf, link_in, before_in}
+use Rattle.rk_auth.proofs.Words.{changed_each_at, IsTied, who_at, who_of, waited_in, same_home, home_for, Link, Slot, Standing, Slots}
 use Rattle.rk_names.specs.declared.numbers.SessionId.TheVariants as id
 use Rattle.rk_auth.proofs.Links.{at_same, at_apart}
-use Rattle.rk_auth.proofs.Chained.{part, untouched, changed, heads, chained_same}
+use Rattle.rk_auth.proofs.Chained.{untouched, changed, heads, chained_same}
 
 -- ---- options
 
@@ -38,7 +38,7 @@ module _ (m : Slots) (p : ℕ) (st : Standing) (none : get m p ≡ None) where
 
   -- who is put into a new slot stands there, and all others as before
   pub put_stands : (q : ℕ) → standing_at (insert m p (new_slot st)) q ≡ cond (nat_eq p q) (Some st) (standing_at m q)
-  put_stands q = ap standing_in (get_inserted m p (new_slot st) q) ∙ part standing_in (nat_eq p q) (Some (new_slot st)) (get m q)
+  put_stands q = ap standing_in (get_inserted m p (new_slot st) q) ∙ of_choice standing_in (nat_eq p q) (Some (new_slot st)) (get m q)
 
 -- ---- one is taken out
 
@@ -65,7 +65,7 @@ module _ (m : Slots) (p : ℕ) (idle : home_at m p ≡ None) (chained : AreChain
 
 -- after a slot is removed nobody stands there, and all others as before
 pub out_stands : (m : Slots) (p q : ℕ) → standing_at (remove m p) q ≡ cond (nat_eq p q) None (standing_at m q)
-out_stands m p q = ap standing_in (get_removed m p q) ∙ part standing_in (nat_eq p q) None (get m q)
+out_stands m p q = ap standing_in (get_removed m p q) ∙ of_choice standing_in (nat_eq p q) None (get m q)
 
 -- if nobody was in the chain of p, nobody is in it once the place p is taken out of its own
 pub still_alone : (p q : ℕ) (o : Option ℕ) → (o ≡ Some p → ⊥) → cond (nat_eq p q) None o ≡ Some p → ⊥
@@ -219,7 +219,3 @@ module _ (f : Standing → Standing) (m n : Slots) (index : FinMap nat_cmp ℕ) 
         | inl here ↦ inl (sym (same_Some h g e) ∙ here)
         | inr is ↦ inr (ap (option_and_then (get index)) key ∙ is ∙ e)
       ])
-    where
-      shadow : (b : Bool) (x y z : Option ℕ) → cond b x (cond b y z) ≡ cond b x z
-      shadow true x y z = refl
-      shadow false x y z = refl

@@ -1,8 +1,8 @@
 -- All who wait for a key get its outcome, where those of two chains do.
 use Rattle.rk_auth.proofs.Words.{◌∙◌, ap, sym, ◌≡◌, subst, refl, ℕ, cond, true, false, inl, inr, ◌||◌, Bool, ◌⊎◌, both_ways, cases_eq, ne_eqb, none-some}
-use Rattle.rk_auth.proofs.Words.{same_Some, get, Some, None, nat_eq, is_some, Option, option_map, option_and_then, standing_at, home_at, AreChained, in_handler}
-use Rattle.rk_auth.proofs.Words.{all_told, in_stage, told_wait, told, client_of, construction_of, IsTied, who_at, who_of, waited_in, in_session, same_home}
-use Rattle.rk_auth.proofs.Words.{waited_of, AreBothTold, handler_in, waited_key, Session, Standing, Index, Slots}
+use Rattle.rk_auth.proofs.Words.{same_Some, get, Some, None, nat_eq, is_some, Option, option_map, option_and_then, shadow, standing_at, home_at, AreChained}
+use Rattle.rk_auth.proofs.Words.{in_handler, all_told, in_stage, told_wait, told, client_of, construction_of, IsTied, who_at, who_of, waited_in, in_session}
+use Rattle.rk_auth.proofs.Words.{same_home, waited_of, AreBothTold, handler_in, waited_key, Session, Standing, Index, Slots}
 use Rattle.rk_names.specs.declared.numbers.SessionId.TheVariants as id
 use Rattle.rk_auth.specs.declared.session.Wait.{Wait}
 use Rattle.rk_auth.specs.declared.session.Outcome.{Outcome}
@@ -42,13 +42,9 @@ module _ (k : ℕ) (outcome : Outcome) where
 
   -- ---- getting an outcome twice is as getting it once
 
-  shadow : (b : Bool) (x y : Option Outcome) → cond b x (cond b x y) ≡ cond b x y
-  shadow true x y = refl
-  shadow false x y = refl
-
   waits_twice : (o : Option Wait) → option_map (told_wait k outcome) (option_map (told_wait k outcome) o) ≡ option_map (told_wait k outcome) o
   waits_twice None = refl
-  waits_twice (Some w) = ap {B = Option Wait} (λ x. Some (record w { outcome = x })) (shadow (nat_eq w.key k) (Some outcome) w.outcome)
+  waits_twice (Some w) = ap {B = Option Wait} (λ x. Some (record w { outcome = x })) (shadow (nat_eq w.key k) (Some outcome) (Some outcome) w.outcome)
 
   session_twice : (s : Session) → told k outcome (told k outcome s) ≡ told k outcome s
   session_twice s = ap {B = Session} (λ x. record s { wait = x }) (waits_twice s.wait)

@@ -7,9 +7,9 @@ pub use Rattle.std.specs.Cmp.{nat_cmp_total}
 pub use Rattle.std.specs.FinMap.{get, FinMap, remove, insert, len, get-empty, empty_of_len, len-remove, find, same_map, nat_cmp-IsAntisymmetric, empty}
 pub use Rattle.std.specs.FinMap.{len-empty, entries, get-entries, len-entries, from_entries, get-remove, contains_key}
 pub use Rattle.std.specs.Option.{option_map_or, option_copied, option_copied_mut}
-pub use Rattle.std.specs.Ordering.{nat_cmp, eq_by_cmp}
+pub use Rattle.std.specs.Ordering.{nat_cmp}
 pub use Rattle.std.specs.Prelude.{Some, None, nat_eq, is_some, Option, option_map, option_and_then, map as list_map, IsSome, OnSome, IfNone, unwrap_or}
-pub use Rattle.rk_table.proofs.Entries.{get_in, tie, get_changed_all}
+pub use Rattle.rk_table.proofs.Entries.{get_in, tie, get_changed_all, of_choice, find_mapped, shadow}
 pub use Rattle.rk_table.proofs.Gets.{at_new, at_other, left_in, taken_out, get_changed_at, get_inserted, get_removed}
 pub use Rattle.rk_table.specs.Maps.{changed_at, changed_all}
 pub use Rattle.rk_table.specs.Says.{Says}
