@@ -10,21 +10,9 @@ use Rattle.rk_keys.proofs.UserCounts.{counts_with}
 use Rattle.rk_keys.proofs.Refused.{no_quota}
 use Rattle.rk_keys.proofs.keys.Keys.make.Goals as goal
 
-pub returns-in_err-reserve-clause-quota : goal.returns-in_err-reserve-clause-quota
-returns-in_err-reserve-clause-quota c =
+pub returns-in_err-reserve_one-clause-quota : goal.returns-in_err-reserve_one-clause-quota
+returns-in_err-reserve_one-clause-quota c =
     let p = err_from_is_err_and c.from_residual.result c.from_residual.ensures.1 in
-    rw (p.1, p.2) (no_quota _ c.args.self.now c.args.owner c.in-Some.serial c.is_full.result _ (λ e. cc) c.self.view_is c.is_full.ensures
-    c.if-is_full.false c.in-Some.ensures.cases.0)
-
-pub returns-in_err-reserve-2-clause-quota : goal.returns-in_err-reserve-2-clause-quota
-returns-in_err-reserve-2-clause-quota c =
-    let p = err_from_is_err_and c.from_residual-in_err-reserve-2.result c.from_residual-in_err-reserve-2.ensures.1 in
-    rw (p.1, p.2) (no_quota _ c.args.self.now c.args.owner c.in-Some.serial c.is_full.result _ (λ e. cc) c.self.view_is c.is_full.ensures
-    c.if-is_full.false c.in-Some.ensures.cases.0)
-
-pub returns-in_err-reserve-3-clause-quota : goal.returns-in_err-reserve-3-clause-quota
-returns-in_err-reserve-3-clause-quota c =
-    let p = err_from_is_err_and c.from_residual-in_err-reserve-3.result c.from_residual-in_err-reserve-3.ensures.1 in
     rw (p.1, p.2) (no_quota _ c.args.self.now c.args.owner c.in-Some.serial c.is_full.result _ (λ e. cc) c.self.view_is c.is_full.ensures
     c.if-is_full.false c.in-Some.ensures.cases.0)
 
@@ -41,20 +29,21 @@ returns-clause-quota c =
 
 pub invariant_of-self-2 : goal.invariant_of-self-2
 invariant_of-self-2 c =
-    let known : Known = record { keys = c.reserve.new.self.facts; numbers = c.reserve-2.new.self.facts; serials = c.self.inside.serials } in
-    let held : IsHeld known = rw (c.reserve.ensures.facts, c.reserve-2.ensures.facts) c.self.invariant.held in
+    let known : Known = record { keys = c.reserve_one.new.facts.facts; numbers = c.reserve_one.new.numbers.facts; serials = c.self.inside.serials } in
+    let held : IsHeld known = rw (c.reserve_one.ensures.facts, c.reserve_one.ensures.numbers) c.self.invariant.held in
     let key : Key = new_key c.args.typ c.args.description c.args.owner c.args.payload in
     let k : ℕ = c.in-Some.serial in
-    let keys : map.FinMap nat_cmp Key = c.reserve.new.self.facts in
+    let keys : map.FinMap nat_cmp Key = c.reserve_one.new.facts.facts in
     let by_name : map.FinMap nat_cmp (List Named) = c.self.inside.by_name.facts in
-    let index : IsIndex c.self.inside.seed keys known.numbers by_name = rw (c.reserve.ensures.facts, c.reserve-2.ensures.facts) c.self.invariant.index in
+    let index : IsIndex c.self.inside.seed keys known.numbers by_name =
+    rw (c.reserve_one.ensures.facts, c.reserve_one.ensures.numbers) c.self.invariant.index in
     let shared : Option ℕ = number_in (kept_of c.self.inside.seed by_name c.args.typ c.args.description) in
     let which : c.in_ok-number.number ≡ unwrap_or shared k = subst (λ s. c.in_ok-number.number ≡ unwrap_or shared s) c.get.ensures.number
     c.in_ok-number.ensures.number in
     let number = number_of_new known key k shared held c.in-Some.ensures.cases.0.drawable.unused
     (none_of c.self.inside.seed keys known.numbers by_name index c.args.typ c.args.description)
     (some_of c.self.inside.seed keys known.numbers by_name index c.args.typ c.args.description) in
-    let counts : AreCounts keys c.reserve-3.new.self.facts = rw (c.reserve.ensures.facts, c.reserve-3.ensures.facts) c.self.invariant.counts in
+    let counts : AreCounts keys c.reserve_one.new.counts.facts = rw (c.reserve_one.ensures.facts, c.reserve_one.ensures.counts) c.self.invariant.counts in
     let new : map.get keys k ≡ None = held.drawn k c.in-Some.ensures.cases.0.drawable.unused in
     let put : c.insert-2.new.self.facts ≡ map.insert keys k key = cc (c.insert-2.ensures.facts, c.get-3.ensures.number) in
     let put_number : c.insert.new.self.facts ≡ map.insert known.numbers k c.in_ok-number.number = cc (c.insert.ensures.facts, c.get-2.ensures.number) in
@@ -69,15 +58,16 @@ invariant_of-self-2 c =
       held = held_made_so known k key c.in_ok-number.number c.insert-2.new.self.facts c.insert.new.self.facts c.draw.new.self put put_number
           c.in-Some.ensures.cases.1 (rw which number) held;
       index = rw (put, put_number) counted;
-      counts = rw put (counts_with keys c.reserve-3.new.self.facts c.one_more.new.self.facts k key counts new c.one_more.ensures.each);
+      counts = rw put (counts_with keys c.reserve_one.new.counts.facts c.one_more.new.self.facts k key counts new c.one_more.ensures.each);
     }
 
 pub returns-clause-number : goal.returns-clause-number
 returns-clause-number c =
-    let known : Known = record { keys = c.reserve.new.self.facts; numbers = c.reserve-2.new.self.facts; serials = c.self.inside.serials } in
-    let same : known ≡ c.args.self.now = rw (c.reserve.ensures.facts, c.reserve-2.ensures.facts) c.self.view_is in
+    let known : Known = record { keys = c.reserve_one.new.facts.facts; numbers = c.reserve_one.new.numbers.facts; serials = c.self.inside.serials } in
+    let same : known ≡ c.args.self.now = rw (c.reserve_one.ensures.facts, c.reserve_one.ensures.numbers) c.self.view_is in
     let by_name : map.FinMap nat_cmp (List Named) = c.self.inside.by_name.facts in
-    let index : IsIndex c.self.inside.seed known.keys known.numbers by_name = rw (c.reserve.ensures.facts, c.reserve-2.ensures.facts) c.self.invariant.index in
+    let index : IsIndex c.self.inside.seed known.keys known.numbers by_name =
+    rw (c.reserve_one.ensures.facts, c.reserve_one.ensures.numbers) c.self.invariant.index in
     let k : ℕ = c.in-Some.serial in
     let shared : Option ℕ = number_in (kept_of c.self.inside.seed by_name c.args.typ c.args.description) in
     let which : c.in_ok-number.number ≡ unwrap_or shared k = subst (λ s. c.in_ok-number.number ≡ unwrap_or shared s) c.get.ensures.number
@@ -103,11 +93,11 @@ count_in-requires c =
 pub invariant_of-self-in_err-number : goal.invariant_of-self-in_err-number
 invariant_of-self-in_err-number c =
     let by_name : map.FinMap nat_cmp (List Named) = c.self.inside.by_name.facts in
-    let index : IsIndex c.self.inside.seed c.reserve.new.self.facts c.reserve-2.new.self.facts by_name =
-    rw (c.reserve.ensures.facts, c.reserve-2.ensures.facts) c.self.invariant.index in
+    let index : IsIndex c.self.inside.seed c.reserve_one.new.facts.facts c.reserve_one.new.numbers.facts by_name =
+    rw (c.reserve_one.ensures.facts, c.reserve_one.ensures.numbers) c.self.invariant.index in
     record {
-      held = rw (c.reserve.ensures.facts, c.reserve-2.ensures.facts) c.self.invariant.held;
-      index = index_same c.self.inside.seed c.reserve.new.self.facts c.reserve-2.new.self.facts by_name index c.count_in.new.by_name.facts
+      held = rw (c.reserve_one.ensures.facts, c.reserve_one.ensures.numbers) c.self.invariant.held;
+      index = index_same c.self.inside.seed c.reserve_one.new.facts.facts c.reserve_one.new.numbers.facts by_name index c.count_in.new.by_name.facts
           c.in_err-number.ensures.err;
-      counts = rw (c.reserve.ensures.facts, c.reserve-3.ensures.facts) c.self.invariant.counts;
+      counts = rw (c.reserve_one.ensures.facts, c.reserve_one.ensures.counts) c.self.invariant.counts;
     }
