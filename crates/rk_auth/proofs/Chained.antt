@@ -1,20 +1,11 @@
 -- The chains through the slots, where one is put in front and where one is taken out.
-use Rattle.std.proofs.Common.{◌≡◌, ◌∙◌, ap, sym, subst, refl, ℕ, Bool, true, false, cond, ◌||◌, List, ◌∷◌, inl, inr}
-use Rattle.std.specs.Prelude.{Option, Some, None, is_some, nat_eq, option_map, option_and_then}
-use Rattle.std.specs.Ordering.{nat_cmp}
-use Rattle.std.specs.FinMap.{FinMap, get}
-use Rattle.std.proofs.lemmas.Bool.{both_ways, cases_eq, eq-eqb, ne_eqb}
-use Rattle.std.proofs.lemmas.Option.{none-some, same_Some}
-use Rattle.rk_table.specs.Maps.{changed_at}
-use Rattle.rk_table.proofs.Gets.{get_changed_at}
-use Rattle.rk_auth.specs.declared.slot.Slot.{Slot}
-use Rattle.rk_auth.specs.declared.slot.Link.{Link}
-use Rattle.rk_auth.specs.Chains.{has, names, IsChain, standing_in, first_in, link_in, home_in, next_in, before_in, standing_at, first_at, home_at, next_at, before_at, IsChainOf, AreChained, with_first, with_link, with_before, with_next, changed_if, led_to}
+use Rattle.rk_auth.proofs.Words.{◌∙◌, ap, sym, ◌≡◌, subst, refl, ℕ, cond, true, false, inl, inr, ◌||◌, Bool, List, ◌∷◌, both_ways, cases_eq, eq-eqb, ne_eqb}
+use Rattle.rk_auth.proofs.Words.{none-some, same_Some, get, Some, None, nat_eq, is_some, Option, option_map, option_and_then, of_choice, get_changed_at}
+use Rattle.rk_auth.proofs.Words.{changed_at, standing_at, home_at, AreChained, has, names, standing_in, home_in, IsChain, first_in, next_in, first_at}
+use Rattle.rk_auth.proofs.Words.{IsChainOf, with_link, with_before, changed_if, link_in, before_in, next_at, before_at, with_first, with_next, led_to, Link}
+use Rattle.rk_auth.proofs.Words.{Slot, Slots}
 use Rattle.rk_auth.proofs.Lists.{without, has_without, once_without}
-use Rattle.rk_auth.proofs.Links.{at_same, at_apart, named_is, is_named, not_named, over, over_named, over_other, frame, in_front, taken_from, head_is, next_back, before_on, first_is}
-
-abbrev Slots : Type 0
-Slots = FinMap nat_cmp Slot
+use Rattle.rk_auth.proofs.Links.{at_same, at_apart, chosen, named_is, is_named, not_named, over, over_named, over_other, frame, in_front, taken_from, head_is, next_back, before_on, first_is}
 
 -- ---- what a change of one slot does to a part of it
 
@@ -22,17 +13,19 @@ same_cond : {X : Type 0} (b : Bool) (x : X) → cond b x x ≡ x
 same_cond true x = refl
 same_cond false x = refl
 
-part : {X : Type 0} (P : Option Slot → X) (b : Bool) (o w : Option Slot) → P (cond b o w) ≡ cond b (P o) (P w)
-part P true o w = refl
-part P false o w = refl
-
 -- after a change of the slot at k, what is read at k is read of the changed slot, and at every other place as before
 pub changed : {X : Type 0} (P : Option Slot → X) (k : ℕ) (f : Slot → Slot) (m : Slots) (q : ℕ) → P (get (changed_at k f m) q) ≡ cond (nat_eq k q) (P (option_map f (get m q))) (P (get m q))
-changed P k f m q = ap P (get_changed_at k f m q) ∙ part P (nat_eq k q) (option_map f (get m q)) (get m q)
+changed P k f m q = ap P (get_changed_at k f m q) ∙ of_choice P (nat_eq k q) (option_map f (get m q)) (get m q)
+
+left_alone : {X : Type 0} (P : Option Slot → X) (f : Slot → Slot) → ((s : Slot) → P (Some (f s)) ≡ P (Some s)) → (o : Option Slot) → P (option_map f o) ≡ P o
+left_alone P f same None = refl
+left_alone P f same (Some s) = same s
 
 -- a change of one slot leaves what P reads at every place, where it leaves what P reads of a slot
-pub untouched : {X : Type 0} (P : Option Slot → X) (k : ℕ) (f : Slot → Slot) → ((o : Option Slot) → P (option_map f o) ≡ P o) → (m : Slots) (q : ℕ) → P (get (changed_at k f m) q) ≡ P (get m q)
-untouched P k f same m q = changed P k f m q ∙ ap (λ x. cond (nat_eq k q) x (P (get m q))) (same (get m q)) ∙ same_cond (nat_eq k q) (P (get m q))
+pub untouched : {X : Type 0} (P : Option Slot → X) (k : ℕ) (f : Slot → Slot) → ((s : Slot) → P (Some (f s)) ≡ P (Some s)) → (m : Slots) (q : ℕ)
+    → P (get (changed_at k f m) q) ≡ P (get m q)
+untouched P k f same m q =
+    changed P k f m q ∙ ap (λ x. cond (nat_eq k q) x (P (get m q))) (left_alone P f same (get m q)) ∙ same_cond (nat_eq k q) (P (get m q))
 
 touched : {X : Type 0} (P : Option Slot → X) (k : ℕ) (f : Slot → Slot) (m : Slots) (q : ℕ) → k ≡ q → P (get (changed_at k f m) q) ≡ P (option_map f (get m q))
 touched P k f m q e = changed P k f m q ∙ at_same k q _ _ e
@@ -40,81 +33,42 @@ touched P k f m q e = changed P k f m q ∙ at_same k q _ _ e
 passed : {X : Type 0} (P : Option Slot → X) (k : ℕ) (f : Slot → Slot) (m : Slots) (q : ℕ) → (k ≡ q → ⊥) → P (get (changed_at k f m) q) ≡ P (get m q)
 passed P k f m q ne = changed P k f m q ∙ at_apart k q _ _ ne
 
--- ---- the parts that each change leaves
+-- ---- a change of the link leaves its other parts
 
-first_standing : (v : Option ℕ) (o : Option Slot) → standing_in (option_map (with_first v) o) ≡ standing_in o
-first_standing v None = refl
-first_standing v (Some s) = refl
+on_link : {X : Type 0} (P : Option Link → X) (f : Link → Link) → ((l : Link) → P (Some (f l)) ≡ P (Some l)) → (s : Slot) → P (option_map f s.link) ≡ P s.link
+on_link P f same s = elim s.link as (λ k. P (option_map f k) ≡ P k) [ None ↦ refl | Some l ↦ same l ]
 
-first_link : (v : Option ℕ) (o : Option Slot) → link_in (option_map (with_first v) o) ≡ link_in o
-first_link v None = refl
-first_link v (Some s) = refl
+before_home : (v : Option ℕ) (s : Slot) → home_in (Some (with_before v s)) ≡ home_in (Some s)
+before_home v = on_link (option_map (λ (l : Link). l.home)) (λ l. record l { before = v }) (λ l. refl)
 
-link_standing : (l : Option Link) (o : Option Slot) → standing_in (option_map (with_link l) o) ≡ standing_in o
-link_standing l None = refl
-link_standing l (Some s) = refl
+before_next : (v : Option ℕ) (s : Slot) → next_in (Some (with_before v s)) ≡ next_in (Some s)
+before_next v = on_link (option_and_then (λ (l : Link). l.next)) (λ l. record l { before = v }) (λ l. refl)
 
-link_first : (l : Option Link) (o : Option Slot) → first_in (option_map (with_link l) o) ≡ first_in o
-link_first l None = refl
-link_first l (Some s) = refl
+next_home : (v : Option ℕ) (s : Slot) → home_in (Some (with_next v s)) ≡ home_in (Some s)
+next_home v = on_link (option_map (λ (l : Link). l.home)) (λ l. record l { next = v }) (λ l. refl)
 
-before_standing : (v : Option ℕ) (o : Option Slot) → standing_in (option_map (with_before v) o) ≡ standing_in o
-before_standing v None = refl
-before_standing v (Some s) = refl
-
-before_first : (v : Option ℕ) (o : Option Slot) → first_in (option_map (with_before v) o) ≡ first_in o
-before_first v None = refl
-before_first v (Some s) = refl
-
-before_home : (v : Option ℕ) (o : Option Slot) → home_in (option_map (with_before v) o) ≡ home_in o
-before_home v None = refl
-before_home v (Some s) = elim s.link as (λ k. option_map (λ (l : Link). l.home) (option_map {T = Link} (λ l. record l { before = v }) k) ≡ option_map (λ (l : Link). l.home) k) [ None ↦ refl | Some l ↦ refl ]
-
-before_next : (v : Option ℕ) (o : Option Slot) → next_in (option_map (with_before v) o) ≡ next_in o
-before_next v None = refl
-before_next v (Some s) = elim s.link as (λ k. option_and_then (λ (l : Link). l.next) (option_map {T = Link} (λ l. record l { before = v }) k) ≡ option_and_then (λ (l : Link). l.next) k) [ None ↦ refl | Some l ↦ refl ]
-
-next_standing : (v : Option ℕ) (o : Option Slot) → standing_in (option_map (with_next v) o) ≡ standing_in o
-next_standing v None = refl
-next_standing v (Some s) = refl
-
-next_first : (v : Option ℕ) (o : Option Slot) → first_in (option_map (with_next v) o) ≡ first_in o
-next_first v None = refl
-next_first v (Some s) = refl
-
-next_home : (v : Option ℕ) (o : Option Slot) → home_in (option_map (with_next v) o) ≡ home_in o
-next_home v None = refl
-next_home v (Some s) = elim s.link as (λ k. option_map (λ (l : Link). l.home) (option_map {T = Link} (λ l. record l { next = v }) k) ≡ option_map (λ (l : Link). l.home) k) [ None ↦ refl | Some l ↦ refl ]
-
-next_before : (v : Option ℕ) (o : Option Slot) → before_in (option_map (with_next v) o) ≡ before_in o
-next_before v None = refl
-next_before v (Some s) = elim s.link as (λ k. option_and_then (λ (l : Link). l.before) (option_map {T = Link} (λ l. record l { next = v }) k) ≡ option_and_then (λ (l : Link). l.before) k) [ None ↦ refl | Some l ↦ refl ]
+next_before : (v : Option ℕ) (s : Slot) → before_in (Some (with_next v s)) ≡ before_in (Some s)
+next_before v = on_link (option_and_then (λ (l : Link). l.before)) (λ l. record l { next = v }) (λ l. refl)
 
 -- ---- what a change writes
 
-home_written : (l : Link) (o : Option Slot) → is_some o ≡ true → home_in (option_map (with_link (Some l)) o) ≡ Some l.home
-home_written l None t = absurd (both_ways _ refl t)
-home_written l (Some s) t = refl
+written : {X : Type 0} (P : Option Slot → X) (f : Slot → Slot) (v : X) → ((s : Slot) → P (Some (f s)) ≡ v) → (o : Option Slot) → is_some o ≡ true → P (option_map f o) ≡ v
+written P f v writes None t = absurd (both_ways _ refl t)
+written P f v writes (Some s) t = writes s
 
-next_linked : (l : Link) (o : Option Slot) → is_some o ≡ true → next_in (option_map (with_link (Some l)) o) ≡ l.next
-next_linked l None t = absurd (both_ways _ refl t)
-next_linked l (Some s) t = refl
-
-before_linked : (l : Link) (o : Option Slot) → is_some o ≡ true → before_in (option_map (with_link (Some l)) o) ≡ l.before
-before_linked l None t = absurd (both_ways _ refl t)
-before_linked l (Some s) t = refl
-
-first_written : (v : Option ℕ) (o : Option Slot) → is_some o ≡ true → first_in (option_map (with_first v) o) ≡ v
-first_written v None t = absurd (both_ways _ refl t)
-first_written v (Some s) t = refl
+link_written : (part : Link → Option ℕ) (f : Link → Link) (v : Option ℕ) → ((l : Link) → part (f l) ≡ v) → (o : Option Slot) → is_some (home_in o) ≡ true
+    → option_and_then part (link_in (option_map (λ (s : Slot). record s { link = option_map f s.link }) o)) ≡ v
+link_written part f v writes None t = absurd (both_ways _ refl t)
+link_written part f v writes (Some s) t = elim s.link as (λ k. is_some (option_map (λ (l : Link). l.home) k) ≡ true → option_and_then part (option_map f k) ≡ v) [
+  | None ↦ λ t. absurd (both_ways _ refl t)
+  | Some l ↦ λ t. writes l
+] t
 
 before_written : (v : Option ℕ) (o : Option Slot) → is_some (home_in o) ≡ true → before_in (option_map (with_before v) o) ≡ v
-before_written v None t = absurd (both_ways _ refl t)
-before_written v (Some s) t = elim s.link as (λ k. is_some (option_map (λ (l : Link). l.home) k) ≡ true → option_and_then (λ (l : Link). l.before) (option_map {T = Link} (λ l. record l { before = v }) k) ≡ v) [ None ↦ λ t. absurd (both_ways _ refl t) | Some l ↦ λ t. refl ] t
+before_written v = link_written (λ l. l.before) (λ l. record l { before = v }) v (λ l. refl)
 
 next_written : (v : Option ℕ) (o : Option Slot) → is_some (home_in o) ≡ true → next_in (option_map (with_next v) o) ≡ v
-next_written v None t = absurd (both_ways _ refl t)
-next_written v (Some s) t = elim s.link as (λ k. is_some (option_map (λ (l : Link). l.home) k) ≡ true → option_and_then (λ (l : Link). l.next) (option_map {T = Link} (λ l. record l { next = v }) k) ≡ v) [ None ↦ λ t. absurd (both_ways _ refl t) | Some l ↦ λ t. refl ] t
+next_written v = link_written (λ l. l.next) (λ l. record l { next = v }) v (λ l. refl)
 
 home_out : (o : Option Slot) → home_in (option_map (with_link None) o) ≡ None
 home_out None = refl
@@ -126,13 +80,9 @@ some_there : (o : Option Slot) (v : ℕ) → first_in o ≡ Some v → is_some o
 some_there None v e = absurd (none-some v e)
 some_there (Some s) v e = refl
 
-next_home_of : (o : Option Slot) (v : ℕ) → next_in o ≡ Some v → (h : ℕ) × (home_in o ≡ Some h)
-next_home_of None v e = absurd (none-some v e)
-next_home_of (Some s) v e = elim s.link as (λ k. option_and_then (λ (l : Link). l.next) k ≡ Some v → (h : ℕ) × (option_map (λ (l : Link). l.home) k ≡ Some h)) [ None ↦ λ e. absurd (none-some v e) | Some l ↦ λ e. (l.home, refl) ] e
-
-before_home_of : (o : Option Slot) (v : ℕ) → before_in o ≡ Some v → (h : ℕ) × (home_in o ≡ Some h)
-before_home_of None v e = absurd (none-some v e)
-before_home_of (Some s) v e = elim s.link as (λ k. option_and_then (λ (l : Link). l.before) k ≡ Some v → (h : ℕ) × (option_map (λ (l : Link). l.home) k ≡ Some h)) [ None ↦ λ e. absurd (none-some v e) | Some l ↦ λ e. (l.home, refl) ] e
+home_of : (part : Link → Option ℕ) (o : Option Link) (v : ℕ) → option_and_then part o ≡ Some v → (h : ℕ) × (option_map (λ (l : Link). l.home) o ≡ Some h)
+home_of part None v e = absurd (none-some v e)
+home_of part (Some l) v e = (l.home, refl)
 
 -- ---- the facts of all chains
 
@@ -142,12 +92,12 @@ module _ (m : Slots) (chained : AreChained m) where
 
   pub back : (x y : ℕ) → next_at m x ≡ Some y → before_at m y ≡ Some x
   back x y e =
-      let home = next_home_of (get m x) y e in
+      let home = home_of (λ l. l.next) (link_in (get m x)) y e in
       (next_back (next_at m) (before_at m) x y None (first_at m home.0) (chained home.0).0 (chained home.0).1.linked (in_chain x home.0 home.1) e).0
 
   pub on : (x y : ℕ) → before_at m y ≡ Some x → next_at m x ≡ Some y
   on x y e =
-      let home = before_home_of (get m y) x e in
+      let home = home_of (λ l. l.before) (link_in (get m y)) x e in
       elim (before_on (next_at m) (before_at m) x y None (first_at m home.0) (chained home.0).0 (chained home.0).1.linked (in_chain y home.0 home.1) e) [
         | inl first ↦ absurd (none-some x first.0)
         | inr next ↦ next
@@ -194,13 +144,9 @@ chained_taken m n j chained taken h =
         linked = subst (λ o. IsChain (next_at n) (before_at n) None o (without j xs)) (sym (taken.firsts h))
             (taken_from (next_at m) (before_at m) (next_at n) (before_at n) j None (first_at m h) xs (chained h).1.once taken.nexts taken.befores (chained h).1.linked);
         once = once_without j xs (chained h).1.once;
-        exact = λ q. has_without j xs q ∙ ap (cond (nat_eq j q) false) ((chained h).1.exact q) ∙ by_test (nat_eq j q) (home_at m q) h ∙ ap (λ o. names o h) (sym (taken.homes q));
+        exact = λ q. has_without j xs q ∙ ap (cond (nat_eq j q) false) ((chained h).1.exact q) ∙ sym (of_choice (λ o. names o h) (nat_eq j q) None (home_at m q)) ∙ ap (λ o. names o h) (sym (taken.homes q));
       },
     )
-  where
-    by_test : (b : Bool) (o : Option ℕ) (h : ℕ) → cond b false (names o h) ≡ names (cond b None o) h
-    by_test true o h = refl
-    by_test false o h = refl
 
 -- ---- one is put in front
 
@@ -269,76 +215,62 @@ module _ (m : Slots) (j h : ℕ) (chained : AreChained m) (idle : home_at m j �
   put_3 n = changed_if n (with_before (Some j)) put_2
 
   -- what the first write leaves, the last leaves
-  last_left : {X : Type 0} (P : Option Slot → X) → ((o : Option Slot) → P (option_map (with_before (Some j)) o) ≡ P o) → (n : Option ℕ) (q : ℕ) → P (get (put_3 n) q) ≡ P (get put_2 q)
+  last_left : {X : Type 0} (P : Option Slot → X) → ((s : Slot) → P (Some (with_before (Some j) s)) ≡ P (Some s)) → (n : Option ℕ) (q : ℕ) → P (get (put_3 n) q) ≡ P (get put_2 q)
   last_left P same None q = refl
   last_left P same (Some y) q = untouched P y (with_before (Some j)) same put_2 q
 
   next_2 : (q : ℕ) → next_at put_2 q ≡ next_at put_1 q
-  next_2 q = untouched next_in h (with_first (Some j)) (λ o. ap (option_and_then (λ (l : Link). l.next)) (first_link (Some j) o)) put_1 q
+  next_2 q = untouched next_in h (with_first (Some j)) (λ s. refl) put_1 q
 
   before_2 : (q : ℕ) → before_at put_2 q ≡ before_at put_1 q
-  before_2 q = untouched before_in h (with_first (Some j)) (λ o. ap (option_and_then (λ (l : Link). l.before)) (first_link (Some j) o)) put_1 q
+  before_2 q = untouched before_in h (with_first (Some j)) (λ s. refl) put_1 q
 
   home_2 : (q : ℕ) → home_at put_2 q ≡ home_at put_1 q
-  home_2 q = untouched home_in h (with_first (Some j)) (λ o. ap (option_map (λ (l : Link). l.home)) (first_link (Some j) o)) put_1 q
+  home_2 q = untouched home_in h (with_first (Some j)) (λ s. refl) put_1 q
 
   there_at : (q : ℕ) → j ≡ q → is_some (get m q) ≡ true
   there_at q e = ap (λ x. is_some (get m x)) (sym e) ∙ there
 
-  is_some_kept : (f : Slot → Slot) (o : Option Slot) → is_some (option_map f o) ≡ is_some o
-  is_some_kept f None = refl
-  is_some_kept f (Some s) = refl
-
   befores_3 : (n : Option ℕ) → n ≡ first_at m h → (q : ℕ) → before_at (put_3 n) q ≡ cond (names n q) (Some j) (before_at put_1 q)
   befores_3 None is q = before_2 q
-  befores_3 (Some y) is q = elim (cases_eq y q) [
-    | inl e ↦
-        let homed : home_at m q ≡ Some h = (heads m chained q h (sym is ∙ ap (λ x. Some x) e)).0 in
-        let apart : j ≡ q → ⊥ = λ s. none-some h (sym idle ∙ ap (home_at m) s ∙ homed) in
-        touched before_in y (with_before (Some j)) put_2 q e
-        ∙ before_written (Some j) (get put_2 q) (ap is_some (home_2 q ∙ passed home_in j (with_link (Some put_link)) m q apart ∙ homed))
-        ∙ sym (at_same y q (Some j) (before_at put_1 q) e)
-    | inr ne ↦ passed before_in y (with_before (Some j)) put_2 q ne ∙ before_2 q ∙ sym (at_apart y q (Some j) (before_at put_1 q) ne)
-  ]
+  befores_3 (Some y) is q =
+      chosen y q (λ e.
+      let homed : home_at m q ≡ Some h = (heads m chained q h (sym is ∙ ap (λ x. Some x) e)).0 in
+      let apart : j ≡ q → ⊥ = λ s. none-some h (sym idle ∙ ap (home_at m) s ∙ homed) in
+      touched before_in y (with_before (Some j)) put_2 q e
+      ∙ before_written (Some j) (get put_2 q) (ap is_some (home_2 q ∙ passed home_in j (with_link (Some put_link)) m q apart ∙ homed)))
+      (λ ne. passed before_in y (with_before (Some j)) put_2 q ne ∙ before_2 q)
 
   firsts_3 : (n : Option ℕ) (q : ℕ) → first_at (put_3 n) q ≡ cond (nat_eq h q) (Some j) (first_at m q)
   firsts_3 n q =
-      last_left first_in (before_first (Some j)) n q
-      ∙ elim (cases_eq h q) [
-        | inl e ↦
-            touched first_in h (with_first (Some j)) put_1 q e
-            ∙ first_written (Some j) (get put_1 q) (untouched is_some j (with_link (Some put_link)) (is_some_kept (with_link (Some put_link))) m q ∙ ap (λ x. is_some (get m x)) (sym e) ∙ home)
-            ∙ sym (at_same h q (Some j) (first_at m q) e)
-        | inr ne ↦
-            passed first_in h (with_first (Some j)) put_1 q ne ∙ untouched first_in j (with_link (Some put_link)) (link_first (Some put_link)) m q
-            ∙ sym (at_apart h q (Some j) (first_at m q) ne)
-      ]
+      last_left first_in (λ s. refl) n q
+      ∙ chosen h q (λ e. touched first_in h (with_first (Some j)) put_1 q e
+      ∙ written first_in (with_first (Some j)) (Some j) (λ s. refl) (get put_1 q)
+      (untouched is_some j (with_link (Some put_link)) (λ s. refl) m q ∙ ap (λ x. is_some (get m x)) (sym e) ∙ home))
+      (λ ne. passed first_in h (with_first (Some j)) put_1 q ne ∙ untouched first_in j (with_link (Some put_link)) (λ s. refl) m q)
 
   -- the three changes put j before the chain that h heads
   pub is_put : (n : Option ℕ) → n ≡ first_at m h → IsPut m (put_3 n) j h
   is_put n is = record {
-    next = last_left next_in (before_next (Some j)) n j ∙ next_2 j ∙ touched next_in j (with_link (Some put_link)) m j refl ∙ next_linked put_link (get m j) there;
+    next = last_left next_in (before_next (Some j)) n j ∙ next_2 j ∙ touched next_in j (with_link (Some put_link)) m j refl ∙ written next_in (with_link (Some put_link)) (first_at m h) (λ s. refl) (get m j) there;
     before =
-        befores_3 n is j
-        ∙ ap (λ b. cond b (Some j) (before_at put_1 j)) (not_named n j (λ e. none-some h (sym idle ∙ (heads m chained j h (sym is ∙ e)).0)))
-        ∙ touched before_in j (with_link (Some put_link)) m j refl ∙ before_linked put_link (get m j) there;
+        befores_3 n is j ∙ ap (λ b. cond b (Some j) (before_at put_1 j)) (not_named n j (λ e. none-some h (sym idle ∙ (heads m chained j h (sym is ∙ e)).0)))
+        ∙ touched before_in j (with_link (Some put_link)) m j refl ∙ written before_in (with_link (Some put_link)) None (λ s. refl) (get m j) there;
     nexts = λ q ne. last_left next_in (before_next (Some j)) n q ∙ next_2 q ∙ passed next_in j (with_link (Some put_link)) m q (λ e. ne (sym e));
     befores = λ q ne.
         befores_3 n is q ∙ ap (cond (names n q) (Some j)) (passed before_in j (with_link (Some put_link)) m q (λ e. ne (sym e)))
         ∙ ap (λ o. cond (names o q) (Some j) (before_at m q)) is;
     firsts = firsts_3 n;
-    homes = λ q. last_left home_in (before_home (Some j)) n q ∙ home_2 q ∙ elim (cases_eq j q) [
-      | inl e ↦
-          touched home_in j (with_link (Some put_link)) m q e ∙ home_written put_link (get m q) (there_at q e) ∙ sym (at_same j q (Some h) (home_at m q) e)
-      | inr ne ↦ passed home_in j (with_link (Some put_link)) m q ne ∙ sym (at_apart j q (Some h) (home_at m q) ne)
-    ];
+    homes = λ q. last_left home_in (before_home (Some j)) n q ∙ home_2 q
+        ∙ chosen j q (λ e. touched home_in j (with_link (Some put_link)) m q e
+        ∙ written home_in (with_link (Some put_link)) (Some h) (λ s. refl) (get m q) (there_at q e)) (passed home_in j (with_link (Some put_link)) m q);
   }
 
   -- putting a slot before a chain leaves who stands at each place
   pub put_standing : (n : Option ℕ) (q : ℕ) → standing_at (put_3 n) q ≡ standing_at m q
   put_standing n q =
-      last_left standing_in (before_standing (Some j)) n q ∙ untouched standing_in h (with_first (Some j)) (first_standing (Some j)) put_1 q
-      ∙ untouched standing_in j (with_link (Some put_link)) (link_standing (Some put_link)) m q
+      last_left standing_in (λ s. refl) n q ∙ untouched standing_in h (with_first (Some j)) (λ s. refl) put_1 q
+      ∙ untouched standing_in j (with_link (Some put_link)) (λ s. refl) m q
 
 -- ---- the writes of unlink
 
@@ -362,29 +294,29 @@ module _ (m : Slots) (j : ℕ) (l : Link) (chained : AreChained m) (at : link_in
   before_is = ap (option_and_then (λ (k : Link). k.before)) at
 
   -- what both writes of the first step leave
-  left_1 : {X : Type 0} (P : Option Slot → X) → ((o : Option Slot) → P (option_map (with_first l.next) o) ≡ P o) → ((o : Option Slot) → P (option_map (with_next l.next) o) ≡ P o)
+  left_1 : {X : Type 0} (P : Option Slot → X) → ((s : Slot) → P (Some (with_first l.next s)) ≡ P (Some s)) → ((s : Slot) → P (Some (with_next l.next s)) ≡ P (Some s))
       → (b : Option ℕ) (q : ℕ) → P (get (out_1 b) q) ≡ P (get m q)
   left_1 P one other None q = untouched P l.home (with_first l.next) one m q
   left_1 P one other (Some p) q = untouched P p (with_next l.next) other m q
 
-  left_2 : {X : Type 0} (P : Option Slot → X) → ((o : Option Slot) → P (option_map (with_before l.before) o) ≡ P o) → (b n : Option ℕ) (q : ℕ) → P (get (out_2 b n) q) ≡ P (get (out_1 b) q)
+  left_2 : {X : Type 0} (P : Option Slot → X) → ((s : Slot) → P (Some (with_before l.before s)) ≡ P (Some s)) → (b n : Option ℕ) (q : ℕ) → P (get (out_2 b n) q) ≡ P (get (out_1 b) q)
   left_2 P same b None q = refl
   left_2 P same b (Some y) q = untouched P y (with_before l.before) same (out_1 b) q
 
   home_1 : (b : Option ℕ) (q : ℕ) → home_at (out_1 b) q ≡ home_at m q
-  home_1 b q = left_1 home_in (λ o. ap (option_map (λ (k : Link). k.home)) (first_link l.next o)) (next_home l.next) b q
+  home_1 b q = left_1 home_in (λ s. refl) (next_home l.next) b q
 
   before_1 : (b : Option ℕ) (q : ℕ) → before_at (out_1 b) q ≡ before_at m q
-  before_1 b q = left_1 before_in (λ o. ap (option_and_then (λ (k : Link). k.before)) (first_link l.next o)) (next_before l.next) b q
+  before_1 b q = left_1 before_in (λ s. refl) (next_before l.next) b q
 
   nexts_1 : (b : Option ℕ) → b ≡ l.before → (q : ℕ) → next_at (out_1 b) q ≡ over (next_at m) j (next_at m q)
   nexts_1 None is q =
-      untouched next_in l.home (with_first l.next) (λ o. ap (option_and_then (λ (k : Link). k.next)) (first_link l.next o)) m q
+      untouched next_in l.home (with_first l.next) (λ s. refl) m q
       ∙ sym (over_other (next_at m) j (next_at m q) (λ e. none-some q (is ∙ sym before_is ∙ back m chained q j e)))
   nexts_1 (Some p) is q = elim (cases_eq p q) [
     | inl e ↦
         let next : next_at m q ≡ Some j = on m chained q j (before_is ∙ sym is ∙ ap (λ x. Some x) e) in
-        touched next_in p (with_next l.next) m q e ∙ next_written l.next (get m q) (ap is_some (next_home_of (get m q) j next).1)
+        touched next_in p (with_next l.next) m q e ∙ next_written l.next (get m q) (ap is_some (home_of (λ k. k.next) (link_in (get m q)) j next).1)
         ∙ sym (over_named (next_at m) j (next_at m q) next ∙ next_is)
     | inr ne ↦
         passed next_in p (with_next l.next) m q ne
@@ -395,24 +327,23 @@ module _ (m : Slots) (j : ℕ) (l : Link) (chained : AreChained m) (at : link_in
   firsts_1 None is q = elim (cases_eq l.home q) [
     | inl e ↦
         let first : first_at m q ≡ Some j = ap (first_at m) (sym e) ∙ none_before m chained j l.home home_is (before_is ∙ sym is) in
-        touched first_in l.home (with_first l.next) m q e ∙ first_written l.next (get m q) (some_there (get m q) j first)
+        touched first_in l.home (with_first l.next) m q e ∙ written first_in (with_first l.next) l.next (λ s. refl) (get m q) (some_there (get m q) j first)
         ∙ sym (over_named (next_at m) j (first_at m q) first ∙ next_is)
     | inr ne ↦
         passed first_in l.home (with_first l.next) m q ne
         ∙ sym (over_other (next_at m) j (first_at m q) (λ e. ne (same_Some l.home q (sym home_is ∙ (heads m chained j q e).0))))
   ]
   firsts_1 (Some p) is q =
-      untouched first_in p (with_next l.next) (next_first l.next) m q
+      untouched first_in p (with_next l.next) (λ s. refl) m q
       ∙ sym (over_other (next_at m) j (first_at m q) (λ e. none-some p (sym (heads m chained j q e).1 ∙ before_is ∙ sym is)))
 
   befores_2 : (b n : Option ℕ) → n ≡ l.next → (q : ℕ) → before_at (out_2 b n) q ≡ over (before_at m) j (before_at m q)
-  befores_2 b None is q =
-      before_1 b q ∙ sym (over_other (before_at m) j (before_at m q) (λ e. none-some q (is ∙ sym next_is ∙ on m chained j q e)))
+  befores_2 b None is q = before_1 b q ∙ sym (over_other (before_at m) j (before_at m q) (λ e. none-some q (is ∙ sym next_is ∙ on m chained j q e)))
   befores_2 b (Some y) is q = elim (cases_eq y q) [
     | inl e ↦
         let before : before_at m q ≡ Some j = back m chained j q (next_is ∙ sym is ∙ ap (λ x. Some x) e) in
         touched before_in y (with_before l.before) (out_1 b) q e
-        ∙ before_written l.before (get (out_1 b) q) (ap is_some (home_1 b q ∙ (before_home_of (get m q) j before).1))
+        ∙ before_written l.before (get (out_1 b) q) (ap is_some (home_1 b q ∙ (home_of (λ k. k.before) (link_in (get m q)) j before).1))
         ∙ sym (over_named (before_at m) j (before_at m q) before ∙ before_is)
     | inr ne ↦
         passed before_in y (with_before l.before) (out_1 b) q ne ∙ before_1 b q
@@ -424,24 +355,16 @@ module _ (m : Slots) (j : ℕ) (l : Link) (chained : AreChained m) (at : link_in
   is_taken b n b_is n_is = record {
     nexts = λ q ne. passed next_in j (with_link None) (out_2 b n) q (λ e. ne (sym e)) ∙ left_2 next_in (before_next l.before) b n q ∙ nexts_1 b b_is q;
     befores = λ q ne. passed before_in j (with_link None) (out_2 b n) q (λ e. ne (sym e)) ∙ befores_2 b n n_is q;
-    firsts = λ q. untouched first_in j (with_link None) (link_first None) (out_2 b n) q ∙ left_2 first_in (before_first l.before) b n q ∙ firsts_1 b b_is q;
-    homes = λ q. elim (cases_eq j q) [
-      | inl e ↦ touched home_in j (with_link None) (out_2 b n) q e ∙ home_out (get (out_2 b n) q) ∙ sym (at_same j q None (home_at m q) e)
-      | inr ne ↦
-          passed home_in j (with_link None) (out_2 b n) q ne ∙ left_2 home_in (before_home l.before) b n q ∙ home_1 b q
-          ∙ sym (at_apart j q None (home_at m q) ne)
-    ];
+    firsts = λ q. untouched first_in j (with_link None) (λ s. refl) (out_2 b n) q ∙ left_2 first_in (λ s. refl) b n q ∙ firsts_1 b b_is q;
+    homes = λ q. chosen j q (λ e. touched home_in j (with_link None) (out_2 b n) q e ∙ home_out (get (out_2 b n) q))
+        (λ ne. passed home_in j (with_link None) (out_2 b n) q ne ∙ left_2 home_in (before_home l.before) b n q ∙ home_1 b q);
   }
 
   -- taking a slot out of its chain leaves who stands at each place
   pub out_standing : (b n : Option ℕ) (q : ℕ) → standing_at (out_3 b n) q ≡ standing_at m q
   out_standing b n q =
-      untouched standing_in j (with_link None) (link_standing None) (out_2 b n) q ∙ left_2 standing_in (before_standing l.before) b n q
-      ∙ left_1 standing_in (first_standing l.next) (next_standing l.next) b q
+      untouched standing_in j (with_link None) (λ s. refl) (out_2 b n) q ∙ left_2 standing_in (λ s. refl) b n q ∙ left_1 standing_in (λ s. refl) (λ s. refl) b q
 
 -- who stands in no chain is in none once he is taken out
 pub no_link : (m : Slots) (j : ℕ) → link_in (get m j) ≡ None → (q : ℕ) → home_at m q ≡ cond (nat_eq j q) None (home_at m q)
-no_link m j none q = elim (cases_eq j q) [
-  | inl e ↦ ap (home_at m) (sym e) ∙ ap (option_map (λ (k : Link). k.home)) none ∙ sym (at_same j q None (home_at m q) e)
-  | inr ne ↦ sym (at_apart j q None (home_at m q) ne)
-]
+no_link m j none q = chosen j q (λ e. ap (home_at m) (sym e) ∙ ap (option_map (λ (k : Link). k.home)) none) (λ ne. refl)

@@ -1,3 +1,4 @@
+mod Words
 pub mod Walks
 pub mod Lists
 pub mod Slabs

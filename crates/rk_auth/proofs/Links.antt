@@ -1,9 +1,6 @@
 -- Chains by what follows each place and what stands before it.
-use Rattle.std.proofs.Common.{◌≡◌, ◌∙◌, ap, sym, subst, refl, ℕ, ◌⊎◌, true, false, cond, ◌||◌, List, [], ◌∷◌, inl, inr}
-use Rattle.std.specs.Prelude.{Option, Some, None, nat_eq}
-use Rattle.std.proofs.lemmas.Bool.{both_ways, cases_eq, eqb-true, eq-eqb, ne_eqb}
-use Rattle.std.proofs.lemmas.Option.{none-some, same_Some}
-use Rattle.rk_auth.specs.Chains.{has, EachOnce, names, IsChain}
+use Rattle.rk_auth.proofs.Words.{◌∙◌, ap, sym, ◌≡◌, subst, refl, ℕ, cond, true, false, inl, inr, ◌||◌, List, ◌∷◌, [], ◌⊎◌, both_ways, cases_eq, eq-eqb, ne_eqb}
+use Rattle.rk_auth.proofs.Words.{eqb-true, none-some, same_Some, Some, None, nat_eq, Option, has, names, EachOnce, IsChain}
 use Rattle.rk_auth.proofs.Lists.{without, at_head, in_tail, not_head, none_head}
 
 -- ---- choices by number
@@ -15,6 +12,13 @@ at_same k q x y e = ap (λ b. cond b x y) (eq-eqb k q e)
 -- the choice by two different places is the second
 pub at_apart : {X : Type 0} (k q : ℕ) (x y : X) → (k ≡ q → ⊥) → cond (nat_eq k q) x y ≡ y
 at_apart k q x y ne = ap (λ b. cond b x y) (ne_eqb k q ne)
+
+-- what is x at k, and y at every other place, is the choice between them
+pub chosen : {X : Type 0} (k q : ℕ) {x y z : X} → (k ≡ q → z ≡ x) → ((k ≡ q → ⊥) → z ≡ y) → z ≡ cond (nat_eq k q) x y
+chosen k q {x} {y} here there = elim (cases_eq k q) [
+  | inl e ↦ here e ∙ sym (at_same k q x y e)
+  | inr ne ↦ there ne ∙ sym (at_apart k q x y ne)
+]
 
 -- an option that names j is j
 pub named_is : (o : Option ℕ) (j : ℕ) → names o j ≡ true → o ≡ Some j

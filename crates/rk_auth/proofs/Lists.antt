@@ -1,8 +1,6 @@
 -- Lists of places.
-use Rattle.std.proofs.Common.{◌≡◌, ◌∙◌, ap, sym, refl, ℕ, ◌<◌, ◌≤◌, Bool, true, false, cond, ◌||◌, List, [], ◌∷◌, length, inl, inr, arith}
-use Rattle.std.specs.Prelude.{nat_eq}
-use Rattle.std.proofs.lemmas.Bool.{both_ways, cases_eq, eq-eqb, ne_eqb}
-use Rattle.rk_auth.specs.Chains.{has, EachOnce}
+use Rattle.rk_auth.proofs.Words.{◌∙◌, ap, sym, ◌≡◌, refl, ℕ, cond, arith, true, false, inl, inr, ◌||◌, Bool, List, ◌∷◌, [], ◌<◌, ◌≤◌, length, both_ways}
+use Rattle.rk_auth.proofs.Words.{cases_eq, eq-eqb, ne_eqb, nat_eq, has, EachOnce}
 
 -- all but this place
 abbrev pub without : ℕ → List ℕ → List ℕ
@@ -30,12 +28,10 @@ has_without j (x ∷ xs) q = elim (cases_eq x j) [
     kept : (x ≡ j → ⊥) → (nat_eq x q || cond (nat_eq j q) false (has xs q)) ≡ cond (nat_eq j q) false (nat_eq x q || has xs q)
     kept ne = elim (cases_eq j q) [
       | inl same ↦
-          ap (λ b. nat_eq x q || cond b false (has xs q)) (eq-eqb j q same)
-          ∙ ap (λ b. b || false) (ne_eqb x q (λ s. ne (s ∙ sym same)))
+          ap (λ b. nat_eq x q || cond b false (has xs q)) (eq-eqb j q same) ∙ ap (λ b. b || false) (ne_eqb x q (λ s. ne (s ∙ sym same)))
           ∙ sym (ap (λ b. cond b false (nat_eq x q || has xs q)) (eq-eqb j q same))
       | inr other ↦
-          ap (λ b. nat_eq x q || cond b false (has xs q)) (ne_eqb j q other)
-          ∙ sym (ap (λ b. cond b false (nat_eq x q || has xs q)) (ne_eqb j q other))
+          ap (λ b. nat_eq x q || cond b false (has xs q)) (ne_eqb j q other) ∙ sym (ap (λ b. cond b false (nat_eq x q || has xs q)) (ne_eqb j q other))
     ]
 
 -- a list in which none stands twice keeps that without j

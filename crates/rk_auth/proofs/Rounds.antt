@@ -1,20 +1,11 @@
 -- Rounds through one chain.
-use Rattle.std.proofs.Common.{◌≡◌, ◌∙◌, ap, sym, subst, refl, ℕ, ◌+◌, ◌≤◌, true, false, cond, ◌||◌, List, [], ◌∷◌, length, inl, inr, arith}
-use Rattle.std.specs.Prelude.{Option, Some, None, is_some, nat_eq, option_map}
-use Rattle.std.specs.Ordering.{nat_cmp}
-use Rattle.std.specs.FinMap.{FinMap, get}
-use Rattle.std.proofs.lemmas.Bool.{both_ways, cases_eq, ne_eqb}
-use Rattle.std.proofs.lemmas.Option.{none-some, same_Some}
-use Rattle.rk_table.specs.Maps.{changed_at}
-use Rattle.rk_auth.specs.declared.slot.Slot.{Slot}
-use Rattle.rk_auth.specs.declared.slot.Standing.{Standing}
-use Rattle.rk_auth.specs.Chains.{has, EachOnce, names, IsChain, standing_in, home_in, next_in, standing_at, first_at, home_at, next_at, before_at, IsChainOf, AreChained, in_standing, changed_each_at, rehomed}
+use Rattle.rk_auth.proofs.Words.{◌∙◌, ap, sym, ◌≡◌, subst, refl, ℕ, cond, arith, true, false, inl, inr, ◌||◌, List, ◌∷◌, [], ◌≤◌, length, ◌+◌, both_ways}
+use Rattle.rk_auth.proofs.Words.{cases_eq, ne_eqb, none-some, same_Some, get, Some, None, nat_eq, is_some, Option, changed_at, standing_at, home_at, AreChained}
+use Rattle.rk_auth.proofs.Words.{has, names, standing_in, home_in, EachOnce, in_standing, IsChain, next_in, first_at, IsChainOf, next_at, before_at}
+use Rattle.rk_auth.proofs.Words.{changed_each_at, rehomed, Slot, Standing, Slots}
 use Rattle.rk_auth.proofs.Lists.{not_more}
 use Rattle.rk_auth.proofs.Links.{at_same, at_apart, named_is, is_named, not_named}
 use Rattle.rk_auth.proofs.Chained.{untouched, heads}
-
-abbrev Slots : Type 0
-Slots = FinMap nat_cmp Slot
 
 -- ---- the way through a chain
 
@@ -80,11 +71,7 @@ pub round_goes_on : (f : Standing → Standing) (old now new : Slots) (h : ℕ) 
 round_goes_on f old now new h at p then step end round is by next = by_left round.left round.way round.leads round.short
   where
     same : (q : ℕ) → next_at new q ≡ next_at now q
-    same q = ap (λ x. next_at x q) by ∙ untouched next_in p (in_standing f) kept now q
-      where
-        kept : (o : Option Slot) → next_in (option_map (in_standing f) o) ≡ next_in o
-        kept None = refl
-        kept (Some s) = refl
+    same q = ap (λ x. next_at x q) by ∙ untouched next_in p (in_standing f) (λ s. refl) now q
 
     by_left : (left : List ℕ) → IsWay (next_at now) at left → ((xs : List ℕ) → IsChainOf old h xs → changed_each_at (in_standing f) left now ≡ changed_each_at (in_standing f) xs old)
         → length left + step ≤ end → IsRound (in_standing f) old new h then (step + 1) end
@@ -119,8 +106,7 @@ round_ends f old now h at step end round is =
 -- a round that has used its steps has changed each of the chain
 pub round_is_over : (f : Slot → Slot) (old now : Slots) (h : ℕ) (at : Option ℕ) (step end : ℕ) → IsRound f old now h at step end → end ≤ step
     → (xs : List ℕ) → IsChainOf old h xs → now ≡ changed_each_at f xs old
-round_is_over f old now h at step end round le =
-    none_left f old now h round.left (no_length round.left (omega (arith, round.short, le))) round.leads
+round_is_over f old now h at step end round le = none_left f old now h round.left (no_length round.left (omega (arith, round.short, le))) round.leads
 
 -- ---- the round that takes each to another chain
 
@@ -164,10 +150,8 @@ loosening_goes_on old now mid new h other p step end was apart first mid_standin
   standing = λ q. standing q ∙ mid_standing q ∙ was.standing q;
   homes = λ q. elim (cases_eq p q) [
     | inl e ↦
-        ap (rehomed h other) (homes q ∙ at_same p q (Some other) (home_at mid q) e)
-        ∙ ap (λ b. cond b (Some other) (Some other)) (ne_eqb other h apart)
-        ∙ sym (ap (λ b. cond b (Some other) (home_at now q)) (is_named (home_at now q) h (ap (home_at now) (sym e) ∙ home)))
-        ∙ was.homes q
+        ap (rehomed h other) (homes q ∙ at_same p q (Some other) (home_at mid q) e) ∙ ap (λ b. cond b (Some other) (Some other)) (ne_eqb other h apart)
+        ∙ sym (ap (λ b. cond b (Some other) (home_at now q)) (is_named (home_at now q) h (ap (home_at now) (sym e) ∙ home))) ∙ was.homes q
     | inr ne ↦ ap (rehomed h other) (homes q ∙ at_apart p q (Some other) (home_at mid q) ne ∙ mid_homes q ∙ at_apart p q None (home_at now q) ne) ∙ was.homes q
   ];
   short = λ xs is.
@@ -191,8 +175,7 @@ empty_chain : (m : Slots) (h : ℕ) (xs : List ℕ) → IsChainOf m h xs → xs 
 empty_chain m h xs is none q e = both_ways _ (ap (λ l. has l q) none) (is.exact q ∙ is_named (home_at m q) h e)
 
 nobody_left : (old now : Slots) (h other step end : ℕ) → IsLoosened old now h other step end → ((q : ℕ) → home_at now q ≡ Some h → ⊥) → (q : ℕ) → home_at now q ≡ rehomed h other (home_at old q)
-nobody_left old now h other step end was nobody q =
-    sym (ap (λ b. cond b (Some other) (home_at now q)) (not_named (home_at now q) h (nobody q))) ∙ was.homes q
+nobody_left old now h other step end was nobody q = sym (ap (λ b. cond b (Some other) (home_at now q)) (not_named (home_at now q) h (nobody q))) ∙ was.homes q
 
 -- if the chain has no first place any more, all that were in it are in the other
 pub loosened : (old now : Slots) (h other step end : ℕ) → IsLoosened old now h other step end → None ≡ first_at now h → (q : ℕ) → home_at now q ≡ rehomed h other (home_at old q)

@@ -1,34 +1,16 @@
 -- Who is seated where, through all that is done to the slots and their names.
-use Rattle.std.proofs.Common.{◌≡◌, ◌∙◌, ap, sym, subst, refl, ℕ, zero, suc, ◌-◌, ◌<◌, ◌⊎◌, Bool, true, false, cond, [], inl, inr, arith}
-use Rattle.std.specs.Prelude.{Option, Some, None, is_some, nat_eq, option_map, option_and_then}
-use Rattle.std.specs.Ordering.{nat_cmp}
-use Rattle.std.specs.Cmp.{nat_cmp_total}
-use Rattle.std.specs.FinMap.{FinMap, get, insert, remove, len, empty, get-empty, empty_of_len, len-empty, len-remove}
-use Rattle.std.proofs.lemmas.Bool.{both_ways, cases_eq, eq-eqb}
-use Rattle.std.proofs.lemmas.Option.{none-some, same_Some}
-use Rattle.rk_names.specs.declared.numbers.SessionId.{SessionId}
+use Rattle.rk_auth.proofs.Words.{◌∙◌, ap, sym, ◌≡◌, subst, refl, ℕ, cond, arith, true, false, inl, inr, Bool, [], ◌-◌, ◌⊎◌, ◌<◌, zero, suc, both_ways, cases_eq}
+use Rattle.rk_auth.proofs.Words.{eq-eqb, none-some, same_Some, nat_cmp_total, get, FinMap, remove, insert, len, get-empty, empty_of_len, len-remove, empty}
+use Rattle.rk_auth.proofs.Words.{len-empty, nat_cmp, Some, None, nat_eq, is_some, Option, option_map, option_and_then, at_new, at_other, left_in, taken_out}
+use Rattle.rk_auth.proofs.Words.{changed_at, SessionId, standing_at, home_at, AreChained, names, standing_in, home_in, first_in, rehomed, in_handler}
+use Rattle.rk_auth.proofs.Words.{session_changed, client_of, construction_of, IsTied, who_at, who_of, waited_in, in_session, seen, waited_of, in_construction}
+use Rattle.rk_auth.proofs.Words.{client_named, construction_named, place_of, AreSeated, Sessions, Construction, Session, Slot, Standing, Index, Slots}
 use Rattle.rk_names.specs.declared.numbers.SessionId.TheVariants as id
-use Rattle.rk_table.specs.Maps.{changed_at}
 use Rattle.rk_table.specs.Stored.{Stored}
-use Rattle.rk_table.proofs.Gets.{at_new, at_other, left_in, taken_out}
-use Rattle.rk_auth.specs.declared.session.Session.{Session}
-use Rattle.rk_auth.specs.declared.construction.Construction.{Construction}
-use Rattle.rk_auth.specs.declared.slot.Slot.{Slot}
-use Rattle.rk_auth.specs.declared.slot.Standing.{Standing}
 use Rattle.rk_auth.specs.declared.slot.Standing.TheVariants as standing
-use Rattle.rk_auth.specs.Sessions.{Sessions}
-use Rattle.rk_auth.specs.Changes.{in_handler, session_changed}
-use Rattle.rk_auth.specs.Chains.{names, standing_in, first_in, home_in, standing_at, home_at, AreChained, rehomed}
-use Rattle.rk_auth.specs.Seats.{who_of, who_at, waited_of, waited_in, client_of, construction_of, client_named, construction_named, in_session, in_construction, seen, place_of, IsTied, AreSeated}
 use Rattle.rk_auth.proofs.Links.{at_same, at_apart, is_named}
 use Rattle.rk_auth.proofs.Seen.{seen_len, seen_same, seen_changed, seen_unchanged, seen_put, seen_out, seen_not_out}
 use Rattle.rk_auth.proofs.Stands.{who_kept, new_slot, put_chained, put_homes, put_stands}
-
-abbrev Slots : Type 0
-Slots = FinMap nat_cmp Slot
-
-abbrev Index : Type 0
-Index = FinMap nat_cmp ℕ
 
 -- ---- names
 
@@ -64,55 +46,56 @@ not_nobody m i j a at nobody e = none-some a (same_Some None (Some a) (sym nobod
 
 -- ---- what is read
 
+-- what holds of client n, whatever his session, holds of a slot in which client n stands
+at_client : (P : Option Standing → Type 0) (o : Option Standing) (n : ℕ) → ((s : Session) → P (Some (standing.Client n s)))
+    → option_map who_of o ≡ Some (Some (id.Client n)) → P o
+at_client P None n h e = absurd (none-some (Some (id.Client n)) e)
+at_client P (Some standing.Nobody) n h e = absurd (none-some (id.Client n) (same_Some None (Some (id.Client n)) e))
+at_client P (Some (standing.Client own s)) n h e =
+    subst (λ m. P (Some (standing.Client m s))) (sym (same_client own n (some_name (id.Client own) (id.Client n) e))) (h s)
+at_client P (Some (standing.Construction k c)) n h e = absurd (not_both n k (sym (some_name (id.Handler k) (id.Client n) e)))
+
+-- what holds of the construction of k, however far it is, holds of a slot in which that construction stands
+at_construction : (P : Option Standing → Type 0) (o : Option Standing) (k : ℕ) → ((c : Construction) → P (Some (standing.Construction k c)))
+    → option_map who_of o ≡ Some (Some (id.Handler k)) → P o
+at_construction P None k h e = absurd (none-some (Some (id.Handler k)) e)
+at_construction P (Some standing.Nobody) k h e = absurd (none-some (id.Handler k) (same_Some None (Some (id.Handler k)) e))
+at_construction P (Some (standing.Client n s)) k h e = absurd (not_both n k (some_name (id.Client n) (id.Handler k) e))
+at_construction P (Some (standing.Construction own c)) k h e =
+    subst (λ m. P (Some (standing.Construction m c))) (sym (same_handler own k (some_name (id.Handler own) (id.Handler k) e))) (h c)
+
 -- a slot in which client n stands is read as that client
 pub client_read : (o : Option Standing) (n : ℕ) → option_map who_of o ≡ Some (Some (id.Client n)) → client_named n o ≡ Some (client_of o)
-client_read None n e = absurd (none-some (Some (id.Client n)) e)
-client_read (Some standing.Nobody) n e = absurd (none-some (id.Client n) (same_Some None (Some (id.Client n)) e))
-client_read (Some (standing.Client own s)) n e = ap (λ b. cond b (Some s) None) (eq-eqb own n (same_client own n (some_name (id.Client own) (id.Client n) e)))
-client_read (Some (standing.Construction k c)) n e = absurd (not_both n k (sym (some_name (id.Handler k) (id.Client n) e)))
+client_read o n = at_client (λ o. client_named n o ≡ Some (client_of o)) o n (λ s. ap (λ b. cond b (Some s) None) (eq-eqb n n refl))
 
 -- a slot in which the construction of k stands is read as that construction
 pub construction_read : (o : Option Standing) (k : ℕ) → option_map who_of o ≡ Some (Some (id.Handler k)) → construction_named k o ≡ Some (construction_of o)
-construction_read None k e = absurd (none-some (Some (id.Handler k)) e)
-construction_read (Some standing.Nobody) k e = absurd (none-some (id.Handler k) (same_Some None (Some (id.Handler k)) e))
-construction_read (Some (standing.Client n s)) k e = absurd (not_both n k (some_name (id.Client n) (id.Handler k) e))
-construction_read (Some (standing.Construction own c)) k e = ap (λ b. cond b (Some c) None) (eq-eqb own k (same_handler own k (some_name (id.Handler own) (id.Handler k) e)))
+construction_read o k = at_construction (λ o. construction_named k o ≡ Some (construction_of o)) o k (λ c. ap (λ b. cond b (Some c) None) (eq-eqb k k refl))
 
 -- ---- what a change makes
 
 -- a change of who stands in a client's slot changes that client's session
 pub made_client : (g : Session → Session) (o : Option Standing) (n : ℕ) → option_map who_of o ≡ Some (Some (id.Client n)) → client_of (option_map (in_session g) o) ≡ g (client_of o)
-made_client g None n e = absurd (none-some (Some (id.Client n)) e)
-made_client g (Some standing.Nobody) n e = absurd (none-some (id.Client n) (same_Some None (Some (id.Client n)) e))
-made_client g (Some (standing.Client own s)) n e = refl
-made_client g (Some (standing.Construction k c)) n e = absurd (not_both n k (sym (some_name (id.Handler k) (id.Client n) e)))
+made_client g o n = at_client (λ o. client_of (option_map (in_session g) o) ≡ g (client_of o)) o n (λ s. refl)
 
 -- a change of the session in a construction's slot changes its handler's session
 pub made_handler : (g : Session → Session) (o : Option Standing) (k : ℕ) → option_map who_of o ≡ Some (Some (id.Handler k))
     → construction_of (option_map (in_session g) o) ≡ in_handler g (construction_of o)
-made_handler g None k e = absurd (none-some (Some (id.Handler k)) e)
-made_handler g (Some standing.Nobody) k e = absurd (none-some (id.Handler k) (same_Some None (Some (id.Handler k)) e))
-made_handler g (Some (standing.Client n s)) k e = absurd (not_both n k (some_name (id.Client n) (id.Handler k) e))
-made_handler g (Some (standing.Construction own c)) k e = refl
+made_handler g o k = at_construction (λ o. construction_of (option_map (in_session g) o) ≡ in_handler g (construction_of o)) o k (λ c. refl)
 
 pub made_construction : (h : Construction → Construction) (o : Option Standing) (k : ℕ) → option_map who_of o ≡ Some (Some (id.Handler k))
     → construction_of (option_map (in_construction h) o) ≡ h (construction_of o)
-made_construction h None k e = absurd (none-some (Some (id.Handler k)) e)
-made_construction h (Some standing.Nobody) k e = absurd (none-some (id.Handler k) (same_Some None (Some (id.Handler k)) e))
-made_construction h (Some (standing.Client n s)) k e = absurd (not_both n k (some_name (id.Client n) (id.Handler k) e))
-made_construction h (Some (standing.Construction own c)) k e = refl
+made_construction h o k = at_construction (λ o. construction_of (option_map (in_construction h) o) ≡ h (construction_of o)) o k (λ c. refl)
 
 -- a change of a session leaves whose it is
 pub session_who : (g : Session → Session) (s : Standing) → who_of (in_session g s) ≡ who_of s
 session_who g standing.Nobody = refl
-session_who g (standing.Client n s) = refl
-session_who g (standing.Construction k c) = refl
+session_who g _ = refl
 
 -- a change of a construction leaves whose it is
 pub construction_who : (h : Construction → Construction) (s : Standing) → who_of (in_construction h s) ≡ who_of s
 construction_who h standing.Nobody = refl
-construction_who h (standing.Client n s) = refl
-construction_who h (standing.Construction k c) = refl
+construction_who h _ = refl
 
 -- ---- what is seen of all
 
@@ -121,76 +104,28 @@ abbrev pub View : Slots → Index → Index → Sessions
 View m clients constructions = record { constructions = seen construction_of m constructions; clients = seen client_of m clients }
 
 -- equal constructions and equal clients make equal sessions
-pub views : (a b : FinMap nat_cmp Construction) (c d : FinMap nat_cmp Session) → a ≡ b → c ≡ d
+pub views : {a b : FinMap nat_cmp Construction} {c d : FinMap nat_cmp Session} → a ≡ b → c ≡ d
     → ◌≡◌ {A = Sessions} (record { constructions = a; clients = c }) (record { constructions = b; clients = d })
-views a b c d e f i = record { constructions = e i; clients = f i }
-
-module _ (m n : Slots) (clients constructions : Index) (nobody : ℕ) (tied : IsTied m constructions nobody)
-    (named : (q i : ℕ) → get clients q ≡ Some i → who_at m i ≡ Some (Some (id.Client q))) where
-  -- one was changed
-  module _ (f : Standing → Standing) (p : ℕ) (stands : (q : ℕ) → standing_at n q ≡ cond (nat_eq p q) (option_map f (standing_at m q)) (standing_at m q)) where
-    at_place : standing_at n p ≡ option_map f (standing_at m p)
-    at_place = stands p ∙ at_same p p (option_map f (standing_at m p)) (standing_at m p) refl
-
-    elsewhere : (q : ℕ) → (p ≡ q → ⊥) → standing_at n q ≡ standing_at m q
-    elsewhere q ne = stands q ∙ at_apart p q (option_map f (standing_at m q)) (standing_at m q) ne
-
-  -- a session that is changed in its slot is changed in the view, and no other is
-  pub changed_view : (g : Session → Session) (s : SessionId) (p : ℕ) → place_of clients constructions s ≡ Some p
-      → ((q : ℕ) → standing_at n q ≡ cond (nat_eq p q) (option_map (in_session g) (standing_at m q)) (standing_at m q))
-      → View n clients constructions ≡ session_changed s g (View m clients constructions)
-  changed_view g (id.Client k) p is stands =
-      views (seen construction_of n constructions) (seen construction_of m constructions) (seen client_of n clients) (changed_at k g (seen client_of m clients))
-      (seen_same construction_of m n constructions (λ q j at. ap construction_of (elsewhere (in_session g) p stands j
-      (apart_places m p j (id.Client k) (id.Handler q) (named k p is) (tied.heads q j at) (not_both k q)))))
-      (seen_changed client_of m n clients k p g is (ap client_of (at_place (in_session g) p stands) ∙ made_client g (standing_at m p) k (named k p is))
-      (λ q j ne at. ap client_of (elsewhere (in_session g) p stands j
-      (apart_places m p j (id.Client k) (id.Client q) (named k p is) (named q j at) (λ e. ne (same_client k q e))))))
-  changed_view g (id.Handler k) p is stands =
-      views (seen construction_of n constructions) (changed_at k (in_handler g) (seen construction_of m constructions)) (seen client_of n clients) (seen client_of m clients)
-      (seen_changed construction_of m n constructions k p (in_handler g) is
-      (ap construction_of (at_place (in_session g) p stands) ∙ made_handler g (standing_at m p) k (tied.heads k p is))
-      (λ q j ne at. ap construction_of (elsewhere (in_session g) p stands j
-      (apart_places m p j (id.Handler k) (id.Handler q) (tied.heads k p is) (tied.heads q j at) (λ e. ne (same_handler k q e))))))
-      (seen_same client_of m n clients (λ q j at. ap client_of (elsewhere (in_session g) p stands j
-      (apart_places m p j (id.Handler k) (id.Client q) (tied.heads k p is) (named q j at) (λ e. not_both q k (sym e))))))
-
-  -- a construction that is changed in its slot is changed in the view, and no other is
-  pub construction_view : (h : Construction → Construction) (k p : ℕ) → get constructions k ≡ Some p
-      → ((q : ℕ) → standing_at n q ≡ cond (nat_eq p q) (option_map (in_construction h) (standing_at m q)) (standing_at m q))
-      → View n clients constructions ≡ record { constructions = changed_at k h (seen construction_of m constructions); clients = seen client_of m clients }
-  construction_view h k p is stands =
-      views (seen construction_of n constructions) (changed_at k h (seen construction_of m constructions)) (seen client_of n clients) (seen client_of m clients)
-      (seen_changed construction_of m n constructions k p h is
-      (ap construction_of (at_place (in_construction h) p stands) ∙ made_construction h (standing_at m p) k (tied.heads k p is))
-      (λ q j ne at. ap construction_of (elsewhere (in_construction h) p stands j
-      (apart_places m p j (id.Handler k) (id.Handler q) (tied.heads k p is) (tied.heads q j at) (λ e. ne (same_handler k q e))))))
-      (seen_same client_of m n clients (λ q j at. ap client_of (elsewhere (in_construction h) p stands j
-      (apart_places m p j (id.Handler k) (id.Client q) (tied.heads k p is) (named q j at) (λ e. not_both q k (sym e))))))
+views e f i = record { constructions = e i; clients = f i }
 
 -- a change of a session that has no slot leaves the view
 pub unchanged_view : (m : Slots) (clients constructions : Index) (g : Session → Session) (s : SessionId) → place_of clients constructions s ≡ None
     → View m clients constructions ≡ session_changed s g (View m clients constructions)
-unchanged_view m clients constructions g (id.Client k) none =
-    views (seen construction_of m constructions) (seen construction_of m constructions) (seen client_of m clients) (changed_at k g (seen client_of m clients)) refl
-    (seen_unchanged client_of m clients k g none)
-unchanged_view m clients constructions g (id.Handler k) none =
-    views (seen construction_of m constructions) (changed_at k (in_handler g) (seen construction_of m constructions)) (seen client_of m clients) (seen client_of m clients)
-    (seen_unchanged construction_of m constructions k (in_handler g) none) refl
+unchanged_view m clients constructions g (id.Client k) none = views refl (seen_unchanged client_of m clients k g none)
+unchanged_view m clients constructions g (id.Handler k) none = views (seen_unchanged construction_of m constructions k (in_handler g) none) refl
 
 -- a change of a construction that has no slot leaves the view
 pub unchanged_construction : (m : Slots) (clients constructions : Index) (h : Construction → Construction) (k : ℕ) → get constructions k ≡ None
     → View m clients constructions ≡ record { constructions = changed_at k h (seen construction_of m constructions); clients = seen client_of m clients }
-unchanged_construction m clients constructions h k none =
-    views (seen construction_of m constructions) (changed_at k h (seen construction_of m constructions)) (seen client_of m clients) (seen client_of m clients)
-    (seen_unchanged construction_of m constructions k h none) refl
+unchanged_construction m clients constructions h k none = views (seen_unchanged construction_of m constructions k h none) refl
 
 -- all stay seated where only who stands there was changed
-pub seated_changed : (f : Standing → Standing) (s t : Stored Slot) (clients constructions : Stored ℕ) (nobody reserved p : ℕ) → AreSeated s clients constructions nobody reserved
+pub seated_changed : {s : Stored Slot} {clients constructions : Stored ℕ} {nobody reserved : ℕ} (f : Standing → Standing) (t : Stored Slot) (p : ℕ)
+    → AreSeated s clients constructions nobody reserved
     → ((x : Standing) → who_of (f x) ≡ who_of x) → IsTied t.facts constructions.facts nobody
     → ((q : ℕ) → standing_at t.facts q ≡ cond (nat_eq p q) (option_map f (standing_at s.facts q)) (standing_at s.facts q)) → t.room ≡ s.room
     → AreSeated t clients constructions nobody reserved
-seated_changed f s t clients constructions nobody reserved p was same tied stands room = record {
+seated_changed {s} f t p was same tied stands room = record {
   tied = tied;
   names = λ n i is. ap (option_map who_of) (stands i) ∙ who_kept f same (nat_eq p i) (standing_at s.facts i) ∙ was.names n i is;
   few = was.few;
@@ -354,102 +289,142 @@ tied_ended m l n index nobody k p tied is standing_l homes_l chained standing_n 
       let at : get index q ≡ Some i = sym (left_in index k q (λ s. other (sym s))) ∙ e in
       let who = tied.heads q i at in
       ap (option_map who_of) (left i (apart_places m p i (id.Handler k) (id.Handler q) (tied.heads k p is) who (λ s. other (same_handler k q s)))) ∙ who;
-  nobody_there =
-      ap (option_map who_of) (left nobody (not_nobody m p nobody (id.Handler k) (tied.heads k p is) tied.nobody_there)) ∙ tied.nobody_there;
+  nobody_there = ap (option_map who_of) (left nobody (not_nobody m p nobody (id.Handler k) (tied.heads k p is) tied.nobody_there)) ∙ tied.nobody_there;
 }
   where
     left : (q : ℕ) → (p ≡ q → ⊥) → standing_at n q ≡ standing_at m q
     left q ne = standing_n q ∙ at_apart p q None (standing_at l q) ne ∙ standing_l q
 
--- ---- the views of those who come and go
+-- ---- the views, through a change of one slot
 
-module _ (m n : Slots) (clients constructions : Index) (nobody p : ℕ) (tied : IsTied m constructions nobody)
-    (named : (q i : ℕ) → get clients q ≡ Some i → who_at m i ≡ Some (Some (id.Client q))) where
-  -- a client that takes a place is in the view, and all others are as they were
-  pub client_put_view : (k : ℕ) (s : Session) → standing_at m p ≡ None → ((q : ℕ) → standing_at n q ≡ cond (nat_eq p q) (Some (standing.Client k s)) (standing_at m q))
-      → View n (insert clients k p) constructions ≡ record { constructions = seen construction_of m constructions; clients = insert (seen client_of m clients) k s }
-  client_put_view k s new stands =
-      let st = standing.Client k s in
-      views (seen construction_of n constructions) (seen construction_of m constructions) (seen client_of n (insert clients k p)) (insert (seen client_of m clients) k s)
-      (seen_same construction_of m n constructions (λ q j at. ap construction_of (put_elsewhere m n st p new stands j (put_not m n st p new stands j (Some (id.Handler q)) (tied.heads q j at)))))
-      (seen_put client_of m n clients k p s (ap client_of (put_at m n st p new stands))
-      (λ q j at. ap client_of (put_elsewhere m n st p new stands j (put_not m n st p new stands j (Some (id.Client q)) (named q j at)))))
+module _ {s : Stored Slot} {cs ks : Stored ℕ} {nobody reserved : ℕ} (was : AreSeated s cs ks nobody reserved) (n : Slots) where
+  abbrev m : Slots
+  m = s.facts
 
-  -- a construction that takes a place is in the view, and all others are as they were
-  pub construction_put_view : (k : ℕ) (c : Construction) → standing_at m p ≡ None
-      → ((q : ℕ) → standing_at n q ≡ cond (nat_eq p q) (Some (standing.Construction k c)) (standing_at m q))
-      → View n clients (insert constructions k p) ≡ record { constructions = insert (seen construction_of m constructions) k c; clients = seen client_of m clients }
-  construction_put_view k c new stands =
-      let st = standing.Construction k c in
-      views (seen construction_of n (insert constructions k p)) (insert (seen construction_of m constructions) k c) (seen client_of n clients) (seen client_of m clients)
-      (seen_put construction_of m n constructions k p c (ap construction_of (put_at m n st p new stands))
-      (λ q j at. ap construction_of (put_elsewhere m n st p new stands j (put_not m n st p new stands j (Some (id.Handler q)) (tied.heads q j at)))))
-      (seen_same client_of m n clients (λ q j at. ap client_of (put_elsewhere m n st p new stands j (put_not m n st p new stands j (Some (id.Client q)) (named q j at)))))
+  abbrev clients : Index
+  clients = cs.facts
 
-  -- a client that gives its place back is no more in the view, and all others are as they were
-  pub client_out_view : (k : ℕ) → get clients k ≡ Some p → ((q : ℕ) → standing_at n q ≡ cond (nat_eq p q) None (standing_at m q))
-      → View n (remove clients k) constructions ≡ record { constructions = seen construction_of m constructions; clients = remove (seen client_of m clients) k }
-  client_out_view k is stands =
-      views (seen construction_of n constructions) (seen construction_of m constructions) (seen client_of n (remove clients k)) (remove (seen client_of m clients) k)
-      (seen_same construction_of m n constructions (λ q j at. ap construction_of (out_elsewhere m n p stands j
-      (apart_places m p j (id.Client k) (id.Handler q) (named k p is) (tied.heads q j at) (not_both k q)))))
-      (seen_out client_of m n clients k (λ q j ne at. ap client_of (out_elsewhere m n p stands j
-      (apart_places m p j (id.Client k) (id.Client q) (named k p is) (named q j at) (λ e. ne (same_client k q e))))))
+  abbrev constructions : Index
+  constructions = ks.facts
 
-  -- a construction that gives its place back is no more in the view, and all others are as they were
-  pub construction_out_view : (k : ℕ) → get constructions k ≡ Some p → ((q : ℕ) → standing_at n q ≡ cond (nat_eq p q) None (standing_at m q))
-      → View n clients (remove constructions k) ≡ record { constructions = remove (seen construction_of m constructions) k; clients = seen client_of m clients }
-  construction_out_view k is stands =
-      views (seen construction_of n (remove constructions k)) (remove (seen construction_of m constructions) k) (seen client_of n clients) (seen client_of m clients)
-      (seen_out construction_of m n constructions k (λ q j ne at. ap construction_of (out_elsewhere m n p stands j
-      (apart_places m p j (id.Handler k) (id.Handler q) (tied.heads k p is) (tied.heads q j at) (λ e. ne (same_handler k q e))))))
-      (seen_same client_of m n clients (λ q j at. ap client_of (out_elsewhere m n p stands j
-      (apart_places m p j (id.Handler k) (id.Client q) (tied.heads k p is) (named q j at) (λ e. not_both q k (sym e))))))
+  -- the slots of two sessions are two
+  apart_of_both : (k q p j : ℕ) → get clients k ≡ Some p → get constructions q ≡ Some j → p ≡ j → ⊥
+  apart_of_both k q p j is at = apart_places m p j (id.Client k) (id.Handler q) (was.names k p is) (was.tied.heads q j at) (not_both k q)
 
-  -- the names of the clients, once one is there or gone
-  pub named_put : (st : Standing) → standing_at m p ≡ None → ((q : ℕ) → standing_at n q ≡ cond (nat_eq p q) (Some st) (standing_at m q))
-      → (q i : ℕ) → get clients q ≡ Some i → who_at n i ≡ Some (Some (id.Client q))
-  named_put st new stands q i at = put_who m n st p new stands i (Some (id.Client q)) (named q i at)
+  apart_of_clients : (k q p j : ℕ) → (k ≡ q → ⊥) → get clients k ≡ Some p → get clients q ≡ Some j → p ≡ j → ⊥
+  apart_of_clients k q p j ne is at = apart_places m p j (id.Client k) (id.Client q) (was.names k p is) (was.names q j at) (λ e. ne (same_client k q e))
 
-  -- each client's number names its slot where a client takes a place
-  pub named_new : (k : ℕ) (s : Session) → standing_at m p ≡ None → ((q : ℕ) → standing_at n q ≡ cond (nat_eq p q) (Some (standing.Client k s)) (standing_at m q))
-      → (q i : ℕ) → get (insert clients k p) q ≡ Some i → who_at n i ≡ Some (Some (id.Client q))
-  named_new k s new stands q i is = elim (cases_eq q k) [
-    | inl e ↦
-        let same : p ≡ i = same_Some p i (sym (at_new clients k p q e) ∙ is) in
-        sym (ap (who_at n) same) ∙ ap (option_map who_of) (put_at m n (standing.Client k s) p new stands) ∙ ap (λ x. Some (Some (id.Client x))) (sym e)
-    | inr ne ↦ named_put (standing.Client k s) new stands q i (sym (at_other clients k p q ne) ∙ is)
-  ]
+  apart_of_constructions : (k q p j : ℕ) → (k ≡ q → ⊥) → get constructions k ≡ Some p → get constructions q ≡ Some j → p ≡ j → ⊥
+  apart_of_constructions k q p j ne is at =
+      apart_places m p j (id.Handler k) (id.Handler q) (was.tied.heads k p is) (was.tied.heads q j at) (λ e. ne (same_handler k q e))
 
-  -- each client's number names its slot where a construction gives its place back
-  pub named_left : (k : ℕ) → get constructions k ≡ Some p → ((q : ℕ) → standing_at n q ≡ cond (nat_eq p q) None (standing_at m q))
-      → (q i : ℕ) → get clients q ≡ Some i → who_at n i ≡ Some (Some (id.Client q))
-  named_left k is stands q i at =
-      ap (option_map who_of) (out_elsewhere m n p stands i (apart_places m p i (id.Handler k) (id.Client q) (tied.heads k p is) (named q i at) (λ e. not_both q k (sym e))))
-      ∙ named q i at
+  -- ---- one is changed
 
-  -- each client's number names its slot where another client gives its place back
-  pub named_others : (k : ℕ) → get clients k ≡ Some p → ((q : ℕ) → standing_at n q ≡ cond (nat_eq p q) None (standing_at m q))
-      → (q i : ℕ) → get (remove clients k) q ≡ Some i → who_at n i ≡ Some (Some (id.Client q))
-  named_others k is stands q i e =
-      let other : k ≡ q → ⊥ = λ same. none-some i (sym (taken_out clients k q (sym same)) ∙ e) in
-      let at : get clients q ≡ Some i = sym (left_in clients k q (λ s. other (sym s))) ∙ e in
-      ap (option_map who_of) (out_elsewhere m n p stands i (apart_places m p i (id.Client k) (id.Client q) (named k p is) (named q i at) (λ s. other (same_client k q s))))
-      ∙ named q i at
+  module _ (f : Standing → Standing) (p : ℕ) (stands : (q : ℕ) → standing_at n q ≡ cond (nat_eq p q) (option_map f (standing_at m q)) (standing_at m q)) where
+    at_place : standing_at n p ≡ option_map f (standing_at m p)
+    at_place = stands p ∙ at_same p p (option_map f (standing_at m p)) (standing_at m p) refl
+
+    elsewhere : (q : ℕ) → (p ≡ q → ⊥) → standing_at n q ≡ standing_at m q
+    elsewhere q ne = stands q ∙ at_apart p q (option_map f (standing_at m q)) (standing_at m q) ne
+
+  -- a session that is changed in its slot is changed in the view, and no other is
+  pub changed_view : (g : Session → Session) (s : SessionId) (p : ℕ) → place_of clients constructions s ≡ Some p
+      → ((q : ℕ) → standing_at n q ≡ cond (nat_eq p q) (option_map (in_session g) (standing_at m q)) (standing_at m q))
+      → View n clients constructions ≡ session_changed s g (View m clients constructions)
+  changed_view g (id.Client k) p is stands =
+      views (seen_same construction_of m n constructions (λ q j at. ap construction_of (elsewhere (in_session g) p stands j (apart_of_both k q p j is at))))
+      (seen_changed client_of m n clients k p g is (ap client_of (at_place (in_session g) p stands) ∙ made_client g (standing_at m p) k (was.names k p is))
+      (λ q j ne at. ap client_of (elsewhere (in_session g) p stands j (apart_of_clients k q p j ne is at))))
+  changed_view g (id.Handler k) p is stands =
+      views (seen_changed construction_of m n constructions k p (in_handler g) is
+      (ap construction_of (at_place (in_session g) p stands) ∙ made_handler g (standing_at m p) k (was.tied.heads k p is))
+      (λ q j ne at. ap construction_of (elsewhere (in_session g) p stands j (apart_of_constructions k q p j ne is at))))
+      (seen_same client_of m n clients (λ q j at. ap client_of (elsewhere (in_session g) p stands j (λ e. apart_of_both q k j p at is (sym e)))))
+
+  -- a construction that is changed in its slot is changed in the view, and no other is
+  pub construction_view : (h : Construction → Construction) (k p : ℕ) → get constructions k ≡ Some p
+      → ((q : ℕ) → standing_at n q ≡ cond (nat_eq p q) (option_map (in_construction h) (standing_at m q)) (standing_at m q))
+      → View n clients constructions ≡ record { constructions = changed_at k h (seen construction_of m constructions); clients = seen client_of m clients }
+  construction_view h k p is stands =
+      views (seen_changed construction_of m n constructions k p h is
+      (ap construction_of (at_place (in_construction h) p stands) ∙ made_construction h (standing_at m p) k (was.tied.heads k p is))
+      (λ q j ne at. ap construction_of (elsewhere (in_construction h) p stands j (apart_of_constructions k q p j ne is at))))
+      (seen_same client_of m n clients (λ q j at. ap client_of (elsewhere (in_construction h) p stands j (λ e. apart_of_both q k j p at is (sym e)))))
+
+  -- ---- one comes or goes
+
+  module _ (p : ℕ) where
+    -- a client that takes a place is in the view, and all others are as they were
+    pub client_put_view : (k : ℕ) (s : Session) → standing_at m p ≡ None → ((q : ℕ) → standing_at n q ≡ cond (nat_eq p q) (Some (standing.Client k s)) (standing_at m q))
+        → View n (insert clients k p) constructions ≡ record { constructions = seen construction_of m constructions; clients = insert (seen client_of m clients) k s }
+    client_put_view k s new stands =
+        let st = standing.Client k s in
+        views (seen_same construction_of m n constructions (λ q j at. ap construction_of (put_elsewhere m n st p new stands j (put_not m n st p new stands j (Some (id.Handler q)) (was.tied.heads q j at)))))
+        (seen_put client_of m n clients k p s (ap client_of (put_at m n st p new stands))
+        (λ q j at. ap client_of (put_elsewhere m n st p new stands j (put_not m n st p new stands j (Some (id.Client q)) (was.names q j at)))))
+
+    -- a construction that takes a place is in the view, and all others are as they were
+    pub construction_put_view : (k : ℕ) (c : Construction) → standing_at m p ≡ None
+        → ((q : ℕ) → standing_at n q ≡ cond (nat_eq p q) (Some (standing.Construction k c)) (standing_at m q))
+        → View n clients (insert constructions k p) ≡ record { constructions = insert (seen construction_of m constructions) k c; clients = seen client_of m clients }
+    construction_put_view k c new stands =
+        let st = standing.Construction k c in
+        views (seen_put construction_of m n constructions k p c (ap construction_of (put_at m n st p new stands))
+        (λ q j at. ap construction_of (put_elsewhere m n st p new stands j (put_not m n st p new stands j (Some (id.Handler q)) (was.tied.heads q j at)))))
+        (seen_same client_of m n clients (λ q j at. ap client_of (put_elsewhere m n st p new stands j (put_not m n st p new stands j (Some (id.Client q)) (was.names q j at)))))
+
+    -- a client that gives its place back is no more in the view, and all others are as they were
+    pub client_out_view : (k : ℕ) → get clients k ≡ Some p → ((q : ℕ) → standing_at n q ≡ cond (nat_eq p q) None (standing_at m q))
+        → View n (remove clients k) constructions ≡ record { constructions = seen construction_of m constructions; clients = remove (seen client_of m clients) k }
+    client_out_view k is stands =
+        views (seen_same construction_of m n constructions (λ q j at. ap construction_of (out_elsewhere m n p stands j (apart_of_both k q p j is at))))
+        (seen_out client_of m n clients k (λ q j ne at. ap client_of (out_elsewhere m n p stands j (apart_of_clients k q p j ne is at))))
+
+    -- a construction that gives its place back is no more in the view, and all others are as they were
+    pub construction_out_view : (k : ℕ) → get constructions k ≡ Some p → ((q : ℕ) → standing_at n q ≡ cond (nat_eq p q) None (standing_at m q))
+        → View n clients (remove constructions k) ≡ record { constructions = remove (seen construction_of m constructions) k; clients = seen client_of m clients }
+    construction_out_view k is stands =
+        views (seen_out construction_of m n constructions k (λ q j ne at. ap construction_of (out_elsewhere m n p stands j
+        (apart_of_constructions k q p j ne is at))))
+        (seen_same client_of m n clients (λ q j at. ap client_of (out_elsewhere m n p stands j (λ e. apart_of_both q k j p at is (sym e)))))
+
+    -- the names of the clients, once one is there or gone
+    pub named_put : (st : Standing) → standing_at m p ≡ None → ((q : ℕ) → standing_at n q ≡ cond (nat_eq p q) (Some st) (standing_at m q))
+        → (q i : ℕ) → get clients q ≡ Some i → who_at n i ≡ Some (Some (id.Client q))
+    named_put st new stands q i at = put_who m n st p new stands i (Some (id.Client q)) (was.names q i at)
+
+    -- each client's number names its slot where a client takes a place
+    pub named_new : (k : ℕ) (s : Session) → standing_at m p ≡ None → ((q : ℕ) → standing_at n q ≡ cond (nat_eq p q) (Some (standing.Client k s)) (standing_at m q))
+        → (q i : ℕ) → get (insert clients k p) q ≡ Some i → who_at n i ≡ Some (Some (id.Client q))
+    named_new k s new stands q i is = elim (cases_eq q k) [
+      | inl e ↦
+          let same : p ≡ i = same_Some p i (sym (at_new clients k p q e) ∙ is) in
+          sym (ap (who_at n) same) ∙ ap (option_map who_of) (put_at m n (standing.Client k s) p new stands) ∙ ap (λ x. Some (Some (id.Client x))) (sym e)
+      | inr ne ↦ named_put (standing.Client k s) new stands q i (sym (at_other clients k p q ne) ∙ is)
+    ]
+
+    -- each client's number names its slot where a construction gives its place back
+    pub named_left : (k : ℕ) → get constructions k ≡ Some p → ((q : ℕ) → standing_at n q ≡ cond (nat_eq p q) None (standing_at m q))
+        → (q i : ℕ) → get clients q ≡ Some i → who_at n i ≡ Some (Some (id.Client q))
+    named_left k is stands q i at = ap (option_map who_of) (out_elsewhere m n p stands i (λ e. apart_of_both q k i p at is (sym e))) ∙ was.names q i at
+
+    -- each client's number names its slot where another client gives its place back
+    pub named_others : (k : ℕ) → get clients k ≡ Some p → ((q : ℕ) → standing_at n q ≡ cond (nat_eq p q) None (standing_at m q))
+        → (q i : ℕ) → get (remove clients k) q ≡ Some i → who_at n i ≡ Some (Some (id.Client q))
+    named_others k is stands q i e =
+        let other : k ≡ q → ⊥ = λ same. none-some i (sym (taken_out clients k q (sym same)) ∙ e) in
+        let at : get clients q ≡ Some i = sym (left_in clients k q (λ s. other (sym s))) ∙ e in
+        ap (option_map who_of) (out_elsewhere m n p stands i (apart_of_clients k q p i other is at)) ∙ was.names q i at
 
 -- removing a client that has no place leaves the view
 pub not_there_view : (m : Slots) (clients constructions : Index) (k : ℕ) → get clients k ≡ None
     → View m clients constructions ≡ record { constructions = seen construction_of m constructions; clients = remove (seen client_of m clients) k }
-not_there_view m clients constructions k none =
-    views (seen construction_of m constructions) (seen construction_of m constructions) (seen client_of m clients) (remove (seen client_of m clients) k) refl
-    (seen_not_out client_of m clients k none)
+not_there_view m clients constructions k none = views refl (seen_not_out client_of m clients k none)
 
 -- removing a construction that has no place leaves the view
 pub not_made_view : (m : Slots) (clients constructions : Index) (k : ℕ) → get constructions k ≡ None
     → View m clients constructions ≡ record { constructions = remove (seen construction_of m constructions) k; clients = seen client_of m clients }
-not_made_view m clients constructions k none =
-    views (seen construction_of m constructions) (remove (seen construction_of m constructions) k) (seen client_of m clients) (seen client_of m clients)
-    (seen_not_out construction_of m constructions k none) refl
+not_made_view m clients constructions k none = views (seen_not_out construction_of m constructions k none) refl
 
 -- one name fewer
 pub one_less : (index : Index) (k p : ℕ) → get index k ≡ Some p → len (remove index k) ≡ len index - 1

@@ -1,55 +1,11 @@
 -- What one sees by the names of an index, through changes of who stands in the slots.
-use Rattle.std.proofs.Common.{◌≡◌, ◌∙◌, ap, sym, refl, ℕ, Bool, true, false, cond, ◌||◌, ◌&&◌, T, List, [], ◌∷◌, length, inl, inr, arith}
-use Rattle.std.specs.Prelude.{Option, Some, None, option_map}
-use Rattle.std.specs.Prelude.{map as list_map}
-use Rattle.std.specs.Option.{option_map_or}
+use Rattle.rk_auth.proofs.Words.{◌∙◌, ap, sym, ◌≡◌, refl, ℕ, arith, inl, inr, ◌||◌, Bool, List, ◌∷◌, [], length, cases_eq, none-some, nat_cmp_total, get}
+use Rattle.rk_auth.proofs.Words.{remove, insert, len, same_map, nat_cmp-IsAntisymmetric, entries, get-entries, len-entries, option_map_or, Some, None, Option}
+use Rattle.rk_auth.proofs.Words.{option_map, list_map, get_in, get_changed_all, find_mapped, at_new, at_other, left_in, taken_out, get_changed_at, changed_at}
+use Rattle.rk_auth.proofs.Words.{changed_all, standing_at, seen, Standing, Index, Slots}
 use Rattle.std.specs.List.{list_any}
-use Rattle.std.specs.Ordering.{nat_cmp, eq_by_cmp, is_lt, is_eq}
-use Rattle.std.specs.declared.cmp.Ordering.{Ordering}
-use Rattle.std.specs.declared.cmp.Ordering.TheVariants.{Less, Equal, Greater}
-use Rattle.std.specs.Cmp.{nat_cmp_total}
-use Rattle.std.specs.FinMap.{FinMap, get, insert, remove, find, len, entries, is_sorted, entries_sorted, get-entries, len-entries, same_map, nat_cmp-IsAntisymmetric}
-use Rattle.std.specs.FinMap.Entries.{below_all}
-use Rattle.std.proofs.lemmas.Bool.{cases_eq}
-use Rattle.std.proofs.lemmas.Option.{none-some}
-use Rattle.rk_table.specs.Maps.{changed_at, changed_all}
-use Rattle.rk_table.proofs.Entries.{get_in, get_changed_all}
-use Rattle.rk_table.proofs.Gets.{get_changed_at, at_new, at_other, left_in, taken_out}
-use Rattle.rk_table.proofs.Once.{HasEachOnce, len_once, any_once}
-use Rattle.rk_auth.specs.declared.slot.Slot.{Slot}
-use Rattle.rk_auth.specs.declared.slot.Standing.{Standing}
-use Rattle.rk_auth.specs.Chains.{standing_at}
-use Rattle.rk_auth.specs.Seats.{seen}
+use Rattle.rk_table.proofs.Once.{HasEachOnce, len_once, any_once, entries_once}
 use Rattle.rk_auth.proofs.Links.{at_same, at_apart}
-
-abbrev Slots : Type 0
-Slots = FinMap nat_cmp Slot
-
-abbrev Index : Type 0
-Index = FinMap nat_cmp ℕ
-
--- ---- an index has each name once
-
-first : (a b : Bool) → T (a && b) → T a
-first true b h = tt
-first false b h = h
-
-second : (a b : Bool) → T (a && b) → T b
-second true b h = h
-second false b h = absurd h
-
-not_tied : (r : Ordering) → T (is_lt r) → is_eq r ≡ false
-not_tied Less h = refl
-not_tied Equal h = absurd h
-not_tied Greater h = absurd h
-
-none_above : (x : ℕ) (es : List (ℕ × ℕ)) → T (below_all nat_cmp x es) → find nat_cmp x es ≡ None
-none_above x [] h = refl
-none_above x (e ∷ es) h = ap (λ b. cond b (Some e.1) (find nat_cmp x es)) (not_tied (nat_cmp x e.0) (first _ _ h)) ∙ none_above x es (second _ _ h)
-
-once_sorted : (es : List (ℕ × ℕ)) → T (is_sorted nat_cmp es) → HasEachOnce es
-once_sorted [] h = tt
-once_sorted (e ∷ es) h = (none_above e.0 es (first _ _ h), once_sorted es (second _ _ h))
 
 -- ---- what is seen at a name
 
@@ -57,17 +13,9 @@ module _ {V : Type 0} where
   named_by : (g : ℕ → V) → List (ℕ × ℕ) → List (ℕ × V)
   named_by g es = list_map (λ (e : ℕ × ℕ). (e.0, g e.1)) es
 
-  found_if : (g : ℕ → V) (b : Bool) (i : ℕ) (o : Option ℕ) → cond b (Some (g i)) (option_map g o) ≡ option_map g (cond b (Some i) o)
-  found_if g true i o = refl
-  found_if g false i o = refl
-
-  find_named : (g : ℕ → V) (q : ℕ) (es : List (ℕ × ℕ)) → find nat_cmp q (list_map (λ (e : ℕ × ℕ). (e.0, g e.1)) es) ≡ option_map g (find nat_cmp q es)
-  find_named g q [] = refl
-  find_named g q (e ∷ es) = ap (cond (eq_by_cmp nat_cmp q e.0) (Some (g e.1))) (find_named g q es) ∙ found_if g (eq_by_cmp nat_cmp q e.0) e.1 (find nat_cmp q es)
-
   once_named : (g : ℕ → V) (es : List (ℕ × ℕ)) → HasEachOnce es → HasEachOnce (list_map (λ (e : ℕ × ℕ). (e.0, g e.1)) es)
   once_named g [] h = tt
-  once_named g (e ∷ es) h = (find_named g e.0 es ∙ ap (option_map g) h.0, once_named g es h.1)
+  once_named g (e ∷ es) h = (find_mapped g e.0 es ∙ ap (option_map g) h.0, once_named g es h.1)
 
   length_named : (g : ℕ → V) (es : List (ℕ × ℕ)) → length {A = ℕ × V} (list_map (λ (e : ℕ × ℕ). (e.0, g e.1)) es) ≡ length es
   length_named g [] = refl
@@ -84,7 +32,7 @@ module _ {V : Type 0} where
   module _ (pick : Option Standing → V) where
     pub seen_get : (m : Slots) (index : Index) (q : ℕ) → get (seen pick m index) q ≡ option_map (λ i. pick (standing_at m i)) (get index q)
     seen_get m index q =
-        get_in (list_map (λ (e : ℕ × ℕ). (e.0, pick (standing_at m e.1))) (entries index)) q ∙ find_named (λ i. pick (standing_at m i)) q (entries index)
+        get_in (list_map (λ (e : ℕ × ℕ). (e.0, pick (standing_at m e.1))) (entries index)) q ∙ find_mapped (λ i. pick (standing_at m i)) q (entries index)
         ∙ ap (option_map (λ i. pick (standing_at m i))) (sym (get-entries index q))
 
     -- what is seen by a name is what stands in its slot
@@ -107,7 +55,7 @@ module _ {V : Type 0} where
     pub seen_len : (m : Slots) (index : Index) → len (seen pick m index) ≡ len index
     seen_len m index =
         len_once (list_map (λ (e : ℕ × ℕ). (e.0, pick (standing_at m e.1))) (entries index))
-        (once_named (λ i. pick (standing_at m i)) (entries index) (once_sorted (entries index) (entries_sorted index)))
+        (once_named (λ i. pick (standing_at m i)) (entries index) (entries_once index))
         ∙ length_named (λ i. pick (standing_at m i)) (entries index) ∙ sym (len-entries index)
 
     -- a test passes one of what is seen exactly if it passes what stands in one of the index's slots
@@ -115,8 +63,7 @@ module _ {V : Type 0} where
         → list_any p (entries (seen pick m index)) ≡ list_any (λ (e : ℕ × ℕ). p (e.0, pick (standing_at m e.1))) (entries index)
     seen_any p m index =
         any_once p (list_map (λ (e : ℕ × ℕ). (e.0, pick (standing_at m e.1))) (entries index))
-        (once_named (λ i. pick (standing_at m i)) (entries index) (once_sorted (entries index) (entries_sorted index)))
-        ∙ any_named p (λ i. pick (standing_at m i)) (entries index)
+        (once_named (λ i. pick (standing_at m i)) (entries index) (entries_once index)) ∙ any_named p (λ i. pick (standing_at m i)) (entries index)
 
     -- nothing that the index names has changed
     pub seen_same : (m n : Slots) (index : Index) → ((q i : ℕ) → get index q ≡ Some i → pick (standing_at n i) ≡ pick (standing_at m i)) → seen pick n index ≡ seen pick m index

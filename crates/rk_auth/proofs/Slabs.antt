@@ -1,18 +1,11 @@
 -- A slab as a finite map.
-use Rattle.std.proofs.Common.{◌≡◌, ◌∙◌, ap, sym, subst, refl, ℕ, zero, suc, ◌+◌, ◌-◌, ◌<◌, ◌≤◌, Bool, true, false, cond, ◌||◌, List, [], ◌∷◌, length, get_or, inl, inr, zero-add, arith}
-use Rattle.std.specs.Prelude.{Option, Some, None, IsSome, OnSome, IfNone, is_some, nat_eq}
-use Rattle.std.specs.Option.{option_map_or}
-use Rattle.std.specs.Ordering.{nat_cmp}
-use Rattle.std.specs.Cmp.{nat_cmp_total}
+use Rattle.rk_auth.proofs.Words.{◌∙◌, ap, sym, ◌≡◌, subst, refl, ℕ, cond, arith, true, false, inl, inr, ◌||◌, Bool, List, ◌∷◌, [], ◌-◌, ◌<◌, ◌≤◌, length, ◌+◌}
+use Rattle.rk_auth.proofs.Words.{zero, suc, get_or, zero-add, cases_eq, eq-eqb, ne_eqb, nat_cmp_total, find, same_map, nat_cmp-IsAntisymmetric, from_entries}
+use Rattle.rk_auth.proofs.Words.{option_map_or, nat_cmp, Some, None, nat_eq, is_some, Option, IsSome, OnSome, IfNone, get_in, tie, at_new, at_other, left_in}
+use Rattle.rk_auth.proofs.Words.{taken_out, changed_at, has, EachOnce}
 use Rattle.std.specs.FinMap as map
-use Rattle.std.specs.FinMap.{from_entries, find, same_map, nat_cmp-IsAntisymmetric}
-use Rattle.std.proofs.lemmas.Bool.{cases_eq, eq-eqb, ne_eqb}
 use Rattle.slab.specs.Slab.{Slab, get, with_value, Updates, entries_from, entries, slab_len}
 use Rattle.slab.proofs.SlabLemmas.{Updates-with_value, length-entries}
-use Rattle.rk_table.specs.Maps.{changed_at}
-use Rattle.rk_table.proofs.Entries.{tie, get_in}
-use Rattle.rk_table.proofs.Gets.{at_new, at_other, left_in, taken_out}
-use Rattle.rk_auth.specs.Chains.{has, EachOnce}
 use Rattle.rk_auth.proofs.Lists.{not_more}
 
 keys : {T : Type 0} → List (ℕ × T) → List ℕ
@@ -66,8 +59,7 @@ module _ {T : Type 0} where
   -- a value that is changed at a place of the slab is changed in its map
   pub change_place : (s : Slab T) (k : ℕ) (f : T → T) (v w : T) → get s k ≡ Some v → w ≡ f v → facts_of (with_value s k w) ≡ changed_at k f (facts_of s)
   change_place s k f v w is by =
-      put_place s (with_value s k w) k w (Updates-with_value s k w (subst IsSome (sym is) refl))
-      ∙ ap (map.insert (facts_of s) k) by
+      put_place s (with_value s k w) k w (Updates-with_value s k w (subst IsSome (sym is) refl)) ∙ ap (map.insert (facts_of s) k) by
       ∙ sym (ap (λ o. option_map_or (λ x. map.insert (facts_of s) k (f x)) o (facts_of s)) (get_place s k ∙ is))
 
   -- a change at a place where there is nothing leaves the map of the slab

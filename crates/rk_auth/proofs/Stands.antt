@@ -1,34 +1,18 @@
 -- Who waits for what, through the changes of who stands in the slots.
-use Rattle.std.proofs.Common.{◌≡◌, ◌∙◌, ap, sym, subst, refl, ℕ, ◌⊎◌, Bool, true, false, cond, ◌||◌, List, [], ◌∷◌, inl, inr}
-use Rattle.std.specs.Prelude.{Option, Some, None, is_some, nat_eq, option_map, option_and_then, unwrap_or}
-use Rattle.std.specs.Ordering.{nat_cmp}
-use Rattle.std.specs.FinMap.{FinMap, get, insert, remove}
-use Rattle.std.proofs.lemmas.Bool.{both_ways, cases_eq}
-use Rattle.std.proofs.lemmas.Option.{none-some, same_Some}
-use Rattle.rk_names.specs.declared.numbers.SessionId.{SessionId}
+use Rattle.rk_auth.proofs.Words.{◌∙◌, ap, sym, ◌≡◌, subst, refl, ℕ, cond, true, false, inl, inr, ◌||◌, Bool, List, ◌∷◌, [], ◌⊎◌, cases_eq, none-some, same_Some}
+use Rattle.rk_auth.proofs.Words.{get, FinMap, remove, insert, nat_cmp, Some, None, nat_eq, is_some, Option, option_map, option_and_then, unwrap_or, of_choice}
+use Rattle.rk_auth.proofs.Words.{shadow, at_new, at_other, left_in, taken_out, get_inserted, get_removed, changed_at, SessionId, standing_at, home_at}
+use Rattle.rk_auth.proofs.Words.{AreChained, has, standing_in, home_in, in_standing, first_in, next_in, first_at, IsChainOf, link_in, before_in}
+use Rattle.rk_auth.proofs.Words.{changed_each_at, IsTied, who_at, who_of, waited_in, same_home, home_for, Link, Slot, Standing, Slots}
 use Rattle.rk_names.specs.declared.numbers.SessionId.TheVariants as id
-use Rattle.rk_table.specs.Maps.{changed_at}
-use Rattle.rk_table.proofs.Gets.{at_new, at_other, left_in, taken_out}
-use Rattle.rk_auth.specs.declared.slot.Slot.{Slot}
-use Rattle.rk_auth.specs.declared.slot.Link.{Link}
-use Rattle.rk_auth.specs.declared.slot.Standing.{Standing}
-use Rattle.rk_auth.specs.Chains.{has, standing_in, first_in, home_in, next_in, before_in, standing_at, first_at, home_at, IsChainOf, AreChained, in_standing, changed_each_at}
-use Rattle.rk_auth.specs.Seats.{who_of, who_at, waited_in, home_for, same_home, IsTied}
 use Rattle.rk_auth.proofs.Links.{at_same, at_apart}
 use Rattle.rk_auth.proofs.Chained.{untouched, changed, heads, chained_same}
-
-abbrev Slots : Type 0
-Slots = FinMap nat_cmp Slot
 
 -- ---- options
 
 none_of : (o : Option ℕ) → ((v : ℕ) → o ≡ Some v → ⊥) → o ≡ None
 none_of None h = refl
 none_of (Some v) h = absurd (h v refl)
-
-pub none_said : {X : Type 0} (o : Option X) → is_some o ≡ false → o ≡ None
-none_said None t = refl
-none_said (Some v) t = absurd (both_ways _ t refl)
 
 -- ---- one is put in
 
@@ -54,20 +38,13 @@ module _ (m : Slots) (p : ℕ) (st : Standing) (none : get m p ≡ None) where
 
   -- who is put into a new slot stands there, and all others as before
   pub put_stands : (q : ℕ) → standing_at (insert m p (new_slot st)) q ≡ cond (nat_eq p q) (Some st) (standing_at m q)
-  put_stands q = elim (cases_eq p q) [
-    | inl e ↦ ap standing_in (at_new m p (new_slot st) q (sym e)) ∙ sym (at_same p q (Some st) (standing_at m q) e)
-    | inr ne ↦ ap standing_in (at_other m p (new_slot st) q (λ e. ne (sym e))) ∙ sym (at_apart p q (Some st) (standing_at m q) ne)
-  ]
+  put_stands q = ap standing_in (get_inserted m p (new_slot st) q) ∙ of_choice standing_in (nat_eq p q) (Some (new_slot st)) (get m q)
 
 -- ---- one is taken out
 
-no_next : (o : Option Slot) → home_in o ≡ None → next_in o ≡ None
-no_next None e = refl
-no_next (Some s) e = elim s.link as (λ k. option_map (λ (l : Link). l.home) k ≡ None → option_and_then (λ (l : Link). l.next) k ≡ None) [ None ↦ λ e. refl | Some l ↦ λ e. absurd (none-some l.home (sym e)) ] e
-
-no_before : (o : Option Slot) → home_in o ≡ None → before_in o ≡ None
-no_before None e = refl
-no_before (Some s) e = elim s.link as (λ k. option_map (λ (l : Link). l.home) k ≡ None → option_and_then (λ (l : Link). l.before) k ≡ None) [ None ↦ λ e. refl | Some l ↦ λ e. absurd (none-some l.home (sym e)) ] e
+no_part : (part : Link → Option ℕ) (o : Option Link) → option_map (λ (l : Link). l.home) o ≡ None → option_and_then part o ≡ None
+no_part part None e = refl
+no_part part (Some l) e = absurd (none-some l.home (sym e))
 
 module _ (m : Slots) (p : ℕ) (idle : home_at m p ≡ None) (chained : AreChained m) (alone : (q : ℕ) → home_at m q ≡ Some p → ⊥) where
   out_part : {X : Type 0} (P : Option Slot → X) → P (get m p) ≡ P None → (q : ℕ) → P (get (remove m p) q) ≡ P (get m q)
@@ -79,7 +56,7 @@ module _ (m : Slots) (p : ℕ) (idle : home_at m p ≡ None) (chained : AreChain
   -- removing a slot that is in no chain and heads none leaves the slots chained
   pub out_chained : AreChained (remove m p)
   out_chained =
-      chained_same m (remove m p) chained (out_part next_in (no_next (get m p) idle)) (out_part before_in (no_before (get m p) idle))
+      chained_same m (remove m p) chained (out_part next_in (no_part (λ l. l.next) (link_in (get m p)) idle)) (out_part before_in (no_part (λ l. l.before) (link_in (get m p)) idle))
       (out_part first_in (none_of (first_at m p) (λ j e. alone j (heads m chained j p e).0))) (out_part home_in idle)
 
   -- removing a slot that is in no chain leaves the chain of each place
@@ -88,10 +65,7 @@ module _ (m : Slots) (p : ℕ) (idle : home_at m p ≡ None) (chained : AreChain
 
 -- after a slot is removed nobody stands there, and all others as before
 pub out_stands : (m : Slots) (p q : ℕ) → standing_at (remove m p) q ≡ cond (nat_eq p q) None (standing_at m q)
-out_stands m p q = elim (cases_eq p q) [
-  | inl e ↦ ap standing_in (taken_out m p q (sym e)) ∙ sym (at_same p q None (standing_at m q) e)
-  | inr ne ↦ ap standing_in (left_in m p q (λ e. ne (sym e))) ∙ sym (at_apart p q None (standing_at m q) ne)
-]
+out_stands m p q = ap standing_in (get_removed m p q) ∙ of_choice standing_in (nat_eq p q) None (get m q)
 
 -- if nobody was in the chain of p, nobody is in it once the place p is taken out of its own
 pub still_alone : (p q : ℕ) (o : Option ℕ) → (o ≡ Some p → ⊥) → cond (nat_eq p q) None o ≡ Some p → ⊥
@@ -103,40 +77,24 @@ still_alone p q o h e = elim (cases_eq p q) [
 -- ---- one is changed
 
 module _ (f : Standing → Standing) where
-  kept_next : (o : Option Slot) → next_in (option_map (in_standing f) o) ≡ next_in o
-  kept_next None = refl
-  kept_next (Some s) = refl
-
-  kept_before : (o : Option Slot) → before_in (option_map (in_standing f) o) ≡ before_in o
-  kept_before None = refl
-  kept_before (Some s) = refl
-
-  kept_first : (o : Option Slot) → first_in (option_map (in_standing f) o) ≡ first_in o
-  kept_first None = refl
-  kept_first (Some s) = refl
-
-  kept_home : (o : Option Slot) → home_in (option_map (in_standing f) o) ≡ home_in o
-  kept_home None = refl
-  kept_home (Some s) = refl
-
   made_standing : (o : Option Slot) → standing_in (option_map (in_standing f) o) ≡ option_map f (standing_in o)
   made_standing None = refl
   made_standing (Some s) = refl
 
   pub changed_chained : (m : Slots) (p : ℕ) → AreChained m → AreChained (changed_at p (in_standing f) m)
   changed_chained m p chained =
-      chained_same m (changed_at p (in_standing f) m) chained (untouched next_in p (in_standing f) kept_next m) (untouched before_in p (in_standing f) kept_before m)
-      (untouched first_in p (in_standing f) kept_first m) (untouched home_in p (in_standing f) kept_home m)
+      chained_same m (changed_at p (in_standing f) m) chained (untouched next_in p (in_standing f) (λ s. refl) m) (untouched before_in p (in_standing f) (λ s. refl) m)
+      (untouched first_in p (in_standing f) (λ s. refl) m) (untouched home_in p (in_standing f) (λ s. refl) m)
 
   pub changed_homes : (m : Slots) (p q : ℕ) → home_at (changed_at p (in_standing f) m) q ≡ home_at m q
-  changed_homes m p q = untouched home_in p (in_standing f) kept_home m q
+  changed_homes m p q = untouched home_in p (in_standing f) (λ s. refl) m q
 
   pub changed_stands : (m : Slots) (p q : ℕ) → standing_at (changed_at p (in_standing f) m) q ≡ cond (nat_eq p q) (option_map f (standing_at m q)) (standing_at m q)
   changed_stands m p q = changed standing_in p (in_standing f) m q ∙ ap (λ x. cond (nat_eq p q) x (standing_at m q)) (made_standing (get m q))
 
   -- ---- the waiters of a chain are changed
 
-  each_part : {X : Type 0} (P : Option Slot → X) → ((o : Option Slot) → P (option_map (in_standing f) o) ≡ P o) → (xs : List ℕ) (m : Slots) (q : ℕ)
+  each_part : {X : Type 0} (P : Option Slot → X) → ((s : Slot) → P (Some (in_standing f s)) ≡ P (Some s)) → (xs : List ℕ) (m : Slots) (q : ℕ)
       → P (get (changed_each_at (in_standing f) xs m) q) ≡ P (get m q)
   each_part P same [] m q = refl
   each_part P same (x ∷ xs) m q = each_part P same xs (changed_at x (in_standing f) m) q ∙ untouched P x (in_standing f) same m q
@@ -144,12 +102,12 @@ module _ (f : Standing → Standing) where
   -- a change of who stands at some places leaves the slots chained
   pub each_chained : (xs : List ℕ) (m : Slots) → AreChained m → AreChained (changed_each_at (in_standing f) xs m)
   each_chained xs m chained =
-      chained_same m (changed_each_at (in_standing f) xs m) chained (each_part next_in kept_next xs m) (each_part before_in kept_before xs m)
-      (each_part first_in kept_first xs m) (each_part home_in kept_home xs m)
+      chained_same m (changed_each_at (in_standing f) xs m) chained (each_part next_in (λ s. refl) xs m) (each_part before_in (λ s. refl) xs m)
+      (each_part first_in (λ s. refl) xs m) (each_part home_in (λ s. refl) xs m)
 
   -- a change of who stands at some places leaves the chain of each
   pub each_homes : (xs : List ℕ) (m : Slots) (q : ℕ) → home_at (changed_each_at (in_standing f) xs m) q ≡ home_at m q
-  each_homes xs m q = each_part home_in kept_home xs m q
+  each_homes xs m q = each_part home_in (λ s. refl) xs m q
 
   module _ (settled : (s : Standing) → f (f s) ≡ f s) where
     twice : (o : Option Standing) → option_map f (option_map f o) ≡ option_map f o
@@ -164,8 +122,7 @@ module _ (f : Standing → Standing) where
     each_stands : (xs : List ℕ) (m : Slots) (q : ℕ) → standing_at (changed_each_at (in_standing f) xs m) q ≡ cond (has xs q) (option_map f (standing_at m q)) (standing_at m q)
     each_stands [] m q = refl
     each_stands (x ∷ xs) m q =
-        each_stands xs (changed_at x (in_standing f) m) q
-        ∙ ap (λ o. cond (has xs q) (option_map f o) o) (changed_stands m x q)
+        each_stands xs (changed_at x (in_standing f) m) q ∙ ap (λ o. cond (has xs q) (option_map f o) o) (changed_stands m x q)
         ∙ once_more (nat_eq x q) (has xs q) (standing_at m q)
 
     -- a change of who stands at each place of a chain changes exactly those whose chain it is
@@ -262,7 +219,3 @@ module _ (f : Standing → Standing) (m n : Slots) (index : FinMap nat_cmp ℕ) 
         | inl here ↦ inl (sym (same_Some h g e) ∙ here)
         | inr is ↦ inr (ap (option_and_then (get index)) key ∙ is ∙ e)
       ])
-    where
-      shadow : (b : Bool) (x y z : Option ℕ) → cond b x (cond b y z) ≡ cond b x z
-      shadow true x y z = refl
-      shadow false x y z = refl

@@ -1,34 +1,18 @@
 -- All who wait for a key get its outcome, where those of two chains do.
-use Rattle.std.proofs.Common.{◌≡◌, ◌∙◌, ap, sym, subst, refl, ℕ, ◌⊎◌, Bool, true, false, cond, ◌||◌, inl, inr}
-use Rattle.std.specs.Prelude.{Option, Some, None, is_some, nat_eq, option_map, option_and_then}
-use Rattle.std.specs.Ordering.{nat_cmp}
-use Rattle.std.specs.FinMap.{FinMap, get}
-use Rattle.std.proofs.lemmas.Bool.{both_ways, cases_eq, ne_eqb}
-use Rattle.std.proofs.lemmas.Option.{none-some, same_Some}
+use Rattle.rk_auth.proofs.Words.{◌∙◌, ap, sym, ◌≡◌, subst, refl, ℕ, cond, true, false, inl, inr, ◌||◌, Bool, ◌⊎◌, both_ways, cases_eq, ne_eqb, none-some}
+use Rattle.rk_auth.proofs.Words.{same_Some, get, Some, None, nat_eq, is_some, Option, option_map, option_and_then, shadow, standing_at, home_at, AreChained}
+use Rattle.rk_auth.proofs.Words.{in_handler, all_told, in_stage, told_wait, told, client_of, construction_of, IsTied, who_at, who_of, waited_in, in_session}
+use Rattle.rk_auth.proofs.Words.{same_home, waited_of, AreBothTold, handler_in, waited_key, Session, Standing, Index, Slots}
 use Rattle.rk_names.specs.declared.numbers.SessionId.TheVariants as id
-use Rattle.rk_table.specs.Maps.{changed_all}
-use Rattle.rk_auth.specs.declared.session.Session.{Session}
 use Rattle.rk_auth.specs.declared.session.Wait.{Wait}
 use Rattle.rk_auth.specs.declared.session.Outcome.{Outcome}
 use Rattle.rk_auth.specs.declared.construction.Stage.{Stage}
-use Rattle.rk_auth.specs.declared.construction.Stage.TheVariants.{Starting, Plain, Piped, Negating}
-use Rattle.rk_auth.specs.declared.slot.Slot.{Slot}
-use Rattle.rk_auth.specs.declared.slot.Standing.{Standing}
+use Rattle.rk_auth.specs.declared.construction.Stage.TheVariants.{Plain}
 use Rattle.rk_auth.specs.declared.slot.Standing.TheVariants as standing
-use Rattle.rk_auth.specs.Sessions.{waited_key, handler_in}
-use Rattle.rk_auth.specs.Changes.{in_stage, in_handler, told_wait, told, all_told}
-use Rattle.rk_auth.specs.Chains.{standing_at, home_at, AreChained}
-use Rattle.rk_auth.specs.Seats.{who_of, who_at, waited_of, waited_in, client_of, construction_of, in_session, same_home, seen, IsTied, AreBothTold}
 use Rattle.rk_auth.proofs.Links.{is_named}
 use Rattle.rk_auth.proofs.Seen.{seen_all}
 use Rattle.rk_auth.proofs.Stands.{who_kept}
 use Rattle.rk_auth.proofs.Seated.{View, views, made_client, made_handler, session_who}
-
-abbrev Slots : Type 0
-Slots = FinMap nat_cmp Slot
-
-abbrev Index : Type 0
-Index = FinMap nat_cmp ℕ
 
 module _ (k : ℕ) (outcome : Outcome) where
   -- ---- one gets the outcome
@@ -44,10 +28,8 @@ module _ (k : ℕ) (outcome : Outcome) where
   session_same s ne = ap {B = Session} (λ x. record s { wait = x }) (waits_same s.wait ne)
 
   stage_same : (st : Stage) → (option_and_then waited_key (handler_in st) ≡ Some k → ⊥) → in_stage (told k outcome) st ≡ st
-  stage_same Starting ne = refl
   stage_same (Plain s) ne = ap Plain (session_same s ne)
-  stage_same Piped ne = refl
-  stage_same Negating ne = refl
+  stage_same _ ne = refl
 
   standing_same : (s : Standing) → (waited_of s ≡ Some k → ⊥) → in_session (told k outcome) s ≡ s
   standing_same standing.Nobody ne = refl
@@ -60,22 +42,16 @@ module _ (k : ℕ) (outcome : Outcome) where
 
   -- ---- getting an outcome twice is as getting it once
 
-  shadow : (b : Bool) (x y : Option Outcome) → cond b x (cond b x y) ≡ cond b x y
-  shadow true x y = refl
-  shadow false x y = refl
-
   waits_twice : (o : Option Wait) → option_map (told_wait k outcome) (option_map (told_wait k outcome) o) ≡ option_map (told_wait k outcome) o
   waits_twice None = refl
-  waits_twice (Some w) = ap {B = Option Wait} (λ x. Some (record w { outcome = x })) (shadow (nat_eq w.key k) (Some outcome) w.outcome)
+  waits_twice (Some w) = ap {B = Option Wait} (λ x. Some (record w { outcome = x })) (shadow (nat_eq w.key k) (Some outcome) (Some outcome) w.outcome)
 
   session_twice : (s : Session) → told k outcome (told k outcome s) ≡ told k outcome s
   session_twice s = ap {B = Session} (λ x. record s { wait = x }) (waits_twice s.wait)
 
   stage_twice : (st : Stage) → in_stage (told k outcome) (in_stage (told k outcome) st) ≡ in_stage (told k outcome) st
-  stage_twice Starting = refl
   stage_twice (Plain s) = ap Plain (session_twice s)
-  stage_twice Piped = refl
-  stage_twice Negating = refl
+  stage_twice _ = refl
 
   -- getting the outcome of a key twice is as getting it once
   pub standing_twice : (s : Standing) → in_session (told k outcome) (in_session (told k outcome) s) ≡ in_session (told k outcome) s
@@ -90,10 +66,8 @@ module _ (k : ℕ) (outcome : Outcome) where
   waits_kept (Some w) = refl
 
   stage_kept : (st : Stage) → option_and_then waited_key (handler_in (in_stage (told k outcome) st)) ≡ option_and_then waited_key (handler_in st)
-  stage_kept Starting = refl
   stage_kept (Plain s) = waits_kept s.wait
-  stage_kept Piped = refl
-  stage_kept Negating = refl
+  stage_kept _ = refl
 
   standing_kept : (s : Standing) → waited_of (in_session (told k outcome) s) ≡ waited_of s
   standing_kept standing.Nobody = refl
@@ -165,8 +139,7 @@ module _ (k : ℕ) (outcome : Outcome) where
     stands : (q : ℕ) → standing_at n q ≡ option_map (in_session (told k outcome)) (standing_at m q)
     stands q = is_told.standing q ∙ by_wait (waited_in (standing_at m q)) refl
       where
-        by_wait : (o : Option ℕ) → waited_in (standing_at m q) ≡ o
-            → cond (same_home (Some nobody) (home_at m q))
+        by_wait : (o : Option ℕ) → waited_in (standing_at m q) ≡ o → cond (same_home (Some nobody) (home_at m q))
             (option_map (in_session (told k outcome)) (cond (same_home (get index k) (home_at m q)) (option_map (in_session (told k outcome)) (standing_at m q)) (standing_at m q)))
             (cond (same_home (get index k) (home_at m q)) (option_map (in_session (told k outcome)) (standing_at m q)) (standing_at m q))
             ≡ option_map (in_session (told k outcome)) (standing_at m q)
@@ -203,7 +176,5 @@ module _ (k : ℕ) (outcome : Outcome) where
       -- where both chains get the outcome, every session that waits for the key has it
       pub told_view : View n clients index ≡ all_told k outcome (View m clients index)
       told_view =
-          views (seen construction_of n index) (changed_all (in_handler (told k outcome)) (seen construction_of m index)) (seen client_of n clients)
-          (changed_all (told k outcome) (seen client_of m clients))
-          (seen_all construction_of m n index (in_handler (told k outcome)) (λ q i is. ap construction_of (stands i) ∙ made_handler (told k outcome) (standing_at m i) q (tied.heads q i is)))
+          views (seen_all construction_of m n index (in_handler (told k outcome)) (λ q i is. ap construction_of (stands i) ∙ made_handler (told k outcome) (standing_at m i) q (tied.heads q i is)))
           (seen_all client_of m n clients (told k outcome) (λ q i is. ap client_of (stands i) ∙ made_client (told k outcome) (standing_at m i) q (named q i is)))

@@ -1,20 +1,11 @@
 -- A walk of as many steps as there are constructions finds what any walk finds.
-use Rattle.std.proofs.Common.{◌≡◌, ◌⊎◌, ℕ, zero, suc, ◌≤◌, Bool, true, false, cond, ◌||◌, ◌-◌, refl, ap, sym, ◌∙◌, subst, inl, inr, arith}
-use Rattle.std.specs.Prelude.{Option, Some, None, nat_eq, option_and_then, option_map, is_some}
-use Rattle.std.specs.Option.{option_map_or}
-use Rattle.std.specs.Ordering.{nat_cmp}
-use Rattle.std.specs.Cmp.{nat_cmp_total}
-use Rattle.std.specs.FinMap.{FinMap, get, remove, len, get-remove, get-empty, empty_of_len, len-remove, contains_key}
-use Rattle.std.proofs.lemmas.Bool.{eq-eqb, ne_eqb, eqb-true, both_ways}
-use Rattle.rk_auth.specs.declared.construction.Construction.{Construction}
-use Rattle.rk_table.specs.Says.{Says}
-use Rattle.rk_auth.specs.Walk.{next_of, waited_key, leads_within}
-use Rattle.rk_table.proofs.Entries.{tie}
+use Rattle.rk_auth.proofs.Words.{◌∙◌, ap, sym, ◌≡◌, subst, refl, ℕ, cond, arith, true, false, inl, inr, ◌||◌, Bool, ◌-◌, ◌⊎◌, ◌≤◌, zero, suc, both_ways, eq-eqb}
+use Rattle.rk_auth.proofs.Words.{ne_eqb, eqb-true, nat_cmp_total, get, FinMap, remove, len, get-empty, empty_of_len, len-remove, get-remove, contains_key}
+use Rattle.rk_auth.proofs.Words.{option_map_or, nat_cmp, Some, None, nat_eq, is_some, Option, option_map, option_and_then, tie, Says, SessionId, Leads, its_own}
+use Rattle.rk_auth.proofs.Words.{further, next_key, Sessions, handler_in, leads_within, next_of, Construction}
+use Rattle.rk_auth.specs.Walk.{waited_key}
 use Rattle.std.specs.FinMap as map
-use Rattle.rk_names.specs.declared.numbers.SessionId.{SessionId}
 use Rattle.rk_names.specs.declared.numbers.SessionId.TheVariants.{Client, Handler}
-use Rattle.rk_auth.specs.Sessions.{Sessions, handler_in}
-use Rattle.rk_auth.specs.Circles.{Leads, its_own, further, next_key}
 
 -- from k, by the key on which a handler waits, one comes to own
 pub data LeadsIn : (m : FinMap nat_cmp Construction) (k own : ℕ) → Type 0 where

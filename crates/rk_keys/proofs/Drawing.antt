@@ -1,17 +1,10 @@
 -- Serials drawn in rising order: the next is above all that were drawn.
-use Rattle.std.proofs.Common.{◌≡◌, ◌∙◌, ap, sym, subst, ℕ, zero, suc, ◌+◌, ◌*◌, ◌-◌, ◌^◌, ◌<◌, ◌≤◌, arith, add-one, false, true, ◌||◌, refl, ltb, cond, min}
-use Rattle.std.specs.Prelude.{nat_eq, Option, Some, None, MatchOption, is_some}
-use Rattle.std.specs.Ordering.{nat_cmp, eq_by_cmp}
-use Rattle.std.specs.Cmp.{nat_cmp_total}
-use Rattle.std.specs.FinSet.{contains, contains-insert}
-use Rattle.std.proofs.lemmas.Bool.{eq-eqb, eqb-true, both_ways, ltb-false, ltb-true}
-use Rattle.std.proofs.Math.Bool.{or-true}
+use Rattle.rk_keys.proofs.Words.{◌∙◌, ap, ◌≡◌, refl, sym, ℕ, subst, ◌<◌, false, cond, arith, ◌-◌, ◌≤◌, true, ◌+◌, suc, zero, ◌||◌, ◌^◌, add-one, ◌*◌, ltb, min}
+use Rattle.rk_keys.proofs.Words.{or-true, both_ways, eq-eqb, eqb-true, ltb-false, ltb-true, nat_cmp_total, contains, contains-insert, nat_cmp, eq_by_cmp, Some}
+use Rattle.rk_keys.proofs.Words.{None, Option, nat_eq, is_some, MatchOption, tie, Says, drawn_in_order, first_of_form, not_below, Drawn, IsNext, with_drawn}
+use Rattle.rk_keys.proofs.Words.{HasSerials, IsDrawable, HasFrom}
 use Rattle.std.proofs.Math.Nat.{mul-le-mul_left}
 use Rattle.rk_names.specs.Numbers.{serial_of}
-use Rattle.rk_table.specs.Says.{Says}
-use Rattle.rk_keys.specs.Serials.{Drawn, IsDrawable, HasFrom, HasSerials, IsNext, with_drawn}
-use Rattle.rk_keys.specs.Drawing.{first_of_form, drawn_in_order, not_below}
-use Rattle.rk_table.proofs.Entries.{tie}
 
 -- ---- what is among the first n
 

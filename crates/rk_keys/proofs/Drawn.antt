@@ -1,11 +1,7 @@
 -- What a draw leaves, for those who draw: the next serial is fresh, and one fewer is left.
-use Rattle.std.proofs.Common.{◌≡◌, ◌∙◌, ap, sym, ℕ, zero, suc, ◌+◌, ◌<◌, ◌≤◌, arith, add-one, subst, false, ◌||◌, refl}
-use Rattle.std.specs.Ordering.{nat_cmp, eq_by_cmp}
-use Rattle.std.specs.Cmp.{nat_cmp_total}
-use Rattle.std.specs.FinSet.{contains, insert, contains-insert}
-use Rattle.std.proofs.lemmas.Bool.{ne_eqb, or_parts}
-use Rattle.rk_table.proofs.Entries.{tie}
-use Rattle.rk_keys.specs.Serials.{Drawn, IsDrawable, IsFresh, HasFrom, HasSerials, IsNext, Extends, with_drawn}
+use Rattle.rk_keys.proofs.Words.{◌∙◌, ap, ◌≡◌, refl, sym, ℕ, subst, ◌<◌, false, arith, ◌≤◌, ◌+◌, suc, zero, ◌||◌, add-one, ne_eqb, or_parts, nat_cmp_total}
+use Rattle.rk_keys.proofs.Words.{contains, contains-insert, insert, nat_cmp, eq_by_cmp, tie, Drawn, IsNext, with_drawn, HasSerials, IsDrawable, HasFrom}
+use Rattle.rk_keys.proofs.Words.{Extends, IsFresh}
 
 -- the next serial was never drawn
 pub IsNext-IsFresh : (d : Drawn) (k : ℕ) → 1 ≤ d.first → IsNext d k → IsFresh d k

@@ -1,19 +1,10 @@
 -- What is known of the keys holds together through each change.
-use Rattle.std.proofs.Common.{◌≡◌, ◌∙◌, ap, sym, refl, ℕ, Bool, true, false, cond, inl, inr}
-use Rattle.std.specs.Prelude.{Option, Some, None, ◌==◌, is_some, nat_eq, option_map}
-use Rattle.std.specs.Ordering.{nat_cmp, eq_by_cmp}
-use Rattle.std.specs.Cmp.{nat_cmp_total, nat_eq_equiv}
+use Rattle.rk_keys.proofs.Words.{◌∙◌, ap, ◌≡◌, refl, sym, ℕ, false, cond, true, Bool, inl, inr, both_ways, eq-eqb, or_parts, cases_eq, none-some, same_Some}
+use Rattle.rk_keys.proofs.Words.{nat_cmp_total, nat_eq_equiv, nat_cmp, eq_by_cmp, Some, None, Option, nat_eq, is_some, option_map, ◌==◌, tie, get_changed_at}
+use Rattle.rk_keys.proofs.Words.{at_new, taken_out, at_other, left_in, contains_key_changed_at, have_one_name, Known, IsHeld, concluded, IsNaming, marked}
+use Rattle.rk_keys.proofs.Words.{timed, with_key_changed, without_key, Drawn, with_drawn, Condition, Key}
 use Rattle.std.specs.FinMap as map
 use Rattle.std.specs.FinSet as set
-use Rattle.std.proofs.lemmas.Bool.{eq-eqb, both_ways, cases_eq, or_parts}
-use Rattle.std.proofs.lemmas.Option.{none-some, same_Some}
-use Rattle.rk_table.proofs.Entries.{tie}
-use Rattle.rk_table.proofs.Gets.{get_changed_at, contains_key_changed_at, at_new, at_other, left_in, taken_out}
-use Rattle.rk_keys.specs.declared.key.Key.{Key}
-use Rattle.rk_keys.specs.declared.key.Condition.{Condition}
-use Rattle.rk_keys.specs.Key.{have_one_name}
-use Rattle.rk_keys.specs.Serials.{Drawn, with_drawn}
-use Rattle.rk_keys.specs.Known.{Known, IsNaming, IsHeld, with_key_changed, without_key, concluded, marked, timed}
 use Rattle.rk_keys.proofs.Names.{SharesNumber, have_one_name-sym, have_one_name-refl, have_one_name-same, stays_drawn}
 
 -- ---- a map with one entry put in or taken out

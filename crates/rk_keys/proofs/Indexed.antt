@@ -1,25 +1,12 @@
 -- How many keys have each name, and their number: what it tells, and what keeps it through each change.
-use Rattle.std.proofs.Common.{◌≡◌, ◌∙◌, ℕ, zero, suc, ◌+◌, ◌-◌, ◌<◌, ◌≤◌, Bool, true, false, cond, ◌&&◌, not, List, [], ◌∷◌, length, refl, ap, sym, inl, inr, arith}
-use Rattle.std.specs.Prelude.{Option, Some, None, is_some, nat_eq, nat_le, option_map, unwrap_or, IfSome}
-use Rattle.std.specs.Prelude.{find as list_find}
-use Rattle.std.specs.Option.{option_map_or}
-use Rattle.std.specs.Ordering.{nat_cmp}
+use Rattle.rk_keys.proofs.Words.{◌∙◌, ap, ◌≡◌, refl, sym, ℕ, ◌<◌, false, cond, arith, List, ◌-◌, ◌≤◌, true, Bool, ◌+◌, suc, inl, inr, not, zero, [], ◌∷◌, ◌&&◌}
+use Rattle.rk_keys.proofs.Words.{length, both_ways, eq-eqb, ne_eqb, cases_eq, false_from_ne_true, true_from_ne_false, nat_tests, none-some, same_Some}
+use Rattle.rk_keys.proofs.Words.{nat_cmp_total, option_map_or, nat_cmp, Some, None, Option, nat_eq, unwrap_or, is_some, option_map, list_find, nat_le, IfSome}
+use Rattle.rk_keys.proofs.Words.{passing, tie, get_changed_at, at_new, taken_out, at_other, left_in, get_kept_where, none_kept, kept_len-empty, kept_len-insert}
+use Rattle.rk_keys.proofs.Words.{kept_len-remove, kept_len-remove_none, kept_len-changed, changed_at, kept_where, is_of, kept_of, counted_in, name_hash}
+use Rattle.rk_keys.proofs.Words.{is_same, count_of, counted_out, IsIndex, number_in, keys_named, has_name, is_named, Known, IsHeld, Key, Named}
 use Rattle.std.specs.FinMap as map
 use Rattle.std.specs.FinSet as set
-use Rattle.std.specs.Cmp.{nat_cmp_total}
-use Rattle.std.proofs.lemmas.Bool.Decides.{nat_tests}
-use Rattle.std.proofs.lemmas.Bool.{eq-eqb, ne_eqb, both_ways, cases_eq, false_from_ne_true, true_from_ne_false}
-use Rattle.std.proofs.lemmas.Option.{none-some, same_Some}
-use Rattle.rk_lemmas.proofs.Options.{passing}
-use Rattle.rk_table.specs.Maps.{changed_at, kept_where}
-use Rattle.rk_table.proofs.Entries.{tie}
-use Rattle.rk_table.proofs.Gets.{get_kept_where, none_kept, get_changed_at, at_new, at_other, left_in, taken_out}
-use Rattle.rk_table.proofs.KeptCounts.{kept_len-empty, kept_len-insert, kept_len-remove, kept_len-remove_none, kept_len-changed}
-use Rattle.rk_keys.specs.declared.key.Key.{Key}
-use Rattle.rk_keys.specs.declared.named.Named.{Named}
-use Rattle.rk_keys.specs.Key.{has_name, is_named}
-use Rattle.rk_keys.specs.Buckets.{name_hash, is_same, is_of, kept_of, count_of, number_in, counted_in, counted_out, keys_named, IsIndex}
-use Rattle.rk_keys.specs.Known.{Known, IsHeld}
 use Rattle.rk_keys.proofs.Held.{KeepsName}
 use Rattle.rk_keys.proofs.Kept.{same_names}
 

@@ -1,18 +1,10 @@
 -- What is kept of names: what is found under their hashes after each change.
-use Rattle.std.proofs.Common.{◌≡◌, ◌∙◌, ℕ, ◌-◌, ◌<◌, ◌≤◌, Bool, true, false, cond, not, List, [], ◌∷◌, ◌++◌, refl, ap, sym, subst, arith}
-use Rattle.std.specs.Prelude.{Option, Some, None, filter, nat_eq, nat_le, bytes_eq, option_map, unwrap_or}
-use Rattle.std.specs.Option.{option_or}
-use Rattle.std.specs.Prelude.{find as list_find, map as list_map}
-use Rattle.std.specs.Ordering.{nat_cmp}
+use Rattle.rk_keys.proofs.Words.{◌∙◌, ap, ◌≡◌, refl, sym, ℕ, subst, ◌<◌, false, cond, arith, List, ◌-◌, ◌≤◌, true, Bool, not, [], ◌∷◌, ◌++◌, filter, both_ways}
+use Rattle.rk_keys.proofs.Words.{eq-eqb, eqb-true, false_from_ne_true, and_parts, and_from, nat_tests, bytes_eq-Decides, option_or, nat_cmp, Some, None, Option}
+use Rattle.rk_keys.proofs.Words.{nat_eq, unwrap_or, list_map, option_map, list_find, nat_le, bytes_eq, of_choice, shadow, get_changed_at, get_inserted}
+use Rattle.rk_keys.proofs.Words.{get_removed, changed_at, names_at, recounted, is_of, kept_of, counted_in, name_hash, is_same, count_of, counted_out, Named}
 use Rattle.std.specs.FinMap as map
-use Rattle.std.proofs.lemmas.Bool.Decides.{nat_tests}
-use Rattle.std.proofs.lemmas.Bool.{eq-eqb, eqb-true, both_ways, and_parts, and_from, false_from_ne_true}
 use Rattle.std.proofs.lemmas.List.Folds.{find-append}
-use Rattle.std.proofs.lemmas.Slice.Eq.{bytes_eq-Decides}
-use Rattle.rk_table.proofs.Gets.{get_changed_at, get_inserted, get_removed}
-use Rattle.rk_table.specs.Maps.{changed_at}
-use Rattle.rk_keys.specs.declared.named.Named.{Named}
-use Rattle.rk_keys.specs.Buckets.{name_hash, is_same, is_of, names_at, kept_of, count_of, recounted, counted_in, counted_out}
 
 abbrev Buckets : Type 0
 Buckets = map.FinMap nat_cmp (List Named)
@@ -61,7 +53,7 @@ module _ {X : Type 0} (p : X → Bool) where
 pub names_put : (m : Buckets) (k : ℕ) (b : List Named) (h : ℕ) → names_at (map.insert (map.remove m k) k b) h ≡ cond (nat_eq k h) b (names_at m h)
 names_put m k b h =
     ap (λ o. unwrap_or o []) (get_inserted (map.remove m k) k b h ∙ ap (cond (nat_eq k h) (Some b)) (get_removed m k h))
-    ∙ elim (nat_eq k h) as (λ t. unwrap_or (cond t (Some b) (cond t None (map.get m h))) [] ≡ cond t b (names_at m h)) [ true ↦ refl | false ↦ refl ]
+    ∙ ap (λ o. unwrap_or o []) (shadow (nat_eq k h) (Some b) None (map.get m h)) ∙ of_choice (λ o. unwrap_or o []) (nat_eq k h) (Some b) (map.get m h)
 
 -- a bucket is put back as it was
 pub names_back : (m : Buckets) (k : ℕ) (b : List Named) → b ≡ names_at m k → (h : ℕ) → names_at (map.insert (map.remove m k) k b) h ≡ names_at m h

@@ -1,3 +1,4 @@
+mod Words
 pub mod Drawing
 pub mod Drawn
 pub mod Names

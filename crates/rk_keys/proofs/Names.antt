@@ -1,20 +1,9 @@
 -- Names: which keys have one, and which number it has.
-use Rattle.std.proofs.Common.{◌≡◌, ◌∙◌, ap, sym, refl, ℕ, true, false, ◌&&◌, ◌||◌, List, inl, inr}
-use Rattle.std.specs.Prelude.{bytes_eq, Option, Some, None, ◌==◌, option_map, unwrap_or, IfSome}
-use Rattle.std.specs.Ordering.{nat_cmp, eq_by_cmp}
+use Rattle.rk_keys.proofs.Words.{◌∙◌, ap, ◌≡◌, refl, sym, ℕ, false, List, true, inl, inr, ◌||◌, ◌&&◌, or-true, both_ways, eq-eqb, ne_eqb, and_parts, and_from}
+use Rattle.rk_keys.proofs.Words.{bytes_eq-Decides, nat_cmp_total, same_answer, nat_cmp, eq_by_cmp, Some, None, Option, unwrap_or, option_map, ◌==◌, IfSome}
+use Rattle.rk_keys.proofs.Words.{bytes_eq, passing, tie, has_name, have_one_name, is_named, Known, IsHeld, IsNaming, IsNumberFor, Drawn, Key}
 use Rattle.std.specs.FinMap as map
 use Rattle.std.specs.FinSet as set
-use Rattle.std.specs.Cmp.{nat_cmp_total, both_ways as same_answer}
-use Rattle.std.proofs.Math.Bool.{or-true}
-use Rattle.std.proofs.lemmas.Bool.{and_parts, and_from, eq-eqb, ne_eqb, both_ways}
-use Rattle.std.proofs.lemmas.Slice.Eq.{bytes_eq-Decides}
-use Rattle.rk_lemmas.proofs.Options.{passing}
-use Rattle.rk_table.proofs.Entries.{tie}
-use Rattle.rk_keys.specs.declared.key.Key.{Key}
-use Rattle.rk_keys.specs.Serials.{Drawn}
-use Rattle.rk_keys.specs.Key.{is_named, have_one_name, has_name}
-use Rattle.rk_keys.specs.Known.{IsNaming, IsHeld, Known}
-use Rattle.rk_keys.specs.Names.{IsNumberFor}
 
 bytes_eq-sym : (xs ys : List ℕ) → bytes_eq xs ys ≡ bytes_eq ys xs
 bytes_eq-sym xs ys =

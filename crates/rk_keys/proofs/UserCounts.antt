@@ -1,17 +1,10 @@
 -- How many keys each user has, through each change.
-use Rattle.std.proofs.Common.{◌≡◌, ◌∙◌, ap, sym, refl, ℕ, ◌+◌, ◌-◌, ◌<◌, Bool, false, cond, arith}
-use Rattle.std.specs.Prelude.{Option, Some, None, ◌==◌, nat_eq, unwrap_or}
-use Rattle.std.specs.Option.{option_map_or}
-use Rattle.std.specs.Ordering.{nat_cmp}
+use Rattle.rk_keys.proofs.Words.{◌∙◌, ap, ◌≡◌, refl, sym, ℕ, ◌<◌, false, cond, arith, ◌-◌, Bool, ◌+◌, option_map_or, nat_cmp, Some, None, Option, nat_eq}
+use Rattle.rk_keys.proofs.Words.{unwrap_or, ◌==◌, kept_len-empty, kept_len-insert, kept_len-remove, kept_len-remove_none, kept_len-changed, changed_at}
+use Rattle.rk_keys.proofs.Words.{concluded, has_all_keys, keys_of, AreCounts, Condition, Key}
 use Rattle.std.specs.FinMap as map
 use borrow.Author.Tests.{leb-false}
-use Rattle.rk_table.specs.Maps.{changed_at}
-use Rattle.rk_keys.specs.declared.key.Key.{Key}
-use Rattle.rk_keys.specs.declared.key.Condition.{Condition}
-use Rattle.rk_keys.specs.Known.{keys_of, has_all_keys, concluded}
 use Rattle.rk_table.specs.Counts.{count_at}
-use Rattle.rk_table.proofs.KeptCounts.{kept_len-empty, kept_len-insert, kept_len-remove, kept_len-remove_none, kept_len-changed}
-use Rattle.rk_keys.specs.Owners.{AreCounts}
 
 -- ---- the keys of a user
 

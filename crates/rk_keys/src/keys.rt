@@ -1,5 +1,5 @@
 //! The keys by their serials.
-ghost use Rattle.std.specs.Prelude.{◌≡◌, ◌≤◌, ◌+◌, ◌↔◌, ◌⊎◌, ℕ, true, false, Some, None, Ok, Err, IsOk, OnErr, IfOk, IfErr, IfSome, MatchOption};
+ghost use Rattle.std.specs.Prelude.{◌≡◌, ◌≤◌, ◌+◌, ◌↔◌, ◌⊎◌, ℕ, true, false, Some, None, Ok, Err, IsOk, OnOk, OnErr, IfOk, IfErr, IfSome, MatchOption};
 ghost use Rattle.std.specs.Prelude.{MatchResult, option_map};
 ghost use Rattle.std.specs.Bool.{MatchBool};
 ghost use Rattle.std.specs.Option.{option_copied};
@@ -195,9 +195,7 @@ impl Keys {
         let Some(serial) = drawn.draw() else {
             return Err(KeyFault::Quota);
         };
-        self.facts.reserve(1)?;
-        self.numbers.reserve(1)?;
-        self.counts.reserve(1)?;
+        reserve_one(&mut self.facts, &mut self.numbers, &mut self.counts)?;
         let number = count_in(
             &mut self.by_name,
             self.alloc,
@@ -256,4 +254,20 @@ impl Keys {
         self.facts.remove(key.get());
         self.numbers.remove(key.get());
     }
+}
+
+/// Makes room for one more key. What the tables have stays, also if memory runs out.
+fn reserve_one(
+    facts: &mut HashTable<Key>,
+    numbers: &mut HashTable<NameNo>,
+    counts: &mut Counts,
+) -> Result<(), AllocError>
+    ensures facts { facts.new.facts ≡ facts.old.facts }
+    ensures numbers { numbers.new.facts ≡ numbers.old.facts }
+    ensures counts { counts.new.facts ≡ counts.old.facts }
+    ensures ok { OnOk result ((1 ≤ facts.new.room) × (1 ≤ numbers.new.room) × (1 ≤ counts.new.room)) }
+{
+    facts.reserve(1)?;
+    numbers.reserve(1)?;
+    counts.reserve(1)
 }

@@ -1,18 +1,10 @@
 -- An ask can be told from its message.
-use Rattle.std.proofs.Common.{◌≡◌, ℕ, ℤ, zero, suc, true, false, Bool, List, [], ◌∷◌, Option, Some, None, Result, Ok, Err, refl, sym, ap, subst, ◌∙◌, arith}
-use Rattle.std.specs.Prelude.{◌||◌, ◌==◌, pos, unwrap_or, IfOk, if◌then◌else◌}
-use Rattle.rk_names.specs.declared.errors.KeyError.{KeyError}
+use Rattle.rk_message.proofs.Words.{◌≡◌, ap, refl, ℕ, sym, List, ◌∙◌, arith, true, false, Bool, ◌∷◌, Option, Some, None, Ok, Err, subst, [], Result, suc, zero}
+use Rattle.rk_message.proofs.Words.{ℤ, ◌==◌, unwrap_or, IfOk, if◌then◌else◌, ◌||◌, pos, key_error_named, KeyError, Ask, ask_message, IsAsk, JoinsASerial}
+use Rattle.rk_message.proofs.Words.{ReadsAsk, IsFaultOf, message_at, asks, Message, Value, spelling, U8, U32, I32, Blob, Maybe, Fault}
 use Rattle.rk_names.specs.declared.errors.KeyError.TheVariants as error
-use Rattle.rk_names.specs.Numbers.{key_error_named}
-use Rattle.rk_message.specs.Ask.{Ask}
 use Rattle.rk_message.specs.declared.ask.AskOf.TheVariants as ask
 use Rattle.rk_message.specs.declared.greeting.Greeting.{Greeting}
-use Rattle.rk_message.specs.declared.fault.Fault.{Fault}
-use Rattle.rk_message.specs.Wire.{Value, U8, U32, I32, Blob, Maybe, Message, spelling}
-use Rattle.rk_message.specs.Table.{asks}
-use Rattle.rk_message.specs.Reading.{message_at}
-use Rattle.rk_message.specs.Asks.{ask_message, JoinsASerial, IsAsk, ReadsAsk}
-use Rattle.rk_message.specs.Leftmost.{IsFaultOf}
 use Rattle.rk_message.proofs.Numbers.{IsBytes}
 use Rattle.rk_message.proofs.Messages.{message_takes, message_again}
 use Rattle.rk_message.proofs.Faults.{fault_of_body}
@@ -90,24 +82,8 @@ hello_of-message uid gid false false (Some (suc n)) joins = refl
 
 ask_of-message : (a : Ask) → JoinsASerial a → ask_of (ask_message a) ≡ a
 ask_of-message (ask.Hello hello) joins = hello_of-message hello.uid hello.gid hello.thread hello.process hello.join joins
-ask_of-message (ask.Request typ description callout destination) joins = refl
-ask_of-message (ask.Assume key) joins = refl
-ask_of-message (ask.Instantiate key payload ring) joins = refl
-ask_of-message (ask.Negate key timeout ring) joins = refl
 ask_of-message (ask.Reject key timeout error.Revoked ring) joins = refl
-ask_of-message (ask.Reject key timeout error.Expired ring) joins = refl
-ask_of-message (ask.Reject key timeout error.Rejected ring) joins = refl
-ask_of-message (ask.Reject key timeout error.NoKey ring) joins = refl
-ask_of-message (ask.Read key) joins = refl
-ask_of-message (ask.Describe key) joins = refl
-ask_of-message (ask.Revoke key) joins = refl
-ask_of-message (ask.Timeout key seconds) joins = refl
-ask_of-message (ask.Link key ring) joins = refl
-ask_of-message (ask.Unlink key ring) joins = refl
-ask_of-message (ask.Clear ring) joins = refl
-ask_of-message (ask.Default setting) joins = refl
-ask_of-message (ask.Add typ description payload ring) joins = refl
-ask_of-message ask.Callout joins = refl
+ask_of-message _ joins = refl
 
 -- asks of the same message are the same ask
 pub same_ask : (a b : Ask) → JoinsASerial a → JoinsASerial b → ask_message a ≡ ask_message b → a ≡ b

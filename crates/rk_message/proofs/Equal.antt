@@ -1,6 +1,5 @@
 -- What the derived test of two asks tells, a variant at a time.
-use Rattle.std.proofs.Common.{◌≡◌, ◌↔◌, rules, sym, ap, subst, ◌∙◌}
-use Rattle.std.specs.Prelude.{IsTrue, Bool, true}
+use Rattle.rk_message.proofs.Words.{◌≡◌, ap, sym, ◌∙◌, true, Bool, subst, ◌↔◌, rules, IsTrue, Ask}
 use Rattle.rk_names.specs.declared.errors.KeyError.TheVariants as error
 use Rattle.rk_names.specs.contracts.errors.KeyErrorPartialEq.TheImpl as of_errors
 use Rattle.rk_message.specs.contracts.greeting.GreetingPartialEq.TheImpl as of_greetings
@@ -12,7 +11,6 @@ use Rattle.rk_names.specs.contracts.equality.TypeNamePartialEq.TheImpl as of_typ
 use Rattle.rk_names.specs.contracts.equality.DescriptionPartialEq.TheImpl as of_descriptions
 use Rattle.rk_names.specs.contracts.equality.CalloutPartialEq.TheImpl as of_callouts
 use Rattle.rk_names.specs.contracts.equality.PayloadPartialEq.TheImpl as of_payloads
-use Rattle.rk_message.specs.Ask.{Ask}
 use Rattle.rk_message.specs.contracts.ask.AskOf.{as_values, the_make, the_eta}
 use Rattle.rk_message.specs.contracts.ask.AskOfPartialEq.TheImpl as derived
 use mir.Syntax.{given}
@@ -20,9 +18,7 @@ use Rattle.rk_message.proofs.Tells.{Tells, signed, unsigned, text, optional, non
 
 error_test : Tells of_errors.ghosts.eq
 error_test error.Revoked y = search rules
-error_test error.Expired y = search rules
-error_test error.Rejected y = search rules
-error_test error.NoKey y = search rules
+error_test _ y = search rules
 
 greeting_test : Tells of_greetings.ghosts.eq
 greeting_test x y = search rules
@@ -48,8 +44,7 @@ same_values a b =
     or (last signed) (
     or (last signed) (
     or (and text (and text (and text (last signed)))) (
-    or none (no_more _))))))))))))))))
-    (as_values T D C P a) (as_values T D C P b)
+    or none (no_more _)))))))))))))))) (as_values T D C P a) (as_values T D C P b)
 
 told : (a b : Ask) → test a b ≡ true → a ≡ b
 told a b is = sym (the_eta T D C P a) ∙ ap (the_make T D C P) (same_values a b is) ∙ the_eta T D C P b

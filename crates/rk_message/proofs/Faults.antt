@@ -1,13 +1,7 @@
 -- The fault of a body is its leftmost.
-use Rattle.std.proofs.Common.{◌≡◌, ℕ, ◌<◌, Bool, true, false, cond, eqb, List, [], ◌∷◌, length, Result, Ok, Err, refl, sym, ap, ◌∙◌, inl, inr, arith, eq-eqb}
-use Rattle.std.proofs.lemmas.Bool.{eqb-true}
-use Rattle.std.specs.Prelude.{Option, Some, None, MatchOption, ◌⊎◌}
-use Rattle.std.proofs.lemmas.Bool.{cases_lt}
-use Rattle.rk_message.specs.declared.fault.Fault.{Fault}
-use Rattle.rk_message.specs.declared.fault.Fault.TheVariants.{Trailing, Short, UnknownOp}
-use Rattle.rk_message.specs.Wire.{Value, Kind, Message, Fields, kinds_of}
-use Rattle.rk_message.specs.Reading.{◌>>=◌, value_at, values_at, all_values, message_with, message_behind, message_at}
-use Rattle.rk_message.specs.Leftmost.{IsLeftmost, IsFaultOf}
+use Rattle.rk_message.proofs.Words.{◌≡◌, ap, refl, ℕ, sym, List, ◌∙◌, arith, true, false, Bool, ◌∷◌, Option, Some, None, Ok, Err, length, [], cond, Result, ◌<◌}
+use Rattle.rk_message.proofs.Words.{eqb, inl, inr, eq-eqb, eqb-true, cases_lt, ◌⊎◌, MatchOption, IsFaultOf, IsLeftmost, ◌>>=◌, message_with, message_at}
+use Rattle.rk_message.proofs.Words.{value_at, values_at, all_values, message_behind, Message, Value, Kind, Fields, kinds_of, Fault, Short, Trailing, UnknownOp}
 use Rattle.rk_message.proofs.Numbers.{IsBytes, IsBytes-rest}
 use Rattle.rk_message.proofs.Fields.{value_takes, value_again}
 

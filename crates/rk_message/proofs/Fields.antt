@@ -1,15 +1,11 @@
 -- A field that is read is the field that was written, and what was written is read again.
-use Rattle.std.proofs.Common.{◌≡◌, ℕ, zero, suc, ◌^◌, ◌<◌, ◌≤◌, false, cond, ltb, List, [], ◌∷◌, ◌++◌, length, take, drop, Option, Some, None, Ok, Err, refl, sym, ap, subst, arith}
-use Rattle.std.specs.Int.{w16, w32, to_be_bytes, cast_signed, cast_unsigned}
-use Rattle.std.proofs.lemmas.Bool.{ltb-false, le-ltb}
-use Rattle.std.proofs.lemmas.List.{take_at, drop_at, take-append-drop, length-append, length-take}
+use Rattle.rk_message.proofs.Words.{◌≡◌, ap, refl, ℕ, sym, List, arith, false, ◌∷◌, Option, Some, None, Ok, Err, subst, length, [], cond, suc, ◌<◌, ltb, ◌++◌}
+use Rattle.rk_message.proofs.Words.{zero, ◌^◌, ◌≤◌, take, drop, ltb-false, le-ltb, take_at, drop_at, take-append-drop, length-append, length-take, w32, w16}
+use Rattle.rk_message.proofs.Words.{to_be_bytes, cast_signed, cast_unsigned, Errno, number_at, unless, value_at, block_at, checked_at, Value, U8, U32, Kind}
+use Rattle.rk_message.proofs.Words.{I32, Blob, Maybe, IsValue, Byte, Word, Signed, Block, Optional, IsBlock, block, spelled, Short, Bad}
 use Rattle.std.proofs.lemmas.Int.{of_z-to_z, to_z-of_z}
 use Rattle.std.proofs.Math.Facts.{Fits-of_z, Fits-of_lt, sfits_to_z}
-use Rattle.rk_names.specs.declared.errors.Errno.{Errno}
 use Rattle.rk_names.specs.declared.errors.Errno.TheVariants.{Einval}
-use Rattle.rk_message.specs.declared.fault.Fault.TheVariants.{Short, Bad}
-use Rattle.rk_message.specs.Wire.{Value, U8, U32, I32, Blob, Maybe, Kind, Byte, Word, Signed, Block, Optional, block, spelled, IsBlock, IsValue}
-use Rattle.rk_message.specs.Reading.{number_at, block_at, unless, checked_at, value_at}
 use Rattle.rk_message.proofs.Numbers.{IsBytes, IsBytes-drop, IsBytes-rest, bind_ok, guard_ok, passed_ok, ok_is, Takes, Takes-then, wide16, wide32, number_takes, number_again}
 
 block_takes : (bytes text rest : List ℕ) → IsBytes bytes → block_at bytes ≡ Ok (text, rest) → Takes bytes (block text) rest × (length text < 2 ^ 16)
@@ -97,23 +93,4 @@ value_again Signed (I32 z) rest fits =
 value_again (Block rule) (Blob bytes) rest fits = rw (checked_again rule bytes rest fits) refl
 value_again (Optional rule) (Maybe None) rest fits = refl
 value_again (Optional rule) (Maybe (Some bytes)) rest fits = rw (checked_again rule bytes rest fits) refl
-value_again (Byte passes) (U32 n) rest fits = absurd fits
-value_again (Byte passes) (I32 n) rest fits = absurd fits
-value_again (Byte passes) (Blob n) rest fits = absurd fits
-value_again (Byte passes) (Maybe n) rest fits = absurd fits
-value_again (Word passes) (U8 n) rest fits = absurd fits
-value_again (Word passes) (I32 n) rest fits = absurd fits
-value_again (Word passes) (Blob n) rest fits = absurd fits
-value_again (Word passes) (Maybe n) rest fits = absurd fits
-value_again Signed (U8 n) rest fits = absurd fits
-value_again Signed (U32 n) rest fits = absurd fits
-value_again Signed (Blob n) rest fits = absurd fits
-value_again Signed (Maybe n) rest fits = absurd fits
-value_again (Block rule) (U8 n) rest fits = absurd fits
-value_again (Block rule) (U32 n) rest fits = absurd fits
-value_again (Block rule) (I32 n) rest fits = absurd fits
-value_again (Block rule) (Maybe n) rest fits = absurd fits
-value_again (Optional rule) (U8 n) rest fits = absurd fits
-value_again (Optional rule) (U32 n) rest fits = absurd fits
-value_again (Optional rule) (I32 n) rest fits = absurd fits
-value_again (Optional rule) (Blob n) rest fits = absurd fits
+value_again _ _ rest fits = absurd fits

@@ -1,19 +1,13 @@
 -- Lengths of spellings, and what several writes at the end come to.
-use Rattle.std.proofs.Common.{◌≡◌, ℕ, suc, ◌+◌, ◌≤◌, Bool, true, false, cond, ltb, eqb, List, [], ◌∷◌, ◌++◌, length, Option, Some, None, refl, sym, ap, ◌∙◌, append_assoc, length-append, arith}
-use Rattle.std.specs.List.{flat_map}
-use Rattle.std.proofs.lemmas.List.{append-nil}
-use Rattle.std.proofs.lemmas.Bool.{ltb-false}
-use Rattle.std.proofs.lemmas.List.Concat.{flat_map-cons}
+use Rattle.rk_message.proofs.Words.{◌≡◌, ap, refl, ℕ, sym, List, ◌∙◌, arith, true, false, Bool, ◌∷◌, Option, Some, None, length, [], cond, suc, eqb, ltb, ◌++◌}
+use Rattle.rk_message.proofs.Words.{◌≤◌, append_assoc, ◌+◌, ltb-false, append-nil, flat_map-cons, flat_map, Ask, ask_message, IsAsk, ask_values, reply_message}
+use Rattle.rk_message.proofs.Words.{IsReply, refusal, type_rule, description_rule, callout_rule, payload_rule, reply_rule, Value, spelling, U8, U32, I32, Blob}
+use Rattle.rk_message.proofs.Words.{Maybe, spelled, Reply}
+use Rattle.std.proofs.Common.{length-append}
 use Rattle.rk_names.specs.declared.errors.NameFault.{NameFault}
 use Rattle.rk_names.specs.Rules.{type_fault, description_fault, callout_fault, payload_fault}
-use Rattle.rk_message.specs.Ask.{Ask}
 use Rattle.rk_message.specs.declared.ask.AskOf.TheVariants as ask
-use Rattle.rk_message.specs.declared.reply.Reply.{Reply}
 use Rattle.rk_message.specs.declared.reply.Reply.TheVariants as reply
-use Rattle.rk_message.specs.Wire.{Value, U8, U32, I32, Blob, Maybe, spelled, spelling}
-use Rattle.rk_message.specs.Table.{refusal, type_rule, description_rule, callout_rule, payload_rule, reply_rule}
-use Rattle.rk_message.specs.Asks.{ask_values, ask_message, IsAsk}
-use Rattle.rk_message.specs.Replies.{reply_message, IsReply}
 
 join2 : (o p q a b : List ℕ) → p ≡ o ++ a → q ≡ p ++ b → q ≡ o ++ (a ++ b)
 join2 o p q a b e f = f ∙ ap (λ (x : List ℕ). x ++ b) e ∙ append_assoc o a b
@@ -37,12 +31,9 @@ width (Maybe (Some bytes)) = 3 + length bytes
 
 length-spelled : (v : Value) → length (spelled v) ≡ width v
 unfolding spelled
-length-spelled (U8 n) = refl
-length-spelled (U32 n) = refl
-length-spelled (I32 z) = refl
 length-spelled (Blob bytes) = omega arith
-length-spelled (Maybe None) = refl
 length-spelled (Maybe (Some bytes)) = omega arith
+length-spelled _ = refl
 
 abbrev widths : List Value → ℕ
 widths [] = 0
@@ -91,36 +82,21 @@ reply_len : (bytes : List ℕ) → reply_rule bytes ≡ None → length bytes �
 reply_len bytes is = let first = passed (ltb 65533 (length bytes)) _ _ is in ltb-false 65533 (length bytes) first.0
 
 ask_width : (a : Ask) → IsAsk a → widths (ask_values a) ≤ 65535
-ask_width (ask.Hello hello) is = omega arith
-ask_width (ask.Request typ description None destination) is =
-    omega (arith, type_len typ is.0.0.1, description_len description is.0.1.0.1)
+ask_width (ask.Request typ description None destination) is = omega (arith, type_len typ is.0.0.1, description_len description is.0.1.0.1)
 ask_width (ask.Request typ description (Some callout) destination) is =
     omega (arith, type_len typ is.0.0.1, description_len description is.0.1.0.1, callout_len callout is.0.1.1.0.1)
-ask_width (ask.Assume key) is = omega arith
 ask_width (ask.Instantiate key payload ring) is = omega (arith, payload_len payload is.0.1.0.1)
-ask_width (ask.Negate key timeout ring) is = omega arith
-ask_width (ask.Reject key timeout error ring) is = omega arith
-ask_width (ask.Read key) is = omega arith
-ask_width (ask.Describe key) is = omega arith
-ask_width (ask.Revoke key) is = omega arith
-ask_width (ask.Timeout key seconds) is = omega arith
-ask_width (ask.Link key ring) is = omega arith
-ask_width (ask.Unlink key ring) is = omega arith
-ask_width (ask.Clear ring) is = omega arith
-ask_width (ask.Default setting) is = omega arith
 ask_width (ask.Add typ description payload ring) is =
     omega (arith, type_len typ is.0.0.1, description_len description is.0.1.0.1, payload_len payload is.0.1.1.0.1)
-ask_width ask.Callout is = omega arith
+ask_width _ is = omega arith
 
 -- an ask fits a frame
 pub ask_fits : (a : Ask) → IsAsk a → length (spelling (ask_message a)) ≤ 65536
 ask_fits a is = under (ask_values a) 65535 (ask_width a is)
 
 reply_width : (a : Reply) → IsReply a → widths ((reply_message a).values) ≤ 65535
-reply_width (reply.Number n) is = omega arith
 reply_width (reply.Bytes bytes) is = omega (arith, reply_len bytes is.0.1)
-reply_width (reply.Rings thread process session user) is = omega arith
-reply_width (reply.Refused e) is = omega arith
+reply_width _ is = omega arith
 
 -- a reply fits a frame
 pub reply_fits : (a : Reply) → IsReply a → length (spelling (reply_message a)) ≤ 65536

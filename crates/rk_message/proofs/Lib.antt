@@ -1,3 +1,4 @@
+mod Words
 pub mod Numbers
 pub mod Fields
 pub mod Messages

@@ -1,15 +1,11 @@
 -- The table in the code is the table of asks.
-use Rattle.std.proofs.Common.{◌≡◌, ℕ, ◌-◌, Bool, true, false, cond, List, [], ◌∷◌, length, Option, Some, None, refl, sym, ap, subst, ◌∙◌, get_or}
-use Rattle.std.proofs.lemmas.Bool.{eqb-true}
-use Rattle.std.proofs.lemmas.List.{length-map}
+use Rattle.rk_message.proofs.Words.{◌≡◌, ap, refl, ℕ, sym, List, ◌∙◌, true, false, Bool, ◌∷◌, Option, Some, None, subst, length, [], cond, get_or, ◌-◌}
+use Rattle.rk_message.proofs.Words.{eqb-true, length-map, ◌==◌, MatchOption, map, find, option_map, asks, op_byte, ops, ask_line, ask_fields, form, line_of}
+use Rattle.rk_message.proofs.Words.{Kind, kinds_of, Op}
 use Rattle.std.proofs.Math.ListN.{get_or-map}
-use Rattle.std.specs.Prelude.{◌==◌, map, find, MatchOption, option_map}
-use Rattle.rk_message.specs.declared.shape.Op.{Op}
 use Rattle.rk_message.specs.declared.shape.Op.TheVariants as op
 use Rattle.rk_message.specs.declared.shape.FieldKind.{FieldKind}
 use Rattle.rk_message.specs.declared.shape.AskShape.{AskShape}
-use Rattle.rk_message.specs.Wire.{Kind, kinds_of}
-use Rattle.rk_message.specs.Table.{asks, ops, ask_line, op_byte, ask_fields, form, line_of}
 
 abbrev pub paired : Op → Op × (ℕ × List ℕ × List FieldKind)
 paired o = (o, ask_line o)
@@ -52,21 +48,7 @@ lines_len lines e = sym (length-map lines line_of) ∙ ap length e
 
 in_order : (o : Op) (other : Op × (ℕ × List ℕ × List FieldKind)) → get_or (map paired ops) (op_byte o - 1) other ≡ paired o
 in_order op.Hello other = refl
-in_order op.Request other = refl
-in_order op.Assume other = refl
-in_order op.Instantiate other = refl
-in_order op.Negate other = refl
-in_order op.Reject other = refl
-in_order op.Read other = refl
-in_order op.Describe other = refl
-in_order op.Revoke other = refl
-in_order op.Timeout other = refl
-in_order op.Link other = refl
-in_order op.Unlink other = refl
-in_order op.Clear other = refl
-in_order op.Default other = refl
-in_order op.Add other = refl
-in_order op.Callout other = refl
+in_order _ other = refl
 
 -- the line of an op stands at its byte
 pub line_at : (lines : List AskShape) (o : Op) (n : ℕ) (other : AskShape) → n ≡ op_byte o → map line_of lines ≡ map paired ops

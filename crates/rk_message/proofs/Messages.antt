@@ -1,13 +1,8 @@
 -- What is read is spelled so, and what is spelled so is read.
-use Rattle.std.proofs.Common.{◌≡◌, ℕ, cond, eqb, List, [], ◌∷◌, ◌++◌, length, Ok, Err, refl, sym, ap, subst, ◌∙◌, append_assoc}
-use Rattle.std.specs.Prelude.{Option, Some, None, IsSomeAnd}
-use Rattle.std.specs.List.{flat_map}
-use Rattle.std.proofs.lemmas.Bool.{eqb-true}
-use Rattle.std.proofs.lemmas.List.{append-nil, nil_from_length}
-use Rattle.std.proofs.lemmas.List.Concat.{flat_map-cons}
-use Rattle.rk_message.specs.declared.fault.Fault.TheVariants.{Trailing}
-use Rattle.rk_message.specs.Wire.{Value, Kind, spelled, AreValues, Message, spelling, Fields, kinds_of, IsMessage}
-use Rattle.rk_message.specs.Reading.{◌>>=◌, value_at, values_at, all_values, message_with, message_behind, message_at}
+use Rattle.rk_message.proofs.Words.{◌≡◌, ap, refl, ℕ, sym, List, ◌∙◌, ◌∷◌, Option, Some, None, Ok, Err, subst, length, [], cond, eqb, ◌++◌, append_assoc}
+use Rattle.rk_message.proofs.Words.{eqb-true, append-nil, nil_from_length, flat_map-cons, flat_map, IsSomeAnd, ◌>>=◌, message_with, message_at, value_at}
+use Rattle.rk_message.proofs.Words.{values_at, all_values, message_behind, Message, Value, spelling, Kind, Fields, kinds_of, IsMessage, AreValues, spelled}
+use Rattle.rk_message.proofs.Words.{Trailing}
 use Rattle.rk_message.proofs.Numbers.{IsBytes, IsBytes-rest, bind_ok, passed_ok, ok_is, Takes, Takes-then}
 use Rattle.rk_message.proofs.Fields.{value_takes, value_again}
 

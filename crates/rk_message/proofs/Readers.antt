@@ -1,12 +1,6 @@
 -- What a reader's answer says of the body: for Ask::read and Reply::read.
-use Rattle.std.proofs.Common.{◌≡◌, ℕ, List, Result, Ok, Err, refl, ap, subst, ◌∙◌}
-use Rattle.std.specs.Prelude.{IfOk, MatchResult}
-use Rattle.rk_message.specs.declared.fault.Fault.{Fault}
-use Rattle.rk_message.specs.declared.fault.ReadError.{ReadError}
-use Rattle.rk_message.specs.declared.fault.ReadError.TheVariants.{NoMemory, Fault as Fault-error}
-use Rattle.rk_message.specs.Wire.{Message, Fields, IsMessage, spelling}
-use Rattle.rk_message.specs.Reading.{Gives, message_at}
-use Rattle.rk_message.specs.Leftmost.{IsFaultOf}
+use Rattle.rk_message.proofs.Words.{◌≡◌, ap, refl, ℕ, List, ◌∙◌, Ok, Err, subst, Result, IfOk, MatchResult, IsFaultOf, Gives, message_at, Message, spelling}
+use Rattle.rk_message.proofs.Words.{Fields, IsMessage, Fault, ReadError, NoMemory, Fault-error}
 use Rattle.rk_message.proofs.Numbers.{IsBytes}
 use Rattle.rk_message.proofs.Messages.{message_takes, message_again}
 use Rattle.rk_message.proofs.Faults.{fault_of_body}

@@ -1,17 +1,8 @@
 -- A reply can be told from its message.
-use Rattle.std.proofs.Common.{◌≡◌, ℕ, List, Result, Ok, Err, refl, sym, ap, ◌∙◌}
-use Rattle.std.specs.Prelude.{◌==◌, unwrap_or, MatchResult, if◌then◌else◌}
-use Rattle.rk_names.specs.declared.errors.Errno.{Errno}
+use Rattle.rk_message.proofs.Words.{◌≡◌, ap, refl, ℕ, sym, List, ◌∙◌, Ok, Err, Result, ◌==◌, unwrap_or, if◌then◌else◌, MatchResult, errno_number, errno_named}
+use Rattle.rk_message.proofs.Words.{Errno, Gives, message_at, reply_message, IsReply, replies, Message, spelling, ReadError, NoMemory, Reply}
 use Rattle.rk_names.specs.declared.errors.Errno.TheVariants as errno
-use Rattle.rk_names.specs.Numbers.{errno_number, errno_named}
-use Rattle.rk_message.specs.declared.reply.Reply.{Reply}
 use Rattle.rk_message.specs.declared.reply.Reply.TheVariants as reply
-use Rattle.rk_message.specs.declared.fault.ReadError.{ReadError}
-use Rattle.rk_message.specs.declared.fault.ReadError.TheVariants.{NoMemory}
-use Rattle.rk_message.specs.Wire.{Message, spelling}
-use Rattle.rk_message.specs.Table.{replies}
-use Rattle.rk_message.specs.Reading.{Gives, message_at}
-use Rattle.rk_message.specs.Replies.{reply_message, IsReply}
 use Rattle.rk_message.proofs.Asks.{at, number, bytes}
 use Rattle.rk_message.proofs.Messages.{message_again}
 use Rattle.rk_message.proofs.Readers.{is_only}
@@ -27,23 +18,11 @@ reply_of m =
 
 errno_named-number : (e : Errno) → unwrap_or (errno_named (errno_number e)) errno.Einval ≡ e
 errno_named-number errno.Eperm = refl
-errno_named-number errno.Enoent = refl
-errno_named-number errno.Enomem = refl
-errno_named-number errno.Eacces = refl
-errno_named-number errno.Ebusy = refl
-errno_named-number errno.Einval = refl
-errno_named-number errno.Edeadlk = refl
-errno_named-number errno.Edquot = refl
-errno_named-number errno.Enokey = refl
-errno_named-number errno.Ekeyexpired = refl
-errno_named-number errno.Ekeyrevoked = refl
-errno_named-number errno.Ekeyrejected = refl
+errno_named-number _ = refl
 
 reply_of-message : (r : Reply) → reply_of (reply_message r) ≡ r
-reply_of-message (reply.Number n) = refl
-reply_of-message (reply.Bytes bytes) = refl
-reply_of-message (reply.Rings thread process session user) = refl
 reply_of-message (reply.Refused e) = ap reply.Refused (errno_named-number e)
+reply_of-message _ = refl
 
 -- replies of the same message are the same reply
 pub same_reply : (a b : Reply) → reply_message a ≡ reply_message b → a ≡ b

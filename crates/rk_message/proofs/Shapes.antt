@@ -1,21 +1,13 @@
 -- Each message of the table is an ask's, or a reply's.
-use Rattle.std.proofs.Common.{◌≡◌, ℕ, ℤ, zero, suc, ◌^◌, ◌<◌, Bool, true, false, cond, eqb, ltb, List, [], ◌∷◌, Option, Some, None, refl, sym, subst, ◌∙◌, arith}
-use Rattle.std.specs.Prelude.{FitsSigned, IsSomeAnd, is_some}
-use Rattle.std.specs.Int.{w32}
-use Rattle.std.proofs.lemmas.Bool.{eqb-true, ltb-true}
-use Rattle.rk_names.specs.declared.errors.Errno.{Errno}
+use Rattle.rk_message.proofs.Words.{◌≡◌, refl, ℕ, sym, List, ◌∙◌, arith, true, false, Bool, ◌∷◌, Option, Some, None, subst, [], cond, suc, ◌<◌, eqb, ltb, zero}
+use Rattle.rk_message.proofs.Words.{◌^◌, ℤ, eqb-true, ltb-true, w32, IsSomeAnd, FitsSigned, is_some, key_error_named, errno_number, errno_named, Errno}
+use Rattle.rk_message.proofs.Words.{KeyError, Ask, ask_message, IsAsk, flag_bits, error_number, reply_message, IsReply, asks, replies, Message, Value, U8, U32}
+use Rattle.rk_message.proofs.Words.{Kind, Fields, kinds_of, I32, Blob, Maybe, IsMessage, IsValue, Byte, Word, Signed, Block, Optional, IsBlock, AreValues}
+use Rattle.rk_message.proofs.Words.{Reply}
 use Rattle.rk_names.specs.declared.errors.Errno.TheVariants as errno
-use Rattle.rk_names.specs.declared.errors.KeyError.{KeyError}
 use Rattle.rk_names.specs.declared.errors.KeyError.TheVariants as error
-use Rattle.rk_names.specs.Numbers.{errno_number, errno_named, key_error_named}
-use Rattle.rk_message.specs.Ask.{Ask}
 use Rattle.rk_message.specs.declared.ask.AskOf.TheVariants as ask
-use Rattle.rk_message.specs.declared.reply.Reply.{Reply}
 use Rattle.rk_message.specs.declared.reply.Reply.TheVariants as reply
-use Rattle.rk_message.specs.Wire.{Value, U8, U32, I32, Blob, Maybe, Kind, Byte, Word, Signed, Block, Optional, Message, Fields, kinds_of, IsBlock, IsValue, AreValues, IsMessage}
-use Rattle.rk_message.specs.Table.{asks, replies}
-use Rattle.rk_message.specs.Asks.{ask_message, flag_bits, error_number, IsAsk}
-use Rattle.rk_message.specs.Replies.{reply_message, IsReply}
 
 -- P of any fields of the kinds
 abbrev pub ForFields : List Kind → (List Value → Type 0) → Type 0
@@ -79,8 +71,7 @@ error_step n k e false others same is later some = later some
 
 errors : (n : ℕ) → is_some (key_error_named n) ≡ true → (e : KeyError) × (error_number e ≡ n)
 errors n some =
-    error_step n 126 error.NoKey (eqb n 126) _ (λ e. eqb-true n 126 e) refl
-    (error_step n 127 error.Expired (eqb n 127) _ (λ e. eqb-true n 127 e) refl
+    error_step n 126 error.NoKey (eqb n 126) _ (λ e. eqb-true n 126 e) refl (error_step n 127 error.Expired (eqb n 127) _ (λ e. eqb-true n 127 e) refl
     (error_step n 128 error.Revoked (eqb n 128) _ (λ e. eqb-true n 128 e) refl
     (error_step n 129 error.Rejected (eqb n 129) None (λ e. eqb-true n 129 e) refl (λ none. absurd cc)))) some
 
@@ -151,16 +142,11 @@ errno_step n k e false others same is later some = later some
 
 errnos : (n : ℕ) → is_some (errno_named n) ≡ true → (e : Errno) × (errno_number e ≡ n)
 errnos n some =
-    errno_step n 1 errno.Eperm (eqb n 1) _ (λ e. eqb-true n 1 e) refl
-    (errno_step n 2 errno.Enoent (eqb n 2) _ (λ e. eqb-true n 2 e) refl
-    (errno_step n 12 errno.Enomem (eqb n 12) _ (λ e. eqb-true n 12 e) refl
-    (errno_step n 13 errno.Eacces (eqb n 13) _ (λ e. eqb-true n 13 e) refl
-    (errno_step n 16 errno.Ebusy (eqb n 16) _ (λ e. eqb-true n 16 e) refl
-    (errno_step n 22 errno.Einval (eqb n 22) _ (λ e. eqb-true n 22 e) refl
-    (errno_step n 35 errno.Edeadlk (eqb n 35) _ (λ e. eqb-true n 35 e) refl
-    (errno_step n 122 errno.Edquot (eqb n 122) _ (λ e. eqb-true n 122 e) refl
-    (errno_step n 126 errno.Enokey (eqb n 126) _ (λ e. eqb-true n 126 e) refl
-    (errno_step n 127 errno.Ekeyexpired (eqb n 127) _ (λ e. eqb-true n 127 e) refl
+    errno_step n 1 errno.Eperm (eqb n 1) _ (λ e. eqb-true n 1 e) refl (errno_step n 2 errno.Enoent (eqb n 2) _ (λ e. eqb-true n 2 e) refl
+    (errno_step n 12 errno.Enomem (eqb n 12) _ (λ e. eqb-true n 12 e) refl (errno_step n 13 errno.Eacces (eqb n 13) _ (λ e. eqb-true n 13 e) refl
+    (errno_step n 16 errno.Ebusy (eqb n 16) _ (λ e. eqb-true n 16 e) refl (errno_step n 22 errno.Einval (eqb n 22) _ (λ e. eqb-true n 22 e) refl
+    (errno_step n 35 errno.Edeadlk (eqb n 35) _ (λ e. eqb-true n 35 e) refl (errno_step n 122 errno.Edquot (eqb n 122) _ (λ e. eqb-true n 122 e) refl
+    (errno_step n 126 errno.Enokey (eqb n 126) _ (λ e. eqb-true n 126 e) refl (errno_step n 127 errno.Ekeyexpired (eqb n 127) _ (λ e. eqb-true n 127 e) refl
     (errno_step n 128 errno.Ekeyrevoked (eqb n 128) _ (λ e. eqb-true n 128 e) refl
     (errno_step n 129 errno.Ekeyrejected (eqb n 129) None (λ e. eqb-true n 129 e) refl (λ none. absurd cc)))))))))))) some
 

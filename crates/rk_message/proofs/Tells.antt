@@ -1,6 +1,5 @@
 -- Tests of which `true` tells that two values are equal, and what a derived test makes of them: it goes by variant, and then field by field.
-use Rattle.std.proofs.Common.{◌≡◌, Some, None, refl, ap, inl, inr}
-use Rattle.std.specs.Prelude.{Bool, true, false, ◌⊎◌, ◌==◌, ◌&&◌}
+use Rattle.rk_message.proofs.Words.{◌≡◌, ap, refl, true, false, Bool, Some, None, inl, inr, ◌==◌, ◌⊎◌, ◌&&◌}
 use Rattle.std.specs.Cmp.{signed_Decides, unsigned_Decides}
 use Rattle.std.specs.Cmp.Lexicographic.{pointwise, pointwise_decides}
 use Rattle.std.specs.Ordering.{int_eq}
@@ -47,8 +46,7 @@ passed true y is = (refl, is)
 passed false y is = absurd cc
 
 -- the tests of one field and of the others pass only if both are equal
-pub and : {A B : Type 0} {test : A → A → Bool} {others : B → B → Bool} → Tells test → Tells others
-    → Tells {A = A × B} (λ p q. test p.0 q.0 && others p.1 q.1)
+pub and : {A B : Type 0} {test : A → A → Bool} {others : B → B → Bool} → Tells test → Tells others → Tells {A = A × B} (λ p q. test p.0 q.0 && others p.1 q.1)
 and {A} {B} {test} {others} one more (x, xs) (y, ys) is =
     let e = passed (test x y) (others xs ys) is in
     let first = one x y e.0 in

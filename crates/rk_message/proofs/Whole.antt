@@ -1,13 +1,6 @@
 -- Each body has a reading, or one fault.
-use Rattle.std.proofs.Common.{◌≡◌, ℕ, List, Result, Ok, Err, refl, sym, ap, ◌∙◌, inl, inr}
-use Rattle.std.specs.Prelude.{◌⊎◌}
-use Rattle.rk_message.specs.declared.fault.Fault.{Fault}
-use Rattle.rk_message.specs.Wire.{Message, Fields, IsMessage, spelling}
-use Rattle.rk_message.specs.Reading.{message_at}
-use Rattle.rk_message.specs.Leftmost.{IsFaultOf}
-use Rattle.rk_message.specs.Table.{asks, replies}
-use Rattle.rk_message.specs.Asks.{ask_message}
-use Rattle.rk_message.specs.Replies.{reply_message}
+use Rattle.rk_message.proofs.Words.{◌≡◌, ap, refl, ℕ, sym, List, ◌∙◌, Ok, Err, Result, inl, inr, ◌⊎◌, ask_message, IsFaultOf, message_at, reply_message, asks}
+use Rattle.rk_message.proofs.Words.{replies, Message, spelling, Fields, IsMessage, Fault}
 use Rattle.rk_message.specs.Laws.{SpellsAsk, SpellsReply, HasNoFault, HasOneFault, ReadsOrFails}
 use Rattle.rk_message.proofs.Numbers.{IsBytes}
 use Rattle.rk_message.proofs.Messages.{message_takes, message_again}

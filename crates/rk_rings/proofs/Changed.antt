@@ -1,14 +1,8 @@
 -- All rings, after one of them has changed.
-use Rattle.std.proofs.Common.{◌≡◌, ℕ, ◌+◌, ◌-◌, ◌≤◌, Bool, true, false, cond, refl, ap, sym, ◌∙◌, subst, arith, lit≤}
-use Rattle.std.specs.Prelude.{Option, Some, None, is_some, nat_eq, MatchOption}
-use Rattle.std.specs.Option.{option_map, option_map_or}
-use Rattle.std.specs.Ordering.{nat_cmp, eq_by_cmp}
-use Rattle.std.specs.Cmp.{nat_cmp_total}
-use Rattle.std.specs.FinMap.{FinMap, get, len, insert, remove, empty, contains_key, get-remove, get-empty, len-insert, len-remove, len-empty}
-use Rattle.rk_table.specs.Maps.{changed_at}
-use Rattle.rk_table.proofs.Gets.{get_changed_at, contains_key_changed_at}
-use Rattle.rk_table.proofs.Once.{FindsEntry}
-use Rattle.rk_rings.specs.Numbered.{Numbered, Rings, AreSerials, HasEachNameOnce, HaveEachNameOnce, IsMatch}
+use Rattle.rk_rings.proofs.Words.{◌∙◌, ap, sym, ◌≡◌, subst, arith, ℕ, cond, ◌≤◌, false, ◌+◌, refl, true, Bool, ◌-◌, lit≤, nat_cmp_total, get, len, insert}
+use Rattle.rk_rings.proofs.Words.{remove, empty, FinMap, contains_key, get-empty, len-remove, len-insert, len-empty, get-remove, option_map_or, option_map}
+use Rattle.rk_rings.proofs.Words.{nat_cmp, eq_by_cmp, None, Some, nat_eq, is_some, Option, MatchOption, get_changed_at, contains_key_changed_at, FindsEntry}
+use Rattle.rk_rings.proofs.Words.{changed_at, AreSerials, Numbered, Rings, HasEachNameOnce, HaveEachNameOnce, IsMatch}
 use Rattle.rk_rings.proofs.Finds.{no_entry}
 use Rattle.rk_rings.proofs.Links.{serials_within, serials-remove, serials-empty}
 

@@ -1,87 +1,14 @@
 -- How often each key is linked, through each change of the rings.
-use Rattle.std.proofs.Common.{
-  ◌≡◌,
-  ◌∙◌,
-  ap,
-  sym,
-  subst,
-  refl,
-  ℕ,
-  zero,
-  suc,
-  ◌+◌,
-  ◌-◌,
-  ◌*◌,
-  ◌<◌,
-  ◌≤◌,
-  Bool,
-  true,
-  false,
-  cond,
-  not,
-  ◌&&◌,
-  ◌||◌,
-  ltb,
-  List,
-  [],
-  ◌∷◌,
-  length,
-  arith,
-}
-use Rattle.std.specs.Prelude.{Option, Some, None, is_some, nat_eq, unwrap_or}
-use Rattle.std.specs.Option.{option_map, option_map_or}
-use Rattle.std.specs.List.{list_any, AllByRecursion}
-use Rattle.std.specs.Ordering.{nat_cmp, eq_by_cmp}
-use Rattle.std.specs.Cmp.{nat_cmp_total}
-use Rattle.std.specs.FinMap.{
-  FinMap,
-  get,
-  insert,
-  remove,
-  empty,
-  len,
-  entries,
-  contains_key,
-  find,
-  same_map,
-  get-empty,
-  get-entries,
-  len-insert,
-  len-remove,
-  len-empty,
-  len-entries,
-  nat_cmp-IsAntisymmetric,
-}
-use Rattle.std.proofs.lemmas.Bool.{both_ways, eqb-true, eq-eqb, lt-ltb}
-use Rattle.std.proofs.lemmas.Option.{none-some, same_Some}
-use Rattle.rk_table.specs.Maps.{changed_at, kept_where}
-use Rattle.rk_table.specs.Stored.{Stored, places}
-use Rattle.rk_table.specs.Counts.{count_at, ArePositive}
-use Rattle.rk_table.proofs.Entries.{tie}
-use Rattle.rk_table.proofs.Gets.{get_kept_where, get_inserted, get_removed, get_changed_at}
+use Rattle.rk_rings.proofs.Words.{◌∙◌, ap, sym, ◌≡◌, subst, arith, ℕ, cond, ◌≤◌, false, ◌+◌, refl, true, Bool, ◌-◌, not, length, ◌<◌, List, [], ◌∷◌, ◌&&◌, ◌||◌}
+use Rattle.rk_rings.proofs.Words.{ltb, zero, suc, ◌*◌, both_ways, eq-eqb, eqb-true, lt-ltb, none-some, same_Some, nat_cmp_total, get, len, insert, remove}
+use Rattle.rk_rings.proofs.Words.{empty, FinMap, contains_key, get-empty, len-remove, len-insert, entries, same_map, nat_cmp-IsAntisymmetric, len-empty, find}
+use Rattle.rk_rings.proofs.Words.{get-entries, len-entries, list_any, AllByRecursion, option_map_or, option_map, nat_cmp, eq_by_cmp, None, Some, nat_eq}
+use Rattle.rk_rings.proofs.Words.{is_some, Option, unwrap_or, positive_empty, tie, shadow, get_kept_where, get_changed_at, get_inserted, get_removed}
+use Rattle.rk_rings.proofs.Words.{HasEachOnce, entries_once, count_at, ArePositive, changed_at, kept_where, places, Stored, AreCounted, links_of, Numbered}
+use Rattle.rk_rings.proofs.Words.{Rings, unlinked, new_ring, is_full, linked_in_room, holds, is_held, linked, cleared, IsMatch, links_with, with_rings, AreNew}
+use Rattle.rk_rings.proofs.Words.{is_full_at, NewRing}
 use Rattle.rk_table.proofs.KeptCounts.{was_there, kept_len-empty, kept_len-insert, kept_len-remove, kept_len-remove_none, kept_len-changed}
-use Rattle.rk_table.proofs.CountsAt.{positive_empty}
-use Rattle.rk_table.proofs.Once.{HasEachOnce}
-use Rattle.rk_rings.specs.declared.kind.NewRing.{NewRing}
-use Rattle.rk_rings.specs.Numbered.{
-  Numbered,
-  Rings,
-  holds,
-  is_held,
-  is_full,
-  is_full_at,
-  links_with,
-  linked,
-  linked_in_room,
-  unlinked,
-  cleared,
-  new_ring,
-  with_rings,
-  AreNew,
-  IsMatch,
-}
-use Rattle.rk_rings.specs.Counted.{links_of, AreCounted}
-use Rattle.rk_rings.proofs.Finds.{tied, tied_itself, entries_once, some_entry, entry_found, any_value}
+use Rattle.rk_rings.proofs.Finds.{tied, tied_itself, some_entry, entry_found, any_value}
 use Rattle.rk_rings.proofs.Counts.{IsWithin, some_key, has_some, contains_key-remove, no_more}
 use Rattle.rk_rings.proofs.Links.{kept_within, still_new, room_left}
 use Rattle.rk_rings.proofs.Changed.{len-changed_at}
@@ -89,6 +16,10 @@ use Rattle.rk_rings.proofs.Made.{len-with_rings}
 
 abbrev bit : Bool → ℕ
 bit b = cond b 1 0
+
+-- no ring has more than 256 links
+abbrev pub AreFew : Rings → Type 0
+AreFew m = (q : ℕ) (r : Numbered) → get m q ≡ Some r → len r.links ≤ 256
 
 -- the ring has the key
 abbrev has : ℕ → ℕ → Numbered → Bool
@@ -121,9 +52,12 @@ module _ {X : Type 0} where
   in_minus : {Y : Type 0} (c : FinMap nat_cmp X) (b : FinMap nat_cmp Y) (q : ℕ) → contains_key (minus c b) q ≡ (contains_key c q && not (contains_key b q))
   in_minus c b q = ap is_some (get_kept_where (λ k _. not (contains_key b k)) c q) ∙ some_of (not (contains_key b q)) (get c q)
 
-  no_less : (m : FinMap nat_cmp X) (x : ℕ) → len m ≤ len (remove m x) + 1
-  no_less m x = elim (contains_key m x) as (λ b. len (remove m x) ≡ cond b (len m - 1) (len m) →
-      len m ≤ len (remove m x) + 1) [ true ↦ λ e. omega (arith, e) | false ↦ λ e. omega (arith, e) ] (len-remove nat_cmp_total m x)
+  -- removing a key leaves at most one entry less
+  removed : (m : FinMap nat_cmp X) (x : ℕ) → (len (remove m x) ≤ len m) × (len m ≤ len (remove m x) + 1)
+  removed m x = elim (contains_key m x) as (λ b. len (remove m x) ≡ cond b (len m - 1) (len m) → (len (remove m x) ≤ len m) × (len m ≤ len (remove m x) + 1)) [
+    | true ↦ λ e. (omega (arith, e), omega (arith, e))
+    | false ↦ λ e. (omega (arith, e), omega (arith, e))
+  ] (len-remove nat_cmp_total m x)
 
   left_by : {Y : Type 0} (n : ℕ) (c : FinMap nat_cmp X) (b : FinMap nat_cmp Y) → len b ≡ n → len c ≤ len (minus c b) + n
   left_by {Y} zero c b e =
@@ -138,12 +72,10 @@ module _ {X : Type 0} where
       let fewer : len (remove b x.0) ≡ len b - 1 = len-remove nat_cmp_total b x.0 ∙ ap (λ t. cond t (len b - 1) (len b)) x.1 in
       let rest : len c ≤ len (minus c (remove b x.0)) + n = left_by n c (remove b x.0) (omega (arith, fewer, e)) in
       let within : IsWithin (remove (minus c (remove b x.0)) x.0) (minus c b) = λ q is.
-      in_minus c b q
-      ∙ moved (contains_key c q) (eq_by_cmp nat_cmp q x.0) (contains_key b q)
+      in_minus c b q ∙ moved (contains_key c q) (eq_by_cmp nat_cmp q x.0) (contains_key b q)
       (ap (λ t. not (eq_by_cmp nat_cmp q x.0) && (contains_key c q && not t)) (sym (contains_key-remove b x.0 q))
-      ∙ ap (λ t. not (eq_by_cmp nat_cmp q x.0) && t) (sym (in_minus c (remove b x.0) q))
-      ∙ sym (contains_key-remove (minus c (remove b x.0)) x.0 q) ∙ is) in
-      omega (arith, rest, no_less (minus c (remove b x.0)) x.0, no_more (remove (minus c (remove b x.0)) x.0) (minus c b) within)
+      ∙ ap (λ t. not (eq_by_cmp nat_cmp q x.0) && t) (sym (in_minus c (remove b x.0) q)) ∙ sym (contains_key-remove (minus c (remove b x.0)) x.0 q) ∙ is) in
+      omega (arith, rest, (removed (minus c (remove b x.0)) x.0).1, no_more (remove (minus c (remove b x.0)) x.0) (minus c b) within)
 
   later : (q : ℕ) (e : ℕ × X) (es : List (ℕ × X)) (v : X) → find nat_cmp e.0 es ≡ None → find nat_cmp q es ≡ Some v → find nat_cmp q (e ∷ es) ≡ Some v
   later q e es v none there = elim (eq_by_cmp nat_cmp q e.0) as (λ b. eq_by_cmp nat_cmp q e.0 ≡ b → cond b (Some e.1) (find nat_cmp q es) ≡ Some v) [
@@ -189,8 +121,7 @@ linked_somewhere m q some =
       | false ↦ λ _ e. absurd (cc)
     ] refl e
 
-pub counted_fit : (m : Rings) (c : FinMap nat_cmp ℕ) → ((ring : ℕ) (r : Numbered) → get m ring ≡ Some r → len r.links ≤ 256)
-    → ((q : ℕ) → contains_key c q ≡ true → 0 < links_of m q) → len c ≤ 256 * len m
+pub counted_fit : (m : Rings) (c : FinMap nat_cmp ℕ) → AreFew m → ((q : ℕ) → contains_key c q ≡ true → 0 < links_of m q) → len c ≤ 256 * len m
 counted_fit m c few h =
     let all = all_entries (λ r. len r.links ≤ 256) (entries m) (entries_once m) (λ q r there. few q r (get-entries m q ∙ there)) in
     omega (arith, fits (entries m) c all (λ q is. linked_somewhere m q (h q is)), len-entries m)
@@ -205,8 +136,7 @@ held_by_count m k = by_held (is_held m k) refl
     some h =
         let at = entry_found (λ e. contains_key e.1.links k) m (sym (any_value (λ r. contains_key r.links k) m) ∙ h) in
         has_some (kept_where (has k) m) at.0 (ap is_some (get_kept_where (has k) m at.0) ∙
-        ap (λ (o : Option Numbered). is_some (cond (option_map_or (has k at.0) o false) o None)) at.2
-        ∙ ap (λ b. is_some (cond b (Some at.1) None)) at.3)
+        ap (λ (o : Option Numbered). is_some (cond (option_map_or (has k at.0) o false) o None)) at.2 ∙ ap (λ b. is_some (cond b (Some at.1) None)) at.3)
 
     counted : (n : ℕ) → links_of m k ≡ n → is_held m k ≡ false → ltb 0 n ≡ false
     counted zero e h = refl
@@ -229,7 +159,7 @@ not_counted c q all is = elim (get c q) as (λ o. get c q ≡ o → o ≡ None) 
 ] refl
 
 -- where all but one link of a key has its count, there is room for it
-pub room_for : (m : Rings) (c : Stored ℕ) (k n : ℕ) → ((ring : ℕ) (r : Numbered) → get m ring ≡ Some r → len r.links ≤ 256) → ArePositive c.facts
+pub room_for : (m : Rings) (c : Stored ℕ) (k n : ℕ) → AreFew m → ArePositive c.facts
     → ((q : ℕ) → links_of m q ≡ count_at c.facts q + bit (nat_eq k q)) → len m ≡ n → 256 * n ≤ places c → count_at c.facts k ≡ 0 → 0 < c.room
 room_for m c k n few all each is room none =
     let new : FinMap nat_cmp ℕ = insert c.facts k 1 in
@@ -252,7 +182,7 @@ pub links_changed : (m : Rings) (ring : ℕ) (f : Numbered → Numbered) (r : Nu
 links_changed m ring f r q is = kept_len-changed (has q) m ring f r is
 
 pub few_changed : (m : Rings) (ring : ℕ) (f : Numbered → Numbered) → ((r : Numbered) → get m ring ≡ Some r → len r.links ≤ 256 → len (f r).links ≤ 256)
-    → ((q : ℕ) (r : Numbered) → get m q ≡ Some r → len r.links ≤ 256) → (q : ℕ) (r : Numbered) → get (changed_at ring f m) q ≡ Some r → len r.links ≤ 256
+    → AreFew m → AreFew (changed_at ring f m)
 few_changed m ring f keeps few q r there = by_ring (nat_eq ring q) refl (get m q) refl (sym (get_changed_at ring f m q) ∙ there)
   where
     by_ring : (b : Bool) → nat_eq ring q ≡ b → (o : Option Numbered) → get m q ≡ o → cond b (option_map f o) o ≡ Some r → len r.links ≤ 256
@@ -278,8 +208,7 @@ linked_there m ring k n h = changed_by_nothing m ring (linked k n) (λ r is.
     λ i. record r { links = ap (λ b. cond b r.links (insert (kept_where (λ j x. not (nat_eq x n)) r.links) k n)) there i })
 
 pub in_room : (k n : ℕ) (r : Numbered) → contains_key r.links k ≡ false → is_full (Some n) r ≡ false → linked_in_room k n r ≡ linked k n r
-in_room k n r lacks room =
-    ap (λ b. cond (b || not (is_full (Some n) r)) (linked k n r) r) lacks ∙ ap (λ b. cond (not b) (linked k n r) r) room
+in_room k n r lacks room = ap (λ b. cond (b || not (is_full (Some n) r)) (linked k n r) r) lacks ∙ ap (λ b. cond (not b) (linked k n r) r) room
 
 links_put : (links : FinMap nat_cmp ℕ) (k n : ℕ) → contains_key links k ≡ false → links_with k n links ≡ insert (kept_where (λ j x. not (nat_eq x n)) links) k n
 links_put links k n lacks = ap (λ b. cond b links (insert (kept_where (λ j x. not (nat_eq x n)) links) k n)) lacks
@@ -340,8 +269,7 @@ links_linked m ring k n r o is lacks room match q =
     let law = links_changed m ring (linked_in_room k n) r q is ∙ ap (λ b. links_of m q + bit b) after in
     by_key (nat_eq k q) refl law
   where
-    by_key : (b : Bool) → nat_eq k q ≡ b
-        → links_of (changed_at ring (linked_in_room k n) m) q + bit (contains_key r.links q) ≡ links_of m q + bit
+    by_key : (b : Bool) → nat_eq k q ≡ b → links_of (changed_at ring (linked_in_room k n) m) q + bit (contains_key r.links q) ≡ links_of m q + bit
         (is_some (cond b (Some n) (get (kept_where (λ j x. not (nat_eq x n)) r.links) q)))
         → links_of (changed_at ring (linked_in_room k n) m) q ≡ (links_of m q - bit (is_rival o q)) + bit b
     by_key true same law =
@@ -357,14 +285,11 @@ links_linked m ring k n r o is lacks room match q =
         omega (arith, law, left, bits)
 
 pub few_linked : (m : Rings) (ring k n : ℕ) (r : Numbered) → get m ring ≡ Some r → contains_key r.links k ≡ false → is_full (Some n) r ≡ false
-    → ((q : ℕ) (r : Numbered) → get m q ≡ Some r → len r.links ≤ 256) → (q : ℕ) (r : Numbered) → get (changed_at ring (linked_in_room k n) m) q ≡ Some r →
-    len r.links ≤ 256
+    → AreFew m → AreFew (changed_at ring (linked_in_room k n) m)
 few_linked m ring k n r is lacks room few =
-    few_changed m ring (linked_in_room k n)
-    (λ x there most.
+    few_changed m ring (linked_in_room k n) (λ x there most.
     let same : r ≡ x = same_Some r x (sym is ∙ there) in
-    subst (λ (y : Numbered). len (linked_in_room k n y).links ≤ 256) same
-    (subst (λ (y : Numbered). len y.links ≤ 256) (sym (in_room k n r lacks room))
+    subst (λ (y : Numbered). len (linked_in_room k n y).links ≤ 256) same (subst (λ (y : Numbered). len y.links ≤ 256) (sym (in_room k n r lacks room))
     (few_put k n r lacks room (subst (λ (y : Numbered). len y.links ≤ 256) (sym same) most))))
     few
 
@@ -385,16 +310,8 @@ links_unlinked m ring k r is has q =
         omega (arith, law, ap bit before)
     by_key false other law = omega (arith, law)
 
-pub few_unlinked : (m : Rings) (ring k : ℕ) → ((q : ℕ) (r : Numbered) → get m q ≡ Some r → len r.links ≤ 256) → (q : ℕ) (r : Numbered)
-    → get (changed_at ring (unlinked k) m) q ≡ Some r → len r.links ≤ 256
-few_unlinked m ring k few =
-    few_changed m ring (unlinked k)
-    (λ r is most. let le : len (remove r.links k) ≤ len r.links = elim (contains_key r.links k) as
-    (λ b. len (remove r.links k) ≡ cond b (len r.links - 1) (len r.links) → len (remove r.links k) ≤ len r.links) [
-      | true ↦ λ e. omega (arith, e)
-      | false ↦ λ e. omega (arith, e)
-    ] (len-remove nat_cmp_total r.links k) in omega (arith, le, most))
-    few
+pub few_unlinked : (m : Rings) (ring k : ℕ) → AreFew m → AreFew (changed_at ring (unlinked k) m)
+few_unlinked m ring k few = few_changed m ring (unlinked k) (λ r is most. omega (arith, (removed r.links k).0, most)) few
 
 -- ---- all links taken out, one by one
 
@@ -448,12 +365,8 @@ all_cleared m ring none = changed_by_nothing m ring cleared (λ r is i. record r
 -- clearing a ring before it is removed leaves what removing makes
 pub dropped : (m : Rings) (ring : ℕ) → remove (changed_at ring cleared m) ring ≡ remove m ring
 dropped m ring = same_map nat_cmp_total nat_cmp-IsAntisymmetric _ _ (λ q.
-    get_removed (changed_at ring cleared m) ring q ∙ ap (cond (nat_eq ring q) None) (get_changed_at ring cleared m q) ∙ by_ring (nat_eq ring q) (get m q) ∙
-    sym (get_removed m ring q))
-  where
-    by_ring : (b : Bool) (o : Option Numbered) → cond b None (cond b (option_map cleared o) o) ≡ cond b None o
-    by_ring true o = refl
-    by_ring false o = refl
+    get_removed (changed_at ring cleared m) ring q ∙ ap (cond (nat_eq ring q) None) (get_changed_at ring cleared m q) ∙ shadow (nat_eq ring q) None (option_map cleared (get m q)) (get m q)
+    ∙ sym (get_removed m ring q))
 
 pub links_dropped : (m : Rings) (ring : ℕ) (q : ℕ) → links_of (remove (changed_at ring cleared m) ring) q ≡ links_of (changed_at ring cleared m) q
 links_dropped m ring q = by_ring (get m ring) refl
@@ -468,17 +381,14 @@ links_dropped m ring q = by_ring (get m ring) refl
     by_ring : (o : Option Numbered) → get m ring ≡ o → links_of (remove n ring) q ≡ links_of n q
     by_ring None is = kept_len-remove_none (has q) n ring (at None is)
     by_ring (Some r) is =
-        kept_len-remove (has q) n ring (cleared r) (at (Some r) is)
-        ∙ ap (λ b. cond b (links_of n q - 1) (links_of n q)) (ap is_some (get-empty nat_cmp q))
+        kept_len-remove (has q) n ring (cleared r) (at (Some r) is) ∙ ap (λ b. cond b (links_of n q - 1) (links_of n q)) (ap is_some (get-empty nat_cmp q))
 
-pub few_dropped : (m : Rings) (ring : ℕ) → ((q : ℕ) (r : Numbered) → get m q ≡ Some r → len r.links ≤ 256) → (q : ℕ) (r : Numbered) →
-    get (remove m ring) q ≡ Some r → len r.links ≤ 256
+pub few_dropped : (m : Rings) (ring : ℕ) → AreFew m → AreFew (remove m ring)
 few_dropped m ring few q r there = elim (nat_eq ring q) as (λ b. cond b None (get m q) ≡ Some r →
     len r.links ≤ 256) [ true ↦ λ e. absurd (none-some r e) | false ↦ λ e. few q r e ] (sym (get_removed m ring q) ∙ there)
 
 pub no_more_rings : (m : Rings) (ring : ℕ) → len (remove m ring) ≤ len m
-no_more_rings m ring = elim (contains_key m ring) as (λ b. len (remove m ring) ≡ cond b (len m - 1) (len m) →
-    len (remove m ring) ≤ len m) [ true ↦ λ e. omega (arith, e) | false ↦ λ e. omega (arith, e) ] (len-remove nat_cmp_total m ring)
+no_more_rings m ring = (removed m ring).0
 
 -- ---- new rings
 
@@ -488,8 +398,7 @@ links_made (w ∷ ws) m new q =
     links_made ws (insert m w.serial (new_ring w)) new.1 q ∙ kept_len-insert (has q) m w.serial (new_ring w) new.0
     ∙ ap (λ b. cond b (links_of m q + 1) (links_of m q)) (ap is_some (get-empty nat_cmp q))
 
-pub few_made : (wanted : List NewRing) (m : Rings) → ((q : ℕ) (r : Numbered) → get m q ≡ Some r → len r.links ≤ 256) → (q : ℕ) (r : Numbered) →
-    get (with_rings wanted m) q ≡ Some r → len r.links ≤ 256
+pub few_made : (wanted : List NewRing) (m : Rings) → AreFew m → AreFew (with_rings wanted m)
 few_made [] m few = few
 few_made (w ∷ ws) m few = few_made ws (insert m w.serial (new_ring w)) (λ q r there.
     elim (nat_eq w.serial q) as (λ b. cond b (Some (new_ring w)) (get m q) ≡ Some r → len r.links ≤ 256) [
@@ -505,8 +414,7 @@ pub counted_empty : (m : Rings) (c : Stored ℕ) → m ≡ empty → c.facts ≡
 counted_empty m c is none = record {
   few = λ ring r there. absurd (none-some r (sym (ap (λ n. get n ring) is ∙ get-empty nat_cmp ring) ∙ there));
   each = λ k.
-      ap (λ n. count_at n k) none ∙ ap (λ o. unwrap_or o 0) (get-empty {X = ℕ} nat_cmp k)
-      ∙ sym (ap (λ n. links_of n k) is ∙ kept_len-empty (has k));
+      ap (λ n. count_at n k) none ∙ ap (λ o. unwrap_or o 0) (get-empty {X = ℕ} nat_cmp k) ∙ sym (ap (λ n. links_of n k) is ∙ kept_len-empty (has k));
   positive = subst ArePositive (sym none) positive_empty;
   room = let no : len m ≡ 0 = ap len is ∙ len-empty nat_cmp Numbered in omega (arith, no);
 }
@@ -561,8 +469,7 @@ pub room_linked : (m : Rings) (old mid : Stored ℕ) (ring k n : ℕ) (o : Optio
     count_at mid.facts k ≡ 0 → 0 < mid.room
 room_linked m old mid ring k n o counted t match each positive same none =
     room_for (changed_at ring (linked_in_room k n) m) mid k (len m) (few_linked m ring k n t.0 t.1 t.2 t.3 counted.few) positive
-    (links_after m old mid ring k n o counted t match each)
-    (len-changed_at ring (linked_in_room k n) m) (omega (arith, counted.room, same)) none
+    (links_after m old mid ring k n o counted t match each) (len-changed_at ring (linked_in_room k n) m) (omega (arith, counted.room, same)) none
 
 one_more_bit : (b : Bool) (n : ℕ) → cond b (n + 1) n ≡ n + bit b
 one_more_bit true n = refl

@@ -1,16 +1,8 @@
 -- Counts that are not 0, among those that are held.
-use Rattle.std.proofs.Common.{◌≡◌, ◌∙◌, ap, sym, refl, ℕ, zero, suc, ◌-◌, ◌<◌, ◌≤◌, Bool, true, false, cond, ltb, inl, inr, subst, arith}
-use Rattle.std.specs.Prelude.{Option, Some, None, nat_eq, unwrap_or}
-use Rattle.std.specs.Option.{option_map_or}
-use Rattle.std.specs.Ordering.{nat_cmp}
-use Rattle.std.specs.Cmp.{nat_cmp_total}
-use Rattle.std.specs.FinMap.{FinMap, get, len, empty, same_map, get-empty, nat_cmp-IsAntisymmetric}
-use Rattle.std.proofs.lemmas.Bool.{lt-ltb, cases_eq, ne_eqb}
-use Rattle.std.proofs.lemmas.Option.{none-some, same_Some}
-use Rattle.rk_table.specs.Stored.{Stored, places}
-use Rattle.rk_table.specs.Counts.{count_at, ArePositive}
-use Rattle.rk_table.proofs.Gets.{get_kept_where, none_kept}
-use Rattle.rk_rings.specs.Counting.{counting, seen_counts}
+use Rattle.rk_rings.proofs.Words.{◌∙◌, ap, sym, ◌≡◌, subst, arith, ℕ, cond, ◌≤◌, false, refl, true, Bool, ◌-◌, ◌<◌, ltb, inl, inr, zero, suc, cases_eq, ne_eqb}
+use Rattle.rk_rings.proofs.Words.{lt-ltb, none-some, same_Some, nat_cmp_total, get, len, empty, FinMap, get-empty, same_map, nat_cmp-IsAntisymmetric}
+use Rattle.rk_rings.proofs.Words.{option_map_or, nat_cmp, None, Some, nat_eq, Option, unwrap_or, get_kept_where, none_kept, count_at, ArePositive, places}
+use Rattle.rk_rings.proofs.Words.{Stored, counting, seen_counts}
 use Rattle.rk_rings.proofs.Counts.{no_more}
 use Rattle.rk_rings.proofs.Links.{kept_within}
 

@@ -1,11 +1,7 @@
 -- How many entries a map has, by its keys.
-use Rattle.std.proofs.Common.{◌≡◌, ℕ, zero, suc, ◌+◌, ◌-◌, ◌<◌, ◌≤◌, Bool, true, false, cond, not, ◌&&◌, List, [], ◌∷◌, length, refl, ap, sym, ◌∙◌, arith}
-use Rattle.std.specs.Prelude.{Option, Some, None, is_some}
-use Rattle.std.specs.Ordering.{nat_cmp, eq_by_cmp}
-use Rattle.std.specs.Cmp.{nat_cmp_total}
-use Rattle.std.specs.FinMap.{FinMap, get, entries, len, find, remove, contains_key, get-remove, get-entries, len-entries, len-remove}
-use Rattle.std.proofs.lemmas.Bool.{both_ways, and_from}
-use Rattle.rk_lemmas.proofs.Maps.{map_not_empty}
+use Rattle.rk_rings.proofs.Words.{◌∙◌, ap, sym, ◌≡◌, arith, ℕ, cond, ◌≤◌, false, ◌+◌, refl, true, Bool, ◌-◌, not, length, ◌<◌, List, [], ◌∷◌, ◌&&◌, zero, suc}
+use Rattle.rk_rings.proofs.Words.{both_ways, and_from, nat_cmp_total, get, len, remove, FinMap, contains_key, len-remove, entries, find, get-entries}
+use Rattle.rk_rings.proofs.Words.{len-entries, get-remove, nat_cmp, eq_by_cmp, None, Some, is_some, Option, map_not_empty}
 use Rattle.rk_rings.proofs.Finds.{tied, tied_itself}
 
 both_kept : (t x y : Bool) → (x ≡ true → y ≡ true) → (not t && x) ≡ true → (not t && y) ≡ true
@@ -46,8 +42,7 @@ module _ {X : Type 0} where
 
   without : (a b : FinMap nat_cmp X) (k : ℕ) → IsWithin a b → IsWithin (remove a k) (remove b k)
   without a b k h q is =
-      contains_key-remove b k q
-      ∙ both_kept (eq_by_cmp nat_cmp q k) (contains_key a q) (contains_key b q) (h q) (sym (contains_key-remove a k q) ∙ is)
+      contains_key-remove b k q ∙ both_kept (eq_by_cmp nat_cmp q k) (contains_key a q) (contains_key b q) (h q) (sym (contains_key-remove a k q) ∙ is)
 
   fewer_by : (n : ℕ) (a b : FinMap nat_cmp X) → len a ≡ n → IsWithin a b → n ≤ len b
   fewer_by zero a b e h = omega arith

@@ -1,30 +1,7 @@
 -- What some entry of a map passes, and what stands at a key.
-use Rattle.std.proofs.Common.{◌≡◌, ℕ, Bool, true, false, cond, ◌&&◌, ◌||◌, T, List, [], ◌∷◌, refl, ap, sym, ◌∙◌}
-use Rattle.std.specs.Prelude.{Option, Some, None}
-use Rattle.std.specs.Prelude.{map as list_map}
-use Rattle.std.specs.List.{list_any}
-use Rattle.std.specs.Ordering.{nat_cmp, eq_by_cmp, is_lt, is_eq}
-use Rattle.std.specs.declared.cmp.Ordering.{Ordering}
-use Rattle.std.specs.declared.cmp.Ordering.TheVariants.{Less, Equal, Greater}
-use Rattle.std.specs.FinMap.{FinMap, get, entries, values, find, is_sorted, entries_sorted, get-entries}
-use Rattle.std.specs.FinMap.Entries.{below_all}
-use Rattle.std.proofs.lemmas.Bool.{both_ways, eqb-true, eq-eqb}
-use Rattle.std.proofs.lemmas.Option.{none-some}
-use Rattle.rk_table.proofs.Once.{HasEachOnce}
-use Rattle.rk_table.proofs.Entries.{tie}
-
-first : (a b : Bool) → T (a && b) → T a
-first true b h = tt
-first false b h = h
-
-second : (a b : Bool) → T (a && b) → T b
-second true b h = h
-second false b h = absurd h
-
-not_tied : (r : Ordering) → T (is_lt r) → is_eq r ≡ false
-not_tied Less h = refl
-not_tied Equal h = absurd h
-not_tied Greater h = absurd h
+use Rattle.rk_rings.proofs.Words.{◌∙◌, ap, sym, ◌≡◌, ℕ, cond, false, refl, true, Bool, List, [], ◌∷◌, ◌||◌, both_ways, eq-eqb, eqb-true, none-some, get, FinMap}
+use Rattle.rk_rings.proofs.Words.{entries, find, get-entries, values, list_any, nat_cmp, eq_by_cmp, None, Some, Option, list_map, tie, HasEachOnce}
+use Rattle.rk_rings.proofs.Words.{entries_once}
 
 -- the number that ties with another is that one
 pub tied : (q k : ℕ) → eq_by_cmp nat_cmp q k ≡ true → q ≡ k
@@ -35,18 +12,6 @@ pub tied_itself : (q : ℕ) → eq_by_cmp nat_cmp q q ≡ true
 tied_itself q = tie q q ∙ eq-eqb q q refl
 
 module _ {X : Type 0} where
-  none_above : (x : ℕ) (es : List (ℕ × X)) → T (below_all nat_cmp x es) → find nat_cmp x es ≡ None
-  none_above x [] h = refl
-  none_above x (e ∷ es) h = ap (λ b. cond b (Some e.1) (find nat_cmp x es)) (not_tied (nat_cmp x e.0) (first _ _ h)) ∙ none_above x es (second _ _ h)
-
-  once_sorted : (es : List (ℕ × X)) → T (is_sorted nat_cmp es) → HasEachOnce es
-  once_sorted [] h = tt
-  once_sorted (e ∷ es) h = (none_above e.0 es (first _ _ h), once_sorted es (second _ _ h))
-
-  -- a map has each key once
-  pub entries_once : (m : FinMap nat_cmp X) → HasEachOnce (entries m)
-  entries_once m = once_sorted (entries m) (entries_sorted m)
-
   any_at : (p : ℕ × X → Bool) (es : List (ℕ × X)) (q : ℕ) (v : X) → find nat_cmp q es ≡ Some v → p (q, v) ≡ true → list_any p es ≡ true
   any_at p [] q v there is = absurd (cc)
   any_at p (e ∷ es) q v there is =

@@ -1,3 +1,4 @@
+mod Words
 pub mod Finds
 pub mod Counts
 pub mod Links

@@ -1,17 +1,8 @@
 -- The links of one ring.
-use Rattle.std.proofs.Common.{◌≡◌, ℕ, ◌+◌, ◌<◌, ◌≤◌, Bool, true, false, cond, not, ◌&&◌, ltb, leb, refl, ap, sym, ◌∙◌, subst, arith}
-use Rattle.std.specs.Prelude.{Option, Some, None, is_some, nat_eq, MatchOption}
-use Rattle.std.specs.Option.{option_map_or}
-use Rattle.std.specs.List.{list_any}
-use Rattle.std.specs.Ordering.{nat_cmp, eq_by_cmp}
-use Rattle.std.specs.Cmp.{nat_cmp_total}
-use Rattle.std.specs.FinMap.{FinMap, get, values, len, insert, remove, empty, contains_key, get-insert, get-empty, same_map, nat_cmp-IsAntisymmetric}
-use Rattle.std.proofs.lemmas.Bool.{both_ways, eq-eqb, le-ltb, ne_eqb, leb-false, not-false}
-use Rattle.rk_names.specs.Numbers.{serial_of}
-use Rattle.rk_table.specs.Maps.{kept_where}
-use Rattle.rk_table.proofs.Gets.{get_kept_where}
-use Rattle.rk_table.proofs.Once.{FindsEntry}
-use Rattle.rk_rings.specs.Numbered.{Numbered, AreSerials, has_number, is_full}
+use Rattle.rk_rings.proofs.Words.{◌∙◌, ap, sym, ◌≡◌, subst, arith, ℕ, cond, ◌≤◌, false, ◌+◌, refl, true, Bool, not, ◌<◌, ◌&&◌, ltb, leb, both_ways, eq-eqb}
+use Rattle.rk_rings.proofs.Words.{ne_eqb, le-ltb, leb-false, not-false, nat_cmp_total, get, len, insert, remove, empty, FinMap, contains_key, get-empty}
+use Rattle.rk_rings.proofs.Words.{same_map, nat_cmp-IsAntisymmetric, values, get-insert, list_any, option_map_or, nat_cmp, eq_by_cmp, None, Some, nat_eq}
+use Rattle.rk_rings.proofs.Words.{is_some, Option, MatchOption, get_kept_where, FindsEntry, kept_where, serial_of, AreSerials, Numbered, is_full, has_number}
 use Rattle.rk_rings.proofs.Finds.{tied, no_entry, entry_found, any_value}
 use Rattle.rk_rings.proofs.Counts.{IsWithin, contains_key-remove, no_more, fewer}
 

@@ -1,13 +1,7 @@
 -- Rings that are made one after the other.
-use Rattle.std.proofs.Common.{◌≡◌, ℕ, ◌+◌, ◌≤◌, Bool, true, false, cond, List, [], ◌∷◌, length, refl, ap, sym, ◌∙◌, subst, arith}
-use Rattle.std.specs.Prelude.{Some, None, is_some}
-use Rattle.std.specs.Prelude.{map as list_map}
-use Rattle.std.specs.Ordering.{nat_cmp, eq_by_cmp}
-use Rattle.std.specs.Cmp.{nat_cmp_total}
-use Rattle.std.specs.FinMap.{get, insert, len, len-insert, get-insert}
-use Rattle.rk_rings.specs.declared.kind.NewRing.{NewRing}
-use Rattle.rk_rings.specs.Numbered.{Numbered, Rings, new_ring, with_rings, AreNew, AreSerials, HasEachNameOnce, HaveEachNameOnce}
-use Rattle.rk_rings.specs.Making.{with_entries, HasEachNew}
+use Rattle.rk_rings.proofs.Words.{◌∙◌, ap, sym, ◌≡◌, subst, arith, ℕ, cond, ◌≤◌, false, ◌+◌, refl, true, Bool, length, List, [], ◌∷◌, nat_cmp_total, get, len}
+use Rattle.rk_rings.proofs.Words.{insert, len-insert, get-insert, nat_cmp, eq_by_cmp, None, Some, is_some, list_map, with_entries, HasEachNew, AreSerials}
+use Rattle.rk_rings.proofs.Words.{Numbered, Rings, new_ring, HasEachNameOnce, HaveEachNameOnce, with_rings, AreNew, NewRing}
 use Rattle.rk_rings.proofs.Named.{once_empty}
 use Rattle.rk_rings.proofs.Changed.{AreRows}
 

@@ -1,15 +1,9 @@
 -- Which links a ring has after a change, and that no two are of one name.
-use Rattle.std.proofs.Common.{◌≡◌, ◌⊎◌, ℕ, Bool, true, false, cond, not, ◌||◌, refl, sym, ap, ◌∙◌, inl, inr}
-use Rattle.std.specs.Prelude.{Option, Some, None, nat_eq}
-use Rattle.std.specs.Option.{option_map_or}
-use Rattle.std.specs.Ordering.{nat_cmp, eq_by_cmp}
-use Rattle.std.specs.Cmp.{nat_cmp_total}
+use Rattle.rk_rings.proofs.Words.{◌∙◌, ap, sym, ◌≡◌, ℕ, cond, false, refl, true, Bool, not, ◌||◌, inl, inr, ◌⊎◌, both_ways, eq-eqb, nat_cmp_total}
+use Rattle.rk_rings.proofs.Words.{option_map_or, nat_cmp, eq_by_cmp, None, Some, nat_eq, Option, get_kept_where, kept_where, Numbered, unlinked}
+use Rattle.rk_rings.proofs.Words.{HasEachNameOnce, is_full, linked_in_room, links_with}
 use Rattle.std.specs.FinMap as map
-use Rattle.std.proofs.lemmas.Bool.{both_ways, eq-eqb}
-use Rattle.rk_table.specs.Maps.{kept_where}
-use Rattle.rk_rings.specs.Numbered.{Numbered, HasEachNameOnce, links_with, linked_in_room, is_full, unlinked}
 use Rattle.rk_rings.proofs.Finds.{tied}
-use Rattle.rk_table.proofs.Gets.{get_kept_where}
 
 -- ---- a link is put in
 

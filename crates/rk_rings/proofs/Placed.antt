@@ -1,21 +1,10 @@
 -- The keys of names as the entries of a map whose places last.
-use Rattle.std.proofs.Common.{◌≡◌, ◌∙◌, ap, sym, refl, ℕ, ◌+◌, ◌-◌, ◌≤◌, Bool, true, false, cond, List, [], ◌∷◌, length, fold, inl, inr, arith}
-use Rattle.std.specs.Prelude.{Option, Some, None, is_some, nat_eq}
-use Rattle.std.specs.List.{AllByRecursion}
-use Rattle.std.specs.Map.{lookup}
-use Rattle.std.specs.Ordering.{nat_cmp, eq_by_cmp}
-use Rattle.std.specs.Cmp.{nat_cmp_total, unsigned_tied}
-use Rattle.std.specs.FinMap.{FinMap, get, len, insert, remove, empty, entries, find, same_map, nat_cmp-IsAntisymmetric}
-use Rattle.std.specs.FinMap.{get-empty, get-entries, len-empty, len-insert, len-remove}
-use Rattle.std.proofs.lemmas.Bool.{cases_eq}
-use Rattle.std.proofs.lemmas.Option.{none-some, same_Some}
-use Rattle.rk_table.proofs.Entries.{tie}
-use Rattle.rk_table.proofs.Gets.{get_inserted, get_removed, at_new, at_other}
-use Rattle.rk_table.proofs.Once.{HasEachOnce}
-use Rattle.rk_names.specs.Numbers.{serial_of}
-use Rattle.rk_rings.specs.Numbered.{AreSerials}
-use Rattle.rk_rings.specs.ByName.{AreByName, named, with_name, turned_more}
-use Rattle.rk_rings.proofs.Finds.{tied, tied_itself, entries_once}
+use Rattle.rk_rings.proofs.Words.{◌∙◌, ap, sym, ◌≡◌, arith, ℕ, cond, ◌≤◌, false, ◌+◌, refl, true, Bool, ◌-◌, length, List, [], ◌∷◌, inl, inr, fold, cases_eq}
+use Rattle.rk_rings.proofs.Words.{none-some, same_Some, nat_cmp_total, unsigned_tied, get, len, insert, remove, empty, FinMap, get-empty, len-remove}
+use Rattle.rk_rings.proofs.Words.{len-insert, entries, same_map, nat_cmp-IsAntisymmetric, len-empty, find, get-entries, AllByRecursion, lookup, nat_cmp}
+use Rattle.rk_rings.proofs.Words.{eq_by_cmp, None, Some, nat_eq, is_some, Option, tie, of_choice, get_inserted, at_new, at_other, get_removed, HasEachOnce}
+use Rattle.rk_rings.proofs.Words.{entries_once, serial_of, named, AreByName, turned_more, with_name, AreSerials}
+use Rattle.rk_rings.proofs.Finds.{tied, tied_itself}
 use Rattle.rk_rings.proofs.Turned.{nothing_out}
 
 -- ---- what the entries tell
@@ -25,10 +14,6 @@ abbrev pub held : Option (Option ℕ) → Option ℕ
 held None = None
 held (Some o) = o
 
-held_if : (b : Bool) (o : Option ℕ) (r : Option (Option ℕ)) → cond b o (held r) ≡ held (cond b (Some o) r)
-held_if true o r = refl
-held_if false o r = refl
-
 get_with_name : (m : FinMap nat_cmp ℕ) (n : ℕ) (o : Option ℕ) (q : ℕ) → get (with_name m n o) q ≡ cond (nat_eq n q) o (get m q)
 get_with_name m n None q = get_removed m n q
 get_with_name m n (Some k) q = get_inserted m n k q
@@ -37,16 +22,14 @@ get_with_name m n (Some k) q = get_inserted m n k q
 pub get_named : (es : List (ℕ × Option ℕ)) (q : ℕ) → get (named es) q ≡ held (lookup (nat_eq q) es)
 get_named [] q = get-empty nat_cmp q
 get_named (e ∷ es) q =
-    get_with_name (named es) e.0 e.1 q
-    ∙ ap (cond (nat_eq e.0 q) e.1) (get_named es q)
-    ∙ held_if (nat_eq e.0 q) e.1 (lookup (nat_eq q) es)
-    ∙ ap (λ b. held (cond b (Some e.1) (lookup (nat_eq q) es))) (sym (tie q e.0) ∙ unsigned_tied q e.0)
+    get_with_name (named es) e.0 e.1 q ∙ ap (cond (nat_eq e.0 q) e.1) (get_named es q)
+    ∙ sym (of_choice held (nat_eq e.0 q) (Some e.1) (lookup (nat_eq q) es)) ∙ ap (λ b. held (cond b (Some e.1) (lookup (nat_eq q) es))) (sym (tie q e.0) ∙ unsigned_tied q e.0)
 
 -- one place is written
 pub named_put : (old new : List (ℕ × Option ℕ)) (n : ℕ) (o : Option ℕ)
     → ((q : ℕ) → lookup (nat_eq q) new ≡ cond (nat_eq n q) (Some o) (lookup (nat_eq q) old)) → named new ≡ with_name (named old) n o
 named_put old new n o h = same_map nat_cmp_total nat_cmp-IsAntisymmetric _ _ (λ q.
-    get_named new q ∙ ap held (h q) ∙ sym (held_if (nat_eq n q) o (lookup (nat_eq q) old))
+    get_named new q ∙ ap held (h q) ∙ of_choice held (nat_eq n q) (Some o) (lookup (nat_eq q) old)
     ∙ ap (cond (nat_eq n q) o) (sym (get_named old q)) ∙ sym (get_with_name (named old) n o q))
 
 -- if there is no place, there is no key

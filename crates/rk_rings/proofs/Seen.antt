@@ -1,22 +1,12 @@
 -- Rings as they are seen without the numbers of names.
-use Rattle.std.proofs.Common.{◌≡◌, ℕ, zero, suc, ◌-◌, Bool, true, false, cond, not, ◌&&◌, ◌||◌, List, [], ◌∷◌, refl, ap, sym, ◌∙◌, arith}
-use Rattle.std.specs.Prelude.{Option, Some, None, is_some, nat_eq}
-use Rattle.std.specs.Prelude.{map as list_map}
-use Rattle.std.specs.Option.{option_map, option_map_or}
-use Rattle.std.specs.List.{list_any}
-use Rattle.std.specs.Ordering.{nat_cmp, eq_by_cmp}
-use Rattle.std.specs.Cmp.{nat_cmp_total, both_ways as same_answer}
+use Rattle.rk_rings.proofs.Words.{◌∙◌, ap, sym, ◌≡◌, arith, ℕ, cond, false, refl, true, Bool, ◌-◌, not, ◌&&◌, ◌||◌, zero, suc, both_ways, eq-eqb, nat_cmp_total}
+use Rattle.rk_rings.proofs.Words.{same_answer, list_any, option_map_or, option_map, nat_cmp, eq_by_cmp, None, Some, nat_eq, is_some, Option, list_map}
+use Rattle.rk_rings.proofs.Words.{set_not_empty, tie, get_in, of_choice, find_mapped, get_kept_where, changed_at, kept_where, Numbered, Rings, unlinked}
+use Rattle.rk_rings.proofs.Words.{new_ring, holds, is_held, linked, rings_seen, ring_seen, Ring, empty_ring, is_linked, has_link, with_link, without_link}
+use Rattle.rk_rings.proofs.Words.{NewRing}
 use Rattle.std.specs.FinMap as map
 use Rattle.std.specs.FinSet as set
-use Rattle.std.proofs.lemmas.Bool.{both_ways, eq-eqb}
-use Rattle.rk_table.specs.Maps.{changed_at, kept_where}
 use Rattle.rk_lemmas.proofs.Options.{is_some-option_map, made_of}
-use Rattle.rk_lemmas.proofs.Maps.{set_not_empty}
-use Rattle.rk_table.proofs.Entries.{get_in, tie}
-use Rattle.rk_table.proofs.Gets.{get_kept_where}
-use Rattle.rk_rings.specs.declared.kind.NewRing.{NewRing}
-use Rattle.rk_rings.specs.Ring.{Ring, empty_ring, is_linked, has_link, with_link, without_link}
-use Rattle.rk_rings.specs.Numbered.{Numbered, Rings, ring_seen, rings_seen, holds, is_held, linked, unlinked, new_ring}
 use Rattle.rk_rings.proofs.Finds.{tied, some_entry, entry_found, any_value}
 use Rattle.rk_rings.proofs.Counts.{some_key, one_less, contains_key-remove}
 
@@ -25,28 +15,12 @@ map_or : {A B : Type 0} (f : A → B) (p : B → Bool) (t : A → Bool) → ((x 
 map_or f p t h None = refl
 map_or f p t h (Some x) = h x
 
-module _ {A B : Type 0} (f : A → B) where
-  found_alike : (q : ℕ) (es : List (ℕ × A)) → map.find nat_cmp q (list_map (λ e. (e.0, f e.1)) es) ≡ option_map f (map.find nat_cmp q es)
-  found_alike q [] = refl
-  found_alike q (e ∷ es) =
-      ap (cond (eq_by_cmp nat_cmp q e.0) (Some (f e.1))) (found_alike q es)
-      ∙ elim (eq_by_cmp nat_cmp q e.0) as (λ b. cond b (Some (f e.1)) (option_map f (map.find nat_cmp q es)) ≡ option_map f
-      (cond b (Some e.1) (map.find nat_cmp q es))) [ true ↦ refl | false ↦ refl ]
-
-  put_alike : (b : Bool) (x : A) (o : Option A) → option_map f (cond b (Some x) o) ≡ cond b (Some (f x)) (option_map f o)
-  put_alike true x o = refl
-  put_alike false x o = refl
-
-  gone_alike : (b : Bool) (o : Option A) → option_map f (cond b None o) ≡ cond b None (option_map f o)
-  gone_alike true o = refl
-  gone_alike false o = refl
-
 -- ---- the rings by their serials
 
 -- each ring is seen as it is without the numbers
 pub get-rings_seen : (m : Rings) (q : ℕ) → map.get (rings_seen m) q ≡ option_map ring_seen (map.get m q)
 get-rings_seen m q =
-    get_in (list_map (λ e. (e.0, ring_seen e.1)) (map.entries m)) q ∙ found_alike ring_seen q (map.entries m) ∙
+    get_in (list_map (λ e. (e.0, ring_seen e.1)) (map.entries m)) q ∙ find_mapped ring_seen q (map.entries m) ∙
     ap (option_map ring_seen) (sym (map.get-entries m q))
 
 -- the rings that are seen are those that are there
@@ -63,19 +37,15 @@ rings_seen-empty = same_rings _ _ (λ q. get-rings_seen map.empty q ∙ ap (opti
 -- a ring that is put in is seen as put in
 pub rings_seen-insert : (m : Rings) (k : ℕ) (r : Numbered) → rings_seen (map.insert m k r) ≡ map.insert (rings_seen m) k (ring_seen r)
 rings_seen-insert m k r = same_rings _ _ (λ q.
-    get-rings_seen (map.insert m k r) q
-    ∙ ap (option_map ring_seen) (map.get-insert nat_cmp_total m k r q)
-    ∙ put_alike ring_seen (eq_by_cmp nat_cmp q k) r (map.get m q)
-    ∙ ap (cond (eq_by_cmp nat_cmp q k) (Some (ring_seen r))) (sym (get-rings_seen m q))
+    get-rings_seen (map.insert m k r) q ∙ ap (option_map ring_seen) (map.get-insert nat_cmp_total m k r q)
+    ∙ of_choice (option_map ring_seen) (eq_by_cmp nat_cmp q k) (Some r) (map.get m q) ∙ ap (cond (eq_by_cmp nat_cmp q k) (Some (ring_seen r))) (sym (get-rings_seen m q))
     ∙ sym (map.get-insert nat_cmp_total (rings_seen m) k (ring_seen r) q))
 
 -- a ring that is removed is seen as removed
 pub rings_seen-remove : (m : Rings) (k : ℕ) → rings_seen (map.remove m k) ≡ map.remove (rings_seen m) k
 rings_seen-remove m k = same_rings _ _ (λ q.
-    get-rings_seen (map.remove m k) q
-    ∙ ap (option_map ring_seen) (map.get-remove nat_cmp_total m k q)
-    ∙ gone_alike ring_seen (eq_by_cmp nat_cmp q k) (map.get m q)
-    ∙ ap (cond (eq_by_cmp nat_cmp q k) None) (sym (get-rings_seen m q))
+    get-rings_seen (map.remove m k) q ∙ ap (option_map ring_seen) (map.get-remove nat_cmp_total m k q)
+    ∙ of_choice (option_map ring_seen) (eq_by_cmp nat_cmp q k) None (map.get m q) ∙ ap (cond (eq_by_cmp nat_cmp q k) None) (sym (get-rings_seen m q))
     ∙ sym (map.get-remove nat_cmp_total (rings_seen m) k q))
 
 -- a change of one ring is seen as the change that does the same to the ring without numbers
@@ -88,8 +58,7 @@ rings_seen-changed_at k f g m h =
     (rings_seen m)) [
       | None ↦ λ e. refl
       | Some v ↦ λ e. rings_seen-insert m k (f v) ∙ ap (map.insert (rings_seen m) k) (h v e)
-    ] refl
-    ∙ ap (λ o. option_map_or (λ v. map.insert (rings_seen m) k (g v)) o (rings_seen m)) (sym (get-rings_seen m k))
+    ] refl ∙ ap (λ o. option_map_or (λ v. map.insert (rings_seen m) k (g v)) o (rings_seen m)) (sym (get-rings_seen m k))
 
 -- ---- what is linked
 
@@ -107,13 +76,10 @@ is_linked-rings_seen m ring k =
 pub any-rings_seen : (p : Ring → Bool) (t : Numbered → Bool) → ((r : Numbered) → p (ring_seen r) ≡ t r) → (m : Rings) →
     list_any p (map.values (rings_seen m)) ≡ list_any t (map.values m)
 any-rings_seen p t alike m =
-    any_value p (rings_seen m)
-    ∙ same_answer _ _
-    (λ is.
+    any_value p (rings_seen m) ∙ same_answer _ _ (λ is.
     let f = entry_found (λ (e : ℕ × Ring). p e.1) (rings_seen m) is in
     let r = made_of ring_seen (map.get m f.0) f.1 (sym (get-rings_seen m f.0) ∙ f.2) in
-    some_entry (λ (e : ℕ × Numbered). t e.1) m f.0 r.0 r.1 (sym (alike r.0) ∙ ap p r.2 ∙ f.3))
-    (λ is.
+    some_entry (λ (e : ℕ × Numbered). t e.1) m f.0 r.0 r.1 (sym (alike r.0) ∙ ap p r.2 ∙ f.3)) (λ is.
     let f = entry_found (λ (e : ℕ × Numbered). t e.1) m is in
     some_entry (λ (e : ℕ × Ring). p e.1) (rings_seen m) f.0 (ring_seen f.1) (get-rings_seen m f.0 ∙ ap (option_map ring_seen) f.2) (alike f.1 ∙ f.3))
     ∙ sym (any_value t m)
@@ -131,10 +97,8 @@ same_keys s t h = set.same_set nat_cmp_total set.nat_cmp-IsAntisymmetric s t h
 pub ring_seen-unlinked : (k : ℕ) (r : Numbered) → ring_seen (unlinked k r) ≡ without_link k (ring_seen r)
 ring_seen-unlinked k r =
     ap (λ s. record { kind = r.kind; uid = r.uid; keys = s }) (same_keys (ring_seen (unlinked k r)).keys (set.remove (ring_seen r).keys k) (λ q.
-    contains-ring_seen (unlinked k r) q
-    ∙ contains_key-remove r.links k q
-    ∙ ap (λ b. not (eq_by_cmp nat_cmp q k) && b) (sym (contains-ring_seen r q))
-    ∙ sym (set.contains-remove nat_cmp_total (ring_seen r).keys k q)))
+    contains-ring_seen (unlinked k r) q ∙ contains_key-remove r.links k q
+    ∙ ap (λ b. not (eq_by_cmp nat_cmp q k) && b) (sym (contains-ring_seen r q)) ∙ sym (set.contains-remove nat_cmp_total (ring_seen r).keys k q)))
 
 no_keys : (r : Numbered) → r.links ≡ map.empty → (ring_seen r).keys ≡ set.empty
 no_keys r e = same_keys _ _ (λ q. contains-ring_seen r q ∙ ap (λ m. map.contains_key m q) e ∙ ap is_some (map.get-empty nat_cmp q) ∙
@@ -182,14 +146,12 @@ ring_seen-linked gives_way k n r h =
     elim (map.contains_key r.links k) as (λ b. set.from_list (map.keys (cond b r.links m)) ≡ cond b s (set.retain (set.insert s k) (λ j. not (gives_way j)))) [
       | true ↦ refl
       | false ↦ same_keys _ _ (λ q.
-          contains-ring_seen (record r { links = m }) q
-          ∙ new_links gives_way k n r h q
+          contains-ring_seen (record r { links = m }) q ∙ new_links gives_way k n r h q
           ∙ ap (λ b. (eq_by_cmp nat_cmp q k || b) && not (gives_way q)) (sym (contains-ring_seen r q))
           ∙ ap (λ b. b && not (gives_way q)) (sym (set.contains-insert nat_cmp_total s k q))
           ∙ sym (set.contains-retain (set.insert s k) (λ j. not (gives_way j)) q
           (λ x t. ap (λ j. not (gives_way j)) (sym (set.nat_cmp-IsAntisymmetric q x t)))))
-    ]
-    ∙ ap (λ b. cond b s (set.retain (set.insert s k) (λ j. not (gives_way j)))) (sym (contains-ring_seen r k))
+    ] ∙ ap (λ b. cond b s (set.retain (set.insert s k) (λ j. not (gives_way j)))) (sym (contains-ring_seen r k))
     )
 
 -- ---- how many links

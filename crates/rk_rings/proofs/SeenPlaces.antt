@@ -1,12 +1,9 @@
 -- Places in rings that are seen without the numbers of names are those in the rings.
-use Rattle.std.proofs.Common.{◌≡◌, ℕ, cond, refl, ap, ◌∙◌, List, [], ◌∷◌}
-use Rattle.std.specs.Prelude.{Option, Some, None, unwrap_or}
-use Rattle.std.specs.Option.{option_map_or}
+use Rattle.rk_rings.proofs.Words.{◌∙◌, ap, ◌≡◌, ℕ, cond, refl, List, [], ◌∷◌, option_map_or, None, Some, Option, unwrap_or, Rings, rings_seen}
 use Rattle.rk_names.specs.declared.context.Context.{Context}
 use Rattle.rk_names.specs.declared.context.Setting.{Setting}
 use Rattle.rk_rings.specs.declared.place.Place.{Place}
 use Rattle.rk_rings.specs.declared.place.Place.TheVariants.{Nowhere, Thread, Process, Session, User, Requestor, Numbered}
-use Rattle.rk_rings.specs.Numbered.{Rings, rings_seen}
 use Rattle.rk_rings.specs.Places.{live, ring_at, rings_of, is_one_of, is_numbered_live, first_ring, default_places, default_ring}
 use Rattle.rk_rings.proofs.Seen.{contains_key-rings_seen}
 
@@ -26,13 +23,8 @@ ring_at-rings_seen m c requestor (Numbered ring) = ap (λ o. cond (is_one_of rin
 
 -- whether a numbered ring is there is the same without the numbers of names
 pub is_numbered_live-rings_seen : (m : Rings) (p : Place) → is_numbered_live (rings_seen m) p ≡ is_numbered_live m p
-is_numbered_live-rings_seen m Nowhere = refl
-is_numbered_live-rings_seen m Thread = refl
-is_numbered_live-rings_seen m Process = refl
-is_numbered_live-rings_seen m Session = refl
-is_numbered_live-rings_seen m User = refl
-is_numbered_live-rings_seen m Requestor = refl
 is_numbered_live-rings_seen m (Numbered ring) = contains_key-rings_seen m ring
+is_numbered_live-rings_seen m _ = refl
 
 pub first_ring-rings_seen : (m : Rings) (c : Context) (requestor : Option ℕ) (ps : List Place) →
     first_ring (rings_seen m) c requestor ps ≡ first_ring m c requestor ps

@@ -1,17 +1,8 @@
 -- The links of a ring by the numbers of their names, through each change.
-use Rattle.std.proofs.Common.{◌≡◌, ◌∙◌, ap, sym, subst, refl, ℕ, ◌+◌, ◌-◌, Bool, true, false, cond, not, inl, inr}
-use Rattle.std.specs.Prelude.{Option, Some, None, is_some, nat_eq, MatchOption}
-use Rattle.std.specs.Option.{option_map_or}
-use Rattle.std.specs.List.{list_any}
-use Rattle.std.specs.Ordering.{nat_cmp}
-use Rattle.std.specs.Cmp.{nat_cmp_total}
-use Rattle.std.specs.FinMap.{FinMap, get, entries, values, len, insert, remove, empty, contains_key}
-use Rattle.std.specs.FinMap.{get-empty, len-insert, len-remove, same_map, nat_cmp-IsAntisymmetric}
-use Rattle.std.proofs.lemmas.Bool.{cases_eq, eqb-true, eq-eqb, ne_eqb}
-use Rattle.std.proofs.lemmas.Option.{none-some, same_Some}
-use Rattle.rk_table.specs.Maps.{kept_where}
-use Rattle.rk_table.proofs.Gets.{get_kept_where, at_new, at_other, left_in, taken_out}
-use Rattle.rk_rings.specs.ByName.{IsTurned, AreByName}
+use Rattle.rk_rings.proofs.Words.{◌∙◌, ap, sym, ◌≡◌, subst, ℕ, cond, false, ◌+◌, refl, true, Bool, ◌-◌, not, inl, inr, eq-eqb, eqb-true, cases_eq, ne_eqb}
+use Rattle.rk_rings.proofs.Words.{none-some, same_Some, nat_cmp_total, get, len, insert, remove, empty, FinMap, contains_key, get-empty, len-remove, len-insert}
+use Rattle.rk_rings.proofs.Words.{entries, same_map, nat_cmp-IsAntisymmetric, values, list_any, option_map_or, nat_cmp, None, Some, nat_eq, is_some, Option}
+use Rattle.rk_rings.proofs.Words.{MatchOption, get_kept_where, at_new, at_other, taken_out, left_in, kept_where, AreByName, IsTurned}
 use Rattle.rk_rings.proofs.Finds.{entry_found, some_entry, any_value}
 
 -- ---- what the index tells
@@ -91,18 +82,15 @@ by_name_out a b k n h is = record {
 pub kept_rival : (a b : FinMap nat_cmp ℕ) (r n : ℕ) → AreByName a b → get b n ≡ Some r → remove a r ≡ kept_where (λ j m. not (nat_eq m n)) a
 kept_rival a b r n h is = same_map nat_cmp_total nat_cmp-IsAntisymmetric _ _ (λ q. elim (cases_eq q r) [
   | inl e ↦
-      taken_out a r q e
-      ∙ sym (ap (λ (o : Option ℕ). cond (option_map_or (λ m. not (nat_eq m n)) o false) o None) (ap (get a) e ∙ h.linked n r is)
-      ∙ ap (λ b. cond (not b) (Some n) None) (eq-eqb n n refl))
-      ∙ sym (get_kept_where (λ j m. not (nat_eq m n)) a q)
+      taken_out a r q e ∙ sym (ap (λ (o : Option ℕ). cond (option_map_or (λ m. not (nat_eq m n)) o false) o None) (ap (get a) e ∙ h.linked n r is)
+      ∙ ap (λ b. cond (not b) (Some n) None) (eq-eqb n n refl)) ∙ sym (get_kept_where (λ j m. not (nat_eq m n)) a q)
   | inr ne ↦ left_in a r q ne ∙ by_link q ne (get a q) refl ∙ sym (get_kept_where (λ j m. not (nat_eq m n)) a q)
 ])
   where
     by_link : (q : ℕ) → (q ≡ r → ⊥) → (o : Option ℕ) → get a q ≡ o → get a q ≡ cond (option_map_or (λ m. not (nat_eq m n)) (get a q) false) (get a q) None
     by_link q ne None at = at ∙ sym (ap (λ (o : Option ℕ). cond (option_map_or (λ m. not (nat_eq m n)) o false) o None) at)
     by_link q ne (Some m) at =
-        at
-        ∙ sym (ap (λ (o : Option ℕ). cond (option_map_or (λ m. not (nat_eq m n)) o false) o None) at
+        at ∙ sym (ap (λ (o : Option ℕ). cond (option_map_or (λ m. not (nat_eq m n)) o false) o None) at
         ∙ ap (λ b. cond (not b) (Some m) None) (ne_eqb m n (λ e. ne (same_Some q r (sym (h.found q m at) ∙ ap (get b) e ∙ is)))))
 
 -- no key has the name
@@ -112,8 +100,7 @@ kept_all a b n h is = same_map nat_cmp_total nat_cmp-IsAntisymmetric _ _ (λ q. 
     by_link : (q : ℕ) (o : Option ℕ) → get a q ≡ o → get a q ≡ cond (option_map_or (λ m. not (nat_eq m n)) (get a q) false) (get a q) None
     by_link q None at = at ∙ sym (ap (λ (o : Option ℕ). cond (option_map_or (λ m. not (nat_eq m n)) o false) o None) at)
     by_link q (Some m) at =
-        at
-        ∙ sym (ap (λ (o : Option ℕ). cond (option_map_or (λ m. not (nat_eq m n)) o false) o None) at
+        at ∙ sym (ap (λ (o : Option ℕ). cond (option_map_or (λ m. not (nat_eq m n)) o false) o None) at
         ∙ ap (λ b. cond (not b) (Some m) None) (ne_eqb m n (λ e. none-some q (sym is ∙ ap (get b) (sym e) ∙ h.found q m at))))
 
 -- the name stands for another key
@@ -132,10 +119,8 @@ pub by_name_given : (a b : FinMap nat_cmp ℕ) (r k n : ℕ) → AreByName a b �
     AreByName (insert (remove a r) k n) (insert b n k)
 by_name_given a b r k n h is lacks =
     let none : get a k ≡ None = none_of true (get a k) lacks in
-    subst (AreByName (insert (remove a r) k n)) (sym (renamed b n k))
-    (by_name_put (remove a r) (remove b n) k n (by_name_out a b r n h (h.linked n r is))
-    (elim (cases_eq k r) [ inl e ↦ taken_out a r k e | inr ne ↦ left_in a r k ne ∙ none ])
-    (taken_out b n n refl))
+    subst (AreByName (insert (remove a r) k n)) (sym (renamed b n k)) (by_name_put (remove a r) (remove b n) k n (by_name_out a b r n h (h.linked n r is))
+    (elim (cases_eq k r) [ inl e ↦ taken_out a r k e | inr ne ↦ left_in a r k ne ∙ none ]) (taken_out b n n refl))
 
 -- the names are those of the links after a key with a new name is linked
 pub by_name_new : (a b : FinMap nat_cmp ℕ) (k n : ℕ) → AreByName a b → get b n ≡ None → contains_key a k ≡ false → AreByName (insert a k n) (insert b n k)

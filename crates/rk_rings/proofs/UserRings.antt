@@ -1,18 +1,12 @@
 -- A user ring of each user, through each change of the rings.
-use Rattle.std.proofs.Common.{◌≡◌, ◌∙◌, ap, sym, subst, refl, ℕ, ◌+◌, ◌-◌, ◌<◌, Bool, true, false, cond, not, ◌||◌, inl, inr, arith}
-use Rattle.std.specs.Prelude.{Option, Some, None, is_some, nat_eq, option_map, MatchOption}
-use Rattle.std.specs.Option.{option_map_or}
-use Rattle.std.specs.Ordering.{nat_cmp}
-use Rattle.std.specs.Cmp.{nat_cmp_total}
-use Rattle.std.specs.FinMap.{FinMap, get, len, insert, remove, empty, contains_key, get-empty, len-remove}
-use Rattle.std.proofs.lemmas.Bool.{both_ways, cases_eq, eqb-true, eq-eqb, ne_eqb}
-use Rattle.rk_table.specs.Maps.{changed_at}
-use Rattle.rk_table.proofs.Gets.{get_inserted, get_changed_at, at_new, at_other, left_in, taken_out}
+use Rattle.rk_rings.proofs.Words.{◌∙◌, ap, sym, ◌≡◌, subst, arith, ℕ, cond, false, ◌+◌, refl, true, Bool, ◌-◌, not, ◌<◌, ◌||◌, inl, inr, both_ways, eq-eqb}
+use Rattle.rk_rings.proofs.Words.{eqb-true, cases_eq, ne_eqb, nat_cmp_total, get, len, insert, remove, empty, FinMap, contains_key, get-empty, len-remove}
+use Rattle.rk_rings.proofs.Words.{option_map_or, nat_cmp, None, Some, nat_eq, is_some, Option, MatchOption, of_choice, get_changed_at, get_inserted, at_new}
+use Rattle.rk_rings.proofs.Words.{at_other, taken_out, left_in, changed_at, Numbered, Rings, unlinked, is_full, linked_in_room, linked, is_user_ring, is_users}
+use Rattle.rk_rings.proofs.Words.{AreUserRings, is_his, IsHis}
+use Rattle.std.specs.Prelude.{option_map}
 use Rattle.rk_rings.specs.declared.kind.RingKind.{RingKind}
 use Rattle.rk_rings.specs.declared.kind.RingKind.TheVariants as kind
-use Rattle.rk_rings.specs.Ring.{is_users}
-use Rattle.rk_rings.specs.Numbered.{Numbered, Rings, is_user_ring, is_full, linked, linked_in_room, unlinked}
-use Rattle.rk_rings.specs.UserRings.{is_his, IsHis, AreUserRings}
 use Rattle.rk_rings.proofs.Counts.{has_some}
 
 -- a user ring is of one user
@@ -60,10 +54,7 @@ users_changed m n u ring f is keeps all uid = same_his m n uid (get u uid) (λ q
 his_made : (m : Rings) (s : ℕ) (r : Numbered) (uid q : ℕ) → is_his (insert m s r) uid q ≡ cond (nat_eq s q) (is_user_ring uid r) (is_his m uid q)
 his_made m s r uid q =
     ap (λ o. option_map_or (is_user_ring uid) o false) (get_inserted m s r q)
-    ∙ elim (nat_eq s q) as (λ b. option_map_or (is_user_ring uid) (cond b (Some r) (get m q)) false ≡ cond b (is_user_ring uid r) (is_his m uid q)) [
-      | true ↦ refl
-      | false ↦ refl
-    ]
+    ∙ of_choice (λ o. option_map_or (is_user_ring uid) o false) (nat_eq s q) (Some r) (get m q)
 
 -- who is there already, or is not the user of the new ring
 made_beside : (m : Rings) (s : ℕ) (r : Numbered) (uid : ℕ) (o : Option ℕ) → get m s ≡ None → (is_user_ring uid r ≡ true → is_some o ≡ true)

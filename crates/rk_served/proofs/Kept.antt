@@ -1,32 +1,11 @@
 -- Each own step and each move leaves the peers to those who are there.
-use Rattle.std.proofs.Common.{◌≡◌, ℕ, Bool, true, false, cond, List, [], ◌∷◌, refl, sym, ap, ◌∙◌, subst, inl, inr}
-use Rattle.std.specs.Prelude.{Option, Some, None, is_some, slice_get}
-use Rattle.std.specs.Ordering.{nat_cmp}
-use Rattle.std.specs.FinMap.{get-empty}
-use Rattle.rk_names.specs.declared.numbers.SessionId.{SessionId}
-use Rattle.rk_names.specs.declared.numbers.SessionId.TheVariants.{Client, Handler}
-use Rattle.rk_conf.specs.declared.line.Line.{Line}
-use Rattle.rk_macro.specs.declared.subject.Subject.{Subject}
-use Rattle.rk_machine.specs.declared.event.EventOf.TheVariants.{Opened, Launched, Ended, Collect, Gone}
+use Rattle.rk_served.proofs.Words.{refl, ◌∙◌, ap, sym, List, ◌≡◌, [], subst, ℕ, inr, true, ◌∷◌, inl, Bool, false, cond, get-empty, nat_cmp, Some, Option, None}
+use Rattle.rk_served.proofs.Words.{slice_get, is_some, SessionId, Handler, Client, Line, Subject, kind_in, Kind, done, Beginning, Past, Step, Answer, Refused}
+use Rattle.rk_served.proofs.Words.{Launched, Gone, Opened, Ended, Collect, How, Left, peer, without, Part, nothing, collects, refuses, asks, shuts_client}
+use Rattle.rk_served.proofs.Words.{shuts_handler, Move, Moves, Adds, EndsBy, is_last, is_followed, is_not_followed, OwnStep, has_client, is_misplaced, negated}
+use Rattle.rk_served.proofs.Words.{Lengthens, Runs, Follows, channel_with, Acts, HasItsPeers, Happening, Started, Failed, Output, Channel, Starts, Talks, Pipes}
 use Rattle.rk_machine.specs.declared.event.Ran.TheVariants as ran
-use Rattle.rk_machine.specs.declared.event.How.{How}
-use Rattle.rk_machine.specs.declared.event.Answer.{Answer}
-use Rattle.rk_machine.specs.declared.event.Answer.TheVariants.{Refused}
-use Rattle.rk_machine.specs.Allowed.{done}
-use Rattle.rk_machine.specs.Steps.{Beginning, Past, Step}
-use Rattle.rk_served.specs.declared.happening.Happening.{Happening}
 use Rattle.rk_served.specs.declared.happening.Happening.TheVariants as happening
-use Rattle.rk_served.specs.declared.happening.StartResult.TheVariants.{Started, Failed}
-use Rattle.rk_served.specs.declared.output.Output.{Output}
-use Rattle.rk_served.specs.declared.peer.Channel.{Channel}
-use Rattle.rk_served.specs.declared.peer.Channel.TheVariants.{Talks, Starts, Pipes}
-use Rattle.rk_served.specs.Left.{Left, peer, without, Part, nothing}
-use Rattle.rk_served.specs.Moves.{Move, collects, refuses, asks, shuts_client, shuts_handler, Moves}
-use Rattle.rk_served.specs.OwnStep.{has_client, is_misplaced, Adds, Lengthens, Runs, negated, Follows, EndsBy, is_last, is_followed, is_not_followed}
-use Rattle.rk_served.specs.OwnStep.{OwnStep, channel_with}
-use Rattle.rk_served.specs.Served.{Acts}
-use Rattle.rk_served.specs.WhoIsThere.{HasItsPeers}
-use Rattle.rk_machine.proofs.Effects.StagesByStep.{Kind, kind_in}
 use Rattle.rk_served.proofs.PeerLists.{at_has}
 use Rattle.rk_served.proofs.PeersFit.{agree, serves, Fits, fits, has_its_peers, same_peers, replaced, opened_fits, gone_fits, gone_done, ended_fits, runs_fits}
 use Rattle.rk_served.proofs.PeersFit.{follows_fits, follows_none_fits, answered_fits}

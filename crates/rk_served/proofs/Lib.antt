@@ -1,3 +1,4 @@
+mod Words
 pub mod ServedLaws
 pub mod PeerLists
 pub mod Standings

@@ -1,35 +1,14 @@
 -- What the calls of a server do, out of what they found.
-use Rattle.std.proofs.Common.{◌≡◌, ◌⊎◌, ℕ, true, false, List, [], ◌∷◌, ◌++◌, refl, sym, ap, ◌∙◌, subst, inl, inr}
-use Rattle.std.proofs.lemmas.List.{append-nil, set-get_or}
-use Rattle.std.specs.Prelude.{Option, Some, IfSome, slice_get, slice_set}
-use Rattle.rk_names.specs.declared.numbers.SessionId.{SessionId}
-use Rattle.rk_names.specs.declared.numbers.SessionId.TheVariants.{Client, Handler}
-use Rattle.rk_names.specs.declared.errors.Errno.{Errno}
-use Rattle.rk_conf.specs.declared.line.Line.{Line}
-use Rattle.rk_macro.specs.declared.subject.Subject.{Subject}
-use Rattle.rk_message.specs.Ask.{Ask}
+use Rattle.rk_served.proofs.Words.{refl, ◌∙◌, ap, sym, List, ◌≡◌, [], subst, ℕ, inr, true, ◌∷◌, inl, ◌++◌, false, ◌⊎◌, not-true, false_from_ne_true, append-nil}
+use Rattle.rk_served.proofs.Words.{set-get_or, get_or_from_slice_get, Some, Option, slice_get, slice_set, IfSome, Errno, SessionId, Handler, Client, Line, Ask}
+use Rattle.rk_served.proofs.Words.{Subject, ready_waits, Step, has_wait, is_ready, World, Answer, Start, Refused, Launched, Gone, Collect, Asked, MovesOne}
+use Rattle.rk_served.proofs.Words.{StartsNow, AnswersOne, RestsAt, is_stream, is_open, IsNextAt, HasFaultAt, shut_channel, IsCommand, Left, peer, without}
+use Rattle.rk_served.proofs.Words.{one_step, no_step, step, reply_to, replies_to, collects, refuses, asks, shuts_client, shuts_handler, Answered, puts_reply}
+use Rattle.rk_served.proofs.Words.{starts_one, fails_to_start, CannotMove, is_start, Output, Channel, Talks, Peer}
 use Rattle.rk_message.specs.declared.reply.Reply.TheVariants as reply
-use Rattle.rk_machine.specs.declared.event.EventOf.TheVariants.{Asked, Launched, Collect, Gone}
 use Rattle.rk_machine.specs.declared.event.Ran.TheVariants as ran
-use Rattle.rk_machine.specs.declared.event.Answer.{Answer}
-use Rattle.rk_machine.specs.declared.event.Answer.TheVariants.{Start, Refused}
-use Rattle.rk_machine.specs.World.{World}
-use Rattle.rk_machine.specs.Steps.{Step}
-use Rattle.rk_machine.specs.Views.{is_ready, has_wait}
-use Rattle.rk_served.specs.declared.output.Output.{Output}
 use Rattle.rk_served.specs.declared.output.Output.TheVariants as output
-use Rattle.rk_served.specs.declared.peer.Channel.{Channel}
-use Rattle.rk_served.specs.declared.peer.Channel.TheVariants.{Talks, Starts, Pipes}
-use Rattle.rk_served.specs.declared.peer.Peer.{Peer}
 use Rattle.rk_served.specs.declared.stream.Message.TheVariants as message
-use Rattle.rk_served.specs.Left.{Left, peer, without, step, no_step, one_step, reply_to, replies_to}
-use Rattle.rk_served.specs.Commands.{IsCommand}
-use Rattle.rk_served.specs.Moves.{is_start, Answered, puts_reply, starts_one, fails_to_start, collects, refuses, asks, shuts_client, shuts_handler, CannotMove}
-use Rattle.rk_served.specs.Channels.{is_stream, is_open, IsNextAt, HasFaultAt, shut_channel}
-use Rattle.rk_served.specs.Calls.{MovesOne, AnswersOne, StartsNow, RestsAt}
-use Rattle.rk_machine.proofs.Effects.ClientsByStep.{ready_waits}
-use Rattle.std.proofs.lemmas.Bool.{not-true, false_from_ne_true}
-use Rattle.std.proofs.lemmas.Option.{get_or_from_slice_get}
 
 -- ---- one ask
 
@@ -216,10 +195,8 @@ module _ (conf : List Line) (now : ℕ) (old new : Left) (put put' : List Output
 next_same : (p p' : Channel) → IsNextAt message.More p p' ⊎ IsNextAt message.Fault p p' → p' ≡ p
 next_same (Talks stream) p' (inl h) = h.1 ∙ ap Talks h.2.0
 next_same (Talks stream) p' (inr h) = h.1 ∙ ap Talks h.2.0
-next_same (Starts piped) p' (inl h) = h.1
-next_same (Starts piped) p' (inr h) = h.1
-next_same (Pipes bytes) p' (inl h) = h.1
-next_same (Pipes bytes) p' (inr h) = h.1
+next_same _ p' (inl h) = h.1
+next_same _ p' (inr h) = h.1
 
 -- looking for a message where none is whole leaves everything
 pub next_left : (left : Left) (i : ℕ) (who : SessionId) (made_for : Option Subject) (p p' : Channel) → slice_get left.peers i ≡ Some (peer who p made_for)

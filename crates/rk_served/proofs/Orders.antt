@@ -1,16 +1,7 @@
 -- Moves in the order of work, and the served lists that they make.
-use Rattle.std.proofs.Common.{◌≡◌, ℕ, List, [], ◌∷◌, ◌++◌, Option, refl, sym, ap, ◌∙◌, subst, append_assoc}
-use Rattle.std.proofs.lemmas.List.{append-nil}
-use Rattle.std.specs.Prelude.{Some, None}
-use Rattle.rk_conf.specs.declared.line.Line.{Line}
-use Rattle.rk_machine.specs.Steps.{Past}
-use Rattle.rk_served.specs.declared.happening.Happening.{Happening}
-use Rattle.rk_served.specs.declared.output.Output.{Output}
-use Rattle.rk_served.specs.Left.{Left, Part}
-use Rattle.rk_served.specs.Moves.{Moves}
-use Rattle.rk_served.specs.Served.{Turn, outputs_of, ServesBy, Serves, ServedBy}
-use Rattle.rk_served.specs.Order.{MovesFirst, MovesInOrder, ServesInOrder, ServesTurnInOrder}
-use Rattle.rk_served.specs.Calls.{MovesNext, MovesSome}
+use Rattle.rk_served.proofs.Words.{refl, ◌∙◌, ap, sym, List, ◌≡◌, [], subst, ℕ, ◌∷◌, ◌++◌, append_assoc, append-nil, Some, Option, None, Line, Past, MovesNext}
+use Rattle.rk_served.proofs.Words.{MovesSome, Left, Part, Moves, ServesInOrder, MovesFirst, MovesInOrder, ServesTurnInOrder, Turn, outputs_of, ServesBy, Serves}
+use Rattle.rk_served.proofs.Words.{ServedBy, Happening, Output}
 
 -- ---- one move more
 

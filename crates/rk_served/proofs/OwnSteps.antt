@@ -1,43 +1,16 @@
 -- What the own step of a happening does, out of what was called.
-use Rattle.std.proofs.Common.{◌≡◌, ◌⊎◌, ℕ, Bool, true, false, List, [], ◌∷◌, ◌++◌, refl, sym, ap, ◌∙◌, subst, inl, inr}
-use Rattle.std.proofs.lemmas.List.{append-nil}
-use Rattle.std.specs.Prelude.{Option, Some, None, is_some, slice_get, slice_set}
-use Rattle.rk_names.specs.declared.numbers.SessionId.{SessionId}
-use Rattle.rk_names.specs.declared.numbers.SessionId.TheVariants.{Client, Handler}
-use Rattle.rk_names.specs.declared.errors.Errno.{Errno}
-use Rattle.rk_auth.specs.declared.construction.Stage.{Stage}
-use Rattle.rk_auth.specs.declared.construction.Stage.TheVariants.{Starting, Plain, Piped, Negating}
+use Rattle.rk_served.proofs.Words.{refl, ◌∙◌, ap, sym, List, ◌≡◌, [], subst, ℕ, inr, true, ◌∷◌, inl, ◌++◌, Bool, false, ◌⊎◌, and_parts, append-nil, MatchBool}
+use Rattle.rk_served.proofs.Words.{Some, Option, None, slice_get, slice_set, is_some, Errno, SessionId, Handler, Client, Stage, Starting, Plain, Piped}
+use Rattle.rk_served.proofs.Words.{Negating, Line, Subject, unless, or_memory, done, Settles, Leaves, Event, open_refusal, would_negate, negating, Ends, Step}
+use Rattle.rk_served.proofs.Words.{is_owed, World, Answer, Refused, Negate, Launched, Opened, Ended, How, Fault, StartsNow, is_refused, MakesOwnStep, IsStartAt}
+use Rattle.rk_served.proofs.Words.{HasEnded, EndsOne, IsCommand, Left, peer, without, Part, one_step, Adds, EndsBy, is_last, is_followed, is_not_followed}
+use Rattle.rk_served.proofs.Words.{OwnStep, negated, StepsBy, is_running, callout_to, payload_in, no_bytes, HasItsPeers, has_channel, fits_stage, Sits}
+use Rattle.rk_served.proofs.Words.{Happening, Started, Output, Starts, Talks, Pipes, Peer}
 use Rattle.rk_auth.specs.Sessions as sessions
-use Rattle.rk_macro.specs.declared.subject.Subject.{Subject}
-use Rattle.rk_machine.specs.Event.{Event}
-use Rattle.rk_machine.specs.declared.event.EventOf.TheVariants.{Opened, Launched, Ended}
 use Rattle.rk_machine.specs.declared.event.Ran.TheVariants as ran
-use Rattle.rk_machine.specs.declared.event.How.{How}
-use Rattle.rk_machine.specs.declared.event.How.TheVariants.{Fault}
-use Rattle.rk_machine.specs.declared.event.Answer.{Answer}
-use Rattle.rk_machine.specs.declared.event.Answer.TheVariants.{Refused, Negate}
-use Rattle.rk_machine.specs.World.{World}
-use Rattle.rk_machine.specs.Allowed.{done, Leaves, Settles}
-use Rattle.rk_machine.specs.Steps.{Step, open_refusal, would_negate, negating, Ends}
-use Rattle.rk_machine.specs.Views.{is_owed}
 use Rattle.rk_machine.specs.Completion.{condition_after, ended}
-use Rattle.rk_conf.specs.declared.line.Line.{Line}
-use Rattle.std.specs.Bool.{MatchBool}
-use Rattle.rk_machine.proofs.Found.Refusals.{unless, or_memory}
-use Rattle.rk_served.specs.declared.happening.Happening.{Happening}
 use Rattle.rk_served.specs.declared.happening.Happening.TheVariants as happening
-use Rattle.rk_served.specs.declared.happening.StartResult.TheVariants.{Started}
-use Rattle.rk_served.specs.declared.output.Output.{Output}
 use Rattle.rk_served.specs.declared.output.Output.TheVariants as output
-use Rattle.rk_served.specs.declared.peer.Channel.TheVariants.{Talks, Starts, Pipes}
-use Rattle.rk_served.specs.declared.peer.Peer.{Peer}
-use Rattle.rk_served.specs.Streams.{no_bytes}
-use Rattle.rk_served.specs.Left.{Left, peer, without, Part, one_step}
-use Rattle.rk_served.specs.Commands.{IsCommand}
-use Rattle.rk_served.specs.WhoIsThere.{Sits, has_channel, fits_stage, HasItsPeers}
-use Rattle.rk_served.specs.OwnStep.{is_running, StepsBy, Adds, callout_to, payload_in, negated, EndsBy, is_last, is_followed, is_not_followed, OwnStep}
-use Rattle.rk_served.specs.Calls.{is_refused, MakesOwnStep, StartsNow, IsStartAt, HasEnded, EndsOne}
-use Rattle.std.proofs.lemmas.Bool.{and_parts}
 use Rattle.rk_served.proofs.PeersFit.{launch_done, follow_owed}
 
 -- ---- what owed events are answered
@@ -45,8 +18,7 @@ use Rattle.rk_served.proofs.PeersFit.{launch_done, follow_owed}
 opened_cases : (w : World) (now n : ℕ) (a : Answer) (v : World) → Step w now (Opened (Client n)) a v → (a ≡ done) ⊎ ((e : Errno) × (a ≡ Refused e))
 unfolding Step
 opened_cases w now n a v h =
-    unless (open_refusal w n) w a v _ _ (λ e ra same. inr (e, ra))
-    (λ none g. or_memory w a v _ _ (λ e ra same. inr (e, ra)) (λ left. inl left.0) g) h
+    unless (open_refusal w n) w a v _ _ (λ e ra same. inr (e, ra)) (λ none g. or_memory w a v _ _ (λ e ra same. inr (e, ra)) (λ left. inl left.0) g) h
 
 -- a handler that runs has ended, or another follows
 pub ended_answered : (w : World) (now k : ℕ) (how : How) (payload : Option (List ℕ)) (a : Answer) (v : World) → is_running w k ≡ true
@@ -212,8 +184,7 @@ module _ (conf : List Line) (now k : ℕ) (event : Event) (subject : Option Subj
           first = first;
           no_command = h.no_command;
           second =
-              subst (λ (x : Answer). Step mid now (Launched k ran.Failed) x new.world)
-              (launch_done mid now k ran.Failed h.answer new.world
+              subst (λ (x : Answer). Step mid now (Launched k ran.Failed) x new.world) (launch_done mid now k ran.Failed h.answer new.world
               (follow_owed left.world now k ended.how ended.payload mid
               (subst (λ (e : Event). Step left.world now e (Negate k) mid) ended.event_is first)) h.step) h.step;
           part_is = refl;

@@ -1,15 +1,8 @@
 -- What a list of peers has for each session, after each change of it.
-use Rattle.std.proofs.Common.{◌≡◌, ℕ, zero, suc, ◌<◌, length, get_or, Bool, true, false, cond, not, ◌&&◌, ◌||◌, List, [], ◌∷◌, ◌++◌, refl, sym, ap, ◌∙◌}
-use Rattle.std.specs.Prelude.{Option, Some, None, IfSome, is_some, slice_get, slice_set}
-use Rattle.std.specs.List.{remove}
-use Rattle.std.proofs.lemmas.Bool.{and_parts, not-true, or_parts, or_left, or_right, false_from_ne_true}
-use Rattle.std.proofs.lemmas.Option.{same_Some, slice_get_read, MatchOption-at_some}
-use Rattle.rk_names.specs.declared.numbers.SessionId.{SessionId}
-use Rattle.rk_machine.specs.Laws.{same_session}
-use Rattle.rk_machine.proofs.Effects.WaitsAfter.{same-true, same-self}
-use Rattle.rk_served.specs.declared.peer.Peer.{Peer}
-use Rattle.rk_served.specs.Left.{without}
-use Rattle.rk_served.specs.WhoIsThere.{peer_of, has_peer, are_apart}
+use Rattle.rk_served.proofs.Words.{refl, ◌∙◌, ap, sym, List, ◌≡◌, [], ℕ, true, ◌∷◌, ◌++◌, Bool, false, cond, not, length, zero, suc, ◌<◌, get_or, ◌&&◌, ◌||◌}
+use Rattle.rk_served.proofs.Words.{and_parts, not-true, false_from_ne_true, or_parts, or_left, or_right, slice_get_read, same_Some, MatchOption-at_some, remove}
+use Rattle.rk_served.proofs.Words.{Some, Option, None, slice_get, slice_set, is_some, IfSome, SessionId, same-true, same-self, same_session, without, peer_of}
+use Rattle.rk_served.proofs.Words.{are_apart, has_peer, Peer, shadow, swap_tests}
 
 -- ---- sessions
 
@@ -26,16 +19,6 @@ pub who_is : {x y : Peer} → Some x ≡ Some y → x.who ≡ y.who
 who_is {x} {y} e = ap (λ (v : Peer). v.who) (same_Some x y e)
 
 -- ---- choices
-
-cond_swap : (b c : Bool) (x y o : Option Peer) → (b ≡ true → c ≡ true → ⊥) → cond b x (cond c y o) ≡ cond c y (cond b x o)
-cond_swap true true x y o h = absurd (h refl refl)
-cond_swap true false x y o h = refl
-cond_swap false c x y o h = refl
-
--- of two choices by one test the first counts
-pub cond_twice : {X : Type 0} (b : Bool) (x y o : X) → cond b x (cond b y o) ≡ cond b x o
-cond_twice true x y o = refl
-cond_twice false x y o = refl
 
 -- one is there where another one is chosen, or among the rest
 pub is_chosen : (b : Bool) (x : Peer) (o : Option Peer) → is_some (cond b (Some x) o) ≡ (b || is_some o)
@@ -60,7 +43,7 @@ peer_added [] after x none t = refl
 peer_added (b ∷ bs) after x none t =
     let apart = apart_from b (bs ++ after) x.who none in
     ap (cond (same_session b.who t) (Some b)) (peer_added bs after x apart.1 t)
-    ∙ cond_swap (same_session b.who t) (same_session x.who t) _ _ _ (λ e f. let g = same_both b.who x.who t e f in let h = apart.0 in cc)
+    ∙ swap_tests (same_session b.who t) (same_session x.who t) _ _ _ (λ e f. let g = same_both b.who x.who t e f in let h = apart.0 in cc)
 
 has_added : (before after : List Peer) (x : Peer) (t : SessionId) → has_peer (before ++ x ∷ after) t ≡ (same_session x.who t || has_peer (before ++ after) t)
 has_added [] after x t = is_chosen (same_session x.who t) x (peer_of after t)
@@ -76,8 +59,7 @@ apart_added [] after x none apart = (λ i. not (none i) && apart i)
 apart_added (b ∷ bs) after x none apart =
     let parts = and_parts _ _ apart in
     let from = apart_from b (bs ++ after) x.who none in
-    let other : has_peer (bs ++ x ∷ after) b.who ≡ false = has_added bs after x b.who
-    ∙ (λ i. turned b.who x.who from.0 i || not-true _ parts.0 i) in
+    let other : has_peer (bs ++ x ∷ after) b.who ≡ false = has_added bs after x b.who ∙ (λ i. turned b.who x.who from.0 i || not-true _ parts.0 i) in
     (λ i. not (other i) && apart_added bs after x from.1 parts.1 i)
 
 -- ---- one peer less
@@ -95,10 +77,10 @@ peer_without s (x ∷ xs) t = by_test (peer_without s xs t) (same_session x.who 
         → peer_of (cond (not b) (x ∷ without s xs) (without s xs)) t ≡ cond (same_session s t) None (peer_of (x ∷ xs) t)
     by_test rest true e =
         rest ∙ sym (ap (λ v. cond (same_session s t) None (cond (same_session v t) (Some x) (peer_of xs t))) (same-true x.who s e)
-        ∙ cond_twice (same_session s t) None (Some x) (peer_of xs t))
+        ∙ shadow (same_session s t) None (Some x) (peer_of xs t))
     by_test rest false e =
         ap (cond (same_session x.who t) (Some x)) rest
-        ∙ cond_swap (same_session x.who t) (same_session s t) _ None _ (λ p q. let g = same_both x.who s t p q in cc)
+        ∙ swap_tests (same_session x.who t) (same_session s t) _ None _ (λ p q. let g = same_both x.who s t p q in cc)
 
 -- nobody has two after one is taken out
 pub apart_without : (s : SessionId) (xs : List Peer) → are_apart xs ≡ true → are_apart (without s xs) ≡ true
@@ -129,8 +111,7 @@ seen_alike f [] i x y at same alike t = refl
 seen_alike f (z ∷ zs) zero x y at same alike t =
     ap (λ s. f (cond (same_session s t) (Some y) (peer_of zs t))) (same ∙ sym (who_is at))
     ∙ under f (same_session z.who t) (Some y) _ (Some z) _ (alike ∙ ap (λ (v : Peer). f (Some v)) (sym (same_Some z x at))) refl
-seen_alike f (z ∷ zs) (suc i) x y at same alike t =
-    under f (same_session z.who t) (Some z) _ (Some z) _ refl (seen_alike f zs i x y at same alike t)
+seen_alike f (z ∷ zs) (suc i) x y at same alike t = under f (same_session z.who t) (Some z) _ (Some z) _ refl (seen_alike f zs i x y at same alike t)
 
 -- nobody has two after the one at a place is changed
 pub apart_set : (xs : List Peer) (i : ℕ) (x y : Peer) → slice_get xs i ≡ Some x → y.who ≡ x.who → are_apart (slice_set xs i y) ≡ are_apart xs
@@ -156,8 +137,7 @@ at_place [] i x apart at = absurd (cc)
 at_place (z ∷ zs) zero x apart at =
     ap (λ (v : Peer). cond (same_session v.who x.who) (Some v) (peer_of zs x.who)) (same_Some z x at)
     ∙ ap (λ b. cond b (Some x) (peer_of zs x.who)) (same-self x.who)
-at_place (z ∷ zs) (suc i) x apart at =
-    ap (λ b. cond b (Some z) (peer_of zs x.who)) (apart_at z zs i x apart at) ∙ at_place zs i x (and_parts _ _ apart).1 at
+at_place (z ∷ zs) (suc i) x apart at = ap (λ b. cond b (Some z) (peer_of zs x.who)) (apart_at z zs i x apart at) ∙ at_place zs i x (and_parts _ _ apart).1 at
 
 -- then after a change its session has the new one, and every other has what it had
 pub peer_set : (xs : List Peer) (i : ℕ) (x y : Peer) → are_apart xs ≡ true → slice_get xs i ≡ Some x → y.who ≡ x.who → (t : SessionId)
@@ -166,11 +146,10 @@ peer_set [] i x y apart at same t = absurd (cc)
 peer_set (z ∷ zs) zero x y apart at same t =
     ap (λ s. cond (same_session s t) (Some y) (peer_of zs t)) same
     ∙ sym (ap (λ s. cond (same_session x.who t) (Some y) (cond (same_session s t) (Some z) (peer_of zs t))) (who_is at)
-    ∙ cond_twice (same_session x.who t) (Some y) (Some z) (peer_of zs t))
+    ∙ shadow (same_session x.who t) (Some y) (Some z) (peer_of zs t))
 peer_set (z ∷ zs) (suc i) x y apart at same t =
     ap (cond (same_session z.who t) (Some z)) (peer_set zs i x y (and_parts _ _ apart).1 at same t)
-    ∙ cond_swap (same_session z.who t) (same_session x.who t) _ _ _
-    (λ e f. let g = same_both z.who x.who t e f in let h = apart_at z zs i x apart at in cc)
+    ∙ swap_tests (same_session z.who t) (same_session x.who t) _ _ _ (λ e f. let g = same_both z.who x.who t e f in let h = apart_at z zs i x apart at in cc)
 
 -- ---- a peer is taken by its place
 

@@ -1,43 +1,17 @@
 -- Whatever is served, the peers are those of who is there.
-use Rattle.std.proofs.Common.{◌≡◌, ℕ, Bool, true, false, cond, not, ◌&&◌, ◌||◌, List, refl, sym, ap, ◌∙◌, subst}
-use Rattle.std.specs.Prelude.{Option, Some, None, is_some, nat_eq, option_map, slice_get, slice_set}
+use Rattle.rk_served.proofs.Words.{refl, ◌∙◌, ap, sym, List, ◌≡◌, subst, ℕ, true, Bool, false, cond, not, ◌&&◌, ◌||◌, eq-eqb, eqb-true, Some, Option, None}
+use Rattle.rk_served.proofs.Words.{slice_get, slice_set, is_some, nat_eq, option_map, SessionId, Handler, Client, stage_of, Construction, Stage, Starting}
+use Rattle.rk_served.proofs.Words.{Plain, Piped, Negating, Line, Ask, Subject, is_client, client_after, clients, effect, kind_in, Kind, kind_of, to_start}
+use Rattle.rk_served.proofs.Words.{talks, pipes, to_follow, kind, is_due, kind_after, kinds, launched_kind, IsIdle, idle_step, start_draws, launch_kind}
+use Rattle.rk_served.proofs.Words.{same-self, done, Settles, refused_if, Unless, Event, same_session, may_launch, Step, is_owed, World, Answer, Start, Negate}
+use Rattle.rk_served.proofs.Words.{Launched, Gone, Opened, Ended, Asked, How, Left, peer, without, Part, Answered, puts_reply, starts_one, fails_to_start}
+use Rattle.rk_served.proofs.Words.{is_start_of, Adds, has_client, HasItsPeers, peer_of, are_apart, has_channel, fits_stage, has_peer, Channel, Starts, Talks}
+use Rattle.rk_served.proofs.Words.{Pipes, Peer, shadow}
 use Rattle.std.specs.FinMap as map
-use Rattle.std.proofs.lemmas.Bool.{eqb-true, eq-eqb}
-use Rattle.rk_names.specs.declared.numbers.SessionId.{SessionId}
-use Rattle.rk_names.specs.declared.numbers.SessionId.TheVariants.{Client, Handler}
 use Rattle.rk_names.specs.declared.errors.Errno.TheVariants as errno
-use Rattle.rk_message.specs.Ask.{Ask}
-use Rattle.rk_conf.specs.declared.line.Line.{Line}
-use Rattle.rk_macro.specs.declared.subject.Subject.{Subject}
-use Rattle.rk_auth.specs.declared.construction.Stage.{Stage}
-use Rattle.rk_auth.specs.declared.construction.Stage.TheVariants.{Starting, Plain, Piped, Negating}
-use Rattle.rk_auth.specs.declared.construction.Construction.{Construction}
-use Rattle.rk_auth.specs.Sessions.{stage_of}
-use Rattle.rk_machine.specs.Event.{Event}
-use Rattle.rk_machine.specs.declared.event.EventOf.TheVariants.{Opened, Asked, Launched, Ended, Gone}
 use Rattle.rk_machine.specs.declared.event.Ran.{Ran}
 use Rattle.rk_machine.specs.declared.event.Ran.TheVariants as ran
-use Rattle.rk_machine.specs.declared.event.How.{How}
-use Rattle.rk_machine.specs.declared.event.Answer.{Answer}
-use Rattle.rk_machine.specs.declared.event.Answer.TheVariants.{Start, Negate}
-use Rattle.rk_machine.specs.World.{World}
-use Rattle.rk_machine.specs.Allowed.{done, refused_if, Unless, Settles}
-use Rattle.rk_machine.specs.Steps.{Step, may_launch}
-use Rattle.rk_machine.specs.Views.{is_owed}
-use Rattle.rk_machine.specs.Laws.{same_session}
-use Rattle.rk_machine.proofs.Effects.KindsOfStep.{effect}
-use Rattle.rk_served.specs.declared.peer.Channel.{Channel}
-use Rattle.rk_served.specs.declared.peer.Channel.TheVariants.{Talks, Starts, Pipes}
-use Rattle.rk_served.specs.declared.peer.Peer.{Peer}
-use Rattle.rk_served.specs.Left.{Left, peer, without, Part}
-use Rattle.rk_served.specs.Moves.{is_start as is_start_of, Answered, puts_reply, starts_one, fails_to_start}
-use Rattle.rk_served.specs.OwnStep.{has_client, Adds}
-use Rattle.rk_served.specs.WhoIsThere.{peer_of, has_peer, has_channel, fits_stage, are_apart, HasItsPeers}
-use Rattle.rk_machine.proofs.Effects.StagesByStep.{Kind, to_start, talks, pipes, to_follow, kind, kind_in, kind_of, is_due, kind_after, kinds, launched_kind}
-use Rattle.rk_machine.proofs.Effects.ClientsByStep.{is_client, client_after, clients}
-use Rattle.rk_machine.proofs.Effects.UndrawnIsIdle.{IsIdle, idle_step, start_draws, launch_kind}
-use Rattle.rk_machine.proofs.Effects.WaitsAfter.{same-self}
-use Rattle.rk_served.proofs.PeerLists.{cond_twice, seen_alike, peer_added, apart_added, peer_without, apart_without, peer_set, apart_set}
+use Rattle.rk_served.proofs.PeerLists.{seen_alike, peer_added, apart_added, peer_without, apart_without, peer_set, apart_set}
 
 -- ---- the stage of a construction and the channel of its peer
 
@@ -133,7 +107,7 @@ none_after s xs = ap is_some (peer_without s xs s ∙ ap (λ b. cond b None (pee
 exchanged : (x : Peer) (old new : List Peer) → Adds x (without x.who old) new → Becomes x.who (Some x) old new
 exchanged x old new adds t =
     added x (without x.who old) new adds (none_after x.who old) t ∙ ap (cond (same_session x.who t) (Some x)) (peer_without x.who old t)
-    ∙ cond_twice (same_session x.who t) (Some x) None (peer_of old t)
+    ∙ shadow (same_session x.who t) (Some x) None (peer_of old t)
 
 changed : (old new : List Peer) (i : ℕ) (s : SessionId) (p q : Channel) (m : Option Subject) → are_apart old ≡ true → slice_get old i ≡ Some (peer s p m)
     → new ≡ slice_set old i (peer s q m) → Becomes s (Some (peer s q m)) old new × (are_apart new ≡ true)
@@ -187,13 +161,25 @@ module _ (old new : Left) (f : Fits old) (apart : are_apart new.peers ≡ true) 
     idle = idle;
   }
 
+-- what a step leaves: the clients that are there, how far each construction is, and nothing of what was never drawn
+pub record IsAfter (old : World) (e : Event) (a : Answer) (new : World) : Type 0 where
+  pub clients : (n : ℕ) → is_client new.sessions n ≡ client_after n e a (is_client old.sessions n)
+  pub kinds : (k : ℕ) → kind_of new.sessions k ≡ kind_after k e a (kind_of old.sessions k)
+  pub idle : IsIdle old → IsIdle new
+
+is_after : (old : World) (now : ℕ) (e : Event) (a : Answer) (new : World) → Step old now e a new → IsAfter old e a new
+is_after old now e a new h = record {
+  clients = clients old now e a new (effect old now e a new h);
+  kinds = kinds old now e a new (effect old now e a new h);
+  idle = idle_step old now e a new h;
+}
+
 -- the same peers fit after a step that leaves who is there and how far each construction is
 pub same_peers : (old new : Left) (now : ℕ) (e : Event) (a : Answer) → Step old.world now e a new.world → ((n : ℕ) (b : Bool) → client_after n e a b ≡ b)
     → ((k : ℕ) (o : Option Kind) → kind_after k e a o ≡ o) → new.peers ≡ old.peers → Fits old → Fits new
 same_peers old new now e a h cs ks same f =
-    let is = effect old.world now e a new.world h in
-    peers_fit old new f (ap are_apart same ∙ f.apart) (idle_step old.world now e a new.world h f.idle) same
-    (λ n. clients old.world now e a new.world is n ∙ cs n _) (λ k. kinds old.world now e a new.world is k ∙ ks k _)
+    let after = is_after old.world now e a new.world h in
+    peers_fit old new f (ap are_apart same ∙ f.apart) (after.idle f.idle) same (λ n. after.clients n ∙ cs n _) (λ k. after.kinds k ∙ ks k _)
 
 -- another stream, or more bytes
 pub replaced : (old new : Left) (i : ℕ) (s : SessionId) (p q : Channel) (m : Option Subject) → slice_get old.peers i ≡ Some (peer s p m)
@@ -218,11 +204,10 @@ replaced old new i s p q m at peers alike w f = record {
 pub opened_fits : (old new : Left) (now n : ℕ) (p : Channel) → has_client old.world n ≡ false → Step old.world now (Opened (Client n)) done new.world
     → Adds (peer (Client n) p None) old.peers new.peers → Fits old → Fits new
 opened_fits old new now n p absent h adds f =
-    let is = effect old.world now (Opened (Client n)) done new.world h in
+    let after = is_after old.world now (Opened (Client n)) done new.world h in
     let none : has_peer old.peers (Client n) ≡ false = f.clients n ∙ absent in
-    client_fits old new f (added_apart _ old.peers new.peers adds none f.apart) (idle_step old.world now (Opened (Client n)) done new.world h f.idle)
-    n (Some (peer (Client n) p None)) (added _ old.peers new.peers adds none)
-    (λ m. clients old.world now (Opened (Client n)) done new.world is m ∙ comes (nat_eq n m) _) (kinds old.world now (Opened (Client n)) done new.world is)
+    client_fits old new f (added_apart _ old.peers new.peers adds none f.apart) (after.idle f.idle) n (Some (peer (Client n) p None))
+    (added _ old.peers new.peers adds none) (λ m. after.clients m ∙ comes (nat_eq n m) _) after.kinds
   where
     comes : (b c : Bool) → (b || c) ≡ cond b true c
     comes true c = refl
@@ -232,10 +217,9 @@ opened_fits old new now n p absent h adds f =
 pub gone_fits : (old new : Left) (now n : ℕ) → Step old.world now (Gone (Client n)) done new.world → new.peers ≡ without (Client n) old.peers → Fits old
     → Fits new
 gone_fits old new now n h peers f =
-    let is = effect old.world now (Gone (Client n)) done new.world h in
-    client_fits old new f (ap are_apart peers ∙ apart_without (Client n) old.peers f.apart) (idle_step old.world now (Gone (Client n)) done new.world h f.idle)
-    n None (lost (Client n) old.peers new.peers peers)
-    (λ m. clients old.world now (Gone (Client n)) done new.world is m ∙ goes (nat_eq n m) _) (kinds old.world now (Gone (Client n)) done new.world is)
+    let after = is_after old.world now (Gone (Client n)) done new.world h in
+    client_fits old new f (ap are_apart peers ∙ apart_without (Client n) old.peers f.apart) (after.idle f.idle) n None
+    (lost (Client n) old.peers new.peers peers) (λ m. after.clients m ∙ goes (nat_eq n m) _) after.kinds
   where
     goes : (b c : Bool) → (not b && c) ≡ cond b false c
     goes true c = refl
@@ -248,10 +232,9 @@ pub ended_fits : (old new : Left) (now k : ℕ) (e : Event) → ((n : ℕ) (b : 
     → ((q : ℕ) (o : Option Kind) → kind_after q e done o ≡ cond (nat_eq k q) None o)
     → Step old.world now e done new.world → new.peers ≡ without (Handler k) old.peers → Fits old → Fits new
 ended_fits old new now k e cs ks h peers f =
-    let is = effect old.world now e done new.world h in
-    handler_fits old new f (ap are_apart peers ∙ apart_without (Handler k) old.peers f.apart) (idle_step old.world now e done new.world h f.idle)
-    k None None (lost (Handler k) old.peers new.peers peers) refl
-    (λ n. clients old.world now e done new.world is n ∙ cs n _) (λ q. kinds old.world now e done new.world is q ∙ ks q _)
+    let after = is_after old.world now e done new.world h in
+    handler_fits old new f (ap are_apart peers ∙ apart_without (Handler k) old.peers f.apart) (after.idle f.idle) k None None
+    (lost (Handler k) old.peers new.peers peers) refl (λ n. after.clients n ∙ cs n _) (λ q. after.kinds q ∙ ks q _)
 
 -- a handler that runs from now on
 pub runs_fits : (old new : Left) (now k : ℕ) (r : Ran) (i : ℕ) (p q : Channel) (subject : Subject)
@@ -259,48 +242,43 @@ pub runs_fits : (old new : Left) (now k : ℕ) (r : Ran) (i : ℕ) (p q : Channe
     → slice_get old.peers i ≡ Some (peer (Handler k) p (Some subject)) → new.peers ≡ slice_set old.peers i (peer (Handler k) q (Some subject)) → Fits old
     → Fits new
 runs_fits old new now k r i p q subject agreed h at peers f =
-    let is = effect old.world now (Launched k r) done new.world h in
+    let after = is_after old.world now (Launched k r) done new.world h in
     let by = changed old.peers new.peers i (Handler k) p q (Some subject) f.apart at peers in
-    handler_fits old new f by.1 (idle_step old.world now (Launched k r) done new.world h f.idle) k (launched_kind r) _ by.0 agreed
-    (clients old.world now (Launched k r) done new.world is) (kinds old.world now (Launched k r) done new.world is)
+    handler_fits old new f by.1 (after.idle f.idle) k (launched_kind r) _ by.0 agreed after.clients after.kinds
 
 -- a start, whose command is output
 starts_fits : (old new : Left) (now k : ℕ) (s : SessionId) (x : Ask) (subject : Subject) (piped : Bool)
     → Step old.world now (Asked s x) (Start k subject) new.world → Adds (peer (Handler k) (Starts piped) (Some subject)) old.peers new.peers → Fits old
     → Fits new
 starts_fits old new now k s x subject piped h adds f =
-    let is = effect old.world now (Asked s x) (Start k subject) new.world h in
-    let fresh : kind_of old.world.sessions k ≡ None = f.idle k (start_draws old.world now (Asked s x) (Start k subject) new.world is k subject refl).0 in
+    let after = is_after old.world now (Asked s x) (Start k subject) new.world h in
+    let fresh : kind_of old.world.sessions k ≡ None = f.idle k (start_draws old.world now (Asked s x) (Start k subject) new.world
+    (effect old.world now (Asked s x) (Start k subject) new.world h) k subject refl).0 in
     let none = no_kind (peer_of old.peers (Handler k)) (ap (λ y. agree y (peer_of old.peers (Handler k))) (sym fresh) ∙ f.kinds k) in
-    handler_fits old new f (added_apart _ old.peers new.peers adds none f.apart) (idle_step old.world now (Asked s x) (Start k subject) new.world h f.idle)
-    k (Some to_start) _ (added _ old.peers new.peers adds none) refl
-    (clients old.world now (Asked s x) (Start k subject) new.world is) (kinds old.world now (Asked s x) (Start k subject) new.world is)
+    handler_fits old new f (added_apart _ old.peers new.peers adds none f.apart) (after.idle f.idle) k (Some to_start) _
+    (added _ old.peers new.peers adds none) refl after.clients after.kinds
 
 -- a plain command that is output where a piped handler has failed
 pub follows_fits : (old new : Left) (now k : ℕ) (how : How) (payload : Option (List ℕ)) (subject : Subject)
     → Step old.world now (Ended k how payload) (Negate k) new.world
     → Adds (peer (Handler k) (Starts false) (Some subject)) (without (Handler k) old.peers) new.peers → Fits old → Fits new
 follows_fits old new now k how payload subject h adds f =
-    let is = effect old.world now (Ended k how payload) (Negate k) new.world h in
+    let after = is_after old.world now (Ended k how payload) (Negate k) new.world h in
     handler_fits old new f
     (added_apart _ (without (Handler k) old.peers) new.peers adds (none_after (Handler k) old.peers) (apart_without (Handler k) old.peers f.apart))
-    (idle_step old.world now (Ended k how payload) (Negate k) new.world h f.idle) k (Some to_follow) _
-    (exchanged (peer (Handler k) (Starts false) (Some subject)) old.peers new.peers adds) refl
-    (clients old.world now (Ended k how payload) (Negate k) new.world is) (kinds old.world now (Ended k how payload) (Negate k) new.world is)
+    (after.idle f.idle) k (Some to_follow) _ (exchanged (peer (Handler k) (Starts false) (Some subject)) old.peers new.peers adds) refl
+    after.clients after.kinds
 
 -- the start of what was to follow fails at once
 pub follows_none_fits : (old new : Left) (mid : World) (now k : ℕ) (how : How) (payload : Option (List ℕ))
     → Step old.world now (Ended k how payload) (Negate k) mid → Step mid now (Launched k ran.Failed) done new.world
     → new.peers ≡ without (Handler k) old.peers → Fits old → Fits new
 follows_none_fits old new mid now k how payload first second peers f =
-    let one = effect old.world now (Ended k how payload) (Negate k) mid first in
-    let two = effect mid now (Launched k ran.Failed) done new.world second in
-    handler_fits old new f (ap are_apart peers ∙ apart_without (Handler k) old.peers f.apart)
-    (idle_step mid now (Launched k ran.Failed) done new.world second (idle_step old.world now (Ended k how payload) (Negate k) mid first f.idle))
-    k None None (lost (Handler k) old.peers new.peers peers) refl
-    (λ n. clients mid now (Launched k ran.Failed) done new.world two n ∙ clients old.world now (Ended k how payload) (Negate k) mid one n)
-    (λ q. kinds mid now (Launched k ran.Failed) done new.world two q ∙ ap (cond (nat_eq k q) None) (kinds old.world now (Ended k how payload) (Negate k) mid one q)
-    ∙ cond_twice (nat_eq k q) None (Some to_follow) (kind_of old.world.sessions q))
+    let one = is_after old.world now (Ended k how payload) (Negate k) mid first in
+    let two = is_after mid now (Launched k ran.Failed) done new.world second in
+    handler_fits old new f (ap are_apart peers ∙ apart_without (Handler k) old.peers f.apart) (two.idle (one.idle f.idle)) k None None
+    (lost (Handler k) old.peers new.peers peers) refl (λ n. two.clients n ∙ one.clients n)
+    (λ q. two.kinds q ∙ ap (cond (nat_eq k q) None) (one.kinds q) ∙ shadow (nat_eq k q) None (Some to_follow) (kind_of old.world.sessions q))
 
 -- ---- a construction that waits for its start is launched
 
@@ -323,8 +301,7 @@ pub follow_owed : (old : World) (now k : ℕ) (how : How) (payload : Option (Lis
     → is_owed mid (Launched k ran.Failed) ≡ true
 follow_owed old now k how payload mid h =
     failed_owed mid k to_follow
-    (kinds old now (Ended k how payload) (Negate k) mid (effect old now (Ended k how payload) (Negate k) mid h) k
-    ∙ ap (λ b. cond b (Some to_follow) (kind_of old.sessions k)) (eq-eqb k k refl)) refl
+    ((is_after old now (Ended k how payload) (Negate k) mid h).kinds k ∙ ap (λ b. cond b (Some to_follow) (kind_of old.sessions k)) (eq-eqb k k refl)) refl
 
 -- a start that fails at once
 module _ (old mid new : World) (now k : ℕ) (s : SessionId) (x : Ask) (subject : Subject) (a : Answer) (first : Step old now (Asked s x) (Start k subject) mid)
@@ -337,9 +314,9 @@ module _ (old mid new : World) (now k : ℕ) (s : SessionId) (x : Ask) (subject 
   pub failed_kinds : (q : ℕ) → kind_of new.sessions q ≡ kind_of old.sessions q
   failed_kinds q =
       let began : (j : ℕ) → kind_of mid.sessions j ≡ cond (nat_eq k j) (Some to_start) (kind_of old.sessions j) =
-      kinds old now (Asked s x) (Start k subject) mid (effect old now (Asked s x) (Start k subject) mid first) in
+      (is_after old now (Asked s x) (Start k subject) mid first).kinds in
       let there = failed_owed mid k to_start (began k ∙ ap (λ b. cond b (Some to_start) (kind_of old.sessions k)) (eq-eqb k k refl)) refl in
-      kinds mid now (Launched k ran.Failed) a new (effect mid now (Launched k ran.Failed) a new second) q
+      (is_after mid now (Launched k ran.Failed) a new second).kinds q
       ∙ ap (λ y. kind_after q (Launched k ran.Failed) y (kind_of mid.sessions q)) (launch_done mid now k ran.Failed a new there second)
       ∙ ap (cond (nat_eq k q) None) (began q)
       ∙ back (nat_eq k q) (kind_of old.sessions q) (λ h. ap (kind_of old.sessions) (sym (eqb-true k q h)) ∙ failed_fresh)
@@ -352,10 +329,9 @@ failed_fits : (old new : Left) (mid : World) (now k : ℕ) (s : SessionId) (x : 
     → Step old.world now (Asked s x) (Start k subject) mid → Step mid now (Launched k ran.Failed) a new.world
     → new.peers ≡ old.peers → Fits old → Fits new
 failed_fits old new mid now k s x subject a first second same f =
-    peers_fit old new f (ap are_apart same ∙ f.apart)
-    (idle_step mid now (Launched k ran.Failed) a new.world second (idle_step old.world now (Asked s x) (Start k subject) mid first f.idle)) same
-    (λ n. clients mid now (Launched k ran.Failed) a new.world (effect mid now (Launched k ran.Failed) a new.world second) n
-    ∙ clients old.world now (Asked s x) (Start k subject) mid (effect old.world now (Asked s x) (Start k subject) mid first) n)
+    let one = is_after old.world now (Asked s x) (Start k subject) mid first in
+    let two = is_after mid now (Launched k ran.Failed) a new.world second in
+    peers_fit old new f (ap are_apart same ∙ f.apart) (two.idle (one.idle f.idle)) same (λ n. two.clients n ∙ one.clients n)
     (failed_kinds old.world mid new.world now k s x subject a first second f.idle)
 
 -- ---- moves

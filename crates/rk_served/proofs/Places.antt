@@ -1,20 +1,10 @@
 -- Where a peer stands among those in order, found by halves.
-use Rattle.std.proofs.Common.{◌≡◌, ℕ, zero, suc, ◌+◌, ◌<◌, ◌≤◌, Bool, true, false, cond, not, List, [], ◌∷◌, refl, sym, ap, ◌∙◌, inl, inr}
-use Rattle.std.proofs.Common.{arith, length, get_or}
-use Rattle.std.specs.Prelude.{Some, None, slice_get}
-use Rattle.std.specs.List.{list_all, prefix_len}
-use Rattle.std.specs.List.Sorted.{IsPartitionedBy, IsPartitionPoint}
-use Rattle.std.proofs.lemmas.List.Sums.{prefix_len_is, AllPass-from_list_all}
-use Rattle.rk_names.specs.declared.numbers.SessionId.{SessionId}
-use Rattle.rk_machine.specs.Laws.{same_session}
-use Rattle.rk_machine.proofs.Effects.WaitsAfter.{same-true}
-use Rattle.rk_served.specs.declared.peer.Peer.{Peer}
-use Rattle.rk_served.specs.Standing.{comes_before, are_in_order}
-use Rattle.rk_served.specs.WhoIsThere.{peer_of}
+use Rattle.rk_served.proofs.Words.{refl, ◌∙◌, ap, sym, List, ◌≡◌, [], ℕ, inr, true, ◌∷◌, inl, Bool, false, cond, not, length, arith, zero, suc, ◌<◌, get_or}
+use Rattle.rk_served.proofs.Words.{◌≤◌, ◌+◌, and_parts, not-true, false_from_ne_true, not_from_false, cases_Bool, AllPass-from_list_all, prefix_len_is}
+use Rattle.rk_served.proofs.Words.{same_Some, list_all, prefix_len, IsPartitionedBy, IsPartitionPoint, Some, None, slice_get, SessionId, same-true}
+use Rattle.rk_served.proofs.Words.{same_session, comes_before, are_in_order, peer_of, Peer}
 use Rattle.rk_served.proofs.PeerLists.{turned}
 use Rattle.rk_served.proofs.Standings.{before_trans, before_self, neither}
-use Rattle.std.proofs.lemmas.Bool.{and_parts, not-true, not_from_false, false_from_ne_true, cases_Bool}
-use Rattle.std.proofs.lemmas.Option.{same_Some}
 
 -- ---- a test that splits a list
 
@@ -75,8 +65,7 @@ next who z zs e =
     ap (slice_get (z ∷ zs)) one ∙ ap (λ b. slice_get (z ∷ zs) (cond b (1 + count who zs) 0)) (sym e)
 
 -- it stands after all who come before it, if it is there
-pub found_there : (who : SessionId) (xs : List Peer) (x : Peer) → slice_get xs (count who xs) ≡ Some x
-    → same_session x.who who ≡ true → peer_of xs who ≡ Some x
+pub found_there : (who : SessionId) (xs : List Peer) (x : Peer) → slice_get xs (count who xs) ≡ Some x → same_session x.who who ≡ true → peer_of xs who ≡ Some x
 found_there who [] x at same = absurd (cc)
 found_there who (z ∷ zs) x at same = elim (cases_Bool (comes_before z.who who)) [
   | inl e ↦ ap (λ b. cond b (Some z) (peer_of zs who)) (apart_before z.who who e) ∙ found_there who zs x (next who z zs e ∙ at) same
@@ -101,8 +90,7 @@ none_there who [] order other = refl
 none_there who (z ∷ zs) order other =
     let parts = and_parts (list_all (λ y. not (comes_before y.who z.who)) zs) (are_in_order zs) order in
     elim (cases_Bool (comes_before z.who who)) [
-      | inl e ↦ ap (λ b. cond b (Some z) (peer_of zs who)) (apart_before z.who who e)
-          ∙ none_there who zs parts.1 (λ x at. other x (sym (next who z zs e) ∙ at))
+      | inl e ↦ ap (λ b. cond b (Some z) (peer_of zs who)) (apart_before z.who who e) ∙ none_there who zs parts.1 (λ x at. other x (sym (next who z zs e) ∙ at))
       | inr e ↦
           let own : same_session z.who who ≡ false = other z (ap (λ b. slice_get (z ∷ zs) (cond b (1 + count who zs) 0)) e) in
           ap (λ b. cond b (Some z) (peer_of zs who)) own ∙ none_behind who z zs (neither z.who who e own) parts.0

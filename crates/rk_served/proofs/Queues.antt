@@ -1,20 +1,10 @@
 -- Who stands in a queue, after each change of it.
-use Rattle.std.proofs.Common.{◌≡◌, ◌⊎◌, ℕ, zero, suc, ◌<◌, Bool, true, false, cond, List, [], ◌∷◌, ◌++◌, refl, sym, ap, ◌∙◌, subst, inl, inr}
-use Rattle.std.proofs.Common.{arith, length}
-use Rattle.std.specs.Prelude.{Option, Some, None, nat_eq, slice_index_or}
+use Rattle.rk_served.proofs.Words.{refl, ◌∙◌, ap, sym, List, ◌≡◌, [], subst, ℕ, inr, true, ◌∷◌, inl, ◌++◌, Bool, false, cond, length, arith, zero, suc, ◌⊎◌}
+use Rattle.rk_served.proofs.Words.{◌<◌, eq-eqb, eqb-true, cases_Bool, cond_both, Contains-append_left, Contains-append_right, Contains-push}
+use Rattle.rk_served.proofs.Words.{Contains-permutation, Vec, Contains, IsPermutation, nat_cmp, Some, Option, None, nat_eq, slice_index_or, Reverse, SessionId}
+use Rattle.rk_served.proofs.Words.{get_removed, get_inserted, waiters_at}
 use Rattle.std.specs.Option.{option_map_or}
-use Rattle.std.specs.List.{Contains}
-use Rattle.std.specs.List.Sorted.{IsPermutation}
-use Rattle.std.specs.Ordering.{nat_cmp}
 use Rattle.std.specs.FinMap as map
-use Rattle.std.specs.Global.{Vec}
-use Rattle.std.specs.declared.cmp.Reverse.{Reverse}
-use Rattle.std.proofs.lemmas.Bool.{eqb-true, eq-eqb, cases_Bool, cond_both}
-use Rattle.std.proofs.lemmas.List.Elements.{Contains-append_left, Contains-append_right, Contains-push}
-use Rattle.std.proofs.lemmas.List.Sorted.{Contains-permutation}
-use Rattle.rk_names.specs.declared.numbers.SessionId.{SessionId}
-use Rattle.rk_machine.proofs.Found.InMaps.{get_inserted, get_removed}
-use Rattle.rk_served.specs.Queued.{waiters_at}
 
 -- ---- lists in another order
 
@@ -41,8 +31,7 @@ module _ {X : Type 0} where
 
   -- these, in another order
   pub last_put : (xs ys ys' zs : List X) → IsPermutation ys ys' → IsPermutation (xs ++ ys') zs → (y : X) → Contains ys y → Contains zs y
-  last_put xs ys ys' zs same perm y has =
-      Contains-permutation (xs ++ ys') zs y perm (Contains-append_right xs ys' y (Contains-permutation ys ys' y same has))
+  last_put xs ys ys' zs same perm y has = Contains-permutation (xs ++ ys') zs y perm (Contains-append_right xs ys' y (Contains-permutation ys ys' y same has))
 
 -- ---- those that wait
 

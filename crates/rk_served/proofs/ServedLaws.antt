@@ -1,24 +1,11 @@
 -- Served lists go on by one turn, and their steps are a run of the machine.
-use Rattle.std.proofs.Common.{◌≡◌, ℕ, true, List, [], ◌∷◌, ◌++◌, Option, Some, None, refl, sym, ◌∙◌, ap, subst, append_assoc, inl, inr}
-use Rattle.std.specs.Prelude.{reverse}
-use Rattle.std.proofs.lemmas.List.{append-nil, reverse-append}
-use Rattle.rk_names.specs.declared.numbers.SessionId.{SessionId}
-use Rattle.rk_message.specs.Ask.{Ask}
-use Rattle.rk_conf.specs.declared.line.Line.{Line}
-use Rattle.rk_machine.specs.World.{World}
-use Rattle.rk_machine.specs.Steps.{Beginning, Past, Step, Run}
+use Rattle.rk_served.proofs.Words.{refl, ◌∙◌, ap, sym, List, ◌≡◌, [], subst, ℕ, inr, true, ◌∷◌, inl, ◌++◌, append_assoc, append-nil, reverse-append, Some}
+use Rattle.rk_served.proofs.Words.{Option, None, reverse, SessionId, Line, Ask, Subject, Event, Beginning, Past, Run, Step, World, Left, Part, nothing}
+use Rattle.rk_served.proofs.Words.{collects, refuses, asks, shuts_client, shuts_handler, Answered, puts_reply, starts_one, fails_to_start, Move, Moves}
+use Rattle.rk_served.proofs.Words.{ServesInOrder, EndsBy, is_last, is_followed, is_not_followed, OwnStep, is_misplaced, StepsBy, Acts, Turn, ServesBy, Serves}
+use Rattle.rk_served.proofs.Words.{ServedBy, steps_of, ServesNext, ServedIsRun, Happening, Started, Failed, Output}
 use Rattle.rk_machine.proofs.EveryRun.KeepsLaws.{lawful}
-use Rattle.rk_served.specs.declared.happening.Happening.{Happening}
 use Rattle.rk_served.specs.declared.happening.Happening.TheVariants as happening
-use Rattle.rk_served.specs.declared.happening.StartResult.TheVariants.{Started, Failed}
-use Rattle.rk_served.specs.declared.output.Output.{Output}
-use Rattle.rk_served.specs.Left.{Left, Part, nothing}
-use Rattle.rk_served.specs.Moves.{Answered, puts_reply, starts_one, fails_to_start, Move, collects, refuses, asks, shuts_client, shuts_handler, Moves}
-use Rattle.rk_machine.specs.Event.{Event}
-use Rattle.rk_macro.specs.declared.subject.Subject.{Subject}
-use Rattle.rk_served.specs.OwnStep.{is_misplaced, StepsBy, EndsBy, is_last, is_followed, is_not_followed, OwnStep}
-use Rattle.rk_served.specs.Served.{Turn, Acts, steps_of, ServesBy, Serves, ServedBy, ServesNext, ServedIsRun}
-use Rattle.rk_served.specs.Order.{ServesInOrder}
 
 -- ---- one turn more
 

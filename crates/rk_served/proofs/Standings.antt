@@ -1,22 +1,11 @@
 -- The peers stand in order, after each change of them.
-use Rattle.std.proofs.Common.{◌≡◌, ℕ, zero, suc, ◌+◌, ◌≤◌, Bool, true, false, cond, not, ◌&&◌, List, [], ◌∷◌, ◌++◌, refl, sym, ap, ◌∙◌, subst, inl, inr}
-use Rattle.std.proofs.Common.{arith, length, take, drop, get_or, take-append-drop}
-use Rattle.std.specs.Prelude.{Some, slice_get, slice_set, insert}
-use Rattle.std.specs.List.{list_all, position_or_len, remove}
+use Rattle.rk_served.proofs.Words.{refl, ◌∙◌, ap, sym, List, ◌≡◌, [], subst, ℕ, inr, true, ◌∷◌, inl, ◌++◌, Bool, false, cond, not, length, arith, zero, suc}
+use Rattle.rk_served.proofs.Words.{get_or, ◌&&◌, ◌≤◌, ◌+◌, take, drop, take-append-drop, and_parts, not-true, false_from_ne_true, not_from_false, and_from}
+use Rattle.rk_served.proofs.Words.{cases_lt, set_past, All-filter, AllPass-from_list_all, prefix_len-le-length, list_all-from_AllPass, slice_get_read, remove}
+use Rattle.rk_served.proofs.Words.{list_all, position_or_len, Some, slice_get, slice_set, insert, SessionId, Handler, Client, same_session, peer, without}
+use Rattle.rk_served.proofs.Words.{comes_before, are_in_order, Channel, Peer}
 use Rattle.std.proofs.lemmas.Bool.Decides.{nat_tests}
-use Rattle.std.proofs.lemmas.List.{set_past}
-use Rattle.std.proofs.lemmas.List.Sums.{prefix_len-le-length, AllPass-from_list_all, list_all-from_AllPass}
-use Rattle.std.proofs.lemmas.List.Elements.{All-filter}
-use Rattle.rk_names.specs.declared.numbers.SessionId.{SessionId}
-use Rattle.rk_names.specs.declared.numbers.SessionId.TheVariants.{Client, Handler}
-use Rattle.rk_machine.specs.Laws.{same_session}
-use Rattle.rk_served.specs.declared.peer.Peer.{Peer}
-use Rattle.rk_served.specs.declared.peer.Channel.{Channel}
-use Rattle.rk_served.specs.Left.{peer, without}
-use Rattle.rk_served.specs.Standing.{comes_before, are_in_order}
 use Rattle.rk_served.proofs.PeerLists.{who_is}
-use Rattle.std.proofs.lemmas.Bool.{and_parts, and_from, not-true, not_from_false, false_from_ne_true, cases_lt}
-use Rattle.std.proofs.lemmas.Option.{slice_get_read}
 
 -- ---- the order
 
@@ -142,8 +131,7 @@ order_removed (x ∷ xs) (suc i) order =
 
 order_set : (xs : List Peer) (i : ℕ) (x y : Peer) → slice_get xs i ≡ Some x → y.who ≡ x.who → are_in_order (slice_set xs i y) ≡ are_in_order xs
 order_set [] i x y at who = refl
-order_set (z ∷ zs) zero x y at who =
-    ap (λ (s : SessionId). list_all (λ v. not (comes_before v.who s)) zs && are_in_order zs) (who ∙ sym (who_is at))
+order_set (z ∷ zs) zero x y at who = ap (λ (s : SessionId). list_all (λ v. not (comes_before v.who s)) zs && are_in_order zs) (who ∙ sym (who_is at))
 order_set (z ∷ zs) (suc i) x y at who =
     ap (λ (b : Bool). b && are_in_order (slice_set zs i y)) (all_set (λ s. not (comes_before s z.who)) zs i x y at who)
     ∙ ap (λ (b : Bool). list_all (λ v. not (comes_before v.who z.who)) zs && b) (order_set zs i x y at who)

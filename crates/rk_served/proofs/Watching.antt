@@ -1,75 +1,36 @@
 -- After what one session has done, nobody may move but those of whom the queue knows.
-use Rattle.std.proofs.Common.{◌≡◌, ◌⊎◌, ℕ, Bool, true, false, cond, not, List, [], ◌∷◌, ◌++◌, get_or, refl, sym, ap, ◌∙◌, subst, inl, inr}
-use Rattle.std.specs.Prelude.{Option, Some, None, MatchOption, is_some, option_map, option_and_then, nat_eq, slice_get, slice_set}
-use Rattle.std.specs.List.{All, Contains}
-use Rattle.std.specs.Global.{Vec}
-use Rattle.std.specs.declared.cmp.Reverse.{Reverse}
+use Rattle.rk_served.proofs.Words.{refl, ◌∙◌, ap, sym, List, ◌≡◌, [], subst, ℕ, inr, true, ◌∷◌, inl, ◌++◌, Bool, false, cond, not, ◌⊎◌, get_or, All-filter}
+use Rattle.rk_served.proofs.Words.{All-nil, All-cons, All-head, All-tail, All-set, MatchOption-at_some, slice_get-get_or, MatchBool, get-empty, Vec, Contains}
+use Rattle.rk_served.proofs.Words.{All, nat_cmp, Some, Option, None, slice_get, slice_set, is_some, nat_eq, option_map, MatchOption, option_and_then, Reverse}
+use Rattle.rk_served.proofs.Words.{SessionId, Handler, Client, stage_of, Sessions, wait_of, unspent, handler_in, Construction, Line, Ask, Subject, ready_waits}
+use Rattle.rk_served.proofs.Words.{effect, kind_in, kind_of, IsIdle, idle_step, idle_fresh, same-true, same-self, flag, flag_of, unless, done, refused_if}
+use Rattle.rk_served.proofs.Words.{Event, same_session, Beginning, may_launch, Step, has_wait, is_ready, awaited, World, Answer, Start, Negate, Launched, Gone}
+use Rattle.rk_served.proofs.Words.{Opened, Ended, Collect, Asked, How, MovesNext, RestsBy, MovesBy, TriesAt, Left, peer, without, Part, nothing, reversed}
+use Rattle.rk_served.proofs.Words.{collects, refuses, asks, shuts_client, shuts_handler, Answered, puts_reply, starts_one, fails_to_start, Move, CannotMove}
+use Rattle.rk_served.proofs.Words.{IsAtRest, Adds, EndsBy, is_last, is_followed, is_not_followed, OwnStep, whose, IsWatched, waiters_at, Stirs, Parks, IsMover}
+use Rattle.rk_served.proofs.Words.{IsWaiter, Watches, IsWatchedBut, IsStill, IsKeyOf, own_key, Wakes, KeepsMovers, comes_before, HasItsPeers, peer_of}
+use Rattle.rk_served.proofs.Words.{are_apart, Happening, Started, Failed, Output, Channel, Starts, Talks, Pipes, Peer}
 use Rattle.std.specs.FinMap as map
-use Rattle.std.specs.FinMap.{get-empty}
-use Rattle.std.specs.Ordering.{nat_cmp}
 use Rattle.rk_auth.specs.declared.session.Session.{Session}
-use Rattle.rk_auth.specs.declared.construction.Construction.{Construction}
-use Rattle.rk_machine.specs.Steps.{Beginning}
 use Rattle.rk_machine.proofs.Effects.StagesAfter.{Shape, shape}
 use Rattle.rk_table.specs.Stored.{Stored}
-use Rattle.std.proofs.lemmas.List.Elements.{All-nil, All-cons, All-head, All-tail, All-set, All-filter}
-use Rattle.rk_names.specs.declared.numbers.SessionId.{SessionId}
-use Rattle.rk_names.specs.declared.numbers.SessionId.TheVariants.{Client, Handler}
 use Rattle.rk_names.specs.declared.errors.Errno.TheVariants as errno
 use Rattle.rk_names.specs.declared.errors.KeyError.TheVariants as error
-use Rattle.rk_conf.specs.declared.line.Line.{Line}
 use Rattle.rk_keys.specs.declared.key.Condition.TheVariants.{Negative}
-use Rattle.rk_macro.specs.declared.subject.Subject.{Subject}
-use Rattle.rk_message.specs.Ask.{Ask}
 use Rattle.rk_auth.specs.declared.session.Wait.{Wait}
 use Rattle.rk_auth.specs.declared.construction.Authority.{Authority}
-use Rattle.rk_auth.specs.Sessions.{Sessions, wait_of, stage_of, unspent, handler_in}
-use Rattle.rk_machine.specs.Event.{Event}
-use Rattle.rk_machine.specs.declared.event.EventOf.TheVariants.{Opened, Asked, Launched, Ended, Collect, Gone}
 use Rattle.rk_machine.specs.declared.event.Ran.TheVariants as ran
-use Rattle.rk_machine.specs.declared.event.How.{How}
-use Rattle.rk_machine.specs.declared.event.Answer.{Answer}
-use Rattle.rk_machine.specs.declared.event.Answer.TheVariants.{Start, Negate}
-use Rattle.rk_machine.specs.World.{World}
-use Rattle.rk_machine.specs.Allowed.{done, refused_if}
-use Rattle.rk_machine.specs.Steps.{Step, may_launch}
-use Rattle.rk_machine.specs.Views.{is_ready, has_wait, awaited}
-use Rattle.rk_machine.specs.Laws.{same_session}
 use Rattle.rk_machine.specs.Owing.{whose as about}
-use Rattle.rk_machine.proofs.Found.Refusals.{unless}
-use Rattle.rk_machine.proofs.Effects.KindsOfStep.{effect}
 use Rattle.rk_machine.proofs.Effects.OfOneConstruction.{Goods}
-use Rattle.rk_machine.proofs.Effects.WaitsAfter.{same-true, same-self, flag, flag_of}
 use Rattle.rk_machine.proofs.Effects.WaitsAreTheWorlds.{after, tied}
 use Rattle.rk_machine.proofs.Effects.AuthoritiesAfter.{unspent_ended}
-use Rattle.rk_machine.proofs.Effects.ClientsByStep.{ready_waits}
-use Rattle.rk_machine.proofs.Effects.UndrawnIsIdle.{IsIdle, idle_fresh, idle_step}
-use Rattle.rk_machine.proofs.Effects.StagesByStep.{kind_in, kind_of}
 use Rattle.rk_machine.proofs.Effects.WhoIsWoken.{others, still_awaited, woken}
 use Rattle.rk_machine.proofs.OneConstruction.EachOnce.{goods_after}
-use Rattle.rk_served.specs.declared.happening.Happening.{Happening}
 use Rattle.rk_served.specs.declared.happening.Happening.TheVariants as happening
-use Rattle.rk_served.specs.declared.happening.StartResult.TheVariants.{Started, Failed}
-use Rattle.rk_served.specs.declared.peer.Channel.{Channel}
-use Rattle.rk_served.specs.declared.peer.Channel.TheVariants.{Talks, Starts, Pipes}
-use Rattle.rk_served.specs.declared.peer.Peer.{Peer}
 use Rattle.rk_served.specs.declared.queue.Queue.{Queue}
-use Rattle.rk_served.specs.Left.{Left, peer, without, Part, nothing}
-use Rattle.rk_served.specs.Moves.{Answered, puts_reply, starts_one, fails_to_start, Move, collects, refuses, asks, shuts_client, shuts_handler}
-use Rattle.rk_served.specs.Moves.{CannotMove, IsAtRest}
-use Rattle.rk_served.specs.OwnStep.{whose, Adds, OwnStep, EndsBy, is_last, is_followed, is_not_followed}
-use Rattle.rk_served.specs.WhoIsThere.{peer_of, are_apart, HasItsPeers}
-use Rattle.rk_served.specs.Standing.{comes_before}
-use Rattle.rk_served.specs.Movers.{reversed}
-use Rattle.rk_served.specs.Calls.{MovesBy, MovesNext, TriesAt, RestsBy}
-use Rattle.rk_served.specs.Queued.{IsMover, IsWaiter, Watches, IsWatched, IsWatchedBut, IsStill, IsKeyOf, Stirs, own_key, Wakes, Parks, KeepsMovers}
-use Rattle.rk_served.specs.Queued.{waiters_at}
 use Rattle.rk_served.proofs.PeerLists.{turned, who_is, at_place}
 use Rattle.rk_served.proofs.PeersFit.{fits, failed_fresh, failed_kinds}
 use Rattle.rk_served.proofs.Standings.{before_self}
-use Rattle.rk_served.specs.declared.output.Output.{Output}
-use Rattle.std.proofs.lemmas.Option.{MatchOption-at_some, slice_get-get_or}
-use Rattle.std.specs.Bool.{MatchBool}
 
 -- ---- what one session's doing leaves of the others
 
@@ -87,8 +48,7 @@ frees_none who Keys old new same good = record {
   own = subst (λ (w : World). Goods w.sessions) (sym same) good;
 }
 
-frees_weaker : (who : SessionId) (Keys Keys' : ℕ → Type 0) (old new : World) → ((k : ℕ) → Keys k → Keys' k) → Frees who Keys old new
-    → Frees who Keys' old new
+frees_weaker : (who : SessionId) (Keys Keys' : ℕ → Type 0) (old new : World) → ((k : ℕ) → Keys k → Keys' k) → Frees who Keys old new → Frees who Keys' old new
 frees_weaker who Keys Keys' old new h f = record {
   waits = f.waits;
   ready = λ s apart r. elim (f.ready s apart r) [
@@ -225,8 +185,7 @@ module _ (who : SessionId) (old : World) (now : ℕ) (ask : Ask) (k : ℕ) (subj
         ]
         | inr x ↦ inr (
           x.0,
-          sym (begun.waits s apart)
-              ∙ x.1,
+          sym (begun.waits s apart) ∙ x.1,
           subst (IsKeyOf new who) (same_handler x.2) (its_key (same_session who (Handler k)) refl),
           x.3,
         )
@@ -236,8 +195,7 @@ module _ (who : SessionId) (old : World) (now : ℕ) (ask : Ask) (k : ℕ) (subj
 
 all_added : (P : Peer → Type 0) (before after : List Peer) (y : Peer) → All P (before ++ after) → P y → All P (before ++ y ∷ after)
 all_added P [] after y h own = All-cons P y after own h
-all_added P (b ∷ bs) after y h own =
-    All-cons P b (bs ++ y ∷ after) (All-head P b (bs ++ after) h) (all_added P bs after y (All-tail P b (bs ++ after) h) own)
+all_added P (b ∷ bs) after y h own = All-cons P b (bs ++ y ∷ after) (All-head P b (bs ++ after) h) (all_added P bs after y (All-tail P b (bs ++ after) h) own)
 
 -- what this one has done: its own peer is another or gone, a construction may have come that is to be started, and others are as they were
 pub record Moved (who : SessionId) (old new : Left) : Type 1 where
@@ -308,71 +266,65 @@ mover : {x y : Peer} {who : SessionId} (old new : Left) (i : ℕ) → slice_get 
     → Moved y.who old new → Moved who old new
 mover old new i at at' is m = subst (λ (s : SessionId). Moved s old new) (who_is (sym at ∙ at') ∙ is) m
 
-pub move_moved : (conf : List Line) (now : ℕ) (old : Left) (index : ℕ) (part : Part) (new : Left) → Move conf now old index part new → IsIdle old.world
-    → Goods old.world.sessions → (x : Peer) → slice_get old.peers index ≡ Some x → (who : SessionId) → x.who ≡ who → Moved who old new
-move_moved conf now old index part new (collects m) idle good x at who is =
-    mover old new index m.at at is
-    (same_peers m.who old new (frees_by old.world new.world now (Collect m.who) m.answer m.step idle good) m.peers)
-move_moved conf now old index part new (refuses m) idle good x at who is =
-    mover old new index m.free.at at is
-    (one_set m.who old new (frees_none m.who _ old.world new.world m.world good) index (peer m.who (Talks m.rest) m.made_for) refl m.peers)
-move_moved conf now old index part new (asks m) idle good x at who is =
-    mover old new index m.free.at at is
-    (moved_then m.who old _ new index (peer m.who (Talks m.rest) m.made_for) refl refl refl (moved_by_ask conf now _ m.who m.ask part new m.answered idle good))
-move_moved conf now old index part new (shuts_client m) idle good x at who is =
-    mover old new index m.free.at at is
-    (one_gone (Client m.client) old new (frees_by old.world new.world now (Gone (Client m.client)) m.answer m.step idle good) (Client m.client) m.peers)
-move_moved conf now old index part new (shuts_handler m) idle good x at who is =
-    mover old new index m.free.at at is
-    (one_set (Handler m.key) old new (frees_none (Handler m.key) _ old.world new.world m.world good) index _ refl m.peers)
+-- what a move or an own step has done, which begins where all is in order
+module _ (conf : List Line) (now : ℕ) (old : Left) (part : Part) (new : Left) (idle : IsIdle old.world) (good : Goods old.world.sessions) where
+  freed : (e : Event) (a : Answer) → Step old.world now e a new.world → Frees (about e) (IsKeyOf new.world (about e)) old.world new.world
+  freed e a step = frees_by old.world new.world now e a step idle good
 
--- ---- own steps
+  none_freed : (who : SessionId) → new.world ≡ old.world → Frees who (IsKeyOf new.world who) old.world new.world
+  none_freed who same = frees_none who _ old.world new.world same good
 
-moved_by_end : (conf : List Line) (now k : ℕ) (how : How) (payload : Option (List ℕ)) (made_for : Option Subject) (old : Left) (part : Part) (new : Left)
-    → EndsBy conf now k (Ended k how payload) made_for old part new → IsIdle old.world → Goods old.world.sessions → Moved (Handler k) old new
-moved_by_end conf now k how payload made_for old part new (is_last h peers) idle good =
-    one_gone (Handler k) old new (frees_by old.world new.world now (Ended k how payload) done h.step idle good) (Handler k) peers
-moved_by_end conf now k how payload made_for old part new (is_followed h) idle good =
-    let mid : Left = record { world = old.world; peers = without (Handler k) old.peers } in
-    let moved : Moved (Handler k) mid new = one_starts (Handler k) mid new (frees_by old.world new.world now (Ended k how payload) (Negate k) h.step idle good) k
-    h.command.piped _ h.adds.before h.adds.after h.adds.others h.adds.peers in
-    record {
-      frees = moved.frees;
-      peers = λ P own starts all. moved.peers P own starts (All-filter (λ x. not (same_session x.who (Handler k))) P old.peers all);
-    }
-moved_by_end conf now k how payload made_for old part new (is_not_followed h) idle good =
-    let first = frees_step (Handler k) old.world now (Ended k how payload) (Negate k) h.mid h.first refl idle good in
-    let mid_idle = idle_step old.world now (Ended k how payload) (Negate k) h.mid h.first idle in
-    let second = frees_step (Handler k) h.mid now (Launched k ran.Failed) done new.world h.second refl mid_idle first.own in
-    one_gone (Handler k) old new
-    (frees_weaker (Handler k) _ (IsKeyOf new.world (Handler k)) old.world new.world (λ j x. elim x [ inl e ↦ inl e | inr e ↦ inl e ])
-    (frees_then (Handler k) _ _ old.world h.mid new.world (spent_stays h.mid now k done new.world h.second) first second))
-    (Handler k) h.peers
+  pub move_moved : (index : ℕ) → Move conf now old index part new → (x : Peer) → slice_get old.peers index ≡ Some x → (who : SessionId) → x.who ≡ who
+      → Moved who old new
+  move_moved index (collects m) x at who is = mover old new index m.at at is (same_peers m.who old new (freed (Collect m.who) m.answer m.step) m.peers)
+  move_moved index (refuses m) x at who is =
+      mover old new index m.free.at at is (one_set m.who old new (none_freed m.who m.world) index (peer m.who (Talks m.rest) m.made_for) refl m.peers)
+  move_moved index (asks m) x at who is =
+      mover old new index m.free.at at is (moved_then m.who old _ new index (peer m.who (Talks m.rest) m.made_for) refl refl refl
+      (moved_by_ask conf now _ m.who m.ask part new m.answered idle good))
+  move_moved index (shuts_client m) x at who is =
+      mover old new index m.free.at at is (one_gone (Client m.client) old new (freed (Gone (Client m.client)) m.answer m.step) (Client m.client) m.peers)
+  move_moved index (shuts_handler m) x at who is =
+      mover old new index m.free.at at is (one_set (Handler m.key) old new (none_freed (Handler m.key) m.world) index _ refl m.peers)
 
-pub own_moved : (conf : List Line) (now : ℕ) (h : Happening) (old : Left) (part : Part) (new : Left) → OwnStep conf now h old part new → IsIdle old.world
-    → Goods old.world.sessions → Moved (whose h) old new
-own_moved conf now (happening.Accept n) old part new (inl b) idle good =
-    one_come (Client n) old new (frees_by old.world new.world now (Opened (Client n)) done b.0.step idle good) _ refl b.1
-own_moved conf now (happening.Accept n) old part new (inr b) idle good =
-    same_peers (Client n) old new (frees_by old.world new.world now (Opened (Client n)) _ b.1.step idle good) b.2
-own_moved conf now (happening.Bytes n bytes) old part new b idle good =
-    one_set (Client n) old new (frees_none (Client n) _ old.world new.world b.world good) b.replaces.index _ refl b.replaces.peers
-own_moved conf now (happening.Gone n) old part new b idle good =
-    one_gone (Client n) old new (frees_by old.world new.world now (Gone (Client n)) done b.0.step idle good) (Client n) b.1
-own_moved conf now (happening.StartResult k Started) old part new b idle good = by_kind b.piped b.steps.step b.replaces.peers
-  where
-    by_kind : (p : Bool) → Step old.world now (Launched k (cond p ran.Piped ran.Plain)) done new.world
-        → new.peers ≡ slice_set old.peers b.replaces.index (peer (Handler k) (cond p (Pipes []) (Talks Rattle.rk_served.specs.Streams.no_bytes)) (Some b.subject))
-        → Moved (Handler k) old new
-    by_kind true step peers = one_set (Handler k) old new (frees_by old.world new.world now (Launched k ran.Piped) done step idle good) b.replaces.index _ refl peers
-    by_kind false step peers = one_set (Handler k) old new (frees_by old.world new.world now (Launched k ran.Plain) done step idle good) b.replaces.index _ refl peers
-own_moved conf now (happening.StartResult k Failed) old part new b idle good =
-    one_gone (Handler k) old new (frees_by old.world new.world now (Launched k ran.Failed) done b.0.step idle good) (Handler k) b.1
-own_moved conf now (happening.HandlerBytes k bytes) old part new b idle good =
-    one_set (Handler k) old new (frees_none (Handler k) _ old.world new.world b.world good) b.replaces.index _ refl b.replaces.peers
-own_moved conf now (happening.HandlerReadFault k) old part new b idle good = moved_by_end conf now k _ _ _ old part new b.ends idle good
-own_moved conf now (happening.HandlerEnded k how) old part new b idle good = moved_by_end conf now k _ _ _ old part new b.ends idle good
-own_moved conf now (happening.WaitFault k) old part new b idle good = moved_by_end conf now k _ _ _ old part new b.ends idle good
+  -- ---- own steps
+
+  moved_by_end : (k : ℕ) (how : How) (payload : Option (List ℕ)) (made_for : Option Subject) → EndsBy conf now k (Ended k how payload) made_for old part new
+      → Moved (Handler k) old new
+  moved_by_end k how payload made_for (is_last h peers) = one_gone (Handler k) old new (freed (Ended k how payload) done h.step) (Handler k) peers
+  moved_by_end k how payload made_for (is_followed h) =
+      let mid : Left = record { world = old.world; peers = without (Handler k) old.peers } in
+      let moved : Moved (Handler k) mid new = one_starts (Handler k) mid new (freed (Ended k how payload) (Negate k) h.step) k
+      h.command.piped _ h.adds.before h.adds.after h.adds.others h.adds.peers in
+      record {
+        frees = moved.frees;
+        peers = λ P own starts all. moved.peers P own starts (All-filter (λ x. not (same_session x.who (Handler k))) P old.peers all);
+      }
+  moved_by_end k how payload made_for (is_not_followed h) =
+      let first = frees_step (Handler k) old.world now (Ended k how payload) (Negate k) h.mid h.first refl idle good in
+      let mid_idle = idle_step old.world now (Ended k how payload) (Negate k) h.mid h.first idle in
+      let second = frees_step (Handler k) h.mid now (Launched k ran.Failed) done new.world h.second refl mid_idle first.own in
+      one_gone (Handler k) old new
+      (frees_weaker (Handler k) _ (IsKeyOf new.world (Handler k)) old.world new.world (λ j x. elim x [ inl e ↦ inl e | inr e ↦ inl e ])
+      (frees_then (Handler k) _ _ old.world h.mid new.world (spent_stays h.mid now k done new.world h.second) first second)) (Handler k) h.peers
+
+  pub own_moved : (h : Happening) → OwnStep conf now h old part new → Moved (whose h) old new
+  own_moved (happening.Accept n) (inl b) = one_come (Client n) old new (freed (Opened (Client n)) done b.0.step) _ refl b.1
+  own_moved (happening.Accept n) (inr b) = same_peers (Client n) old new (freed (Opened (Client n)) _ b.1.step) b.2
+  own_moved (happening.Bytes n bytes) b = one_set (Client n) old new (none_freed (Client n) b.world) b.replaces.index _ refl b.replaces.peers
+  own_moved (happening.Gone n) b = one_gone (Client n) old new (freed (Gone (Client n)) done b.0.step) (Client n) b.1
+  own_moved (happening.StartResult k Started) b = by_kind b.piped b.steps.step b.replaces.peers
+    where
+      by_kind : (p : Bool) → Step old.world now (Launched k (cond p ran.Piped ran.Plain)) done new.world
+          → new.peers ≡ slice_set old.peers b.replaces.index (peer (Handler k) (cond p (Pipes []) (Talks Rattle.rk_served.specs.Streams.no_bytes)) (Some b.subject))
+          → Moved (Handler k) old new
+      by_kind true step peers = one_set (Handler k) old new (freed (Launched k ran.Piped) done step) b.replaces.index _ refl peers
+      by_kind false step peers = one_set (Handler k) old new (freed (Launched k ran.Plain) done step) b.replaces.index _ refl peers
+  own_moved (happening.StartResult k Failed) b = one_gone (Handler k) old new (freed (Launched k ran.Failed) done b.0.step) (Handler k) b.1
+  own_moved (happening.HandlerBytes k bytes) b = one_set (Handler k) old new (none_freed (Handler k) b.world) b.replaces.index _ refl b.replaces.peers
+  own_moved (happening.HandlerReadFault k) b = moved_by_end k _ _ _ b.ends
+  own_moved (happening.HandlerEnded k how) b = moved_by_end k _ _ _ b.ends
+  own_moved (happening.WaitFault k) b = moved_by_end k _ _ _ b.ends
 
 -- ---- the queue
 
@@ -408,8 +360,7 @@ watched_on who old new q q' m w stirs = record {
 
     idle_still : (s : SessionId) (u : Rattle.rk_served.specs.Unused.Unused) → same_session who s ≡ false → CannotMove old.world s (Talks u) → (b : Bool)
         → is_ready new.world s ≡ b → IsMover q' s ⊎ CannotMove new.world s (Talks u)
-    idle_still s u apart h false r =
-        inr (r, elim h.1 [ inl e ↦ inl (waits_still old.world new.world s (m.frees.waits s apart) e) | inr e ↦ inr e ])
+    idle_still s u apart h false r = inr (r, elim h.1 [ inl e ↦ inl (waits_still old.world new.world s (m.frees.waits s apart) e) | inr e ↦ inr e ])
     idle_still s u apart h true r = elim (m.frees.ready s apart r) [
       | inl e ↦ absurd (let f = h.0 in cc)
       | inr x ↦ inl (woken_mover s x.0 x.1 x.2 x.3)
@@ -531,13 +482,13 @@ moves_first conf now who q old new put put' h w first = record {
 pub watched_after : (conf : List Line) (now : ℕ) (who : SessionId) (q q' : Queue) (old new : Left) (put put' : List Output)
     → MovesBy conf now who old put new put' → HasItsPeers old → IsWatchedBut who q old → Stirs new.world who q q' → IsWatched q' new
 watched_after conf now who q q' old new put put' h s w stirs =
-    watched_on who old new q q' (move_moved conf now old h.index h.one.part new h.one.move (fits old s).idle w.own h.mover h.at who h.who_is) w stirs
+    watched_on who old new q q' (move_moved conf now old h.one.part new (fits old s).idle w.own h.index h.one.move h.mover h.at who h.who_is) w stirs
 
 -- and after an own step
 pub watched_begun : (conf : List Line) (now : ℕ) (happens : Happening) (old new : Left) (part : Part) (q q' : Queue) → OwnStep conf now happens old part new
     → HasItsPeers old → IsStill q old → Stirs new.world (whose happens) q q' → IsWatched q' new
 watched_begun conf now happens old new part q q' b s still stirs =
-    watched_on (whose happens) old new q q' (own_moved conf now happens old part new b (fits old s).idle still.watched.own)
+    watched_on (whose happens) old new q q' (own_moved conf now old part new (fits old s).idle still.watched.own happens b)
     (knows_more (IsMover q) _ (IsWaiter q) (IsWaiter q) old (λ s e. inr e) (λ k s e. e) still.watched) stirs
 
 -- ---- who is stirred

@@ -1,35 +1,13 @@
 -- Each move makes what is left to do less, so that moves come to an end.
-use Rattle.std.proofs.Common.{◌≡◌, ℕ, zero, suc, ◌+◌, ◌*◌, ◌<◌, ◌≤◌, Bool, true, false, cond, not, ◌&&◌, List, [], ◌∷◌, ◌++◌, length, take, drop}
-use Rattle.std.proofs.Common.{refl, sym, ap, ◌∙◌, subst, arith}
-use Rattle.std.specs.Prelude.{Option, Some, slice_get, slice_set}
-use Rattle.std.specs.List.{sum_by}
+use Rattle.rk_served.proofs.Words.{refl, ◌∙◌, ap, sym, List, ◌≡◌, [], subst, ℕ, true, ◌∷◌, ◌++◌, Bool, false, cond, not, length, arith, zero, suc, ◌<◌, ◌&&◌}
+use Rattle.rk_served.proofs.Words.{◌≤◌, ◌+◌, take, drop, ◌*◌, and_parts, and_from, sum_by-cons, sum_by-append, sum_by-set, sum_by-take-drop, sum_by-drop_more}
+use Rattle.rk_served.proofs.Words.{sum_by-le-sum_by, same_Some, slice_get_within, get_or_from_slice_get, sum_by, Some, Option, slice_get, slice_set, SessionId}
+use Rattle.rk_served.proofs.Words.{Handler, Client, Line, Ask, Subject, ready_waits, gains, collect_ends, idle_fresh, same-self, same_session, has_wait, World}
+use Rattle.rk_served.proofs.Words.{Collect, is_stream, Left, peer, without, Part, collects, refuses, asks, shuts_client, shuts_handler, Answered, puts_reply}
+use Rattle.rk_served.proofs.Words.{starts_one, fails_to_start, Move, closed, Takes, Unused, HasItsPeers, Channel, Starts, Talks, Pipes, Peer}
 use Rattle.std.proofs.Math.Nat.{mul-le-mul_left}
 use Rattle.std.proofs.lemmas.Nat.{mul-add-lt}
-use Rattle.std.proofs.lemmas.Bool.{and_parts, and_from}
-use Rattle.std.proofs.lemmas.Option.{slice_get_within, get_or_from_slice_get, same_Some}
-use Rattle.std.proofs.lemmas.List.Sums.{sum_by-cons, sum_by-append, sum_by-set, sum_by-take-drop, sum_by-drop_more, sum_by-le-sum_by}
-use Rattle.rk_names.specs.declared.numbers.SessionId.{SessionId}
-use Rattle.rk_names.specs.declared.numbers.SessionId.TheVariants.{Client, Handler}
-use Rattle.rk_message.specs.Ask.{Ask}
-use Rattle.rk_conf.specs.declared.line.Line.{Line}
 use Rattle.rk_frame.proofs.Lengths.{shows}
-use Rattle.rk_machine.specs.declared.event.EventOf.TheVariants.{Collect}
-use Rattle.rk_machine.specs.World.{World}
-use Rattle.rk_machine.specs.Views.{has_wait}
-use Rattle.rk_macro.specs.declared.subject.Subject.{Subject}
-use Rattle.rk_machine.specs.Laws.{same_session}
-use Rattle.rk_machine.proofs.Effects.WaitsAfter.{same-self}
-use Rattle.rk_served.specs.declared.peer.Channel.{Channel}
-use Rattle.rk_served.specs.declared.peer.Channel.TheVariants.{Talks, Starts, Pipes}
-use Rattle.rk_served.specs.declared.peer.Peer.{Peer}
-use Rattle.rk_served.specs.Unused.{Unused}
-use Rattle.rk_served.specs.Channels.{is_stream}
-use Rattle.rk_served.specs.Streams.{closed, Takes}
-use Rattle.rk_served.specs.Left.{Left, peer, without, Part}
-use Rattle.rk_served.specs.Moves.{Answered, puts_reply, starts_one, fails_to_start, Move, collects, refuses, asks, shuts_client, shuts_handler}
-use Rattle.rk_served.specs.WhoIsThere.{HasItsPeers}
-use Rattle.rk_machine.proofs.Effects.ClientsByStep.{gains, ready_waits, collect_ends}
-use Rattle.rk_machine.proofs.Effects.UndrawnIsIdle.{idle_fresh}
 use Rattle.rk_served.proofs.PeersFit.{fits}
 
 -- ---- what is left to do
@@ -75,8 +53,7 @@ module _ (f : Peer → ℕ) where
 
   sum_without : (s : SessionId) (xs : List Peer) → sum_by f (without s xs) ≤ sum_by f xs
   sum_without s [] = omega arith
-  sum_without s (x ∷ xs) =
-      omega (arith, sum_without s xs, sum_kept (not (same_session x.who s)) x (without s xs), sum_by-cons f x xs)
+  sum_without s (x ∷ xs) = omega (arith, sum_without s xs, sum_kept (not (same_session x.who s)) x (without s xs), sum_by-cons f x xs)
 
   sum_lost : (xs : List Peer) (i : ℕ) (x : Peer) → slice_get xs i ≡ Some x → sum_by f (without x.who xs) + f x ≤ sum_by f xs
   sum_lost [] i x at = absurd (cc)
@@ -84,8 +61,7 @@ module _ (f : Peer → ℕ) where
       subst (λ (v : Peer). sum_by f (without v.who (z ∷ zs)) + f v ≤ sum_by f (z ∷ zs)) (same_Some z x at)
       (let gone = ap (λ b. sum_by f (cond (not b) (z ∷ without z.who zs) (without z.who zs))) (same-self z.who) in
       omega (arith, gone, sum_without z.who zs, sum_by-cons f z zs))
-  sum_lost (z ∷ zs) (suc i) x at =
-      omega (arith, sum_lost zs i x at, sum_kept (not (same_session z.who x.who)) z (without x.who zs), sum_by-cons f z zs)
+  sum_lost (z ∷ zs) (suc i) x at = omega (arith, sum_lost zs i x at, sum_kept (not (same_session z.who x.who)) z (without x.who zs), sum_by-cons f z zs)
 
 -- one peer weighs less, and no other more
 sum_less : (f g : Peer → ℕ) (xs : List Peer) (i : ℕ) (x : Peer) → slice_get xs i ≡ Some x → ((z : Peer) → f z ≤ g z) → f x < g x → sum_by f xs < sum_by g xs

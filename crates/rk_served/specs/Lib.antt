@@ -1,3 +1,4 @@
+mod Words
 pub mod Unused
 pub mod Streams
 pub mod Message

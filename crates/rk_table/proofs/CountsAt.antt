@@ -1,25 +1,19 @@
 -- One count changed.
-use Rattle.std.proofs.Common.{◌≡◌, ◌∙◌, ap, sym, refl, ℕ, ◌<◌, true, false, cond, inl, inr, arith}
-use Rattle.std.specs.Prelude.{Option, Some, None, is_some, nat_eq, option_map, unwrap_or}
-use Rattle.std.specs.Ordering.{nat_cmp}
+use Rattle.rk_table.proofs.Words.{◌∙◌, ap, sym, ◌≡◌, cond, ℕ, refl, true, false, arith, ◌<◌, inl, inr, eq-eqb, ne_eqb, cases_eq, none-some, same_Some, nat_cmp}
+use Rattle.rk_table.proofs.Words.{Some, None, nat_eq, Option, is_some, option_map, unwrap_or, count_at, ArePositive, changed_at}
 use Rattle.std.specs.FinMap as map
-use Rattle.std.proofs.lemmas.Bool.{cases_eq, eq-eqb, ne_eqb}
-use Rattle.std.proofs.lemmas.Option.{none-some, same_Some}
-use Rattle.rk_table.specs.Maps.{changed_at}
-use Rattle.rk_table.specs.Counts.{count_at, ArePositive}
+use Rattle.rk_table.proofs.Entries.{of_choice}
 use Rattle.rk_table.proofs.Gets.{get_changed_at, get_inserted, get_removed}
 
 -- a count that is put at k is the count there, and every other stays
 pub count_put : (m : map.FinMap nat_cmp ℕ) (k n q : ℕ) → count_at (map.insert m k n) q ≡ cond (nat_eq k q) n (count_at m q)
 count_put m k n q =
-    ap (λ o. unwrap_or o 0) (get_inserted m k n q)
-    ∙ elim (nat_eq k q) as (λ b. unwrap_or (cond b (Some n) (map.get m q)) 0 ≡ cond b n (count_at m q)) [ true ↦ refl | false ↦ refl ]
+    ap (λ o. unwrap_or o 0) (get_inserted m k n q) ∙ of_choice (λ o. unwrap_or o 0) (nat_eq k q) (Some n) (map.get m q)
 
 -- a count that is removed is 0, and every other stays
 pub count_out : (m : map.FinMap nat_cmp ℕ) (k q : ℕ) → count_at (map.remove m k) q ≡ cond (nat_eq k q) 0 (count_at m q)
 count_out m k q =
-    ap (λ o. unwrap_or o 0) (get_removed m k q)
-    ∙ elim (nat_eq k q) as (λ b. unwrap_or (cond b None (map.get m q)) 0 ≡ cond b 0 (count_at m q)) [ true ↦ refl | false ↦ refl ]
+    ap (λ o. unwrap_or o 0) (get_removed m k q) ∙ of_choice (λ o. unwrap_or o 0) (nat_eq k q) None (map.get m q)
 
 -- a count above 0 is held
 pub has_count : (o : Option ℕ) → 0 < unwrap_or o 0 → is_some o ≡ true

@@ -1,18 +1,24 @@
 -- A list of entries as a finite map.
-use Rattle.std.proofs.Common.{◌≡◌, ℕ, ◌+◌, ◌<◌, Bool, true, false, cond, not, List, [], ◌∷◌, ◌++◌, length, get_or, drop, refl, ap, sym, ◌∙◌, add-one, drop-cons}
-use Rattle.std.specs.Prelude.{Option, Some, None, filter, nat_eq}
-use Rattle.std.specs.Prelude.{map as list_map}
-use Rattle.std.specs.Ordering.{nat_cmp, eq_by_cmp}
-use Rattle.std.specs.Cmp.{nat_cmp_total, unsigned_tied, nat_eq_equiv}
-use Rattle.std.specs.FinMap.{FinMap, from_entries, get, insert, find, get-from_entries, same_map, entries, get-entries, remove, retain_keys, get-remove, get-retain_keys, from_entries_push, nat_cmp-IsAntisymmetric}
-use Rattle.std.proofs.lemmas.Bool.{ne_eqb}
-use Rattle.rk_table.specs.Maps.{changed_all}
+use Rattle.rk_table.proofs.Words.{◌∙◌, ap, sym, ◌≡◌, cond, ℕ, refl, true, false, ◌<◌, Bool, List, [], ◌∷◌, length, ◌+◌, get_or, not, ◌++◌, drop, add-one}
+use Rattle.rk_table.proofs.Words.{drop-cons, ne_eqb, nat_cmp_total, unsigned_tied, nat_eq_equiv, FinMap, get, nat_cmp-IsAntisymmetric, from_entries, insert}
+use Rattle.rk_table.proofs.Words.{find, same_map, remove, get-retain_keys, entries, get-entries, get-remove, get-from_entries, retain_keys, from_entries_push}
+use Rattle.rk_table.proofs.Words.{find-where_key, nat_cmp, eq_by_cmp, Some, None, nat_eq, Option, filter, list_map, changed_all}
 use Rattle.std.specs.Option.{option_map}
-use Rattle.std.specs.FinMap.Entries.{find-where_key}
 
 -- keys tie in the order of a map exactly if they are equal
 pub tie : (q k : ℕ) → eq_by_cmp nat_cmp q k ≡ nat_eq k q
 tie q k = unsigned_tied q k ∙ nat_eq_equiv.symm q k
+
+-- what is made of a choice is a choice of what is made
+pub of_choice : {A B : Type 0} (f : A → B) (b : Bool) (x y : A) → f (cond b x y) ≡ cond b (f x) (f y)
+of_choice f true x y = refl
+of_choice f false x y = refl
+
+-- what is found in a list whose values were all changed is the changed value
+pub find_mapped : {A B : Type 0} (f : A → B) (q : ℕ) (es : List (ℕ × A)) → find nat_cmp q (list_map (λ e. (e.0, f e.1)) es) ≡ option_map f (find nat_cmp q es)
+find_mapped f q [] = refl
+find_mapped f q (e ∷ es) =
+    ap (cond (eq_by_cmp nat_cmp q e.0) (Some (f e.1))) (find_mapped f q es) ∙ sym (of_choice (option_map f) (eq_by_cmp nat_cmp q e.0) (Some e.1) (find nat_cmp q es))
 
 module _ {X : Type 0} where
   find_drop : (q : ℕ) (es : List (ℕ × X)) (i : ℕ) (d : ℕ × X) → i < length es
@@ -65,15 +71,7 @@ module _ {X : Type 0} where
   swap_tests true false x y z apart = refl
   swap_tests false b x y z apart = refl
 
-  mapped : (f : X → X) (b : Bool) (x : X) (o : Option X) → cond b (Some (f x)) (option_map f o) ≡ option_map f (cond b (Some x) o)
-  mapped f true x o = refl
-  mapped f false x o = refl
-
-  find_changed : (f : X → X) (q : ℕ) (es : List (ℕ × X)) → find nat_cmp q (list_map (λ e. (e.0, f e.1)) es) ≡ option_map f (find nat_cmp q es)
-  find_changed f q [] = refl
-  find_changed f q (e ∷ es) = ap (cond (eq_by_cmp nat_cmp q e.0) (Some (f e.1))) (find_changed f q es) ∙ mapped f (eq_by_cmp nat_cmp q e.0) e.1 (find nat_cmp q es)
-
   -- where all values of a map are changed, the one at each key is
   pub get_changed_all : (f : X → X) (m : FinMap nat_cmp X) (q : ℕ) → get (changed_all f m) q ≡ option_map f (get m q)
   get_changed_all f m q =
-      get_in (list_map (λ e. (e.0, f e.1)) (entries m)) q ∙ find_changed f q (entries m) ∙ ap (option_map f) (sym (get-entries m q))
+      get_in (list_map (λ e. (e.0, f e.1)) (entries m)) q ∙ find_mapped f q (entries m) ∙ ap (option_map f) (sym (get-entries m q))

@@ -1,18 +1,11 @@
 -- What a search by halves finds among entries whose keys rise, and what an edit at that place does.
-use Rattle.std.proofs.Common.{◌≡◌, ◌≢◌, ℕ, zero, suc, ◌<◌, ◌≤◌, true, cond, not, List, [], ◌∷◌, length, get_or, set, refl, ap, sym, ◌∙◌, Result, Ok, Err, IfOk, IfErr, inl, inr, arith}
-use Rattle.std.specs.Prelude.{Some, None, filter, nat_eq}
-use Rattle.std.specs.List.{insert as insert_at, remove as remove_at}
+use Rattle.rk_table.proofs.Words.{◌∙◌, ap, sym, ◌≡◌, cond, ℕ, refl, true, arith, ◌<◌, List, [], ◌∷◌, length, get_or, inl, inr, zero, suc, not, ◌≢◌, ◌≤◌, set}
+use Rattle.rk_table.proofs.Words.{Result, Ok, Err, IfOk, IfErr, eq-eqb, ne_eqb, eqb-true, cases_lt, none-some, nat_cmp_total, FinMap, get}
+use Rattle.rk_table.proofs.Words.{nat_cmp-IsAntisymmetric, from_entries, insert, find, same_map, remove, get-insert, insert_at, remove_at, option_map_or}
+use Rattle.rk_table.proofs.Words.{nat_cmp, eq_by_cmp, ordering_index, Some, None, nat_eq, filter, KeysRise, IsGapFor, IsAt, changed_at}
 use Rattle.std.specs.List.Sorted.{IsSearchInRange, IsBinarySearchResult, IsNonDecreasingBy}
-use Rattle.std.specs.Option.{option_map_or}
-use Rattle.std.specs.Ordering.{nat_cmp, eq_by_cmp, ordering_index}
-use Rattle.std.specs.Cmp.{nat_cmp_total}
-use Rattle.std.specs.FinMap.{FinMap, from_entries, get, insert, find, remove, get-insert, same_map, nat_cmp-IsAntisymmetric}
-use Rattle.std.proofs.lemmas.Bool.{eq-eqb, ne_eqb, eqb-true, cases_lt}
 use Rattle.std.proofs.lemmas.Bool.Decides.{nat_tests}
-use Rattle.std.proofs.lemmas.Option.{none-some}
 use Rattle.std.proofs.lemmas.Cmp.{ranked}
-use Rattle.rk_table.specs.Entries.{KeysRise, IsAt, IsGapFor}
-use Rattle.rk_table.specs.Maps.{changed_at}
 use Rattle.rk_table.proofs.Entries.{tie, get_in, removed, swap_tests, shadow}
 use Rattle.rk_table.proofs.Rising.{rising_at, not_in_above}
 

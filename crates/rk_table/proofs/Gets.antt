@@ -1,12 +1,7 @@
 -- What is found in a map after a change.
-use Rattle.std.proofs.Common.{◌≡◌, ℕ, Bool, true, false, cond, refl, sym, ap, ◌∙◌}
-use Rattle.std.specs.Prelude.{Option, Some, None, is_some, nat_eq, option_map}
-use Rattle.std.specs.Option.{option_map_or}
-use Rattle.std.specs.Ordering.{nat_cmp}
-use Rattle.std.specs.Cmp.{nat_cmp_total}
-use Rattle.std.specs.FinMap.{FinMap, get, contains_key, insert, remove, get-insert, get-remove, get-retain_keys, nat_cmp-IsAntisymmetric}
-use Rattle.std.proofs.lemmas.Bool.{eqb-true, eq-eqb, ne_eqb}
-use Rattle.rk_table.specs.Maps.{changed_at, kept_where}
+use Rattle.rk_table.proofs.Words.{◌∙◌, ap, sym, ◌≡◌, cond, ℕ, refl, true, false, Bool, eq-eqb, ne_eqb, eqb-true, nat_cmp_total, FinMap, get}
+use Rattle.rk_table.proofs.Words.{nat_cmp-IsAntisymmetric, insert, remove, get-retain_keys, get-remove, get-insert, contains_key, option_map_or, nat_cmp, Some}
+use Rattle.rk_table.proofs.Words.{None, nat_eq, Option, is_some, option_map, changed_at, kept_where}
 use Rattle.rk_table.proofs.Entries.{tie}
 
 module _ {V : Type 0} where

@@ -1,12 +1,7 @@
 -- How many entries of a map pass a test, through each change of the map.
-use Rattle.std.proofs.Common.{◌≡◌, ◌∙◌, ap, sym, refl, ℕ, ◌+◌, ◌-◌, Bool, true, false, cond, inl, inr, arith}
-use Rattle.std.specs.Prelude.{Option, Some, None, is_some}
-use Rattle.std.specs.Option.{option_map_or}
-use Rattle.std.specs.Ordering.{nat_cmp}
-use Rattle.std.specs.Cmp.{nat_cmp_total}
+use Rattle.rk_table.proofs.Words.{◌∙◌, ap, sym, ◌≡◌, cond, ℕ, refl, true, false, arith, Bool, ◌+◌, inl, inr, ◌-◌, cases_eq, nat_cmp_total, option_map_or}
+use Rattle.rk_table.proofs.Words.{nat_cmp, Some, None, Option, is_some, changed_at, kept_where}
 use Rattle.std.specs.FinMap as map
-use Rattle.std.proofs.lemmas.Bool.{cases_eq}
-use Rattle.rk_table.specs.Maps.{changed_at, kept_where}
 use Rattle.rk_table.proofs.Gets.{get_kept_where, none_kept, at_new, at_other, left_in, taken_out}
 
 module _ {V : Type 0} where

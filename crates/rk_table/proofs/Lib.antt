@@ -1,3 +1,4 @@
+mod Words
 pub mod Entries
 pub mod Rising
 pub mod Found

@@ -1,13 +1,7 @@
 -- The entries of a table that finds its keys by their hashes: what is looked up in them is what their map has.
-use Rattle.std.proofs.Common.{◌≡◌, ℕ, false, cond, List, [], ◌∷◌, length, refl, ap, sym, ◌∙◌}
-use Rattle.std.specs.Prelude.{Option, Some, None, nat_eq}
-use Rattle.std.specs.Ordering.{nat_cmp}
-use Rattle.std.specs.Cmp.{nat_cmp_total, unsigned_tied}
-use Rattle.std.specs.List.{IsDistinct, AllByRecursion}
-use Rattle.std.specs.Map.{lookup, keys_of}
-use Rattle.std.specs.FinMap.{FinMap, from_entries, get, insert, remove, find, len, same_map, nat_cmp-IsAntisymmetric}
-use Rattle.std.specs.Option.{option_map_or}
-use Rattle.rk_table.specs.Maps.{changed_at}
+use Rattle.rk_table.proofs.Words.{◌∙◌, ap, sym, ◌≡◌, cond, ℕ, refl, false, List, [], ◌∷◌, length, nat_cmp_total, unsigned_tied, FinMap, get}
+use Rattle.rk_table.proofs.Words.{nat_cmp-IsAntisymmetric, from_entries, insert, find, same_map, remove, len, AllByRecursion, IsDistinct, lookup, keys_of}
+use Rattle.rk_table.proofs.Words.{option_map_or, nat_cmp, Some, None, nat_eq, Option, changed_at}
 use Rattle.rk_table.proofs.Entries.{get_in}
 use Rattle.rk_table.proofs.Gets.{get_inserted, get_removed}
 use Rattle.rk_table.proofs.Once.{HasEachOnce, len_once}

@@ -1,20 +1,11 @@
 -- Tables in which each key stands once.
-use Rattle.std.proofs.Common.{◌≡◌, ℕ, zero, suc, ◌+◌, ◌-◌, ◌≤◌, Bool, true, false, cond, ◌||◌, List, [], ◌∷◌, length, get_or, set, refl, ap, sym, ◌∙◌, subst, arith}
-use Rattle.std.specs.Prelude.{Option, Some, None, filter, is_some, option_map, MatchOption}
-use Rattle.std.specs.Prelude.{find as list_find}
-use Rattle.std.specs.Prelude.{map as list_map}
-use Rattle.std.specs.List.{list_any}
-use Rattle.std.specs.Option.{option_map_or}
-use Rattle.std.specs.Ordering.{nat_cmp, eq_by_cmp, is_eq}
+use Rattle.rk_table.proofs.Words.{◌∙◌, ap, sym, ◌≡◌, cond, subst, ℕ, refl, true, false, arith, Bool, List, [], ◌∷◌, length, ◌+◌, get_or, zero, suc, ◌-◌, ◌≤◌}
+use Rattle.rk_table.proofs.Words.{set, ◌||◌, T, ◌&&◌, eq-eqb, eqb-true, both_ways, none-some, nat_cmp_total, nat_cmp_is, FinMap, get, nat_cmp-IsAntisymmetric}
+use Rattle.rk_table.proofs.Words.{from_entries, find, same_map, get-retain_keys, entries, get-entries, len, empty, len-empty, len-insert, entries-insert}
+use Rattle.rk_table.proofs.Words.{len-entries, is_sorted, entries_sorted, put, by_order, below_all, list_any, option_map_or, nat_cmp, eq_by_cmp, is_eq, is_lt}
+use Rattle.rk_table.proofs.Words.{Some, None, Option, is_some, option_map, filter, list_map, list_find, MatchOption, Ordering, KeysRise, AreAbove, kept_where}
 use Rattle.std.specs.declared.cmp.Ordering.TheVariants.{Less, Equal, Greater}
-use Rattle.std.specs.Cmp.{nat_cmp_total, nat_cmp_is}
-use Rattle.std.specs.FinMap.{FinMap, from_entries, get, find, empty, len, entries, len-empty, len-insert, get-entries, entries-insert, get-retain_keys, len-entries, same_map, nat_cmp-IsAntisymmetric}
-use Rattle.std.specs.FinMap.Entries.{put, by_order}
-use Rattle.std.proofs.lemmas.Bool.{both_ways, eqb-true, eq-eqb}
-use Rattle.std.proofs.lemmas.Option.{none-some}
 use Rattle.rk_lemmas.proofs.Bools.{or_swap}
-use Rattle.rk_table.specs.Maps.{kept_where}
-use Rattle.rk_table.specs.Entries.{AreAbove, KeysRise}
 use Rattle.rk_table.proofs.Entries.{tie, get_in}
 use Rattle.rk_table.proofs.Rising.{not_in_above}
 use Rattle.rk_table.proofs.Found.{find_none}
@@ -27,6 +18,19 @@ HasEachOnce (e ∷ es) = (find nat_cmp e.0 es ≡ None) × HasEachOnce es
 no_length : {A : Type 0} (es : List A) → length es ≡ 0 → es ≡ []
 no_length [] e = refl
 no_length (x ∷ es) e = absurd (omega arith)
+
+not_tied : (r : Ordering) → T (is_lt r) → is_eq r ≡ false
+not_tied Less h = refl
+not_tied Equal h = absurd h
+not_tied Greater h = absurd h
+
+first_of : (a b : Bool) → T (a && b) → T a
+first_of true b h = tt
+first_of false b h = h
+
+rest_of : (a b : Bool) → T (a && b) → T b
+rest_of true b h = h
+rest_of false b h = absurd h
 
 module _ {X : Type 0} where
   no_entries : entries (from_entries {X = X} {R = nat_cmp} []) ≡ []
@@ -57,6 +61,18 @@ module _ {X : Type 0} where
       ap (list_any p) (entries-insert nat_cmp_total (from_entries es) e.0 e.1)
       ∙ any_put p e.0 e.1 _ (sym (get-entries (from_entries es) e.0) ∙ get_in es e.0 ∙ h.0)
       ∙ ap (λ b. p e || b) (any_once p es h.1)
+
+  none_below : (k : ℕ) (es : List (ℕ × X)) → T (below_all nat_cmp k es) → find nat_cmp k es ≡ None
+  none_below k [] h = refl
+  none_below k (e ∷ es) h = ap (λ b. cond b (Some e.1) (find nat_cmp k es)) (not_tied (nat_cmp k e.0) (first_of _ _ h)) ∙ none_below k es (rest_of _ _ h)
+
+  once_sorted : (es : List (ℕ × X)) → T (is_sorted nat_cmp es) → HasEachOnce es
+  once_sorted [] h = tt
+  once_sorted (e ∷ es) h = (none_below e.0 es (first_of _ _ h), once_sorted es (rest_of _ _ h))
+
+  -- a map has each key once
+  pub entries_once : (m : FinMap nat_cmp X) → HasEachOnce (entries m)
+  entries_once m = once_sorted (entries m) (entries_sorted m)
 
   none_above : (k : ℕ) (es : List (ℕ × X)) → AreAbove k es → find nat_cmp k es ≡ None
   none_above k es h = find_none k es (not_in_above k es h)

@@ -1,9 +1,7 @@
 -- Entries whose keys rise.
-use Rattle.std.proofs.Common.{◌≡◌, ◌≢◌, ℕ, zero, suc, ◌<◌, Bool, true, false, cond, List, [], ◌∷◌, length, get_or, subst, arith}
-use Rattle.std.specs.Prelude.{filter}
-use Rattle.std.specs.Prelude.{map as list_map}
+use Rattle.rk_table.proofs.Words.{◌≡◌, cond, subst, ℕ, true, false, arith, ◌<◌, Bool, List, [], ◌∷◌, length, get_or, zero, suc, ◌≢◌, filter, list_map, KeysRise}
+use Rattle.rk_table.proofs.Words.{IsGapFor, AreAbove}
 use Rattle.std.specs.List.{insert}
-use Rattle.rk_table.specs.Entries.{AreAbove, KeysRise, IsGapFor}
 
 module _ {X : Type 0} where
   -- ---- place by place

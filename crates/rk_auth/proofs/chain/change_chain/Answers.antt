@@ -1,6 +1,5 @@
-use Rattle.std.proofs.Common.{◌∙◌, refl}
-use Rattle.rk_auth.specs.Chains.{in_standing}
-use Rattle.rk_auth.proofs.Rounds.{round_begins, round_goes_on, round_ends, round_is_over}
+use Rattle.rk_auth.proofs.Words.{◌∙◌, refl, in_standing}
+use Rattle.rk_auth.proofs.Rounds.{round_begins, round_goes_on, round_ends}
 use Rattle.rk_auth.proofs.chain.change_chain.Goals as goal
 
 pub loop-step-init : goal.loop-step-init
@@ -21,8 +20,3 @@ pub returns-in_default-clause-facts : goal.returns-in_default-clause-facts
 returns-in_default-clause-facts g c =
     round_ends (in_standing (g.C.ChangeOnce.changed c.args.change)) c.args.slots.now.facts c.loop-step.slots.facts c.args.home c.loop-step.at
     c.loop-step.step c.len-step-end.result c.loop-step.invariant.0 c.in_default.is
-
-pub returns-clause-facts : goal.returns-clause-facts
-returns-clause-facts g c =
-    round_is_over (in_standing (g.C.ChangeOnce.changed c.args.change)) c.args.slots.now.facts c.loop-step.slots.facts c.args.home c.loop-step.at
-    c.loop-step.step c.len-step-end.result c.loop-step.invariant.0 c.loop-step-test.false

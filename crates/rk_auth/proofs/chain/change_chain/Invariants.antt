@@ -1,5 +1,4 @@
-use Rattle.std.proofs.Common.{◌≡◌}
-use Rattle.rk_auth.specs.Chains.{in_standing}
+use Rattle.rk_auth.proofs.Words.{◌≡◌, in_standing}
 use Rattle.rk_auth.proofs.Rounds.{IsRound}
 use Rattle.rk_auth.proofs.chain.change_chain.Given as goal
 

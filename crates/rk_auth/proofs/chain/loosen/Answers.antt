@@ -1,19 +1,11 @@
-use Rattle.std.proofs.Common.{sym, ◌∙◌, refl}
-use Rattle.rk_auth.proofs.Rounds.{loosening_begins, loosening_goes_on, loosened, loosened_at_last, there_still, there_first}
+use Rattle.rk_auth.proofs.Words.{◌∙◌, sym}
+use Rattle.rk_auth.proofs.Rounds.{loosening_goes_on, loosened, loosened_at_last, there_still, there_first}
 use Rattle.rk_auth.proofs.chain.loosen.Goals as goal
-
-pub loop-step-init : goal.loop-step-init
-loop-step-init c = (loosening_begins c.args.slots.now.facts c.args.home c.args.other c.len-step-end.result c.requires.chained c.len-step-end.ensures, refl)
 
 pub push-requires-clause-place : goal.push-requires-clause-place
 push-requires-clause-place c =
     there_still c.loop-step.slots.facts c.unlink.new.slots.facts c.in-Some.place (c.unlink.ensures.standing c.in-Some.place)
     (there_first c.loop-step.slots.facts c.args.home c.in-Some.place c.loop-step.invariant.0.chained (sym c.first.ensures ∙ c.in-Some.is))
-
-pub push-requires-clause-home : goal.push-requires-clause-home
-push-requires-clause-home c =
-    there_still c.args.slots.now.facts c.unlink.new.slots.facts c.args.other
-    (c.unlink.ensures.standing c.args.other ∙ c.loop-step.invariant.0.standing c.args.other) c.requires.other
 
 pub loop-step-preserved : goal.loop-step-preserved
 loop-step-preserved c = (

@@ -1,4 +1,4 @@
-use Rattle.std.proofs.Common.{◌≡◌}
+use Rattle.rk_auth.proofs.Words.{◌≡◌}
 use Rattle.rk_auth.proofs.Rounds.{IsLoosened}
 use Rattle.rk_auth.proofs.chain.loosen.Given as goal
 

@@ -1,8 +1,5 @@
-use Rattle.std.proofs.Common.{ap, sym, subst, refl, ◌∙◌, ◌≡◌}
-use Rattle.std.specs.Prelude.{Some, None}
-use Rattle.rk_table.specs.Maps.{changed_at}
-use Rattle.std.specs.FinMap.{get}
-use Rattle.rk_auth.specs.Chains.{AreChained, standing_at, home_at, link_in, with_link, with_before, changed_if}
+use Rattle.rk_auth.proofs.Words.{◌∙◌, ap, sym, ◌≡◌, subst, refl, get, Some, None, changed_at, standing_at, home_at, AreChained, with_link, with_before}
+use Rattle.rk_auth.proofs.Words.{changed_if, link_in}
 use Rattle.rk_auth.proofs.Chained.{out_3, is_taken, out_standing, chained_taken, no_link}
 use Rattle.rk_auth.proofs.chain.unlink.Goals as goal
 
@@ -12,8 +9,7 @@ at c = sym c.link_of.ensures ∙ c.in-Some.is
 written : (c : goal.After-change) → c.change.new.self.facts
     ≡ out_3 c.args.slots.now.facts c.args.place c.in-Some.link c.requires.chained (at c) c.in-Some.link.before c.in-Some.link.next
 written c =
-    c.change.ensures.facts
-    ∙ ap (changed_at c.args.place (with_link None))
+    c.change.ensures.facts ∙ ap (changed_at c.args.place (with_link None))
     (c.set_before.ensures.facts ∙ ap (changed_if c.in-Some.link.next (with_before c.in-Some.link.before)) c.set_next.ensures.facts)
 
 pub returns-clause-chained : goal.returns-clause-chained

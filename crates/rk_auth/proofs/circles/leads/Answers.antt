@@ -1,5 +1,4 @@
-use Rattle.std.proofs.Common.{arith, sym, ◌∙◌}
-use Rattle.std.proofs.lemmas.Bool.{both_ways, eq-eqb}
+use Rattle.rk_auth.proofs.Words.{◌∙◌, sym, arith, both_ways, eq-eqb}
 use Rattle.rk_auth.proofs.Walks.{walked}
 use Rattle.rk_auth.proofs.circles.leads.Goals as goal
 

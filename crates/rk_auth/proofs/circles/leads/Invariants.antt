@@ -1,5 +1,4 @@
-use Rattle.std.proofs.Common.{◌≡◌, ◌-◌}
-use Rattle.rk_auth.specs.Walk.{leads_within}
+use Rattle.rk_auth.proofs.Words.{◌≡◌, ◌-◌, leads_within}
 use Rattle.rk_auth.proofs.circles.leads.Given as goal
 
 -- what is left of the walk finds what the whole does

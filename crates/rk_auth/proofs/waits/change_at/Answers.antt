@@ -1,4 +1,4 @@
-use Rattle.std.proofs.Common.{sym, ◌∙◌}
+use Rattle.rk_auth.proofs.Words.{◌∙◌, sym}
 use Rattle.rk_auth.proofs.Stands.{restood, home_there, restood_idle, tied_idle, tied_waiting}
 use Rattle.rk_auth.proofs.waits.change_at.Goals as goal
 

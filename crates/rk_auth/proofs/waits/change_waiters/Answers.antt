@@ -1,7 +1,4 @@
-use Rattle.std.proofs.Common.{ap, sym, subst, ◌∙◌, cond}
-use Rattle.std.specs.Prelude.{option_map}
-use Rattle.rk_auth.specs.Chains.{AreChained, standing_at, home_at}
-use Rattle.rk_auth.specs.Seats.{same_home}
+use Rattle.rk_auth.proofs.Words.{◌∙◌, ap, sym, subst, cond, option_map, standing_at, home_at, AreChained, same_home}
 use Rattle.rk_auth.proofs.Stands.{each_chained, each_homes, chain_stands}
 use Rattle.rk_auth.proofs.waits.change_waiters.Goals as goal
 
@@ -23,5 +20,4 @@ returns-in-Some-clause-standing g c q =
 pub returns-in-Some-clause-homes : goal.returns-in-Some-clause-homes
 returns-in-Some-clause-homes g c q =
     let chain = c.requires.chained c.in-Some.home in
-    ap (λ n. home_at n q) (c.change_chain.ensures.facts chain.0 chain.1)
-    ∙ each_homes (g.C.ChangeOnce.changed c.args.change) chain.0 c.args.slots.now.facts q
+    ap (λ n. home_at n q) (c.change_chain.ensures.facts chain.0 chain.1) ∙ each_homes (g.C.ChangeOnce.changed c.args.change) chain.0 c.args.slots.now.facts q

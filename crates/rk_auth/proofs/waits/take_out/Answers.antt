@@ -1,6 +1,4 @@
-use Rattle.std.proofs.Common.{ap, sym, subst, refl, ◌∙◌, ◌≡◌, cond, ℕ, nat_eq}
-use Rattle.std.specs.Prelude.{Some, None}
-use Rattle.rk_auth.specs.Chains.{AreChained, standing_at, home_at}
+use Rattle.rk_auth.proofs.Words.{◌∙◌, ap, sym, ◌≡◌, subst, refl, ℕ, cond, Some, None, nat_eq, standing_at, home_at, AreChained}
 use Rattle.rk_auth.proofs.Links.{at_same}
 use Rattle.rk_auth.proofs.Stands.{out_chained, out_homes, out_stands, still_alone}
 use Rattle.rk_auth.proofs.waits.take_out.Goals as goal

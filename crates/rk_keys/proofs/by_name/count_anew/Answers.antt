@@ -1,7 +1,5 @@
-use Rattle.std.proofs.Common.{◌<◌, ◌∙◌, ℕ, Bool, List, ap, sym, cond, length, get_or, set, arith}
+use Rattle.rk_keys.proofs.Words.{◌∙◌, ap, sym, ℕ, ◌<◌, cond, arith, List, Bool, length, get_or, set, recounted, Named}
 use Rattle.std.proofs.lemmas.List.Edits.{map_over_more}
-use Rattle.rk_keys.specs.declared.named.Named.{Named}
-use Rattle.rk_keys.specs.Buckets.{recounted}
 use Rattle.rk_keys.proofs.by_name.count_anew.Goals as goal
 use Rattle.rk_keys.proofs.by_name.count_anew.Goals.{then-is, else-is}
 

@@ -1,6 +1,4 @@
-use Rattle.std.proofs.Common.{◌≡◌, ◌++◌, take, drop}
-use Rattle.std.proofs.Common.{map as list_map}
-use Rattle.rk_keys.specs.Buckets.{recounted}
+use Rattle.rk_keys.proofs.Words.{◌≡◌, ◌++◌, take, drop, list_map, recounted}
 use Rattle.rk_keys.proofs.by_name.count_anew.Given as goal
 
 abbrev pub invariant-loop-named : goal.invariant-loop-named

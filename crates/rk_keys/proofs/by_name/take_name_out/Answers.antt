@@ -1,4 +1,4 @@
-use Rattle.std.proofs.Common.{rules}
+use Rattle.rk_keys.proofs.Words.{rules}
 use Rattle.std.proofs.lemmas.Fn.{filter_same}
 use Rattle.rk_keys.proofs.by_name.take_name_out.Goals as goal
 

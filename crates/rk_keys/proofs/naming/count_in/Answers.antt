@@ -1,9 +1,5 @@
-use Rattle.std.proofs.Common.{◌≡◌, ◌+◌, ◌∙◌, ap, sym, refl, cond, List, ◌∷◌, ◌++◌, [], ℕ}
-use Rattle.std.specs.Prelude.{Some, None, nat_eq}
-use Rattle.std.specs.Prelude.{find as list_find, map as list_map}
-use Rattle.std.specs.Option.{option_copied}
-use Rattle.rk_keys.specs.declared.named.Named.{Named}
-use Rattle.rk_keys.specs.Buckets.{is_of, names_at, name_hash, kept_of, recounted, counted_in}
+use Rattle.rk_keys.proofs.Words.{◌∙◌, ap, ◌≡◌, refl, sym, ℕ, cond, List, ◌+◌, [], ◌∷◌, ◌++◌, option_copied, Some, None, nat_eq, list_map, list_find, names_at}
+use Rattle.rk_keys.proofs.Words.{recounted, is_of, kept_of, counted_in, name_hash, Named}
 use Rattle.rk_keys.proofs.Kept.{kept_recounted, kept_pushed}
 use Rattle.rk_keys.proofs.naming.count_in.Goals as goal
 

@@ -1,8 +1,5 @@
-use Rattle.std.proofs.Common.{◌≡◌, ◌<◌, ◌≤◌, ◌-◌, ◌∙◌, ap, subst, filter, not, cond, List, ℕ}
-use Rattle.std.specs.Prelude.{Option, nat_eq}
-use Rattle.std.specs.Prelude.{find as list_find, map as list_map}
-use Rattle.rk_keys.specs.declared.named.Named.{Named}
-use Rattle.rk_keys.specs.Buckets.{is_of, names_at, kept_of, count_of, recounted, counted_out}
+use Rattle.rk_keys.proofs.Words.{◌∙◌, ap, ◌≡◌, ℕ, subst, ◌<◌, cond, List, ◌-◌, ◌≤◌, not, filter, Option, nat_eq, list_map, list_find, names_at, recounted}
+use Rattle.rk_keys.proofs.Words.{is_of, kept_of, count_of, counted_out, Named}
 use Rattle.rk_keys.proofs.Kept.{kept_recounted, kept_lost, one_fewer, last_one, has_count}
 use Rattle.rk_keys.proofs.naming.count_out.Goals as goal
 

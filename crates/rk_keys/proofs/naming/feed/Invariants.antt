@@ -1,5 +1,4 @@
-use Rattle.std.proofs.Common.{◌≡◌}
-use Rattle.rk_keys.specs.Buckets.{fed_words}
+use Rattle.rk_keys.proofs.Words.{◌≡◌, fed_words}
 use Rattle.rk_keys.proofs.naming.feed.Given as goal
 
 abbrev pub invariant-loop-word : goal.invariant-loop-word

@@ -1,4 +1,4 @@
-use Rattle.std.proofs.Common.{sym}
+use Rattle.rk_keys.proofs.Words.{sym}
 use Rattle.rk_keys.proofs.Indexed.{index_without, index_without_none}
 use Rattle.rk_keys.proofs.naming.leave_name.Goals as goal
 

@@ -1,7 +1,5 @@
-use Rattle.std.proofs.Common.{◌∙◌, ap, refl}
+use Rattle.rk_keys.proofs.Words.{◌∙◌, ap, refl, taken_out, names_at}
 use Rattle.std.specs.FinMap as map
-use Rattle.rk_keys.specs.Buckets.{names_at}
-use Rattle.rk_table.proofs.Gets.{taken_out}
 use Rattle.rk_keys.proofs.Kept.{names_pushed, names_back}
 use Rattle.rk_keys.proofs.naming.put_in.Goals as goal
 

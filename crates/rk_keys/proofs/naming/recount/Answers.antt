@@ -1,6 +1,4 @@
-use Rattle.std.proofs.Common.{◌∙◌, ap, refl}
-use Rattle.std.specs.Prelude.{map as list_map}
-use Rattle.rk_keys.specs.Buckets.{names_at, recounted}
+use Rattle.rk_keys.proofs.Words.{◌∙◌, ap, refl, list_map, names_at, recounted}
 use Rattle.rk_keys.proofs.Kept.{names_changed}
 use Rattle.rk_keys.proofs.naming.recount.Goals as goal
 

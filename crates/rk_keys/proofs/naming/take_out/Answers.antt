@@ -1,5 +1,4 @@
-use Rattle.std.proofs.Common.{◌∙◌, ap, refl, filter, not}
-use Rattle.rk_keys.specs.Buckets.{is_of, names_at}
+use Rattle.rk_keys.proofs.Words.{◌∙◌, ap, refl, not, filter, names_at, is_of}
 use Rattle.rk_keys.proofs.Kept.{names_changed, names_gone}
 use Rattle.rk_keys.proofs.naming.take_out.Goals as goal
 

@@ -1,4 +1,4 @@
-use Rattle.std.proofs.Common.{sym}
+use Rattle.rk_keys.proofs.Words.{sym}
 use Rattle.rk_keys.proofs.UserCounts.{counts_without, counts_without_none}
 use Rattle.rk_keys.proofs.owners.leave.Goals as goal
 

@@ -1,6 +1,5 @@
 use Rattle.rk_message.proofs.Asks.{asks_are_told}
-use Rattle.rk_message.specs.Table.{asks}
-use Rattle.rk_message.specs.Asks.{ask_message}
+use Rattle.rk_message.proofs.Words.{ask_message, asks}
 use Rattle.rk_message.proofs.Messages.{message_again}
 use Rattle.rk_message.proofs.Whole.{asks_are_whole}
 use Rattle.rk_message.proofs.laws.asks_have_one_reading.Goals as goal

@@ -1,6 +1,5 @@
 use Rattle.rk_message.proofs.Replies.{replies_are_told}
-use Rattle.rk_message.specs.Table.{replies}
-use Rattle.rk_message.specs.Replies.{reply_message}
+use Rattle.rk_message.proofs.Words.{reply_message, replies}
 use Rattle.rk_message.proofs.Messages.{message_again}
 use Rattle.rk_message.proofs.Whole.{replies_are_whole}
 use Rattle.rk_message.proofs.laws.replies_have_one_reading.Goals as goal

@@ -1,7 +1,4 @@
-use Rattle.std.proofs.Common.{◌≡◌, ◌≤◌, ◌+◌, fold, take}
-use Rattle.std.specs.FinMap.{empty}
-use Rattle.indexmap.specs.IndexMap.{spare}
-use Rattle.rk_rings.specs.ByName.{named, turned_more}
+use Rattle.rk_rings.proofs.Words.{spare, ◌≡◌, ◌≤◌, ◌+◌, fold, take, empty, named, turned_more}
 use Rattle.rk_rings.proofs.by_name.put_back.Given as goal
 
 abbrev pub invariant-loop-link : goal.invariant-loop-link

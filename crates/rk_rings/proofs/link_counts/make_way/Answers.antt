@@ -1,7 +1,4 @@
-use Rattle.std.proofs.Common.{◌∙◌, ap, ltb}
-use Rattle.std.specs.FinMap.{get}
-use Rattle.rk_table.proofs.Gets.{none_kept}
-use Rattle.rk_rings.specs.Counting.{counting}
+use Rattle.rk_rings.proofs.Words.{◌∙◌, ap, ltb, get, none_kept, counting}
 use Rattle.rk_rings.proofs.Counting.{counting_again}
 use Rattle.rk_rings.proofs.link_counts.make_way.Goals as goal
 
@@ -9,5 +6,4 @@ pub returns-then-len-most-clause-facts : goal.returns-then-len-most-clause-facts
 returns-then-len-most-clause-facts c = ap counting c.retain.ensures.facts ∙ counting_again c.args.counts.now.facts
 
 pub returns-then-len-most-clause-absent : goal.returns-then-len-most-clause-absent
-returns-then-len-most-clause-absent c k none =
-    ap (λ m. get m k) c.retain.ensures.facts ∙ none_kept (λ _ n. ltb 0 n) c.args.counts.now.facts k none
+returns-then-len-most-clause-absent c k none = ap (λ m. get m k) c.retain.ensures.facts ∙ none_kept (λ _ n. ltb 0 n) c.args.counts.now.facts k none

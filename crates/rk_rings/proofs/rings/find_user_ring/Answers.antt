@@ -1,5 +1,4 @@
-use Rattle.std.specs.Prelude.{None}
-use Rattle.rk_rings.specs.Numbered.{is_user_ring}
+use Rattle.rk_rings.proofs.Words.{None, is_user_ring}
 use Rattle.rk_rings.proofs.Changed.{by_test}
 use Rattle.rk_rings.proofs.UserRings.{none_his}
 use Rattle.rk_rings.proofs.rings.find_user_ring.Goals as goal

@@ -1,8 +1,5 @@
-use Rattle.std.proofs.Common.{◌≡◌, ◌≤◌, length}
+use Rattle.rk_rings.proofs.Words.{◌≡◌, ◌≤◌, length, with_entries, HasEachNew, AreSerials, AreUserRings}
 use Rattle.std.specs.Vec.Iter.{into_iter_items}
-use Rattle.rk_rings.specs.Numbered.{AreSerials}
-use Rattle.rk_rings.specs.Making.{with_entries, HasEachNew}
-use Rattle.rk_rings.specs.UserRings.{AreUserRings}
 use Rattle.rk_rings.proofs.rings.insert_rows.Given as goal
 
 -- what is left to put in makes of the table what all of it makes at first

@@ -1,6 +1,4 @@
-use Rattle.std.proofs.Common.{◌≡◌, take}
-use Rattle.std.specs.Prelude.{map as list_map}
-use Rattle.rk_rings.specs.Numbered.{new_ring}
+use Rattle.rk_rings.proofs.Words.{◌≡◌, take, list_map, new_ring}
 use Rattle.rk_rings.proofs.rings.new_rows.Given as goal
 
 abbrev pub invariant-loop-ring : goal.invariant-loop-ring

@@ -1,7 +1,4 @@
-use Rattle.std.proofs.Common.{◌∙◌, ap, sym, subst}
-use Rattle.std.specs.FinMap.{insert, contains_key}
-use Rattle.std.proofs.lemmas.Option.{none-some, same_Some}
-use Rattle.rk_rings.specs.UserRings.{AreUserRings}
+use Rattle.rk_rings.proofs.Words.{◌∙◌, ap, sym, subst, none-some, same_Some, insert, contains_key, AreUserRings}
 use Rattle.rk_rings.proofs.UserRings.{IsUserOf, users_same, users_made}
 use Rattle.rk_rings.proofs.rings.note_user.Goals as goal
 

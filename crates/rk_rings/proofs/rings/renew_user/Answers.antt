@@ -1,15 +1,9 @@
-use Rattle.std.proofs.Common.{◌≡◌, ◌∙◌, ap, sym, subst, refl, ◌+◌}
-use Rattle.std.specs.Prelude.{Some, None}
-use Rattle.std.specs.FinMap.{get, len, insert, remove}
-use Rattle.std.proofs.lemmas.Option.{same_Some}
-use Rattle.rk_table.proofs.Gets.{taken_out}
-use Rattle.rk_rings.specs.UserRings.{IsHis, AreUserRings}
+use Rattle.rk_rings.proofs.Words.{◌∙◌, ap, sym, ◌≡◌, subst, ◌+◌, refl, same_Some, get, len, insert, remove, None, Some, taken_out, AreUserRings, IsHis}
 use Rattle.rk_rings.proofs.UserRings.{renewed, place_left}
 use Rattle.rk_rings.proofs.rings.renew_user.Goals as goal
 
 pub insert-requires-clause-new : goal.insert-requires-clause-new
-insert-requires-clause-new c =
-    ap (λ m. get m c.in-Some.uid) c.remove.ensures.facts ∙ taken_out c.args.users.now.facts c.in-Some.uid c.in-Some.uid refl
+insert-requires-clause-new c = ap (λ m. get m c.in-Some.uid) c.remove.ensures.facts ∙ taken_out c.args.users.now.facts c.in-Some.uid c.in-Some.uid refl
 
 pub insert-requires-clause-room : goal.insert-requires-clause-room
 insert-requires-clause-room c =
@@ -27,7 +21,6 @@ returns-in-Some-find_user_ring c =
 
 pub returns-in_default-find_user_ring : goal.returns-in_default-find_user_ring
 returns-in_default-find_user_ring c =
-    subst (AreUserRings c.args.rows.now.facts) (sym c.remove.ensures.facts)
-    (renewed c.args.rows.now.facts c.args.users.now.facts c.in-Some.uid None
+    subst (AreUserRings c.args.rows.now.facts) (sym c.remove.ensures.facts) (renewed c.args.rows.now.facts c.args.users.now.facts c.in-Some.uid None
     (subst (IsHis c.args.rows.now.facts c.in-Some.uid) c.in_default-find_user_ring.is c.find_user_ring.ensures)
     (λ uid ne. c.requires.others uid (λ is. ne (sym (same_Some c.in-Some.uid uid (sym c.in-Some.is ∙ is))))))

@@ -1,7 +1,4 @@
-use Rattle.std.proofs.Common.{◌≡◌, ◌∙◌, ap, sym, subst}
-use Rattle.std.specs.Prelude.{Some, None}
-use Rattle.std.specs.FinMap.{get, insert, remove}
-use Rattle.rk_rings.specs.ByName.{AreByName}
+use Rattle.rk_rings.proofs.Words.{◌∙◌, ap, sym, ◌≡◌, subst, get, insert, remove, None, Some, AreByName}
 use Rattle.rk_rings.proofs.Turned.{kept_rival, kept_all, by_name_given, by_name_new}
 use Rattle.rk_rings.proofs.row.give_way.Goals as goal
 

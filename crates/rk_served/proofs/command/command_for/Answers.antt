@@ -1,13 +1,8 @@
-use Rattle.std.proofs.Common.{List, ℕ, rules, inr, subst}
-use Rattle.std.specs.Prelude.{Option, Some, Result, Ok, Err, IfOk, option_map}
+use Rattle.rk_served.proofs.Words.{List, subst, ℕ, inr, rules, Vec, Some, Option, option_map, Result, Ok, Err, IfOk, Peeks, World, looked_up}
 use Rattle.std.specs.declared.alloc.AllocError.{AllocError}
-use Rattle.std.specs.Global.{Vec}
 use Rattle.rk_conf.specs.declared.argument.Wanted.{Wanted}
 use Rattle.rk_macro.specs.Lookup.{payload_shown}
-use Rattle.rk_machine.specs.World.{World}
-use Rattle.rk_machine.specs.Views.{Peeks}
 use Rattle.rk_conf.specs.Choice.{IsChosen}
-use Rattle.rk_served.specs.Commands.{looked_up}
 use Rattle.rk_macro.proofs.Lookups.{words_of_calls, fails_of_calls}
 use Rattle.rk_served.proofs.command.command_for.Goals as goal
 

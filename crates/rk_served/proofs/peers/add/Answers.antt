@@ -1,9 +1,5 @@
-use Rattle.std.proofs.Common.{◌≡◌, ◌≤◌, ℕ, take, drop, sym, ap, ◌∙◌, rules, arith, length}
-use Rattle.std.specs.Prelude.{insert}
-use Rattle.std.specs.List.{position_or_len}
+use Rattle.rk_served.proofs.Words.{◌∙◌, ap, sym, ◌≡◌, ℕ, length, arith, ◌≤◌, rules, take, drop, position_or_len, insert, comes_before, are_in_order, Peer}
 use Rattle.std.proofs.lemmas.List.{take-append-drop}
-use Rattle.rk_served.specs.declared.peer.Peer.{Peer}
-use Rattle.rk_served.specs.Standing.{comes_before, are_in_order}
 use Rattle.rk_served.proofs.Standings.{position_within, order_inserted}
 use Rattle.rk_served.proofs.peers.add.Goals as goal
 

@@ -1,9 +1,4 @@
-use Rattle.std.proofs.Common.{refl, sym, ap, ◌∙◌, arith}
-use Rattle.std.specs.Prelude.{slice_get}
-use Rattle.std.proofs.lemmas.Option.{slice_get_read, slice_get_within, same_Some}
-use Rattle.rk_machine.specs.Laws.{same_session}
-use Rattle.rk_machine.proofs.Effects.WaitsAfter.{same-true}
-use Rattle.rk_served.specs.declared.peer.Peer.{Peer}
+use Rattle.rk_served.proofs.Words.{refl, ◌∙◌, ap, sym, arith, slice_get_read, same_Some, slice_get_within, slice_get, same-true, same_session, Peer}
 use Rattle.rk_served.proofs.Places.{found_there, none_there}
 use Rattle.rk_served.proofs.peers.index_of.Goals as goal
 use Rattle.rk_served.proofs.peers.index_of.Goals.{else-index-peers-via-then-index-peers+else-same, else-index-peers-via-else-index-peers}

@@ -1,7 +1,4 @@
-use Rattle.std.proofs.Common.{rules, not}
-use Rattle.std.proofs.lemmas.List.Sorted.{IsPartitionPoint-from_clause}
-use Rattle.rk_served.specs.declared.peer.Peer.{Peer}
-use Rattle.rk_served.specs.Standing.{comes_before}
+use Rattle.rk_served.proofs.Words.{not, rules, IsPartitionPoint-from_clause, comes_before, Peer}
 use Rattle.rk_served.proofs.Places.{point_is, behind_splits}
 use Rattle.rk_served.proofs.peers.rank.Goals as goal
 

@@ -1,7 +1,4 @@
-use Rattle.std.proofs.Common.{sym, ap, ◌∙◌}
-use Rattle.std.specs.Prelude.{is_some}
-use Rattle.rk_served.specs.Left.{without}
-use Rattle.rk_served.specs.Standing.{are_in_order}
+use Rattle.rk_served.proofs.Words.{◌∙◌, ap, sym, is_some, without, are_in_order}
 use Rattle.rk_served.proofs.PeerLists.{found_at, without_none, without_removed}
 use Rattle.rk_served.proofs.Standings.{order_removed}
 use Rattle.rk_served.proofs.peers.remove.Goals as goal

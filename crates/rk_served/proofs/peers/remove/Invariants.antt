@@ -1,6 +1,4 @@
-use Rattle.std.proofs.Common.{◌≡◌, true, vec_len}
-use Rattle.rk_served.specs.Left.{without}
-use Rattle.rk_served.specs.Standing.{are_in_order}
+use Rattle.rk_served.proofs.Words.{◌≡◌, true, vec_len, without, are_in_order}
 use Rattle.rk_served.proofs.peers.remove.Given as goal
 
 abbrev pub invariant-loop-index : goal.invariant-loop-index

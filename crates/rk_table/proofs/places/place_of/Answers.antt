@@ -1,4 +1,4 @@
-use Rattle.std.proofs.Common.{rules}
+use Rattle.rk_table.proofs.Words.{rules}
 use Rattle.std.proofs.lemmas.List.Sorted.{answers_always}
 use Rattle.rk_table.proofs.Found.{searched}
 use Rattle.rk_table.proofs.places.place_of.Goals as goal

@@ -1,4 +1,4 @@
-use Rattle.std.proofs.Common.{rules}
+use Rattle.rk_table.proofs.Words.{rules}
 use Rattle.std.proofs.lemmas.Fn.{filter_same}
 use Rattle.rk_table.proofs.table.retain_entries.Goals as goal
 

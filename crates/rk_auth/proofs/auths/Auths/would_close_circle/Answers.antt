@@ -1,8 +1,5 @@
-use Rattle.std.proofs.Common.{ap, sym, subst, ◌∙◌}
+use Rattle.rk_auth.proofs.Words.{◌∙◌, ap, sym, subst, Says, Leads, leads_within}
 use Rattle.std.specs.FinMap as map
-use Rattle.rk_table.specs.Says.{Says}
-use Rattle.rk_auth.specs.Circles.{Leads}
-use Rattle.rk_auth.specs.Walk.{leads_within}
 use Rattle.rk_auth.proofs.Walks.{no_client, walk_tells}
 use Rattle.rk_auth.proofs.auths.Auths.would_close_circle.Goals as goal
 

@@ -1,6 +1,4 @@
-use Rattle.std.proofs.Common.{ap, sym, ◌∙◌}
-use Rattle.std.specs.Option.{option_copied_mut}
-use Rattle.rk_table.specs.Maps.{changed_at}
+use Rattle.rk_auth.proofs.Words.{◌∙◌, ap, sym, option_copied_mut, changed_at}
 use Rattle.rk_auth.proofs.Slabs.{change_place, leave_place}
 use Rattle.rk_auth.proofs.places.Places.change.Goals as goal
 

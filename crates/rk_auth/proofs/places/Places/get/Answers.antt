@@ -1,4 +1,4 @@
-use Rattle.std.proofs.Common.{ap, sym, ◌∙◌}
+use Rattle.rk_auth.proofs.Words.{◌∙◌, ap, sym}
 use Rattle.std.specs.FinMap as map
 use Rattle.rk_auth.proofs.Slabs.{get_place}
 use Rattle.rk_auth.proofs.places.Places.get.Goals as goal

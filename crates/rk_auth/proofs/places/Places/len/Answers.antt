@@ -1,5 +1,4 @@
-use Rattle.std.proofs.Common.{ap, ◌∙◌}
-use Rattle.std.specs.Prelude.{is_some}
+use Rattle.rk_auth.proofs.Words.{◌∙◌, ap, is_some}
 use Rattle.std.specs.FinMap as map
 use Rattle.rk_auth.proofs.Slabs.{no_more_places}
 use Rattle.rk_auth.proofs.places.Places.len.Goals as goal

@@ -1,23 +1,16 @@
-use Rattle.std.proofs.Common.{ap, sym, ◌∙◌}
-use Rattle.rk_auth.specs.Changes.{session_changed}
-use Rattle.rk_auth.specs.Seats.{in_session}
+use Rattle.rk_auth.proofs.Words.{◌∙◌, ap, sym, session_changed, in_session}
 use Rattle.rk_auth.proofs.Seated.{changed_view, unchanged_view, seated_changed, session_who}
 use Rattle.rk_auth.proofs.seats.Seats.change_session.Goals as goal
 
-pub change_at-requires-clause-who : goal.change_at-requires-clause-who
-change_at-requires-clause-who g c = session_who (g.C.ChangeOnce.changed c.args.change)
-
 pub invariant_of-self : goal.invariant_of-self
 invariant_of-self g c =
-    seated_changed (in_session (g.C.ChangeOnce.changed c.args.change)) c.self.inside.slots c.change_at.new.slots c.self.inside.clients c.self.inside.constructions
-    c.self.inside.nobody c.self.inside.reserved c.in-Some.place c.self.invariant (session_who (g.C.ChangeOnce.changed c.args.change)) c.change_at.ensures.tied
-    c.change_at.ensures.standing c.change_at.ensures.room
+    seated_changed (in_session (g.C.ChangeOnce.changed c.args.change)) c.change_at.new.slots c.in-Some.place c.self.invariant
+    (session_who (g.C.ChangeOnce.changed c.args.change)) c.change_at.ensures.tied c.change_at.ensures.standing c.change_at.ensures.room
 
 pub returns-in-Some-clause-sessions : goal.returns-in-Some-clause-sessions
 returns-in-Some-clause-sessions g c =
     let f = g.C.ChangeOnce.changed c.args.change in
-    changed_view c.self.inside.slots.facts c.change_at.new.slots.facts c.self.inside.clients.facts c.self.inside.constructions.facts c.self.inside.nobody
-    c.self.invariant.tied c.self.invariant.names f c.args.id.now c.in-Some.place (sym c.place_of.ensures ∙ c.in-Some.is) c.change_at.ensures.standing
+    changed_view c.self.invariant c.change_at.new.slots.facts f c.args.id.now c.in-Some.place (sym c.place_of.ensures ∙ c.in-Some.is) c.change_at.ensures.standing
     ∙ ap (λ h. session_changed c.args.id.now f h.sessions) c.self.view_is
 
 pub returns-in_default-clause-sessions : goal.returns-in_default-clause-sessions

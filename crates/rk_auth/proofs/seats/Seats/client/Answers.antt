@@ -1,9 +1,5 @@
-use Rattle.std.proofs.Common.{ap, sym, ◌∙◌, ◌≡◌}
-use Rattle.std.specs.Prelude.{Some}
-use Rattle.std.specs.Option.{option_copied}
+use Rattle.rk_auth.proofs.Words.{◌∙◌, ap, sym, ◌≡◌, option_copied, Some, standing_at, client_of}
 use Rattle.std.specs.FinMap as map
-use Rattle.rk_auth.specs.Seats.{client_of}
-use Rattle.rk_auth.specs.Chains.{standing_at}
 use Rattle.rk_auth.proofs.Seen.{seen_at, seen_none}
 use Rattle.rk_auth.proofs.Seated.{client_read}
 use Rattle.rk_auth.proofs.seats.Seats.client.Goals as goal

@@ -1,6 +1,5 @@
-use Rattle.std.proofs.Common.{ap, sym, ◌∙◌}
+use Rattle.rk_auth.proofs.Words.{◌∙◌, ap, sym, client_of}
 use Rattle.std.specs.FinMap as map
-use Rattle.rk_auth.specs.Seats.{client_of}
 use Rattle.rk_auth.proofs.Seen.{seen_len}
 use Rattle.rk_auth.proofs.seats.Seats.clients.Goals as goal
 

@@ -1,9 +1,5 @@
-use Rattle.std.proofs.Common.{ap, sym, subst, ◌∙◌, ◌≡◌, arith}
-use Rattle.std.specs.Prelude.{ℕ}
-use Rattle.std.specs.Ordering.{nat_cmp}
-use Rattle.std.proofs.lemmas.Option.{none-some}
+use Rattle.rk_auth.proofs.Words.{◌∙◌, ap, sym, ◌≡◌, subst, ℕ, arith, none-some, nat_cmp, client_of, construction_of, IsTied}
 use Rattle.std.specs.FinMap as map
-use Rattle.rk_auth.specs.Seats.{client_of, construction_of, IsTied}
 use Rattle.rk_auth.proofs.Seated.{views, tied_first, nothing_seen}
 use Rattle.rk_auth.proofs.seats.Seats.new.Goals as goal
 
@@ -23,5 +19,5 @@ invariant_of-result c =
 
 pub returns : goal.returns
 returns c =
-    views _ _ _ _ (nothing_seen construction_of c.put-nobody.new.self.facts c.new.result.facts c.new.ensures)
+    views (nothing_seen construction_of c.put-nobody.new.self.facts c.new.result.facts c.new.ensures)
     (nothing_seen client_of c.put-nobody.new.self.facts c.in_ok-clients.clients.facts c.in_ok-clients.ensures.empty)

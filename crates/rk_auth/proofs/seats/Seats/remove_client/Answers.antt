@@ -1,9 +1,6 @@
-use Rattle.std.proofs.Common.{ap, sym, subst, ◌∙◌, ◌≡◌, ◌<◌, ◌-◌, arith}
-use Rattle.std.specs.Prelude.{Some, ℕ}
+use Rattle.rk_auth.proofs.Words.{◌∙◌, ap, sym, ◌≡◌, subst, ℕ, arith, ◌-◌, ◌<◌, Some, who_at, Sessions}
 use Rattle.std.specs.FinMap as map
 use Rattle.rk_names.specs.declared.numbers.SessionId.TheVariants as id
-use Rattle.rk_auth.specs.Sessions.{Sessions}
-use Rattle.rk_auth.specs.Seats.{who_at}
 use Rattle.rk_auth.proofs.Seated.{View, nobody_homes, is_standing_there, tied_out, named_others, client_out_view, not_there_view, one_less, one_at_least}
 use Rattle.rk_auth.proofs.seats.Seats.remove_client.Goals as goal
 
@@ -28,8 +25,7 @@ invariant_of-self c =
       tied = tied_out inside.slots.facts c.take_out.new.slots.facts c.in-Some.place c.take_out.ensures.standing inside.constructions.facts inside.nobody
           c.args.number c.self.invariant.tied (c.self.invariant.names c.args.number c.in-Some.place at) c.take_out.ensures.chained c.take_out.ensures.homes;
       names = subst (λ index. (n i : ℕ) → map.get index n ≡ Some i → who_at c.take_out.new.slots.facts i ≡ Some (Some (id.Client n))) (sym c.remove.ensures.facts)
-          (named_others inside.slots.facts c.take_out.new.slots.facts inside.clients.facts inside.constructions.facts inside.nobody c.in-Some.place
-          c.self.invariant.tied c.self.invariant.names c.args.number at c.take_out.ensures.standing);
+          (named_others c.self.invariant c.take_out.new.slots.facts c.in-Some.place c.args.number at c.take_out.ensures.standing);
       few = omega (arith, less, c.self.invariant.few);
       in_clients = omega (arith, c.remove.ensures.places, c.self.invariant.in_clients);
       fits = c.self.invariant.fits;
@@ -42,8 +38,7 @@ returns-in-Some-clause-sessions c =
     let inside = c.self.inside in
     let at : map.get inside.clients.facts c.args.number ≡ Some c.in-Some.place = sym c.get.ensures ∙ sym c.copied.ensures ∙ c.in-Some.is in
     ap {B = Sessions} (λ index. View c.take_out.new.slots.facts index inside.constructions.facts) c.remove.ensures.facts
-    ∙ client_out_view inside.slots.facts c.take_out.new.slots.facts inside.clients.facts inside.constructions.facts inside.nobody c.in-Some.place
-    c.self.invariant.tied c.self.invariant.names c.args.number at c.take_out.ensures.standing
+    ∙ client_out_view c.self.invariant c.take_out.new.slots.facts c.in-Some.place c.args.number at c.take_out.ensures.standing
     ∙ ap {B = Sessions} (λ h. record { constructions = h.sessions.constructions; clients = map.remove h.sessions.clients c.args.number }) c.self.view_is
 
 pub returns-in_default-clause-sessions : goal.returns-in_default-clause-sessions

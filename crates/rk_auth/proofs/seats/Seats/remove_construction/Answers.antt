@@ -1,24 +1,8 @@
-use Rattle.std.proofs.Common.{ap, sym, subst, ◌∙◌, ◌≡◌, ◌<◌, ◌-◌, arith}
-use Rattle.std.specs.Prelude.{Some, None, is_some, cond, nat_eq}
+use Rattle.rk_auth.proofs.Words.{◌∙◌, ap, sym, ◌≡◌, subst, cond, arith, ◌-◌, ◌<◌, Some, None, nat_eq, is_some, IsTied, Sessions}
 use Rattle.std.specs.FinMap as map
 use Rattle.rk_names.specs.declared.numbers.SessionId.TheVariants as id
-use Rattle.rk_auth.specs.Sessions.{Sessions}
-use Rattle.rk_auth.specs.Chains.{home_at}
-use Rattle.rk_auth.specs.Seats.{IsTied}
-use Rattle.rk_auth.proofs.Stands.{who_there}
-use Rattle.rk_auth.proofs.Seated.{View, not_nobody, not_homed, is_standing_there, tied_ended, named_left, construction_out_view, not_made_view, one_less, one_at_least}
+use Rattle.rk_auth.proofs.Seated.{View, is_standing_there, tied_ended, named_left, construction_out_view, not_made_view, one_less, one_at_least}
 use Rattle.rk_auth.proofs.seats.Seats.remove_construction.Goals as goal
-
-pub loosen-requires-clause-other : goal.loosen-requires-clause-other
-loosen-requires-clause-other c = who_there c.self.inside.slots.facts c.self.inside.nobody None c.self.invariant.tied.nobody_there
-
-pub loosen-requires-clause-apart : goal.loosen-requires-clause-apart
-loosen-requires-clause-apart c e =
-    let inside = c.self.inside in
-    let at : map.get inside.constructions.facts c.args.key ≡ Some c.in-Some.place =
-    ap (map.get inside.constructions.facts) (sym c.get.ensures.number) ∙ sym c.get-2.ensures ∙ sym c.copied.ensures ∙ c.in-Some.is in
-    not_nobody inside.slots.facts c.in-Some.place inside.nobody (id.Handler c.args.key) (c.self.invariant.tied.heads c.args.key c.in-Some.place at)
-    c.self.invariant.tied.nobody_there (sym e)
 
 pub take_out-requires-clause-there : goal.take_out-requires-clause-there
 take_out-requires-clause-there c =
@@ -27,16 +11,6 @@ take_out-requires-clause-there c =
     ap (map.get inside.constructions.facts) (sym c.get.ensures.number) ∙ sym c.get-2.ensures ∙ sym c.copied.ensures ∙ c.in-Some.is in
     ap is_some (c.loosen.ensures.standing c.in-Some.place)
     ∙ is_standing_there inside.slots.facts c.in-Some.place (Some (id.Handler c.args.key)) (c.self.invariant.tied.heads c.args.key c.in-Some.place at)
-
-pub take_out-requires-clause-alone : goal.take_out-requires-clause-alone
-take_out-requires-clause-alone c q e =
-    let inside = c.self.inside in
-    let at : map.get inside.constructions.facts c.args.key ≡ Some c.in-Some.place =
-    ap (map.get inside.constructions.facts) (sym c.get.ensures.number) ∙ sym c.get-2.ensures ∙ sym c.copied.ensures ∙ c.in-Some.is in
-    not_homed c.in-Some.place inside.nobody (home_at inside.slots.facts q)
-    (λ s. not_nobody inside.slots.facts c.in-Some.place inside.nobody (id.Handler c.args.key) (c.self.invariant.tied.heads c.args.key c.in-Some.place at)
-    c.self.invariant.tied.nobody_there (sym s))
-    (sym (c.loosen.ensures.homes q) ∙ e)
 
 pub invariant_of-self : goal.invariant_of-self
 invariant_of-self c =
@@ -52,8 +26,7 @@ invariant_of-self c =
       tied = subst (λ index. IsTied c.take_out.new.slots.facts index inside.nobody) (sym facts)
           (tied_ended inside.slots.facts c.loosen.new.slots.facts c.take_out.new.slots.facts inside.constructions.facts inside.nobody c.args.key c.in-Some.place
           c.self.invariant.tied at c.loosen.ensures.standing c.loosen.ensures.homes c.take_out.ensures.chained c.take_out.ensures.standing c.take_out.ensures.homes);
-      names = named_left inside.slots.facts c.take_out.new.slots.facts inside.clients.facts inside.constructions.facts inside.nobody c.in-Some.place
-          c.self.invariant.tied c.self.invariant.names c.args.key at
+      names = named_left c.self.invariant c.take_out.new.slots.facts c.in-Some.place c.args.key at
           (λ q. c.take_out.ensures.standing q ∙ ap (λ o. cond (nat_eq c.in-Some.place q) None o) (c.loosen.ensures.standing q));
       few = c.self.invariant.few;
       in_clients = c.self.invariant.in_clients;
@@ -69,15 +42,13 @@ returns-in-Some-clause-sessions c =
     ap (map.get inside.constructions.facts) (sym c.get.ensures.number) ∙ sym c.get-2.ensures ∙ sym c.copied.ensures ∙ c.in-Some.is in
     ap {B = Sessions} (λ index. View c.take_out.new.slots.facts inside.clients.facts index)
     (c.remove.ensures.facts ∙ ap (map.remove inside.constructions.facts) c.get-in-Some.ensures.number)
-    ∙ construction_out_view inside.slots.facts c.take_out.new.slots.facts inside.clients.facts inside.constructions.facts inside.nobody c.in-Some.place
-    c.self.invariant.tied c.self.invariant.names c.args.key at
+    ∙ construction_out_view c.self.invariant c.take_out.new.slots.facts c.in-Some.place c.args.key at
     (λ q. c.take_out.ensures.standing q ∙ ap (λ o. cond (nat_eq c.in-Some.place q) None o) (c.loosen.ensures.standing q))
     ∙ ap {B = Sessions} (λ h. record { constructions = map.remove h.sessions.constructions c.args.key; clients = h.sessions.clients }) c.self.view_is
 
 pub returns-in_default-clause-sessions : goal.returns-in_default-clause-sessions
 returns-in_default-clause-sessions c =
     let inside = c.self.inside in
-    ap (λ h. h.sessions) (sym c.self.view_is)
-    ∙ not_made_view inside.slots.facts inside.clients.facts inside.constructions.facts c.args.key
+    ap (λ h. h.sessions) (sym c.self.view_is) ∙ not_made_view inside.slots.facts inside.clients.facts inside.constructions.facts c.args.key
     (ap (map.get inside.constructions.facts) (sym c.get.ensures.number) ∙ sym c.get-2.ensures ∙ sym c.copied.ensures ∙ c.in_default.is)
     ∙ ap {B = Sessions} (λ h. record { constructions = map.remove h.sessions.constructions c.args.key; clients = h.sessions.clients }) c.self.view_is

@@ -1,6 +1,4 @@
-use Rattle.std.proofs.Common.{ap, sym, ◌∙◌}
-use Rattle.rk_auth.specs.Sessions.{is_shared}
-use Rattle.rk_auth.specs.Seats.{client_of}
+use Rattle.rk_auth.proofs.Words.{◌∙◌, ap, sym, client_of, is_shared}
 use Rattle.rk_auth.proofs.Seen.{seen_any}
 use Rattle.rk_auth.proofs.seats.Seats.shares.Goals as goal
 

@@ -1,7 +1,5 @@
-use Rattle.std.proofs.Common.{ap, subst, ◌∙◌, arith}
+use Rattle.rk_auth.proofs.Words.{◌∙◌, ap, subst, arith, all_told, AreBothTold}
 use Rattle.std.specs.FinMap as map
-use Rattle.rk_auth.specs.Changes.{all_told}
-use Rattle.rk_auth.specs.Seats.{AreBothTold}
 use Rattle.rk_auth.proofs.Told.{tied_told, named_told, told_view}
 use Rattle.rk_auth.proofs.seats.Seats.tell.Goals as goal
 
@@ -30,5 +28,4 @@ pub returns-clause-sessions : goal.returns-clause-sessions
 returns-clause-sessions c =
     let inside = c.self.inside in
     told_view c.args.key c.args.outcome inside.slots.facts c.tell_both.new.slots.facts inside.constructions.facts inside.nobody c.self.invariant.tied (is_told c)
-    inside.clients.facts c.self.invariant.names
-    ∙ ap (λ h. all_told c.args.key c.args.outcome h.sessions) c.self.view_is
+    inside.clients.facts c.self.invariant.names ∙ ap (λ h. all_told c.args.key c.args.outcome h.sessions) c.self.view_is

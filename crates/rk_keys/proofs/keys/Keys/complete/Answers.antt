@@ -1,4 +1,4 @@
-use Rattle.rk_keys.specs.Known.{Known, concluded}
+use Rattle.rk_keys.proofs.Words.{Known, concluded}
 use Rattle.rk_keys.proofs.Held.{held_changed, concluded_keeps}
 use Rattle.rk_keys.proofs.Indexed.{index_changed}
 use Rattle.rk_keys.proofs.UserCounts.{counts_changed, concluded_keeps_owner}

@@ -1,8 +1,5 @@
-use Rattle.std.proofs.Common.{subst}
+use Rattle.rk_keys.proofs.Words.{subst, IsIndex, Known, AreCounts}
 use Rattle.std.specs.FinMap as map
-use Rattle.rk_keys.specs.Known.{Known}
-use Rattle.rk_keys.specs.Owners.{AreCounts}
-use Rattle.rk_keys.specs.Buckets.{IsIndex}
 use Rattle.rk_keys.proofs.Held.{held_without}
 use Rattle.rk_keys.proofs.keys.Keys.forget.Goals as goal
 

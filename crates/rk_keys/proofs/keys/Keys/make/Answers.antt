@@ -1,89 +1,49 @@
-use Rattle.std.proofs.Common.{◌≡◌, ◌<◌, subst, ◌∙◌, ap, ℕ, cond, List, refl, arith}
-use Rattle.std.specs.Prelude.{Option, Some, None, unwrap_or}
-use Rattle.std.specs.Ordering.{nat_cmp}
+use Rattle.rk_keys.proofs.Words.{◌∙◌, ap, ◌≡◌, refl, ℕ, subst, ◌<◌, cond, arith, List, nat_cmp, Some, None, Option, unwrap_or, at_new, kept_of, counted_in}
+use Rattle.rk_keys.proofs.Words.{is_same, IsIndex, number_in, Known, IsHeld, new_key, IsNumberFor, AreCounts, Key, Named}
 use Rattle.std.specs.FinMap as map
 use Rattle.std.specs.FinSet as set
 use Rattle.std.proofs.lemmas.Result.{err_from_is_err_and}
-use Rattle.rk_keys.specs.declared.key.Key.{Key}
-use Rattle.rk_keys.specs.Serials.{IsNext, with_drawn}
-use Rattle.rk_keys.specs.Known.{Known, new_key, IsHeld}
-use Rattle.rk_keys.specs.Names.{IsNumberFor}
 use Rattle.rk_keys.proofs.Names.{number_of_new, number_for_new}
 use Rattle.rk_keys.proofs.Held.{held_made_so}
-use Rattle.rk_table.proofs.Gets.{at_new}
-use Rattle.rk_keys.specs.declared.named.Named.{Named}
-use Rattle.rk_keys.specs.Buckets.{IsIndex, is_same, kept_of, number_in, counted_in}
 use Rattle.rk_keys.proofs.Indexed.{index_with, index_same, none_of, some_of, few_named}
-use Rattle.rk_keys.specs.Owners.{AreCounts}
 use Rattle.rk_keys.proofs.UserCounts.{counts_with}
-use Rattle.rk_keys.proofs.Refused.{not_refused}
+use Rattle.rk_keys.proofs.Refused.{no_quota}
 use Rattle.rk_keys.proofs.keys.Keys.make.Goals as goal
 
-pub returns-in_err-reserve-clause-quota : goal.returns-in_err-reserve-clause-quota
-returns-in_err-reserve-clause-quota c =
-    let next : IsNext c.args.self.now.serials c.in-Some.serial = subst (λ (n : Known). IsNext n.serials c.in-Some.serial) c.self.view_is
-    c.in-Some.ensures.cases.0 in
+pub returns-in_err-reserve_one-clause-quota : goal.returns-in_err-reserve_one-clause-quota
+returns-in_err-reserve_one-clause-quota c =
     let p = err_from_is_err_and c.from_residual.result c.from_residual.ensures.1 in
-    rw (p.1, p.2) (
-      λ e. absurd (cc),
-      λ refused. absurd (not_refused c.args.self.now c.args.owner c.in-Some.serial c.is_full.result c.is_full.ensures c.if-is_full.false next refused),
-    )
-
-pub returns-in_err-reserve-2-clause-quota : goal.returns-in_err-reserve-2-clause-quota
-returns-in_err-reserve-2-clause-quota c =
-    let next : IsNext c.args.self.now.serials c.in-Some.serial = subst (λ (n : Known). IsNext n.serials c.in-Some.serial) c.self.view_is
-    c.in-Some.ensures.cases.0 in
-    let p = err_from_is_err_and c.from_residual-in_err-reserve-2.result c.from_residual-in_err-reserve-2.ensures.1 in
-    rw (p.1, p.2) (
-      λ e. absurd (cc),
-      λ refused. absurd (not_refused c.args.self.now c.args.owner c.in-Some.serial c.is_full.result c.is_full.ensures c.if-is_full.false next refused),
-    )
-
-pub returns-in_err-reserve-3-clause-quota : goal.returns-in_err-reserve-3-clause-quota
-returns-in_err-reserve-3-clause-quota c =
-    let next : IsNext c.args.self.now.serials c.in-Some.serial = subst (λ (n : Known). IsNext n.serials c.in-Some.serial) c.self.view_is
-    c.in-Some.ensures.cases.0 in
-    let p = err_from_is_err_and c.from_residual-in_err-reserve-3.result c.from_residual-in_err-reserve-3.ensures.1 in
-    rw (p.1, p.2) (
-      λ e. absurd (cc),
-      λ refused. absurd (not_refused c.args.self.now c.args.owner c.in-Some.serial c.is_full.result c.is_full.ensures c.if-is_full.false next refused),
-    )
+    rw (p.1, p.2) (no_quota _ c.args.self.now c.args.owner c.in-Some.serial c.is_full.result _ (λ e. cc) c.self.view_is c.is_full.ensures
+    c.if-is_full.false c.in-Some.ensures.cases.0)
 
 pub returns-in_err-number-clause-quota : goal.returns-in_err-number-clause-quota
 returns-in_err-number-clause-quota c =
-    let next : IsNext c.args.self.now.serials c.in-Some.serial = subst (λ (n : Known). IsNext n.serials c.in-Some.serial) c.self.view_is
-    c.in-Some.ensures.cases.0 in
     let p = err_from_is_err_and c.from_residual-in_err-number.result c.from_residual-in_err-number.ensures.1 in
-    rw (p.1, p.2) (
-      λ e. absurd (cc),
-      λ refused. absurd (not_refused c.args.self.now c.args.owner c.in-Some.serial c.is_full.result c.is_full.ensures c.if-is_full.false next refused),
-    )
+    rw (p.1, p.2) (no_quota _ c.args.self.now c.args.owner c.in-Some.serial c.is_full.result _ (λ e. cc) c.self.view_is c.is_full.ensures
+    c.if-is_full.false c.in-Some.ensures.cases.0)
 
 pub returns-clause-quota : goal.returns-clause-quota
 returns-clause-quota c =
-    let next : IsNext c.args.self.now.serials c.in-Some.serial = subst (λ (n : Known). IsNext n.serials c.in-Some.serial) c.self.view_is
-    c.in-Some.ensures.cases.0 in (
-      λ e. absurd (cc),
-      λ refused. absurd (not_refused c.args.self.now c.args.owner c.in-Some.serial c.is_full.result c.is_full.ensures c.if-is_full.false next
-          refused),
-    )
+    no_quota _ c.args.self.now c.args.owner c.in-Some.serial c.is_full.result _ (λ e. cc) c.self.view_is c.is_full.ensures
+    c.if-is_full.false c.in-Some.ensures.cases.0
 
 pub invariant_of-self-2 : goal.invariant_of-self-2
 invariant_of-self-2 c =
-    let known : Known = record { keys = c.reserve.new.self.facts; numbers = c.reserve-2.new.self.facts; serials = c.self.inside.serials } in
-    let held : IsHeld known = rw (c.reserve.ensures.facts, c.reserve-2.ensures.facts) c.self.invariant.held in
+    let known : Known = record { keys = c.reserve_one.new.facts.facts; numbers = c.reserve_one.new.numbers.facts; serials = c.self.inside.serials } in
+    let held : IsHeld known = rw (c.reserve_one.ensures.facts, c.reserve_one.ensures.numbers) c.self.invariant.held in
     let key : Key = new_key c.args.typ c.args.description c.args.owner c.args.payload in
     let k : ℕ = c.in-Some.serial in
-    let keys : map.FinMap nat_cmp Key = c.reserve.new.self.facts in
+    let keys : map.FinMap nat_cmp Key = c.reserve_one.new.facts.facts in
     let by_name : map.FinMap nat_cmp (List Named) = c.self.inside.by_name.facts in
-    let index : IsIndex c.self.inside.seed keys known.numbers by_name = rw (c.reserve.ensures.facts, c.reserve-2.ensures.facts) c.self.invariant.index in
+    let index : IsIndex c.self.inside.seed keys known.numbers by_name =
+    rw (c.reserve_one.ensures.facts, c.reserve_one.ensures.numbers) c.self.invariant.index in
     let shared : Option ℕ = number_in (kept_of c.self.inside.seed by_name c.args.typ c.args.description) in
     let which : c.in_ok-number.number ≡ unwrap_or shared k = subst (λ s. c.in_ok-number.number ≡ unwrap_or shared s) c.get.ensures.number
     c.in_ok-number.ensures.number in
     let number = number_of_new known key k shared held c.in-Some.ensures.cases.0.drawable.unused
     (none_of c.self.inside.seed keys known.numbers by_name index c.args.typ c.args.description)
     (some_of c.self.inside.seed keys known.numbers by_name index c.args.typ c.args.description) in
-    let counts : AreCounts keys c.reserve-3.new.self.facts = rw (c.reserve.ensures.facts, c.reserve-3.ensures.facts) c.self.invariant.counts in
+    let counts : AreCounts keys c.reserve_one.new.counts.facts = rw (c.reserve_one.ensures.facts, c.reserve_one.ensures.counts) c.self.invariant.counts in
     let new : map.get keys k ≡ None = held.drawn k c.in-Some.ensures.cases.0.drawable.unused in
     let put : c.insert-2.new.self.facts ≡ map.insert keys k key = cc (c.insert-2.ensures.facts, c.get-3.ensures.number) in
     let put_number : c.insert.new.self.facts ≡ map.insert known.numbers k c.in_ok-number.number = cc (c.insert.ensures.facts, c.get-2.ensures.number) in
@@ -98,33 +58,16 @@ invariant_of-self-2 c =
       held = held_made_so known k key c.in_ok-number.number c.insert-2.new.self.facts c.insert.new.self.facts c.draw.new.self put put_number
           c.in-Some.ensures.cases.1 (rw which number) held;
       index = rw (put, put_number) counted;
-      counts = rw put (counts_with keys c.reserve-3.new.self.facts c.one_more.new.self.facts k key counts new c.one_more.ensures.each);
+      counts = rw put (counts_with keys c.reserve_one.new.counts.facts c.one_more.new.self.facts k key counts new c.one_more.ensures.each);
     }
-
-pub returns-clause-ok : goal.returns-clause-ok
-returns-clause-ok c =
-    let k : ℕ = c.in-Some.serial in
-    let key : Key = new_key c.args.typ c.args.description c.args.owner c.args.payload in
-    let keys : c.insert-2.new.self.facts ≡ map.insert c.reserve.new.self.facts k key = cc (c.insert-2.ensures.facts, c.get-3.ensures.number) in
-    let numbers : c.insert.new.self.facts ≡ map.insert c.reserve-2.new.self.facts k c.in_ok-number.number = cc (
-      c.insert.ensures.facts,
-      c.get-2.ensures.number,
-    ) in (
-      subst (λ (n : Known). IsNext n.serials k) c.self.view_is c.in-Some.ensures.cases.0,
-      record {
-        keys = keys ∙ ap (λ m. map.insert m k key) (c.reserve.ensures.facts ∙ ap (λ (n : Known). n.keys) c.self.view_is);
-        number = c.in_ok-number.number;
-        numbers = numbers ∙ ap (λ m. map.insert m k c.in_ok-number.number) (c.reserve-2.ensures.facts ∙ ap (λ (n : Known). n.numbers) c.self.view_is);
-        serials = c.in-Some.ensures.cases.1 ∙ ap (λ (n : Known). with_drawn k n.serials) c.self.view_is;
-      },
-    )
 
 pub returns-clause-number : goal.returns-clause-number
 returns-clause-number c =
-    let known : Known = record { keys = c.reserve.new.self.facts; numbers = c.reserve-2.new.self.facts; serials = c.self.inside.serials } in
-    let same : known ≡ c.args.self.now = rw (c.reserve.ensures.facts, c.reserve-2.ensures.facts) c.self.view_is in
+    let known : Known = record { keys = c.reserve_one.new.facts.facts; numbers = c.reserve_one.new.numbers.facts; serials = c.self.inside.serials } in
+    let same : known ≡ c.args.self.now = rw (c.reserve_one.ensures.facts, c.reserve_one.ensures.numbers) c.self.view_is in
     let by_name : map.FinMap nat_cmp (List Named) = c.self.inside.by_name.facts in
-    let index : IsIndex c.self.inside.seed known.keys known.numbers by_name = rw (c.reserve.ensures.facts, c.reserve-2.ensures.facts) c.self.invariant.index in
+    let index : IsIndex c.self.inside.seed known.keys known.numbers by_name =
+    rw (c.reserve_one.ensures.facts, c.reserve_one.ensures.numbers) c.self.invariant.index in
     let k : ℕ = c.in-Some.serial in
     let shared : Option ℕ = number_in (kept_of c.self.inside.seed by_name c.args.typ c.args.description) in
     let which : c.in_ok-number.number ≡ unwrap_or shared k = subst (λ s. c.in_ok-number.number ≡ unwrap_or shared s) c.get.ensures.number
@@ -150,11 +93,11 @@ count_in-requires c =
 pub invariant_of-self-in_err-number : goal.invariant_of-self-in_err-number
 invariant_of-self-in_err-number c =
     let by_name : map.FinMap nat_cmp (List Named) = c.self.inside.by_name.facts in
-    let index : IsIndex c.self.inside.seed c.reserve.new.self.facts c.reserve-2.new.self.facts by_name =
-    rw (c.reserve.ensures.facts, c.reserve-2.ensures.facts) c.self.invariant.index in
+    let index : IsIndex c.self.inside.seed c.reserve_one.new.facts.facts c.reserve_one.new.numbers.facts by_name =
+    rw (c.reserve_one.ensures.facts, c.reserve_one.ensures.numbers) c.self.invariant.index in
     record {
-      held = rw (c.reserve.ensures.facts, c.reserve-2.ensures.facts) c.self.invariant.held;
-      index = index_same c.self.inside.seed c.reserve.new.self.facts c.reserve-2.new.self.facts by_name index c.count_in.new.by_name.facts
+      held = rw (c.reserve_one.ensures.facts, c.reserve_one.ensures.numbers) c.self.invariant.held;
+      index = index_same c.self.inside.seed c.reserve_one.new.facts.facts c.reserve_one.new.numbers.facts by_name index c.count_in.new.by_name.facts
           c.in_err-number.ensures.err;
-      counts = rw (c.reserve.ensures.facts, c.reserve-3.ensures.facts) c.self.invariant.counts;
+      counts = rw (c.reserve_one.ensures.facts, c.reserve_one.ensures.counts) c.self.invariant.counts;
     }

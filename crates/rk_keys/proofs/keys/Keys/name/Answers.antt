@@ -1,8 +1,5 @@
-use Rattle.std.proofs.Common.{◌≡◌, ◌∙◌, ℕ, true, false, sym, subst}
-use Rattle.std.specs.Prelude.{Some, IfSome}
+use Rattle.rk_keys.proofs.Words.{◌∙◌, ◌≡◌, sym, ℕ, subst, false, true, Some, IfSome, has_name, Known}
 use Rattle.std.specs.FinMap as map
-use Rattle.rk_keys.specs.Key.{has_name}
-use Rattle.rk_keys.specs.Known.{Known}
 use Rattle.rk_keys.proofs.Indexed.{none_of, some_of}
 use Rattle.rk_keys.proofs.keys.Keys.name.Goals as goal
 

@@ -1,7 +1,6 @@
-use Rattle.rk_keys.specs.Known.{Known, timed}
+use Rattle.rk_keys.proofs.Words.{refl, Known, timed}
 use Rattle.rk_keys.proofs.Held.{held_changed, timed_keeps}
 use Rattle.rk_keys.proofs.Indexed.{index_changed}
-use Rattle.std.proofs.Common.{refl}
 use Rattle.rk_keys.proofs.UserCounts.{counts_changed}
 use Rattle.rk_keys.proofs.keys.Keys.set_expiry.Goals as goal
 

@@ -1,8 +1,5 @@
-use Rattle.std.proofs.Common.{◌≤◌, ◌<◌, ◌^◌, ap, sym, subst, ◌∙◌, refl}
-use Rattle.std.specs.Prelude.{Some, None}
+use Rattle.rk_keys.proofs.Words.{◌∙◌, ap, refl, sym, subst, ◌<◌, ◌≤◌, ◌^◌, Some, None, len-first_of_form, Drawn, IsNext, with_drawn, HasSerials, Extends}
 use Rattle.std.specs.FinSet as set
-use Rattle.rk_keys.specs.Drawing.{len-first_of_form}
-use Rattle.rk_keys.specs.Serials.{Drawn, HasSerials, IsNext, Extends, with_drawn}
 use Rattle.rk_keys.proofs.Drawing.{next_in_order, drawn_next}
 use Rattle.rk_keys.proofs.Drawn.{IsNext-IsFresh, HasSerials-with_drawn, HasSerials-fewer, Extends-with_drawn}
 use Rattle.rk_keys.proofs.serials.Serials.draw.Goals as goal

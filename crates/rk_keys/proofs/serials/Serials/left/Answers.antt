@@ -1,8 +1,4 @@
-use Rattle.std.proofs.Common.{◌≡◌, subst, ◌-◌, suc, arith, ℕ}
-use Rattle.std.specs.Prelude.{is_some}
-use Rattle.rk_table.specs.Says.{Says}
-use Rattle.rk_keys.specs.Serials.{Drawn, HasSerials}
-use Rattle.rk_keys.specs.Drawing.{drawn_in_order}
+use Rattle.rk_keys.proofs.Words.{◌≡◌, ℕ, subst, arith, ◌-◌, suc, is_some, Says, drawn_in_order, Drawn, HasSerials}
 use Rattle.rk_keys.proofs.Drawing.{left_in_order}
 use Rattle.rk_keys.proofs.serials.Serials.left.Goals as goal
 

@@ -1,4 +1,4 @@
-use Rattle.std.proofs.Common.{arith}
+use Rattle.rk_message.proofs.Words.{arith}
 use Rattle.rk_message.proofs.Asks.{ask_is_found, ask_is_only, ask_is_leftmost}
 use Rattle.rk_message.proofs.ask_reading.AskView.read.Goals as goal
 

@@ -1,4 +1,4 @@
-use Rattle.std.proofs.Common.{length, ap, arith}
+use Rattle.rk_message.proofs.Words.{ap, arith, length}
 use Rattle.rk_message.proofs.Lengths.{reply_fits}
 use Rattle.rk_message.proofs.reply.Reply.body_len.Goals as goal
 

@@ -1,6 +1,4 @@
-use Rattle.std.proofs.Common.{arith}
-use Rattle.rk_message.specs.Replies.{reply_message}
-use Rattle.rk_message.specs.Table.{replies}
+use Rattle.rk_message.proofs.Words.{arith, reply_message, replies}
 use Rattle.rk_message.proofs.Replies.{reply_is_only}
 use Rattle.rk_message.proofs.Readers.{is_found, is_leftmost}
 use Rattle.rk_message.proofs.reply.Reply.read.Goals as goal

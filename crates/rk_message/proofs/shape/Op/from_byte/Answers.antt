@@ -1,7 +1,4 @@
-use Rattle.std.proofs.Common.{sym, subst, Option}
-use Rattle.rk_message.specs.declared.shape.Op.{Op}
-use Rattle.rk_message.specs.Wire.{kinds_of}
-use Rattle.rk_message.specs.Table.{asks}
+use Rattle.rk_message.proofs.Words.{sym, Option, subst, asks, kinds_of, Op}
 use Rattle.rk_message.proofs.Lines.{HasByte, op_found}
 use Rattle.rk_message.proofs.shape.Op.from_byte.Goals as goal
 

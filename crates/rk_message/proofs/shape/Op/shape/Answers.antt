@@ -1,5 +1,4 @@
-use Rattle.std.proofs.Common.{◌≡◌}
-use Rattle.rk_message.specs.Table.{op_byte}
+use Rattle.rk_message.proofs.Words.{◌≡◌, op_byte}
 use Rattle.rk_message.proofs.Lines.{line_at}
 use Rattle.rk_message.proofs.shape.Op.shape.Goals as goal
 

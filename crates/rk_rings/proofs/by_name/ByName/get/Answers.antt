@@ -1,6 +1,4 @@
-use Rattle.std.proofs.Common.{◌≡◌, Some, None, nat_eq, ap, sym, ◌∙◌}
-use Rattle.std.specs.Map.{lookup}
-use Rattle.std.specs.Option.{option_copied}
+use Rattle.rk_rings.proofs.Words.{◌∙◌, ap, sym, ◌≡◌, lookup, option_copied, None, Some, nat_eq}
 use Rattle.std.specs.FinMap as map
 use Rattle.rk_rings.proofs.Placed.{held, get_named}
 use Rattle.rk_rings.proofs.by_name.ByName.get.Goals as goal

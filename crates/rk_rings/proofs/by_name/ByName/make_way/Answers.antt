@@ -1,6 +1,4 @@
-use Rattle.std.proofs.Common.{◌≡◌, ap, ◌∙◌, fold, length, arith}
-use Rattle.std.specs.FinMap.{empty, len, len-entries}
-use Rattle.rk_rings.specs.ByName.{named, turned_more}
+use Rattle.rk_rings.proofs.Words.{◌∙◌, ap, ◌≡◌, arith, length, fold, len, empty, len-entries, named, turned_more}
 use Rattle.rk_rings.proofs.Placed.{len_named, put_back_all}
 use Rattle.rk_rings.proofs.by_name.ByName.make_way.Goals as goal
 

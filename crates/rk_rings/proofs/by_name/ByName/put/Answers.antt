@@ -1,9 +1,6 @@
-use Rattle.std.proofs.Common.{◌≡◌, Some, None, nat_eq, is_some, ap, sym, subst, ◌∙◌, ◌≤◌, ◌+◌, arith}
-use Rattle.std.specs.Map.{lookup}
-use Rattle.std.specs.Option.{option_copied_mut}
+use Rattle.rk_rings.proofs.Words.{spare, index_map_len, ◌∙◌, ap, sym, ◌≡◌, subst, arith, ◌≤◌, ◌+◌, lookup, option_copied_mut, None, Some, nat_eq, is_some}
+use Rattle.rk_rings.proofs.Words.{named}
 use Rattle.std.specs.FinMap as map
-use Rattle.indexmap.specs.IndexMap.{index_map_len, spare}
-use Rattle.rk_rings.specs.ByName.{named}
 use Rattle.rk_rings.proofs.Placed.{held, get_named, named_put}
 use Rattle.rk_rings.proofs.by_name.ByName.put.Goals as goal
 
@@ -26,15 +23,9 @@ returns-in-Some-clause-facts c =
     sym c.get_mut.ensures.value ∙ ap option_copied_mut c.in-Some.is in
     ap (λ w. named (c.get_mut.follows.lender w).entries) c.replace.ensures.after
     ∙ named_put c.self.inside.keys.entries (c.get_mut.follows.lender (Some c.args.key)).entries c.args.name (Some c.args.key)
-    ((c.get_mut.follows.holds (Some c.args.key)).3 (ap is_some is)).0
-    ∙ ap (λ s. map.insert s.facts c.args.name c.args.key) c.self.view_is
+    ((c.get_mut.follows.holds (Some c.args.key)).3 (ap is_some is)).0 ∙ ap (λ s. map.insert s.facts c.args.name c.args.key) c.self.view_is
 
 pub returns-in-None-clause-old : goal.returns-in-None-clause-old
 returns-in-None-clause-old c =
     let is : lookup (nat_eq c.args.name) c.self.inside.keys.entries ≡ None = sym c.get_mut.ensures.value ∙ ap option_copied_mut c.in-None.is in
     sym (get_named c.self.inside.keys.entries c.args.name ∙ ap held is) ∙ ap (λ s. map.get s.facts c.args.name) c.self.view_is
-
-pub returns-in-None-clause-facts : goal.returns-in-None-clause-facts
-returns-in-None-clause-facts c =
-    c.add.ensures.facts ∙ ap (λ m. map.insert (named m.entries) c.args.name c.args.key) c.get_mut.follows.holds-at-none
-    ∙ ap (λ s. map.insert s.facts c.args.name c.args.key) c.self.view_is

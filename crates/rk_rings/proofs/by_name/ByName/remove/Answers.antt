@@ -1,8 +1,5 @@
-use Rattle.std.proofs.Common.{◌≡◌, Some, None, nat_eq, is_some, ap, sym, ◌∙◌}
-use Rattle.std.specs.Map.{lookup}
-use Rattle.std.specs.Option.{option_copied_mut}
+use Rattle.rk_rings.proofs.Words.{◌∙◌, ap, sym, ◌≡◌, lookup, option_copied_mut, None, Some, nat_eq, is_some, named}
 use Rattle.std.specs.FinMap as map
-use Rattle.rk_rings.specs.ByName.{named}
 use Rattle.rk_rings.proofs.Placed.{named_put, named_without}
 use Rattle.rk_rings.proofs.by_name.ByName.remove.Goals as goal
 
@@ -19,7 +16,6 @@ returns c =
     let is : lookup (nat_eq c.args.name) c.self.inside.keys.entries ≡ Some c.in-Some.place.now =
     sym c.get_mut.ensures.value ∙ ap option_copied_mut c.in-Some.is in
     record {
-      facts = named_put c.self.inside.keys.entries (c.get_mut.follows.lender None).entries c.args.name None
-          ((c.get_mut.follows.holds None).3 (ap is_some is)).0
+      facts = named_put c.self.inside.keys.entries (c.get_mut.follows.lender None).entries c.args.name None ((c.get_mut.follows.holds None).3 (ap is_some is)).0
           ∙ ap (λ s. map.remove s.facts c.args.name) c.self.view_is;
     }

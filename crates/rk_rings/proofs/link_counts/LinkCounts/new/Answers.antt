@@ -1,6 +1,4 @@
-use Rattle.std.proofs.Common.{◌≡◌, ◌∙◌, ap, ℕ, arith}
-use Rattle.std.specs.Ordering.{nat_cmp}
-use Rattle.std.specs.FinMap.{len, len-empty}
+use Rattle.rk_rings.proofs.Words.{◌∙◌, ap, ◌≡◌, arith, ℕ, len, len-empty, nat_cmp}
 use Rattle.rk_rings.proofs.Counting.{counting_empty}
 use Rattle.rk_rings.proofs.link_counts.LinkCounts.new.Goals as goal
 

@@ -1,6 +1,4 @@
-use Rattle.std.proofs.Common.{◌∙◌, ap, sym}
-use Rattle.std.specs.Prelude.{unwrap_or}
-use Rattle.rk_table.specs.Counts.{count_at}
+use Rattle.rk_rings.proofs.Words.{◌∙◌, ap, sym, unwrap_or, count_at}
 use Rattle.rk_rings.proofs.Counting.{count_counting}
 use Rattle.rk_rings.proofs.link_counts.LinkCounts.of.Goals as goal
 

@@ -1,9 +1,5 @@
-use Rattle.std.proofs.Common.{◌≡◌, ◌≤◌, ◌∙◌, ap, sym, subst, ◌-◌, cond, arith}
-use Rattle.std.specs.Prelude.{Some, None, is_some, nat_eq, unwrap_or}
-use Rattle.std.specs.FinMap.{get, len}
-use Rattle.rk_table.specs.Stored.{places}
-use Rattle.rk_table.specs.Counts.{count_at, ArePositive}
-use Rattle.rk_table.proofs.CountsAt.{count_become, count_by}
+use Rattle.rk_rings.proofs.Words.{◌∙◌, ap, sym, ◌≡◌, subst, arith, cond, ◌≤◌, ◌-◌, get, len, None, Some, nat_eq, is_some, unwrap_or, count_become, count_by}
+use Rattle.rk_rings.proofs.Words.{count_at, ArePositive, places}
 use Rattle.rk_rings.proofs.Changed.{len-changed_at}
 use Rattle.rk_rings.proofs.Counting.{positive_counting, each_seen, nothing_less, same_places}
 use Rattle.rk_rings.proofs.link_counts.LinkCounts.one_less.Goals as goal

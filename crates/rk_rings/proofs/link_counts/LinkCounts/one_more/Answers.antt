@@ -1,9 +1,5 @@
-use Rattle.std.proofs.Common.{◌≡◌, ◌≤◌, ◌<◌, ◌∙◌, ap, sym, ◌+◌, cond, arith}
-use Rattle.std.specs.Prelude.{Some, None, is_some, nat_eq, unwrap_or}
-use Rattle.std.specs.FinMap.{get, len}
-use Rattle.rk_table.specs.Stored.{places}
-use Rattle.rk_table.specs.Counts.{count_at}
-use Rattle.rk_table.proofs.CountsAt.{count_put, count_become, count_by}
+use Rattle.rk_rings.proofs.Words.{◌∙◌, ap, sym, ◌≡◌, arith, cond, ◌≤◌, ◌+◌, ◌<◌, get, len, None, Some, nat_eq, is_some, unwrap_or, count_become, count_by}
+use Rattle.rk_rings.proofs.Words.{count_put, count_at, places}
 use Rattle.rk_rings.proofs.Changed.{len-changed_at}
 use Rattle.rk_rings.proofs.Counting.{count_counting, positive_counting, each_seen, same_counts, same_places, place_free}
 use Rattle.rk_rings.proofs.link_counts.LinkCounts.one_more.Goals as goal
@@ -61,8 +57,7 @@ returns-in-None-clause-each c q =
     let m = c.self.inside.counts.facts in
     let w = c.make_way.new.counts.facts in
     let none : get w c.args.key ≡ None = c.make_way.ensures.absent c.args.key (sym (c.in-None.ensures ∙ c.get.ensures)) in
-    each_seen m c.insert.new.self.facts (λ n. n + 1) c.args.key q
-    (ap (λ x. count_at x q) c.insert.ensures.facts ∙ count_put w c.args.key 1 q
+    each_seen m c.insert.new.self.facts (λ n. n + 1) c.args.key q (ap (λ x. count_at x q) c.insert.ensures.facts ∙ count_put w c.args.key 1 q
     ∙ count_by w (λ n. n + 1) c.args.key 1 q (ap (λ o. unwrap_or o 0 + 1) (sym none))
     ∙ ap (λ n. cond (nat_eq c.args.key q) (n + 1) n) (same_counts m w q c.make_way.ensures.facts))
     ∙ ap (λ s. cond (nat_eq c.args.key q) (count_at s.facts q + 1) (count_at s.facts q)) c.self.view_is

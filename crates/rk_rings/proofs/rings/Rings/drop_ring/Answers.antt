@@ -1,9 +1,4 @@
-use Rattle.std.proofs.Common.{◌≡◌, ap, sym, subst, ◌∙◌}
-use Rattle.std.specs.Prelude.{MatchOption, true, false, ℕ}
-use Rattle.std.specs.FinMap.{remove}
-use Rattle.rk_rings.specs.Numbered.{Rings, AreSerials}
-use Rattle.rk_rings.specs.Counted.{AreCounted}
-use Rattle.rk_rings.specs.UserRings.{is_his}
+use Rattle.rk_rings.proofs.Words.{◌∙◌, ap, sym, ◌≡◌, subst, ℕ, false, true, remove, MatchOption, AreCounted, AreSerials, Rings, is_his}
 use Rattle.rk_rings.proofs.Links.{serials-remove}
 use Rattle.rk_rings.proofs.Changed.{rows-remove}
 use Rattle.rk_rings.proofs.Counted.{counted_dropped, dropped}

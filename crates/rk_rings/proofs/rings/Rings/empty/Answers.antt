@@ -1,6 +1,4 @@
-use Rattle.std.proofs.Common.{ap, sym, subst, ◌<◌, ◌∙◌}
-use Rattle.rk_table.specs.Maps.{changed_at}
-use Rattle.rk_rings.specs.Numbered.{cleared}
+use Rattle.rk_rings.proofs.Words.{◌∙◌, ap, sym, subst, ◌<◌, changed_at, cleared}
 use Rattle.rk_rings.proofs.Counted.{still_to_clear, fewer_left, all_cleared, links_in}
 use Rattle.rk_rings.proofs.rings.Rings.empty.Goals as goal
 

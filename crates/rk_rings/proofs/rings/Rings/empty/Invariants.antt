@@ -1,6 +1,4 @@
-use Rattle.std.proofs.Common.{◌≡◌}
-use Rattle.rk_table.specs.Maps.{changed_at}
-use Rattle.rk_rings.specs.Numbered.{cleared}
+use Rattle.rk_rings.proofs.Words.{◌≡◌, changed_at, cleared}
 use Rattle.rk_rings.proofs.Counted.{links_in}
 use Rattle.rk_rings.proofs.rings.Rings.empty.Given as goal
 

@@ -1,4 +1,4 @@
-use Rattle.std.proofs.Common.{sym}
+use Rattle.rk_rings.proofs.Words.{sym}
 use Rattle.rk_rings.proofs.Changed.{match_found}
 use Rattle.rk_rings.proofs.rings.Rings.find_in.Goals as goal
 

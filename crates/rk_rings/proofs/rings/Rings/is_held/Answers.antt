@@ -1,6 +1,4 @@
-use Rattle.std.proofs.Common.{ap, ltb, ◌∙◌}
-use Rattle.rk_table.specs.Counts.{count_at}
-use Rattle.rk_rings.specs.Numbered.{is_held}
+use Rattle.rk_rings.proofs.Words.{◌∙◌, ap, ltb, count_at, is_held}
 use Rattle.rk_rings.proofs.Counted.{held_by_count}
 use Rattle.rk_rings.proofs.rings.Rings.is_held.Goals as goal
 

@@ -1,11 +1,5 @@
-use Rattle.std.proofs.Common.{◌≡◌, ap, sym, subst, cond, ◌+◌, ◌≤◌, ◌∙◌, false, arith}
-use Rattle.std.specs.Prelude.{nat_eq}
-use Rattle.std.specs.Option.{option_map_or}
-use Rattle.std.specs.FinMap.{get, contains_key}
-use Rattle.rk_table.specs.Maps.{changed_at}
-use Rattle.rk_table.specs.Counts.{count_at}
-use Rattle.rk_rings.specs.Numbered.{linked_in_room}
-use Rattle.rk_rings.specs.Counted.{AreCounted}
+use Rattle.rk_rings.proofs.Words.{◌∙◌, ap, sym, ◌≡◌, subst, arith, cond, ◌≤◌, false, ◌+◌, get, contains_key, option_map_or, nat_eq, count_at, changed_at}
+use Rattle.rk_rings.proofs.Words.{AreCounted, linked_in_room}
 use Rattle.rk_rings.proofs.Named.{once_linked}
 use Rattle.rk_rings.proofs.Changed.{rows-changed_at, match_found}
 use Rattle.rk_rings.proofs.UserRings.{users_changed, user_linked}

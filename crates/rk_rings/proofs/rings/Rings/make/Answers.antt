@@ -1,10 +1,6 @@
-use Rattle.std.proofs.Common.{ℕ, ◌≤◌, ◌*◌, ◌+◌, length, ap, sym, subst, ◌∙◌, rules, arith}
+use Rattle.rk_rings.proofs.Words.{◌∙◌, ap, sym, subst, arith, ℕ, ◌≤◌, ◌+◌, length, ◌*◌, rules, len, places, AreCounted, AreSerials, Numbered, new_ring}
+use Rattle.rk_rings.proofs.Words.{HaveEachNameOnce, AreUserRings}
 use Rattle.std.proofs.lemmas.List.{length-map}
-use Rattle.std.specs.FinMap.{len}
-use Rattle.rk_table.specs.Stored.{places}
-use Rattle.rk_rings.specs.Numbered.{Numbered, new_ring, AreSerials, HaveEachNameOnce}
-use Rattle.rk_rings.specs.Counted.{AreCounted}
-use Rattle.rk_rings.specs.UserRings.{AreUserRings}
 use Rattle.rk_rings.proofs.Made.{put_new, put_made, rows_made}
 use Rattle.rk_rings.proofs.Counted.{counted_made}
 use Rattle.rk_rings.proofs.rings.Rings.make.Goals as goal
@@ -37,6 +33,5 @@ invariant_of-self-2 c =
       users = c.insert_rows.ensures.users (subst (λ m. AreUserRings m c.reserve-else-is_err.new.self.facts) (sym c.reserve.ensures.facts)
           (subst (AreUserRings c.self.inside.rows.facts) (sym c.reserve-else-is_err.ensures.facts) c.self.invariant.users));
       counted = counted_made c.args.wanted.now c.args.self.now c.insert_rows.new.table.facts c.self.inside.counts c.reserve-2.new.self (returns-clause-ok c)
-          c.requires
-          (subst (λ n. AreCounted n c.self.inside.counts) c.self.view_is c.self.invariant.counted) c.reserve-2.ensures.facts enough;
+          c.requires (subst (λ n. AreCounted n c.self.inside.counts) c.self.view_is c.self.invariant.counted) c.reserve-2.ensures.facts enough;
     }

@@ -1,9 +1,4 @@
-use Rattle.std.proofs.Common.{◌≡◌, ap, sym, subst, cond, ◌-◌, ◌∙◌}
-use Rattle.std.specs.Prelude.{nat_eq}
-use Rattle.rk_table.specs.Maps.{changed_at}
-use Rattle.rk_table.specs.Counts.{count_at}
-use Rattle.rk_rings.specs.Numbered.{unlinked, holds}
-use Rattle.rk_rings.specs.Counted.{AreCounted}
+use Rattle.rk_rings.proofs.Words.{◌∙◌, ap, sym, ◌≡◌, subst, cond, ◌-◌, nat_eq, count_at, changed_at, AreCounted, unlinked, holds}
 use Rattle.rk_rings.proofs.Named.{once_unlinked}
 use Rattle.rk_rings.proofs.Changed.{rows-changed_at}
 use Rattle.rk_rings.proofs.UserRings.{users_changed, user_unlinked}
@@ -21,7 +16,6 @@ invariant_of-self c =
       users = users_changed _ _ _ _ _ c.change.ensures.facts (user_unlinked c.args.key) c.self.invariant.users;
       counted = subst (λ n. AreCounted n c.one_less.new.self) (sym put)
           (counted_unlinked m old c.one_less.new.self c.args.ring c.args.key c.self.invariant.counted (ap (λ n. holds n c.args.ring c.args.key) c.self.view_is ∙
-          c.requires)
-          (λ q. c.one_less.ensures.each q ∙ ap (λ k. cond (nat_eq k q) (count_at old.facts q - 1) (count_at old.facts q)) c.get-2.ensures.number)
+          c.requires) (λ q. c.one_less.ensures.each q ∙ ap (λ k. cond (nat_eq k q) (count_at old.facts q - 1) (count_at old.facts q)) c.get-2.ensures.number)
           c.one_less.ensures.positive c.one_less.ensures.places);
     }

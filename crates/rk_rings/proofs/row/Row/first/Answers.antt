@@ -1,4 +1,4 @@
-use Rattle.std.specs.Prelude.{None}
+use Rattle.rk_rings.proofs.Words.{None}
 use Rattle.rk_rings.proofs.Links.{any_key}
 use Rattle.rk_rings.proofs.row.Row.first.Goals as goal
 

@@ -1,9 +1,4 @@
-use Rattle.std.proofs.Common.{subst, sym, ◌∙◌, ap, arith, ◌≤◌, not, nat_eq}
-use Rattle.std.specs.FinMap.{get, insert, len, contains_key}
-use Rattle.std.specs.Prelude.{◌≡◌}
-use Rattle.rk_table.specs.Maps.{kept_where}
-use Rattle.rk_rings.specs.Numbered.{AreSerials}
-use Rattle.rk_rings.specs.ByName.{AreByName}
+use Rattle.rk_rings.proofs.Words.{◌∙◌, ap, sym, ◌≡◌, subst, arith, ◌≤◌, not, get, len, insert, contains_key, nat_eq, kept_where, AreByName, AreSerials}
 use Rattle.rk_rings.proofs.Links.{serials-insert, serials_within, kept_within, room_left, still_new, is_serial}
 use Rattle.rk_rings.proofs.row.Row.link.Goals as goal
 

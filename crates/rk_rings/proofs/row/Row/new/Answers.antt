@@ -1,5 +1,4 @@
-use Rattle.std.proofs.Common.{subst, sym, arith}
-use Rattle.rk_rings.specs.Numbered.{AreSerials}
+use Rattle.rk_rings.proofs.Words.{sym, subst, arith, AreSerials}
 use Rattle.rk_rings.proofs.Links.{serials-empty}
 use Rattle.rk_rings.proofs.Turned.{by_name_empty}
 use Rattle.rk_rings.proofs.row.Row.new.Goals as goal

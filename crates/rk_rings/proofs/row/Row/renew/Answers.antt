@@ -1,6 +1,4 @@
-use Rattle.std.proofs.Common.{◌≡◌, sym, subst, ◌∙◌}
-use Rattle.std.specs.FinMap.{empty}
-use Rattle.rk_rings.specs.Numbered.{AreSerials}
+use Rattle.rk_rings.proofs.Words.{◌∙◌, sym, ◌≡◌, subst, empty, AreSerials}
 use Rattle.rk_rings.proofs.Links.{none_passes, serials-empty}
 use Rattle.rk_rings.proofs.Turned.{by_name_empty}
 use Rattle.rk_rings.proofs.row.Row.renew.Goals as goal

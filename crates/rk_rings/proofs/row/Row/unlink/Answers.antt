@@ -1,8 +1,4 @@
-use Rattle.std.proofs.Common.{◌≡◌, ap, subst, sym, ◌∙◌}
-use Rattle.std.specs.Prelude.{Some, None}
-use Rattle.std.specs.FinMap.{get, remove}
-use Rattle.rk_rings.specs.Numbered.{AreSerials}
-use Rattle.rk_rings.specs.ByName.{AreByName}
+use Rattle.rk_rings.proofs.Words.{◌∙◌, ap, sym, ◌≡◌, subst, get, remove, None, Some, AreByName, AreSerials}
 use Rattle.rk_rings.proofs.Links.{serials-remove}
 use Rattle.rk_rings.proofs.Turned.{by_name_out, nothing_out}
 use Rattle.rk_rings.proofs.row.Row.unlink.Goals as goal
@@ -22,7 +18,6 @@ invariant_of-self c =
     let links : c.remove.new.self.facts ≡ remove m c.args.key = c.remove.ensures.facts ∙ ap (remove m) c.get-3.ensures.number in
     record {
       links = (c.remove.ensures.places ∙ c.self.invariant.links.0, subst AreSerials (sym c.remove.ensures.facts) (serials-remove _ _ c.self.invariant.links.1));
-      by_name = subst (λ x. AreByName x c.remove-2.new.self.facts) (sym links)
-          (subst (AreByName (remove m c.args.key)) (sym c.remove-2.ensures.facts)
+      by_name = subst (λ x. AreByName x c.remove-2.new.self.facts) (sym links) (subst (AreByName (remove m c.args.key)) (sym c.remove-2.ensures.facts)
           (by_name_out m c.self.inside.by_name.facts c.args.key c.in-Some.name c.self.invariant.by_name is));
     }

@@ -1,18 +1,11 @@
-use Rattle.std.proofs.Common.{refl, ap, ◌∙◌, cond, Bool, ◌++◌, List, [], ◌∷◌}
-use Rattle.std.specs.Prelude.{None}
+use Rattle.rk_served.proofs.Words.{refl, ◌∙◌, ap, List, [], ◌∷◌, ◌++◌, Bool, cond, eq-eqb, None, Reverse, SessionId, get_removed, reversed}
 use Rattle.std.specs.FinMap as map
-use Rattle.std.proofs.lemmas.Bool.{eq-eqb}
-use Rattle.std.specs.declared.cmp.Reverse.{Reverse}
-use Rattle.rk_names.specs.declared.numbers.SessionId.{SessionId}
-use Rattle.rk_machine.proofs.Found.InMaps.{get_removed}
-use Rattle.rk_served.specs.Movers.{reversed}
 use Rattle.rk_served.proofs.Queues.{one_parked, others_wait}
 use Rattle.rk_served.proofs.queue.Queue.park.Goals as goal
 
 pub insert-requires-clause-new : goal.insert-requires-clause-new
 insert-requires-clause-new c =
-    rw (c.reserve.ensures.facts, c.taken-list.ensures.facts, c.get.ensures.number)
-    (get_removed c.args.self.now.waiting.facts c.args.key c.args.key
+    rw (c.reserve.ensures.facts, c.taken-list.ensures.facts, c.get.ensures.number) (get_removed c.args.self.now.waiting.facts c.args.key c.args.key
     ∙ ap (λ (b : Bool). cond b None (map.get c.args.self.now.waiting.facts c.args.key)) (eq-eqb c.args.key c.args.key refl))
 
 pub returns-clause-who : goal.returns-clause-who

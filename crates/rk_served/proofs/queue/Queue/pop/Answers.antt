@@ -1,8 +1,4 @@
-use Rattle.std.proofs.Common.{ap, inl, inr}
-use Rattle.std.specs.BinaryHeap.{heap_items}
-use Rattle.std.specs.declared.cmp.Reverse.{Reverse}
-use Rattle.rk_names.specs.declared.numbers.SessionId.{SessionId}
-use Rattle.rk_served.specs.Movers.{reversed}
+use Rattle.rk_served.proofs.Words.{ap, inr, inl, heap_items, Reverse, SessionId, reversed}
 use Rattle.rk_served.proofs.Queues.{one_taken}
 use Rattle.rk_served.proofs.queue.Queue.pop.Goals as goal
 

@@ -1,9 +1,4 @@
-use Rattle.std.proofs.Common.{List, subst, sym, inl, inr}
-use Rattle.std.specs.List.{Contains}
-use Rattle.std.specs.BinaryHeap.{heap_items}
-use Rattle.std.specs.declared.cmp.Reverse.{Reverse}
-use Rattle.rk_names.specs.declared.numbers.SessionId.{SessionId}
-use Rattle.rk_served.specs.Movers.{reversed}
+use Rattle.rk_served.proofs.Words.{sym, List, subst, inr, inl, heap_items, Contains, Reverse, SessionId, reversed}
 use Rattle.rk_served.proofs.Queues.{first_kept, last_put, others_stay}
 use Rattle.rk_served.proofs.queue.Queue.wake.Goals as goal
 

@@ -1,4 +1,4 @@
-use Rattle.rk_machine.specs.Steps.{Beginning}
+use Rattle.rk_served.proofs.Words.{Beginning}
 use Rattle.rk_served.proofs.Kept.{nothing_has_peers}
 use Rattle.rk_served.proofs.Watching.{nothing_still}
 use Rattle.rk_served.proofs.replay.Replay.new.Goals as goal

@@ -1,5 +1,4 @@
-use Rattle.std.proofs.Common.{refl, sym, ◌∙◌}
-use Rattle.std.proofs.lemmas.Result.{on_ok_weaker}
+use Rattle.rk_served.proofs.Words.{refl, ◌∙◌, sym, on_ok_weaker}
 use Rattle.rk_served.proofs.OwnSteps.{accepted_one, refused_one}
 use Rattle.rk_served.proofs.server.Server.accept.Goals as goal
 

@@ -1,11 +1,6 @@
-use Rattle.std.proofs.Common.{List, ◌++◌, refl, ap, ◌∙◌, subst}
-use Rattle.rk_served.specs.declared.output.Output.{Output}
-use Rattle.rk_served.specs.Served.{steps_of, outputs_of}
-use Rattle.rk_served.specs.Calls.{left_of}
+use Rattle.rk_served.proofs.Words.{refl, ◌∙◌, ap, List, subst, ◌++◌, SessionId, left_of, Stirs, outputs_of, steps_of, Output}
 use Rattle.rk_served.proofs.Kept.{begins_keeps_peers}
 use Rattle.rk_served.proofs.Orders.{moves_of}
-use Rattle.rk_names.specs.declared.numbers.SessionId.{SessionId}
-use Rattle.rk_served.specs.Queued.{Stirs}
 use Rattle.rk_served.proofs.Watching.{watched_begun}
 use Rattle.rk_served.proofs.server.Server.act.Goals as goal
 
@@ -35,8 +30,7 @@ returns-clause-acts c =
           own_step = own.own_step;
           moves = moves_of c.args.occasion.now.conf.now c.args.occasion.now.moment (left_of c.own_step.new.self) more.parts (left_of c.move_all.new.self) more.moves;
           at_rest = c.in_ok-move_all.ensures.at_rest;
-          outputs_are = c.new.ensures
-              ∙ (more.outputs ∙ ap (λ (xs : List Output). xs ++ outputs_of more.parts) (own.outputs
+          outputs_are = c.new.ensures ∙ (more.outputs ∙ ap (λ (xs : List Output). xs ++ outputs_of more.parts) (own.outputs
               ∙ ap (λ (xs : List Output). xs ++ own.part.outputs) c.new-out.ensures.items));
           steps_are = refl;
         };

@@ -1,9 +1,4 @@
-use Rattle.std.proofs.Common.{refl, sym, ap, subst, ◌∙◌}
-use Rattle.std.proofs.lemmas.Result.{on_ok_weaker}
-use Rattle.rk_machine.specs.declared.event.EventOf.TheVariants.{Asked}
-use Rattle.rk_machine.specs.declared.event.Answer.{Answer}
-use Rattle.rk_machine.specs.declared.event.Answer.TheVariants.{Start}
-use Rattle.rk_machine.specs.Steps.{Step}
+use Rattle.rk_served.proofs.Words.{refl, ◌∙◌, ap, sym, subst, on_ok_weaker, Step, Answer, Start, Asked}
 use Rattle.rk_served.proofs.Moving.{no_start, tells_one, start_one}
 use Rattle.rk_served.proofs.server.Server.ask.Goals as goal
 
@@ -17,7 +12,6 @@ returns-in-Start c =
 
 pub returns-in_default : goal.returns-in_default
 returns-in_default c =
-    on_ok_weaker c.put_reply.result
-    (λ puts. tells_one c.args.occasion.now.conf.now c.args.occasion.now.moment _ _ _ _ c.args.who.now c.args.ask _
+    on_ok_weaker c.put_reply.result (λ puts. tells_one c.args.occasion.now.conf.now c.args.occasion.now.moment _ _ _ _ c.args.who.now c.args.ask _
     (no_start _ c.in_default.not-Start) c.in_ok-answer.ensures refl puts)
     c.put_reply.ensures

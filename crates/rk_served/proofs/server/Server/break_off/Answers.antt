@@ -1,8 +1,4 @@
-use Rattle.std.proofs.Common.{refl}
-use Rattle.std.specs.Prelude.{None}
-use Rattle.std.proofs.lemmas.Result.{on_ok_weaker}
-use Rattle.rk_machine.specs.declared.event.How.TheVariants.{Fault}
-use Rattle.rk_served.specs.Calls.{left_of}
+use Rattle.rk_served.proofs.Words.{refl, on_ok_weaker, None, Fault, left_of}
 use Rattle.rk_served.proofs.OwnSteps.{has_ended, break_one}
 use Rattle.rk_served.proofs.server.Server.break_off.Goals as goal
 

@@ -1,6 +1,4 @@
-use Rattle.std.proofs.Common.{refl}
-use Rattle.std.proofs.lemmas.Option.{slice_get_read, MatchOption-at_some}
-use Rattle.std.proofs.lemmas.Result.{on_ok_weaker}
+use Rattle.rk_served.proofs.Words.{refl, slice_get_read, MatchOption-at_some, on_ok_weaker}
 use Rattle.rk_served.proofs.Moving.{collects_one}
 use Rattle.rk_served.proofs.server.Server.collect_at.Goals as goal
 

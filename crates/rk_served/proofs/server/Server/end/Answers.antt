@@ -1,4 +1,4 @@
-use Rattle.std.proofs.lemmas.Result.{on_ok_weaker}
+use Rattle.rk_served.proofs.Words.{on_ok_weaker}
 use Rattle.rk_served.proofs.OwnSteps.{ends_last, ends_unmade, ends_followed}
 use Rattle.rk_served.proofs.server.Server.end.Goals as goal
 
@@ -9,11 +9,9 @@ returns-in_default c k peers ended =
 
 pub returns-in-Some : goal.returns-in-Some
 returns-in-Some c k peers ended =
-    on_ok_weaker c.start.result
-    (λ starts.
+    on_ok_weaker c.start.result (λ starts.
     ends_followed c.args.occasion.now.conf.now c.args.occasion.now.moment k c.args.event c.args.subject peers _ ended c.step.result c.step.new.self c.step.ensures.step
-    c.in-Negate.key c.in-Negate.is c.in-Some.subject c.in-Some.is c.args.out.now.items _ _
-    (rw c.negated.ensures at starts))
+    c.in-Negate.key c.in-Negate.is c.in-Some.subject c.in-Some.is c.args.out.now.items _ _ (rw c.negated.ensures at starts))
     c.start.ensures
 
 pub returns-in-None : goal.returns-in-None

@@ -1,7 +1,5 @@
-use Rattle.std.proofs.Common.{[]}
-use Rattle.rk_machine.specs.declared.event.EventOf.TheVariants.{Launched}
+use Rattle.rk_served.proofs.Words.{[], done, Launched}
 use Rattle.rk_machine.specs.declared.event.Ran.TheVariants.{Failed}
-use Rattle.rk_machine.specs.Allowed.{done}
 use Rattle.rk_served.proofs.PeersFit.{launch_done}
 use Rattle.rk_served.proofs.OwnSteps.{steps_by}
 use Rattle.rk_served.proofs.server.Server.fail.Goals as goal

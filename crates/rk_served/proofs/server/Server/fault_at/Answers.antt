@@ -1,12 +1,5 @@
-use Rattle.std.proofs.Common.{◌≡◌, refl, sym, ◌∙◌, ap}
-use Rattle.std.specs.Prelude.{Some, slice_set}
-use Rattle.std.proofs.lemmas.Option.{slice_get_read, MatchOption-at_some, same_Some}
-use Rattle.rk_names.specs.declared.numbers.SessionId.{SessionId}
-use Rattle.rk_names.specs.declared.numbers.SessionId.TheVariants.{Handler}
-use Rattle.rk_served.specs.declared.peer.Channel.{Channel}
-use Rattle.rk_served.specs.declared.peer.Peer.{Peer}
-use Rattle.rk_machine.specs.Views.{has_wait}
-use Rattle.rk_served.specs.Left.{peer}
+use Rattle.rk_served.proofs.Words.{refl, ◌∙◌, ap, sym, ◌≡◌, slice_get_read, same_Some, MatchOption-at_some, Some, slice_set, SessionId, Handler, has_wait, peer}
+use Rattle.rk_served.proofs.Words.{Channel, Peer}
 use Rattle.rk_served.proofs.Moving.{shuts_client_one, shuts_handler_one}
 use Rattle.rk_served.proofs.Standings.{order_replaced}
 use Rattle.rk_served.proofs.server.Server.fault_at.Goals as goal
@@ -34,8 +27,7 @@ returns-in_ok-push-in-Handler c conf =
     shuts_handler_one conf c.args.now _ _ _ _ c.args.index x.subject c.in-Handler.key x.channel
     (at ∙ ap (λ (s : SessionId). Some (peer s x.channel x.subject)) who) fault
     (ap (λ (s : SessionId). has_wait c.args.self.now.book s) (sym who) ∙ free.0, free.1)
-    refl
-    (ap (λ (s : SessionId). slice_set c.args.self.now.peers.items c.args.index (peer s c.shut.new.self x.subject)) who
+    refl (ap (λ (s : SessionId). slice_set c.args.self.now.peers.items c.args.index (peer s c.shut.new.self x.subject)) who
     ∙ ap (λ (p : Channel). slice_set c.args.self.now.peers.items c.args.index (peer (Handler c.in-Handler.key) p x.subject)) c.shut.ensures)
     c.in_ok-push-in-Handler.ensures.items
 

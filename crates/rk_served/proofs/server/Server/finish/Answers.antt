@@ -1,6 +1,4 @@
-use Rattle.std.proofs.Common.{refl}
-use Rattle.std.proofs.lemmas.Result.{on_ok_weaker}
-use Rattle.rk_served.specs.Calls.{left_of}
+use Rattle.rk_served.proofs.Words.{refl, on_ok_weaker, left_of}
 use Rattle.rk_served.proofs.OwnSteps.{has_ended, finish_one}
 use Rattle.rk_served.proofs.server.Server.finish.Goals as goal
 

@@ -1,10 +1,6 @@
-use Rattle.std.proofs.Common.{[], refl}
-use Rattle.rk_machine.specs.declared.event.EventOf.TheVariants.{Launched}
+use Rattle.rk_served.proofs.Words.{refl, [], done, Launched, one_step, Failed}
 use Rattle.rk_machine.specs.declared.event.Ran.TheVariants as ran
-use Rattle.rk_machine.specs.Allowed.{done}
 use Rattle.rk_served.specs.declared.happening.Happening.TheVariants as happening
-use Rattle.rk_served.specs.declared.happening.StartResult.TheVariants.{Failed}
-use Rattle.rk_served.specs.Left.{one_step}
 use Rattle.rk_served.proofs.OwnSteps.{begins_quiet}
 use Rattle.rk_served.proofs.server.Server.launch.Goals as goal
 

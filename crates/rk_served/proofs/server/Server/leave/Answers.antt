@@ -1,7 +1,4 @@
-use Rattle.std.proofs.Common.{[]}
-use Rattle.rk_names.specs.declared.numbers.SessionId.TheVariants.{Client}
-use Rattle.rk_machine.specs.declared.event.EventOf.TheVariants.{Gone}
-use Rattle.rk_machine.specs.Allowed.{done}
+use Rattle.rk_served.proofs.Words.{[], Client, done, Gone}
 use Rattle.rk_served.proofs.PeersFit.{gone_done}
 use Rattle.rk_served.proofs.OwnSteps.{steps_by}
 use Rattle.rk_served.proofs.server.Server.leave.Goals as goal

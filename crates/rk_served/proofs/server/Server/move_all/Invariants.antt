@@ -1,6 +1,4 @@
-use Rattle.rk_served.specs.WhoIsThere.{HasItsPeers}
-use Rattle.rk_served.specs.Calls.{left_of, MovesSome}
-use Rattle.rk_served.specs.Queued.{IsWatched}
+use Rattle.rk_served.proofs.Words.{left_of, MovesSome, IsWatched, HasItsPeers}
 use Rattle.rk_served.proofs.Weight.{weight}
 use Rattle.rk_served.proofs.server.Server.move_all.Given as goal
 

@@ -1,7 +1,4 @@
-use Rattle.std.proofs.Common.{subst, ◌∙◌}
-use Rattle.rk_served.specs.Left.{Left}
-use Rattle.rk_served.specs.Calls.{left_of, RestsBy}
-use Rattle.rk_served.specs.Queued.{Parks}
+use Rattle.rk_served.proofs.Words.{◌∙◌, subst, left_of, RestsBy, Left, Parks}
 use Rattle.rk_served.proofs.Watching.{watched_popped, watched_after, watched_parked, moves_first, at_rest, emptied}
 use Rattle.rk_served.proofs.server.Server.move_one.Goals as goal
 

@@ -1,6 +1,4 @@
-use Rattle.std.proofs.Common.{◌≡◌}
-use Rattle.rk_served.specs.Calls.{left_of}
-use Rattle.rk_served.specs.Queued.{size, IsWatched}
+use Rattle.rk_served.proofs.Words.{◌≡◌, left_of, IsWatched, size}
 use Rattle.rk_served.proofs.server.Server.move_one.Given as goal
 
 abbrev pub invariant-loop-who : goal.invariant-loop-who

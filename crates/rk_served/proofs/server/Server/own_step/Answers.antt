@@ -1,17 +1,11 @@
-use Rattle.std.proofs.Common.{[], refl, inl, inr}
-use Rattle.std.proofs.lemmas.Result.{on_ok_weaker}
-use Rattle.rk_names.specs.declared.numbers.SessionId.TheVariants.{Client}
-use Rattle.rk_machine.specs.declared.event.EventOf.TheVariants.{Gone}
-use Rattle.rk_machine.specs.Allowed.{done}
+use Rattle.rk_served.proofs.Words.{refl, [], inr, inl, on_ok_weaker, Client, done, Gone, one_step, no_step}
 use Rattle.rk_served.specs.declared.happening.Happening.TheVariants as happening
-use Rattle.rk_served.specs.Left.{no_step, one_step}
 use Rattle.rk_served.proofs.OwnSteps.{begins_quiet, read_fault_one}
 use Rattle.rk_served.proofs.server.Server.own_step.Goals as goal
 
 pub returns-in-Bytes : goal.returns-in-Bytes
 returns-in-Bytes c =
-    on_ok_weaker c.lengthen.result
-    (λ h. rw c.in-Bytes.is
+    on_ok_weaker c.lengthen.result (λ h. rw c.in-Bytes.is
     (begins_quiet c.args.occasion.now.conf.now c.args.occasion.now.moment (happening.Bytes c.in-Bytes.client c.in-Bytes.bytes) _ _ _ (no_step []) refl (rw c.as_slice.ensures at h)))
     c.lengthen.ensures
 
@@ -22,8 +16,7 @@ returns-in-Gone c =
 
 pub returns-in-HandlerBytes : goal.returns-in-HandlerBytes
 returns-in-HandlerBytes c =
-    on_ok_weaker c.lengthen-in-HandlerBytes.result
-    (λ h. rw c.in-HandlerBytes.is
+    on_ok_weaker c.lengthen-in-HandlerBytes.result (λ h. rw c.in-HandlerBytes.is
     (begins_quiet c.args.occasion.now.conf.now c.args.occasion.now.moment (happening.HandlerBytes c.in-HandlerBytes.key c.in-HandlerBytes.bytes) _ _ _ (no_step []) refl
     (rw c.as_slice-in-HandlerBytes.ensures at h)))
     c.lengthen-in-HandlerBytes.ensures

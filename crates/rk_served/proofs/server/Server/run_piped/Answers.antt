@@ -1,11 +1,5 @@
-use Rattle.std.proofs.Common.{◌++◌, ℕ, List, refl, sym, ap, ◌∙◌}
-use Rattle.std.specs.Prelude.{Some, slice_set}
-use Rattle.std.proofs.lemmas.Option.{slice_get_read, slice_get_within, same_Some}
-use Rattle.rk_names.specs.declared.numbers.SessionId.TheVariants.{Handler}
-use Rattle.rk_served.specs.declared.peer.Channel.TheVariants.{Starts, Pipes}
-use Rattle.rk_served.specs.declared.peer.Peer.{Peer}
-use Rattle.rk_served.specs.Left.{peer}
-use Rattle.rk_served.specs.Channels.{callout_of}
+use Rattle.rk_served.proofs.Words.{refl, ◌∙◌, ap, sym, List, ℕ, ◌++◌, slice_get_read, same_Some, slice_get_within, Some, slice_set, Handler, callout_of, peer}
+use Rattle.rk_served.proofs.Words.{Starts, Pipes, Peer}
 use Rattle.rk_served.proofs.OwnSteps.{piped_one}
 use Rattle.rk_served.proofs.Standings.{order_replaced}
 use Rattle.rk_served.proofs.server.Server.run_piped.Goals as goal

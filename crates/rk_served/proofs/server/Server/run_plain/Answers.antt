@@ -1,11 +1,4 @@
-use Rattle.std.proofs.Common.{refl, sym, ap, ◌∙◌}
-use Rattle.std.specs.Prelude.{Some, slice_set}
-use Rattle.std.proofs.lemmas.Option.{slice_get_read, slice_get_within, same_Some}
-use Rattle.rk_names.specs.declared.numbers.SessionId.TheVariants.{Handler}
-use Rattle.rk_served.specs.declared.peer.Channel.TheVariants.{Talks, Starts}
-use Rattle.rk_served.specs.declared.peer.Peer.{Peer}
-use Rattle.rk_served.specs.Unused.{Unused}
-use Rattle.rk_served.specs.Left.{peer}
+use Rattle.rk_served.proofs.Words.{refl, ◌∙◌, ap, sym, slice_get_read, same_Some, slice_get_within, Some, slice_set, Handler, peer, Unused, Starts, Talks, Peer}
 use Rattle.rk_served.proofs.OwnSteps.{plain_one}
 use Rattle.rk_served.proofs.Standings.{order_replaced}
 use Rattle.rk_served.proofs.server.Server.run_plain.Goals as goal

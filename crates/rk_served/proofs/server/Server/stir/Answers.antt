@@ -1,4 +1,4 @@
-use Rattle.std.proofs.lemmas.Result.{on_ok_weaker}
+use Rattle.rk_served.proofs.Words.{on_ok_weaker}
 use Rattle.rk_served.proofs.Watching.{stirred}
 use Rattle.rk_served.proofs.server.Server.stir.Goals as goal
 

@@ -1,7 +1,4 @@
-use Rattle.std.proofs.Common.{refl, inl, inr, subst}
-use Rattle.std.proofs.lemmas.Option.{slice_get_read, MatchOption-at_some}
-use Rattle.rk_served.specs.Left.{Left}
-use Rattle.rk_served.specs.Calls.{left_of, MovesOne}
+use Rattle.rk_served.proofs.Words.{refl, subst, inr, inl, slice_get_read, MatchOption-at_some, left_of, MovesOne, Left}
 use Rattle.rk_served.proofs.Moving.{next_left, rests_more, asks_one, refuses_one}
 use Rattle.rk_served.proofs.Standings.{order_replaced}
 use Rattle.rk_served.proofs.server.Server.take_at.Goals as goal

@@ -1,7 +1,5 @@
-use Rattle.std.proofs.Common.{◌≡◌, ◌∙◌, ap, sym, subst, ◌-◌, ◌<◌, cond, arith}
-use Rattle.std.specs.Prelude.{nat_eq}
+use Rattle.rk_table.proofs.Words.{◌∙◌, ap, sym, ◌≡◌, cond, subst, arith, ◌<◌, ◌-◌, nat_eq, count_at, ArePositive}
 use Rattle.std.specs.FinMap as map
-use Rattle.rk_table.specs.Counts.{count_at, ArePositive}
 use Rattle.rk_table.proofs.CountsAt.{count_out, count_become, count_by, has_count, positive_out, positive_become}
 use Rattle.rk_table.proofs.counts.Counts.one_less.Goals as goal
 

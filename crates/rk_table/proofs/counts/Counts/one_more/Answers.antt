@@ -1,7 +1,5 @@
-use Rattle.std.proofs.Common.{◌≡◌, ◌∙◌, ap, sym, subst, ◌+◌, cond, arith}
-use Rattle.std.specs.Prelude.{Some, None, is_some, nat_eq, unwrap_or}
+use Rattle.rk_table.proofs.Words.{◌∙◌, ap, sym, ◌≡◌, cond, subst, arith, ◌+◌, Some, None, nat_eq, is_some, unwrap_or, count_at, ArePositive}
 use Rattle.std.specs.FinMap as map
-use Rattle.rk_table.specs.Counts.{count_at, ArePositive}
 use Rattle.rk_table.proofs.CountsAt.{count_put, count_become, count_by, positive_put, positive_become}
 use Rattle.rk_table.proofs.counts.Counts.one_more.Goals as goal
 

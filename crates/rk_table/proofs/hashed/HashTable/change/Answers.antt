@@ -1,8 +1,5 @@
-use Rattle.std.proofs.Common.{◌≡◌, Some, None, nat_eq, is_some, ap, sym, subst, ◌∙◌}
-use Rattle.std.specs.Map.{lookup}
-use Rattle.std.specs.Option.{option_copied_mut}
+use Rattle.rk_table.proofs.Words.{◌∙◌, ap, sym, ◌≡◌, subst, lookup, option_copied_mut, Some, None, nat_eq, is_some, changed_at}
 use Rattle.std.specs.FinMap as map
-use Rattle.rk_table.specs.Maps.{changed_at}
 use Rattle.rk_table.proofs.LookedUp.{LooksUp, changed_hashed, not_changed_hashed}
 use Rattle.rk_table.proofs.hashed.HashTable.change.Goals as goal
 

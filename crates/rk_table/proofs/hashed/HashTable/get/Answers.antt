@@ -1,4 +1,4 @@
-use Rattle.std.proofs.Common.{ap, sym, ◌∙◌}
+use Rattle.rk_table.proofs.Words.{◌∙◌, ap, sym}
 use Rattle.std.specs.FinMap as map
 use Rattle.rk_table.proofs.LookedUp.{get_hashed}
 use Rattle.rk_table.proofs.hashed.HashTable.get.Goals as goal

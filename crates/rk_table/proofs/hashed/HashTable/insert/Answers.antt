@@ -1,4 +1,4 @@
-use Rattle.std.proofs.Common.{ap, ◌∙◌}
+use Rattle.rk_table.proofs.Words.{◌∙◌, ap}
 use Rattle.std.specs.FinMap as map
 use Rattle.rk_table.proofs.LookedUp.{put_hashed}
 use Rattle.rk_table.proofs.hashed.HashTable.insert.Goals as goal

@@ -1,4 +1,4 @@
-use Rattle.std.proofs.Common.{◌≡◌, take, fold}
+use Rattle.rk_table.proofs.Words.{◌≡◌, take, fold}
 use Rattle.rk_table.specs.Hashed.{byte_more}
 use Rattle.rk_table.proofs.hashing.NumberHasherHasher.write.Given as goal
 

@@ -1,5 +1,4 @@
-use Rattle.std.proofs.Common.{ap, sym, ◌∙◌}
-use Rattle.std.specs.List.{list_any}
+use Rattle.rk_table.proofs.Words.{◌∙◌, ap, sym, list_any}
 use Rattle.std.specs.FinMap as map
 use Rattle.rk_table.proofs.Once.{any_once, once_rising}
 use Rattle.rk_table.proofs.table.Table.any.Goals as goal

@@ -1,9 +1,7 @@
-use Rattle.std.proofs.Common.{ap, sym, subst, ◌∙◌}
-use Rattle.rk_table.specs.Entries.{IsAt, IsGapFor}
+use Rattle.rk_table.proofs.Words.{◌∙◌, ap, sym, subst, IsGapFor, IsAt, places}
 use Rattle.rk_table.proofs.Found.{changed_here, not_changed}
 use Rattle.rk_table.proofs.Rising.{rising_by_keys}
 use Rattle.rk_table.proofs.Once.{keys_written}
-use Rattle.rk_table.specs.Stored.{places}
 use Rattle.rk_table.proofs.Once.{places_once}
 use Rattle.std.specs.Vec.{with_item}
 use Rattle.rk_table.proofs.table.Table.change.Goals as goal

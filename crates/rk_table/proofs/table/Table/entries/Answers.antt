@@ -1,4 +1,4 @@
-use Rattle.std.proofs.Common.{ap, sym, ◌∙◌}
+use Rattle.rk_table.proofs.Words.{◌∙◌, ap, sym}
 use Rattle.std.specs.FinMap as map
 use Rattle.rk_table.proofs.Once.{entries_rising}
 use Rattle.rk_table.proofs.table.Table.entries.Goals as goal

@@ -1,6 +1,4 @@
-use Rattle.std.proofs.Common.{ap, ◌∙◌}
-use Rattle.std.specs.Prelude.{option_map}
-use Rattle.std.specs.Prelude.{find as list_find}
+use Rattle.rk_table.proofs.Words.{◌∙◌, ap, option_map, list_find}
 use Rattle.rk_table.proofs.Once.{finds_entry, once_rising}
 use Rattle.rk_table.proofs.table.Table.find.Goals as goal
 

@@ -1,6 +1,5 @@
-use Rattle.std.proofs.Common.{ap, sym, subst, ◌∙◌, Some}
+use Rattle.rk_table.proofs.Words.{◌∙◌, ap, sym, subst, Some, IsGapFor, IsAt}
 use Rattle.std.specs.FinMap as map
-use Rattle.rk_table.specs.Entries.{IsAt, IsGapFor}
 use Rattle.rk_table.proofs.Found.{found_at, not_found}
 use Rattle.rk_table.proofs.table.Table.get.Goals as goal
 

@@ -1,9 +1,7 @@
-use Rattle.std.proofs.Common.{ap, sym, subst, ◌∙◌}
+use Rattle.rk_table.proofs.Words.{◌∙◌, ap, sym, subst, KeysRise, IsGapFor, IsAt, places}
 use Rattle.std.specs.FinMap as map
-use Rattle.rk_table.specs.Entries.{KeysRise, IsAt, IsGapFor}
 use Rattle.rk_table.proofs.Rising.{rising_inserted}
 use Rattle.rk_table.proofs.Found.{put_in, nowhere}
-use Rattle.rk_table.specs.Stored.{places}
 use Rattle.rk_table.proofs.Once.{places_once}
 use Rattle.rk_table.proofs.table.Table.insert.Goals as goal
 

@@ -1,12 +1,8 @@
-use Rattle.std.proofs.Common.{ap, sym, ◌∙◌}
+use Rattle.rk_table.proofs.Words.{◌∙◌, ap, sym, subst, KeysRise, kept_where, places}
 use Rattle.std.specs.FinMap as map
-use Rattle.rk_table.specs.Maps.{kept_where}
 use Rattle.rk_table.proofs.Once.{kept_once}
-use Rattle.std.proofs.Common.{subst}
-use Rattle.rk_table.specs.Entries.{KeysRise}
 use Rattle.rk_table.proofs.Once.{once_rising, places_once}
 use Rattle.rk_table.proofs.Rising.{rising_filtered}
-use Rattle.rk_table.specs.Stored.{places}
 use Rattle.rk_table.proofs.table.Table.retain.Goals as goal
 
 pub returns-clause-facts : goal.returns-clause-facts

@@ -1,9 +1,7 @@
-use Rattle.std.proofs.Common.{ap, sym, subst, ◌∙◌, Some}
+use Rattle.rk_table.proofs.Words.{◌∙◌, ap, sym, subst, Some, KeysRise, IsGapFor, IsAt, places}
 use Rattle.std.specs.FinMap as map
-use Rattle.rk_table.specs.Entries.{KeysRise, IsAt, IsGapFor}
 use Rattle.rk_table.proofs.Rising.{rising_filtered}
 use Rattle.rk_table.proofs.Found.{found_at, not_found, without_at, taken_out, nothing_to_take}
-use Rattle.rk_table.specs.Stored.{places}
 use Rattle.rk_table.proofs.Once.{places_once}
 use Rattle.rk_table.proofs.table.Table.take.Goals as goal
 

@@ -1,5 +1,4 @@
-use Rattle.std.proofs.Common.{ap, ◌∙◌}
-use Rattle.std.specs.Ordering.{nat_cmp}
+use Rattle.rk_table.proofs.Words.{◌∙◌, ap, nat_cmp}
 use Rattle.std.specs.FinMap as map
 use Rattle.rk_table.proofs.table.Table.with_room.Goals as goal
 

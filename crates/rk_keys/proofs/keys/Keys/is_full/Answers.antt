@@ -1,7 +1,0 @@
-use Rattle.std.proofs.Common.{◌∙◌, ap}
-use Rattle.std.specs.Prelude.{nat_le}
-use Rattle.rk_keys.specs.Known.{Known, keys_of}
-use Rattle.rk_keys.proofs.keys.Keys.is_full.Goals as goal
-
-pub returns : goal.returns
-returns c = ap (nat_le 200) (c.of.ensures ∙ c.self.invariant.counts.each c.args.owner ∙ ap (λ (n : Known). keys_of n.keys c.args.owner) c.self.view_is)
