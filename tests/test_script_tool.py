@@ -142,6 +142,7 @@ WRONG = [
     ("repeat N 2 1", "less than the first"),
     ("repeat N 1 1000001", "from 0 to 1000000"),
     ("repeat N 0 1\ngone {N-1}\nend", "less than 0"),
+    ("repeat N 256 256\nc1 body {N:02x}\nend", "hexadecimal"),
     ("repeat N 0 1\nrepeat N 0 1\nend\nend", "within another"),
     ("repeat N 0 1\ngone {N}", "without its end"),
     ("gone {N}", "no number"),
@@ -197,9 +198,13 @@ def whole_texts():
     came = b"fault 4 S1\nto 1 00000002030d\nto 1 00000002030d\n"
     count.same("what has to come", script.answers(words), came)
     count.same("nothing", (script.write(b""), script.read(b""), script.answers(b"")), (b"", b"", b""))
-    repeated = b"100 accept 0\nrepeat N 0 2\nc0 READ {N}\n  c0 <- {2*N+1}\nend\ngone 0\n"
-    unrolled = b"100 accept 0\nc0 READ 0\n  c0 <- 1\nc0 READ 1\n  c0 <- 3\nc0 READ 2\n  c0 <- 5\ngone 0\n"
-    count.same("a repeat", (script.write(repeated), script.answers(repeated)), (script.write(unrolled), script.answers(unrolled)))
+    for repeated, unrolled in [
+        (b"c0 READ {N}\n  c0 <- {2*N+1}\n", b"c0 READ 1\n  c0 <- 3\nc0 READ 2\n  c0 <- 5\nc0 READ 3\n  c0 <- 7\n"),
+        (b"c0 body {N+8:02x}ff\n", b"c0 body 09ff\nc0 body 0aff\nc0 body 0bff\n"),
+        (b"bytes 0 ff{0001000203:N-1}\n", b"bytes 0 ff\nbytes 0 ff00\nbytes 0 ff0001\n"),
+    ]:
+        told, wanted = b"100 accept 0\nrepeat N 1 3\n" + repeated + b"end\ngone 0\n", b"100 accept 0\n" + unrolled + b"gone 0\n"
+        count.same(f"a repeat of {repeated}", (script.write(told), script.answers(told)), (script.write(wanted), script.answers(wanted)))
 
 
 def any_bytes():
