@@ -9,12 +9,10 @@ import collections
 import itertools
 import pathlib
 import re
-import shutil
-import subprocess
 import sys
 
 sys.path.insert(0, str(pathlib.Path(__file__).resolve().parent / "serve"))
-from programs import LIMIT, PROGRAMS, check_all, top
+from programs import check_all, lacks, ran, top
 from scenarios import scenario
 from scenes import library
 
@@ -168,9 +166,8 @@ def waits_in(script, groups):
 
 def run(program, script, allocation):
     """One run: its status, its output and what it says."""
-    environment = {"LD_PRELOAD": library("refusing_malloc"), "REFUSED": str(allocation)}
-    ran = subprocess.run([program, "replay"], input=script, env=environment, stdout=subprocess.PIPE, stderr=subprocess.PIPE, timeout=LIMIT)
-    return ran.returncode, groups_of(lines_of(ran.stdout)), ran.stderr
+    status, output, errors = ran(program, "replay", input=script, env={"LD_PRELOAD": library("refusing_malloc"), "REFUSED": str(allocation)})
+    return status, groups_of(lines_of(output)), errors
 
 
 def fault(program, case):
@@ -201,9 +198,5 @@ def fault(program, case):
     return None if kinds["ended"] > 10 else f"{kinds}"
 
 
-cases = []
-if shutil.which("gcc"):
-    cases = [(what, scenario(name)) for name, what in SCENARIOS.items()]
-else:
-    print("allocations that are refused: not tried, there is no gcc")
-check_all(cases, fault, PROGRAMS)
+tried = {} if lacks("allocations that are refused", "gcc") else SCENARIOS
+check_all([(what, fault, scenario(name)) for name, what in tried.items()])
