@@ -20,7 +20,7 @@ import threading
 import time
 
 import protocol_peer as ask
-from programs import LIMIT, client_of
+from programs import LIMIT, client_of, ran
 
 PUPPET = pathlib.Path(__file__).resolve().parent / "serve" / "puppet.py"
 
@@ -210,7 +210,6 @@ class Daemon:
 
     def __init__(self, program, conf="", *options, files=None, mask=None, longest=None, ignored=None, closed=(), ready=True, environment=None, input=subprocess.DEVNULL):
         self.program, self.options, self.ready = program, options, ready
-        self.client_program = client_of(program)
         self.files, self.mask, self.longest, self.ignored, self.closed, self.environment = files, mask, longest, ignored, closed, environment
         self.conf_text, self.input = conf, input
         self.folder = tempfile.TemporaryDirectory(prefix="serve-")
@@ -231,9 +230,14 @@ class Daemon:
             raise
         return self
 
+    @property
+    def client_program(self):
+        return client_of(self.program)
+
     def filled(self, text):
         puppet = f"{sys.executable} -I -S {PUPPET} {self.room}/puppets"
-        return text.replace("%puppet", puppet).replace("%room", str(self.room)).replace("%ctl", str(self.client_program))
+        text = text.replace("%puppet", puppet).replace("%room", str(self.room))
+        return text.replace("%ctl", str(self.client_program)) if "%ctl" in text else text
 
     def script(self, name, text):
         """A program of the folder, which a line of the configuration may name."""
@@ -298,6 +302,24 @@ class Daemon:
         ended(self.reader, "the end of what it says")
         return status, [line for line in self.lines if line != "reqkeyd: ready"]
 
+    def kill(self):
+        """Kills it, so that it can be started again."""
+        self.process.kill()
+        self.process.wait()
+        ended(self.reader, "the end of what it says")
+        self.process.stdout.close()
+        self.process.stderr.close()
+
+    def release(self):
+        """Lets the handlers end that wait at the pipe `fifo` of its folder."""
+        def none_is_left():
+            try:
+                os.close(os.open(self.room / "fifo", os.O_WRONLY | os.O_NONBLOCK))
+            except OSError:
+                return True
+            return False
+        until(none_is_left, "the end of the handlers that wait")
+
     def client(self, uid=1000, join=0, flags=0):
         """A client that has said HELLO for this uid, or nothing for None; it is closed at the end."""
         client = Client(self.path, uid, join, flags)
@@ -311,8 +333,7 @@ class Daemon:
 
     def control(self, *words, input=b""):
         """A run of reqkeyctl at the socket: status, standard output and standard error."""
-        ran = subprocess.run([self.client_program, "--socket", self.path, *words], input=input, capture_output=True, timeout=LIMIT)
-        return ran.returncode, ran.stdout, ran.stderr
+        return ran(self.client_program, "--socket", self.path, *words, input=input)
 
     def accepts(self):
         """Whether one can connect."""

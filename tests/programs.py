@@ -60,6 +60,12 @@ def ran(*words, **more):
     return done.returncode, done.stdout, done.stderr
 
 
+def started(*words, **more):
+    """A program that is started: without input, and its output and errors are read as texts."""
+    streams = {"stdin": subprocess.DEVNULL, "stdout": subprocess.PIPE, "stderr": subprocess.PIPE}
+    return subprocess.Popen(words, **{**streams, "text": True, **more})
+
+
 def differs(got, want):
     """What differs, or None."""
     return None if got == want else f"{str(got)[:300]}, not {str(want)[:300]}"

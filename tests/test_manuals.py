@@ -3,12 +3,12 @@
 import pathlib
 import re
 import shutil
-import subprocess
 import sys
 import tempfile
 
+from compiled import made
 from counted import Counted
-from programs import LIMIT, built, top
+from programs import built, lacks, ran, there, top
 
 sys.path.insert(0, str(top / "tools"))
 from program_help import option, part, said, subcommands
@@ -128,12 +128,10 @@ def of_client(program):
 def of_trap():
     """reqkey-trap.1: its options, and that each stands in the synopsis; and what it says on standard error, by its sources."""
     page = sections("reqkey-trap.1")
-    if not shutil.which("gcc") or not shutil.which("make"):
-        print("reqkey-trap.1: not tried, there is no gcc and make")
+    if lacks("reqkey-trap.1", "gcc", "make"):
         return
     with tempfile.TemporaryDirectory() as room:
-        subprocess.run(["make", "-s", "-C", top / "clients" / "trap", f"OUT={room}"], check=True, timeout=LIMIT)
-        text = said(pathlib.Path(room) / "reqkey-trap", "--help")
+        text = said(made(count, "trap", pathlib.Path(room)), "--help")
     listed = sorted(option(tag) for tag in tagged(page["OPTIONS"]))
     count.same("options of reqkey-trap", listed, options(text))
     synopsis = " ".join(spoken(line) for line in page["SYNOPSIS"])
@@ -167,8 +165,8 @@ def alike(page):
     count.same(f"see also of {page}", [it for it, its in others if f"{it}({its})" not in also], [])
     count.same(f"columns of {page}", [line for line in text.split("\n") if len(line) > 160], [])
     if shutil.which("groff"):
-        ran = subprocess.run(["groff", "-ww", "-man", "-Tutf8", "-b", top / "man" / page], capture_output=True, text=True, timeout=LIMIT)
-        count.same(f"faults in {page}", (ran.returncode, ran.stderr), (0, ""))
+        status, _, errors = ran("groff", "-ww", "-man", "-Tutf8", "-b", top / "man" / page, text=True)
+        count.same(f"faults in {page}", (status, errors), (0, ""))
 
 
 if not shutil.which("groff"):
@@ -179,9 +177,6 @@ of_configuration()
 of_trap()
 of_warnings()
 for name, compare in [("reqkeyd", of_daemon), ("reqkeyctl", of_client)]:
-    program = built(name)[0]
-    if program.exists():
+    for program in there(count, built(name)[:1]):
         compare(program)
-    else:
-        count.same(f"{program} is built", False, True)
 count.end()
