@@ -1,11 +1,24 @@
 """What is written in C, as it is compiled for a test."""
+import functools
+import tempfile
+
 from programs import ran, top
+
+FOLDER = tempfile.TemporaryDirectory(prefix="refusing-")
 
 # What ends a program at a wrong access to memory, or at arithmetic that has no meaning.
 SANITIZED = ["-g", "-fsanitize=address,undefined", "-fno-sanitize-recover=all"]
 
 # What each client in C is built as.
 MADE = {"keyutils": "libkeyutils.so.1", "trap": "reqkey-trap"}
+
+
+@functools.cache
+def library(name):
+    """The library of tests/ that is loaded before the C library, built once."""
+    made = f"{FOLDER.name}/{name}.so"
+    ran("gcc", "-shared", "-fPIC", "-O2", "-o", made, top / "tests" / f"{name}.c", check=True)
+    return made
 
 
 def works(room, compiler, flags, text="int main(void) { return 0; }\n", words=()):

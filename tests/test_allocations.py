@@ -9,12 +9,10 @@ A full ring that takes 100,000 links is tried the other way round: there is no a
 import itertools
 import pathlib
 import re
-import sys
 import tempfile
 
-sys.path.insert(0, str(pathlib.Path(__file__).resolve().parent / "serve"))
+from compiled import library
 from programs import check_all, ran, top
-from scenes import library
 
 OTHERS = [
     "values::conf::wants_nothing_but_memory",

@@ -12,6 +12,7 @@ import sys
 import tempfile
 
 import protocol_peer as peer
+from compiled import library
 from programs import built, check_all, differs, lacks, ran, top, version
 
 sys.path.insert(0, str(top / "tools"))
@@ -66,11 +67,13 @@ BAD = [
     ["--uid", "+1", "read", "3"], ["--uid", "-1", "read", "3"], ["--uid", "4294967296", "read", "3"], ["--uid", "", "read", "3"], ["--uid", "read", "3"],
     ["--gid", "x", "read", "3"], ["--join", "2147483648", "read", "3"], ["--uid", "1", "--uid", "1", "read", "3"], ["--raw", "--raw", "read", "3"],
     ["--raw=1", "read", "3"], ["--raw=", "read", "3"], ["--uid=", "read", "3"], ["--socket", "a", "--socket=b", "read", "3"], ["--socket"],
-    ["--socket", "s"], ["--uid=1"], ["--payload-from", "f", "read", "3"], ["--callout-from", "f", "instantiate", "3", "none"], ["--payload-from", "-", "instantiate", "3", "none"],
-    ["--callout-from", "-", "request", "user", "a", "none"], ["--payload-from", "f", "instantiate", "3", "v", "none"],
+    ["--socket", "s"], ["--uid=1"], ["--payload-from", "f", "read", "3"], ["--callout-from", "f", "instantiate", "3", "none"],
+    ["--payload-from", "-", "instantiate", "3", "none"], ["--callout-from", "-", "request", "user", "a", "none"],
+    ["--payload-from", "f", "instantiate", "3", "v", "none"],
     ["--payload-from", "f", "instantiate", "none"], ["--payload-from", "f", "instantiate", "x", "none"],
     ["--callout-from", "f", "request", "user", "a", "none", "c"], ["--callout-from", "f", "request", "user", "a"],
-    ["--callout-from", "f", "--payload-from", "f", "request", "user", "a", "none"], ["--payload-from", "f", "hello"], [b"\xff"], ["add", "user", b"\xff", "v", "1"],
+    ["--callout-from", "f", "--payload-from", "f", "request", "user", "a", "none"], ["--payload-from", "f", "hello"], [b"\xff"],
+    ["add", "user", b"\xff", "v", "1"],
 ]
 
 # a reply, what is printed of it, and under --raw
@@ -149,8 +152,8 @@ SAID = [
     (["run"], "the following required arguments were not provided:"),
     (["run", "--nothing", "--", "true"], "unexpected argument '--nothing' found"),
     (["run", "--uid", "+1", "--", "true"], "invalid value '+1' for '--uid <N>': a number has digits alone"),
-    (["run", "--library", "rel", "--", "true"], "invalid value 'rel' for '--library <FILE>': it has to be an absolute path, without a space or a colon"),
-    (["run", "--library", "/a b", "--", "true"], "invalid value '/a b' for '--library <FILE>': it has to be an absolute path, without a space or a colon"),
+    *[(["run", "--library", path, "--", "true"], f"invalid value '{path}' for '--library <FILE>': it has to be an absolute path, without a space or a colon")
+      for path in ["rel", "/a b"]],
     *[(["run", "--trap", option, value, "--", "true"], f"the argument '--trap' cannot be used with '{option} <{name}>'") for option, value, name in
       [("--library", "/l", "FILE"), ("--uid", "1", "N"), ("--gid", "1", "N")]],
     (["run", "--trap=", "--", "true"], "unexpected value '' for '--trap' found; no more were expected"),
@@ -411,12 +414,12 @@ def two_in_a_script(program):
     return differs(ran("/bin/sh", "-c", script, input=peer.frame(peer.number(0)) * 2), (0, want, b"0\n0\n"))
 
 
-def lacks_memory(program, library, words, stdin, replies, want):
+def lacks_memory(program, words, stdin, replies, want):
     """Each allocation refused in turn, until the run needs no more: status 1 and its line, and nothing printed. PATH among the words is that of the socket."""
     for count in range(1, 100_000):
         with peer.answering(*replies) as daemon:
             named = [daemon.path if word == "PATH" else word for word in words]
-            got = ran(program, *named, input=stdin, env={"LD_PRELOAD": library, "REFUSED": str(count)})
+            got = ran(program, *named, input=stdin, env={"LD_PRELOAD": library("refusing_malloc"), "REFUSED": str(count)})
         if got == want:
             return None if count > 5 else f"{count - 1} allocations"
         if (got[0], got[2]) != (1, b"reqkeyctl: memory\n") or (replies and got[1]) or not want[1].startswith(got[1]):
@@ -526,15 +529,15 @@ def cases(room):
     yield "an empty callout from a file", from_file, ask_key, "--callout-from", b"", peer.request(b"user", b"a", b"", 0)
     yield "a callout from a file without text", from_file, ask_key, "--callout-from", b"\xff", None, "<callout> is at most 4095 bytes of text, for the handler"
     if not lacks("allocations that are refused", "gcc"):
-        library, socket, long = str(room / "refusing_malloc.so"), ["--socket", "PATH"], b"p" * 32767
-        ran("gcc", "-shared", "-fPIC", "-o", library, top / "tests" / "refusing_malloc.c", check=True)
-        yield "memory of a handler", lacks_memory, library, read, peer.frame(SEVEN), [], (0, peer.frame(ask), b"7\n")
-        yield "memory of a client", lacks_memory, library, [*socket, *read], b"", [RINGS, SEVEN], (0, b"7\n", b"")
-        yield "memory of a run", lacks_memory, library, ["run", *socket, "--library", library, "--", "/bin/true"], b"", [RINGS], (0, b"", b"")
+        socket, long = ["--socket", "PATH"], b"p" * 32767
+        yield "memory of a handler", lacks_memory, read, peer.frame(SEVEN), [], (0, peer.frame(ask), b"7\n")
+        yield "memory of a client", lacks_memory, [*socket, *read], b"", [RINGS, SEVEN], (0, b"7\n", b"")
+        yield "memory of a run", lacks_memory, ["run", *socket, "--library", library("refusing_malloc"), "--", "/bin/true"], b"", [RINGS], (0, b"", b"")
         from_input = [*socket, "--payload-from", "-", "instantiate", "3", "none"]
-        yield "memory of long bytes", lacks_memory, library, from_input, long, [RINGS, peer.data(long)], (0, long + b"\n", b"")
+        yield "memory of long bytes", lacks_memory, from_input, long, [RINGS, peer.data(long)], (0, long + b"\n", b"")
     for word in ["--help", "-h"]:
-        yield word, helps, [word], "Usage: reqkeyctl", *[f"  {name} " for name in FEWEST], *[f"{errno} {name}" for errno, name in ERRNOS.items()], "--payload-from", "Status:"
+        lists = [*[f"  {name} " for name in FEWEST], *[f"{errno} {name}" for errno, name in ERRNOS.items()], "--payload-from", "Status:"]
+        yield word, helps, [word], "Usage: reqkeyctl", *lists
         yield f"run {word}", helps, ["run", word], "Usage: reqkeyctl run", "--library", "126"
     for word in ["--version", "-V"]:
         yield word, helps, [word], f"reqkeyctl {version()}"

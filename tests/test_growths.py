@@ -8,13 +8,10 @@ of handlers and sessions also how they ended, what was told and which commands w
 none.
 """
 import itertools
-import pathlib
 import re
-import sys
 
-sys.path.insert(0, str(pathlib.Path(__file__).resolve().parent / "serve"))
+from compiled import library
 from programs import Wrong, check_all, differs, ran, top
-from scenes import library
 
 # Each path through a hall, and its steps, where memory ends it one allocation later each time. Before it comes the client makes no step; it goes after having
 # come, after its HELLO, or at the end. Of two requesters the second one may not come, and goes after having come, after its HELLO, or at the end.

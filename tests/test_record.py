@@ -6,11 +6,9 @@ import os
 import pathlib
 import re
 import signal
-import sys
 import tempfile
 import threading
 
-sys.path.insert(0, str(pathlib.Path(__file__).resolve().parent / "serve"))
 import protocol_peer as ask
 from daemon import Client, Daemon
 from programs import Wrong, check_all, ran, same, top
@@ -168,8 +166,9 @@ def one_step(program, folder):
     """The volumes of docs/RECORD.md, of either version."""
     old, front = example()
     target = folder / "example"
+    told = ["hall 0: 1 volumes, 1 steps", "ok, 1 halls, 1 steps: a run of the machine; later volumes may be missing"]
     for data in (old, resummed(front + old)):
-        same(accepted(program, [written(target, data)], OPEN_END), ["hall 0: 1 volumes, 1 steps", "ok, 1 halls, 1 steps: a run of the machine; later volumes may be missing"])
+        same(accepted(program, [written(target, data)], OPEN_END), told)
     refused(program, [written(target, front + old)], f"{target}: {SUM}")
     for mark in range(1, 256):
         fault = "hall 1: the volume that closes its record is missing" if mark == 1 else f"{target}: its head is cut or bad"

@@ -7,14 +7,12 @@ the same. Or the run ends with its fault, and writes nothing.
 """
 import collections
 import itertools
-import pathlib
 import re
 import sys
 
-sys.path.insert(0, str(pathlib.Path(__file__).resolve().parent / "serve"))
+from compiled import library
 from programs import check_all, lacks, ran, top
 from scenarios import scenario
-from scenes import library
 
 sys.path.insert(0, str(top / "tools"))
 from messages import read_ask
