@@ -158,6 +158,10 @@ class Handler(Speaker):
         """The key that it makes, where its first word is %k."""
         return int(self.words[0])
 
+    def completes(self, payload=b"made"):
+        """Assumes the authority over its key, and gives it this payload; the replies."""
+        return self.ask(ask.on_key(3, self.key)), self.ask(ask.instantiate(self.key, payload, 0))
+
     def put(self, data):
         while data:
             data = data[os.write(self.output, data) :]
@@ -205,11 +209,12 @@ class Daemon:
     """`reqkeyd serve` in a folder of its own, with its configuration.
 
     `%room` in the configuration is the folder, `%puppet` the words of a handler that the test plays (`handler` gives it) and `%ctl` reqkeyctl. It has
-    these options besides, and is killed at the end if it still runs. Its standard error is read as it comes.
+    these options besides, and is killed at the end if it still runs. Its standard error is read as it comes. With `starts=False` the test starts it.
     """
 
-    def __init__(self, program, conf="", *options, files=None, mask=None, longest=None, ignored=None, closed=(), ready=True, environment=None, input=subprocess.DEVNULL):
-        self.program, self.options, self.ready = program, options, ready
+    def __init__(self, program, conf="", *options, files=None, mask=None, longest=None, ignored=None, closed=(), starts=True, ready=True, environment=None,
+                 input=subprocess.DEVNULL):
+        self.program, self.options, self.starts, self.ready = program, options, starts, ready
         self.files, self.mask, self.longest, self.ignored, self.closed, self.environment = files, mask, longest, ignored, closed, environment
         self.conf_text, self.input = conf, input
         self.folder = tempfile.TemporaryDirectory(prefix="serve-")
@@ -224,7 +229,8 @@ class Daemon:
         self.puppets.settimeout(LIMIT)
         self.conf.write_text(self.filled(self.conf_text))
         try:
-            self.start()
+            if self.starts:
+                self.start()
         except GaveUp:
             self.__exit__()
             raise
@@ -263,6 +269,8 @@ class Daemon:
 
     def start(self):
         """Starts it, also once more after its end."""
+        if self.process is not None:
+            self.let_go()
         words = [self.program, "serve", "--socket", self.path, "--conf", self.conf, *self.options]
         environment = {**os.environ, **self.environment} if self.environment else None
         streams = {"stdin": self.input, "stdout": subprocess.PIPE, "stderr": subprocess.PIPE}
@@ -283,17 +291,14 @@ class Daemon:
     def __exit__(self, *_):
         for client in self.clients:
             client.socket.close()
-        if self.process.poll() is None:
-            handlers = self.children()
-            self.process.kill()
+        if self.process is not None:
+            handlers = self.children() if self.process.poll() is None else []
+            self.kill()
             for handler in handlers:
                 with contextlib.suppress(ProcessLookupError):
                     os.kill(handler, signal.SIGKILL)
-        self.process.wait()
+            self.let_go()
         self.puppets.close()
-        self.reader.join(LIMIT)
-        self.process.stdout.close()
-        self.process.stderr.close()
         self.folder.cleanup()
 
     def end(self):
@@ -303,10 +308,13 @@ class Daemon:
         return status, [line for line in self.lines if line != "reqkeyd: ready"]
 
     def kill(self):
-        """Kills it, so that it can be started again."""
+        """Kills it, and gives its status. It can be started again, when its handlers have ended, too."""
         self.process.kill()
-        self.process.wait()
-        ended(self.reader, "the end of what it says")
+        return self.process.wait()
+
+    def let_go(self):
+        """Closes what is left of it when it has ended."""
+        self.reader.join(LIMIT)
         self.process.stdout.close()
         self.process.stderr.close()
 
@@ -356,6 +364,14 @@ class Daemon:
                 pass
         return collections.Counter(kinds)
 
+    def settled(self, sockets=1):
+        """Its descriptors, when so many of them are sockets."""
+        return until(lambda: (now := self.descriptors())["socket"] == sockets and now, f"{sockets} sockets")
+
+    def has_left(self, before):
+        """Waits until its descriptors are those of before, and all its children have ended."""
+        until(lambda: not self.children() and self.descriptors() == before, f"no child, and the descriptors {before}, and not {self.descriptors()}")
+
     def is_stopped(self):
         """Whether a signal has stopped all its threads."""
         tasks = pathlib.Path(f"/proc/{self.process.pid}/task").glob("*/stat")
@@ -372,6 +388,12 @@ class Daemon:
             if int(parent) == self.process.pid:
                 found[int(path.parent.name)] = state
         return found
+
+    def serves_one(self):
+        """The rings of a client, and the end that the daemon comes to behind it."""
+        with self.client() as client:
+            rings = client.rings
+        return rings, self.end()
 
     def lives(self):
         """None where it runs and answers a new client, else what is wrong."""

@@ -76,7 +76,7 @@ def later(program, call, code, may):
     while more:
         with failing(program, call, count, code) as daemon:
             if begun(daemon):
-                early, before = met(daemon), until(lambda: (now := daemon.descriptors()) and now["socket"] == 1 and now, "one socket")
+                early, before = met(daemon), daemon.settled()
                 _, wrong = played_twice(daemon, play, [] if early else may)
                 until(lambda: daemon.descriptors() == before, f"the descriptors {before}, and not {daemon.descriptors()}")
                 if wrong:
@@ -101,7 +101,7 @@ def unread(program):
 
 def goes_on_unread(daemon):
     """None where the daemon reads what its handler says; else what is wrong with the result of a read that fails, or nothing."""
-    before = until(lambda: (now := daemon.descriptors()) and now["socket"] == 1 and now, "one socket")
+    before = daemon.settled()
     client = daemon.client()
     client.send(ask.request(b"user", b"h:1", b"x", -4))
     handler = daemon.handler()

@@ -91,12 +91,12 @@ def come_and_go(program):
     with Daemon(program, "create user p:* * |/bin/cat\n") as daemon:
         with daemon.client() as client:
             client.ask(ask.request(b"user", b"p:1", b"x", -4))
-        before = until(lambda: (now := daemon.descriptors()) and now["socket"] == 1 and now, "one socket")
+        before = daemon.settled()
         for at in range(10_000):
             with Client(daemon.path, None if at % 10 else 1000) as client:
                 if at % 10 == 5:
                     client.put(HELLO[: at // 10 % 18])
-        until(lambda: daemon.descriptors() == before, f"the descriptors {before}, and not {daemon.descriptors()}")
+        daemon.has_left(before)
         return daemon.lives()
 
 
@@ -198,7 +198,7 @@ def crowd(program):
     with Daemon(program, conf, "--negative", "0") as daemon:
         with daemon.client() as client:
             client.ask(ask.request(b"user", b"a", b"x", -4))
-        before = until(lambda: (now := daemon.descriptors()) and now["socket"] == 1 and now, "one socket")
+        before = daemon.settled()
         wrong = []
 
         def comes(dice):
@@ -217,7 +217,7 @@ def crowd(program):
             thread.start()
         for thread in threads:
             ended(thread, "the end of a client")
-        until(lambda: not daemon.children() and daemon.descriptors() == before, "the end of all that they had")
+        daemon.has_left(before)
         return differs(wrong[:3], []) or daemon.lives()
 
 
@@ -263,7 +263,7 @@ def few_descriptors(program):
             replies = client.ask(*asks)
             made.append([isinstance(it, int) for it in replies[:3]])
             refused = {it for it in replies if not isinstance(it, int)}
-            until(lambda: daemon.descriptors() == before and not daemon.children(), "the end of all handlers")
+            daemon.has_left(before)
             if wrong := differs((refused, set(replies[3:])), ({"E126"}, {"E126"})):
                 return f"{files} descriptors: {wrong}"
     enough = made.index([True] * 3)

@@ -83,7 +83,7 @@ def short(program, play, count):
     with daemon:
         before = daemon.descriptors()
         noticed, wrong = played_twice(daemon, play, INSTEAD)
-        until(lambda: not daemon.children() and daemon.descriptors() == before, f"allocation {count}: no child, and the descriptors {before}")
+        daemon.has_left(before)
         return told.exists(), noticed, wrong and f"allocation {count}, {wrong}"
 
 
