@@ -23,9 +23,10 @@ SCENARIOS = {
     "chain_of_eight": "the deepest chain", "circle_of_two": "a circle", "wildcards": "a configuration", "words_of_commands": "the words of commands",
     "payload_as_an_argument": "a payload among the words", "refused_configuration": "a configuration that is refused",
     "added_key_displaces": "a key that is displaced", "states_of_a_key": "a key in its states", "expiry": "keys that expire",
-    "revoked_while_building": "a key that is revoked while it is made", "client_goes_with_its_ring": "a client that goes", "cleared_ring": "a ring that is cleared",
-    "rings_to_join": "rings that are joined", "piped_payloads": "piped handlers", "negate_after_each_failure": "a line for negate",
-    "debug_lines": "lines for some names each", "negate_command_completes": "a line for negate that makes the key", "negate_with_a_waiter": "a line for negate, and two requesters",
+    "revoked_while_building": "a key that is revoked while it is made", "client_goes_with_its_ring": "a client that goes",
+    "cleared_ring": "a ring that is cleared", "rings_to_join": "rings that are joined", "piped_payloads": "piped handlers",
+    "negate_after_each_failure": "a line for negate", "debug_lines": "lines for some names each",
+    "negate_command_completes": "a line for negate that makes the key", "negate_with_a_waiter": "a line for negate, and two requesters",
     "faults_of_plain_handlers": "handlers with a fault", "sixty_four_clients": "a client too many", "many_asks_in_one_piece": "asks in one piece",
 }
 

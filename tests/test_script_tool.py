@@ -3,19 +3,18 @@
 
 Also looks at the scenarios of tests/replay: ten of them keep the script and the expected output byte by byte, and both are what the words say.
 """
-import pathlib
 import random
 import re
-import subprocess
 import sys
 
-top = pathlib.Path(__file__).resolve().parent.parent
+from counted import Counted
+from programs import ran, top
+from scenarios import scenarios
+
 tool = top / "tools" / "script.py"
 sys.path.insert(0, str(tool.parent))
 import messages
 import script
-from counted import Counted
-from scenarios import scenarios
 
 count = Counted()
 
@@ -260,9 +259,9 @@ def calls():
         (["write"], b"accept 1\n", 1, b"", b"script.py: line 1: "),
         (["write", "/nothing/there"], b"", 1, b"", b"script.py: "),
     ]:
-        ran = subprocess.run([tool, *words], input=given, capture_output=True)
-        got = (ran.returncode, ran.stdout if output is not None else None, errors in ran.stderr, bool(ran.stderr))
-        count.same(f"script.py {words}", got, (status, output, True, bool(errors)))
+        got, printed, said = ran(tool, *words, input=given)
+        told = (got, printed if output is not None else None, errors in said, bool(said))
+        count.same(f"script.py {words}", told, (status, output, True, bool(errors)))
 
 
 def examples():
