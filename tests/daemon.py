@@ -69,6 +69,28 @@ def ended(thread, what):
         raise GaveUp(f"{what}: not within {LIMIT} seconds")
 
 
+class Crowd:
+    """Clients side by side, of each of which a function is called with one of these; what one ends with that it should not is in `wrong`."""
+
+    def __init__(self, comes, each):
+        self.comes, self.wrong = comes, []
+        self.threads = [threading.Thread(target=self.runs, args=(it,), daemon=True) for it in each]
+        for thread in self.threads:
+            thread.start()
+
+    def runs(self, it):
+        try:
+            self.comes(it)
+        except (GaveUp, OSError) as failed:
+            self.wrong.append(repr(failed))
+
+    def ended(self):
+        """Waits until all have ended, and gives what is wrong."""
+        for thread in self.threads:
+            ended(thread, "the end of a client")
+        return self.wrong
+
+
 class Speaker:
     """Sends bodies in frames, and reads replies."""
 

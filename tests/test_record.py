@@ -1,13 +1,13 @@
 #!/usr/bin/env python3
 """Has daemons write records, and asks `reqkeyd rejoin` what they are: whole ones, and ones that were changed, cut, mixed or left out, with their sums as
 they were and with new ones."""
+import concurrent.futures
 import hashlib
 import os
 import pathlib
 import re
 import signal
 import tempfile
-import threading
 
 import protocol_peer as ask
 from daemon import Client, Daemon
@@ -236,16 +236,14 @@ def chained(program, folder):
 
 def at_once(program, folder):
     """Four clients at a time fill the volumes of one hall, so that several workers hand them out: each has the sum of the one before it."""
+    def ask_much(_):
+        with Client(daemon.path, 1000) as client:
+            for _ in range(8200):
+                client.ask(ask.default(-1))
+
     with Daemon(program, CONF, "--record", str(folder), "--clients", "4") as daemon:
-        def ask_much():
-            with Client(daemon.path, 1000) as client:
-                for _ in range(8200):
-                    client.ask(ask.default(-1))
-        threads = [threading.Thread(target=ask_much) for _ in range(4)]
-        for thread in threads:
-            thread.start()
-        for thread in threads:
-            thread.join()
+        with concurrent.futures.ThreadPoolExecutor(4) as pool:
+            list(pool.map(ask_much, range(4)))
         daemon.end()
     same(accepted(program, volumes(folder))[0].split(",")[0], "hall 0: 5 volumes")
 

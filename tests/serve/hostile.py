@@ -5,7 +5,7 @@ import select
 import threading
 
 import protocol_peer as ask
-from daemon import LIMIT, Client, Daemon, GaveUp, ended, text_of, until
+from daemon import LIMIT, Client, Crowd, Daemon, GaveUp, ended, text_of, until
 from programs import differs
 
 HELLO = ask.frame(ask.hello(1000, 1000))
@@ -121,21 +121,14 @@ def one_worker(program, count):
         replies = {}
 
         def comes(at):
-            try:
-                with Client(daemon.path) as client:
-                    client.put(HELLO + ask.frame(ask.add(b"user", b"k%d" % at, b"v", -3)))
-                    replies[at] = client.ends()
-            except (GaveUp, OSError) as failed:
-                replies[at] = repr(failed)
+            with Client(daemon.path) as client:
+                client.put(HELLO + ask.frame(ask.add(b"user", b"k%d" % at, b"v", -3)))
+                replies[at] = client.ends()
 
-        threads = [threading.Thread(target=comes, args=(at,), daemon=True) for at in range(count)]
-        for thread in threads:
-            thread.start()
+        crowd = Crowd(comes, range(count))
         alone = first.ask(*[ask.on_key(7, 8)] * 50), dict(replies)
         first.socket.close()
-        for thread in threads:
-            ended(thread, "the end of a client")
-        wrong = [it for it in replies.values() if len(it) != 2 or not isinstance(it[0], tuple) or not isinstance(it[1], int)]
+        wrong = crowd.ended() + [it for it in replies.values() if len(it) != 2 or not isinstance(it[0], tuple) or not isinstance(it[1], int)]
         return differs((set(alone[0]), alone[1], len(replies), wrong[:2]), ({"E126"}, {}, count, [])) or daemon.lives()
 
 
@@ -199,24 +192,16 @@ def crowd(program):
         with daemon.client() as client:
             client.ask(ask.request(b"user", b"a", b"x", -4))
         before = daemon.settled()
-        wrong = []
 
         def comes(dice):
-            try:
-                for _ in range(4):
-                    with Client(daemon.path, 1000 + dice.randrange(4)) as client:
-                        bodies = [body_of(dice) for _ in range(dice.randrange(20))]
-                        client.send(*bodies)
-                        if dice.random() < 0.7 and len(replies := client.ends()) != len(bodies):
-                            wrong.append(f"{len(replies)} replies to {len(bodies)}")
-            except (GaveUp, OSError) as failed:
-                wrong.append(repr(failed))
+            for _ in range(4):
+                with Client(daemon.path, 1000 + dice.randrange(4)) as client:
+                    bodies = [body_of(dice) for _ in range(dice.randrange(20))]
+                    client.send(*bodies)
+                    if dice.random() < 0.7 and len(replies := client.ends()) != len(bodies):
+                        raise GaveUp(f"{len(replies)} replies to {len(bodies)}")
 
-        threads = [threading.Thread(target=comes, args=(random.Random(seed),), daemon=True) for seed in range(48)]
-        for thread in threads:
-            thread.start()
-        for thread in threads:
-            ended(thread, "the end of a client")
+        wrong = Crowd(comes, map(random.Random, range(48))).ended()
         daemon.has_left(before)
         return differs(wrong[:3], []) or daemon.lives()
 
