@@ -154,14 +154,31 @@ def ratio(values):
     return f"{values[RATTLE] / values[C]:.2f}" if len(values) == 2 else "-"
 
 
-def players():
-    """What plays a script: the project's program, if it is there, and its peer."""
-    programs = {C: [peer("replay"), "replay"]}
+def with_ours(found, make):
+    """These and the project's program, if it is there."""
     try:
-        programs[RATTLE] = [built("reqkeyd"), "replay"]
+        found[RATTLE] = make()
     except Wrong as wrong:
         print(f"{wrong}; only C is measured\n")
-    return programs
+    return found
+
+
+def both(name, ours, more):
+    """The words of the peer, and those of the project's program."""
+    return with_ours({C: [peer(name), *more]}, lambda: [built(ours), *more])
+
+
+def players():
+    """What plays a script."""
+    return both("replay", "reqkeyd", ["replay"])
+
+
+def printed(words):
+    """The lines that a program prints."""
+    ran = subprocess.run([str(word) for word in words], stdout=subprocess.PIPE, text=True)
+    if ran.returncode:
+        raise Wrong(f"{words[0]}: status {ran.returncode}")
+    return ran.stdout.splitlines()
 
 
 def replay(options):
@@ -201,10 +218,7 @@ def steps_of(words, runs):
     """By step and by what is in the book, the least time."""
     found = {}
     for _ in range(runs):
-        ran = subprocess.run([str(word) for word in words], stdout=subprocess.PIPE, text=True)
-        if ran.returncode:
-            raise Wrong(f"{words[0]}: status {ran.returncode}")
-        for line in ran.stdout.splitlines():
+        for line in printed(words):
             told = STEP.fullmatch(line)
             if not told:
                 raise Wrong(f"{words[0]} says {line!r}")
@@ -219,33 +233,35 @@ SIZES = ["200", "10000", "200000"]
 OTHERS = [0, 49, 999]  # users beside the one that asks, by the sizes above
 
 
-def played(options):
-    """By step and by what is there, the time of a line less that of one that is refused at once."""
+def by_step(count, take):
+    """By program, by step and by what is there: what so many lines take, which `take` says of programs and of what a load sets up and measures, less what
+    lines take that are refused at once."""
     programs, found = players(), {}
     for others, size in zip(OTHERS, SIZES):
-        by_load = {}
-        for name, load in [("", loads.refusals), *loads.STEPS]:
-            before, after = load(options.lines, others)
-            took = measure(programs, loads.text(before), loads.text(before, after), options.runs)
-            by_load[name] = {who: time / len(after) * 1e9 for who, (time, _, _) in took.items()}
+        by_load = {name: take(programs, *load(count, others)) for name, load in [("", loads.refusals), *loads.STEPS]}
         for who in programs:
             for name, _ in loads.STEPS:
                 found.setdefault(who, {}).setdefault(name, {})[size] = by_load[name][who] - by_load[""][who]
     return found
+
+
+def played(options):
+    """By step, the nanoseconds of a line."""
+
+    def take(programs, before, after):
+        took = measure(programs, loads.text(before), loads.text(before, after), options.runs)
+        return {who: time / len(after) * 1e9 for who, (time, _, _) in took.items()}
+
+    return by_step(options.lines, take)
 
 
 def stepped(options):
-    """By step and by what is there, the instructions of a line less those of one that is refused at once: what is set up is the same."""
-    programs, found = players(), {}
-    for others, size in zip(OTHERS, SIZES):
-        by_load = {}
-        for name, load in [("", loads.refusals), *loads.STEPS]:
-            script = loads.text(*load(options.instructions, others))
-            by_load[name] = {who: instructions(words, script) / options.instructions for who, words in programs.items()}
-        for who in programs:
-            for name, _ in loads.STEPS:
-                found.setdefault(who, {}).setdefault(name, {})[size] = by_load[name][who] - by_load[""][who]
-    return found
+    """By step, the instructions of a line: what is set up is the same."""
+
+    def take(programs, *parts):
+        return {who: instructions(words, loads.text(*parts)) / options.instructions for who, words in programs.items()}
+
+    return by_step(options.instructions, take)
 
 
 def steps(options):
@@ -330,10 +346,7 @@ def rates(programs, runs):
     found = {}
     for _ in range(runs):
         for who, words in programs.items():
-            ran = subprocess.run([str(word) for word in words], stdout=subprocess.PIPE, text=True)
-            if ran.returncode:
-                raise Wrong(f"{words[0]}: status {ran.returncode}")
-            for line in ran.stdout.splitlines():
+            for line in printed(words):
                 told = RATE.fullmatch(line)
                 best = found.setdefault(told["of"], {})
                 best[who] = max(best.get(who, (0, "")), (int(told["rate"]), told["more"]))
@@ -345,16 +358,6 @@ def tell_rates(found, unit):
     for of, best in found.items():
         counts = {who: rate for who, (rate, _) in best.items()}
         row([of, *pair(counts, "{:,}"), ratio(counts)])
-
-
-def both(name, ours, more):
-    """The peer, and the project's program where it is built."""
-    programs = {C: [peer(name), *more]}
-    try:
-        programs[RATTLE] = [built(ours), *more]
-    except Wrong as wrong:
-        print(f"{wrong}; only C is measured\n")
-    return programs
 
 
 def hall(options):
@@ -397,12 +400,7 @@ def daemon(folder, name, *before):
 
 def servers(folder):
     """Both servers, or the peer alone."""
-    found = {C: Server([peer("echo"), folder / "echo", 64], folder / "echo")}
-    try:
-        found[RATTLE] = daemon(folder, "reqkeyd")
-    except Wrong as wrong:
-        print(f"{wrong}; only C is measured\n")
-    return found
+    return with_ours({C: Server([peer("echo"), folder / "echo", 64], folder / "echo")}, lambda: daemon(folder, "reqkeyd"))
 
 
 def serve(options):

@@ -1,4 +1,4 @@
-"""The count of what passed, for test programs that try no built program."""
+"""The count of what passed."""
 import sys
 
 
@@ -8,11 +8,15 @@ class Counted:
 
     def same(self, name, got, want):
         """Counts whether this is what it has to be, and tells it where it is not."""
-        if got == want:
+        self.wrong(name, None if got == want else f"{shown(got)}\n    and not {shown(want)}")
+
+    def wrong(self, name, wrong):
+        """Counts whether nothing is wrong, and tells what is."""
+        if wrong is None:
             self.passed += 1
         else:
             self.failed += 1
-            print(f"{name}: {shown(got)}\n    and not {shown(want)}")
+            print(f"{name}: {wrong}")
 
     def end(self):
         """Prints the count, and ends."""

@@ -20,7 +20,7 @@ import threading
 import time
 
 import protocol_peer as ask
-from programs import LIMIT, client_of
+from programs import LIMIT, client_of, ran
 
 PUPPET = pathlib.Path(__file__).resolve().parent / "serve" / "puppet.py"
 
@@ -67,6 +67,28 @@ def ended(thread, what):
     thread.join(LIMIT)
     if thread.is_alive():
         raise GaveUp(f"{what}: not within {LIMIT} seconds")
+
+
+class Crowd:
+    """Clients side by side, of each of which a function is called with one of these; what one ends with that it should not is in `wrong`."""
+
+    def __init__(self, comes, each):
+        self.comes, self.wrong = comes, []
+        self.threads = [threading.Thread(target=self.runs, args=(it,), daemon=True) for it in each]
+        for thread in self.threads:
+            thread.start()
+
+    def runs(self, it):
+        try:
+            self.comes(it)
+        except (GaveUp, OSError) as failed:
+            self.wrong.append(repr(failed))
+
+    def ended(self):
+        """Waits until all have ended, and gives what is wrong."""
+        for thread in self.threads:
+            ended(thread, "the end of a client")
+        return self.wrong
 
 
 class Speaker:
@@ -158,6 +180,10 @@ class Handler(Speaker):
         """The key that it makes, where its first word is %k."""
         return int(self.words[0])
 
+    def completes(self, payload=b"made"):
+        """Assumes the authority over its key, and gives it this payload; the replies."""
+        return self.ask(ask.on_key(3, self.key)), self.ask(ask.instantiate(self.key, payload, 0))
+
     def put(self, data):
         while data:
             data = data[os.write(self.output, data) :]
@@ -205,12 +231,12 @@ class Daemon:
     """`reqkeyd serve` in a folder of its own, with its configuration.
 
     `%room` in the configuration is the folder, `%puppet` the words of a handler that the test plays (`handler` gives it) and `%ctl` reqkeyctl. It has
-    these options besides, and is killed at the end if it still runs. Its standard error is read as it comes.
+    these options besides, and is killed at the end if it still runs. Its standard error is read as it comes. With `starts=False` the test starts it.
     """
 
-    def __init__(self, program, conf="", *options, files=None, mask=None, longest=None, ignored=None, closed=(), ready=True, environment=None, input=subprocess.DEVNULL):
-        self.program, self.options, self.ready = program, options, ready
-        self.client_program = client_of(program)
+    def __init__(self, program, conf="", *options, files=None, mask=None, longest=None, ignored=None, closed=(), starts=True, ready=True, environment=None,
+                 input=subprocess.DEVNULL):
+        self.program, self.options, self.starts, self.ready = program, options, starts, ready
         self.files, self.mask, self.longest, self.ignored, self.closed, self.environment = files, mask, longest, ignored, closed, environment
         self.conf_text, self.input = conf, input
         self.folder = tempfile.TemporaryDirectory(prefix="serve-")
@@ -225,15 +251,21 @@ class Daemon:
         self.puppets.settimeout(LIMIT)
         self.conf.write_text(self.filled(self.conf_text))
         try:
-            self.start()
+            if self.starts:
+                self.start()
         except GaveUp:
             self.__exit__()
             raise
         return self
 
+    @property
+    def client_program(self):
+        return client_of(self.program)
+
     def filled(self, text):
         puppet = f"{sys.executable} -I -S {PUPPET} {self.room}/puppets"
-        return text.replace("%puppet", puppet).replace("%room", str(self.room)).replace("%ctl", str(self.client_program))
+        text = text.replace("%puppet", puppet).replace("%room", str(self.room))
+        return text.replace("%ctl", str(self.client_program)) if "%ctl" in text else text
 
     def script(self, name, text):
         """A program of the folder, which a line of the configuration may name."""
@@ -259,6 +291,8 @@ class Daemon:
 
     def start(self):
         """Starts it, also once more after its end."""
+        if self.process is not None:
+            self.let_go()
         words = [self.program, "serve", "--socket", self.path, "--conf", self.conf, *self.options]
         environment = {**os.environ, **self.environment} if self.environment else None
         streams = {"stdin": self.input, "stdout": subprocess.PIPE, "stderr": subprocess.PIPE}
@@ -279,17 +313,14 @@ class Daemon:
     def __exit__(self, *_):
         for client in self.clients:
             client.socket.close()
-        if self.process.poll() is None:
-            handlers = self.children()
-            self.process.kill()
+        if self.process is not None:
+            handlers = self.children() if self.process.poll() is None else []
+            self.kill()
             for handler in handlers:
                 with contextlib.suppress(ProcessLookupError):
                     os.kill(handler, signal.SIGKILL)
-        self.process.wait()
+            self.let_go()
         self.puppets.close()
-        self.reader.join(LIMIT)
-        self.process.stdout.close()
-        self.process.stderr.close()
         self.folder.cleanup()
 
     def end(self):
@@ -297,6 +328,27 @@ class Daemon:
         status = self.process.wait(LIMIT)
         ended(self.reader, "the end of what it says")
         return status, [line for line in self.lines if line != "reqkeyd: ready"]
+
+    def kill(self):
+        """Kills it, and gives its status. It can be started again, when its handlers have ended, too."""
+        self.process.kill()
+        return self.process.wait()
+
+    def let_go(self):
+        """Closes what is left of it when it has ended."""
+        self.reader.join(LIMIT)
+        self.process.stdout.close()
+        self.process.stderr.close()
+
+    def release(self):
+        """Lets the handlers end that wait at the pipe `fifo` of its folder."""
+        def none_is_left():
+            try:
+                os.close(os.open(self.room / "fifo", os.O_WRONLY | os.O_NONBLOCK))
+            except OSError:
+                return True
+            return False
+        until(none_is_left, "the end of the handlers that wait")
 
     def client(self, uid=1000, join=0, flags=0):
         """A client that has said HELLO for this uid, or nothing for None; it is closed at the end."""
@@ -311,8 +363,7 @@ class Daemon:
 
     def control(self, *words, input=b""):
         """A run of reqkeyctl at the socket: status, standard output and standard error."""
-        ran = subprocess.run([self.client_program, "--socket", self.path, *words], input=input, capture_output=True, timeout=LIMIT)
-        return ran.returncode, ran.stdout, ran.stderr
+        return ran(self.client_program, "--socket", self.path, *words, input=input)
 
     def accepts(self):
         """Whether one can connect."""
@@ -335,6 +386,14 @@ class Daemon:
                 pass
         return collections.Counter(kinds)
 
+    def settled(self, sockets=1):
+        """Its descriptors, when so many of them are sockets."""
+        return until(lambda: (now := self.descriptors())["socket"] == sockets and now, f"{sockets} sockets")
+
+    def has_left(self, before):
+        """Waits until its descriptors are those of before, and all its children have ended."""
+        until(lambda: not self.children() and self.descriptors() == before, f"no child, and the descriptors {before}, and not {self.descriptors()}")
+
     def is_stopped(self):
         """Whether a signal has stopped all its threads."""
         tasks = pathlib.Path(f"/proc/{self.process.pid}/task").glob("*/stat")
@@ -351,6 +410,12 @@ class Daemon:
             if int(parent) == self.process.pid:
                 found[int(path.parent.name)] = state
         return found
+
+    def serves_one(self):
+        """The rings of a client, and the end that the daemon comes to behind it."""
+        with self.client() as client:
+            rings = client.rings
+        return rings, self.end()
 
     def lives(self):
         """None where it runs and answers a new client, else what is wrong."""

@@ -1,10 +1,13 @@
 """The library of clients/keyutils/, and keyutils' programs on a daemon by it."""
 import os
+import pathlib
+import re
 import shutil
 import subprocess
+import tempfile
 
-from programs import LIMIT, top
-from sanitizers import SANITIZED, sanitizes
+from compiled import made_twice
+from programs import LIMIT, lacks, ran, there
 
 UID = os.geteuid()
 ENVIRONMENT = {"ASAN_OPTIONS": "detect_leaks=0"}  # programs that end don't give all their memory back
@@ -23,14 +26,9 @@ def install():
 
 def available():
     """Whether there are a compiler and keyutils, or keyutils could be installed."""
-    if not shutil.which("gcc") or not shutil.which("make"):
-        print("clients/keyutils: not tried, there is no gcc and make")
-        return False
     if not shutil.which("keyctl") and shutil.which("apt-get") and UID == 0:
         install()
-    if not shutil.which("keyctl"):
-        print("clients/keyutils: not tried, there is no keyutils")
-    return bool(shutil.which("keyctl"))
+    return not lacks("clients/keyutils", "gcc", "make", "keyctl")
 
 
 class Programs:
@@ -49,24 +47,28 @@ class Programs:
     def run(self, *words, **changes):
         """The status, output and errors of a program."""
         environment = {name: value for name, value in {**self.environment, **changes}.items() if value is not None}
-        ran = subprocess.run(words, input=b"piped", capture_output=True, timeout=LIMIT, env=environment)
-        return ran.returncode, ran.stdout.decode(), ran.stderr.decode()
+        return ran(*words, input="piped", text=True, env=environment)
 
 
-def built(count, room, name, *flags):
-    """The library, or what was said where it could not be built."""
-    (room / name).mkdir()
-    words = ["make", "-s", "-C", top / "clients" / "keyutils", f"OUT={room / name}", f"WARNINGS=-Wall -Wextra -Werror {' '.join(flags)}"]
-    made = subprocess.run(words, capture_output=True, text=True, timeout=LIMIT)
-    count.same(f"clients/keyutils is built {' '.join(flags)}", (made.returncode, made.stderr), (0, ""))
-    return room / name / "libkeyutils.so.1" if made.returncode == 0 else None
+def everywhere(count):
+    """Each daemon with the library as it is installed, and with one that ends at a wrong access to memory; and what has to be loaded before that."""
+    if available():
+        with tempfile.TemporaryDirectory(prefix="keyutils-") as folder:
+            checked = ran("gcc", "-print-file-name=libasan.so", text=True)[1].strip()
+            libraries = [it for it in zip(made_twice(count, "keyutils", pathlib.Path(folder)), [[], [checked]]) if it[0] is not None]
+            for program in there(count):
+                for library, before in libraries:
+                    yield program, library, before
 
 
-def libraries(count, room):
-    """The library as it is installed, and one that ends at a wrong access to memory, with what has to be loaded before each."""
-    yield built(count, room, "plain"), []
-    if sanitizes(room):
-        path = subprocess.run(["gcc", "-print-file-name=libasan.so"], capture_output=True, text=True, timeout=LIMIT).stdout.strip()
-        yield built(count, room, "sanitized", *SANITIZED), [path]
-    else:
-        print("clients/keyutils: not tried with gcc's sanitizers, which are not here")
+def resolves(count, way, run):
+    """key.dns_resolver for a name of /etc/hosts, and whether that could be tried."""
+    hosts = re.findall(r"^(\d+\.\d+\.\d+\.\d+)\s+(\S+)", pathlib.Path("/etc/hosts").read_text(), re.MULTILINE)
+    if not hosts or not shutil.which("key.dns_resolver", path="/sbin:/usr/sbin"):
+        print("key.dns_resolver: not tried, there is no name in /etc/hosts, or no such program")
+        return False
+    address, name = hosts[0]
+    status, key, errors = run("keyctl", "request2", "dns_resolver", name, "ipv4", "@s")
+    count.same(f"key.dns_resolver by {way}", (status, errors), (0, ""))
+    count.same(f"key.dns_resolver by {way}: the address", run("keyctl", "pipe", key.strip()), (0, f"{address}\0", ""))
+    return True

@@ -82,6 +82,11 @@ def add(typ, description, payload, ring):
 CALLOUT = b"\x10"
 
 
+def answering(*bodies, split=False):
+    """A daemon that answers by these bodies, of which None closes."""
+    return Daemon([body and frame(body) for body in bodies], split)
+
+
 class Daemon:
     """A socket that serves one client: for each frame that it gets it sends the next of these bytes, and after the last one it sends no more.
 

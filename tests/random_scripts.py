@@ -7,14 +7,11 @@ Plays the scripts of so many seeds through both programs, called as PROGRAM repl
 differ. A script is made a few lines at a time: what has come of it so far, by PROGRAM, says which handlers and keys there are.
 """
 import collections
-import pathlib
 import random
-import subprocess
 import sys
 
-from programs import LIMIT
+from programs import ran, top
 
-top = pathlib.Path(__file__).resolve().parent.parent
 sys.path.insert(0, str(top / "tools"))
 from messages import bodies, frame, write_ask
 
@@ -247,8 +244,9 @@ def crowd(dice):
 
 
 def played(program, script):
-    ran = subprocess.run([program, "replay"], input=script, capture_output=True, timeout=LIMIT)
-    return ran.stdout, ran.returncode
+    """What a program outputs for a script, and its status."""
+    status, output, _ = ran(program, "replay", input=script)
+    return output, status
 
 
 def script_of(seed, program):

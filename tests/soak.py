@@ -25,7 +25,7 @@ import zlib
 
 sys.path.insert(0, str(pathlib.Path(__file__).resolve().parent))
 import protocol_peer as ask
-from daemon import LIMIT, Client, Daemon, GaveUp, told, until
+from daemon import LIMIT, Client, Daemon, GaveUp, told
 from programs import PROGRAMS
 
 SESSIONS = 64
@@ -58,9 +58,13 @@ ALLOWED = {
     13: ((), {0}), 14: (int, {"E22"}), 15: (int, {"E122"}), 255: ((), {"E22"}),
 }
 
-# what the daemon may say, whole lines: that it is ready, a volume that is not kept, clients that have vanished, handlers that failed, and a client that has come before a worker knew that another one had gone
-FAILED = r"session [1-9][0-9]*: (ReadFault|WriteFault)|handler of key [1-9][0-9]* [^:]*\(.*\): (exit status [1-9][0-9]*|killed by a signal|start failed: .*|no memory for its start|its output could not be read|the system does not say how it ended)"
-WARNED = rf"\S+Z warn: ({FAILED}|all {SESSIONS} workers are busy, connections wait|handler of key [0-9]+ \([^)]*\) has run for [0-9]+ seconds|[a-z ]+: and [0-9]+ more)"
+# what the daemon may say, whole lines: that it is ready, a volume that is not kept, clients that have vanished, handlers that failed, and a client that has
+# come before a worker knew that another one had gone
+HOW = (r"exit status [1-9][0-9]*|killed by a signal|start failed: .*|no memory for its start|its output could not be read|"
+       r"the system does not say how it ended")
+FAILED = rf"session [1-9][0-9]*: (ReadFault|WriteFault)|handler of key [1-9][0-9]* [^:]*\(.*\): ({HOW})"
+SLOW = r"handler of key [0-9]+ \([^)]*\) has run for [0-9]+ seconds"
+WARNED = rf"\S+Z warn: ({FAILED}|all {SESSIONS} workers are busy, connections wait|{SLOW}|[a-z ]+: and [0-9]+ more)"
 TOLD = re.compile(rf"reqkeyd: ready|volume [0-3] [1-9][0-9]* [1-9][0-9]*|{WARNED}")
 
 
@@ -190,12 +194,6 @@ def memory_of(daemon):
     return int(pathlib.Path(f"/proc/{daemon.process.pid}/statm").read_text().split()[1]) * os.sysconf("SC_PAGE_SIZE")
 
 
-def left(daemon, before):
-    """What is left of the clients and handlers, when all have gone."""
-    until(lambda: not daemon.children(), "the end of all children")
-    until(lambda: daemon.descriptors() == before, f"the descriptors {before}, and not {daemon.descriptors()}")
-
-
 def steps(volume):
     """The steps of a volume as docs/RECORD.md has them: the rows of each one's event and answer, a kind, a how, a number and the rest."""
     data, at = volume.read_bytes()[66:-32], 46  # (without its seal and its sum)
@@ -258,7 +256,7 @@ def soak(program, minutes, seed, record):
         os.mkfifo(daemon.room / "gate")
         with daemon.client() as client:
             client.ask(ask.request(b"user", b"pipe:first", b"x", -4))
-        before = until(lambda: (now := daemon.descriptors()) and now["socket"] == 1 and now, "one socket")
+        before = daemon.settled()
         # (one was made before, and one more sees whether the daemon lives)
         all_of_it, stop = Soak(daemon, seed, count - 2), threading.Event()
         all_of_it.end = time.monotonic() + 60 * minutes
@@ -272,7 +270,7 @@ def soak(program, minutes, seed, record):
             thread.join(60 * minutes + LIMIT)  # those that wait are counted below
         wrong = all_of_it.wrong + [f"{sum(thread.is_alive() for thread in clients)} clients wait"] * any(thread.is_alive() for thread in clients)
         try:
-            left(daemon, before)
+            daemon.has_left(before)
         except GaveUp as failed:
             wrong.append(str(failed))
         stop.set()

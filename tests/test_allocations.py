@@ -9,13 +9,10 @@ A full ring that takes 100,000 links is tried the other way round: there is no a
 import itertools
 import pathlib
 import re
-import subprocess
-import sys
 import tempfile
 
-sys.path.insert(0, str(pathlib.Path(__file__).resolve().parent / "serve"))
-from programs import LIMIT, check_all, top
-from scenes import library
+from compiled import library
+from programs import check_all, ran, top
 
 OTHERS = [
     "values::conf::wants_nothing_but_memory",
@@ -29,8 +26,7 @@ LINKS, ENOUGH = "state::rings::a_full_ring_takes_new_names_for_good", 100
 
 def tests_of(program):
     """The names of its tests."""
-    listed = subprocess.run([program, "--list"], stdin=subprocess.DEVNULL, stdout=subprocess.PIPE, text=True, check=True, timeout=LIMIT).stdout
-    return re.findall(r"^([a-z0-9_:]+): test$", listed, re.M)
+    return re.findall(r"^([a-z0-9_:]+): test$", ran(program, "--list", text=True, check=True)[1], re.M)
 
 
 refusing = library("refusing_malloc")
@@ -40,10 +36,8 @@ def refused(program, test, allocation):
     """Whether an allocation of this number was asked for and refused, and what the run says went wrong, or None."""
     with tempfile.TemporaryDirectory() as folder:
         told = pathlib.Path(folder) / "told"
-        environment = {"LD_PRELOAD": refusing, "REFUSED": str(allocation), "TOLD": str(told)}
-        ran = subprocess.run([program, test], env=environment, stdin=subprocess.DEVNULL, stdout=subprocess.PIPE, stderr=subprocess.PIPE, timeout=LIMIT)
-        said = (ran.stderr or ran.stdout)[-300:]
-        return told.exists(), f"allocation {allocation}: status {ran.returncode} {said}" if ran.returncode else None
+        status, output, errors = ran(program, test, env={"LD_PRELOAD": refusing, "REFUSED": str(allocation), "TOLD": str(told)})
+        return told.exists(), f"allocation {allocation}: status {status} {(errors or output)[-300:]}" if status else None
 
 
 def wrong_growths(program, test):
@@ -67,4 +61,4 @@ def wrong_links(program, test):
 program = top / "crates" / "rk_tests" / "out" / "rk_tests_tests"
 names = [it for it in (tests_of(program) if program.exists() else []) if "::growths_of_" in it]
 cases = [(it, wrong_growths, it) for it in [*names, *OTHERS]] + [(LINKS, wrong_links, LINKS)]
-check_all(cases, lambda program, fault, test: fault(program, test), [program])
+check_all(cases, [program])

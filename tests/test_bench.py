@@ -6,30 +6,18 @@ scripts. Nothing is measured here.
 """
 import contextlib
 import pathlib
-import shutil
 import socket
 import subprocess
-import sys
 import tempfile
 import threading
 
-from programs import LIMIT, PROGRAMS, top
+from counted import Counted
+from programs import lacks, ran, there, top
 from random_scripts import played, script_of
 from scenarios import scenarios
 
 SEEDS = range(100)
-
-bench = top / "bench"
-passed = failed = 0
-
-
-def tell(right, wrong):
-    global passed, failed
-    passed += right
-    failed += not right
-    if not right:
-        print(wrong)
-
+count = Counted()
 
 # A short run of each of the others; they end with a fault where an answer is not the one that is due.
 RUNS = [
@@ -48,7 +36,7 @@ def load_is_answered(folder):
     server.stderr.readline()
     try:
         loads = [folder / "load", path, "8", "80"], [folder / "load", path, "8", "800", "together"]
-        return all(subprocess.run(words, capture_output=True, timeout=LIMIT).returncode == 0 for words in loads)
+        return all(ran(*words)[0] == 0 for words in loads)
     finally:
         server.kill()
         server.communicate()
@@ -69,7 +57,7 @@ def status_with(folder, way, *replies):
 
     threading.Thread(target=answer, daemon=True).start()
     with listener:
-        return subprocess.run([folder / "load", path, "1", "20", way], capture_output=True, timeout=LIMIT).returncode
+        return ran(folder / "load", path, "1", "20", way)[0]
 
 
 # A further service, what it answers, and the status of its load.
@@ -80,33 +68,25 @@ SERVICES = [
     ("agent", 1, (b"\x0b", b"\0\0\0\x01\x05")),
 ]
 
-if not shutil.which("gcc") or not shutil.which("make"):
-    print("bench/c: not tried, there is no gcc and make")
-    print("0 passed, 0 failed")
-    sys.exit(0)
-
-with tempfile.TemporaryDirectory() as folder:
-    made = subprocess.run(["make", "-C", bench, f"OUT={folder}", "WARNINGS=-Wall -Wextra -Werror"], capture_output=True, text=True)
-    tell(made.returncode == 0, made.stderr)
-    folder = pathlib.Path(folder)
+if lacks("bench/c", "gcc", "make"):
+    count.end()
+with tempfile.TemporaryDirectory() as name:
+    folder = pathlib.Path(name)
+    status, _, errors = ran("make", "-C", top / "bench", f"OUT={folder}", "WARNINGS=-Wall -Wextra -Werror", text=True)
+    count.same("bench/c is built", (status, errors), (0, ""))
     replay = folder / "replay"
-    if made.returncode == 0:
+    if status == 0:
         for program, *words in RUNS:
-            ran = subprocess.run([folder / program, *words], capture_output=True, timeout=LIMIT)
-            tell(ran.returncode == 0, f"bench/c/{program}: status {ran.returncode}: {ran.stderr.decode(errors='replace')}")
-        tell(load_is_answered(folder), "bench/c/load: it fails")
+            count.same(f"the status of bench/c/{program}", ran(folder / program, *words)[0], 0)
+        count.same("bench/c/load is answered", load_is_answered(folder), True)
         for way, wanted, *replies in SERVICES:
-            status = status_with(folder, way, *replies)
-            tell(status == wanted, f"bench/c/load, {way}: status {status}, not {wanted}")
+            count.same(f"the status of bench/c/load, {way}", status_with(folder, way, *replies), wanted)
         for case in scenarios():
-            tell(played(replay, case.script) == (case.expected, case.status), f"bench/c/replay {case.name}: it is played otherwise")
-        there = [program for program in PROGRAMS if program.exists()]
-        for program in PROGRAMS:
-            tell(program in there, f"{program} is not built")
+            count.same(f"bench/c/replay {case.name}", played(replay, case.script), (case.expected, case.status))
+        programs = list(there(count))
         for seed in SEEDS:
             script = script_of(seed, replay)
             wanted = played(replay, script)
-            for program in there:
-                tell(played(program, script) == wanted, f"{program.name}: the script of the seed {seed} is played otherwise (tests/random_scripts.py)")
-print(f"{passed} passed, {failed} failed")
-sys.exit(1 if failed else 0)
+            for program in programs:
+                count.same(f"{program.name}: the script of the seed {seed} (tests/random_scripts.py)", played(program, script), wanted)
+count.end()

@@ -8,10 +8,15 @@ import os
 import pathlib
 import shutil
 import subprocess
+import sys
 import tempfile
 
 import protocol_peer as peer
-from programs import LIMIT, built, check_all, differs, version
+from compiled import library
+from programs import built, check_all, differs, lacks, ran, top, version
+
+sys.path.insert(0, str(top / "tools"))
+from messages import ERRNOS
 
 # what a subcommand is called with, and the body of its ask
 GOOD = [
@@ -62,11 +67,13 @@ BAD = [
     ["--uid", "+1", "read", "3"], ["--uid", "-1", "read", "3"], ["--uid", "4294967296", "read", "3"], ["--uid", "", "read", "3"], ["--uid", "read", "3"],
     ["--gid", "x", "read", "3"], ["--join", "2147483648", "read", "3"], ["--uid", "1", "--uid", "1", "read", "3"], ["--raw", "--raw", "read", "3"],
     ["--raw=1", "read", "3"], ["--raw=", "read", "3"], ["--uid=", "read", "3"], ["--socket", "a", "--socket=b", "read", "3"], ["--socket"],
-    ["--socket", "s"], ["--uid=1"], ["--payload-from", "f", "read", "3"], ["--callout-from", "f", "instantiate", "3", "none"], ["--payload-from", "-", "instantiate", "3", "none"],
-    ["--callout-from", "-", "request", "user", "a", "none"], ["--payload-from", "f", "instantiate", "3", "v", "none"],
+    ["--socket", "s"], ["--uid=1"], ["--payload-from", "f", "read", "3"], ["--callout-from", "f", "instantiate", "3", "none"],
+    ["--payload-from", "-", "instantiate", "3", "none"], ["--callout-from", "-", "request", "user", "a", "none"],
+    ["--payload-from", "f", "instantiate", "3", "v", "none"],
     ["--payload-from", "f", "instantiate", "none"], ["--payload-from", "f", "instantiate", "x", "none"],
     ["--callout-from", "f", "request", "user", "a", "none", "c"], ["--callout-from", "f", "request", "user", "a"],
-    ["--callout-from", "f", "--payload-from", "f", "request", "user", "a", "none"], ["--payload-from", "f", "hello"], [b"\xff"], ["add", "user", b"\xff", "v", "1"],
+    ["--callout-from", "f", "--payload-from", "f", "request", "user", "a", "none"], ["--payload-from", "f", "hello"], [b"\xff"],
+    ["add", "user", b"\xff", "v", "1"],
 ]
 
 # a reply, what is printed of it, and under --raw
@@ -81,11 +88,6 @@ REPLIES = [
     (peer.data(b"p" * 32767), b"p" * 32767 + b"\n", b"p" * 32767),
     (peer.data(bytes(65533)), bytes(65533) + b"\n", bytes(65533)),
 ]
-
-ERRNOS = {
-    1: "EPERM", 2: "ENOENT", 12: "ENOMEM", 13: "EACCES", 16: "EBUSY", 22: "EINVAL", 35: "EDEADLK", 122: "EDQUOT", 126: "ENOKEY", 127: "EKEYEXPIRED",
-    128: "EKEYREVOKED", 129: "EKEYREJECTED",
-}
 
 # bytes that begin with no reply
 MALFORMED = {
@@ -107,6 +109,7 @@ MALFORMED = {
 # bytes that end before a reply does
 CUT = {f"{cut} bytes of {len(whole)}": whole[:cut] for whole in [peer.frame(peer.data(b"hi"))] for cut in range(len(whole))}
 
+RINGS, SEVEN = peer.rings(0, 0, 1, 2), peer.number(7)
 SOCKET, FILE, OUTPUT = b"reqkeyctl: socket\n", b"reqkeyctl: file\n", b"reqkeyctl: output\n"
 
 GONE, NO_REPLY = "the peer is gone", "the peer sent no reply"
@@ -149,59 +152,52 @@ SAID = [
     (["run"], "the following required arguments were not provided:"),
     (["run", "--nothing", "--", "true"], "unexpected argument '--nothing' found"),
     (["run", "--uid", "+1", "--", "true"], "invalid value '+1' for '--uid <N>': a number has digits alone"),
-    (["run", "--library", "rel", "--", "true"], "invalid value 'rel' for '--library <FILE>': it has to be an absolute path, without a space or a colon"),
-    (["run", "--library", "/a b", "--", "true"], "invalid value '/a b' for '--library <FILE>': it has to be an absolute path, without a space or a colon"),
+    *[(["run", "--library", path, "--", "true"], f"invalid value '{path}' for '--library <FILE>': it has to be an absolute path, without a space or a colon")
+      for path in ["rel", "/a b"]],
     *[(["run", "--trap", option, value, "--", "true"], f"the argument '--trap' cannot be used with '{option} <{name}>'") for option, value, name in
       [("--library", "/l", "FILE"), ("--uid", "1", "N"), ("--gid", "1", "N")]],
     (["run", "--trap=", "--", "true"], "unexpected value '' for '--trap' found; no more were expected"),
+    *[([*before, option, f"{most + 1}", *behind], f"invalid value '{most + 1}' for '{option} <N>': {most + 1} is not in 0..={most}")
+      for before, behind, options in [([], ["read", "3"], ["--uid", "--gid", "--join"]), (["run"], ["--", "true"], ["--uid", "--gid"])]
+      for option, most in [(it, 2147483647 if it == "--join" else 4294967295) for it in options]],
 ]
 
 
-def ran(program, words, stdin=b"", **more):
-    done = subprocess.run([program, *words], input=stdin, stdout=subprocess.PIPE, stderr=subprocess.PIPE, timeout=LIMIT, **more)
-    return done.returncode, done.stdout, done.stderr
+def ran_over(program, given, *words):
+    """A run whose input is a pipe with these bytes: what came of it, and the bytes that it has left there."""
+    read, write = os.pipe()
+    with open(read, "rb", buffering=0) as left, open(write, "wb", buffering=0) as pipe:
+        pipe.write(given)
+        got = ran(program, *words, stdin=left)
+        pipe.close()
+        return *got, left.read()
 
 
 def asks(program, words, ask, options=(), greeting=peer.hello()):
     """Over the socket: the frames are those of HELLO and the ask, and nothing else, and the reply is printed."""
     bodies = [ask] if words == ["hello"] else [greeting, ask]
-    with peer.Daemon([peer.frame(peer.rings(0, 0, 1, 2))] * (len(bodies) - 1) + [peer.frame(peer.number(7))]) as daemon:
-        got = ran(program, ["--socket", daemon.path, *options, *words])
+    with peer.answering(*[RINGS] * (len(bodies) - 1), SEVEN) as daemon:
+        got = ran(program, "--socket", daemon.path, *options, *words)
         daemon.ended()
         return differs((got, daemon.heard, daemon.more), ((0, b"7\n", b""), bodies, b""))
 
 
 def handles(program, words, ask, options=()):
     """As a handler: the ask is written, the reply is read, and not a byte more, and it is printed on standard error."""
-    read, write = os.pipe()
-    with open(read, "rb", buffering=0) as left, open(write, "wb", buffering=0) as given:
-        given.write(peer.frame(peer.number(7)) + peer.frame(peer.number(8))[:7])
-        done = subprocess.run([program, *options, *words], stdin=left, stdout=subprocess.PIPE, stderr=subprocess.PIPE, timeout=LIMIT)
-        given.close()
-        return differs((done.returncode, done.stdout, done.stderr, left.read()), (0, peer.frame(ask), b"7\n", peer.frame(peer.number(8))[:7]))
+    more = peer.frame(peer.number(8))[:7]
+    return differs(ran_over(program, peer.frame(SEVEN) + more, *options, *words), (0, peer.frame(ask), b"7\n", more))
 
 
 def misuses(program, words):
     """Status 2, the usage on standard error, nothing on standard output, nothing read."""
-    read, write = os.pipe()
-    with open(read, "rb", buffering=0) as left, open(write, "wb", buffering=0) as given:
-        given.write(b"unread")
-        done = subprocess.run([program, *words], stdin=left, stdout=subprocess.PIPE, stderr=subprocess.PIPE, timeout=LIMIT)
-        given.close()
-        text = done.stderr.decode(errors="replace")
-        return differs((done.returncode, done.stdout, left.read(), "usage" in text.lower() or "error: " in text), (2, b"", b"unread", True))
-
-
-def out_of_bounds(program, before, option, value, most):
-    """A value out of bounds: status 2, and standard error says which option has it, and what it may be."""
-    status, output, errors = ran(program, [*before, option, value, *(["--", "true"] if before else ["read", "3"])], b"unread")
-    want = f"error: invalid value '{value}' for '{option} <N>': {value} is not in 0..={most}"
-    return differs((status, output, errors.decode().partition("\n")[0]), (2, b"", want))
+    status, output, errors, left = ran_over(program, b"unread", *words)
+    text = errors.decode(errors="replace")
+    return differs((status, output, left, "usage" in text.lower() or "error: " in text), (2, b"", b"unread", True))
 
 
 def says(program, words, want):
     """A usage error: status 2, nothing on standard output, and one message, which says what is wrong."""
-    status, output, errors = ran(program, words, b"unread")
+    status, output, errors = ran(program, *words, input=b"unread")
     return differs((status, output, errors.decode().partition("\n")[0]), (2, b"", f"error: {want}"))
 
 
@@ -214,22 +210,22 @@ def misuses_socket(program, words):
 
 def prints(program, reply, want, options=(), split=False):
     """A reply over the socket, and to a handler."""
-    with peer.Daemon([peer.frame(peer.rings(0, 0, 1, 2)), peer.frame(reply)], split) as daemon:
-        got = ran(program, ["--socket", daemon.path, *options, "read", "3"])
-    handler = ran(program, [*options, "read", "3"], peer.frame(reply))
+    with peer.answering(RINGS, reply, split=split) as daemon:
+        got = ran(program, "--socket", daemon.path, *options, "read", "3")
+    handler = ran(program, *options, "read", "3", input=peer.frame(reply))
     return differs(got, (0, want, b"")) or differs(handler, (0, peer.frame(peer.on_key(7, 3)), want))
 
 
 def refuses(program, errno):
     """A refusal of the ask; of HELLO, after which nothing is asked; and to a handler."""
     text = f"errno {errno}\n".encode()
-    with peer.Daemon([peer.frame(peer.rings(0, 0, 1, 2)), peer.frame(peer.refused(errno))]) as daemon:
-        got = ran(program, ["--socket", daemon.path, "--raw", "read", "3"])
-    with peer.Daemon([peer.frame(peer.refused(errno))]) as daemon:
-        greeting = ran(program, ["--socket", daemon.path, "read", "3"])
+    with peer.answering(RINGS, peer.refused(errno)) as daemon:
+        got = ran(program, "--socket", daemon.path, "--raw", "read", "3")
+    with peer.answering(peer.refused(errno)) as daemon:
+        greeting = ran(program, "--socket", daemon.path, "read", "3")
         daemon.ended()
         asked = (daemon.heard, daemon.more)
-    handler = ran(program, ["read", "3"], peer.frame(peer.refused(errno)))
+    handler = ran(program, "read", "3", input=peer.frame(peer.refused(errno)))
     return (
         differs(got, (1, b"", text))
         or differs((greeting, asked), ((1, b"", text), ([peer.hello()], b"")))
@@ -240,34 +236,33 @@ def refuses(program, errno):
 def fails(program, reply):
     """Invalid replies, to HELLO, to the ask, and to a handler."""
     cut = reply in CUT.values()
-    for replies in [[reply], [peer.frame(peer.rings(0, 0, 1, 2)), reply]]:
+    for replies in [[reply], [peer.frame(RINGS), reply]]:
         with peer.Daemon([*replies[:-1], replies[-1] or None]) as daemon:
-            got = ran(program, ["--socket", daemon.path, "read", "3"])
+            got = ran(program, "--socket", daemon.path, "read", "3")
         if got != (1, b"", SOCKET + f"  {daemon.path}: {GONE if cut else NO_REPLY}\n".encode()):
             return f"{got} at reply {len(replies)}"
-    return differs(ran(program, ["read", "3"], reply), (1, peer.frame(peer.on_key(7, 3)), STREAMS if cut else NO_REPLY_IN))
+    return differs(ran(program, "read", "3", input=reply), (1, peer.frame(peer.on_key(7, 3)), STREAMS if cut else NO_REPLY_IN))
 
 
 def no_daemon(program, path, reason):
     """A socket that can't be reached: the path and the system's reason, of a request and of a program that is to be run."""
     want = SOCKET + f"  {path}: {reason}\n".encode()
-    runs = ran(program, ["run", "--socket", path, "--library", "/dev/null", "--", "true"])
-    return differs(ran(program, ["--socket", path, "read", "3"]), (1, b"", want)) or differs(runs, (1, b"", want))
+    runs = ran(program, "run", "--socket", path, "--library", "/dev/null", "--", "true")
+    return differs(ran(program, "--socket", path, "read", "3", input=b""), (1, b"", want)) or differs(runs, (1, b"", want))
 
 
 def full_output(program):
     """A write that fails, of the reply, whose ask was done, and of a handler's ask."""
-    with open("/dev/full", "wb") as full, peer.Daemon([peer.frame(peer.rings(0, 0, 1, 2)), peer.frame(peer.number(7))]) as daemon:
-        done = [subprocess.run([program, *words, "read", "3"], stdin=subprocess.DEVNULL, stdout=full, stderr=subprocess.PIPE, timeout=LIMIT) for words in
-                [["--socket", daemon.path], []]]
-    return differs([(it.returncode, it.stderr) for it in done], [(1, OUTPUT), (1, STREAMS)])
+    with open("/dev/full", "wb") as full, peer.answering(RINGS, SEVEN) as daemon:
+        done = [ran(program, *words, "read", "3", stdout=full) for words in [["--socket", daemon.path], []]]
+    return differs(done, [(1, None, OUTPUT), (1, None, STREAMS)])
 
 
 def closed_input(program):
     """A handler whose input ends at once, or can't be read."""
     with open("/dev/null", "wb") as none:
-        done = subprocess.run([program, "read", "3"], stdin=none, stdout=subprocess.PIPE, stderr=subprocess.PIPE, timeout=LIMIT)
-    return differs((done.returncode, done.stderr), (1, STREAMS))
+        status, _, errors = ran(program, "read", "3", stdin=none)
+    return differs((status, errors), (1, STREAMS))
 
 
 def from_file(program, words, option, content, ask, rule=None):
@@ -279,18 +274,18 @@ def from_file(program, words, option, content, ask, rule=None):
         path = pathlib.Path(room) / "bytes"
         path.write_bytes(content)
         for source, stdin in [(str(path), b"unread"), ("-", content)]:
-            with peer.Daemon([peer.frame(peer.rings(0, 0, 1, 2)), peer.frame(peer.number(7))]) as daemon:
-                got = ran(program, ["--socket", daemon.path, option, source, *words], stdin)
+            with peer.answering(RINGS, SEVEN) as daemon:
+                got = ran(program, "--socket", daemon.path, option, source, *words, input=stdin)
             if got != want("standard input" if source == "-" else source) or daemon.heard != ([peer.hello(), ask] if ask is not None else []):
                 return f"{str(got)[:200]} {str(daemon.heard)[:200]} from {source}"
-        handler = ran(program, [f"{option}={path}", *words], peer.frame(peer.number(7)))
+        handler = ran(program, f"{option}={path}", *words, input=peer.frame(SEVEN))
         return differs(handler, (0, peer.frame(ask), b"7\n") if ask is not None else want(path))
 
 
 def no_file(program, path, reason):
     """A file that can't be read is found before the daemon is asked, and behind faults of the words."""
     with peer.Daemon([None]) as daemon:
-        got = ran(program, ["--socket", daemon.path, "--payload-from", path, "instantiate", "3", "none"])
+        got = ran(program, "--socket", daemon.path, "--payload-from", path, "instantiate", "3", "none")
         return differs((got, daemon.heard), ((1, b"", FILE + f"  {path}: {reason}\n".encode()), []))
 
 
@@ -299,7 +294,7 @@ def no_library(program, path):
     own = pathlib.Path(program).resolve()
     trap = own.parent.parent / "bin" / "reqkey-trap"
     for words, file in [(["--library", path], path), (["--trap"], trap)]:
-        got = ran(program, ["run", "--socket", "/dev/null/none", *words, "--", "true"])
+        got = ran(program, "run", "--socket", "/dev/null/none", *words, "--", "true")
         want = (1, b"", FILE + f"  {file}: No such file or directory\n".encode())
         if got != want and not trap.exists():
             return f"{got}, not {want}"
@@ -315,11 +310,11 @@ def runs_by_trap(program, room):
     trap.write_text('#!/bin/sh\nprintf "%s\\n" "$@" "$REQKEYD_SOCKET $REQKEYD_JOIN $LD_PRELOAD"\nexit 7\n')
     trap.chmod(0o755)
     behind = ["--", "program", "-x", "--socket", ""]
-    named = ran(own, ["run", "--trap", "--socket", "a b/s", *behind], env={"REQKEYD_JOIN": "5"})
-    told = ran(own, ["run", "--trap", *behind], env={"REQKEYD_SOCKET": "/s"})
+    named = ran(own, "run", "--trap", "--socket", "a b/s", *behind, env={"REQKEYD_JOIN": "5"})
+    told = ran(own, "run", "--trap", *behind, env={"REQKEYD_SOCKET": "/s"})
     words = "\n".join(behind)
     trap.write_text("")
-    empty = ran(own, ["run", "--trap", "--socket", "s", *behind])
+    empty = ran(own, "run", "--trap", "--socket", "s", *behind)
     return differs((named, told, empty), (
         (7, f"--socket\na b/s\n{words}\n 5 \n".encode(), b""), (7, f"--socket\n/s\n{words}\n/s  \n".encode(), b""),
         (126, b"", f"reqkeyctl: program\n  {trap}: Exec format error\n".encode())))
@@ -327,35 +322,34 @@ def runs_by_trap(program, room):
 
 def no_program(program, path, status, reason):
     """A program that can't be started."""
-    with peer.Daemon([peer.frame(peer.rings(0, 0, 1, 2))]) as daemon:
-        got = ran(program, ["run", "--socket", daemon.path, "--library", "/dev/null", "--", path])
+    with peer.answering(RINGS) as daemon:
+        got = ran(program, "run", "--socket", daemon.path, "--library", "/dev/null", "--", path)
     return differs(got, (status, b"", f"reqkeyctl: program\n  {path}: {reason}\n".encode()))
 
 
 def no_socket_for_run(program):
     """No socket is named: standard error says so."""
-    got = ran(program, ["run", "--library", "/dev/null", "--", "true"], env={"PATH": os.environ["PATH"]})
+    got = ran(program, "run", "--library", "/dev/null", "--", "true", env={"PATH": os.environ["PATH"]})
     return differs(got, (1, b"", SOCKET + b"  no daemon answered; --socket or REQKEYD_SOCKET names its socket\n"))
 
 
 def runs_for(program, words, uid, gid, want):
     """Whom HELLO of a run is for: who is named, or else the effective user and group of who calls."""
-    with peer.Daemon([peer.frame(peer.rings(0, 0, 1, 2))]) as daemon:
+    with peer.answering(RINGS) as daemon:
         os.chmod(daemon.room.name, 0o755)
         os.chmod(daemon.path, 0o666)
-        words = ["run", "--socket", daemon.path, "--library", "/dev/null", *words, "--", "/bin/true"]
         more = {"user": uid, "group": gid, "extra_groups": []} if os.geteuid() == 0 else {}
-        subprocess.run([program, *words], stdin=subprocess.DEVNULL, stderr=subprocess.DEVNULL, timeout=LIMIT, **more)
+        ran(program, "run", "--socket", daemon.path, "--library", "/dev/null", *words, "--", "/bin/true", **more)
         daemon.ended()
     return differs(daemon.heard, [peer.hello(*want)])
 
 
 def is_quiet(program, reply):
     """No reply is printed, but a refusal is."""
-    for replies, want in [([reply], (0, b"", b"")), ([peer.refused(126)], (1, b"", b"errno 126\n"))]:
-        with peer.Daemon([peer.frame(it) for it in [peer.rings(0, 0, 1, 2), *replies]]) as daemon:
-            got = ran(program, ["--socket", daemon.path, "--quiet", "read", "3"])
-        handler = ran(program, ["--quiet", "read", "3"], peer.frame(replies[0]))
+    for reply, want in [(reply, (0, b"", b"")), (peer.refused(126), (1, b"", b"errno 126\n"))]:
+        with peer.answering(RINGS, reply) as daemon:
+            got = ran(program, "--socket", daemon.path, "--quiet", "read", "3")
+        handler = ran(program, "--quiet", "read", "3", input=peer.frame(reply))
         if got != want or handler != (want[0], peer.frame(peer.on_key(7, 3)), want[2]):
             return f"{got} and {handler}"
     return None
@@ -363,8 +357,8 @@ def is_quiet(program, reply):
 
 def looks(program, command, uid, newest, replies, bodies, want):
     """`list` and `sweep`: what is asked behind HELLO, and what is printed of the replies; where one is None the daemon ends."""
-    with peer.Daemon([it and peer.frame(it) for it in [peer.rings(0, 0, newest, 2), *replies]]) as daemon:
-        got = ran(program, ["--socket", daemon.path, "--uid", str(uid), command])
+    with peer.answering(peer.rings(0, 0, newest, 2), *replies) as daemon:
+        got = ran(program, "--socket", daemon.path, "--uid", str(uid), command)
         daemon.ended()
     if want[2] in [GONE, NO_REPLY]:
         want = (*want[:2], SOCKET + f"  {daemon.path}: {want[2]}\n".encode())
@@ -373,8 +367,8 @@ def looks(program, command, uid, newest, replies, bodies, want):
 
 def is_turned_away(program, command):
     """A search whose HELLO is refused: nothing else is asked."""
-    with peer.Daemon([peer.frame(peer.refused(122))]) as daemon:
-        got = ran(program, ["--socket", daemon.path, command])
+    with peer.answering(peer.refused(122)) as daemon:
+        got = ran(program, "--socket", daemon.path, command)
         daemon.ended()
     return differs((got, daemon.heard, daemon.more), ((1, b"", b"errno 122\n"), [peer.hello()], b""))
 
@@ -383,31 +377,31 @@ def at_terminal(program, words, status, want):
     """What a call does whose standard output is a terminal, and that names no socket: it writes nothing there but help."""
     leader, follower = os.openpty()
     environment = {key: value for key, value in os.environ.items() if key != "REQKEYD_SOCKET"}
-    done = subprocess.run([program, *words], stdin=follower, stdout=follower, stderr=subprocess.PIPE, env=environment, timeout=LIMIT)
+    ended, _, errors = ran(program, *words, stdin=follower, stdout=follower, env=environment)
     os.write(follower, b"end")
     shown = b""
     while not shown.endswith(b"end"):
         shown += os.read(leader, 65536)
     os.close(leader)
     os.close(follower)
-    return differs((done.returncode, want.encode() in (shown if status == 0 else done.stderr), shown == b"end"), (status, True, status != 0))
+    return differs((ended, want.encode() in (shown if status == 0 else errors), shown == b"end"), (status, True, status != 0))
 
 
 def by_environment(program, stdin, stdout, named):
     """REQKEYD_SOCKET names the socket, unless an option does, or both streams are pipes, as a handler's are: those are the daemon's."""
     piped = stdin == stdout == subprocess.PIPE
-    with peer.Daemon([peer.frame(peer.rings(0, 0, 1, 2)), peer.frame(peer.number(7))]) as daemon:
+    with peer.answering(RINGS, SEVEN) as daemon:
         words = ["--socket", daemon.path] if named else []
         environment = {"REQKEYD_SOCKET": "/dev/null/none" if named else daemon.path}
-        done = subprocess.run([program, *words, "read", "3"], stdin=stdin, stdout=stdout, stderr=subprocess.PIPE, env=environment, timeout=LIMIT)
+        status, output, errors = ran(program, *words, "read", "3", stdin=stdin, stdout=stdout, env=environment)
     if piped and not named:
-        return differs((done.stdout, done.stderr, daemon.heard), (peer.frame(peer.on_key(7, 3)), STREAMS, []))
-    return differs((done.returncode, done.stderr, daemon.heard), (0, b"", [peer.hello(), peer.on_key(7, 3)]))
+        return differs((output, errors, daemon.heard), (peer.frame(peer.on_key(7, 3)), STREAMS, []))
+    return differs((status, errors, daemon.heard), (0, b"", [peer.hello(), peer.on_key(7, 3)]))
 
 
 def helps(program, words, *wanted):
     """Status 0, and these texts on standard output alone, where the usage has the name of the file."""
-    status, output, errors = ran(program, words, b"unread")
+    status, output, errors = ran(program, *words, input=b"unread")
     own = pathlib.Path(program).name
     missing = [it for it in wanted if it.replace("Usage: reqkeyctl", f"Usage: {own}").encode() not in output]
     return differs((status, errors, missing), (0, b"", []))
@@ -416,33 +410,19 @@ def helps(program, words, *wanted):
 def two_in_a_script(program):
     """Two runs that share their pipes, as in a handler that is a shell script."""
     script = f"{program} assume 3 && {program} instantiate 3 hi none"
-    done = subprocess.run(["/bin/sh", "-c", script], input=peer.frame(peer.number(0)) * 2, stdout=subprocess.PIPE, stderr=subprocess.PIPE, timeout=LIMIT)
     want = peer.frame(peer.on_key(3, 3)) + peer.frame(peer.instantiate(3, b"hi", 0))
-    return differs((done.returncode, done.stdout, done.stderr), (0, want, b"0\n0\n"))
+    return differs(ran("/bin/sh", "-c", script, input=peer.frame(peer.number(0)) * 2), (0, want, b"0\n0\n"))
 
 
-def lacks_memory(program, library, words, stdin, replies, want):
-    """Each allocation refused in turn, until the run needs no more: status 1 and its line, and nothing printed."""
+def lacks_memory(program, words, stdin, replies, want):
+    """Each allocation refused in turn, until the run needs no more: status 1 and its line, and nothing printed. PATH among the words is that of the socket."""
     for count in range(1, 100_000):
-        with peer.Daemon(replies) as daemon:
-            socket = ["--socket", daemon.path] if replies else []
-            got = ran(program, [*socket, *words], stdin, env={"LD_PRELOAD": library, "REFUSED": str(count)})
+        with peer.answering(*replies) as daemon:
+            named = [daemon.path if word == "PATH" else word for word in words]
+            got = ran(program, *named, input=stdin, env={"LD_PRELOAD": library("refusing_malloc"), "REFUSED": str(count)})
         if got == want:
             return None if count > 5 else f"{count - 1} allocations"
         if (got[0], got[2]) != (1, b"reqkeyctl: memory\n") or (replies and got[1]) or not want[1].startswith(got[1]):
-            return f"allocation {count}: {got}"
-    return "it never ends"
-
-
-def run_lacks_memory(program, library):
-    """The same of a program that is run, which is not started then."""
-    for count in range(1, 100_000):
-        with peer.Daemon([peer.frame(peer.rings(0, 0, 1, 2))]) as daemon:
-            words = ["run", "--socket", daemon.path, "--library", library, "--", "/bin/true"]
-            got = ran(program, words, env={"LD_PRELOAD": library, "REFUSED": str(count)})
-        if got == (0, b"", b""):
-            return None if count > 5 else f"{count - 1} allocations"
-        if got != (1, b"", b"reqkeyctl: memory\n"):
             return f"allocation {count}: {got}"
     return "it never ends"
 
@@ -493,10 +473,6 @@ def cases(room):
         yield f"a socket at {str(path)[:40]!r}", no_daemon, str(path), reason
     for words, want in SAID:
         yield f"{words} is told", says, words, want
-    for before in [[], ["run"]]:
-        yield f"too great a number of {before}", out_of_bounds, before, "--uid", "4294967296", 4294967295
-        yield f"too great a number of a group of {before}", out_of_bounds, before, "--gid", "4294967296", 4294967295
-    yield "too great a number of a ring", out_of_bounds, [], "--join", "2147483648", 2147483647
     yield "a file that is not there", no_file, str(room / "none"), "No such file or directory"
     yield "a folder for a file", no_file, str(room), "Is a directory"
     yield "a library that is not there", no_library, str(room / "none")
@@ -552,24 +528,20 @@ def cases(room):
     yield "a callout from a file", from_file, ask_key, "--callout-from", b"c\n", peer.request(b"user", b"a", b"c\n", 0)
     yield "an empty callout from a file", from_file, ask_key, "--callout-from", b"", peer.request(b"user", b"a", b"", 0)
     yield "a callout from a file without text", from_file, ask_key, "--callout-from", b"\xff", None, "<callout> is at most 4095 bytes of text, for the handler"
-    if shutil.which("gcc"):
-        library = str(room / "refusing_malloc.so")
-        subprocess.run(["gcc", "-shared", "-fPIC", "-o", library, pathlib.Path(__file__).with_name("refusing_malloc.c")], check=True)
-        welcome, seven = peer.frame(peer.rings(0, 0, 1, 2)), peer.frame(peer.number(7))
-        yield "memory of a handler", lacks_memory, library, read, seven, [], (0, peer.frame(ask), b"7\n")
-        yield "memory of a client", lacks_memory, library, read, b"", [welcome, seven], (0, b"7\n", b"")
-        yield "memory of a run", run_lacks_memory, library
-        long, from_input = b"p" * 32767, ["--payload-from", "-", "instantiate", "3", "none"]
-        yield "memory of long bytes", lacks_memory, library, from_input, long, [welcome, peer.frame(peer.data(long))], (0, long + b"\n", b"")
-    else:
-        print("allocations that are refused: not tried, there is no gcc")
+    if not lacks("allocations that are refused", "gcc"):
+        socket, long = ["--socket", "PATH"], b"p" * 32767
+        yield "memory of a handler", lacks_memory, read, peer.frame(SEVEN), [], (0, peer.frame(ask), b"7\n")
+        yield "memory of a client", lacks_memory, [*socket, *read], b"", [RINGS, SEVEN], (0, b"7\n", b"")
+        yield "memory of a run", lacks_memory, ["run", *socket, "--library", library("refusing_malloc"), "--", "/bin/true"], b"", [RINGS], (0, b"", b"")
+        from_input = [*socket, "--payload-from", "-", "instantiate", "3", "none"]
+        yield "memory of long bytes", lacks_memory, from_input, long, [RINGS, peer.data(long)], (0, long + b"\n", b"")
     for word in ["--help", "-h"]:
-        yield word, helps, [word], "Usage: reqkeyctl", *[f"  {name} " for name in FEWEST], *[f"{errno} {name}" for errno, name in ERRNOS.items()], "--payload-from", "Status:"
+        lists = [*[f"  {name} " for name in FEWEST], *[f"{errno} {name}" for errno, name in ERRNOS.items()], "--payload-from", "Status:"]
+        yield word, helps, [word], "Usage: reqkeyctl", *lists
         yield f"run {word}", helps, ["run", word], "Usage: reqkeyctl run", "--library", "126"
     for word in ["--version", "-V"]:
         yield word, helps, [word], f"reqkeyctl {version()}"
 
 
 with tempfile.TemporaryDirectory(prefix="client-") as folder:
-    listed = [(name, try_it, *more) for name, try_it, *more in cases(pathlib.Path(folder))]
-    check_all(listed, lambda program, try_it, *more: try_it(program, *more), built("reqkeyctl"))
+    check_all(list(cases(pathlib.Path(folder))), built("reqkeyctl"))

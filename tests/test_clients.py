@@ -7,21 +7,22 @@ compiled twice: as users compile it, and so that a wrong access to memory ends i
 import contextlib
 import itertools
 import pathlib
-import shutil
 import socket
-import subprocess
 import sys
 import tempfile
 
 import protocol_peer as peer
+from compiled import SANITIZED, compiled, sanitizes
 from counted import Counted
 from daemon import Daemon
-from programs import LIMIT, PROGRAMS, top
-from sanitizers import SANITIZED, sanitizes
+from programs import lacks, ran, there, top
+
+sys.path.insert(0, str(top / "tools"))
+from messages import ERRNOS
 
 count = Counted()
 CLIENTS, DRIVERS = top / "clients", top / "tests" / "clients"
-STRICT = ["-std=c11", "-Wall", "-Wextra", "-Wpedantic", "-Wconversion", "-Wshadow", "-Werror", "-I", str(CLIENTS / "c")]
+STRICT = ["-std=c11", "-Wpedantic", "-Wconversion", "-Wshadow", "-I", CLIENTS / "c", CLIENTS / "c" / "reqkey.c"]
 RINGS = peer.rings(0, 0, 1, 2)
 ANY = bytes(range(256))
 ANY_WORD = "".join(f"%{byte:02X}" for byte in ANY)
@@ -65,9 +66,6 @@ GOOD = [
     ("callout", peer.CALLOUT, peer.data("Räuber".encode()), "bytes R%C3%A4uber"),
 ]
 
-ERRNOS = {1: "EPERM", 2: "ENOENT", 12: "ENOMEM", 13: "EACCES", 16: "EBUSY", 22: "EINVAL", 35: "EDEADLK", 122: "EDQUOT", 126: "ENOKEY", 127: "EKEYEXPIRED",
-          128: "EKEYREVOKED", 129: "EKEYREJECTED"}
-
 # replies to no ask
 NO_REPLY = {
     "an empty body": peer.frame(b""),
@@ -107,20 +105,20 @@ class Language:
 
     def asks(self, lines):
         """The results of these asks over sockets, line by line."""
-        ran = subprocess.run([*self.words, "client"], input="".join(f"{line}\n" for line in lines).encode(), capture_output=True, timeout=LIMIT)
-        return told_by(ran, ran.stdout)
+        status, output, errors = ran(*self.words, "client", input="".join(f"{line}\n" for line in lines).encode())
+        return told_by(status, output, errors)
 
     def handles(self, room, lines, **streams):
         """What a handler outputs, and the results of its asks."""
         script, told = room / "script", room / "told"
         script.write_text("".join(f"{line}\n" for line in lines))
-        ran = subprocess.run([*self.words, "handler", str(script), str(told)], stderr=subprocess.PIPE, timeout=LIMIT, **streams)
-        return ran.stdout, told_by(ran, told.read_bytes())
+        status, output, errors = ran(*self.words, "handler", script, told, **streams)
+        return output, told_by(status, told.read_bytes(), errors)
 
 
-def told_by(ran, output):
+def told_by(status, output, errors):
     """The lines that a driver has told, or how it has failed."""
-    return output.decode().split("\n")[:-1] if (ran.returncode, ran.stderr) == (0, b"") else (ran.returncode, ran.stderr.decode()[-2000:])
+    return output.decode().split("\n")[:-1] if (status, errors) == (0, b"") else (status, errors.decode()[-2000:])
 
 
 def sessions(client, cases):
@@ -141,7 +139,7 @@ def speaks(client, room):
     lines, bodies, replies, wanted = zip(*GOOD)
     [got] = sessions(client, [(lines, list(map(peer.frame, replies)), False)])
     count.same(f"{client.name}: asks over a socket", got, (list(wanted), list(bodies)))
-    output, told = client.handles(room, lines, input=b"".join(map(peer.frame, replies)), stdout=subprocess.PIPE)
+    output, told = client.handles(room, lines, input=b"".join(map(peer.frame, replies)))
     count.same(f"{client.name}: asks of a handler", (told, output), (list(wanted), b"".join(map(peer.frame, bodies))))
     short = [(line, peer.frame(reply), want) for line, _, reply, want in GOOD if len(reply) < 100]
     [got] = sessions(client, [([line for line, *_ in short], [reply for _, reply, _ in short], True)])
@@ -170,7 +168,7 @@ def meets_hostile(client, room):
     for cut, (told, _) in zip(cuts, sessions(client, [(["read 3", "read 3"], [cut or None], False) for cut in cuts])):
         count.same(f"{client.name}: {len(cut)} bytes of a reply", told, ["ended", "ended"])
     for cut in [b"", whole[:3], whole[:-1]]:
-        output, told = client.handles(room, ["read 3", "read 3"], input=cut, stdout=subprocess.PIPE)
+        output, told = client.handles(room, ["read 3", "read 3"], input=cut)
         count.same(f"{client.name}: {len(cut)} bytes of a reply to a handler", (output, told), (peer.frame(peer.on_key(7, 3)), ["ended", "ended"]))
 
 
@@ -185,7 +183,7 @@ def fails(client, room):
     paths = [room / "none", room, "/" + "l" * 120]
     count.same(f"{client.name}: no daemon", client.asks([f"connect {path}" for path in paths]), ["system"] * len(paths))
     with open("/dev/full", "wb") as full:
-        count.same(f"{client.name}: a full device", client.handles(room, ["read 3"] * 2, stdin=subprocess.DEVNULL, stdout=full)[1], ["system", "ended"])
+        count.same(f"{client.name}: a full device", client.handles(room, ["read 3"] * 2, stdout=full)[1], ["system", "ended"])
 
 
 # as a client of user 1000 on a fresh daemon, whose serials are 4, 8, 12 ..; PIPED makes keys p:* of their callouts
@@ -222,11 +220,11 @@ def python_alone(room):
     sys.path.insert(0, str(CLIENTS / "python"))
     import reqkey
 
-    with peer.Daemon([peer.frame(peer.rings(4, 8, 12, 16)), peer.frame(peer.number(0))]) as daemon:
+    with peer.answering(peer.rings(4, 8, 12, 16), peer.number(0)) as daemon:
         with reqkey.connect(daemon.path, uid=1, gid=2, thread=True, join=12) as session:
             count.same("connect", (session.rings, session.revoke(3), daemon.heard[0]), (reqkey.Rings(4, 8, 12, 16), None, peer.hello(1, 2, 12, 1)))
         count.same("with", raised(session.revoke, 3), "Ended: REVOKE: the session is over")
-    with peer.Daemon([peer.frame(peer.refused(13))]) as daemon:
+    with peer.answering(peer.refused(13)) as daemon:
         count.same("a HELLO that is refused", raised(reqkey.connect, daemon.path), "Refused: HELLO: EACCES (13)")
         daemon.ended()
         count.same("its connection", daemon.more, b"")
@@ -275,37 +273,24 @@ def differing(lines, told, wanted):
 def examples(program, ask, handler):
     """The examples of a language: a client requests what a handler makes."""
     with Daemon(program, f"create user capitals:* * {handler} %k\n") as daemon:
-        got = [subprocess.run([ask, daemon.path, *words], capture_output=True, timeout=LIMIT) for words in
-               [["user", "capitals:a", "hello"], ["user", "capitals:b", ""], ["user", "capitals:c"], ["user"]]]
-        told = [(it.returncode, b"HELLO" in it.stdout, b"ENOKEY" in it.stderr, b"usage" in it.stderr) for it in got]
+        got = [ran(ask, daemon.path, *words) for words in [["user", "capitals:a", "hello"], ["user", "capitals:b", ""], ["user", "capitals:c"], ["user"]]]
+        told = [(status, b"HELLO" in output, b"ENOKEY" in errors, b"usage" in errors) for status, output, errors in got]
         none = (1, False, True, False)
         count.same(f"examples {ask} on {program.name}", told, [(0, True, False, False), none, none, (2, False, False, True)])
-
-
-def compiled(room, name, *sources, flags=()):
-    """A program in C, or what the compiler said of it."""
-    out = room / name
-    made = subprocess.run(["gcc", *STRICT, *flags, "-o", out, *sources, CLIENTS / "c" / "reqkey.c"], capture_output=True, text=True, timeout=LIMIT)
-    return out if made.returncode == 0 else made.stderr
 
 
 def languages(room):
     """The clients that can be tried here, and their examples."""
     example = CLIENTS / "python" / "example_client.py", CLIENTS / "python" / "example_handler.py"
     yield Language("Python", sys.executable, "-I", "-S", DRIVERS / "driver.py"), *example
-    if not shutil.which("gcc"):
-        print("clients/c: not tried, there is no gcc")
+    if lacks("clients/c", "gcc"):
         return
-    example = [compiled(room, name, CLIENTS / "c" / f"{name}.c", flags=["-O2"]) for name in ["example_client", "example_handler"]]
-    drivers = {"C": compiled(room, "driver", DRIVERS / "driver.c", flags=["-O2"])}
-    if sanitizes(room):
-        drivers["C, sanitized"] = compiled(room, "driver_sanitized", DRIVERS / "driver.c", flags=SANITIZED)
-    else:
-        print("clients/c: not tried with gcc's sanitizers, which are not here")
-    faults = [it for it in [*example, *drivers.values()] if isinstance(it, str)]
-    count.same("clients/c compiles", faults, [])
+    example = [compiled(count, room / name, CLIENTS / "c" / f"{name}.c", *STRICT, "-O2") for name in ["example_client", "example_handler"]]
+    drivers = {"C": compiled(count, room / "driver", DRIVERS / "driver.c", *STRICT, "-O2")}
+    if sanitizes(room, "clients/c"):
+        drivers["C, sanitized"] = compiled(count, room / "driver_sanitized", DRIVERS / "driver.c", *STRICT, *SANITIZED)
     for name, driver in drivers.items():
-        if not faults:
+        if None not in [driver, *example]:
             yield Language(name, driver), *example
 
 
@@ -319,13 +304,10 @@ def main():
             meets_hostile(client, room)
             spells(client)
             fails(client, room)
-            for program in PROGRAMS:
-                if program.exists():
-                    on_daemon(client, program)
-                    on_handler(client, program)
-                    examples(program, ask, handler)
-                else:
-                    count.same(f"{program} is built", False, True)
+            for program in there(count):
+                on_daemon(client, program)
+                on_handler(client, program)
+                examples(program, ask, handler)
     count.end()
 
 

@@ -1,13 +1,12 @@
 #!/usr/bin/env python3
 """Completes words in bash and fish by what tools/completion.py makes of the built programs, as who types them. Both builds of a program give the same."""
 import pathlib
-import shutil
-import subprocess
 import sys
 import tempfile
 
+import compiled
 from counted import Counted
-from programs import LIMIT, PROGRAMS, client_of, top
+from programs import PROGRAMS, client_of, lacks, ran, top
 
 sys.path.insert(0, str(top / "tools"))
 import completion
@@ -118,9 +117,9 @@ def run(shell, script):
     with tempfile.TemporaryDirectory() as home, tempfile.TemporaryDirectory() as room:
         (pathlib.Path(room) / "some.file").touch()
         home = {"HOME": home, "PATH": "/usr/bin:/bin"}
-        ran = subprocess.run([*shell, "-c", script], cwd=room, env=home, capture_output=True, text=True, timeout=LIMIT)
-    count.same(f"errors of {shell[0]}", ran.stderr, "")
-    return ran.stdout.split("\n")
+        _, output, errors = ran(*shell, "-c", script, cwd=room, env=home, text=True)
+    count.same(f"errors of {shell[0]}", errors, "")
+    return output.split("\n")
 
 
 def found(words, wanted):
@@ -139,8 +138,7 @@ def in_bash(made, calls):
 
 
 def in_fish(made, calls):
-    if not shutil.which("fish"):
-        print("completion in fish: not tried, there is no fish")
+    if lacks("completion in fish", "fish"):
         return
     lines = [f"source {path}" for path in sorted(made.glob("*.fish"))]
     lines += [f"complete -C '{typed}'; printf '%s\\n' ==" for typed, _ in calls]
@@ -151,23 +149,18 @@ def in_fish(made, calls):
 
 
 def in_zsh(made):
-    if not shutil.which("zsh"):
-        print("completion in zsh: not tried, there is no zsh")
+    if lacks("completion in zsh", "zsh"):
         return
     for path in sorted(made.glob("_*")):
-        name = path.name[1:]
-        ran = subprocess.run(["zsh", "-f", "-n", path], capture_output=True, text=True, timeout=LIMIT)
-        count.same(f"zsh reads _{name}", (ran.returncode, ran.stderr), (0, ""))
+        count.same(f"zsh reads {path.name}", ran("zsh", "-f", "-n", path, text=True), (0, "", ""))
 
 
 def starter():
     """The files for reqkey-trap, which is built for that; none where there is no compiler."""
-    if not shutil.which("gcc") or not shutil.which("make"):
-        print("completion of reqkey-trap: not tried, there is no gcc and make")
+    if lacks("completion of reqkey-trap", "gcc", "make"):
         return {}
     with tempfile.TemporaryDirectory() as room:
-        subprocess.run(["make", "-s", "-C", top / "clients" / "trap", f"OUT={room}"], check=True, timeout=LIMIT)
-        return completion.starter_of(pathlib.Path(room) / completion.STARTER)
+        return completion.starter_of(compiled.made(count, "trap", pathlib.Path(room)))
 
 
 def tried(daemon, client, made):

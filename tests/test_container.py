@@ -8,13 +8,13 @@ import json
 import os
 import pathlib
 import shutil
-import subprocess
 import tempfile
 
+from compiled import made
 from counted import Counted
 from daemon import Daemon, until
-from programs import LIMIT, PROGRAMS
-from trap import Trap, built, environment, notifies
+from programs import LIMIT, PROGRAMS, lacks, ran, started, there
+from trap import Listening, Trap, environment, notifies
 
 count = Counted()
 CALLS = ["add_key", "request_key", "keyctl"]
@@ -82,21 +82,21 @@ class Runtime:
         self.name, self.state = name, state
         self.words = [name, "--root", str(state), *(["--cgroup-manager=disabled"] if name == "crun" else [])]
 
+    def made(self, container, *words):
+        """What makes a container, and runs words in it."""
+        container.write(*words)
+        return wrapped(*self.words, "run", container.name)
+
     def run(self, container, *words):
         """Status, output and errors of words in a new container."""
-        container.write(*words)
-        ran = subprocess.run(wrapped(*self.words, "run", container.name), capture_output=True, text=True, timeout=LIMIT, cwd=container.room)
-        return ran.returncode, ran.stdout, ran.stderr
+        return ran(*self.made(container, *words), text=True, cwd=container.room)
 
     def start(self, container, *words):
-        container.write(*words)
-        streams = {"stdin": subprocess.DEVNULL, "stdout": subprocess.PIPE, "stderr": subprocess.PIPE}
-        return subprocess.Popen(wrapped(*self.words, "run", container.name), text=True, cwd=container.room, **streams)
+        return started(*self.made(container, *words), cwd=container.room)
 
     def more(self, container, *words):
         """The same of words in a container that runs."""
-        ran = subprocess.run(wrapped(*self.words, "exec", container.name, *words), capture_output=True, text=True, timeout=LIMIT, cwd=container.room)
-        return ran.returncode, ran.stdout, ran.stderr
+        return ran(*wrapped(*self.words, "exec", container.name, *words), text=True, cwd=container.room)
 
 
 class Podman(Runtime):
@@ -110,20 +110,13 @@ class Podman(Runtime):
             "--cgroup-manager", "cgroupfs", "--events-backend", "file", "--log-level", "error", "--runtime", shutil.which(over, path="/usr/bin:/usr/sbin"),
         ]
 
-    def options(self, container):
+    def made(self, container, *words):
         self.profile.write_text(json.dumps(hardened(container.listener)))
         groups = ["--cgroups", "disabled"] if self.over == "crun" else []
         limits = ["--ulimit", "nofile=1024:1024", "--ulimit", "nproc=1024:1024"]
-        return ["run", "--rm", "--name", container.name, "--network", "none", *limits, *groups, "--security-opt", f"seccomp={self.profile}",
-                "--annotation", f"run.oci.seccomp.receiver={container.listener}", "-v", "/usr:/usr:ro", "--rootfs", str(container.root)]
-
-    def run(self, container, *words):
-        ran = subprocess.run(wrapped(*self.words, *self.options(container), *words), capture_output=True, text=True, timeout=LIMIT)
-        return ran.returncode, ran.stdout, ran.stderr
-
-    def start(self, container, *words):
-        streams = {"stdin": subprocess.DEVNULL, "stdout": subprocess.PIPE, "stderr": subprocess.PIPE}
-        return subprocess.Popen(wrapped(*self.words, *self.options(container), *words), text=True, **streams)
+        options = ["--rm", "--name", container.name, "--network", "none", *limits, *groups, "--security-opt", f"seccomp={self.profile}",
+                   "--annotation", f"run.oci.seccomp.receiver={container.listener}", "-v", "/usr:/usr:ro", "--rootfs", str(container.root)]
+        return wrapped(*self.words, "run", *options, *words)
 
 
 def tries(runtime, room, listener):
@@ -166,40 +159,31 @@ def within(program, socket, room):
 def runtimes(room):
     """Those that are here."""
     for name in ["crun", "runc"]:
-        if not shutil.which(name, path="/usr/bin:/usr/sbin:/usr/local/bin"):
-            print(f"containers by {name}: not tried, it is not here")
+        if lacks(f"containers by {name}", name, path="/usr/bin:/usr/sbin:/usr/local/bin"):
             continue
         (room / name).mkdir()
         yield Runtime(name, room / name / "state"), room / name
-        if shutil.which("podman"):
+        if not lacks(f"containers by podman over {name}", "podman"):
             (room / f"podman-{name}").mkdir()
             yield Podman(name, room / f"podman-{name}"), room / f"podman-{name}"
-        else:
-            print(f"containers by podman over {name}: not tried, it is not here")
 
 
 def main():
-    lacking = [name for name in ["gcc", "make", "keyctl", "unshare"] if not shutil.which(name)]
-    if lacking or os.geteuid() != 0 or not notifies():
-        why = f"there is no {lacking[0]}" if lacking else "this is not root, or the kernel has no seccomp with user notification"
-        print(f"containers: not tried, {why}")
+    if lacks("containers", "gcc", "make", "keyctl", "unshare"):
+        count.end()
+    if os.geteuid() != 0 or not notifies():
+        print("containers: not tried, this is not root, or the kernel has no seccomp with user notification")
         count.end()
     with tempfile.TemporaryDirectory(prefix="container-") as folder:
         room = pathlib.Path(folder)
-        trapping = built(count, room, "trap")
-        for program in PROGRAMS[:1] if trapping else []:
-            if not program.exists():
-                count.same(f"{program} is built", False, True)
-                continue
-            with Daemon(program, "create user made:* * |/bin/cat\n") as daemon:
-                words = [trapping, "--listen", daemon.room / "listen", "--socket", daemon.path]
-                listening = subprocess.Popen(list(map(str, words)), stderr=subprocess.PIPE, text=True, env=environment())
-                count.same("a trap for containers", listening.stderr.readline(), "reqkey-trap: ready\n")
+        trapping = made(count, "trap", room / "trap")
+        for program in there(count, PROGRAMS[:1]) if trapping else []:
+            with Daemon(program, "create user made:* * |/bin/cat\n") as daemon, Listening(count, trapping, daemon, environment()) as listening:
                 for runtime, place in runtimes(room):
-                    tries(runtime, place, daemon.room / "listen")
+                    tries(runtime, place, listening.path)
                 within(trapping, daemon.path, room)
-                listening.kill()
-                count.same("what it says", listening.communicate(timeout=LIMIT)[1], "")
+                listening.process.kill()
+                count.same("what it says", listening.process.stderr.read(), "")
     count.end()
 
 

@@ -3,25 +3,24 @@
 examples/unproved.py, and the commands that README.md, docs/RECORD.md and docs/TUTORIAL.md show."""
 import os
 import pathlib
-import shutil
 import signal
 import subprocess
 import sys
 import tempfile
 import threading
 
-top = pathlib.Path(__file__).resolve().parent.parent
+from counted import Counted
+from programs import LIMIT, client_of, lacks, ran, there, top
+from scenarios import scenarios
+
 sys.path.insert(0, str(top / "tools"))
 import script
-from counted import Counted
-from programs import LIMIT, PROGRAMS, client_of
-from scenarios import scenarios
 
 count = Counted()
 demo = top / "examples" / "demo.py"
 fake = top / "tests" / "fake_replay.py"
 # The documents whose commands are run, those that compile something only where there is a compiler.
-DOCUMENTS = ["README.md", "docs/RECORD.md"] + (["docs/TUTORIAL.md"] if shutil.which("cc") else [])
+DOCUMENTS = ["README.md", "docs/RECORD.md"] + ([] if lacks("docs/TUTORIAL.md", "cc") else ["docs/TUTORIAL.md"])
 
 FIRST_PATH = """
 A client connects.
@@ -129,9 +128,8 @@ FAULTS = [
 
 
 def shown(path, command):
-    """What the demo writes, its status, and its standard error."""
-    ran = subprocess.run([demo, path, *command], capture_output=True, text=True)
-    return ran.stdout, ran.returncode, ran.stderr
+    """The status of the demo, what it writes, and its standard error."""
+    return ran(demo, path, *command, text=True)
 
 
 def check(name, words, want, status):
@@ -140,7 +138,7 @@ def check(name, words, want, status):
         told, path = pathlib.Path(room) / "words", pathlib.Path(room) / "script"
         told.write_text(words)
         path.write_bytes(script.write(words.encode()))
-        output, ended, errors = shown(path, [sys.executable, fake, told])
+        ended, output, errors = shown(path, [sys.executable, fake, told])
     legend, rows = output.split("before a reply.\n")
     count.same(name, (rows, ended, errors), (want, status, ""))
     count.same(f"{name}: its legend", "first number of a row is that of its line" in legend and "second one is the moment" in legend, True)
@@ -152,7 +150,7 @@ def at_the_end():
         path = pathlib.Path(room) / "script"
         path.write_bytes(b"# x\nconf create user a *")
         refuses = [sys.executable, "-c", "print('fault 2 S1\\nfault 4 S1\\nconf 1 C1'); exit(1)"]
-        output, status, _ = shown(path, refuses)
+        status, output, _ = shown(path, refuses)
     rows = "   2  conf create user a *\n      (the end)                                       conf 1 C1: line 2 of the script is refused"
     count.same("refused at the end", (f"\nx\n{rows}, it has fewer than five fields. Here the run ends\n" in output, status), (True, 1))
 
@@ -163,7 +161,7 @@ def each_scenario():
         path = pathlib.Path(room) / "script"
         for case in scenarios():
             path.write_bytes(case.script)
-            output, status, errors = shown(path, [sys.executable, fake, case.path])
+            status, output, errors = shown(path, [sys.executable, fake, case.path])
             rows = [row.strip() for row in output.split("\n")]
             lacking = [line for line in script.lines_of(case.expected) if not beside(rows, script.read_answer(line))]
             count.same(case.name, (lacking, status, errors), ([], case.status, ""))
@@ -178,10 +176,15 @@ def beside(rows, words):
     return False
 
 
+def made(program, **more):
+    """What `make demo` shows of this program."""
+    return ran("make", "--no-print-directory", "-C", top, "demo", f"REQKEYD={program}", text=True, **more)
+
+
 def by_make(program):
     """`make demo` shows the script, and then the daemon."""
-    ran = subprocess.run(["make", "--no-print-directory", "-C", top, "demo", f"REQKEYD={program}"], capture_output=True, text=True, timeout=LIMIT)
-    count.same(f"make demo, {program.name}", (ran.returncode, FIRST_PATH in ran.stdout, ran.stdout.endswith(SERVED)), (0, True, True))
+    status, output, _ = made(program)
+    count.same(f"make demo, {program.name}", (status, FIRST_PATH in output, output.endswith(SERVED)), (0, True, True))
 
 
 def unproved(program):
@@ -191,9 +194,9 @@ def unproved(program):
             fake_rt = pathlib.Path(room) / "rt"
             fake_rt.write_text(FAKE_RT % what)
             fake_rt.chmod(0o755)
-            words = ["make", "--no-print-directory", "-C", top, "demo", f"REQKEYD={room}/none"]
-            ran = subprocess.run(words, env={**os.environ, "PATH": f"{room}:{os.environ['PATH']}"}, capture_output=True, text=True, timeout=LIMIT)
-        got = ran.returncode, FIRST_PATH in ran.stdout, ran.stdout.endswith(SERVED), ran.stdout.startswith("Building reqkeyd before its proofs"), ran.stderr.partition(" (")[0]
+            status, output, errors = made(f"{room}/none", env={**os.environ, "PATH": f"{room}:{os.environ['PATH']}"})
+        begins = output.startswith("Building reqkeyd before its proofs")
+        got = status, FIRST_PATH in output, output.endswith(SERVED), begins, errors.partition(" (")[0]
         count.same(f"make demo of what is not built, {program.name}, {what}", got, want)
 
 
@@ -259,29 +262,25 @@ def by_hand(program, name):
         count.same(f"the end of {name} by hand, {program.name}", shell.run("wait $!; echo $?"), ["0"])
 
 
-if not shutil.which("cc"):
-    print("docs/TUTORIAL.md: not tried, there is no cc")
 for words, want, status in SHOWN:
     check(words, words, want, status)
 example = top / "examples" / "first-path.script"
-output, status, errors = shown(example, [sys.executable, fake, top / "tests" / "replay" / "first_path" / "words"])
+status, output, errors = shown(example, [sys.executable, fake, top / "tests" / "replay" / "first_path" / "words"])
 count.same("the example", (output.split("before a reply.\n")[1], status, errors), (FIRST_PATH, 0, ""))
 at_the_end()
 each_scenario()
 for command, told, status in FAULTS:
-    output, ended, errors = shown(example, command)
+    ended, output, errors = shown(example, command)
     count.same(command, (output, ended, told in errors), ("", status, True))
 serve = top / "examples" / "serve.py"
-for program in PROGRAMS:
-    ran = subprocess.run([serve, program], capture_output=True, text=True, timeout=LIMIT)
-    count.same(f"{serve.name} {program.name}", (ran.stdout, ran.returncode, ran.stderr), (SERVED, 0, ""))
+for program in there(count):
+    count.same(f"{serve.name} {program.name}", ran(serve, program, text=True), (0, SERVED, ""))
     by_make(program)
     unproved(program)
     for name in DOCUMENTS:
         by_hand(program, name)
 for command, told in [(["/nothing/there"], "No such file"), (["false"], "did not start"), (["echo"], "did not start"), ([], "usage: serve.py COMMAND ..")]:
-    ran = subprocess.run([serve, *command], capture_output=True, text=True, timeout=LIMIT)
-    count.same(f"serve.py {command}", ("HELLO" in ran.stdout, ran.returncode, told in ran.stderr), (False, 1 if command else 2, True))
-ran = subprocess.run([demo, "x"], capture_output=True, text=True)
-count.same("too few words", (ran.returncode, ran.stderr), (2, "usage: demo.py SCRIPT COMMAND ..\n"))
+    status, output, errors = ran(serve, *command, text=True)
+    count.same(f"serve.py {command}", (status, "HELLO" in output, told in errors), (1 if command else 2, False, True))
+count.same("too few words", ran(demo, "x", text=True), (2, "", "usage: demo.py SCRIPT COMMAND ..\n"))
 count.end()

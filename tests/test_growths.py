@@ -8,14 +8,10 @@ of handlers and sessions also how they ended, what was told and which commands w
 none.
 """
 import itertools
-import pathlib
 import re
-import subprocess
-import sys
 
-sys.path.insert(0, str(pathlib.Path(__file__).resolve().parent / "serve"))
-from programs import LIMIT, check_all, differs, top
-from scenes import library
+from compiled import library
+from programs import Wrong, check_all, differs, ran, top
 
 # Each path through a hall, and its steps, where memory ends it one allocation later each time. Before it comes the client makes no step; it goes after having
 # come, after its HELLO, or at the end. Of two requesters the second one may not come, and goes after having come, after its HELLO, or at the end.
@@ -48,23 +44,18 @@ NO_MEMORY, NO_KEY, NO_ACCESS = (bytes([0, 0, 0, 2, 3, errno]) for errno in (12, 
 EARLY = re.compile(rb"(memory|an ask): AllocError\n|lines: ConfFault { line: [0-9]+, kind: NoMemory }\n|a receipt: NoMemory\n")
 
 
-class Odd(Exception):
-    """A run that is not one of those that there may be."""
-
-
 def told(program, test, allocation, more):
     """What the test told of a run that was not the whole one: the words of a list, of which bytes are one. None of the whole one, and an empty list where
     memory was lacking before the first call."""
-    environment = {"LD_PRELOAD": library("refusing_malloc"), "REFUSED": str(allocation), **more}
-    ran = subprocess.run([program, test], env=environment, stdin=subprocess.DEVNULL, stdout=subprocess.PIPE, stderr=subprocess.PIPE, timeout=LIMIT)
-    if ran.returncode == 0:
+    status, _, errors = ran(program, test, env={"LD_PRELOAD": library("refusing_malloc"), "REFUSED": str(allocation), **more})
+    if status == 0:
         return None
-    left = re.search(rb"left: \(?(.*?)\)?\n right: ", ran.stderr)
-    if ran.returncode < 0 and left:
+    left = re.search(rb"left: \(?(.*?)\)?\n right: ", errors)
+    if status < 0 and left:
         return re.findall(r"\[[^]]*\]|[^, ]+", left[1].decode())
-    if ran.returncode < 0 and EARLY.fullmatch(ran.stderr):
+    if status < 0 and EARLY.fullmatch(errors):
         return []
-    raise Odd(f"status {ran.returncode} {ran.stderr[-200:]}")
+    raise Wrong(f"status {status} {errors[-200:]}")
 
 
 def in_turn(program, test, more, whole, judged):
@@ -76,8 +67,8 @@ def in_turn(program, test, more, whole, judged):
             return
         try:
             yield judged(words) if words else None
-        except Odd as odd:
-            raise Odd(f"allocation {allocation} {more}: {odd}: {words}") from None
+        except Wrong as odd:
+            raise Wrong(f"allocation {allocation} {more}: {odd}: {words}") from None
 
 
 def bytes_of(word):
@@ -86,7 +77,7 @@ def bytes_of(word):
 
 def holds(fact, what):
     if not fact:
-        raise Odd(what)
+        raise Wrong(what)
 
 
 def started(word, commands):
@@ -137,47 +128,33 @@ def judged_session(words, commands, is_made, goes_on):
 
 def wrong_path(program, test, steps, more):
     """What went wrong, or None."""
-    try:
-        seen = list(in_turn(program, f"halls::growths::{test}", more, steps[-1], lambda words: int(words[0])))
-    except Odd as odd:
-        return str(odd)
+    seen = list(in_turn(program, f"halls::growths::{test}", more, steps[-1], lambda words: int(words[0])))
     return differs([it for it, _ in itertools.groupby(seen)], [None, *steps])
 
 
 def wrong(program, test, judge, last):
     """What went wrong where all allocations from one on are refused, and where one alone is, as many times; or None."""
-    try:
-        seen = list(in_turn(program, test, {"AND_ON": "1"}, last[-1], lambda words: judge(words, True)))
-        for allocation in range(1, len(seen)):
-            words = told(program, test, allocation, {})
-            holds(words != [] or allocation <= seen.count(None), f"allocation {allocation}: nothing is reported, though the calls had begun")
-            if words:
-                holds(judge(words, False) <= last[-1], f"allocation {allocation}: {words}")
-    except Odd as odd:
-        return f"{test}: {odd}"
+    seen = list(in_turn(program, test, {"AND_ON": "1"}, last[-1], lambda words: judge(words, True)))
+    for allocation in range(1, len(seen)):
+        words = told(program, test, allocation, {})
+        holds(words != [] or allocation <= seen.count(None), f"allocation {allocation}: nothing is reported, though the calls had begun")
+        if words:
+            holds(judge(words, False) <= last[-1], f"allocation {allocation}: {words}")
     return differs([it for it, _ in itertools.groupby(seen)], [None, *last])
 
 
 def wrong_handler(program, name, commands, is_made, last):
-    return wrong(
-        program,
-        f"children::growths::growths_of_a_{name}",
-        lambda words, _: judged_handler(words, commands, is_made),
-        [it - 1 for it in last],
-    )
+    judged = lambda words, _: judged_handler(words, commands, is_made)
+    return wrong(program, f"children::growths::growths_of_a_{name}", judged, [it - 1 for it in last])
 
 
 def wrong_session(program, name, commands, is_made, last):
-    return wrong(
-        program,
-        f"sessions::growths::growths_of_a_{name}",
-        lambda words, goes_on: judged_session(words, commands, is_made, goes_on),
-        [*BEFORE, *last],
-    )
+    judged = lambda words, goes_on: judged_session(words, commands, is_made, goes_on)
+    return wrong(program, f"sessions::growths::growths_of_a_{name}", judged, [*BEFORE, *last])
 
 
 program = top / "crates" / "rk_live_tests" / "out" / "rk_live_tests_tests"
 cases = [(f"{test} {more}", wrong_path, test, steps, more) for test, steps in PATHS for more in ({}, {"AND_ON": "1"})]
 cases += [(f"handler: {it[0]}", wrong_handler, *it) for it in HANDLERS]
 cases += [(f"session: {it[0]}", wrong_session, *it) for it in HANDLERS]
-check_all(cases, lambda program, fault, *case: fault(program, *case), [program])
+check_all(cases, [program])

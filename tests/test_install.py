@@ -8,12 +8,13 @@ import os
 import pathlib
 import re
 import shutil
-import subprocess
 import sys
 import tempfile
 
+import programs
 from counted import Counted
-from programs import LIMIT, built, top, version
+from daemon import Daemon
+from programs import LIMIT, built, lacks, started, there, top, version
 from trap import notifies
 
 count = Counted()
@@ -67,8 +68,7 @@ ADDS = "import ctypes, os; print(ctypes.CDLL(None).syscall({'x86_64': 248, 'aarc
 
 def run(*words, **more):
     """Status, output and errors of a command."""
-    ran = subprocess.run(words, stdin=subprocess.DEVNULL, capture_output=True, text=True, timeout=LIMIT, **{"env": PATH, **more})
-    return ran.returncode, ran.stdout, ran.stderr
+    return programs.ran(*words, text=True, **{"env": PATH, **more})
 
 
 def make(*words):
@@ -84,24 +84,13 @@ def files(root):
 
 def serves(prefix, conf):
     """The installed programs do what the example configuration says."""
-    with tempfile.TemporaryDirectory() as room:
-        socket = f"{room}/socket"
-        words = [prefix / "bin" / "reqkeyd", "serve", "--socket", socket, "--conf", conf, "--clients", "5"]
-        daemon = subprocess.Popen(words, stdin=subprocess.DEVNULL, stdout=subprocess.DEVNULL, stderr=subprocess.PIPE, text=True, env=PATH)
-        try:
-            said = daemon.stderr.readline()
-            if said != "reqkeyd: ready\n":
-                return said
-            client = [prefix / "bin" / "reqkeyctl", "--socket", socket, "--uid", "1000"]
-            key = run(*client, "request", "user", "debug:a", "user", "hello")
-            payload = run(*client, "read", key[1].strip())
-            trapped = (0, "True\n", "") if not notifies() else run(prefix / "bin" / "reqkey-trap", "--socket", socket, "--", sys.executable, "-c", ADDS)
-            library = run(prefix / "bin" / "reqkeyctl", "run", "--socket", socket, "--", "/bin/sh", "-c", 'echo "$LD_PRELOAD"')
-            return key[0], payload, trapped, library, daemon.wait(LIMIT)
-        finally:
-            daemon.kill()
-            daemon.wait()
-            daemon.stderr.close()
+    with Daemon(prefix / "bin" / "reqkeyd", conf.read_text(), "--clients", "5", environment=PATH) as daemon:
+        client = [prefix / "bin" / "reqkeyctl", "--socket", daemon.path, "--uid", "1000"]
+        key = run(*client, "request", "user", "debug:a", "user", "hello")
+        payload = run(*client, "read", key[1].strip())
+        trapped = (0, "True\n", "") if not notifies() else run(prefix / "bin" / "reqkey-trap", "--socket", daemon.path, "--", sys.executable, "-c", ADDS)
+        library = run(prefix / "bin" / "reqkeyctl", "run", "--socket", daemon.path, "--", "/bin/sh", "-c", 'echo "$LD_PRELOAD"')
+        return key[0], payload, trapped, library, daemon.end()
 
 
 def used(name, prefix, python=PYTHON):
@@ -113,7 +102,8 @@ def used(name, prefix, python=PYTHON):
     examples = prefix / "share" / "doc" / "reqkeyd" / "examples"
     library = prefix / "lib" / "reqkeyd" / "libkeyutils.so.1"
     served = serves(prefix, examples / "reqkeyd.conf")
-    count.same(f"{name}: the example configuration, and the library of a run", served, (0, (0, "hello\n", ""), (0, "True\n", ""), (0, f"{library}\n", ""), 0))
+    wanted = 0, (0, "hello\n", ""), (0, "True\n", ""), (0, f"{library}\n", ""), (0, [])
+    count.same(f"{name}: the example configuration, and the library of a run", served, wanted)
     usage = run(sys.executable, "-B", examples / "example_client.py", env={**PATH, "PYTHONPATH": str(prefix / python)})
     count.same(f"{name}: the client in Python", usage, (2, "", "usage: example_client.py SOCKET TYPE DESCRIPTION [CALLOUT]\n"))
     with tempfile.TemporaryDirectory() as room:
@@ -140,38 +130,28 @@ def asks(manager, unit, prefix):
         conf = pathlib.Path(room) / "conf"
         conf.touch()
         serve = f"sleep 0.3; exec {prefix}/bin/reqkeyd serve --socket {room}/socket --conf {conf} --clients 1"
-        daemon = subprocess.Popen(["/bin/sh", "-c", serve], stdin=subprocess.DEVNULL, stdout=subprocess.DEVNULL, stderr=subprocess.DEVNULL, env=PATH)
+        daemon = started("/bin/sh", "-c", serve, env=PATH)
         environment = {**PATH, "MAINPID": str(daemon.pid)}
         count.same(f"what the unit of the {manager} waits for", run("/bin/sh", "-c", script, env=environment), (0, "", ""))
-        count.same(f"whom it has asked, {manager}", daemon.wait(LIMIT), 0)
+        daemon.communicate(timeout=LIMIT)
+        count.same(f"whom it has asked, {manager}", daemon.returncode, 0)
         count.same(f"the unit of the {manager}, without a daemon", run("/bin/sh", "-c", script, env=environment), (0, "", ""))
 
 
 def sweeps(manager, unit, prefix):
     """What a unit runs that makes room for keys: it sweeps the ring of the uid, and leaves what lives."""
     line = next(line for line in unit.read_text().split("\n") if line.startswith("ExecStart="))
-    with tempfile.TemporaryDirectory() as room:
-        command = line.removeprefix("ExecStart=").replace("%t/reqkeyd", room).replace("%i", "1000").replace("%U", "1000").split(" ")
-        conf = pathlib.Path(room) / "conf"
-        conf.write_text("create user p:* * |/bin/cat\n")
-        words = [prefix / "bin" / "reqkeyd", "serve", "--socket", f"{room}/socket", "--conf", conf, "--clients", "4"]
-        daemon = subprocess.Popen(words, stdin=subprocess.DEVNULL, stdout=subprocess.DEVNULL, stderr=subprocess.PIPE, text=True, env=PATH)
-        try:
-            daemon.stderr.readline()
-            client = [prefix / "bin" / "reqkeyctl", "--socket", f"{room}/socket", "--uid", "1000"]
-            asked = [run(*client, "request", "user", name, "user", "x")[0] for name in ["p:1", "none"]]
-            got = asked, run(*command), run(*client, "list"), daemon.wait(LIMIT)
-            count.same(f"the unit of the {manager} that sweeps", got, ([0, 1], (0, "1\n", ""), (0, "12 user;1000;valid;p:1\n", ""), 0))
-        finally:
-            daemon.kill()
-            daemon.wait()
-            daemon.stderr.close()
+    with Daemon(prefix / "bin" / "reqkeyd", "create user p:* * |/bin/cat\n", "--clients", "4", environment=PATH) as daemon:
+        command = line.removeprefix("ExecStart=").replace("%t/reqkeyd/socket", str(daemon.path)).replace("%i", "1000").replace("%U", "1000").split(" ")
+        client = [prefix / "bin" / "reqkeyctl", "--socket", daemon.path, "--uid", "1000"]
+        asked = [run(*client, "request", "user", name, "user", "x")[0] for name in ["p:1", "none"]]
+        got = asked, run(*command), run(*client, "list"), daemon.end()
+        count.same(f"the unit of the {manager} that sweeps", got, ([0, 1], (0, "1\n", ""), (0, "12 user;1000;valid;p:1\n", ""), (0, [])))
 
 
 def verified(prefix):
     """What systemd itself finds in the units, which name the programs below this prefix."""
-    if not shutil.which("systemd-analyze"):
-        print("the units: not tried, there is no systemd-analyze")
+    if lacks("the units", "systemd-analyze"):
         return
     for manager in ["system", "user"]:
         with tempfile.TemporaryDirectory() as room:
@@ -221,8 +201,7 @@ def by_make(ours, room):
 
 def by_package(ours, room):
     """make deb, and what its package has; its programs run from where it was unpacked."""
-    if not shutil.which("dpkg-deb"):
-        print("the package: not tried, there is no dpkg-deb")
+    if lacks("the package", "dpkg-deb"):
         return
     status, printed, errors = run("make", "-s", "-C", top, "deb", f"BUILT={ours}", f"PACKAGES={room}/packages")
     package = pathlib.Path(printed.strip())
@@ -273,19 +252,15 @@ def without_toolchain():
 
 def main():
     without_toolchain()
-    programs = [built(name)[0] for name in ["reqkeyd", "reqkeyctl"]]
-    lacking = [it for it in ["make", "gcc"] if not shutil.which(it)]
-    if lacking:
-        print(f"installing: not tried, there is no {lacking[0]}")
+    if lacks("installing", "make", "gcc"):
         return
-    for program in programs:
-        count.same(f"{program} is built", program.exists(), True)
-    if all(program.exists() for program in programs):
+    ready = list(there(count, [built(name)[0] for name in ["reqkeyd", "reqkeyctl"]]))
+    if len(ready) == 2:
         with tempfile.TemporaryDirectory() as folder:
             room = pathlib.Path(folder)
             ours = room / "built"
             ours.mkdir()
-            for program in programs:
+            for program in ready:
                 shutil.copy(program, ours)
             by_make(ours, room)
             by_package(ours, room)

@@ -4,11 +4,10 @@
 They are counted by callgrind, so a run gives the same as the run before, whatever else the machine does. Only the program as LLVM makes it is measured: that
 is the one which users install.
 """
-import shutil
 import sys
 
 from counted import Counted
-from programs import PROGRAMS, top
+from programs import PROGRAMS, lacks, there, top
 
 sys.path.insert(0, str(top / "bench"))
 import bounds
@@ -17,14 +16,11 @@ import costs
 COUNT = 1000  # as many asks, and twice as many: with fewer, the first growth of the tables and of the record weighs more
 
 count = Counted()
-program = PROGRAMS[0]
-if not shutil.which("valgrind"):
-    print("instructions of an ask: not tried, there is no valgrind")
+if lacks("instructions of an ask", "valgrind"):
     count.end()
-count.same(f"{program} is built", program.exists(), True)
 measured = {ask.name: ask for ask in costs.ASKS}
 count.same("bounds of no ask that is measured", [name for name in bounds.MOST if name not in measured], [])
-if program.exists():
+for program in there(count, PROGRAMS[:1]):
     for name, most in bounds.MOST.items():
         taken = costs.cost(costs.Daemon(program), measured[name], COUNT)
         print(f"{name}: {taken:,.0f} instructions, at most {most:,}")

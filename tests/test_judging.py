@@ -55,7 +55,8 @@ with tempfile.TemporaryDirectory() as name:
         ("an answer that names what is gone", [NAMED.format("Answers"), STOOD_ON], False),
         ("and a goal beside it", [NAMED.format("Answers"), NOTED, STOOD_ON], True),
         ("a goal after a loop whose invariant is gone", [NAMED.format("Invariants"), NOTED, STOOD_ON], False),
-        ("a goal that had an answer under another name", ["./proofs/half/Answers.antt:3:5: error: `it`: `goal.it`: module `Goals` has no `it`", NOTED, STOOD_ON], False),
+        ("a goal that had an answer under another name",
+         ["./proofs/half/Answers.antt:3:5: error: `it`: `goal.it`: module `Goals` has no `it`", NOTED, STOOD_ON], False),
         ("what the prover does not cover", [OPEN.replace("`search`", "the borrow checker does not cover this function yet: `search`")], False),
         ("a goal of Display's", ["fn tried::ShownDisplay::fmt: no proof: `search` did not prove `returns`"], False),
     ]:

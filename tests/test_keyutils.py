@@ -10,20 +10,20 @@ import pathlib
 import re
 import shlex
 import shutil
-import subprocess
 import sys
-import tempfile
 
 import protocol_peer as ask
 from counted import Counted
 from daemon import Daemon, text_of, until
 from keyctl_commands import ALONE, CASES, DENIED, EXPIRED, LEFT_OUT, MISSING, NONE, OF_ANY_LENGTH, REJECTED, REVOKED, SERIAL, USAGE, Keyctl
-from keyutils_library import ENVIRONMENT, UID, Programs, available, libraries
-from programs import LIMIT, PROGRAMS, top
+from keyutils_library import ENVIRONMENT, UID, Programs, everywhere, resolves
+from programs import ran, top
 
 count = Counted()
 CALLS = top / "tests" / "clients" / "calls.py"
 ABSENT = "No such file or directory"
+
+
 class Keyutils(Programs, Keyctl):
     """Programs in a session ring, and what keyctl has to print there."""
 
@@ -56,8 +56,8 @@ NOT_TRIED = ["watch", "watch_session", "watch_sync"]
 
 def listed():
     """The commands that keyctl has."""
-    usage = subprocess.run(["keyctl"], capture_output=True, text=True, timeout=LIMIT)
-    return sorted(set(re.findall(r"^  keyctl ([a-z_0-9]+)", usage.stdout + usage.stderr, re.MULTILINE)))
+    _, output, errors = ran("keyctl", text=True)
+    return sorted(set(re.findall(r"^  keyctl ([a-z_0-9]+)", output + errors, re.MULTILINE)))
 
 
 def documented():
@@ -73,10 +73,10 @@ def documented():
 
 def symbols(library, calls):
     """The library has the calls of keyutils' own, in the same versions, and the document has them."""
-    place = re.search(r"libkeyutils\.so\.1 => (\S+)", subprocess.run(["ldd", shutil.which("keyctl")], capture_output=True, text=True, timeout=LIMIT).stdout)[1]
+    place = re.search(r"libkeyutils\.so\.1 => (\S+)", ran("ldd", shutil.which("keyctl"), text=True)[1])[1]
     names = []
     for path in [place, library]:
-        output = subprocess.run(["nm", "-D", "--defined-only", path], capture_output=True, text=True, timeout=LIMIT).stdout
+        output = ran("nm", "-D", "--defined-only", path, text=True)[1]
         names.append({name for _, kind, name in (line.split() for line in output.splitlines()) if kind != "A"})
     kernel = {name for name in names[0] if "@" in name}
     count.same("symbols of the library", sorted(kernel - names[1]), [])
@@ -154,17 +154,10 @@ def scripted(keys):
 RESOLVER = {"RES_OPTIONS": "timeout:1 attempts:1"}
 
 
-def resolves(keys):
-    """key.dns_resolver for a name of /etc/hosts."""
-    hosts = re.findall(r"^(\d+\.\d+\.\d+\.\d+)\s+(\S+)", pathlib.Path("/etc/hosts").read_text(), re.MULTILINE)
-    if not hosts or not shutil.which("key.dns_resolver", path="/sbin:/usr/sbin"):
-        print("key.dns_resolver: not tried, there is no name in /etc/hosts, or no such program")
-        return
-    address, name = hosts[0]
-    status, key, errors = keys.run("keyctl", "request2", "dns_resolver", name, "ipv4", "@s")
-    count.same("key.dns_resolver", (status, errors), (0, ""))
-    keys.fits(f"pipe {key.strip()}", (0, f"{re.escape(address)}\0", ""))
-    count.same("key.dns_resolver for no name", keys.run("keyctl", "request2", "dns_resolver", "no.such.name.invalid", "ipv4", "@s")[:2], (1, ""))
+def resolves_names(keys):
+    """key.dns_resolver, for a name that there is and for one that there is not."""
+    if resolves(count, "the library", keys.run):
+        count.same("key.dns_resolver for no name", keys.run("keyctl", "request2", "dns_resolver", "no.such.name.invalid", "ipv4", "@s")[:2], (1, ""))
 
 
 def told(daemon, lines):
@@ -181,7 +174,7 @@ def stock(program, library):
         keys = Keyutils(daemon, library)
         handlers(keys)
         scripted(keys)
-        resolves(keys)
+        resolves_names(keys)
         keys.fits("request2 user piped:a x @s", (0, SERIAL, ""))
         count.same("what a piped handler gets", told(daemon, keys.run("keyctl", "pipe", "%user:piped:a")[1].split("\n")), (None, False))
         daemon.lines.clear()
@@ -196,14 +189,12 @@ class Runner:
     def __init__(self, program, path, library):
         self.program, self.path, self.library = program, path, library
 
-    def run(self, *words, options=None, piped=b"", folder=None, **changes):
+    def run(self, *words, options=None, piped="", folder=None, **changes):
         """The status, output and errors of a program."""
         options = ["--socket", self.path, "--library", self.library] if options is None else options
         unset = ["LD_PRELOAD", "REQKEYD_SOCKET", "REQKEYD_JOIN", "REQKEYD_STREAMS"]
         environment = {**{name: value for name, value in os.environ.items() if name not in unset}, **changes}
-        words = [self.program, "run", *options, "--", *words]
-        ran = subprocess.run(words, input=piped, capture_output=True, timeout=LIMIT, env=environment, cwd=folder)
-        return ran.returncode, ran.stdout.decode(), ran.stderr.decode()
+        return ran(self.program, "run", *options, "--", *words, input=piped, text=True, env=environment, cwd=folder)
 
     def shell(self, script, **more):
         return self.run("/bin/sh", "-c", script, **more)
@@ -239,7 +230,7 @@ def shares(runner, daemon):
 def passes(runner):
     """What a program has of its caller: words, streams, the environment but for the variables, the folder."""
     runner.fits("words", runner.run("printf", "%s|", "--help", "--", "run", "a b", ""), 0, re.escape("--help|--|run|a b||"))
-    runner.fits("standard streams", runner.shell("cat; echo told >&2", piped=b"heard"), 0, "heard", "told\n")
+    runner.fits("standard streams", runner.shell("cat; echo told >&2", piped="heard"), 0, "heard", "told\n")
     runner.fits("the folder", runner.run("pwd"), 0, re.escape(os.getcwd()) + "\n")
     shown = 'echo "$LD_PRELOAD $REQKEYD_SOCKET ${REQKEYD_STREAMS-none} $MINE"'
     library, path = str(runner.library), str(runner.path)
@@ -306,8 +297,8 @@ def refuses(runner, room):
     wrong = [["--uid", "x"], ["--uid", "4294967296"], ["--socket"], ["--join", "1"], ["--raw"], ["--socket", "a", "--socket=b"]]
     wrong += [["--library", path] for path in ["libkeyutils.so.1", "/a:/b", "/a b", ""]]
     for words in [[], ["--"], ["true"], *([*options, "--", "true"] for options in wrong)]:
-        ran = subprocess.run([runner.program, "run", *words], stdin=subprocess.DEVNULL, capture_output=True, timeout=LIMIT)
-        runner.same(f"no call {words}", (ran.returncode, ran.stdout, ran.stderr != b""), (2, b"", True))
+        status, output, errors = ran(runner.program, "run", *words)
+        runner.same(f"no call {words}", (status, output, errors != b""), (2, b"", True))
 
 
 def runs(program, library):
@@ -379,7 +370,7 @@ def fits_header():
     if pathlib.Path("/usr/include/keyutils.h").exists():
         for name in ["calls.c", "left_out.c", "raw.c"]:
             words = ["gcc", "-std=c11", "-D_GNU_SOURCE", "-fsyntax-only", "-Werror", "-include", "/usr/include/keyutils.h", top / "clients" / "keyutils" / name]
-            count.same(f"{name} and keyutils.h", subprocess.run(words, capture_output=True, text=True, timeout=LIMIT).stderr, "")
+            count.same(f"{name} and keyutils.h", ran(*words, text=True)[2], "")
 
 
 def tries(program, library, *before):
@@ -397,29 +388,17 @@ def tries(program, library, *before):
         commands(keys)
         handlers(keys)
         scripted(keys)
-        resolves(keys)
+        resolves_names(keys)
         called(keys)
         without(keys, daemon.room)
 
 
-def main():
-    if not available():
-        count.end()
-    with tempfile.TemporaryDirectory(prefix="keyutils-") as folder:
-        there = [each for each in libraries(count, pathlib.Path(folder)) if each[0] is not None]
+for at, (program, library, before) in enumerate(everywhere(count)):
+    if at == 0:
         fits_header()
-        if there:
-            symbols(there[0][0], documented())
-        for program in PROGRAMS:
-            if not program.exists():
-                count.same(f"{program} is built", False, True)
-                continue
-            for library, before in there:
-                tries(program, library, *before)
-                if not before:
-                    stock(program, library)
-                    runs(program, library)
-    count.end()
-
-
-main()
+        symbols(library, documented())
+    tries(program, library, *before)
+    if not before:
+        stock(program, library)
+        runs(program, library)
+count.end()

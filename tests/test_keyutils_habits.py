@@ -5,12 +5,11 @@ import os
 import pathlib
 import signal
 import subprocess
-import tempfile
 
 from counted import Counted
 from daemon import Daemon, until
-from keyutils_library import ENVIRONMENT, UID, Programs, available, libraries
-from programs import LIMIT, PROGRAMS, top
+from keyutils_library import ENVIRONMENT, UID, Programs, everywhere
+from programs import LIMIT, ran, started, top
 
 count = Counted()
 MISSING = "request_key: Required key not available\n"
@@ -93,29 +92,17 @@ def behind(keys):
         os.kill(child, signal.SIGKILL)
 
 
-def released(keys):
-    """Lets the handlers of `slow:` keys end that still run."""
-    def none_is_left():
-        try:
-            os.close(os.open(keys.daemon.room / "fifo", os.O_WRONLY | os.O_NONBLOCK))
-        except OSError:
-            return True
-        return False
-    until(none_is_left, "the end of slow handlers")
-
-
 def killed(keys):
     """A program of a handler is killed while it waits: the reply that comes is nobody else's, and the handler fails."""
     before = len(keys.daemon.lines)
-    streams = {"stdin": subprocess.DEVNULL, "stdout": subprocess.PIPE, "stderr": subprocess.PIPE}
-    request = subprocess.Popen(["keyctl", "request2", "user", "killed:a", "x", "@s"], text=True, env=keys.environment, **streams)
+    request = started("keyctl", "request2", "user", "killed:a", "x", "@s", env=keys.environment)
 
     def said():
         return [line for line in keys.daemon.lines[before:] if line.startswith("keyctl_")]
 
     until(lambda: len(said()) == 2, "what the other programs of a handler get")
     count.same("what its other programs get", said(), ["keyctl_instantiate: Connection reset by peer", "keyctl_read_alloc: Connection reset by peer"])
-    released(keys)
+    keys.daemon.release()
     output, errors = request.communicate(timeout=LIMIT)
     count.same("a handler whose program was killed", (request.returncode, output, errors), (1, "", MISSING))
 
@@ -139,7 +126,7 @@ def habits(keys):
                 keys.daemon.room.chmod(0o755)
             status, output, errors = keys.run(keys.daemon.room / "habits", subject, FIFO=str(keys.daemon.room / "fifo"), REQKEYD_JOIN=join)
             count.same(f"habits: {subject}, in {join}", (status, output.split("\n")[:-1], errors), (0, want, ""))
-            released(keys)
+            keys.daemon.release()
 
 
 def example(keys):
@@ -166,13 +153,9 @@ def restarted(keys):
         if join is not None and daemon.client(UID, join=int(join)).rings[2] != int(join):
             count.same("the ring is there", False, True)
         environment = {name: value for name, value in {**keys.environment, "REQKEYD_JOIN": join}.items() if value is not None}
-        streams = {"stdin": subprocess.PIPE, "stdout": subprocess.PIPE}
-        program = subprocess.Popen([daemon.room / "habits", "restart"], env=environment, text=True, **streams)
+        program = started(daemon.room / "habits", "restart", env=environment, stdin=subprocess.PIPE, stderr=None)
         first = program.stdout.readline()
-        daemon.process.kill()
-        daemon.process.wait()
-        daemon.process.stdout.close()
-        daemon.process.stderr.close()
+        daemon.kill()
         daemon.start()
         daemon.client(UID)  # (so that serials are drawn)
         output = program.communicate("\n", timeout=LIMIT)[0]
@@ -188,10 +171,10 @@ def tries(program, library, *before):
         for name, text in SCRIPTS.items():
             daemon.script(name, text)
         os.mkfifo(daemon.room / "fifo")
-        words = ["gcc", "-std=gnu11", "-D_GNU_SOURCE", "-Wall", "-Wextra", "-Werror", "-I", top / "clients" / "keyutils", "-pthread",
-                 "-o", daemon.room / "habits", "-Wl,--unresolved-symbols=ignore-in-shared-libs", top / "tests" / "clients" / "habits.c", library]
-        made = subprocess.run(words, capture_output=True, text=True, timeout=LIMIT)
-        count.same("habits.c is built", (made.returncode, "" if "libasan" in made.stderr else made.stderr), (0, ""))
+        status, _, errors = ran(
+            "gcc", "-std=gnu11", "-D_GNU_SOURCE", "-Wall", "-Wextra", "-Werror", "-I", top / "clients" / "keyutils", "-pthread",
+            "-o", daemon.room / "habits", "-Wl,--unresolved-symbols=ignore-in-shared-libs", top / "tests" / "clients" / "habits.c", library, text=True)
+        count.same("habits.c is built", (status, "" if "libasan" in errors else errors), (0, ""))
         keys = Programs(daemon, library, *before)
         handlers(keys)
         behind(keys)
@@ -201,18 +184,6 @@ def tries(program, library, *before):
         restarted(keys)
 
 
-def main():
-    if not available():
-        count.end()
-    with tempfile.TemporaryDirectory(prefix="keyutils-") as folder:
-        there = [each for each in libraries(count, pathlib.Path(folder)) if each[0] is not None]
-        for program in PROGRAMS:
-            if not program.exists():
-                count.same(f"{program} is built", False, True)
-                continue
-            for library, before in there:
-                tries(program, library, *before)
-    count.end()
-
-
-main()
+for program, library, before in everywhere(count):
+    tries(program, library, *before)
+count.end()

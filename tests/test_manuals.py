@@ -3,12 +3,12 @@
 import pathlib
 import re
 import shutil
-import subprocess
 import sys
 import tempfile
 
+from compiled import made
 from counted import Counted
-from programs import LIMIT, built, top
+from programs import built, lacks, ran, there, top
 
 sys.path.insert(0, str(top / "tools"))
 from program_help import option, part, said, subcommands
@@ -58,14 +58,20 @@ def calls(program, name):
     return re.sub(rf"\[OPTIONS\] |[<>]|^{name} ?", "", usage[1]).upper() if usage else f"no usage of {name}"
 
 
+def of_synopsis(page, program, text):
+    """The options of a program are those of its page, and each stands in the synopsis."""
+    listed = sorted(option(tag) for tag in tagged(page["OPTIONS"]))
+    count.same(f"options of {program}", listed, options(*text))
+    synopsis = " ".join(spoken(line) for line in page["SYNOPSIS"])
+    count.same(f"synopsis of {program}", [it for it in listed if it.split()[-1] != "--help" and it.split()[1 if it[1] != "-" else 0] not in synopsis], [])
+    return synopsis
+
+
 def of_daemon(program):
     """reqkeyd.8: its options, its subcommands, and that each option stands in the synopsis."""
     page, top_help = sections("reqkeyd.8"), said(program, "--help")
     helps = [said(program, it, "--help") for it in ["serve", "check", "pick"]]
-    listed = sorted(option(tag) for tag in tagged(page["OPTIONS"]))
-    count.same("options of reqkeyd", listed, options(top_help, *helps))
-    synopsis = " ".join(spoken(line) for line in page["SYNOPSIS"])
-    count.same("synopsis of reqkeyd", [it for it in listed if it.split()[-1] != "--help" and it.split()[1 if it[1] != "-" else 0] not in synopsis], [])
+    synopsis = of_synopsis(page, "reqkeyd", [top_help, *helps])
     commands = subcommands(top_help)
     count.same("subcommands of reqkeyd", sorted(commands), ["check", "pick", "rejoin", "replay", "serve"])
     count.same("their synopsis", [it for it in commands if f"reqkeyd {it}" not in synopsis], [])
@@ -96,11 +102,13 @@ def of_warnings():
     ends = [f"session N: {it}" for it in variants("rk_session/src/serving.rt", "Served") if it != "Ended"]
     ending = (top / "crates" / "rk_daemon" / "src" / "ending.rt").read_text()
     ways = ending.partition("fn put_how(")[2].partition("fn errno_text(")[0]
-    fails = [re.sub(r"\{\w+\}", "N", text) for text in re.findall(r'"([^"]+)"', ways) if not re.match(r"; |X[234]|start failed: |it could", text) and "more than" not in text]
+    others = re.compile(r"; |X[234]|start failed: |it could|.*more than")
+    fails = [re.sub(r"\{\w+\}", "N", text) for text in re.findall(r'"([^"]+)"', ways) if not others.match(text)]
     ends_in = re.findall(r'"(; [^"]+)"', ways)
     count.same("what a warning of a handler may end in", [it for it in ends_in if f"\\fB{it}\\fR" in (top / "man" / "reqkeyd.8").read_text()], ends_in)
     count.same("warnings of sessions", [tag for tag in tags if tag.startswith("session N: ") and tag not in ["session N: no memory", "session N: idle"]], ends)
-    count.same("warnings of handlers", [tag for tag in tags if tag.startswith("handler of key N: ") and not tag.endswith("this line")], [f"handler of key N: {it}" for it in sorted(fails, key=fails.index)])
+    of_handlers = [tag for tag in tags if tag.startswith("handler of key N: ") and not tag.endswith("this line")]
+    count.same("warnings of handlers", of_handlers, [f"handler of key N: {it}" for it in fails])
     text = " ".join(spoken(line) for line in sections("reqkeyd.8")["DIAGNOSTICS"]).partition("handler of key N: ")[2].partition("accept:")[0]
     reasons = re.findall(r"X[234]: [^\"]+", ways) + shown("rk_devices/src/output.rt", "OutputFault")
     count.same("reasons of handlers", [it for it in reasons if it not in text], [])
@@ -113,10 +121,7 @@ def of_warnings():
 def of_client(program):
     """reqkeyctl.1: its options, its subcommands with their arguments, what the arguments are called, and the errors."""
     page, text = sections("reqkeyctl.1"), said(program, "--help")
-    listed = sorted(option(tag) for tag in tagged(page["OPTIONS"]))
-    count.same("options of reqkeyctl", listed, options(text))
-    synopsis = " ".join(spoken(line) for line in page["SYNOPSIS"])
-    count.same("synopsis of reqkeyctl", [it for it in listed if not it.startswith("-h") and it.split()[1 if it[1] != "-" else 0] not in synopsis], [])
+    of_synopsis(page, "reqkeyctl", [text])
     tags = dict(tag.partition(" ")[::2] for tag in tagged(page["COMMANDS"]))
     count.same("subcommands of reqkeyctl", list(tags), subcommands(text))
     for name, arguments in tags.items():
@@ -128,16 +133,11 @@ def of_client(program):
 def of_trap():
     """reqkey-trap.1: its options, and that each stands in the synopsis; and what it says on standard error, by its sources."""
     page = sections("reqkey-trap.1")
-    if not shutil.which("gcc") or not shutil.which("make"):
-        print("reqkey-trap.1: not tried, there is no gcc and make")
+    if lacks("reqkey-trap.1", "gcc", "make"):
         return
     with tempfile.TemporaryDirectory() as room:
-        subprocess.run(["make", "-s", "-C", top / "clients" / "trap", f"OUT={room}"], check=True, timeout=LIMIT)
-        text = said(pathlib.Path(room) / "reqkey-trap", "--help")
-    listed = sorted(option(tag) for tag in tagged(page["OPTIONS"]))
-    count.same("options of reqkey-trap", listed, options(text))
-    synopsis = " ".join(spoken(line) for line in page["SYNOPSIS"])
-    count.same("synopsis of reqkey-trap", [it for it in listed if not it.startswith("-h") and it.split()[1 if it[1] != "-" else 0] not in synopsis], [])
+        text = said(made(count, "trap", pathlib.Path(room)), "--help")
+    of_synopsis(page, "reqkey-trap", [text])
     sources = "".join(path.read_text() for path in (top / "clients" / "trap").glob("*.c"))
     texts = re.findall(r'fputs\("reqkey-trap: (.*?)\\n"', sources)
     count.same("what reqkey-trap says", sorted(it for it in texts if it not in tagged(page["DIAGNOSTICS"])), [])
@@ -152,7 +152,8 @@ def of_configuration():
     letters = re.findall(r"^        b'(\w)' => Some", (top / "crates" / "rk_conf" / "src" / "borrowed_argument.rt").read_text(), re.MULTILINE)
     count.same("macros", macros, [*(f"%{letter}" for letter in letters), "%{", "%%"])
     count.same("codes", tagged(page["DIAGNOSTICS"]), [code for code in shown("rk_conf/src/fault.rt", "ConfKind") if code != "C5"])
-    count.same("codes of words", [tag for tag in tags if tag.startswith("X")], re.findall(r'"(X\d)"\)\]', (top / "crates" / "rk_macro" / "src" / "fault.rt").read_text()))
+    codes = re.findall(r'"(X\d)"\)\]', (top / "crates" / "rk_macro" / "src" / "fault.rt").read_text())
+    count.same("codes of words", [tag for tag in tags if tag.startswith("X")], codes)
 
 
 def alike(page):
@@ -167,8 +168,8 @@ def alike(page):
     count.same(f"see also of {page}", [it for it, its in others if f"{it}({its})" not in also], [])
     count.same(f"columns of {page}", [line for line in text.split("\n") if len(line) > 160], [])
     if shutil.which("groff"):
-        ran = subprocess.run(["groff", "-ww", "-man", "-Tutf8", "-b", top / "man" / page], capture_output=True, text=True, timeout=LIMIT)
-        count.same(f"faults in {page}", (ran.returncode, ran.stderr), (0, ""))
+        status, _, errors = ran("groff", "-ww", "-man", "-Tutf8", "-b", top / "man" / page, text=True)
+        count.same(f"faults in {page}", (status, errors), (0, ""))
 
 
 if not shutil.which("groff"):
@@ -179,9 +180,6 @@ of_configuration()
 of_trap()
 of_warnings()
 for name, compare in [("reqkeyd", of_daemon), ("reqkeyctl", of_client)]:
-    program = built(name)[0]
-    if program.exists():
+    for program in there(count, built(name)[:1]):
         compare(program)
-    else:
-        count.same(f"{program} is built", False, True)
 count.end()

@@ -8,12 +8,11 @@ import os
 import pathlib
 import random
 import re
-import subprocess
 import sys
 import tempfile
 
 from counted import Counted
-from programs import LIMIT, PROGRAMS, top
+from programs import ran, there, top
 
 sys.path.insert(0, str(top / "tools"))
 from messages import bodies, frame, unword, word, write_ask
@@ -148,14 +147,8 @@ LIMITS = {"uid": 4294967295, "gid": 4294967295, "key": 2147483647, "thread": 214
 NO_NUMBERS = ["", " 1", "1 ", "+1", "-1", "0x1", "1.", "one", "\u0661", "99999999999999999999"]
 
 
-def ran(program, *words):
-    """What a call prints on standard output and standard error, and its status."""
-    got = subprocess.run([program, *words], stdin=subprocess.DEVNULL, capture_output=True, timeout=LIMIT)
-    return got.returncode, got.stdout, got.stderr
-
-
 def told(program, room, text, *words):
-    """The same of words with `CONF`, for a configuration of this text."""
+    """What comes of words with `CONF`, for a configuration of this text."""
     (room / "conf").write_bytes(text)
     return ran(program, *[it.replace("CONF", str(room / "conf")) if isinstance(it, str) else it for it in words])
 
@@ -179,9 +172,9 @@ def checks(program, room):
         count.same(f"{program.name} check {text[:40]}", got[:2] if got[0] == 0 else got, want[:2] if got[0] == 0 else want)
         if want[0]:
             count.same(f"{program.name} pick of {text[:40]}", told(program, room, text, "pick", "--conf=CONF", *REQUEST), want)
-    for path in [room / "none", room]:
+    for path, why in [(room / "none", "No such file or directory"), (room, "Is a directory")]:
         for words in [["check", "--conf", path], ["pick", "--conf", path, *REQUEST]]:
-            count.same(f"{program.name} {words}", ran(program, *words), (1, b"", f"reqkeyd: conf\n  {path}: {'Is a directory' if path == room else 'No such file or directory'}\n".encode()))
+            count.same(f"{program.name} {words}", ran(program, *words), (1, b"", f"reqkeyd: conf\n  {path}: {why}\n".encode()))
     for text, wanted in DOUBTS:
         count.same(f"{program.name} doubts {text}", told(program, room, text.encode(), "check", "--conf", "CONF"),
                    (0, counted_lines(len(text.split("\n")) - 1), wanted.encode()))
@@ -220,8 +213,7 @@ def calls(program, room):
         count.same(f"{program.name} {words}", got, (0, "\n".join(["line 1 plain", "/p", *words, ""]).encode(), b""))
     with open("/dev/full", "wb") as full:
         for words in [["check", "--conf", room / "conf"], ["pick", "--conf", room / "conf", "user", "d", ""]]:
-            got = subprocess.run([program, *words], stdin=subprocess.DEVNULL, stdout=full, stderr=subprocess.PIPE, timeout=LIMIT)
-            count.same(f"{program.name} {words[0]} on a full device", (got.returncode, got.stderr), (1, b"reqkeyd: output\n"))
+            count.same(f"{program.name} {words[0]} on a full device", ran(program, *words, stdout=full), (1, None, b"reqkeyd: output\n"))
 
 
 def numbers(program, room):
@@ -277,7 +269,7 @@ def conf_of(dice, request):
 
 def played(program, lines):
     """What replay outputs for a script, a list of lines."""
-    return subprocess.run([program, "replay"], input=b"\n".join(lines), capture_output=True, timeout=LIMIT).stdout.decode().splitlines()
+    return ran(program, "replay", input=b"\n".join(lines))[1].decode().splitlines()
 
 
 def ask_line(moment, kind, who, *words):
@@ -346,22 +338,14 @@ def in_a_shell(program, room):
     (room / "conf").write_bytes(b"create * * * /p %d %c")
     script = f'"{program}" pick --conf "{room}/conf" user "$1" "$2" | sed -n 4p | {{ IFS= read -r it; printf "%b" "$it"; }}'
     for callout in ["plain", "a\nb", " \\0012 \\\\ %d \t", "\u00e9\x1b"]:
-        got = subprocess.run(["sh", "-c", script, "sh", "d", callout], stdin=subprocess.DEVNULL, capture_output=True, timeout=LIMIT)
-        count.same(f"{program.name} {callout!r} by printf", (got.stdout.decode(), got.stderr), (callout, b""))
+        count.same(f"{program.name} {callout!r} by printf", ran("sh", "-c", script, "sh", "d", callout)[1:], (callout.encode(), b""))
 
 
-def main():
-    for program in PROGRAMS:
-        count.same(f"{program} is built", program.exists(), True)
-        if not program.exists():
-            continue
-        with tempfile.TemporaryDirectory() as name:
-            room = pathlib.Path(name)
-            for tried in [checks, picks, calls, numbers, in_a_shell]:
-                tried(program, room)
-            for seed in range(int(os.environ.get("SEEDS", CASES))):
-                beside_replay(program, room, seed)
-    count.end()
-
-
-main()
+for program in there(count):
+    with tempfile.TemporaryDirectory() as name:
+        room = pathlib.Path(name)
+        for tried in [checks, picks, calls, numbers, in_a_shell]:
+            tried(program, room)
+        for seed in range(int(os.environ.get("SEEDS", CASES))):
+            beside_replay(program, room, seed)
+count.end()

@@ -3,7 +3,7 @@
 import subprocess
 import sys
 
-from programs import LIMIT, check_all, top
+from programs import check_all, ran, top
 from scenarios import scenario, scenarios
 
 sys.path[:0] = [str(top / "examples"), str(top / "tools")]
@@ -13,18 +13,17 @@ from script import lines_of
 
 def fault(program, script, case):
     """What went wrong with this script, whose output is that of the scenario, or None."""
-    ran = subprocess.run([program, "replay"], input=script, capture_output=True, timeout=LIMIT)
-    if ran.stdout != case.expected:
-        got = ran.stdout.decode(errors="replace").splitlines()
+    status, output, said = ran(program, "replay", input=script)
+    if output != case.expected:
+        got = output.decode(errors="replace").splitlines()
         want = case.expected.decode().splitlines()
         for number, pair in enumerate(zip(got + [""] * len(want), want + [""] * len(got)), 1):
             if pair[0] != pair[1]:
                 return f"line {number} is {pair[0]!r}, not {pair[1]!r}"
-    if ran.returncode != case.status:
-        return f"status {ran.returncode}"
-    errors = b"reqkeyd: script\n" if case.status == 1 else b""
-    if ran.stderr != errors:
-        return f"on standard error: {ran.stderr!r}"
+    if status != case.status:
+        return f"status {status}"
+    if said != (b"reqkeyd: script\n" if case.status == 1 else b""):
+        return f"on standard error: {said!r}"
     return misplaced(program, case)
 
 
@@ -40,7 +39,7 @@ def misplaced(program, case):
     return None
 
 
-cases = [(case.name, case.script, case) for case in scenarios()]
+cases = [(case.name, fault, case.script, case) for case in scenarios()]
 # the example is the first path, with comments
-cases.append(("examples/first-path.script", (top / "examples" / "first-path.script").read_bytes(), scenario("first_path")))
-check_all(cases, fault)
+cases.append(("examples/first-path.script", fault, (top / "examples" / "first-path.script").read_bytes(), scenario("first_path")))
+check_all(cases)

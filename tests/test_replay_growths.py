@@ -7,16 +7,12 @@ the same. Or the run ends with its fault, and writes nothing.
 """
 import collections
 import itertools
-import pathlib
 import re
-import shutil
-import subprocess
 import sys
 
-sys.path.insert(0, str(pathlib.Path(__file__).resolve().parent / "serve"))
-from programs import LIMIT, PROGRAMS, check_all, top
+from compiled import library
+from programs import check_all, lacks, ran, top
 from scenarios import scenario
-from scenes import library
 
 sys.path.insert(0, str(top / "tools"))
 from messages import read_ask
@@ -27,9 +23,10 @@ SCENARIOS = {
     "chain_of_eight": "the deepest chain", "circle_of_two": "a circle", "wildcards": "a configuration", "words_of_commands": "the words of commands",
     "payload_as_an_argument": "a payload among the words", "refused_configuration": "a configuration that is refused",
     "added_key_displaces": "a key that is displaced", "states_of_a_key": "a key in its states", "expiry": "keys that expire",
-    "revoked_while_building": "a key that is revoked while it is made", "client_goes_with_its_ring": "a client that goes", "cleared_ring": "a ring that is cleared",
-    "rings_to_join": "rings that are joined", "piped_payloads": "piped handlers", "negate_after_each_failure": "a line for negate",
-    "debug_lines": "lines for some names each", "negate_command_completes": "a line for negate that makes the key", "negate_with_a_waiter": "a line for negate, and two requesters",
+    "revoked_while_building": "a key that is revoked while it is made", "client_goes_with_its_ring": "a client that goes",
+    "cleared_ring": "a ring that is cleared", "rings_to_join": "rings that are joined", "piped_payloads": "piped handlers",
+    "negate_after_each_failure": "a line for negate", "debug_lines": "lines for some names each",
+    "negate_command_completes": "a line for negate that makes the key", "negate_with_a_waiter": "a line for negate, and two requesters",
     "faults_of_plain_handlers": "handlers with a fault", "sixty_four_clients": "a client too many", "many_asks_in_one_piece": "asks in one piece",
 }
 
@@ -168,9 +165,8 @@ def waits_in(script, groups):
 
 def run(program, script, allocation):
     """One run: its status, its output and what it says."""
-    environment = {"LD_PRELOAD": library("refusing_malloc"), "REFUSED": str(allocation)}
-    ran = subprocess.run([program, "replay"], input=script, env=environment, stdout=subprocess.PIPE, stderr=subprocess.PIPE, timeout=LIMIT)
-    return ran.returncode, groups_of(lines_of(ran.stdout)), ran.stderr
+    status, output, errors = ran(program, "replay", input=script, env={"LD_PRELOAD": library("refusing_malloc"), "REFUSED": str(allocation)})
+    return status, groups_of(lines_of(output)), errors
 
 
 def fault(program, case):
@@ -201,9 +197,5 @@ def fault(program, case):
     return None if kinds["ended"] > 10 else f"{kinds}"
 
 
-cases = []
-if shutil.which("gcc"):
-    cases = [(what, scenario(name)) for name, what in SCENARIOS.items()]
-else:
-    print("allocations that are refused: not tried, there is no gcc")
-check_all(cases, fault, PROGRAMS)
+tried = {} if lacks("allocations that are refused", "gcc") else SCENARIOS
+check_all([(what, fault, scenario(name)) for name, what in tried.items()])

@@ -3,19 +3,18 @@
 
 Also looks at the scenarios of tests/replay: ten of them keep the script and the expected output byte by byte, and both are what the words say.
 """
-import pathlib
 import random
 import re
-import subprocess
 import sys
 
-top = pathlib.Path(__file__).resolve().parent.parent
+from counted import Counted
+from programs import ran, top
+from scenarios import scenarios
+
 tool = top / "tools" / "script.py"
 sys.path.insert(0, str(tool.parent))
 import messages
 import script
-from counted import Counted
-from scenarios import scenarios
 
 count = Counted()
 
@@ -142,6 +141,7 @@ WRONG = [
     ("repeat N 2 1", "less than the first"),
     ("repeat N 1 1000001", "from 0 to 1000000"),
     ("repeat N 0 1\ngone {N-1}\nend", "less than 0"),
+    ("repeat N 256 256\nc1 body {N:02x}\nend", "hexadecimal"),
     ("repeat N 0 1\nrepeat N 0 1\nend\nend", "within another"),
     ("repeat N 0 1\ngone {N}", "without its end"),
     ("gone {N}", "no number"),
@@ -197,9 +197,13 @@ def whole_texts():
     came = b"fault 4 S1\nto 1 00000002030d\nto 1 00000002030d\n"
     count.same("what has to come", script.answers(words), came)
     count.same("nothing", (script.write(b""), script.read(b""), script.answers(b"")), (b"", b"", b""))
-    repeated = b"100 accept 0\nrepeat N 0 2\nc0 READ {N}\n  c0 <- {2*N+1}\nend\ngone 0\n"
-    unrolled = b"100 accept 0\nc0 READ 0\n  c0 <- 1\nc0 READ 1\n  c0 <- 3\nc0 READ 2\n  c0 <- 5\ngone 0\n"
-    count.same("a repeat", (script.write(repeated), script.answers(repeated)), (script.write(unrolled), script.answers(unrolled)))
+    for repeated, unrolled in [
+        (b"c0 READ {N}\n  c0 <- {2*N+1}\n", b"c0 READ 1\n  c0 <- 3\nc0 READ 2\n  c0 <- 5\nc0 READ 3\n  c0 <- 7\n"),
+        (b"c0 body {N+8:02x}ff\n", b"c0 body 09ff\nc0 body 0aff\nc0 body 0bff\n"),
+        (b"bytes 0 ff{0001000203:N-1}\n", b"bytes 0 ff\nbytes 0 ff00\nbytes 0 ff0001\n"),
+    ]:
+        told, wanted = b"100 accept 0\nrepeat N 1 3\n" + repeated + b"end\ngone 0\n", b"100 accept 0\n" + unrolled + b"gone 0\n"
+        count.same(f"a repeat of {repeated}", (script.write(told), script.answers(told)), (script.write(wanted), script.answers(wanted)))
 
 
 def any_bytes():
@@ -255,9 +259,9 @@ def calls():
         (["write"], b"accept 1\n", 1, b"", b"script.py: line 1: "),
         (["write", "/nothing/there"], b"", 1, b"", b"script.py: "),
     ]:
-        ran = subprocess.run([tool, *words], input=given, capture_output=True)
-        got = (ran.returncode, ran.stdout if output is not None else None, errors in ran.stderr, bool(ran.stderr))
-        count.same(f"script.py {words}", got, (status, output, True, bool(errors)))
+        got, printed, said = ran(tool, *words, input=given)
+        told = (got, printed if output is not None else None, errors in said, bool(said))
+        count.same(f"script.py {words}", told, (status, output, True, bool(errors)))
 
 
 def examples():

@@ -13,12 +13,4 @@ from programs import check_all
 SUBJECTS = ["start", "keys", "ends", "frames", "together", "hostile", "alike", "memory", "devices", "log"]
 
 
-def tried(program, try_it, *more):
-    """What went wrong, or None."""
-    try:
-        return try_it(program, *more)
-    except Exception as failed:  # whatever it is, it is this case that failed
-        return f"{type(failed).__name__}: {failed}"
-
-
-check_all([case for name in sys.argv[1:] or SUBJECTS for case in importlib.import_module(name).cases()], tried)
+check_all([case for name in sys.argv[1:] or SUBJECTS for case in importlib.import_module(name).cases()])

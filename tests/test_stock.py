@@ -10,10 +10,11 @@ import subprocess
 import tempfile
 
 import trap
+from compiled import made
 from counted import Counted
 from daemon import Daemon, until
-from keyutils_library import Programs, available, built
-from programs import LIMIT, PROGRAMS, top
+from keyutils_library import Programs, available, resolves
+from programs import ran, there, top
 
 count = Counted()
 SYSTEM = "/usr/sbin:/sbin:/usr/bin:/bin"
@@ -47,22 +48,12 @@ def stock(way, run):
         count.same(f"request-key by {way}: {name}", got, want)
 
 
-def resolves(way, run):
-    """A name of /etc/hosts, by the stock line for key.dns_resolver."""
-    hosts = re.findall(r"^(\d+\.\d+\.\d+\.\d+)\s+(\S+)", pathlib.Path("/etc/hosts").read_text(), re.MULTILINE)
-    if not hosts or not shutil.which("key.dns_resolver", path=SYSTEM):
-        print("key.dns_resolver: not tried, there is no name in /etc/hosts, or no such program")
-        return
-    key = run("keyctl", "request2", "dns_resolver", hosts[0][1], "ipv4", "@s")[1].strip()
-    count.same(f"key.dns_resolver by {way}", run("keyctl", "pipe", key), (0, f"{hosts[0][0]}\0", ""))
-
-
 def maps(way, run):
     """Users and groups of this machine, by nfsidmap."""
     if not shutil.which("nfsidmap", path=SYSTEM):
         print("nfsidmap: not tried, it is not here")
         return
-    domain = subprocess.run([shutil.which("nfsidmap", path=SYSTEM), "-d"], capture_output=True, text=True, timeout=LIMIT).stdout.strip()
+    domain = ran(shutil.which("nfsidmap", path=SYSTEM), "-d", text=True)[1].strip()
     if not domain:
         print("nfsidmap: not tried, it says no domain")
         return
@@ -114,7 +105,7 @@ class Center:
             print(f"cifs.upcall: not tried, there is no {lacking[0]}" if lacking else "cifs.upcall: not tried, there is no KDC to be had")
 
     def does(self, *words, piped=""):
-        return subprocess.run(words, input=piped, capture_output=True, text=True, timeout=LIMIT, env=self.environment).returncode == 0
+        return ran(*words, input=piped, text=True, env=self.environment)[0] == 0
 
     def begins(self):
         made = self.does("kdb5_util", "create", "-s", "-r", "KEYS.TEST", "-P", "master")
@@ -153,7 +144,7 @@ def bindings(way, run):
 def tries(way, run, center):
     if shutil.which("request-key", path=SYSTEM) and os.path.exists("/etc/request-key.conf"):
         stock(way, run)
-        resolves(way, run)
+        resolves(count, way, run)
     else:
         print("request-key: not tried, it or its configuration is not here")
     maps(way, run)
@@ -171,12 +162,9 @@ def main():
         count.end()
     with tempfile.TemporaryDirectory(prefix="stock-") as folder:
         room = pathlib.Path(folder)
-        library, program, center = built(count, room, "library"), trap.built(count, room, "trap"), Center(room / "kdc")
+        library, program, center = made(count, "keyutils", room / "library"), made(count, "trap", room / "trap"), Center(room / "kdc")
         try:
-            for daemon_program in PROGRAMS if library and program else []:
-                if not daemon_program.exists():
-                    count.same(f"{daemon_program} is built", False, True)
-                    continue
+            for daemon_program in there(count) if library and program else []:
                 with Daemon(daemon_program, f"create user both:* * {program} --key %k %room/both %k\n" + lines("", center), "--keyutils", library) as daemon:
                     daemon.script("both", BOTH)
                     keys = Programs(daemon, library)

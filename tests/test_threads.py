@@ -4,19 +4,17 @@
 The test itself compares records, seats and receipts. In the crate it asks less often, so that it ends soon also where memory is watched.
 """
 import os
-import subprocess
 
-from programs import LIMIT, check_all, top
+from programs import check_all, ran, top
 
-TESTS = ["threads_side_by_side_settle"]
+TEST = "threads::together::threads_side_by_side_settle"
 ASKS = 10_000
 
 
-def wrong(program, test):
+def wrong(program):
     """What went wrong, or None."""
-    words = [program, f"threads::together::{test}"]
-    ran = subprocess.run(words, env={**os.environ, "ASKS": str(ASKS)}, stdin=subprocess.DEVNULL, capture_output=True, timeout=LIMIT)
-    return f"status {ran.returncode} {(ran.stdout + ran.stderr)[-400:]}" if ran.returncode else None
+    status, output, errors = ran(program, TEST, env={**os.environ, "ASKS": str(ASKS)})
+    return f"status {status} {(output + errors)[-400:]}" if status else None
 
 
-check_all([(test, test) for test in TESTS], wrong, [top / "crates" / "rk_live_tests" / "out" / "rk_live_tests_tests"])
+check_all([(TEST, wrong)], [top / "crates" / "rk_live_tests" / "out" / "rk_live_tests_tests"])

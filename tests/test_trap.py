@@ -17,13 +17,13 @@ import socket
 import subprocess
 import sys
 import tempfile
-import time
 
+from compiled import made_twice
 from counted import Counted
 from daemon import Daemon, until
 from keyctl_commands import ALONE, CASES, Keyctl
-from programs import LIMIT, PROGRAMS, top
-from trap import Inside, Trap, environment, notifies, statically, traps
+from programs import LIMIT, PROGRAMS, lacks, ran, there, top
+from trap import Inside, Listening, Trap, environment, notifies, statically
 
 count = Counted()
 UID = os.geteuid()
@@ -85,8 +85,7 @@ OTHERWISE = {"unlink {key}": "0 links removed\n", "purge user": "purged 0 keys\n
 
 def commands(trap):
     """Each command of keyctl, by keyutils' own library."""
-    if not shutil.which("keyctl"):
-        print("keyctl in a trap: not tried, there is no keyutils")
+    if lacks("keyctl in a trap", "keyctl"):
         return
     with Commands(trap.words(), env=environment(SHELL="/bin/true")) as inside:
         session, user = (int(inside.run("keyctl", "id", name)[1]) for name in ["@s", "@u"])
@@ -96,23 +95,12 @@ def commands(trap):
                 inside.fits(words, [want[0], OTHERWISE.get(words, want[1]), want[2]], key=key, session=session, user=user, uid=UID)
 
 
-def released(daemon):
-    """Lets the handlers of `slow:` keys end that still run."""
-    def none_is_left():
-        try:
-            os.close(os.open(daemon.room / "fifo", os.O_WRONLY | os.O_NONBLOCK))
-        except OSError:
-            return True
-        return False
-    until(none_is_left, "the end of slow handlers")
-
-
 def subjects(trap, daemon, program):
     """A static program that makes each call itself."""
     for subject, want in {**PRINTED, **(OF_ROOT if UID == 0 else {})}.items():
         status, output, errors = trap.run(program, *subject.split(), FIFO=str(daemon.room / "fifo"))
         count.same(f"trapped: {subject}", (status, output.split("\n")[:-1], "" if "parents" in subject else errors), (0, want, ""))
-        released(daemon)
+        daemon.release()
     by_ctypes = "import ctypes; libc = ctypes.CDLL(None); print(libc.syscall(248, b'user', b'n', b'v', 1, -3) > 0)"
     if os.uname().machine == "x86_64":
         count.same("Python's ctypes", trap.run(sys.executable, "-c", by_ctypes), (0, "True\n", ""))
@@ -123,8 +111,7 @@ def narrow(trap, room):
     flags = ["-m32", "-O1", "-Wall", "-Wextra", "-Werror", "-ffreestanding", "-fno-pic", "-fno-stack-protector", "-nostdlib", "-static"]
     words = ["gcc", *flags, "-o", room / "narrow", top / "tests" / "clients" / "narrow.c"]
     try:
-        made = os.uname().machine == "x86_64" and subprocess.run(words, capture_output=True, timeout=LIMIT).returncode == 0
-        runs = made and subprocess.run([room / "narrow"], capture_output=True, timeout=LIMIT).returncode >= 0
+        runs = os.uname().machine == "x86_64" and ran(*words)[0] == 0 and ran(room / "narrow")[0] >= 0
     except OSError:
         runs = False
     if runs:
@@ -143,11 +130,11 @@ def users(trap, daemon, program):
     shutil.copy(trap.program, daemon.room / "trap")
     words = ["setpriv", "--reuid=65534", "--regid=65534", "--clear-groups", daemon.room / "trap", "--socket", daemon.path, "--", program]
     for subject, want in [("calls", PRINTED["calls"]), ("undumpable", ["read done", "add EPERM", "revoke done"]), ("hostile", PRINTED["hostile"])]:
-        ran = subprocess.run([*words, subject], capture_output=True, text=True, timeout=LIMIT, env=environment())
-        count.same(f"trapped as another user: {subject}", (ran.returncode, ran.stdout.split("\n")[:-1], ran.stderr), (0, want, ""))
-    ran = subprocess.run([*words[:-1], "grep", "NoNewPrivs", "/proc/self/status"], capture_output=True, text=True, timeout=LIMIT, env=environment())
-    count.same("another user gains no rights", ran.stdout.split(), ["NoNewPrivs:", "1"])
-    count.same("root's programs do", trap.run("grep", "NoNewPrivs", "/proc/self/status")[1].split(), ["NoNewPrivs:", "0"])
+        status, output, errors = ran(*words, subject, text=True, env=environment())
+        count.same(f"trapped as another user: {subject}", (status, output.split("\n")[:-1], errors), (0, want, ""))
+    rights = ["grep", "NoNewPrivs", "/proc/self/status"]
+    count.same("another user gains no rights", ran(*words[:-1], *rights, text=True, env=environment())[1].split(), ["NoNewPrivs:", "1"])
+    count.same("root's programs do", trap.run(*rights)[1].split(), ["NoNewPrivs:", "0"])
 
 
 def supervisor_of(process):
@@ -173,17 +160,20 @@ def stays(trap, program):
         count.same("what is left behind", pathlib.Path(f"{room}/out").read_text().split("\n")[:-1], PRINTED["calls"])
 
 
+def told(process, line="\n"):
+    """Gives a program this input, and what it then outputs."""
+    process.stdin.write(line)
+    process.stdin.flush()
+    return process.stdout.readline()
+
+
 def supervised(trap, program):
     """Ordinary calls go on while the supervisor is stopped; when it is killed, its caller says so, and the program's calls fail."""
     process = trap.start(program, "lines")
     supervisor = supervisor_of(process)
-    process.stdin.write("\n")
-    process.stdin.flush()
-    count.same("before", process.stdout.readline(), "add done\n")
+    count.same("before", told(process), "add done\n")
     os.kill(supervisor, signal.SIGTERM)
-    process.stdin.write("\n")
-    process.stdin.flush()
-    count.same("with all processes of a service ended but those that go on", process.stdout.readline(), "add done\n")
+    count.same("with all processes of a service ended but those that go on", told(process), "add done\n")
     os.kill(supervisor, signal.SIGKILL)
     count.same("a supervisor that is killed", process.stderr.readline(),
                "reqkey-trap: the supervisor was killed: the calls of what it has started fail from now on\n")
@@ -193,9 +183,7 @@ def supervised(trap, program):
     supervisor = supervisor_of(process)
     count.same("a program", process.stdout.readline(), "ready\n")
     os.kill(supervisor, signal.SIGSTOP)
-    process.stdin.write("\n")
-    process.stdin.flush()
-    count.same("while it is stopped", process.stdout.readline(), "parents done\n")
+    count.same("while it is stopped", told(process), "parents done\n")
     os.kill(supervisor, signal.SIGCONT)
     process.communicate("\n", timeout=LIMIT)
 
@@ -263,8 +251,7 @@ class Terminal:
 
 def terminal(trap):
     """The keys of a terminal stop, continue and interrupt a program and the process that waits for it, and not the supervisor."""
-    if not shutil.which("bash"):
-        print("a trap at a terminal: not tried, there is no bash")
+    if lacks("a trap at a terminal", "bash"):
         return
     shell = Terminal()
     words = " ".join(trap.words("sh", "-c", "'while :; do echo tick; sleep 0.1; done'"))
@@ -311,40 +298,19 @@ def handlers(trap, daemon):
 def restarted(trap, daemon, program):
     """A daemon that is started again: who is in a first ring goes on in a new one, and who has joined another one gets EKEYREVOKED."""
     first, joined = trap.start(program, "lines"), trap.start(program, "lines")
-    for process, word, want in [(first, "\n", ["add done\n"]), (joined, "j\n", ["join done\n", "add done\n"])]:
-        process.stdin.write(word)
-        process.stdin.flush()
-        count.same("before a restart", [process.stdout.readline() for _ in want], want)
-    daemon.process.kill()
-    daemon.process.wait()
-    daemon.process.stdout.close()
-    daemon.process.stderr.close()
+    count.same("before a restart", told(first), "add done\n")
+    count.same("before a restart, in a ring of its own", [told(joined, "j\n"), joined.stdout.readline()], ["join done\n", "add done\n"])
+    daemon.kill()
     for process in [first, joined]:
-        process.stdin.write("\n")
-        process.stdin.flush()
-        count.same("without a daemon", process.stdout.readline() in ["add ECONNREFUSED\n", "add EKEYREVOKED\n"], True)
+        count.same("without a daemon", told(process) in ["add ECONNREFUSED\n", "add EKEYREVOKED\n"], True)
     daemon.start()
     daemon.client(UID)
     count.same("a first ring after a restart", first.communicate("\n", timeout=LIMIT)[0], "add done\n")
     count.same("a ring that is gone", joined.communicate("\nj\n", timeout=LIMIT)[0], "add EKEYREVOKED\njoin done\nadd done\n")
 
 
-class Containers:
+class Containers(Listening):
     """A trap for containers, and a runtime that starts programs in them."""
-
-    def __init__(self, trap, daemon, log):
-        self.path = daemon.room / "listen"
-        words = [trap.program, "--listen", self.path, "--socket", daemon.path]
-        self.process = subprocess.Popen(list(map(str, words)), stderr=subprocess.PIPE, text=True, env=log)
-
-    def __enter__(self):
-        count.same("a trap for containers", self.process.stderr.readline(), "reqkey-trap: ready\n")
-        return self
-
-    def __exit__(self, *_):
-        self.process.kill()
-        self.process.wait()
-        self.process.stderr.close()
 
     def words(self, name, *words):
         state = json.dumps({"fds": ["seccompFd"], "metadata": '"state": {"id": "other"}', "state": {"annotations": {"id": "none"}, "id": name}})
@@ -364,9 +330,9 @@ class Containers:
 
 def contained(trap, daemon, program, log):
     """Containers: each with a set of rings of its own, by its name."""
-    with Containers(trap, daemon, log) as containers:
-        ran = subprocess.run(containers.words("first", program, "calls"), capture_output=True, text=True, timeout=LIMIT, env=environment())
-        count.same("the calls of a container", (ran.returncode, ran.stdout.split("\n")[:-1], ran.stderr), (0, PRINTED["calls"], ""))
+    with Containers(count, trap.program, daemon, log) as containers:
+        status, output, errors = ran(*containers.words("first", program, "calls"), text=True, env=environment())
+        count.same("the calls of a container", (status, output.split("\n")[:-1], errors), (0, PRINTED["calls"], ""))
         if shutil.which("keyctl"):
             with containers.inside("web") as web, containers.inside("other") as other, containers.inside("web") as again, containers.inside(None) as nameless:
                 key = web.run("keyctl", "add", "user", "mine", "secret", "@u")[1].strip()
@@ -393,7 +359,7 @@ def contained(trap, daemon, program, log):
         count.same("the mode of its socket", containers.path.stat().st_mode & 0o777, 0o700)
         second = trap.run(options=["--listen", containers.path, "--socket", daemon.path])
         count.same("a second trap there", second, (1, "", f"reqkey-trap: {containers.path}: Address already in use\n"))
-    with Containers(trap, daemon, log):
+    with Containers(count, trap.program, daemon, log):
         pass  # (a socket that was left is replaced)
 
 
@@ -427,14 +393,12 @@ def tries(daemon_program, trap_program, program, room):
 
 def analyzed():
     """What is written in C, as gcc's analyzer reads it."""
-    tried = subprocess.run(["gcc", "-fanalyzer", "-E", "-x", "c", "/dev/null"], capture_output=True, timeout=LIMIT)
-    if tried.returncode:
+    if ran("gcc", "-fanalyzer", "-E", "-x", "c", "/dev/null")[0]:
         print("clients: not tried with gcc's analyzer, which is not here")
         return
     for source in sorted((top / "clients").glob("[ckt]*/[!e]*.c")):
         words = ["gcc", "-fanalyzer", "-std=gnu11", "-D_GNU_SOURCE", "-O2", "-Wall", "-Wextra", "-c", "-o", "/dev/null", source]
-        ran = subprocess.run(words, capture_output=True, text=True, timeout=LIMIT)
-        count.same(f"the analyzer on {source.name}", (ran.returncode, ran.stderr), (0, ""))
+        count.same(f"the analyzer on {source.name}", ran(*words, text=True), (0, "", ""))
 
 
 def load(trap_program, program, daemon_program):
@@ -447,8 +411,7 @@ def load(trap_program, program, daemon_program):
 def main():
     # A shell without job control starts what it sends to the background with SIGINT ignored, and then no program of a test could catch it.
     signal.signal(signal.SIGINT, signal.default_int_handler)
-    if not shutil.which("gcc") or not shutil.which("make"):
-        print("clients/trap: not tried, there is no gcc and make")
+    if lacks("clients/trap", "gcc", "make"):
         count.end()
     if not notifies():
         print("clients/trap: not tried, this kernel has no seccomp with user notification")
@@ -458,15 +421,13 @@ def main():
         room.chmod(0o755)
         program = statically(count, room)
         analyzed()
-        there = [each for each in traps(count, room) if each is not None]
-        for daemon_program in PROGRAMS:
-            if not daemon_program.exists():
-                count.same(f"{daemon_program} is built", False, True)
-                continue
-            for trap_program in there if program else []:
+        # (one asks the kernel as before Linux 6.13, too)
+        traps = [each for each in made_twice(count, "trap", room, "-DASKS_PIDFD=0") if each is not None]
+        for daemon_program in there(count):
+            for trap_program in traps if program else []:
                 tries(daemon_program, trap_program, program, room)
-            if there and program and daemon_program == PROGRAMS[0]:
-                load(there[0], program, daemon_program)
+            if traps and program and daemon_program == PROGRAMS[0]:
+                load(traps[0], program, daemon_program)
     count.end()
 
 

@@ -1,8 +1,6 @@
 #!/usr/bin/env python3
 """Calls `reqkeyd` with words: which status, and what is said on which stream."""
-import subprocess
-
-from programs import LIMIT, check_all, version
+from programs import check_all, ran, version
 
 # a configuration without a line, and a place where no socket can be
 PATHS = ["--conf", "/dev/null", "--socket", "/dev/null/none"]
@@ -58,19 +56,21 @@ CALLS = [
 ]
 
 
-def fault(program, words, status, output, errors, target=subprocess.PIPE, script=b""):
+def fault(program, words, status, output, errors, **more):
     """What went wrong, or None."""
-    ran = subprocess.run([program, *words], input=script, stdout=target, stderr=subprocess.PIPE, timeout=LIMIT)
-    if ran.returncode != status:
-        return f"status {ran.returncode}, not {status}"
-    for name, got, want in [("output", ran.stdout or b"", output), ("error", ran.stderr, errors)]:
-        text = got.decode(errors="replace")
+    ended, *texts = ran(program, *words, **more)
+    if ended != status:
+        return f"status {ended}, not {status}"
+    for name, got, want in zip(["output", "error"], texts, [output, errors]):
+        text = (got or b"").decode(errors="replace")
         if (want is None and text) or (want is not None and want not in text):
             return f"standard {name} is {text!r}"
     return None
 
 
-cases = [(call[0], *call) for call in CALLS]
-with open("/dev/full", "wb") as full:
-    cases.append(("a full device", ["replay"], 1, None, "reqkeyd: script", full, b"what\n"))
-    check_all(cases, fault)
+def on_a_full_device(program):
+    with open("/dev/full", "wb") as full:
+        return fault(program, ["replay"], 1, None, "reqkeyd: script", stdout=full, input=b"what\n")
+
+
+check_all([*((words, fault, words, *wanted) for words, *wanted in CALLS), ("a full device", on_a_full_device)])

@@ -20,8 +20,9 @@ import tempfile
 import time
 
 import protocol_peer as ask
+from counted import Counted
+from programs import top
 
-top = pathlib.Path(__file__).resolve().parent.parent
 stored = top / "tests" / "replay" / "first_path"
 
 # The test of the halls that each of their edits has to fail, and the modules of its crate that it does without.
@@ -140,17 +141,12 @@ def trial_of(edit, name):
     return trials.get(name.split("/")[1], replays_otherwise)
 
 
-passed = failed = 0
+count = Counted()
 for edit in sorted(it for it in (top / "tests" / "wrong").glob("*.edit") if it.stem in sys.argv[1:] or not sys.argv[1:]):
     with tempfile.TemporaryDirectory() as room:
         copy = pathlib.Path(room) / "copy"
         shutil.copytree(top, copy, ignore=shutil.ignore_patterns("out", "build", ".git", "must-fail"))
         name = made(edit, copy)
         is_seen, written = trial_of(edit.stem, name)(copy)
-    if is_seen:
-        passed += 1
-    else:
-        failed += 1
-        print(f"{edit.name}: the run lets it through, or there was none: {written!r}")
-print(f"{passed} passed, {failed} failed")
-sys.exit(1 if failed else 0)
+    count.wrong(edit.name, None if is_seen else f"the run lets it through, or there was none: {written!r}")
+count.end()

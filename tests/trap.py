@@ -6,8 +6,8 @@ import pathlib
 import subprocess
 import sys
 
-from programs import LIMIT, top
-from sanitizers import SANITIZED, sanitizes
+from compiled import compiled
+from programs import LIMIT, ran, started, top
 
 INSIDE = top / "tests" / "clients" / "inside.py"
 
@@ -19,30 +19,9 @@ def notifies():
     return False
 
 
-def built(count, room, name, *flags):
-    """The program, or None where it could not be built."""
-    (room / name).mkdir()
-    words = ["make", "-s", "-C", top / "clients" / "trap", f"OUT={room / name}", f"WARNINGS=-Wall -Wextra -Wshadow -Werror {' '.join(flags)}"]
-    made = subprocess.run(words, capture_output=True, text=True, timeout=LIMIT)
-    count.same(f"clients/trap is built {' '.join(flags)}", (made.returncode, made.stderr), (0, ""))
-    return room / name / "reqkey-trap" if made.returncode == 0 else None
-
-
-def traps(count, room):
-    """The program as it is installed; and one that ends at a wrong access to memory, and asks the kernel as before Linux 6.13."""
-    yield built(count, room, "plain-trap")
-    if sanitizes(room):
-        yield built(count, room, "sanitized-trap", *SANITIZED, "-DASKS_PIDFD=0")
-    else:
-        print("clients/trap: not tried with gcc's sanitizers, which are not here")
-
-
 def statically(count, room):
     """The program tests/clients/trapped.c, without any library; None where that can't be built."""
-    words = ["gcc", "-std=gnu11", "-D_GNU_SOURCE", "-O1", "-Wall", "-Wextra", "-Werror", "-static", "-pthread", "-o", room / "trapped"]
-    made = subprocess.run([*words, top / "tests" / "clients" / "trapped.c"], capture_output=True, text=True, timeout=LIMIT)
-    count.same("trapped.c is built", (made.returncode, made.stderr), (0, ""))
-    return room / "trapped" if made.returncode == 0 else None
+    return compiled(count, room / "trapped", top / "tests" / "clients" / "trapped.c", "-std=gnu11", "-D_GNU_SOURCE", "-O1", "-static", "-pthread")
 
 
 def environment(**changes):
@@ -63,12 +42,26 @@ class Trap:
     def run(self, *words, piped="", options=None, **changes):
         """Status, output and errors."""
         words = self.words(*words) if options is None else [str(self.program), *map(str, options), *map(str, words)]
-        ran = subprocess.run(words, input=piped, capture_output=True, text=True, timeout=LIMIT, env=environment(**changes))
-        return ran.returncode, ran.stdout, ran.stderr
+        return ran(*words, input=piped, text=True, env=environment(**changes))
 
     def start(self, *words, **more):
-        streams = {"stdin": subprocess.PIPE, "stdout": subprocess.PIPE, "stderr": subprocess.PIPE, "text": True, **more}
-        return subprocess.Popen(self.words(*words), env=environment(), **streams)
+        return started(*self.words(*words), env=environment(), stdin=subprocess.PIPE, **more)
+
+
+class Listening:
+    """A trap for containers, which comes to a daemon's folder."""
+
+    def __init__(self, count, program, daemon, log):
+        self.path = daemon.room / "listen"
+        self.process = started(program, "--listen", self.path, "--socket", daemon.path, stdout=None, env=log)
+        count.same("a trap for containers", self.process.stderr.readline(), "reqkey-trap: ready\n")
+
+    def __enter__(self):
+        return self
+
+    def __exit__(self, *_):
+        self.process.kill()
+        self.process.communicate()
 
 
 class Inside:

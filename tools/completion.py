@@ -205,21 +205,23 @@ _@NAME@ "$@"
 """
 
 
+def zsh_quoted(text):
+    return shlex.quote(text).replace("'\"'\"'", r"'\''")
+
+
+def zsh_option(it):
+    """An option as _arguments takes it."""
+    about = re.sub(r"([\[\]:])", r"\\\1", it.about)
+    if it.value:
+        return " ".join(zsh_quoted(f"{word}=[{about}]:{it.value}:{'_files' if it.value in FILES else ' '}") for word in it.spellings)
+    if len(it.spellings) == 1:
+        return zsh_quoted(f"{it.spellings[0]}[{about}]")
+    return zsh_quoted(f"({' '.join(it.spellings)})") + "{" + ",".join(it.spellings) + "}" + zsh_quoted(f"[{about}]")
+
+
 def zsh(program):
-    def quoted(text):
-        return shlex.quote(text).replace("'\"'\"'", r"'\''")
-
-    def spec(it):
-        """An option as _arguments takes it."""
-        about = re.sub(r"([\[\]:])", r"\\\1", it.about)
-        if it.value:
-            return " ".join(quoted(f"{word}=[{about}]:{it.value}:{'_files' if it.value in FILES else ' '}") for word in it.spellings)
-        if len(it.spellings) == 1:
-            return quoted(f"{it.spellings[0]}[{about}]")
-        return quoted(f"({' '.join(it.spellings)})") + "{" + ",".join(it.spellings) + "}" + quoted(f"[{about}]")
-
     def case(name, call):
-        own = [spec(it) for it in call.options if "--help" not in it.spellings]
+        own = [zsh_option(it) for it in call.options if "--help" not in it.spellings]
         more = "".join(f"\n                {it}" for it in own)
         names = f"arguments=('*:{REST}:_files')" if call.arguments == [REST] else f"left=({' '.join(call.arguments)})"
         acts = ([f"options+=({more}\n            )"] if own else []) + ([names] if call.arguments else [])
@@ -232,9 +234,9 @@ def zsh(program):
 
     return filled(
         ZSH, program,
-        words="\n".join(f"        {name} {quoted(action(its))}" for name, its in program.words.items() if name != "command"),
-        itself="\n".join(f"        {spec(it)} \\" for it in program.itself.options),
-        commands="\n".join("            " + quoted(f"{name}:{call.about}") for name, call in program.commands.items()),
+        words="\n".join(f"        {name} {zsh_quoted(action(its))}" for name, its in program.words.items() if name != "command"),
+        itself="\n".join(f"        {zsh_option(it)} \\" for it in program.itself.options),
+        commands="\n".join("            " + zsh_quoted(f"{name}:{call.about}") for name, call in program.commands.items()),
         arguments="\n".join(filter(None, (case(name, call) for name, call in program.commands.items()))),
         instead="\n".join(f"        (( $+given[{it.spellings[0]}] )) && left=(${{left:#{it.instead}}})" for it in program.itself.options if it.instead),
     )
@@ -281,14 +283,20 @@ complete -c @NAME@ -f
 """
 
 
-def fish(program):
-    def quoted(text):
-        return "'" + text.replace("\\", "\\\\").replace("'", "\\'") + "'"
+def fish_quoted(text):
+    return "'" + text.replace("\\", "\\\\").replace("'", "\\'") + "'"
 
-    def row(condition, it):
-        names = " ".join(f"-l {word[2:]}" if word.startswith("--") else f"-s {word[1:]}" for word in it.spellings)
-        value = " -r -F" if it.value in FILES else " -x" if it.value else ""
-        return f"complete -c {program.name} -n {quoted(f'__{program.name}_at {condition}')} {names}{value} -d {quoted(it.about)}"
+
+def fish_option(it):
+    """An option as `complete` takes it."""
+    names = " ".join(f"-l {word[2:]}" if word.startswith("--") else f"-s {word[1:]}" for word in it.spellings)
+    value = " -r -F" if it.value in FILES else " -x" if it.value else ""
+    return f"{names}{value} -d {fish_quoted(it.about)}"
+
+
+def fish(program):
+    def at(condition):
+        return f"complete -c {program.name} -n {fish_quoted(f'__{program.name}_at {condition}')}"
 
     def case(words, *acts):
         return "\n".join([f"            case {words}", *[f"                {act}" for act in acts]])
@@ -300,13 +308,12 @@ def fish(program):
             values.append(case(f"'{it.spellings[0]}=*'", f"set -a dropped {it.instead}", "continue"))
     others = " ".join(word for it in program.itself.options if it.value and not it.instead for word in it.spellings)
     values += [case(others, "set -e words[1]", "continue")] if others else []
-    rows = [row("command", it) for it in program.itself.options]
-    rows += [row(f"in {name}", it) for name, call in program.commands.items() for it in call.options]
+    rows = [f"{at('command')} {fish_option(it)}" for it in program.itself.options]
+    rows += [f"{at(f'in {name}')} {fish_option(it)}" for name, call in program.commands.items() for it in call.options]
     takes_files = [REST] in [call.arguments for call in program.commands.values()]
-    words = [f"complete -c {program.name} -n {quoted(f'__{program.name}_at {REST}')} -F"] if takes_files else []
+    words = [f"{at(REST)} -F"] if takes_files else []
     for name, its in program.words.items():
-        head = f"complete -c {program.name} -n {quoted(f'__{program.name}_at {name}')}"
-        words += [f"{head} -a {word}" + (f" -d {quoted(about)}" if about else "") for word, about in its.items()]
+        words += [f"{at(name)} -a {word}" + (f" -d {fish_quoted(about)}" if about else "") for word, about in its.items()]
     return filled(
         FISH, program,
         values="\n".join(values),
@@ -367,23 +374,12 @@ def starter_of(path):
     options = read_options(said(path, "--help"))
     program = Program(STARTER, Call("", options, []), {}, {})
     with_value = {word: it.value for it in options if it.value for word in it.spellings}
-
-    def zsh_option(it):
-        words = it.spellings[0] if len(it.spellings) == 1 else "{" + ",".join(it.spellings) + "}"
-        if it.value:
-            return f"    '{words}=[{it.about}]:{it.value}:{'_files' if it.value in FILES else ' '}' \\"
-        return f"    '({' '.join(it.spellings)})'{words}'[{it.about}]' \\"
-
-    def fish_option(it):
-        names = " ".join(f"-l {word[2:]}" if word.startswith("--") else f"-s {word[1:]}" for word in it.spellings)
-        return f"complete -c {STARTER} {names}{' -r -F' if it.value in FILES else ' -x' if it.value else ''} -d '{it.about}'"
-
     # (with a word other than an option before them, fish takes none for its own)
     return {
         f"{STARTER}.bash": filled(STARTER_BASH, program, function=STARTER.replace("-", "_"), options=spellings(options),
                                   values=" ".join(f"[{word}]={value}" for word, value in with_value.items())),
-        f"_{STARTER}": filled(STARTER_ZSH, program, options="\n".join(map(zsh_option, options))),
-        f"{STARTER}.fish": filled(STARTER_FISH, program, options="\n".join(map(fish_option, options)),
+        f"_{STARTER}": filled(STARTER_ZSH, program, options="\n".join(f"    {zsh_option(it)} \\" for it in options)),
+        f"{STARTER}.fish": filled(STARTER_FISH, program, options="\n".join(f"complete -c {STARTER} {fish_option(it)}" for it in options),
                                   values=" ".join(with_value)),
     }
 

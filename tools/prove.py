@@ -19,25 +19,19 @@ import sys
 import time
 
 top = pathlib.Path(__file__).resolve().parent.parent
+sys.path.insert(0, str(top / "tests"))
+import crates
+
 copy = top / "build" / "programs"
 # What the toolchain prints as a crate is done: `== NAME` for one of many, and how much it checked of each.
 CRATE = re.compile(rb"(?:== |crate )(\w+)\b")
 
 
-def lines_of(text):
-    """The lines of crates.txt, by the name of the crate, each with the libraries that it uses."""
-    return {line.split()[0].rstrip(":"): line.partition(":")[2].split() for line in text.splitlines() if ":" in line and not line.startswith("#")}
-
-
 def uses():
     """The crates of the programs, each with all those that it stands on."""
-    direct = lines_of((top / "crates.txt").read_text())
-
-    def below(name):
-        return {it for used in direct[name] if used in direct for it in {used, *below(used)}}
-
-    programs = [name for name in direct if is_program(name)]
-    return {name: below(name) for name in {it for program in programs for it in {program, *below(program)}}}
+    used = crates.uses()
+    needed = {it for name in used if is_program(name) for it in {name, *crates.below(used, name)}}
+    return {name: crates.below(used, name) for name in needed}
 
 
 def is_program(name):

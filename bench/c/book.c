@@ -5,8 +5,7 @@
  * The keys are 200 of each user, or are spread evenly over so many users. The steps are those of a client of the
  * last user. Steps that can't be repeated are made in batches, and what comes between the batches is not timed. */
 #include "machine.h"
-
-#include <time.h>
+#include "threads.h"
 
 enum { OF_A_USER = 200, BATCH = 50, STEPPER = 1 };
 
@@ -109,15 +108,6 @@ static void fill(struct filled *f)
     }
     f->uid--;
     f->ring = f->client->context.rings[SESSION];
-}
-
-/* ---- time */
-
-static uint64_t nanos(void)
-{
-    struct timespec now;
-    clock_gettime(CLOCK_MONOTONIC, &now);
-    return (uint64_t)now.tv_sec * 1000000000u + (uint64_t)now.tv_nsec;
 }
 
 static void tell(const struct filled *f, const char *step, uint64_t took, uint32_t steps)

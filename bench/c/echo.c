@@ -7,8 +7,6 @@
  * a server would reach that does so much for each ask. */
 #include "socket.h"
 
-#include <time.h>
-
 enum { QUEUE = 64, PIECE = 4096 };
 
 static const char usage[] = "usage: echo SOCKET WORKERS [NANOSECONDS]\n";
@@ -45,16 +43,9 @@ static int queue_take(void)
     return connection;
 }
 
-static uint64_t now(void)
-{
-    struct timespec at;
-    clock_gettime(CLOCK_MONOTONIC, &at);
-    return (uint64_t)at.tv_sec * 1000000000 + (uint64_t)at.tv_nsec;
-}
-
 static void be_busy(uint64_t nanoseconds)
 {
-    for (uint64_t begun = now(); now() - begun < nanoseconds;)
+    for (uint64_t begun = nanos(); nanos() - begun < nanoseconds;)
         ;
 }
 

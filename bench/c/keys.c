@@ -4,11 +4,10 @@
  *
  * usage: keys BATCHES [LIBRARY]: by the system calls themselves, or else by a library's keyctl_read
  */
+#include "threads.h"
+
 #include <dlfcn.h>
-#include <stdio.h>
-#include <stdlib.h>
 #include <sys/syscall.h>
-#include <time.h>
 #include <unistd.h>
 
 enum { BATCH = 50, SESSION = -3, PROCESS = -2, READ = 11 };
@@ -17,13 +16,6 @@ typedef int (*add_key_call)(const char *, const char *, const void *, size_t, in
 
 static long (*reads)(int key, char *buffer, size_t length);
 static int key;
-
-static double now(void)
-{
-    struct timespec time;
-    clock_gettime(CLOCK_MONOTONIC, &time);
-    return (double)time.tv_sec * 1e9 + (double)time.tv_nsec;
-}
 
 static void read_key(void)
 {
@@ -38,25 +30,18 @@ static void ask_parent(void)
     syscall(SYS_getppid);
 }
 
-static int by_size(const void *a, const void *b)
-{
-    double x = *(const double *)a, y = *(const double *)b;
-    return (x > y) - (x < y);
-}
-
 static void measure(const char *name, void (*call)(void), int batches)
 {
-    double *times = calloc((size_t)batches, sizeof *times);
-    if (times == NULL)
-        exit(1);
+    uint64_t *times = calloc((size_t)batches, sizeof *times);
+    need(times != NULL, "memory");
     for (int i = 0; i < batches; i++) {
-        double begun = now();
+        uint64_t begun = nanos();
         for (int n = 0; n < BATCH; n++)
             call();
-        times[i] = (now() - begun) / BATCH;
+        times[i] = nanos() - begun;
     }
     qsort(times, (size_t)batches, sizeof *times, by_size);
-    printf("%s %.0f %.0f\n", name, times[batches / 2], times[0]);
+    printf("%s %.0f %.0f\n", name, (double)times[batches / 2] / BATCH, (double)times[0] / BATCH);
     free(times);
 }
 

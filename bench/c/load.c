@@ -29,19 +29,21 @@ _Static_assert(sizeof add == 4 + 20 && sizeof hello == 4 + 14 && sizeof request 
 
 struct connection;
 
-/* What is asked, and how: whether the connection could be made ready, the first one also for the others; and one ask, or so many together, with the time
- * that it took. */
+/* What is asked, and how: whether the connection could be made ready, the first one also for the others; one ask, or so many together; and what is done behind
+ * it and is not timed, or null. */
 struct way {
     const char *name;
     unsigned each;
     bool (*open)(struct connection *c, const char *path);
-    bool (*ask)(struct connection *c, uint64_t *took);
+    bool (*ask)(struct connection *c);
+    bool (*behind)(struct connection *c);
 };
 
 struct connection {
     const struct way *way;
     int socket;
     unsigned no, warm, asks, made;
+    uint32_t key; /* that was made last */
     uint64_t *times; /* of each measured ask, or of each 50, in ns */
     uint64_t begun, ended;
     bool failed;
@@ -82,13 +84,12 @@ static uint8_t *write_text(uint8_t *to, const char *text, size_t len)
     return to + len;
 }
 
-/* Has a key made: its serial, or 0; and the time that it took. */
-static uint32_t have_made(struct connection *c, uint64_t *took)
+/* Has a key made. */
+static bool ask_made(struct connection *c)
 {
     static const char callout[CALLOUT] = {[0 ... CALLOUT - 1] = 'c'};
     uint8_t frame[CALLOUT + 64], *at = frame + 4;
     char name[32];
-    uint32_t key = 0;
     *at++ = OP_REQUEST;
     at = write_text(at, "user", 4);
     at = write_text(at, name, (size_t)snprintf(name, sizeof name, "made:%u:%u", c->no, c->made++));
@@ -96,60 +97,34 @@ static uint32_t have_made(struct connection *c, uint64_t *took)
     at = write_text(at, callout, sizeof callout);
     at = write_u32(at, 0);
     write_u32(frame, (uint32_t)(at - frame - 4));
-    uint64_t begun = nanos();
-    int kind = ask(c, frame, (size_t)(at - frame), &key);
-    *took = nanos() - begun;
-    return kind == NUMBER_REPLY ? key : 0;
+    return ask(c, frame, (size_t)(at - frame), &c->key) == NUMBER_REPLY;
 }
 
 /* Unlinks it from the session ring, into which it was linked. */
-static bool unlink_made(struct connection *c, uint32_t key)
+static bool unlink_made(struct connection *c)
 {
     uint8_t frame[13] = {0, 0, 0, 9, OP_UNLINK};
-    write_u32(write_u32(frame + 5, key), (uint32_t)-3);
+    write_u32(write_u32(frame + 5, c->key), (uint32_t)-3);
     return ask(c, frame, sizeof frame, NULL) == NUMBER_REPLY;
 }
 
-/* Reads so many replies, each of which is to be a number. */
-static bool read_numbers(int from, size_t count)
+/* Fifty asks in one write, each of whose replies is to be a number. */
+static bool ask_together(struct connection *c)
 {
-    uint8_t replies[TOGETHER * NUMBER_LEN];
-    for (size_t held = 0; held < count * NUMBER_LEN;) {
-        ssize_t got = read(from, replies + held, count * NUMBER_LEN - held);
-        if (got <= 0)
-            return false;
-        held += (size_t)got;
-    }
-    for (size_t i = 0; i < count; i++)
+    uint8_t frames[TOGETHER * sizeof request], replies[TOGETHER * NUMBER_LEN];
+    for (size_t i = 0; i < TOGETHER; i++)
+        memcpy(frames + i * sizeof request, request, sizeof request);
+    if (!write_out(c->socket, frames, sizeof frames) || !read_in(c->socket, replies, sizeof replies))
+        return false;
+    for (size_t i = 0; i < TOGETHER; i++)
         if (replies[i * NUMBER_LEN + 4] != NUMBER_REPLY)
             return false;
     return true;
 }
 
-/* Fifty asks in one write, and the time to the last reply. */
-static bool ask_together(struct connection *c, uint64_t *took)
+static bool ask_found(struct connection *c)
 {
-    static _Thread_local uint8_t frames[TOGETHER * sizeof request];
-    for (size_t i = 0; i < TOGETHER; i++)
-        memcpy(frames + i * sizeof request, request, sizeof request);
-    uint64_t begun = nanos();
-    bool answered = write_out(c->socket, frames, sizeof frames) && read_numbers(c->socket, TOGETHER);
-    *took = nanos() - begun;
-    return answered;
-}
-
-static bool ask_found(struct connection *c, uint64_t *took)
-{
-    uint64_t begun = nanos();
-    int kind = ask(c, request, sizeof request, NULL);
-    *took = nanos() - begun;
-    return kind == NUMBER_REPLY;
-}
-
-static bool ask_made(struct connection *c, uint64_t *took)
-{
-    uint32_t key = have_made(c, took);
-    return key && unlink_made(c, key);
+    return ask(c, request, sizeof request, NULL) == NUMBER_REPLY;
 }
 
 static int connect_to(const char *path)
@@ -166,23 +141,12 @@ static bool open_session(struct connection *c, const char *path)
     return ask(c, hello, sizeof hello, NULL) >= 0 && (c->no != 0 || ask(c, add, sizeof add, NULL) == NUMBER_REPLY);
 }
 
-/* Whether the next bytes are these. */
-static bool read_same(int from, const char *wanted)
-{
-    char bytes[64];
-    size_t len = strlen(wanted), held = 0;
-    while (held < len) {
-        ssize_t got = read(from, bytes + held, len - held);
-        if (got <= 0)
-            return false;
-        held += (size_t)got;
-    }
-    return memcmp(bytes, wanted, len) == 0;
-}
-
+/* Whether a text is answered by this one. */
 static bool say(const struct connection *c, const char *text, const char *wanted)
 {
-    return write_out(c->socket, (const uint8_t *)text, strlen(text)) && read_same(c->socket, wanted);
+    char bytes[64];
+    size_t len = strlen(wanted);
+    return write_out(c->socket, (const uint8_t *)text, strlen(text)) && read_in(c->socket, bytes, len) && memcmp(bytes, wanted, len) == 0;
 }
 
 static bool open_redis(struct connection *c, const char *path)
@@ -191,12 +155,9 @@ static bool open_redis(struct connection *c, const char *path)
     return c->no != 0 || say(c, "*3\r\n$3\r\nSET\r\n$4\r\nload\r\n$1\r\nv\r\n", "+OK\r\n");
 }
 
-static bool ask_redis(struct connection *c, uint64_t *took)
+static bool ask_redis(struct connection *c)
 {
-    uint64_t begun = nanos();
-    bool answered = say(c, "*2\r\n$3\r\nGET\r\n$4\r\nload\r\n", "$1\r\nv\r\n");
-    *took = nanos() - begun;
-    return answered;
+    return say(c, "*2\r\n$3\r\nGET\r\n$4\r\nload\r\n", "$1\r\nv\r\n");
 }
 
 static bool open_agent(struct connection *c, const char *path)
@@ -206,13 +167,10 @@ static bool open_agent(struct connection *c, const char *path)
 }
 
 /* The agent's protocol has frames of the same kind; its request 11 is answered by 12, and a count of keys. */
-static bool ask_agent(struct connection *c, uint64_t *took)
+static bool ask_agent(struct connection *c)
 {
     static const uint8_t list[] = {0, 0, 0, 1, 11};
-    uint64_t begun = nanos();
-    int kind = ask(c, list, sizeof list, NULL);
-    *took = nanos() - begun;
-    return kind == 12;
+    return ask(c, list, sizeof list, NULL) == 12;
 }
 
 /* The calls of a library, and a key that they read. */
@@ -242,24 +200,20 @@ static bool open_calls(struct connection *c, const char *path)
     return library.add && library.read && (library.key = library.add("user", "load", "v", 1, SESSION)) > 0;
 }
 
-static bool ask_calls(struct connection *c, uint64_t *took)
+static bool ask_calls(struct connection *c)
 {
     char payload[16];
     (void)c;
-    uint64_t begun = nanos();
-    bool answered = library.read ? library.read(library.key, payload, sizeof payload) == 1
-                                 : syscall(SYS_request_key, "user", "load", NULL, 0) == library.key;
-    *took = nanos() - begun;
-    return answered;
+    return library.read ? library.read(library.key, payload, sizeof payload) == 1 : syscall(SYS_request_key, "user", "load", NULL, 0) == library.key;
 }
 
 static const struct way ways[] = {
-    {"found", 1, open_session, ask_found},
-    {"together", TOGETHER, open_session, ask_together},
-    {"made", 1, open_session, ask_made},
-    {"redis", 1, open_redis, ask_redis},
-    {"agent", 1, open_agent, ask_agent},
-    {"calls", 1, open_calls, ask_calls},
+    {"found", 1, open_session, ask_found, NULL},
+    {"together", TOGETHER, open_session, ask_together, NULL},
+    {"made", 1, open_session, ask_made, unlink_made},
+    {"redis", 1, open_redis, ask_redis, NULL},
+    {"agent", 1, open_agent, ask_agent, NULL},
+    {"calls", 1, open_calls, ask_calls, NULL},
 };
 
 static const struct way *way_of(const char *name)
@@ -271,24 +225,27 @@ static const struct way *way_of(const char *name)
     exit(2);
 }
 
+/* Asks so often, unless a reply is not the one that is due; the time that each took goes into the room, if there is one. */
+static void ask_often(struct connection *c, unsigned asks, uint64_t *times)
+{
+    for (unsigned i = 0; i < asks && !c->failed; i++) {
+        uint64_t begun = nanos();
+        c->failed = !c->way->ask(c);
+        if (times)
+            times[i] = nanos() - begun;
+        c->failed |= !c->failed && c->way->behind && !c->way->behind(c);
+    }
+}
+
 static void *drive(void *argument)
 {
     struct connection *c = argument;
-    uint64_t took;
-    for (unsigned i = 0; i < c->warm && !c->failed; i++)
-        c->failed = !c->way->ask(c, &took);
+    ask_often(c, c->warm, NULL);
     pthread_barrier_wait(c->all);
     c->begun = nanos();
-    for (unsigned i = 0; i < c->asks && !c->failed; i++)
-        c->failed = !c->way->ask(c, &c->times[i]);
+    ask_often(c, c->asks, c->times);
     c->ended = nanos();
     return NULL;
-}
-
-static int by_size(const void *a, const void *b)
-{
-    uint64_t x = *(const uint64_t *)a, y = *(const uint64_t *)b;
-    return (x > y) - (x < y);
 }
 
 static double at(const uint64_t *times, size_t count, double part)

@@ -31,4 +31,16 @@ static inline bool write_out(int to, const uint8_t *at, size_t len)
     return true;
 }
 
+/* Reads so many bytes; false where the other side is gone before. */
+static inline bool read_in(int from, void *to, size_t len)
+{
+    for (size_t held = 0; held < len;) {
+        ssize_t got = read(from, (uint8_t *)to + held, len - held);
+        if (got <= 0)
+            return false;
+        held += (size_t)got;
+    }
+    return true;
+}
+
 #endif

@@ -25,6 +25,13 @@ static inline void need(int holds, const char *what)
     }
 }
 
+/* The order of qsort(3), the least first. */
+static inline int by_size(const void *a, const void *b)
+{
+    uint64_t x = *(const uint64_t *)a, y = *(const uint64_t *)b;
+    return (x > y) - (x < y);
+}
+
 /* So many rounds are run, and the best one counts: other work on the machine only makes it slower. */
 enum { ROUNDS = 5 };
 

@@ -1,12 +1,12 @@
 #include "session.h"
 
+#include "connection.h"
 #include "environment.h"
 #include "streams.h"
 #include "turn.h"
 
 #include <errno.h>
 #include <fcntl.h>
-#include <poll.h>
 #include <signal.h>
 #include <stdio.h>
 #include <stdlib.h>
@@ -44,23 +44,6 @@ static struct {
     uint32_t handed;   /* the ring that is there for what this process executes, or 0 */
     const char *frame; /* where the stack was when the call began */
 } own;
-
-/* The errno of a result without a reply. */
-static int errno_of(int result)
-{
-    switch (-result) {
-    case REQKEY_UNSPELT:
-        return EINVAL;
-    case REQKEY_ENDED:
-        return ECONNRESET;
-    case REQKEY_MALFORMED:
-        return EPROTO;
-    case REQKEY_SYSTEM:
-        return errno;
-    default:
-        return -result;
-    }
-}
 
 /* ---- a client's connection */
 
@@ -130,13 +113,6 @@ static bool is_mine(const struct held *held)
     return fstat(reqkey_descriptor(held->session), &file) == 0 && file.st_dev == held->device && file.st_ino == held->inode;
 }
 
-/* Whether the daemon has ended the connection. It says nothing that it was not asked. */
-static bool has_ended(const struct reqkey *session)
-{
-    struct pollfd end = {reqkey_descriptor(session), POLLIN | POLLRDHUP, 0};
-    return poll(&end, 1, 0) > 0;
-}
-
 static void end(struct held *held)
 {
     if (held->session != NULL && is_mine(held))
@@ -170,7 +146,7 @@ static bool is_now(struct reqkey *session, const struct reqkey_rings *rings)
 static bool is_connected(void)
 {
     struct reqkey_rings rings = {0, 0, 0, 0};
-    bool right = own.held.session != NULL && own.owner == getpid() && is_same_user() && is_mine(&own.held) && !has_ended(own.held.session);
+    bool right = own.held.session != NULL && own.owner == getpid() && is_same_user() && is_mine(&own.held) && !connection_has_ended(own.held.session);
     if (right && own.calls++ < CALLS)
         return true;
     struct reqkey *next = next_client(&rings);

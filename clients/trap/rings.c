@@ -1,8 +1,9 @@
 #include "rings.h"
 
+#include "../keyutils/connection.h"
+
 #include <errno.h>
 #include <limits.h>
-#include <poll.h>
 #include <pthread.h>
 #include <stdlib.h>
 #include <string.h>
@@ -49,22 +50,6 @@ void rings_lock(void)
 void rings_unlock(void)
 {
     pthread_mutex_unlock(&lock);
-}
-
-int errno_of(int result)
-{
-    switch (-result) {
-    case REQKEY_UNSPELT:
-        return EINVAL;
-    case REQKEY_ENDED:
-        return ECONNRESET;
-    case REQKEY_MALFORMED:
-        return EPROTO;
-    case REQKEY_SYSTEM:
-        return errno;
-    default:
-        return -result;
-    }
 }
 
 /* ---- connections */
@@ -119,13 +104,6 @@ static void connection_end(struct connection *connection)
     pthread_cond_broadcast(&given);
     reqkey_free(connection->session);
     free(connection);
-}
-
-/* Whether the daemon has ended it. It says nothing that it was not asked. */
-static bool has_ended(const struct connection *connection)
-{
-    struct pollfd end = {reqkey_descriptor(connection->session), POLLIN | POLLRDHUP, 0};
-    return poll(&end, 1, 0) > 0;
 }
 
 /* ---- rings; of a thread that has them */
@@ -308,7 +286,7 @@ static struct connection *idle_one(struct ring *ring, uint32_t gid)
         if (connection->gid != gid)
             continue;
         *at = connection->next;
-        if (!has_ended(connection))
+        if (!connection_has_ended(connection->session))
             return connection;
         connection_end(connection);
         grow_older(ring);

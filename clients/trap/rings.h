@@ -39,9 +39,6 @@ void rings_at(const char *socket);
 void rings_lock(void);
 void rings_unlock(void);
 
-/* What errno says of a result of reqkey.h. */
-int errno_of(int result);
-
 /* A connection of this user in a new session ring, without a place here; NULL and errno. */
 struct reqkey *ring_alone(uint32_t number, uint32_t gid);
 

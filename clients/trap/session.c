@@ -1,6 +1,7 @@
 /* The library's session.h, for whoever calls at the moment: a handler's one session, or a connection in the ring of the caller's process. */
 #include "session.h"
 
+#include "../keyutils/connection.h"
 #include "../keyutils/session.h"
 #include "caller.h"
 #include "handler.h"

@@ -2,6 +2,7 @@
 
 usage: calls.py LIBRARY SUBJECT
 """
+import concurrent.futures
 import ctypes
 import errno
 import os
@@ -123,11 +124,8 @@ def shared():
             if call("keyctl_read", mine, None, 0) != len(name) or call("keyctl_unlink", mine, SESSION) != 0:
                 wrong.append(name)
 
-    threads = [threading.Thread(target=works, args=(number,)) for number in range(8)]
-    for thread in threads:
-        thread.start()
-    for thread in threads:
-        thread.join()
+    with concurrent.futures.ThreadPoolExecutor(8) as pool:
+        list(pool.map(works, range(8)))
     print("threads", wrong)
 
 

@@ -2,12 +2,11 @@
 import functools
 import random
 import struct
-import subprocess
 import sys
 
 import protocol_peer as ask
-from daemon import LIMIT, Daemon, told
-from programs import differs, top
+from daemon import Daemon, told
+from programs import differs, ran, top
 
 sys.path.insert(0, str(top / "tools"))
 from messages import read_ask
@@ -126,12 +125,12 @@ def alike(program, seed, flags):
     with Daemon(program, "\n".join(CONF), "--negative", str(FOREVER)) as daemon:
         replies, lines = asked(daemon, Made(seed), flags)
     script = [f"conf {line}" for line in CONF] + [f"negative {FOREVER}"] + [f"100 {line}" for line in lines]
-    ran = subprocess.run([program, "replay"], input="\n".join(script).encode(), capture_output=True, timeout=LIMIT)
-    played = [told(bytes.fromhex(line[13:])) for line in ran.stdout.decode().split("\n") if line.startswith("to 1 ")]
+    _, output, _ = ran(program, "replay", input="\n".join(script), text=True)
+    played = [told(bytes.fromhex(line[13:])) for line in output.split("\n") if line.startswith("to 1 ")]
     for at, (got, wanted) in enumerate(zip(replies, played)):
         if got != wanted:
             return f"reply {at}: {str(got)[:60]}, and by replay {str(wanted)[:60]}"
-    starts = ran.stdout.count(b"start ")
+    starts = output.count("start ")
     kinds = {str(it) if isinstance(it, str) else type(it).__name__ for it in replies}
     return differs((len(replies), starts > 50, len(kinds) > 7), (len(played), True, True)) and f"{len(replies)} {len(played)} {starts} {kinds}"
 

@@ -1,12 +1,12 @@
 """Calls of the system that fail, one in each run of the daemon: at the start they are reported, and later they end what they are of, and nothing else."""
 import errno
 import os
-import shutil
 
 import protocol_peer as ask
+from compiled import library
 from daemon import Daemon, until
-from programs import differs
-from scenes import CONF, Gated, answered, greeted, library, negated, nested, played_twice, said
+from programs import differs, lacks
+from scenes import CONF, Gated, answered, greeted, negated, nested, played_twice, said
 
 # what is printed if the daemon does not start
 LINES = ["reqkeyd: conf", "reqkeyd: random", "reqkeyd: socket", "reqkeyd: memory"]
@@ -76,7 +76,7 @@ def later(program, call, code, may):
     while more:
         with failing(program, call, count, code) as daemon:
             if begun(daemon):
-                early, before = met(daemon), until(lambda: (now := daemon.descriptors()) and now["socket"] == 1 and now, "one socket")
+                early, before = met(daemon), daemon.settled()
                 _, wrong = played_twice(daemon, play, [] if early else may)
                 until(lambda: daemon.descriptors() == before, f"the descriptors {before}, and not {daemon.descriptors()}")
                 if wrong:
@@ -101,7 +101,7 @@ def unread(program):
 
 def goes_on_unread(daemon):
     """None where the daemon reads what its handler says; else what is wrong with the result of a read that fails, or nothing."""
-    before = until(lambda: (now := daemon.descriptors()) and now["socket"] == 1 and now, "one socket")
+    before = daemon.settled()
     client = daemon.client()
     client.send(ask.request(b"user", b"h:1", b"x", -4))
     handler = daemon.handler()
@@ -125,14 +125,13 @@ def goes_on_unread(daemon):
 
 
 def cases():
-    if shutil.which("gcc"):
-        for call in AT_START:
-            yield f"a call of {call} at the start that fails", at_start, call, errno.EIO
-        yield "a call of open at the start that fails, without standard input", at_start, "open", errno.EIO, [0]
-        for call, may in LATER.items():
-            yield f"a call of {call} that fails", later, call, errno.EIO, may
-        yield "a handler that goes on when a read of its output has failed", unread
-        for call in ["send", "write", "accept4", "waitpid"]:
-            yield f"a call of {call} that is interrupted is made again", later, call, errno.EINTR, []
-    else:
-        print("calls that fail: not tried, there is no gcc")
+    if lacks("calls that fail", "gcc"):
+        return
+    for call in AT_START:
+        yield f"a call of {call} at the start that fails", at_start, call, errno.EIO
+    yield "a call of open at the start that fails, without standard input", at_start, "open", errno.EIO, [0]
+    for call, may in LATER.items():
+        yield f"a call of {call} that fails", later, call, errno.EIO, may
+    yield "a handler that goes on when a read of its output has failed", unread
+    for call in ["send", "write", "accept4", "waitpid"]:
+        yield f"a call of {call} that is interrupted is made again", later, call, errno.EINTR, []

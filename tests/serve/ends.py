@@ -1,4 +1,5 @@
 """How clients, handlers and the daemon end, and what is then left."""
+import contextlib
 import os
 import re
 import select
@@ -17,9 +18,12 @@ def want(name=b"h:1", callout=b"x", ring=USER):
     return ask.request(b"user", name, callout, ring)
 
 
-def completes(handler, payload=b"made"):
-    """The handler completes its key; the replies."""
-    return handler.ask(ask.on_key(3, handler.key)), handler.ask(ask.instantiate(handler.key, payload, 0))
+@contextlib.contextmanager
+def asked(program, *options, conf=HELD, callout=b"x"):
+    """A daemon, a client that has requested a key, and the handler of that key."""
+    with Daemon(program, conf, *options) as daemon, daemon.client() as client:
+        client.send(want(callout=callout))
+        yield daemon, client, daemon.handler()
 
 
 def quiet(client):
@@ -44,7 +48,7 @@ def client_killed(program):
             third = daemon.client()
             starter.kill()
             status = starter.wait()
-        done = completes(handler)
+        done = handler.completes()
         outcome = other.reply()
         handler.ends()
         found = third.ask(want(callout=None, ring=0))
@@ -53,12 +57,9 @@ def client_killed(program):
 
 def all_clients_killed(program):
     """The only client goes: its handler is served to its end."""
-    with Daemon(program, HELD) as daemon:
-        client = daemon.client()
-        client.send(want())
-        handler = daemon.handler()
+    with asked(program) as (daemon, client, handler):
         client.socket.close()
-        done = completes(handler)
+        done = handler.completes()
         handler.ends(3)
         later = daemon.client()
         return differs((done, later.ask(want(callout=None, ring=0))), ((0, 0), 12)) or daemon.lives()
@@ -66,9 +67,8 @@ def all_clients_killed(program):
 
 def handler_killed(program, negative):
     """A handler is killed: ENOKEY, and a start again when the negative time is over."""
-    with Daemon(program, HELD, "--negative", negative) as daemon, daemon.client() as client:
-        client.send(want())
-        daemon.handler().is_killed()
+    with asked(program, "--negative", negative) as (daemon, client, handler):
+        handler.is_killed()
         first = client.reply()
         if negative == "4294967295":
             second, state = client.ask(want()), client.ask(ask.on_key(8, 12))
@@ -76,7 +76,7 @@ def handler_killed(program, negative):
         state = client.ask(ask.on_key(8, 12))
         client.send(want())
         handler = daemon.handler()
-        done = completes(handler)
+        done = handler.completes()
         handler.ends()
         return differs((first, state, done, client.reply()), ("E126", b"user;1000;expired;h:1", (0, 0), 16)) or daemon.lives()
 
@@ -93,11 +93,9 @@ def again_after(program):
 
 def completed_and_killed(program):
     """A handler is killed behind its completion: the key is made."""
-    with Daemon(program, HELD) as daemon, daemon.client() as client, daemon.client() as other:
-        client.send(want())
-        handler = daemon.handler()
+    with asked(program) as (daemon, client, handler), daemon.client() as other:
         other.send(want())
-        done = completes(handler)
+        done = handler.completes()
         early = other.reply(), quiet(client)
         handler.is_killed()
         return differs((done, early, client.reply()), ((0, 0), (handler.key, True), handler.key)) or daemon.lives()
@@ -105,12 +103,8 @@ def completed_and_killed(program):
 
 def daemon_killed(program):
     """The daemon is killed: its clients see the end, its handlers too, and a new one begins anew at the same path."""
-    with Daemon(program, HELD) as daemon:
-        client = daemon.client()
-        client.send(want())
-        handler = daemon.handler()
-        daemon.process.kill()
-        status = daemon.process.wait()
+    with asked(program) as (daemon, client, handler):
+        status = daemon.kill()
         ended = client.reply(), handler.all_input()
         left = daemon.path.exists()
         try:
@@ -119,7 +113,6 @@ def daemon_killed(program):
         except BrokenPipeError:
             written = "broken"
         handler.ends()
-        daemon.reader.join()
         daemon.start()
         with daemon.client() as fresh:
             got = fresh.rings, fresh.ask(want(callout=None))
@@ -138,9 +131,7 @@ def terminated(program):
 
 def garbage(program, data):
     """A handler writes what is no frame: its input is closed, what it still writes is dropped, and it has failed when it ends."""
-    with Daemon(program, HELD, "--negative", "0") as daemon, daemon.client() as client:
-        client.send(want())
-        handler = daemon.handler()
+    with asked(program, "--negative", "0") as (daemon, client, handler):
         first = handler.ask(ask.on_key(3, 12))
         handler.put(data)
         rest = handler.all_input()
@@ -153,22 +144,18 @@ def garbage(program, data):
 
 def no_asks(program):
     """Bodies that spell no ask are refused, and the handler goes on."""
-    with Daemon(program, HELD) as daemon, daemon.client() as client:
-        client.send(want())
-        handler = daemon.handler()
+    with asked(program) as (_, client, handler):
         refusals = handler.ask(b"\x07", b"\xff", b"\x00" * 65536, b"\x02\x00\x00", ask.on_key(3, 12) + b"\x00")
-        done = completes(handler)
+        done = handler.completes()
         handler.ends()
         return differs((refusals, done, client.reply()), (["E22"] * 5, (0, 0), 12))
 
 
 def closes_output(program, after):
     """A handler closes its output and goes on: its end is its exit."""
-    with Daemon(program, HELD, "--negative", "0") as daemon, daemon.client() as client, daemon.client() as other:
-        client.send(want())
-        handler = daemon.handler()
+    with asked(program, "--negative", "0") as (daemon, client, handler), daemon.client() as other:
         if after:
-            completes(handler)
+            handler.completes()
         handler.close_output()
         handler.all_input()
         state = other.ask(*[ask.on_key(8, handler.key)] * 20)[-1]
@@ -179,13 +166,11 @@ def closes_output(program, after):
 
 def child_goes_on(program):
     """A handler exits while another process has its pipes: that one is still the handler."""
-    with Daemon(program, HELD) as daemon, daemon.client() as client:
-        client.send(want())
-        handler = daemon.handler()
+    with asked(program) as (daemon, client, handler):
         handler.link.send(b"\0")
         handler.link.close()
         until(lambda: "Z" in daemon.children().values(), "the exit of the handler")
-        done = completes(handler)
+        done = handler.completes()
         held = quiet(client)
         handler.close_pipes()
         reply = client.reply()
@@ -194,9 +179,7 @@ def child_goes_on(program):
 
 def replies_unread(program):
     """A handler that closes its input gets no reply; what it has sent behind the first is not heard."""
-    with Daemon(program, HELD, "--negative", "0") as daemon, daemon.client() as client:
-        client.send(want())
-        handler = daemon.handler()
+    with asked(program, "--negative", "0") as (daemon, client, handler):
         handler.close_input()
         handler.send(ask.on_key(3, 12), ask.instantiate(12, b"x", 0))
         handler.ends()
@@ -205,9 +188,7 @@ def replies_unread(program):
 
 def handler_leaves(program):
     """A handler is killed while the daemon writes to it, when nothing more goes: the signal of a broken pipe doesn't end the daemon."""
-    with Daemon(program, HELD, "--negative", "0") as daemon, daemon.client() as client:
-        client.send(want(callout=b"c" * 4095))
-        handler = daemon.handler()
+    with asked(program, "--negative", "0", callout=b"c" * 4095) as (daemon, client, handler):
         handler.ask(ask.on_key(3, handler.key))
         os.set_blocking(handler.output, False)
         until(lambda: not writes(handler, ask.frame(ask.CALLOUT) * 100), "a handler to which no more goes")
@@ -280,7 +261,7 @@ def signalled(program):
                     daemon.process.send_signal(number)
                     other.ask(ask.on_key(8, key))
         cut.put(body[3:])
-        got = idle.ask(ask.on_key(8, key)), cut.reply(), [slow.reply() for _ in range(400)] == [b"v" * 32767] * 400, completes(handlers[0])
+        got = idle.ask(ask.on_key(8, key)), cut.reply(), [slow.reply() for _ in range(400)] == [b"v" * 32767] * 400, handlers[0].completes()
         handlers[2].put(b"de")
         for handler in handlers:
             handler.ends()
@@ -301,7 +282,7 @@ def waits_and_dies(program):
         outer.ask(ask.on_key(3, outer.key))
         outer.send(want(b"h:inner", ring=0))
         outer.is_killed()
-        done = completes(inner)
+        done = inner.completes()
         inner.ends()
         return differs((done, other.reply(), client.reply()), ((0, 0), inner.key, "E126")) or daemon.lives()
 
@@ -309,9 +290,7 @@ def waits_and_dies(program):
 def inner_fails(program, how):
     """A handler asks for another key, of which nothing comes: it gets ENOKEY, goes on, and makes its own key."""
     conf = HELD + "create user w:2 * /no/such\ncreate user w:* * %puppet %k\n"
-    with Daemon(program, conf, "--negative", "4000000") as daemon, daemon.client() as client:
-        client.send(want())
-        outer = daemon.handler()
+    with asked(program, "--negative", "4000000", conf=conf) as (daemon, client, outer):
         outer.ask(ask.on_key(3, outer.key))
         outer.send(want(b"w:2" if how == "is not started" else b"w:1", ring=-8))
         if how != "is not started":
@@ -327,7 +306,7 @@ def inner_fails(program, how):
         else:
             first = ["E126", 0]
         told = outer.reply(), quiet(client), outer.ask(want(b"w:2" if how == "is not started" else b"w:1", None, 0))
-        done = completes(outer)
+        done = outer.completes()
         outer.ends()
         error = "E129" if how == "rejects" else "E126"
         return differs((first, told, done, client.reply()), (["E126", 0], (error, True, error), (0, 0), outer.key)) or daemon.lives()
@@ -335,10 +314,7 @@ def inner_fails(program, how):
 
 def outer_fails(program, how):
     """A handler fails when another key has been made for it: that one stays, and is found by who asks for it."""
-    conf = HELD + "create user w:* * |/bin/cat\n"
-    with Daemon(program, conf, "--negative", "4000000") as daemon, daemon.client() as client:
-        client.send(want())
-        outer = daemon.handler()
+    with asked(program, "--negative", "4000000", conf=HELD + "create user w:* * |/bin/cat\n") as (daemon, client, outer):
         made = outer.ask(ask.on_key(3, outer.key), want(b"w:1", ring=-8))
         if how == "closes its input":
             outer.close_input()
@@ -352,13 +328,11 @@ def outer_fails(program, how):
 def followed(program, how):
     """A piped program has failed, and a handler of the line for `negate` follows; what becomes of the key is what that one does."""
     conf = "create user h:* * |/bin/false\nnegate user h:* * %puppet %k\n"
-    with Daemon(program, conf, "--negative", "4000000") as daemon, daemon.client() as client, daemon.client() as other:
-        client.send(want())
-        handler = daemon.handler()
+    with asked(program, "--negative", "4000000", conf=conf) as (daemon, client, handler), daemon.client() as other:
         other.send(want())
         waits = quiet(client), quiet(other)
         if how in ["completes", "is killed behind it"]:
-            done = completes(handler)
+            done = handler.completes()
         elif how == "negates":
             done = handler.ask(ask.on_key(3, handler.key)), handler.ask(ask.negate(handler.key, 1000, 0))
         else:
@@ -392,7 +366,7 @@ def warned(program):
         with daemon.client() as left:
             left.send(want())
             handler = daemon.handler()
-        done = completes(handler)
+        done = handler.completes()
         handler.ends()
         with daemon.client(None) as cut:
             cut.put(ask.frame(ask.hello(1000, 1000))[:9])
@@ -581,7 +555,8 @@ def reads_to_the_end(program):
     """A plain handler closes its output and reads its input to the end, which is there for it: only then does it exit."""
     conf = "create user s:* * %room/handler %k\n"
     with Daemon(program, conf) as daemon, daemon.client() as client:
-        daemon.script("handler", '#!/bin/sh\n%ctl assume "$1" 2> /dev/null && %ctl instantiate "$1" made none 2> /dev/null\nexec >&-\ncat > %room/rest\nexit 5\n')
+        makes = '%ctl assume "$1" 2> /dev/null && %ctl instantiate "$1" made none 2> /dev/null'
+        daemon.script("handler", f"#!/bin/sh\n{makes}\nexec >&-\ncat > %room/rest\nexit 5\n")
         reply = client.ask(want(b"s:1"))
         return differs((reply, (daemon.room / "rest").read_bytes(), daemon.children()), (12, b"", {})) or daemon.lives()
 
@@ -630,21 +605,21 @@ def nothing_left(program):
         daemon.script("handler", '#!/bin/sh\nexec 2> /dev/null\n%ctl assume "$1" && %ctl instantiate "$1" made none\n')
         with daemon.client() as other:
             other.ask(want(b"c:first"))
-        before = until(lambda: (now := daemon.descriptors()) and now["socket"] == 2 and now, "two sockets")
+        before = daemon.settled(2)
         wrong = []
         for at in range(100):
             kind = "cfsmg"[at % 5]
             reply = client.ask(want(f"{kind}:{at}".encode()))
             if isinstance(reply, int) != (kind in "cs"):
                 wrong.append((kind, at, reply))
-        until(lambda: not daemon.children(), "the end of all children")
-        return differs((wrong, daemon.descriptors()), ([], before))
+        daemon.has_left(before)
+        return differs(wrong, [])
 
 
 def cases():
-    for try_it in [client_killed, all_clients_killed, again_after, completed_and_killed, daemon_killed, terminated, no_asks, child_goes_on, replies_unread, told_whole,
-                   handler_leaves, stopped, signalled, waits_and_dies, not_followed, not_made, made_or_not, warned, ends_unknown, chain, many_wait, reads_to_the_end,
-                   second_start_fails, nothing_left]:
+    for try_it in [client_killed, all_clients_killed, again_after, completed_and_killed, daemon_killed, terminated, no_asks, child_goes_on, replies_unread,
+                   told_whole, handler_leaves, stopped, signalled, waits_and_dies, not_followed, not_made, made_or_not, warned, ends_unknown, chain, many_wait,
+                   reads_to_the_end, second_start_fails, nothing_left]:
         yield try_it.__name__.replace("_", " "), try_it
     for uid, key in [(1000, 16), (1001, 13)]:
         yield f"each outcome wakes who waits, of uid {uid}", each_outcome_wakes, uid, key

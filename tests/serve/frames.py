@@ -1,18 +1,16 @@
 """Frames that are cut, in pieces, or not what they should be, over sockets and over the pipes of handlers."""
-import array
 import fcntl
 import functools
 import random
 import re
 import socket
 import struct
-import subprocess
 import termios
 
 import alike
 import protocol_peer as ask
-from daemon import LIMIT, Client, Daemon, GaveUp, told, until
-from programs import differs
+from daemon import Client, Daemon, GaveUp, told, until
+from programs import differs, ran
 from scenarios import scenarios
 
 HELLO = ask.frame(ask.hello(1000, 1000))
@@ -142,8 +140,8 @@ def replayed(program, bodies):
     """The replies of `reqkeyd replay` to a client alone that sends these bodies, with no program for any key."""
     lines = [f"100 bytes 1 {ask.frame(body).hex()}\n" for body in bodies]
     script = f"conf {NO_PROGRAM}negative {alike.FOREVER}\n100 accept 1\n{''.join(lines)}"
-    ran = subprocess.run([program, "replay"], input=script.encode(), capture_output=True, timeout=LIMIT)
-    return [told(bytes.fromhex(line.split(" ")[2])[4:]) for line in ran.stdout.decode().splitlines()]
+    _, output, _ = ran(program, "replay", input=script, text=True)
+    return [told(bytes.fromhex(line.split(" ")[2])[4:]) for line in output.splitlines()]
 
 
 class Relocated:
@@ -212,29 +210,26 @@ def cut_scenarios(program):
 # ---- pieces
 
 
-def client_unread(client):
-    """How many bytes, as the system counts them, the daemon has not read yet."""
-    return array.array("i", fcntl.ioctl(client.socket, termios.TIOCOUTQ, b"\0" * 4))[0]
-
-
-def handler_unread(handler):
-    return array.array("i", fcntl.ioctl(handler.output, termios.FIONREAD, b"\0" * 4))[0]
-
-
-def in_pieces(speaker, unread, pieces):
-    """Sends each piece when the one before it has been read."""
+def in_pieces(speaker, descriptor, unread, pieces):
+    """Sends each piece when the one before it has been read, as the system counts what this descriptor still holds."""
     for piece in pieces:
         speaker.put(piece)
-        until(lambda: not unread(speaker), "the read of a piece")
+        until(lambda: not any(fcntl.ioctl(descriptor, unread, b"\0" * 4)), "the read of a piece")
+
+
+def all_pieces(data):
+    """The bytes cut in two at each byte, and into single bytes."""
+    yield from ([data[:at], data[at:]] for at in range(1, len(data)))
+    yield [bytes([byte]) for byte in data]
 
 
 def pieces_of_client(program):
     """A client's frames are cut in two at each byte, and into single bytes; the daemon reads each piece by itself."""
     data = HELLO + ask.frame(ask.add(b"user", b"k", b"v", -3)) + ask.frame(ask.request(b"user", b"k", None, 0)) + ask.frame(ask.CALLOUT)
     with Daemon(program) as daemon:
-        for pieces in [*([data[:at], data[at:]] for at in range(1, len(data))), [bytes([byte]) for byte in data]]:
+        for pieces in all_pieces(data):
             with Client(daemon.path) as client:
-                in_pieces(client, client_unread, pieces)
+                in_pieces(client, client.socket, termios.TIOCOUTQ, pieces)
                 rings, *replies = client.ends()
             if not isinstance(rings, tuple) or replies != [replies[0], replies[0], "E126"]:
                 return f"{len(pieces[0])} bytes in the first of {len(pieces)} pieces: {rings} {replies}"
@@ -247,12 +242,12 @@ def pieces_of_handler(program):
         client.send(ask.request(b"user", b"h:1", b"x", -4))
         handler = daemon.handler()
         data = b"".join(map(ask.frame, [ask.on_key(3, handler.key), ask.CALLOUT, ask.on_key(3, 0)]))
-        for pieces in [*([data[:at], data[at:]] for at in range(1, len(data))), [bytes([byte]) for byte in data]]:
-            in_pieces(handler, handler_unread, pieces)
+        for pieces in all_pieces(data):
+            in_pieces(handler, handler.output, termios.FIONREAD, pieces)
             replies = [handler.reply() for _ in range(3)]
             if replies != [0, b"x", 0]:
                 return f"{len(pieces[0])} bytes in the first of {len(pieces)} pieces: {replies}"
-        handler.ask(ask.on_key(3, handler.key), ask.instantiate(handler.key, b"made", 0))
+        handler.completes()
         handler.ends()
         return differs(client.reply(), handler.key)
 

@@ -5,7 +5,7 @@ import select
 import threading
 
 import protocol_peer as ask
-from daemon import LIMIT, Client, Daemon, GaveUp, ended, text_of, until
+from daemon import LIMIT, Client, Crowd, Daemon, GaveUp, ended, text_of, until
 from programs import differs
 
 HELLO = ask.frame(ask.hello(1000, 1000))
@@ -91,12 +91,12 @@ def come_and_go(program):
     with Daemon(program, "create user p:* * |/bin/cat\n") as daemon:
         with daemon.client() as client:
             client.ask(ask.request(b"user", b"p:1", b"x", -4))
-        before = until(lambda: (now := daemon.descriptors()) and now["socket"] == 1 and now, "one socket")
+        before = daemon.settled()
         for at in range(10_000):
             with Client(daemon.path, None if at % 10 else 1000) as client:
                 if at % 10 == 5:
                     client.put(HELLO[: at // 10 % 18])
-        until(lambda: daemon.descriptors() == before, f"the descriptors {before}, and not {daemon.descriptors()}")
+        daemon.has_left(before)
         return daemon.lives()
 
 
@@ -121,21 +121,14 @@ def one_worker(program, count):
         replies = {}
 
         def comes(at):
-            try:
-                with Client(daemon.path) as client:
-                    client.put(HELLO + ask.frame(ask.add(b"user", b"k%d" % at, b"v", -3)))
-                    replies[at] = client.ends()
-            except (GaveUp, OSError) as failed:
-                replies[at] = repr(failed)
+            with Client(daemon.path) as client:
+                client.put(HELLO + ask.frame(ask.add(b"user", b"k%d" % at, b"v", -3)))
+                replies[at] = client.ends()
 
-        threads = [threading.Thread(target=comes, args=(at,), daemon=True) for at in range(count)]
-        for thread in threads:
-            thread.start()
+        crowd = Crowd(comes, range(count))
         alone = first.ask(*[ask.on_key(7, 8)] * 50), dict(replies)
         first.socket.close()
-        for thread in threads:
-            ended(thread, "the end of a client")
-        wrong = [it for it in replies.values() if len(it) != 2 or not isinstance(it[0], tuple) or not isinstance(it[1], int)]
+        wrong = crowd.ended() + [it for it in replies.values() if len(it) != 2 or not isinstance(it[0], tuple) or not isinstance(it[1], int)]
         return differs((set(alone[0]), alone[1], len(replies), wrong[:2]), ({"E126"}, {}, count, [])) or daemon.lives()
 
 
@@ -198,26 +191,18 @@ def crowd(program):
     with Daemon(program, conf, "--negative", "0") as daemon:
         with daemon.client() as client:
             client.ask(ask.request(b"user", b"a", b"x", -4))
-        before = until(lambda: (now := daemon.descriptors()) and now["socket"] == 1 and now, "one socket")
-        wrong = []
+        before = daemon.settled()
 
         def comes(dice):
-            try:
-                for _ in range(4):
-                    with Client(daemon.path, 1000 + dice.randrange(4)) as client:
-                        bodies = [body_of(dice) for _ in range(dice.randrange(20))]
-                        client.send(*bodies)
-                        if dice.random() < 0.7 and len(replies := client.ends()) != len(bodies):
-                            wrong.append(f"{len(replies)} replies to {len(bodies)}")
-            except (GaveUp, OSError) as failed:
-                wrong.append(repr(failed))
+            for _ in range(4):
+                with Client(daemon.path, 1000 + dice.randrange(4)) as client:
+                    bodies = [body_of(dice) for _ in range(dice.randrange(20))]
+                    client.send(*bodies)
+                    if dice.random() < 0.7 and len(replies := client.ends()) != len(bodies):
+                        raise GaveUp(f"{len(replies)} replies to {len(bodies)}")
 
-        threads = [threading.Thread(target=comes, args=(random.Random(seed),), daemon=True) for seed in range(48)]
-        for thread in threads:
-            thread.start()
-        for thread in threads:
-            ended(thread, "the end of a client")
-        until(lambda: not daemon.children() and daemon.descriptors() == before, "the end of all that they had")
+        wrong = Crowd(comes, map(random.Random, range(48))).ended()
+        daemon.has_left(before)
         return differs(wrong[:3], []) or daemon.lives()
 
 
@@ -263,7 +248,7 @@ def few_descriptors(program):
             replies = client.ask(*asks)
             made.append([isinstance(it, int) for it in replies[:3]])
             refused = {it for it in replies if not isinstance(it, int)}
-            until(lambda: daemon.descriptors() == before and not daemon.children(), "the end of all handlers")
+            daemon.has_left(before)
             if wrong := differs((refused, set(replies[3:])), ({"E126"}, {"E126"})):
                 return f"{files} descriptors: {wrong}"
     enough = made.index([True] * 3)

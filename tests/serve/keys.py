@@ -27,22 +27,18 @@ def first(program):
         return differs((made, read, daemon.end(), daemon.path.exists()), (printed(12), printed("hello"), (0, []), False))
 
 
-def scripted(program):
+def scripted(program, script=SCRIPT, said=("0", "0"), environment=None):
     """A plain handler that is a shell script."""
-    with Daemon(program, "create user s:* * %room/handler %k\n", "--clients", "2") as daemon:
-        daemon.script("handler", SCRIPT)
+    with Daemon(program, "create user s:* * %room/handler %k\n", "--clients", "2", environment=environment) as daemon:
+        daemon.script("handler", script)
         made = daemon.control(*USER, "request", "user", "s:1", "user", "x")
         read = daemon.control(*USER, "read", "12")
-        return differs((made, read, daemon.end()), (printed(12), printed("made"), (0, ["0"] * 2)))
+        return differs((made, read, daemon.end()), (printed(12), printed("made"), (0, [*said])))
 
 
 def astray(program):
     """A handler that is a shell script speaks to its own daemon, whatever socket the daemon's environment names; with `--quiet` it leaves no line."""
-    with Daemon(program, "create user s:* * %room/handler %k\n", "--clients", "2", environment={"REQKEYD_SOCKET": "/dev/null/none"}) as daemon:
-        daemon.script("handler", SCRIPT.replace("%ctl", "%ctl --quiet"))
-        made = daemon.control(*USER, "request", "user", "s:1", "user", "x")
-        read = daemon.control(*USER, "read", "12")
-        return differs((made, read, daemon.end()), (printed(12), printed("made"), (0, [])))
+    return scripted(program, SCRIPT.replace("%ctl", "%ctl --quiet"), (), {"REQKEYD_SOCKET": "/dev/null/none"})
 
 
 def looked_for(program):
@@ -196,7 +192,8 @@ def joined(program):
 def as_handler(program):
     """Each subcommand in a handler, with a reply and with a refusal."""
     runs = [
-        ("read 12", "errno 13"), ("default thread", "errno 13"), ("assume 16", "errno 126"), ("assume 12", "0"), ("callout", "a callout"), ("read auth", "a callout"), ("hello", "errno 22"),
+        ("read 12", "errno 13"), ("default thread", "errno 13"), ("assume 16", "errno 126"), ("assume 12", "0"), ("callout", "a callout"),
+        ("read auth", "a callout"), ("hello", "errno 22"),
         ("describe 12", "user;1000;building;h:1"), ("read 12", "errno 16"), ("link 12 session", "0"), ("unlink 12 session", "0"),
         ("add user other v requestor", "16"), ("read 16", "v"), ("timeout 16 4000000000", "0"), ("revoke 16", "0"), ("read 16", "errno 128"),
         ("request user h:1 none x", "errno 35"), ("request user none none", "errno 126"), ("default thread", "0"), ("default keep", "1"),
@@ -268,9 +265,11 @@ def document(program):
 
 
 def cases():
-    for name, try_it in [("two runs and the end", first), ("a script as a handler", scripted), ("a handler that is led astray", astray), ("keys that are listed and swept", looked_for),
-                         ("keys far apart", far_apart), ("two hundred names that failed", crowded_out), ("a nested request", nested), ("a line for negate", negated),
-                         ("keys that are decided otherwise", decided), ("what a handler has of the daemon", of_the_daemon), ("macros", macros),
-                         ("a macro of a key that has expired", expired), ("a key that expires for all", expires_for_all), ("each subcommand", as_client), ("a session ring that is joined", joined),
-                         ("each subcommand in a handler", as_handler), ("the example of the protocol", document)]:
-        yield name, try_it
+    yield from [
+        ("two runs and the end", first), ("a script as a handler", scripted), ("a handler that is led astray", astray),
+        ("keys that are listed and swept", looked_for), ("keys far apart", far_apart), ("two hundred names that failed", crowded_out),
+        ("a nested request", nested), ("a line for negate", negated), ("keys that are decided otherwise", decided),
+        ("what a handler has of the daemon", of_the_daemon), ("macros", macros), ("a macro of a key that has expired", expired),
+        ("a key that expires for all", expires_for_all), ("each subcommand", as_client), ("a session ring that is joined", joined),
+        ("each subcommand in a handler", as_handler), ("the example of the protocol", document),
+    ]

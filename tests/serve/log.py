@@ -6,7 +6,7 @@ import subprocess
 
 import protocol_peer as ask
 from daemon import Daemon, text_of, until
-from programs import differs
+from programs import differs, ran
 
 HELD = "create user h:* * %puppet %k\n"
 
@@ -76,7 +76,7 @@ def slow(program):
         client.send(ask.request(b"user", b"h:1", b"callout", -4))
         handler = daemon.handler()
         until(lambda: len(daemon.lines) > 1, "a warning")
-        done = handler.ask(ask.on_key(3, handler.key)), handler.ask(ask.instantiate(handler.key, b"v", 0))
+        done = handler.completes()
         handler.ends()
         reply = client.reply()
         client.socket.close()
@@ -139,7 +139,7 @@ def idle(program):
             client = daemon.client(None)
             client.put(sent)
             ends.append(len(client.rest()))
-        done = handler.ask(ask.on_key(3, handler.key)), handler.ask(ask.instantiate(handler.key, b"v", 0))
+        done = handler.completes()
         handler.ends()
         return differs((ends, done, waiting.reply(), waiting.rest()), ([0, 0, 1], (0, 0), 12, [])) or daemon.lives()
 
@@ -162,9 +162,9 @@ def until_eof(program, what):
             got = daemon.end()
             stands = daemon.path.exists()
         kept = sorted(path.name for path in folder.iterdir())
-        joined = subprocess.run([program, "rejoin", *sorted(folder.iterdir())], capture_output=True, text=True)
+        joined, *_ = ran(program, "rejoin", *sorted(folder.iterdir()))
         wanted = [f"hall-{hall}-volume-000001" for hall in range(4)]
-        return differs((got, stands, kept, rings, joined.returncode), ((0, []), False, wanted, 0 if client else None, 0))
+        return differs((got, stands, kept, rings, joined), ((0, []), False, wanted, 0 if client else None, 0))
 
 
 def cases():

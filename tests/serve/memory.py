@@ -1,10 +1,11 @@
 """Allocations that are refused, one in each run of the daemon: at the start they are reported, and later they are answered ENOMEM."""
 import os
-import shutil
 
 import protocol_peer as ask
+from compiled import library
 from daemon import Client, Daemon, until
-from scenes import CONF, Gated, answered, displaced, hellos, library, negated, nested, played_twice, revoked, two_requesters
+from programs import lacks
+from scenes import CONF, Gated, answered, displaced, hellos, negated, nested, played_twice, revoked, two_requesters
 
 # what is asked, and its reply where it is the same in every run that has not said HELLO in vain
 ASKS = [
@@ -82,7 +83,7 @@ def short(program, play, count):
     with daemon:
         before = daemon.descriptors()
         noticed, wrong = played_twice(daemon, play, INSTEAD)
-        until(lambda: not daemon.children() and daemon.descriptors() == before, f"allocation {count}: no child, and the descriptors {before}")
+        daemon.has_left(before)
         return told.exists(), noticed, wrong and f"allocation {count}, {wrong}"
 
 
@@ -105,9 +106,8 @@ SCENARIOS = {
 
 
 def cases():
-    if shutil.which("gcc"):
-        yield "allocations that are refused", refuses
-        for name, play in SCENARIOS.items():
-            yield f"allocations that are refused: {name}", refused_in, play
-    else:
-        print("allocations that are refused: not tried, there is no gcc")
+    if lacks("allocations that are refused", "gcc"):
+        return
+    yield "allocations that are refused", refuses
+    for name, play in SCENARIOS.items():
+        yield f"allocations that are refused: {name}", refused_in, play

@@ -3,27 +3,11 @@
 `int` stands for any number but 0, `tuple` for any rings, and None for a connection that was closed.
 """
 import contextlib
-import functools
 import os
-import pathlib
 import select
-import subprocess
-import tempfile
 
 import protocol_peer as ask
 from daemon import LIMIT, Client, Daemon
-
-FOLDER = tempfile.TemporaryDirectory(prefix="refusing-")
-
-
-@functools.cache
-def library(name):
-    """The library of tests/ that is loaded before the C library, built once."""
-    made = f"{FOLDER.name}/{name}.so"
-    source = pathlib.Path(__file__).resolve().parent.parent / f"{name}.c"
-    subprocess.run(["gcc", "-shared", "-fPIC", "-O2", "-o", made, source], check=True)
-    return made
-
 
 CONF = """create user held:* * %room/held %k
 create user plain:* * %room/plain %k

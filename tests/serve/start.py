@@ -5,11 +5,10 @@ import pathlib
 import re
 import socket
 import stat
-import subprocess
 
 import protocol_peer as ask
-from daemon import LIMIT, Client, Daemon, until
-from programs import differs
+from daemon import Client, Daemon, until
+from programs import differs, ran
 
 CONF_FAULTS = [
     ("create user a *", "1: C1"),
@@ -32,6 +31,8 @@ NUMBERS = {
     "--slow": (["0", "4294967295"], ["4294967296"]),
     "--status": (["0", "4294967295"], ["4294967296"]),
 }
+# the rings of a daemon's first client, and its end behind the last one
+ONE = (0, 0, 4, 8), (0, [])
 NO_NUMBERS = ["", "-1", "+1", "x", "1x", " 1", "1 ", "1.0", "-", "٣"]
 
 
@@ -39,10 +40,10 @@ def words_of(daemon, *more):
     return [daemon.program, "serve", "--socket", daemon.path, "--conf", daemon.conf, *more]
 
 
-def ended(words, **more):
+def ended(words):
     """A run that has to end by itself."""
-    ran = subprocess.run(words, stdin=subprocess.DEVNULL, capture_output=True, timeout=LIMIT, **more)
-    return ran.returncode, ran.stdout, ran.stderr.decode(errors="replace")
+    status, output, errors = ran(*words)
+    return status, output, errors.decode(errors="replace")
 
 
 def failed(words):
@@ -52,24 +53,9 @@ def failed(words):
     return status, output, f"{first}\n", bool(re.fullmatch(r"  \S[^\n]*: [^\n]+\n", second))
 
 
-class Stopped(Daemon):
-    """A folder with a configuration, and no daemon that runs in it."""
-
-    def start(self):
-        self.process = subprocess.Popen(["true"], stdout=subprocess.PIPE, stderr=subprocess.PIPE)
-        self.process.wait()
-
-        class Nobody:
-            @staticmethod
-            def join(_):
-                pass
-
-        self.reader = Nobody
-
-
 def misuses(program, words):
     """Status 2, the usage on standard error, nothing on standard output and nothing at the socket. The configuration, which is faulty, is not read."""
-    with Stopped(program, "create") as daemon:
+    with Daemon(program, "create", starts=False) as daemon:
         filled = [{"S": daemon.path, "C": daemon.conf}.get(word, word) for word in words]
         status, output, errors = ended([program, *filled])
         said = "usage" in errors.lower() or "error: " in errors
@@ -80,9 +66,7 @@ def takes(program, *options):
     """It starts with these options, serves a client, and ends with 0 after it."""
     clients = [] if "--clients" in options or any(it.startswith("--clients=") for it in options) else ["--clients", "1"]
     with Daemon(program, "", *options, *clients) as daemon:
-        with daemon.client() as client:
-            rings = client.rings
-        return differs((rings, daemon.end(), daemon.path.exists()), ((0, 0, 4, 8), (0, []), False))
+        return differs((daemon.serves_one(), daemon.path.exists()), (ONE, False))
 
 
 def goes_on(program, *options):
@@ -94,7 +78,7 @@ def goes_on(program, *options):
 
 def faults(program, conf, want):
     """A fault of the start: its line alone, and status 1."""
-    with Stopped(program) as daemon:
+    with Daemon(program, starts=False) as daemon:
         if conf is None:
             daemon.conf.unlink()
         elif conf == "folder":
@@ -108,7 +92,7 @@ def faults(program, conf, want):
 
 def in_order(program):
     """Of several faults the first is reported: of the words, of the file, of its lines, of the library, of the socket."""
-    with Stopped(program, "create") as daemon:
+    with Daemon(program, "create", starts=False) as daemon:
         daemon.path.write_text("plain")
         got = [ended(words_of(daemon, "--sessions", "0"))[0], failed(words_of(daemon))]
         daemon.conf.unlink()
@@ -119,30 +103,36 @@ def in_order(program):
         return differs((got, daemon.path.read_text()), ([2, lines[0], 2, *lines[1:]], "plain"))
 
 
+def bound(path, kind=socket.SOCK_STREAM):
+    """A socket that is bound to this path."""
+    listener = socket.socket(socket.AF_UNIX, kind)
+    listener.bind(str(path))
+    return listener
+
+
+def left(path):
+    """The path, at which nobody answers: its socket was left there."""
+    bound(path).close()
+    return path
+
+
+# What may stand at the path of the socket, and how it is put there.
+STANDING = {
+    "folder": pathlib.Path.mkdir,
+    "full folder": lambda path: path.mkdir() or (path / "x").touch(),
+    "dangling link": lambda path: path.symlink_to(path.with_name("nothing")),
+    "link to a file": lambda path: path.symlink_to(path.with_name("conf")),
+    "link to a socket that was left": lambda path: path.symlink_to(left(path.with_name("left"))),
+    "pipe": os.mkfifo,
+    "datagrams": lambda path: bound(path, socket.SOCK_DGRAM),
+    "empty file": pathlib.Path.touch,
+}
+
+
 def stands(program, what):
     """Something else than a socket without a daemon stands at the path: it is reported, and is not touched."""
-    with Stopped(program) as daemon:
-        listener = None
-        if what == "folder":
-            daemon.path.mkdir()
-        elif what == "full folder":
-            daemon.path.mkdir()
-            (daemon.path / "x").write_text("x")
-        elif what == "dangling link":
-            daemon.path.symlink_to(daemon.room / "nothing")
-        elif what == "link to a file":
-            daemon.path.symlink_to(daemon.conf)
-        elif what == "link to a socket that was left":
-            with socket.socket(socket.AF_UNIX) as left:
-                left.bind(str(daemon.room / "left"))
-            daemon.path.symlink_to(daemon.room / "left")
-        elif what == "pipe":
-            os.mkfifo(daemon.path)
-        elif what == "datagrams":
-            listener = socket.socket(socket.AF_UNIX, socket.SOCK_DGRAM)
-            listener.bind(str(daemon.path))
-        elif what == "empty file":
-            daemon.path.write_text("")
+    with Daemon(program, starts=False) as daemon:
+        listener = STANDING[what](daemon.path)
         before = os.lstat(daemon.path)
         got = failed(words_of(daemon))
         after = os.lstat(daemon.path)
@@ -153,39 +143,29 @@ def stands(program, what):
 
 def nowhere(program, path):
     """A path at which no socket can be."""
-    with Stopped(program) as daemon:
+    with Daemon(program, starts=False) as daemon:
         words = [daemon.program, "serve", "--socket", path.replace("%room", str(daemon.room)), "--conf", daemon.conf]
         return differs(failed(words), (1, b"", "reqkeyd: socket\n", True))
 
 
 def longest(program, length):
     """A path of so many bytes."""
-    with Stopped(program) as daemon:
+    with Daemon(program, "", "--clients", "1", starts=False) as daemon:
         folder = daemon.room / "l"
         folder.mkdir()
-        path = f"{folder}/" + "s" * (length - len(str(folder)) - 1)
-        words = [daemon.program, "serve", "--socket", path, "--conf", daemon.conf, "--clients", "1"]
+        daemon.path = folder / ("s" * (length - len(str(folder)) - 1))
         if length > 107:
-            return differs((failed(words), list(folder.iterdir())), ((1, b"", "reqkeyd: socket\n", True), []))
-        daemon.path = pathlib.Path(path)
-        daemon.options = ("--clients", "1")
-        Daemon.start(daemon)
-        with Client(path, 1000) as client:
-            rings = client.rings
-        return differs((rings, daemon.end(), list(folder.iterdir())), ((0, 0, 4, 8), (0, []), []))
+            return differs((failed(words_of(daemon)), list(folder.iterdir())), ((1, b"", "reqkeyd: socket\n", True), []))
+        daemon.start()
+        return differs((daemon.serves_one(), list(folder.iterdir())), (ONE, []))
 
 
 def stale(program):
     """A socket at which nobody answers is replaced."""
-    with Stopped(program) as daemon:
-        left = socket.socket(socket.AF_UNIX)
-        left.bind(str(daemon.path))
-        left.close()
-        daemon.options = ("--clients", "1")
-        Daemon.start(daemon)
-        with daemon.client() as client:
-            rings = client.rings
-        return differs((rings, daemon.end(), daemon.path.exists()), ((0, 0, 4, 8), (0, []), False))
+    with Daemon(program, "", "--clients", "1", starts=False) as daemon:
+        left(daemon.path)
+        daemon.start()
+        return differs((daemon.serves_one(), daemon.path.exists()), (ONE, False))
 
 
 def two(program):
@@ -211,15 +191,13 @@ def busy(program):
 
 def modes(program, mask, options, want):
     """The mode of the socket's file, whatever the mask, and that of its folder, which stays."""
-    with Stopped(program) as daemon:
-        daemon.options, daemon.mask = options, mask
+    with Daemon(program, "", *options, mask=mask, starts=False) as daemon:
         found = []
         for mode in [0o700, 0o711, 0o1777]:
             daemon.room.chmod(mode)
-            Daemon.start(daemon)
+            daemon.start()
             found.append([oct(os.stat(path).st_mode & 0o7777) for path in [daemon.path, daemon.room]])
-            daemon.process.kill()
-            daemon.process.wait()
+            daemon.kill()
         return differs(found, [[oct(want), oct(mode)] for mode in [0o700, 0o711, 0o1777]])
 
 
@@ -231,9 +209,7 @@ def taken(program, what):
             if what == "file":
                 daemon.path.write_text("plain")
             elif what == "socket":
-                other = socket.socket(socket.AF_UNIX)
-                other.bind(str(daemon.path))
-                other.close()
+                left(daemon.path)
         got = daemon.end()
         stands = what != "nothing" and (daemon.path.is_socket() if what == "socket" else daemon.path.read_text() == "plain")
         return differs((got, stands, daemon.path.exists()), ((0, []), what != "nothing", what != "nothing"))
@@ -241,16 +217,13 @@ def taken(program, what):
 
 def succeeded(program):
     """A second daemon takes the path once the first one accepts no more, and the first one, which ends after that, leaves it there."""
-    with Daemon(program, "", "--clients", "1") as first, Stopped(program) as second:
+    with Daemon(program, "", "--clients", "1") as first, Daemon(program, "", "--clients", "1", starts=False) as second:
         last = first.client()
         until(lambda: refuses(first.path), "the end of the first one's listener")
-        second.path, second.options = first.path, ("--clients", "1")
-        Daemon.start(second)
+        second.path = first.path
+        second.start()
         last.socket.close()
-        got = first.end()
-        with second.client() as client:
-            rings = client.rings
-        return differs((got, rings, second.end(), second.path.exists()), ((0, []), (0, 0, 4, 8), (0, []), False))
+        return differs((first.end(), second.serves_one(), second.path.exists()), ((0, []), ONE, False))
 
 
 def refuses(path):
@@ -265,8 +238,9 @@ def refuses(path):
 
 def helps(program, words):
     status, output, errors = ended([program, *words])
-    wanted = ["Usage: ", "--socket", "--conf", "--negative", "--sessions", "--clients", "--mode", "--until-eof", "--idle", "--log", "--slow", "--status", "60", "64"] if "serve" in words else ["serve", "replay"]
-    missing = [it for it in wanted if it not in output.decode()]
+    of_serve = ["Usage: ", "--socket", "--conf", "--negative", "--sessions", "--clients", "--mode", "--until-eof", "--idle", "--log", "--slow", "--status",
+                "60", "64"]
+    missing = [it for it in (of_serve if "serve" in words else ["serve", "replay"]) if it not in output.decode()]
     return differs((status, missing, errors), (0, [], ""))
 
 
@@ -299,7 +273,8 @@ def cases():
     base = ["serve", "--socket", "S", "--conf", "C"]
     for words in [["serve"], base[:3], [base[0], *base[3:]], ["serve", "--socket"], [*base, "more"], [*base, "--nothing"], [*base, "--mode"],
                   [*base, "--socket", "S"], [*base, "--conf=C"], ["serve", "--socket", "--conf", "C"], ["--socket", "S", "serve", "--conf", "C"],
-                  [*base, "--until-eof=1"], [*base, "--until-eof", "--until-eof"], [*base, "--log"], [*base, "--log", "warning"], [*base, "--negativ", "1"], [*base, "-s", "1"], [*base, "replay"], [*base, "--sessions"], [*base, "--", "x"]]:
+                  [*base, "--until-eof=1"], [*base, "--until-eof", "--until-eof"], [*base, "--log"], [*base, "--log", "warning"], [*base, "--negativ", "1"],
+                  [*base, "-s", "1"], [*base, "replay"], [*base, "--sessions"], [*base, "--", "x"]]:
         yield f"words {words}", misuses, words
     for option, (good, bad) in NUMBERS.items():
         for value in good:
@@ -316,7 +291,7 @@ def cases():
     yield "no configuration", faults, None, "conf"
     yield "a folder as a configuration", faults, "folder", "conf"
     yield "faults in their order", in_order
-    for what in ["folder", "full folder", "dangling link", "link to a file", "link to a socket that was left", "pipe", "datagrams", "empty file"]:
+    for what in STANDING:
         yield f"a {what} at the path", stands, what
     for path in ["%room/none/s", "%room/conf/s", "/" + "l" * 200, "%room"]:
         yield f"the path {path[:30]}", nowhere, path

@@ -50,7 +50,7 @@ def waits_within(program):
         client.send(ask.add(b"user", b"k", b"v", USER), *reads, ask.request(b"user", b"h:1", b"x", USER), *reads)
         before = [client.reply() for _ in range(21)]
         handler = daemon.handler()
-        done = handler.ask(ask.on_key(3, handler.key)), handler.ask(ask.instantiate(handler.key, b"made", 0))
+        done = handler.completes()
         handler.ends()
         behind = [client.reply() for _ in range(21)]
         return differs((before, done, behind), ([12, *[b"v"] * 20], (0, 0), [handler.key, *[b"v"] * 20])) or daemon.lives()

@@ -1,0 +1,26 @@
+#include "connection.h"
+
+#include <errno.h>
+#include <poll.h>
+
+int errno_of(int result)
+{
+    switch (-result) {
+    case REQKEY_UNSPELT:
+        return EINVAL;
+    case REQKEY_ENDED:
+        return ECONNRESET;
+    case REQKEY_MALFORMED:
+        return EPROTO;
+    case REQKEY_SYSTEM:
+        return errno;
+    default:
+        return -result;
+    }
+}
+
+bool connection_has_ended(const struct reqkey *session)
+{
+    struct pollfd end = {reqkey_descriptor(session), POLLIN | POLLRDHUP, 0};
+    return poll(&end, 1, 0) > 0;
+}
