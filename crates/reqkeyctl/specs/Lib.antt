@@ -8,3 +8,4 @@ pub mod Said
 pub mod Searches
 pub mod Searching
 pub mod Surveys
+pub mod Sources

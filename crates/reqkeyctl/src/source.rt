@@ -1,5 +1,6 @@
 //! Bytes of a file that stand for an argument, so that they need not stand in the list of processes.
-ghost use Rattle.std.specs.Prelude.{◌≡◌, ◌≢◌, codes};
+ghost use Rattle.std.specs.Prelude.{◌≡◌, ◌≢◌, codes, IfOk};
+ghost use Rattle.reqkeyctl.specs.Sources.{IsStart};
 
 use std::alloc::Global;
 use std::fs::{File, Files};
@@ -25,7 +26,8 @@ pub fn read_source<R: Files, I: Read>(
     path: &str,
     reader: &mut I,
 ) -> Result<Vec<u8>, SourceFault>
-    ensures { path.now ≢ codes "-" → reader.new ≡ reader.old }
+    ensures another { path.now ≢ codes "-" → reader.new ≡ reader.old }
+    ensures start { path.now ≡ codes "-" → IfOk result (λ bytes. IsStart bytes.items (I.remaining reader.old)) }
 {
     if path == "-" {
         return read_start(alloc, reader);
@@ -37,7 +39,9 @@ pub fn read_source<R: Files, I: Read>(
 }
 
 /// The first bytes that are left to read.
-fn read_start<I: Read>(alloc: Global, reader: &mut I) -> Result<Vec<u8>, SourceFault> {
+fn read_start<I: Read>(alloc: Global, reader: &mut I) -> Result<Vec<u8>, SourceFault>
+    ensures { IfOk result (λ bytes. IsStart bytes.items (I.remaining reader.old)) }
+{
     let mut bytes = Vec::new(alloc);
     match Read::take(reader, MOST).read_to_end(&mut bytes) {
         Ok(_) => Ok(bytes),

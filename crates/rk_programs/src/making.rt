@@ -1,5 +1,6 @@
 //! What is started for a command.
-ghost use Rattle.std.specs.Prelude.{◌≡◌, IfOk, option_map};
+ghost use Rattle.std.specs.Prelude.{◌≡◌, true, IfOk, option_map};
+ghost use Rattle.std.specs.Process.{makes_pipe, SameProgramAndArgs, SameEnv, SameDir};
 ghost use Rattle.rk_variables.specs.Starts.{start_of};
 ghost use Rattle.rk_programs.specs.Started.{IsCalled, IsOf};
 
@@ -35,7 +36,18 @@ fn called(alloc: Global, command: &Command) -> Result<process::Command, AllocErr
     for word in command.words.as_slice() {
         made.arg(word.as_str())?;
     }
-    made.stdin(Stdio::piped());
-    made.stdout(Stdio::piped());
+    connect(&mut made, Stdio::piped(), Stdio::piped());
     Ok(made)
+}
+
+/// Gives a program these new pipes for its standard input and output.
+fn connect(made: &mut process::Command, input: Stdio, output: Stdio)
+    requires input { makes_pipe input ≡ true }
+    requires output { makes_pipe output ≡ true }
+    ensures call { SameProgramAndArgs made.old made.new }
+    ensures variables { SameEnv made.old made.new }
+    ensures folder { SameDir made.old made.new }
+{
+    made.stdin(input);
+    made.stdout(output);
 }

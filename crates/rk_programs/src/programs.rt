@@ -1,5 +1,6 @@
 //! The launcher of real programs.
 ghost use Rattle.std.specs.Prelude.{◌≡◌, None};
+ghost use Rattle.std.specs.IoError.{raw_os_error};
 ghost use Rattle.rk_devices.specs.Shown.{LauncherShown, new_launcher};
 
 use crate::counting::one_more;
@@ -75,6 +76,15 @@ fn spawn<R: Processes>(
     made(alloc, command, keyutils)?.spawn(rt)
 }
 
+/// Why a program was not started: the system's error number, if it gave one.
+fn refused(error: &io::Error) -> StartFault
+    ensures { result.os_error ≡ raw_os_error error.now }
+{
+    StartFault {
+        os_error: error.raw_os_error(),
+    }
+}
+
 impl<'a, R: Processes> Launcher for Programs<'a, R> {
     ghost shown = { λ l. record { count = l.failed; longest = l.longest; out = l.out; deepest = l.deepest; reads = l.reads; at_end = l.at_end; last = l.last; story = None; hasty = l.hasty; tried = None } };
 
@@ -95,9 +105,7 @@ impl<'a, R: Processes> Launcher for Programs<'a, R> {
             }
             Err(error) => {
                 self.failed = one_more(failed);
-                Err(StartFault {
-                    os_error: error.raw_os_error(),
-                })
+                Err(refused(&error))
             }
         }
     }

@@ -1,4 +1,5 @@
 //! Programs that came back before they were waited for.
+ghost use Rattle.std.specs.Prelude.{◌≡◌, None};
 
 use std::alloc::Global;
 use std::process::{Child, OpenProcess};
@@ -20,9 +21,7 @@ impl<P: OpenProcess + Drop> Unwaited<P> {
 
     /// Keeps one that still runs, its pipes closed. If there is no memory for it, it is let go.
     pub fn keep(&mut self, child: Child<P>) {
-        let mut child = child;
-        drop(child.stdin.take());
-        drop(child.stdout.take());
+        let mut child = cut_off(child);
         if still_runs(&mut child) {
             let _ = self.children.push(child);
         }
@@ -32,6 +31,17 @@ impl<P: OpenProcess + Drop> Unwaited<P> {
     pub fn let_ended_go(&mut self) {
         self.children.retain_mut(|child| still_runs(child));
     }
+}
+
+/// It, its pipes closed: its input ends, and nobody reads its output.
+fn cut_off<P: OpenProcess>(child: Child<P>) -> Child<P>
+    ensures input { result.stdin ≡ None }
+    ensures output { result.stdout ≡ None }
+{
+    let mut child = child;
+    drop(child.stdin.take());
+    drop(child.stdout.take());
+    child
 }
 
 /// Whether it has not ended yet. One that can't be asked was waited for already, so it has.
