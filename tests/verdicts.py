@@ -19,7 +19,7 @@ import subprocess
 
 import crates
 
-PROGRAMS = ["edits.py", "stubs.py", "trial.py", "twins.py"]
+PROGRAMS = ["crates.py", "edits.py", "stubs.py", "trial.py", "twins.py"]
 # What is written of the proof of one function, which no other crate can cite.
 OF_FUNCTIONS = ["Answers.antt", "Invariants.antt", "Proof.antt"]
 # Of so many crates that edits.lock lists one is tried.
