@@ -5,7 +5,8 @@ use Rattle.rk_auth.proofs.Words.{changed_at, standing_at, home_at, AreChained, h
 use Rattle.rk_auth.proofs.Words.{IsChainOf, with_link, with_before, changed_if, link_in, before_in, next_at, before_at, with_first, with_next, led_to, Link}
 use Rattle.rk_auth.proofs.Words.{Slot, Slots}
 use Rattle.rk_auth.proofs.Lists.{without, has_without, once_without}
-use Rattle.rk_auth.proofs.Links.{at_same, at_apart, chosen, named_is, is_named, not_named, over, over_named, over_other, frame, in_front, taken_from, head_is, next_back, before_on, first_is}
+use Rattle.rk_auth.proofs.Links.{at_same, at_apart, chosen, named_is, is_named, not_named, over, over_named, over_other, frame}
+use Rattle.rk_auth.proofs.Links.{in_front, taken_from, head_is, next_back, before_on, first_is}
 
 -- ---- what a change of one slot does to a part of it
 
@@ -52,17 +53,19 @@ next_before v = on_link (option_and_then (λ (l : Link). l.before)) (λ l. recor
 
 -- ---- what a change writes
 
-written : {X : Type 0} (P : Option Slot → X) (f : Slot → Slot) (v : X) → ((s : Slot) → P (Some (f s)) ≡ v) → (o : Option Slot) → is_some o ≡ true → P (option_map f o) ≡ v
+written : {X : Type 0} (P : Option Slot → X) (f : Slot → Slot) (v : X) → ((s : Slot) → P (Some (f s)) ≡ v) → (o : Option Slot) → is_some o ≡ true
+    → P (option_map f o) ≡ v
 written P f v writes None t = absurd (both_ways _ refl t)
 written P f v writes (Some s) t = writes s
 
 link_written : (part : Link → Option ℕ) (f : Link → Link) (v : Option ℕ) → ((l : Link) → part (f l) ≡ v) → (o : Option Slot) → is_some (home_in o) ≡ true
     → option_and_then part (link_in (option_map (λ (s : Slot). record s { link = option_map f s.link }) o)) ≡ v
 link_written part f v writes None t = absurd (both_ways _ refl t)
-link_written part f v writes (Some s) t = elim s.link as (λ k. is_some (option_map (λ (l : Link). l.home) k) ≡ true → option_and_then part (option_map f k) ≡ v) [
-  | None ↦ λ t. absurd (both_ways _ refl t)
-  | Some l ↦ λ t. writes l
-] t
+link_written part f v writes (Some s) t =
+    elim s.link as (λ k. is_some (option_map (λ (l : Link). l.home) k) ≡ true → option_and_then part (option_map f k) ≡ v) [
+      | None ↦ λ t. absurd (both_ways _ refl t)
+      | Some l ↦ λ t. writes l
+    ] t
 
 before_written : (v : Option ℕ) (o : Option Slot) → is_some (home_in o) ≡ true → before_in (option_map (with_before v) o) ≡ v
 before_written v = link_written (λ l. l.before) (λ l. record l { before = v }) v (λ l. refl)
@@ -144,7 +147,8 @@ chained_taken m n j chained taken h =
         linked = subst (λ o. IsChain (next_at n) (before_at n) None o (without j xs)) (sym (taken.firsts h))
             (taken_from (next_at m) (before_at m) (next_at n) (before_at n) j None (first_at m h) xs (chained h).1.once taken.nexts taken.befores (chained h).1.linked);
         once = once_without j xs (chained h).1.once;
-        exact = λ q. has_without j xs q ∙ ap (cond (nat_eq j q) false) ((chained h).1.exact q) ∙ sym (of_choice (λ o. names o h) (nat_eq j q) None (home_at m q)) ∙ ap (λ o. names o h) (sym (taken.homes q));
+        exact = λ q. has_without j xs q ∙ ap (cond (nat_eq j q) false) ((chained h).1.exact q)
+            ∙ sym (of_choice (λ o. names o h) (nat_eq j q) None (home_at m q)) ∙ ap (λ o. names o h) (sym (taken.homes q));
       },
     )
 
@@ -215,7 +219,8 @@ module _ (m : Slots) (j h : ℕ) (chained : AreChained m) (idle : home_at m j �
   put_3 n = changed_if n (with_before (Some j)) put_2
 
   -- what the first write leaves, the last leaves
-  last_left : {X : Type 0} (P : Option Slot → X) → ((s : Slot) → P (Some (with_before (Some j) s)) ≡ P (Some s)) → (n : Option ℕ) (q : ℕ) → P (get (put_3 n) q) ≡ P (get put_2 q)
+  last_left : {X : Type 0} (P : Option Slot → X) → ((s : Slot) → P (Some (with_before (Some j) s)) ≡ P (Some s)) → (n : Option ℕ) (q : ℕ)
+      → P (get (put_3 n) q) ≡ P (get put_2 q)
   last_left P same None q = refl
   last_left P same (Some y) q = untouched P y (with_before (Some j)) same put_2 q
 
@@ -252,7 +257,8 @@ module _ (m : Slots) (j h : ℕ) (chained : AreChained m) (idle : home_at m j �
   -- the three changes put j before the chain that h heads
   pub is_put : (n : Option ℕ) → n ≡ first_at m h → IsPut m (put_3 n) j h
   is_put n is = record {
-    next = last_left next_in (before_next (Some j)) n j ∙ next_2 j ∙ touched next_in j (with_link (Some put_link)) m j refl ∙ written next_in (with_link (Some put_link)) (first_at m h) (λ s. refl) (get m j) there;
+    next = last_left next_in (before_next (Some j)) n j ∙ next_2 j ∙ touched next_in j (with_link (Some put_link)) m j refl
+        ∙ written next_in (with_link (Some put_link)) (first_at m h) (λ s. refl) (get m j) there;
     before =
         befores_3 n is j ∙ ap (λ b. cond b (Some j) (before_at put_1 j)) (not_named n j (λ e. none-some h (sym idle ∙ (heads m chained j h (sym is ∙ e)).0)))
         ∙ touched before_in j (with_link (Some put_link)) m j refl ∙ written before_in (with_link (Some put_link)) None (λ s. refl) (get m j) there;
@@ -294,12 +300,14 @@ module _ (m : Slots) (j : ℕ) (l : Link) (chained : AreChained m) (at : link_in
   before_is = ap (option_and_then (λ (k : Link). k.before)) at
 
   -- what both writes of the first step leave
-  left_1 : {X : Type 0} (P : Option Slot → X) → ((s : Slot) → P (Some (with_first l.next s)) ≡ P (Some s)) → ((s : Slot) → P (Some (with_next l.next s)) ≡ P (Some s))
+  left_1 : {X : Type 0} (P : Option Slot → X) → ((s : Slot) → P (Some (with_first l.next s)) ≡ P (Some s))
+      → ((s : Slot) → P (Some (with_next l.next s)) ≡ P (Some s))
       → (b : Option ℕ) (q : ℕ) → P (get (out_1 b) q) ≡ P (get m q)
   left_1 P one other None q = untouched P l.home (with_first l.next) one m q
   left_1 P one other (Some p) q = untouched P p (with_next l.next) other m q
 
-  left_2 : {X : Type 0} (P : Option Slot → X) → ((s : Slot) → P (Some (with_before l.before s)) ≡ P (Some s)) → (b n : Option ℕ) (q : ℕ) → P (get (out_2 b n) q) ≡ P (get (out_1 b) q)
+  left_2 : {X : Type 0} (P : Option Slot → X) → ((s : Slot) → P (Some (with_before l.before s)) ≡ P (Some s)) → (b n : Option ℕ) (q : ℕ)
+      → P (get (out_2 b n) q) ≡ P (get (out_1 b) q)
   left_2 P same b None q = refl
   left_2 P same b (Some y) q = untouched P y (with_before l.before) same (out_1 b) q
 

@@ -359,7 +359,8 @@ module _ {s : Stored Slot} {cs ks : Stored ℕ} {nobody reserved : ℕ} (was : A
         → View n (insert clients k p) constructions ≡ record { constructions = seen construction_of m constructions; clients = insert (seen client_of m clients) k s }
     client_put_view k s new stands =
         let st = standing.Client k s in
-        views (seen_same construction_of m n constructions (λ q j at. ap construction_of (put_elsewhere m n st p new stands j (put_not m n st p new stands j (Some (id.Handler q)) (was.tied.heads q j at)))))
+        views (seen_same construction_of m n constructions
+        (λ q j at. ap construction_of (put_elsewhere m n st p new stands j (put_not m n st p new stands j (Some (id.Handler q)) (was.tied.heads q j at)))))
         (seen_put client_of m n clients k p s (ap client_of (put_at m n st p new stands))
         (λ q j at. ap client_of (put_elsewhere m n st p new stands j (put_not m n st p new stands j (Some (id.Client q)) (was.names q j at)))))
 
@@ -371,18 +372,21 @@ module _ {s : Stored Slot} {cs ks : Stored ℕ} {nobody reserved : ℕ} (was : A
         let st = standing.Construction k c in
         views (seen_put construction_of m n constructions k p c (ap construction_of (put_at m n st p new stands))
         (λ q j at. ap construction_of (put_elsewhere m n st p new stands j (put_not m n st p new stands j (Some (id.Handler q)) (was.tied.heads q j at)))))
-        (seen_same client_of m n clients (λ q j at. ap client_of (put_elsewhere m n st p new stands j (put_not m n st p new stands j (Some (id.Client q)) (was.names q j at)))))
+        (seen_same client_of m n clients (λ q j at. ap client_of
+        (put_elsewhere m n st p new stands j (put_not m n st p new stands j (Some (id.Client q)) (was.names q j at)))))
 
     -- a client that gives its place back is no more in the view, and all others are as they were
     pub client_out_view : (k : ℕ) → get clients k ≡ Some p → ((q : ℕ) → standing_at n q ≡ cond (nat_eq p q) None (standing_at m q))
-        → View n (remove clients k) constructions ≡ record { constructions = seen construction_of m constructions; clients = remove (seen client_of m clients) k }
+        → View n (remove clients k) constructions
+        ≡ record { constructions = seen construction_of m constructions; clients = remove (seen client_of m clients) k }
     client_out_view k is stands =
         views (seen_same construction_of m n constructions (λ q j at. ap construction_of (out_elsewhere m n p stands j (apart_of_both k q p j is at))))
         (seen_out client_of m n clients k (λ q j ne at. ap client_of (out_elsewhere m n p stands j (apart_of_clients k q p j ne is at))))
 
     -- a construction that gives its place back is no more in the view, and all others are as they were
     pub construction_out_view : (k : ℕ) → get constructions k ≡ Some p → ((q : ℕ) → standing_at n q ≡ cond (nat_eq p q) None (standing_at m q))
-        → View n clients (remove constructions k) ≡ record { constructions = remove (seen construction_of m constructions) k; clients = seen client_of m clients }
+        → View n clients (remove constructions k)
+        ≡ record { constructions = remove (seen construction_of m constructions) k; clients = seen client_of m clients }
     construction_out_view k is stands =
         views (seen_out construction_of m n constructions k (λ q j ne at. ap construction_of (out_elsewhere m n p stands j
         (apart_of_constructions k q p j ne is at))))

@@ -56,7 +56,8 @@ module _ (m : Slots) (p : ℕ) (idle : home_at m p ≡ None) (chained : AreChain
   -- removing a slot that is in no chain and heads none leaves the slots chained
   pub out_chained : AreChained (remove m p)
   out_chained =
-      chained_same m (remove m p) chained (out_part next_in (no_part (λ l. l.next) (link_in (get m p)) idle)) (out_part before_in (no_part (λ l. l.before) (link_in (get m p)) idle))
+      chained_same m (remove m p) chained (out_part next_in (no_part (λ l. l.next) (link_in (get m p)) idle))
+      (out_part before_in (no_part (λ l. l.before) (link_in (get m p)) idle))
       (out_part first_in (none_of (first_at m p) (λ j e. alone j (heads m chained j p e).0))) (out_part home_in idle)
 
   -- removing a slot that is in no chain leaves the chain of each place
@@ -83,7 +84,8 @@ module _ (f : Standing → Standing) where
 
   pub changed_chained : (m : Slots) (p : ℕ) → AreChained m → AreChained (changed_at p (in_standing f) m)
   changed_chained m p chained =
-      chained_same m (changed_at p (in_standing f) m) chained (untouched next_in p (in_standing f) (λ s. refl) m) (untouched before_in p (in_standing f) (λ s. refl) m)
+      chained_same m (changed_at p (in_standing f) m) chained (untouched next_in p (in_standing f) (λ s. refl) m)
+      (untouched before_in p (in_standing f) (λ s. refl) m)
       (untouched first_in p (in_standing f) (λ s. refl) m) (untouched home_in p (in_standing f) (λ s. refl) m)
 
   pub changed_homes : (m : Slots) (p q : ℕ) → home_at (changed_at p (in_standing f) m) q ≡ home_at m q

@@ -176,5 +176,6 @@ module _ (k : ℕ) (outcome : Outcome) where
       -- where both chains get the outcome, every session that waits for the key has it
       pub told_view : View n clients index ≡ all_told k outcome (View m clients index)
       told_view =
-          views (seen_all construction_of m n index (in_handler (told k outcome)) (λ q i is. ap construction_of (stands i) ∙ made_handler (told k outcome) (standing_at m i) q (tied.heads q i is)))
+          views (seen_all construction_of m n index (in_handler (told k outcome)) (λ q i is. ap construction_of (stands i)
+          ∙ made_handler (told k outcome) (standing_at m i) q (tied.heads q i is)))
           (seen_all client_of m n clients (told k outcome) (λ q i is. ap client_of (stands i) ∙ made_client (told k outcome) (standing_at m i) q (named q i is)))

@@ -55,28 +55,21 @@ passed : {E : Type 0} (b : Bool) (e : E) (others : Option E) → cond b (Some e)
 passed true e others is = absurd cc
 passed false e others is = (refl, is)
 
+-- a length that is neither 0 nor above a limit
+within : {E : Type 0} (n limit : ℕ) (zero over : E) (others : Option E) → cond (eqb n 0) (Some zero) (cond (ltb limit n) (Some over) others) ≡ None → n ≤ limit
+within n limit zero over others is = ltb-false limit n (passed (ltb limit n) over others (passed (eqb n 0) zero _ is).1).0
+
 type_len : (bytes : List ℕ) → type_rule bytes ≡ None → length bytes ≤ 31
-type_len bytes is =
-    let first = passed (eqb (length bytes) 0) _ _ (refusal_none (type_fault bytes) is) in
-    let second = passed (ltb 31 (length bytes)) _ _ first.1 in
-    ltb-false 31 (length bytes) second.0
+type_len bytes is = within (length bytes) 31 _ _ _ (refusal_none (type_fault bytes) is)
 
 description_len : (bytes : List ℕ) → description_rule bytes ≡ None → length bytes ≤ 4095
-description_len bytes is =
-    let first = passed (eqb (length bytes) 0) _ _ (refusal_none (description_fault bytes) is) in
-    let second = passed (ltb 4095 (length bytes)) _ _ first.1 in
-    ltb-false 4095 (length bytes) second.0
+description_len bytes is = within (length bytes) 4095 _ _ _ (refusal_none (description_fault bytes) is)
 
 payload_len : (bytes : List ℕ) → payload_rule bytes ≡ None → length bytes ≤ 32767
-payload_len bytes is =
-    let first = passed (eqb (length bytes) 0) _ _ (refusal_none (payload_fault bytes) is) in
-    let second = passed (ltb 32767 (length bytes)) _ _ first.1 in
-    ltb-false 32767 (length bytes) second.0
+payload_len bytes is = within (length bytes) 32767 _ _ _ (refusal_none (payload_fault bytes) is)
 
 callout_len : (bytes : List ℕ) → callout_rule bytes ≡ None → length bytes ≤ 4095
-callout_len bytes is =
-    let first = passed (ltb 4095 (length bytes)) _ _ (refusal_none (callout_fault bytes) is) in
-    ltb-false 4095 (length bytes) first.0
+callout_len bytes is = ltb-false 4095 (length bytes) (passed (ltb 4095 (length bytes)) _ _ (refusal_none (callout_fault bytes) is)).0
 
 reply_len : (bytes : List ℕ) → reply_rule bytes ≡ None → length bytes ≤ 65533
 reply_len bytes is = let first = passed (ltb 65533 (length bytes)) _ _ is in ltb-false 65533 (length bytes) first.0

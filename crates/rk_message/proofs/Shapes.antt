@@ -51,6 +51,10 @@ for_lines [] P all m is = absurd is
 for_lines (line ∷ lines) P all m is =
     in_line P line.0 line.1 m (eqb m.op line.0) (kinds_of lines m.op) (λ e. eqb-true m.op line.0 e) all.0 (for_lines lines P all.1 m) is
 
+-- a line, and the others
+line : {A B : Type 0} → A → B → A × B
+line a b = (a, b)
+
 -- the message is an ask's
 abbrev pub ToldAsk : Message → Type 0
 ToldAsk m = (a : Ask) × IsAsk a × (ask_message a ≡ m)
@@ -63,17 +67,21 @@ bits (suc (suc zero)) lt = (false, true, refl)
 bits (suc (suc (suc zero))) lt = (true, true, refl)
 bits (suc (suc (suc (suc n)))) lt = absurd (let below : suc (suc (suc (suc n))) < 4 = ltb-true (suc (suc (suc (suc n)))) 4 lt in omega arith)
 
--- an error with the number, where a table has one
-error_step : (n k : ℕ) (e : KeyError) (b : Bool) (others : Option KeyError) → (b ≡ true → n ≡ k) → error_number e ≡ k → (is_some others ≡ true → (d : KeyError) × (error_number d ≡ n))
-    → is_some (cond b (Some e) others) ≡ true → (d : KeyError) × (error_number d ≡ n)
-error_step n k e true others same is later some = (e, is ∙ sym (same refl))
-error_step n k e false others same is later some = later some
+-- one with the number, where a table has one
+named_step : {E : Type 0} (number : E → ℕ) (n k : ℕ) (e : E) (others : Option E) → number e ≡ k → (is_some others ≡ true → (d : E) × (number d ≡ n))
+    → is_some (cond (eqb n k) (Some e) others) ≡ true → (d : E) × (number d ≡ n)
+named_step {E} number n k e others is later some = by_test (eqb n k) refl some
+  where
+    by_test : (b : Bool) → eqb n k ≡ b → is_some (cond b (Some e) others) ≡ true → (d : E) × (number d ≡ n)
+    by_test true same some = (e, is ∙ sym (eqb-true n k same))
+    by_test false same some = later some
 
 errors : (n : ℕ) → is_some (key_error_named n) ≡ true → (e : KeyError) × (error_number e ≡ n)
-errors n some =
-    error_step n 126 error.NoKey (eqb n 126) _ (λ e. eqb-true n 126 e) refl (error_step n 127 error.Expired (eqb n 127) _ (λ e. eqb-true n 127 e) refl
-    (error_step n 128 error.Revoked (eqb n 128) _ (λ e. eqb-true n 128 e) refl
-    (error_step n 129 error.Rejected (eqb n 129) None (λ e. eqb-true n 129 e) refl (λ none. absurd cc)))) some
+errors n =
+    named_step error_number n 126 error.NoKey _ refl (
+    named_step error_number n 127 error.Expired _ refl (
+    named_step error_number n 128 error.Revoked _ refl (
+    named_step error_number n 129 error.Rejected None refl (λ none. absurd cc))))
 
 hello : (uid gid few number : ℕ) (thread process : Bool) → uid < 2 ^ 32 → gid < 2 ^ 32 → flag_bits thread process ≡ few → few < 2 ^ 8 → ltb few 4 ≡ true
     → (number < 2 ^ 32) × (ltb number 2147483648 ≡ true) → ToldAsk (record { op = 1; values = U32 uid ∷ U32 gid ∷ U8 few ∷ U32 number ∷ [] })
@@ -85,80 +93,47 @@ hello uid gid few (suc number) thread process u g same byte below j =
 -- each message of the table is an ask's
 pub asks_are_all : (m : Message) → IsMessage asks m → ToldAsk m
 asks_are_all = for_lines asks ToldAsk (
-  (λ uid u gid g n f join j. let b = bits n f.1 in hello uid gid n join b.0 b.1 u.0 g.0 b.2 f.0 f.1 j),
-  (
-    (λ typ t description d callout c destination z. (ask.Request typ description callout destination, ((t, (d, (c, (z, tt)))), tt), refl)),
-    (
-      (λ key k. (ask.Assume key, ((k, tt), tt), refl)),
-      (
-        (λ key k payload p ring r. (ask.Instantiate key payload ring, ((k, (p, (r, tt))), tt), refl)),
-        (
-          (λ key k timeout t ring r. (ask.Negate key timeout ring, ((k, (t, (r, tt))), tt), refl)),
-          (
-            (λ key k timeout t n e ring r. let named = errors n e.1 in (ask.Reject key timeout named.0 ring, ((k, (t, (rw named.1 e, (r, tt)))), tt), rw named.1 refl)),
-            (
-              (λ key k. (ask.Read key, ((k, tt), tt), refl)),
-              (
-                (λ key k. (ask.Describe key, ((k, tt), tt), refl)),
-                (
-                  (λ key k. (ask.Revoke key, ((k, tt), tt), refl)),
-                  (
-                    (λ key k seconds s. (ask.Timeout key seconds, ((k, (s, tt)), tt), refl)),
-                    (
-                      (λ key k ring r. (ask.Link key ring, ((k, (r, tt)), tt), refl)),
-                      (
-                        (λ key k ring r. (ask.Unlink key ring, ((k, (r, tt)), tt), refl)),
-                        (
-                          (λ ring r. (ask.Clear ring, ((r, tt), tt), refl)),
-                          (
-                            (λ setting s. (ask.Default setting, ((s, tt), tt), refl)),
-                            (
-                              (λ typ t description d payload p ring r. (ask.Add typ description payload ring, ((t, (d, (p, (r, tt)))), tt), refl)),
-                              ((ask.Callout, (tt, tt), refl), tt),
-                            ),
-                          ),
-                        ),
-                      ),
-                    ),
-                  ),
-                ),
-              ),
-            ),
-          ),
-        ),
-      ),
-    ),
-  ),
-)
+    line (λ uid u gid g n f join j. let b = bits n f.1 in hello uid gid n join b.0 b.1 u.0 g.0 b.2 f.0 f.1 j) (
+    line (λ typ t description d callout c destination z. (ask.Request typ description callout destination, ((t, (d, (c, (z, tt)))), tt), refl)) (
+    line (λ key k. (ask.Assume key, ((k, tt), tt), refl)) (
+    line (λ key k payload p ring r. (ask.Instantiate key payload ring, ((k, (p, (r, tt))), tt), refl)) (
+    line (λ key k timeout t ring r. (ask.Negate key timeout ring, ((k, (t, (r, tt))), tt), refl)) (
+    line (λ key k timeout t n e ring r. let named = errors n e.1 in
+    (ask.Reject key timeout named.0 ring, ((k, (t, (rw named.1 e, (r, tt)))), tt), rw named.1 refl)) (
+    line (λ key k. (ask.Read key, ((k, tt), tt), refl)) (
+    line (λ key k. (ask.Describe key, ((k, tt), tt), refl)) (
+    line (λ key k. (ask.Revoke key, ((k, tt), tt), refl)) (
+    line (λ key k seconds s. (ask.Timeout key seconds, ((k, (s, tt)), tt), refl)) (
+    line (λ key k ring r. (ask.Link key ring, ((k, (r, tt)), tt), refl)) (
+    line (λ key k ring r. (ask.Unlink key ring, ((k, (r, tt)), tt), refl)) (
+    line (λ ring r. (ask.Clear ring, ((r, tt), tt), refl)) (
+    line (λ setting s. (ask.Default setting, ((s, tt), tt), refl)) (
+    line (λ typ t description d payload p ring r. (ask.Add typ description payload ring, ((t, (d, (p, (r, tt)))), tt), refl)) (
+    line (ask.Callout, (tt, tt), refl) tt))))))))))))))))
 
 -- the message is a reply's
 abbrev pub ToldReply : Message → Type 0
 ToldReply m = (r : Reply) × IsReply r × (reply_message r ≡ m)
 
-errno_step : (n k : ℕ) (e : Errno) (b : Bool) (others : Option Errno) → (b ≡ true → n ≡ k) → errno_number e ≡ k → (is_some others ≡ true → (d : Errno) × (errno_number d ≡ n))
-    → is_some (cond b (Some e) others) ≡ true → (d : Errno) × (errno_number d ≡ n)
-errno_step n k e true others same is later some = (e, is ∙ sym (same refl))
-errno_step n k e false others same is later some = later some
-
 errnos : (n : ℕ) → is_some (errno_named n) ≡ true → (e : Errno) × (errno_number e ≡ n)
-errnos n some =
-    errno_step n 1 errno.Eperm (eqb n 1) _ (λ e. eqb-true n 1 e) refl (errno_step n 2 errno.Enoent (eqb n 2) _ (λ e. eqb-true n 2 e) refl
-    (errno_step n 12 errno.Enomem (eqb n 12) _ (λ e. eqb-true n 12 e) refl (errno_step n 13 errno.Eacces (eqb n 13) _ (λ e. eqb-true n 13 e) refl
-    (errno_step n 16 errno.Ebusy (eqb n 16) _ (λ e. eqb-true n 16 e) refl (errno_step n 22 errno.Einval (eqb n 22) _ (λ e. eqb-true n 22 e) refl
-    (errno_step n 35 errno.Edeadlk (eqb n 35) _ (λ e. eqb-true n 35 e) refl (errno_step n 122 errno.Edquot (eqb n 122) _ (λ e. eqb-true n 122 e) refl
-    (errno_step n 126 errno.Enokey (eqb n 126) _ (λ e. eqb-true n 126 e) refl (errno_step n 127 errno.Ekeyexpired (eqb n 127) _ (λ e. eqb-true n 127 e) refl
-    (errno_step n 128 errno.Ekeyrevoked (eqb n 128) _ (λ e. eqb-true n 128 e) refl
-    (errno_step n 129 errno.Ekeyrejected (eqb n 129) None (λ e. eqb-true n 129 e) refl (λ none. absurd cc)))))))))))) some
+errnos n =
+    named_step errno_number n 1 errno.Eperm _ refl (
+    named_step errno_number n 2 errno.Enoent _ refl (
+    named_step errno_number n 12 errno.Enomem _ refl (
+    named_step errno_number n 13 errno.Eacces _ refl (
+    named_step errno_number n 16 errno.Ebusy _ refl (
+    named_step errno_number n 22 errno.Einval _ refl (
+    named_step errno_number n 35 errno.Edeadlk _ refl (
+    named_step errno_number n 122 errno.Edquot _ refl (
+    named_step errno_number n 126 errno.Enokey _ refl (
+    named_step errno_number n 127 errno.Ekeyexpired _ refl (
+    named_step errno_number n 128 errno.Ekeyrevoked _ refl (
+    named_step errno_number n 129 errno.Ekeyrejected None refl (λ none. absurd cc))))))))))))
 
 -- each message of the table is a reply's
 pub replies_are_all : (m : Message) → IsMessage replies m → ToldReply m
 replies_are_all = for_lines replies ToldReply (
-  (λ n f. (reply.Number n, (f, tt), refl)),
-  (
-    (λ bytes b. (reply.Bytes bytes, (b, tt), refl)),
-    (
-      (λ thread t process p session s user u. (reply.Rings thread process session user, (t, (p, (s, (u, tt)))), refl)),
-      ((λ n e. let named = errnos n e.1 in (reply.Refused named.0, (rw named.1 e, tt), rw named.1 refl)), tt),
-    ),
-  ),
-)
+    line (λ n f. (reply.Number n, (f, tt), refl)) (
+    line (λ bytes b. (reply.Bytes bytes, (b, tt), refl)) (
+    line (λ thread t process p session s user u. (reply.Rings thread process session user, (t, (p, (s, (u, tt)))), refl)) (
+    line (λ n e. let named = errnos n e.1 in (reply.Refused named.0, (rw named.1 e, tt), rw named.1 refl)) tt))))

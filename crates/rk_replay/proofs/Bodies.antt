@@ -1,22 +1,8 @@
 -- The lines after a script's head, played one after the other, and a whole script.
-use Rattle.std.proofs.Common.{◌≡◌, ℕ, ◌+◌, List, [], ◌∷◌, ◌++◌, map, Option, Some, None, refl, sym, ap, ◌∙◌, subst, append_assoc}
-use Rattle.std.proofs.lemmas.List.{append-nil}
-use Rattle.rk_conf.specs.declared.line.Line.{Line}
-use Rattle.rk_machine.specs.Steps.{Beginning, Past}
-use Rattle.rk_served.specs.declared.happening.Happening.{Happening}
-use Rattle.rk_served.specs.declared.output.Output.{Output}
-use Rattle.rk_replay.specs.declared.script_line.ScriptLine.{ScriptLine}
-use Rattle.rk_replay.specs.declared.script_line.ScriptLine.TheVariants.{Blank, Conf, Negative, Happens, Wrong}
-use Rattle.rk_replay.specs.declared.transcript.LineFault.TheVariants.{NotALine}
-use Rattle.rk_served.specs.Left.{Left, nothing}
-use Rattle.rk_served.specs.Served.{Turn}
-use Rattle.rk_served.specs.Order.{ServesTurnInOrder, ServedInOrder}
-use Rattle.rk_replay.specs.Writing.{fault_line}
-use Rattle.rk_replay.specs.Script.{said_late, happenings_of}
-use Rattle.rk_replay.specs.Written.{turn_text, text_from, moment_of, outputs_in}
-use Rattle.rk_replay.specs.declared.playing.First.{First}
-use Rattle.rk_replay.specs.Playing.{readings_left, readings_from, Plays, PlaysAll}
-use Rattle.rk_served.proofs.ServedLaws.{served_push}
+use Rattle.rk_replay.proofs.Words.{◌≡◌, ◌++◌, ◌+◌, Some, None, ap, ℕ, List, [], map, sym, ◌∙◌, ◌∷◌, Option, refl, append_assoc, subst, append-nil, Line}
+use Rattle.rk_replay.proofs.Words.{Beginning, Past, served_push, nothing, Left, ServedInOrder, ServesTurnInOrder, Turn, Happening, Output, readings_left}
+use Rattle.rk_replay.proofs.Words.{readings_from, Plays, PlaysAll, said_late, happenings_of, fault_line, text_from, outputs_in, turn_text, moment_of, First}
+use Rattle.rk_replay.proofs.Words.{ScriptLine, Happens, Wrong, Blank, Conf, Negative, NotALine}
 
 -- the turns so far and the lines that are left give what all lines give
 pub record Played (conf : List Line) (from : Beginning) (first number : ℕ) (all rest : List ScriptLine) (begun text : List ℕ) (left : Left) : Type 0 where
@@ -52,8 +38,7 @@ module _ (conf : List Line) (from : Beginning) (first number : ℕ) (all rest : 
     run = p.run;
     served = subst (λ (l : Left). ServedInOrder conf from p.turns p.run l) (sym e) p.served;
     happenings = p.happenings ∙ ap (λ (hs : List (ℕ × Happening)). map moment_of p.turns ++ hs) none;
-    text_is = λ later. p.text_is later
-        ∙ (ap (λ (bs : List ℕ). text ++ bs) (same later)
+    text_is = λ later. p.text_is later ∙ (ap (λ (bs : List ℕ). text ++ bs) (same later)
         ∙ (sym (append_assoc text said (text_from (number + 1) (map said_late rest) later))
         ∙ ap (λ (bs : List ℕ). bs ++ text_from (number + 1) (map said_late rest) later) (sym t)));
   }
@@ -73,8 +58,7 @@ module _ (conf : List Line) (from : Beginning) (first number : ℕ) (all rest : 
         served = served_push (ServesTurnInOrder conf) p.turns p.run h.1 (nothing from) left new turn p.served h.2;
         happenings = p.happenings ∙ sym (map_push moment_of p.turns turn (happenings_of (map said_late rest)));
         text_is = λ later. ap (λ (os : List (Option (List Output))). begun ++ text_from first (map said_late all) os) (map_push outputs_in p.turns turn later)
-            ∙ (p.text_is (h.0 ∷ later)
-            ∙ (sym (append_assoc text (turn_text number h.0) (text_from (number + 1) (map said_late rest) later))
+            ∙ (p.text_is (h.0 ∷ later) ∙ (sym (append_assoc text (turn_text number h.0) (text_from (number + 1) (map said_late rest) later))
             ∙ ap (λ (bs : List ℕ). bs ++ text_from (number + 1) (map said_late rest) later) (sym h.3)));
       }
 

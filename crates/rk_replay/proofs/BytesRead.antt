@@ -1,7 +1,5 @@
 -- How many bytes reads have given.
-use Rattle.std.proofs.Common.{ℕ, ◌≤◌, List, length, Some, None, IfSome, ap, length-append, arith}
-use Rattle.std.specs.Prelude.{Option}
-use Rattle.std.specs.Io.KnownBytes.{Consumes}
+use Rattle.rk_replay.proofs.Words.{Some, None, ap, length, ℕ, List, arith, Option, ◌≤◌, IfSome, length-append, Consumes}
 
 -- what they have given was there
 pub consumes_many : (old new : Option (List ℕ)) (bs : List ℕ) (n : ℕ) → Consumes old new bs → n ≤ length bs → IfSome old (λ xs. n ≤ length xs)

@@ -1,20 +1,8 @@
 -- What a script says, from its head and what follows it.
-use Rattle.std.proofs.Common.{◌≡◌, ℕ, suc, ◌+◌, List, [], ◌∷◌, ◌++◌, length, take, map, Bool, true, false, not, refl, sym, ap, ◌∙◌, arith}
-use Rattle.std.proofs.Common.{append_assoc, Option, Some, None}
-use Rattle.std.specs.List.{flat_map, filter_map, list_all, prefix_len}
-use Rattle.std.proofs.lemmas.List.{append-nil}
-use Rattle.std.proofs.lemmas.List.Elements.{filter_map-append}
-use Rattle.rk_served.specs.declared.happening.Happening.{Happening}
-use Rattle.rk_served.specs.declared.output.Output.{Output}
-use Rattle.rk_replay.specs.declared.script_line.ScriptLine.{ScriptLine}
-use Rattle.rk_replay.specs.declared.script_line.ScriptLine.TheVariants.{Happens, Wrong}
-use Rattle.rk_replay.specs.declared.transcript.LineFault.TheVariants.{NotALine}
-use Rattle.rk_replay.specs.Writing.{line_text, fault_line}
-use Rattle.rk_replay.specs.Script.{happens, said_late, said_by, conf_in, seconds_in, happening_in, conf_by, happenings_of, before_all}
-use Rattle.rk_replay.specs.Settings.{configured}
-use Rattle.rk_replay.specs.declared.playing.First.{First}
-use Rattle.rk_replay.specs.Playing.{readings_from}
-use Rattle.rk_replay.specs.Written.{text_from}
+use Rattle.rk_replay.proofs.Words.{◌≡◌, ◌++◌, ◌+◌, Some, None, ap, length, ℕ, List, [], map, sym, ◌∙◌, arith, take, ◌∷◌, Option, refl, append_assoc, false, suc}
+use Rattle.rk_replay.proofs.Words.{true, not, Bool, append-nil, filter_map-append, flat_map, filter_map, list_all, prefix_len, Happening, Output, readings_from}
+use Rattle.rk_replay.proofs.Words.{said_late, happenings_of, happens, conf_in, seconds_in, happening_in, conf_by, before_all, said_by, configured, fault_line}
+use Rattle.rk_replay.proofs.Words.{line_text, text_from, First, ScriptLine, Happens, Wrong, NotALine}
 
 -- nothing happens on these lines
 abbrev pub Quiet : List ScriptLine → Type 0

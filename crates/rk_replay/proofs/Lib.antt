@@ -1,3 +1,4 @@
+mod Words
 pub mod Heads
 pub mod Bodies
 pub mod Scripts

@@ -1,11 +1,7 @@
 -- One line more of a script is cut off and played.
-use Rattle.std.proofs.Common.{◌≡◌, ℕ, suc, ◌+◌, ◌<◌, ◌^◌, List, [], ◌∷◌, length, map, Option, Some, None, Result, Ok, Err, ap, arith}
-use Rattle.std.specs.Prelude.{MatchOption, IfSome, OnOk}
+use Rattle.rk_replay.proofs.Words.{◌≡◌, ◌+◌, Some, None, ap, length, ℕ, List, [], map, arith, ◌∷◌, Option, ◌<◌, ◌^◌, IfSome, suc, Result, Ok, Err, MatchOption}
+use Rattle.rk_replay.proofs.Words.{OnOk, lines_of, readings_left, bytes_left, bytes_from, reading_of, First}
 use Rattle.std.specs.Borrow.{Bor}
-use Rattle.rk_text.specs.Text.{lines_of}
-use Rattle.rk_replay.specs.Reading.{reading_of}
-use Rattle.rk_replay.specs.declared.playing.First.{First}
-use Rattle.rk_replay.specs.Playing.{readings_left, bytes_left, bytes_from}
 
 -- a line that is cut off is read, and then the lines after it
 pub line_cut : (text line : List ℕ) (after : Option (Bor (List ℕ)))

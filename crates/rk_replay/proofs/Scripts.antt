@@ -1,35 +1,18 @@
 -- The head of a script, line by line, and a whole script.
-use Rattle.std.proofs.Common.{◌≡◌, ◌≢◌, ℕ, ◌+◌, List, [], ◌∷◌, ◌++◌, length, map, Some, None, false, not, refl, sym, ap, ◌∙◌, subst}
-use Rattle.std.proofs.Common.{arith, append_assoc}
-use Rattle.std.specs.List.{flat_map, filter_map}
-use Rattle.std.proofs.lemmas.List.{append-nil, length-append}
-use Rattle.std.proofs.lemmas.List.Elements.{filter_map-append}
+use Rattle.rk_replay.proofs.Words.{◌≡◌, ◌++◌, ◌+◌, Some, None, ap, length, ℕ, List, [], map, sym, ◌∙◌, arith, ◌∷◌, refl, append_assoc, false, subst, not, ◌≢◌}
+use Rattle.rk_replay.proofs.Words.{append-nil, filter_map-append, flat_map, filter_map, lines_of, NoMemory, Line, Beginning, served_is_run, nothing}
+use Rattle.rk_replay.proofs.Words.{ServedInOrder, Served, Happening, readings_from, IsHead, PlaysBody, reading_of, said_late, happenings_of, happens, conf_in}
+use Rattle.rk_replay.proofs.Words.{seconds_in, happening_in, conf_by, before_all, said_in, last_of, conf_of, beginning_of, configured, Sets, fault_line}
+use Rattle.rk_replay.proofs.Words.{line_text, conf_line, text_from, outputs_in, IsWritten, IsRefused, ScriptLine, Happens, Wrong, Blank, Conf, Negative}
+use Rattle.rk_replay.proofs.Words.{NotALine}
+use Rattle.std.proofs.lemmas.List.{length-append}
 use Rattle.std.proofs.lemmas.List.Folds.{list_all-append}
 use Rattle.std.proofs.lemmas.Grind.{flat_map-append}
 use Rattle.rk_conf.specs.declared.fault.ConfFault.{ConfFault}
-use Rattle.rk_conf.specs.declared.fault.ConfKind.TheVariants.{NoMemory}
-use Rattle.rk_conf.specs.declared.line.Line.{Line}
 use Rattle.rk_conf.specs.Faults.{IsFaultFor}
 use Rattle.rk_conf.specs.Reading.{faults_in, lines_in}
-use Rattle.rk_text.specs.Text.{lines_of}
-use Rattle.rk_machine.specs.Steps.{Beginning}
-use Rattle.rk_served.specs.declared.happening.Happening.{Happening}
 use Rattle.rk_replay.specs.declared.playing.Head.{Head}
-use Rattle.rk_replay.specs.declared.script_line.ScriptLine.{ScriptLine}
-use Rattle.rk_replay.specs.declared.script_line.ScriptLine.TheVariants.{Blank, Conf, Negative, Happens, Wrong}
 use Rattle.rk_replay.specs.declared.settings.Settings.{Settings}
-use Rattle.rk_replay.specs.declared.transcript.LineFault.TheVariants.{NotALine}
-use Rattle.rk_replay.specs.Reading.{reading_of}
-use Rattle.rk_replay.specs.Writing.{line_text, fault_line, conf_line}
-use Rattle.rk_replay.specs.Script.{happens, said_late, said_in, conf_in, seconds_in, happening_in, last_of, conf_by, conf_of, beginning_of}
-use Rattle.rk_replay.specs.Script.{happenings_of, before_all}
-use Rattle.rk_served.specs.Left.{nothing}
-use Rattle.rk_served.specs.Served.{Served}
-use Rattle.rk_served.specs.Order.{ServedInOrder}
-use Rattle.rk_replay.specs.Settings.{configured, Sets}
-use Rattle.rk_replay.specs.Written.{text_from, outputs_in, IsWritten, IsRefused}
-use Rattle.rk_replay.specs.Playing.{readings_from, IsHead, PlaysBody}
-use Rattle.rk_served.proofs.ServedLaws.{served_is_run}
 use Rattle.rk_served.proofs.Orders.{served_of}
 use Rattle.rk_replay.proofs.Heads.{Quiet, from_first, parts, said_parts, conf_parts, seconds_parts, configured_by, happenings_parts, text_parts, before_parts}
 
@@ -61,8 +44,7 @@ last_append n [] ys = refl
 last_append n (x ∷ xs) ys = last_append x xs ys
 
 quiet_push : (lines : List ScriptLine) (r : ScriptLine) → Quiet lines → happens r ≡ false → Quiet (lines ++ r ∷ [])
-quiet_push lines r q e =
-    list_all-append (λ x. not (happens x)) lines (r ∷ []) ∙ (rw (q, e) refl)
+quiet_push lines r q e = list_all-append (λ x. not (happens x)) lines (r ∷ []) ∙ (rw (q, e) refl)
 
 module _ (all rest : List ScriptLine) (number : ℕ) (old new : Settings) (text text' : List ℕ) where
   -- one line more, by what it adds to each
@@ -139,9 +121,7 @@ module _ (input : List ℕ) (head : Head) (text : List ℕ) (h : IsHead input he
   conf_is = ap configured h.conf ∙ (configured_by (filter_map conf_in h.lines) ∙ (ap conf_by (sym (conf_parts h.lines rest)) ∙ ap conf_of (sym said_is)))
 
   beginning_is : record { negative = head.settings.negative; first = 1; stride = 1 } ≡ beginning_of (said_in input)
-  beginning_is =
-      ap (λ (n : ℕ). beginning n) (h.negative ∙ ap (last_of 60) (sym (seconds_parts h.lines rest)))
-      ∙ ap beginning_of (sym said_is)
+  beginning_is = ap (λ (n : ℕ). beginning n) (h.negative ∙ ap (last_of 60) (sym (seconds_parts h.lines rest))) ∙ ap beginning_of (sym said_is)
 
   -- if the configuration has no fault, what the body plays is written
   pub written : (conf : List Line) (text' : List ℕ) → faults_in (configured head.settings.conf) ≡ [] → conf ≡ lines_in (configured head.settings.conf)

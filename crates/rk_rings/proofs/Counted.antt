@@ -332,20 +332,25 @@ still_to_clear m ring k = same_map nat_cmp_total nat_cmp-IsAntisymmetric _ _ (λ
 abbrev pub links_in : Rings → ℕ → ℕ
 links_in m ring = option_map_or (λ r. len r.links) (get m ring) 0
 
+-- a ring that holds a key is there, and has it
+held : (m : Rings) (ring k : ℕ) → holds m ring k ≡ true → (r : Numbered) × (get m ring ≡ Some r) × (contains_key r.links k ≡ true)
+held m ring k h =
+    elim (get m ring) as (λ o. option_map_or (λ r. contains_key r.links k) o false ≡ true → (r : Numbered) × (o ≡ Some r) × (contains_key r.links k ≡ true)) [
+      | None ↦ λ e. absurd (both_ways false refl e)
+      | Some r ↦ λ e. (r, refl, e)
+    ] h
+
 -- unlinking a linked key leaves fewer links in the ring
 pub fewer_left : (m : Rings) (ring k : ℕ) → holds m ring k ≡ true → links_in (changed_at ring (unlinked k) m) ring < links_in m ring
-fewer_left m ring k h = by_ring (get m ring) refl h
-  where
-    by_ring : (o : Option Numbered) → get m ring ≡ o → option_map_or (λ r. contains_key r.links k) o false ≡ true →
-        links_in (changed_at ring (unlinked k) m) ring < links_in m ring
-    by_ring None is h = absurd (both_ways false refl h)
-    by_ring (Some r) is h =
-        let after : links_in (changed_at ring (unlinked k) m) ring ≡ len (remove r.links k) =
-        ap (λ o. option_map_or (λ (x : Numbered). len x.links) o 0) (get_changed_at ring (unlinked k) m ring
-        ∙ ap (λ b. cond b (option_map (unlinked k) (get m ring)) (get m ring)) (eq-eqb ring ring refl) ∙ ap (option_map (unlinked k)) is) in
-        let now : len (remove r.links k) ≡ len r.links - 1 = len-remove nat_cmp_total r.links k ∙ ap (λ b. cond b (len r.links - 1) (len r.links)) h in
-        let before : links_in m ring ≡ len r.links = ap (λ o. option_map_or (λ (x : Numbered). len x.links) o 0) is in
-        omega (arith, after, now, before, has_some r.links k h)
+fewer_left m ring k h =
+    let at = held m ring k h in
+    let links = at.0.links in
+    let after : links_in (changed_at ring (unlinked k) m) ring ≡ len (remove links k) =
+    ap (λ o. option_map_or (λ (x : Numbered). len x.links) o 0) (get_changed_at ring (unlinked k) m ring
+    ∙ ap (λ b. cond b (option_map (unlinked k) (get m ring)) (get m ring)) (eq-eqb ring ring refl) ∙ ap (option_map (unlinked k)) at.1) in
+    let now : len (remove links k) ≡ len links - 1 = len-remove nat_cmp_total links k ∙ ap (λ b. cond b (len links - 1) (len links)) at.2 in
+    let before : links_in m ring ≡ len links = ap (λ o. option_map_or (λ (x : Numbered). len x.links) o 0) at.1 in
+    omega (arith, after, now, before, has_some links k at.2)
 
 none_linked : (links : FinMap nat_cmp ℕ) → ((k : ℕ) → contains_key links k ≡ false) → empty ≡ links
 none_linked links none = same_map nat_cmp_total nat_cmp-IsAntisymmetric _ _ (λ q. get-empty nat_cmp q ∙
@@ -365,7 +370,8 @@ all_cleared m ring none = changed_by_nothing m ring cleared (λ r is i. record r
 -- clearing a ring before it is removed leaves what removing makes
 pub dropped : (m : Rings) (ring : ℕ) → remove (changed_at ring cleared m) ring ≡ remove m ring
 dropped m ring = same_map nat_cmp_total nat_cmp-IsAntisymmetric _ _ (λ q.
-    get_removed (changed_at ring cleared m) ring q ∙ ap (cond (nat_eq ring q) None) (get_changed_at ring cleared m q) ∙ shadow (nat_eq ring q) None (option_map cleared (get m q)) (get m q)
+    get_removed (changed_at ring cleared m) ring q ∙ ap (cond (nat_eq ring q) None) (get_changed_at ring cleared m q)
+    ∙ shadow (nat_eq ring q) None (option_map cleared (get m q)) (get m q)
     ∙ sym (get_removed m ring q))
 
 pub links_dropped : (m : Rings) (ring : ℕ) (q : ℕ) → links_of (remove (changed_at ring cleared m) ring) q ≡ links_of (changed_at ring cleared m) q
@@ -432,14 +438,11 @@ few_enough m c q n counted most le = omega (arith, counted.each q, at_most_rings
 pub counted_unlinked : (m : Rings) (old new : Stored ℕ) (ring k : ℕ) → AreCounted m old → holds m ring k ≡ true
     → ((q : ℕ) → count_at new.facts q ≡ cond (nat_eq k q) (count_at old.facts q - 1) (count_at old.facts q)) → ArePositive new.facts → places new ≡ places old
     → AreCounted (changed_at ring (unlinked k) m) new
-counted_unlinked m old new ring k counted h each positive same = by_ring (get m ring) refl h
-  where
-    by_ring : (o : Option Numbered) → get m ring ≡ o → option_map_or (λ r. contains_key r.links k) o false ≡ true →
-        AreCounted (changed_at ring (unlinked k) m) new
-    by_ring None is h = absurd (both_ways false refl h)
-    by_ring (Some r) is h = record {
+counted_unlinked m old new ring k counted h each positive same =
+    let at = held m ring k h in
+    record {
       few = few_unlinked m ring k counted.few;
-      each = λ q. each q ∙ ap (λ n. cond (nat_eq k q) (n - 1) n) (counted.each q) ∙ sym (links_unlinked m ring k r is h q);
+      each = λ q. each q ∙ ap (λ n. cond (nat_eq k q) (n - 1) n) (counted.each q) ∙ sym (links_unlinked m ring k at.0 at.1 at.2 q);
       positive = positive;
       room = omega (arith, counted.room, same, len-changed_at ring (unlinked k) m);
     }

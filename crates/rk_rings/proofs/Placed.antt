@@ -23,7 +23,8 @@ pub get_named : (es : List (ℕ × Option ℕ)) (q : ℕ) → get (named es) q �
 get_named [] q = get-empty nat_cmp q
 get_named (e ∷ es) q =
     get_with_name (named es) e.0 e.1 q ∙ ap (cond (nat_eq e.0 q) e.1) (get_named es q)
-    ∙ sym (of_choice held (nat_eq e.0 q) (Some e.1) (lookup (nat_eq q) es)) ∙ ap (λ b. held (cond b (Some e.1) (lookup (nat_eq q) es))) (sym (tie q e.0) ∙ unsigned_tied q e.0)
+    ∙ sym (of_choice held (nat_eq e.0 q) (Some e.1) (lookup (nat_eq q) es))
+    ∙ ap (λ b. held (cond b (Some e.1) (lookup (nat_eq q) es))) (sym (tie q e.0) ∙ unsigned_tied q e.0)
 
 -- one place is written
 pub named_put : (old new : List (ℕ × Option ℕ)) (n : ℕ) (o : Option ℕ)

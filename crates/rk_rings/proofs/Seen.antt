@@ -38,7 +38,8 @@ rings_seen-empty = same_rings _ _ (λ q. get-rings_seen map.empty q ∙ ap (opti
 pub rings_seen-insert : (m : Rings) (k : ℕ) (r : Numbered) → rings_seen (map.insert m k r) ≡ map.insert (rings_seen m) k (ring_seen r)
 rings_seen-insert m k r = same_rings _ _ (λ q.
     get-rings_seen (map.insert m k r) q ∙ ap (option_map ring_seen) (map.get-insert nat_cmp_total m k r q)
-    ∙ of_choice (option_map ring_seen) (eq_by_cmp nat_cmp q k) (Some r) (map.get m q) ∙ ap (cond (eq_by_cmp nat_cmp q k) (Some (ring_seen r))) (sym (get-rings_seen m q))
+    ∙ of_choice (option_map ring_seen) (eq_by_cmp nat_cmp q k) (Some r) (map.get m q)
+    ∙ ap (cond (eq_by_cmp nat_cmp q k) (Some (ring_seen r))) (sym (get-rings_seen m q))
     ∙ sym (map.get-insert nat_cmp_total (rings_seen m) k (ring_seen r) q))
 
 -- a ring that is removed is seen as removed

@@ -18,7 +18,8 @@ of_choice f false x y = refl
 pub find_mapped : {A B : Type 0} (f : A → B) (q : ℕ) (es : List (ℕ × A)) → find nat_cmp q (list_map (λ e. (e.0, f e.1)) es) ≡ option_map f (find nat_cmp q es)
 find_mapped f q [] = refl
 find_mapped f q (e ∷ es) =
-    ap (cond (eq_by_cmp nat_cmp q e.0) (Some (f e.1))) (find_mapped f q es) ∙ sym (of_choice (option_map f) (eq_by_cmp nat_cmp q e.0) (Some e.1) (find nat_cmp q es))
+    ap (cond (eq_by_cmp nat_cmp q e.0) (Some (f e.1))) (find_mapped f q es)
+    ∙ sym (of_choice (option_map f) (eq_by_cmp nat_cmp q e.0) (Some e.1) (find nat_cmp q es))
 
 module _ {X : Type 0} where
   find_drop : (q : ℕ) (es : List (ℕ × X)) (i : ℕ) (d : ℕ × X) → i < length es

@@ -1,18 +1,8 @@
 -- A file of a record: what is read of it, what is wrong with it, and what was written.
-use Rattle.std.proofs.Common.{◌≡◌, ◌≢◌, ℕ, ◌+◌, List, [], ◌∷◌, ◌++◌, length, Option, Some, None, refl, sym, ap, subst, ◌∙◌}
-use Rattle.std.proofs.Common.{append_assoc, append-nil, take, arith}
-use Rattle.std.specs.Prelude.{slice_index}
-use Rattle.std.specs.List.{flat_map, AllByRecursion}
-use Rattle.std.specs.Io.KnownBytes.{Appends}
-use Rattle.sha2.specs.Sha256.{sha256}
-use Rattle.sha2.proofs.Facts256.{length-sha256}
-use Rattle.rk_record.specs.declared.recorded.Recorded.{Recorded}
-use Rattle.rk_volumes.specs.declared.head.Head.{Head}
-use Rattle.rk_volumes.specs.declared.seal.Seal.{Seal}
-use Rattle.rk_volumes.specs.declared.seal.Sealed.{Sealed}
-use Rattle.rk_volumes.specs.Rules.{IsStep}
-use Rattle.rk_volumes.specs.Format.{title, head_bytes, step_bytes, file_bytes, IsHead, IsStored}
-use Rattle.rk_volumes.specs.Seals.{sealed_title, seal_bytes, summed, IsSeal, BeginsSealed, HasNoSum}
+use Rattle.rk_volumes.proofs.Words.{length-sha256, sha256, ◌++◌, ap, ◌≡◌, ℕ, List, length, ◌∙◌, arith, sym, refl, ◌≢◌, [], append_assoc, ◌∷◌, Option, Some}
+use Rattle.rk_volumes.proofs.Words.{None, take, subst, append-nil, Appends, flat_map, AllByRecursion, slice_index, Recorded, title, head_bytes, IsHead}
+use Rattle.rk_volumes.proofs.Words.{file_bytes, IsStored, step_bytes, IsStep, seal_bytes, sealed_title, IsSeal, summed, HasNoSum, BeginsSealed, Head, Seal}
+use Rattle.rk_volumes.proofs.Words.{Sealed}
 use Rattle.rk_volumes.specs.Filed.{IsFiled, HasFiled}
 use Rattle.rk_volumes.proofs.Fronts.{same_front}
 use Rattle.rk_volumes.proofs.Files.{appended}
@@ -66,8 +56,7 @@ module _ (file front sum volume : List ℕ) (seal : Seal) where
 -- a file of which no front has its sum after it
 pub no_sum_filed : (file : List ℕ) → HasNoSum file → BeginsSealed file → (h : Head) (ss : List Recorded) (s : Option Sealed) → IsFiled h ss s file → ⊥
 no_sum_filed file none begins h ss None filed = not_sealed h ss file filed begins
-no_sum_filed file none begins h ss (Some s) filed =
-    none (summed s.seal filed.0) (filed.4 ∙ ap (λ (x : List ℕ). summed s.seal filed.0 ++ x) filed.3)
+no_sum_filed file none begins h ss (Some s) filed = none (summed s.seal filed.0) (filed.4 ∙ ap (λ (x : List ℕ). summed s.seal filed.0 ++ x) filed.3)
 
 -- a file that has the sum of a front in which no seal stands
 pub no_seal_filed : (file front sum : List ℕ) → file ≡ front ++ sum → sum ≡ sha256 front

@@ -1,21 +1,15 @@
 -- A volume has one file, and a file one volume.
-use Rattle.std.proofs.Common.{◌≡◌, ℕ, ◌+◌, ◌<◌, ◌≤◌, List, [], ◌∷◌, ◌++◌, length, take, get_or, Option, Some, None, refl, sym, subst}
-use Rattle.std.proofs.Common.{ap, ◌∙◌, append_assoc, append-nil, arith}
-use Rattle.std.specs.List.{flat_map, AllByRecursion}
-use Rattle.std.specs.Int.{w32, w64, to_be_bytes}
-use Rattle.std.specs.Io.KnownBytes.{Appends}
-use Rattle.std.proofs.lemmas.List.{append_cancel_left, take_more}
+use Rattle.rk_volumes.proofs.Words.{◌++◌, ap, ◌≡◌, ℕ, List, length, ◌∙◌, arith, sym, refl, ◌+◌, [], append_assoc, ◌<◌, ◌∷◌, Option, Some, None, take, ◌≤◌}
+use Rattle.rk_volumes.proofs.Words.{subst, append-nil, get_or, append_cancel_left, take_more, to_be_bytes, w32, w64, Appends, flat_map, AllByRecursion}
+use Rattle.rk_volumes.proofs.Words.{Recorded, title, head_bytes, IsHead, file_bytes, IsStored, HasNoStep, IsMissing, IsFaultOf, HaveOneReading, step_bytes}
+use Rattle.rk_volumes.proofs.Words.{IsStep, Head}
 use Rattle.std.proofs.lemmas.Grind.{flat_map-append}
 use Rattle.std.proofs.lemmas.List.Concat.{flat_map-cons}
 use Rattle.rk_record.specs.HallNumbers.{hall_number}
 use Rattle.rk_record.specs.declared.hall_no.HallNo.{HallNo}
 use Rattle.rk_record.specs.declared.hall_no.HallNo.TheVariants as hall
-use Rattle.rk_record.specs.declared.recorded.Recorded.{Recorded}
-use Rattle.rk_volumes.specs.declared.head.Head.{Head}
-use Rattle.rk_volumes.specs.Rules.{IsStep}
 use Rattle.rk_volumes.specs.declared.fault.Fault.{Fault}
 use Rattle.rk_volumes.specs.declared.fault.Fault.TheVariants as fault
-use Rattle.rk_volumes.specs.Format.{title, head_bytes, step_bytes, file_bytes, IsHead, IsStored, HasNoStep, IsMissing, IsFaultOf, HaveOneReading}
 use Rattle.rk_volumes.proofs.Fronts.{same_word, same_long}
 use Rattle.rk_volumes.proofs.Rows.{second}
 use Rattle.rk_volumes.proofs.Steps.{same_step}
@@ -57,10 +51,8 @@ same_head h g n m x y is other eq =
     let index = same_long h.index g.index (from_before h n x) (from_before g m y) is.index other.index negative.1 in
     let before = same_long h.before g.before (to_be_bytes w64 n ++ x) (to_be_bytes w64 m ++ y) is.before other.before index.1 in
     let count = same_long n m x y is.count other.count before.1 in (
-      ap (λ (k : HallNo). headed k h.negative h.index h.before) (same_hall h.hall g.hall first.0)
-          ∙ ap (λ (k : ℕ). headed g.hall k h.index h.before) negative.0
-          ∙ ap (λ (k : ℕ). headed g.hall g.negative k h.before) index.0
-          ∙ ap (λ (k : ℕ). headed g.hall g.negative g.index k) before.0,
+      ap (λ (k : HallNo). headed k h.negative h.index h.before) (same_hall h.hall g.hall first.0) ∙ ap (λ (k : ℕ). headed g.hall k h.index h.before) negative.0
+          ∙ ap (λ (k : ℕ). headed g.hall g.negative k h.before) index.0 ∙ ap (λ (k : ℕ). headed g.hall g.negative g.index k) before.0,
       count.0,
       count.1,
     )
@@ -115,12 +107,9 @@ head_put o a b c d e f h count first second third fourth fifth sixth =
     let p = to_be_bytes w64 count in
     let joined = sixth ∙ ap (λ (x : List ℕ). x ++ p) (fifth ∙ ap (λ (x : List ℕ). x ++ n) (fourth ∙ ap (λ (x : List ℕ). x ++ m)
     (third ∙ ap (λ (x : List ℕ). x ++ l) (second ∙ ap (λ (x : List ℕ). x ++ k) first)))) in
-    joined
-    ∙ append_assoc (((((o ++ title) ++ k) ++ l) ++ m)) n p
-    ∙ append_assoc ((((o ++ title) ++ k) ++ l)) m (n ++ p)
-    ∙ append_assoc (((o ++ title) ++ k)) l (m ++ (n ++ p))
-    ∙ append_assoc (o ++ title) k (l ++ (m ++ (n ++ p)))
-    ∙ append_assoc o title (k ++ (l ++ (m ++ (n ++ p))))
+    joined ∙ append_assoc (((((o ++ title) ++ k) ++ l) ++ m)) n p
+    ∙ append_assoc ((((o ++ title) ++ k) ++ l)) m (n ++ p) ∙ append_assoc (((o ++ title) ++ k)) l (m ++ (n ++ p))
+    ∙ append_assoc (o ++ title) k (l ++ (m ++ (n ++ p))) ∙ append_assoc o title (k ++ (l ++ (m ++ (n ++ p))))
 
 -- one thing appended and then another are both appended
 pub appended : (a b c : Option (List ℕ)) (x y : List ℕ) → Appends a b x → Appends b c y → Appends a c (x ++ y)
@@ -140,8 +129,7 @@ all_snoc P (y ∷ ys) x all is = (all.0, all_snoc P ys x all.1 is)
 pub read_more : (ss : List Recorded) (s : Recorded) (rest behind : List ℕ) → rest ≡ step_bytes s ++ behind
     → flat_map step_bytes ss ++ rest ≡ flat_map step_bytes (ss ++ s ∷ []) ++ behind
 read_more ss s rest behind is =
-    ap (λ (x : List ℕ). flat_map step_bytes ss ++ x) is
-    ∙ sym (append_assoc (flat_map step_bytes ss) (step_bytes s) behind)
+    ap (λ (x : List ℕ). flat_map step_bytes ss ++ x) is ∙ sym (append_assoc (flat_map step_bytes ss) (step_bytes s) behind)
     ∙ ap (λ (x : List ℕ). (flat_map step_bytes ss ++ x) ++ behind) (sym (append-nil (step_bytes s)))
     ∙ ap (λ (x : List ℕ). x ++ behind) (sym (flat_map-append step_bytes ss (s ∷ [])))
 
@@ -167,8 +155,7 @@ none_missing (s ∷ ss) (t ∷ ts) left is other short eq none =
 -- a file that is a volume has no fault
 pub stored_has_none : (file : List ℕ) (f : Fault) (h : Head) (ss : List Recorded) → IsFaultOf file f → IsStored h ss file → f ≡ fault.NoMemory
 stored_has_none file fault.Title h ss none is = absurd (none (head_bytes h (length ss) ++ flat_map step_bytes ss) is.bytes)
-stored_has_none file fault.Head h ss at is =
-    absurd (at.2 h (length ss) (flat_map step_bytes ss) is.head (append_cancel_left title _ _ (sym at.1 ∙ is.bytes)))
+stored_has_none file fault.Head h ss at is = absurd (at.2 h (length ss) (flat_map step_bytes ss) is.head (append_cancel_left title _ _ (sym at.1 ∙ is.bytes)))
 stored_has_none file (fault.Step number) h ss at is =
     let missing = at.5 in
     let head = same_head h at.0 (length ss) at.1 (flat_map step_bytes ss) at.2 is.head at.3 (append_cancel_left title _ _ (sym is.bytes ∙ at.4)) in
@@ -189,12 +176,9 @@ stored_is_read file h g ss ts as-is is =
 pub missing_of : (file more : List ℕ) (h : Head) (count : ℕ) (f : Fault) → IsHead h count → file ≡ title ++ (head_bytes h count ++ more)
     → IsMissing more count f
     → IsFaultOf file f
-missing_of file more h count fault.Title is eq missing = absurd missing
-missing_of file more h count fault.Head is eq missing = absurd missing
 missing_of file more h count (fault.Step number) is eq missing = (h, count, more, is, eq, missing)
-missing_of file more h count fault.Trailing is eq missing = absurd missing
 missing_of file more h count fault.NoMemory is eq missing = tt
-missing_of file more h count fault.Sum is eq missing = absurd missing
+missing_of file more h count _ is eq missing = absurd missing
 
 -- a file of which the line and the head were read
 pub file_of : (file rest more : List ℕ) (h : Head) (count : ℕ) → file ≡ title ++ rest → rest ≡ head_bytes h count ++ more
@@ -234,7 +218,6 @@ stored_of file rest more left h count ss is at eq len all steps none = record {
 pub step_more : (front : List ℕ) (ss : List Recorded) (i : ℕ) (s : Recorded) (text : List ℕ) → text ≡ step_bytes s → i < length ss → s ≡ get_or ss i s
     → (front ++ flat_map step_bytes (take i ss)) ++ text ≡ front ++ flat_map step_bytes (take (i + 1) ss)
 step_more front ss i s text is lt at =
-    append_assoc front (flat_map step_bytes (take i ss)) text
-    ∙ ap (λ (x : List ℕ). front ++ (flat_map step_bytes (take i ss) ++ x)) is
+    append_assoc front (flat_map step_bytes (take i ss)) text ∙ ap (λ (x : List ℕ). front ++ (flat_map step_bytes (take i ss) ++ x)) is
     ∙ ap (λ (x : List ℕ). front ++ x) (sym (bytes_more (take i ss) s))
     ∙ ap (λ (t : List Recorded). front ++ flat_map step_bytes t) (sym (take_step ss i s lt at))

@@ -1,10 +1,8 @@
 -- What stands at the front of bytes, and what is left after it.
-use Rattle.std.proofs.Common.{◌≡◌, ◌≢◌, ℕ, ◌+◌, ◌<◌, ◌≤◌, ◌^◌, List, ◌++◌, length, take, drop, refl, sym, ap, ◌∙◌, append_assoc, length-append, arith}
-use Rattle.std.specs.Int.{w32, w64, to_be_bytes, from_be_bytes}
-use Rattle.std.proofs.lemmas.List.{take_at, drop_at, take-append-drop, length-take}
+use Rattle.rk_volumes.proofs.Words.{◌++◌, ap, ◌≡◌, ℕ, List, length, ◌∙◌, arith, sym, refl, ◌≢◌, append_assoc, ◌<◌, take, ◌≤◌, length-append, drop, ◌^◌}
+use Rattle.rk_volumes.proofs.Words.{take-append-drop, length-take, take_at, drop_at, to_be_bytes, w32, w64, from_be_bytes, frame}
 use Rattle.std.proofs.lemmas.Nat.{be_bytes_4, be_bytes_8, from_be_bytes-to_be_bytes_4, from_be_bytes-to_be_bytes_8}
 use Rattle.rk_lemmas.proofs.Lists.{IsBytes, IsBytes-take}
-use Rattle.rk_frame.specs.Framing.{frame}
 
 -- fronts of one length are the same, and so is what is left
 pub same_front : (a b x y : List ℕ) → length a ≡ length b → a ++ x ≡ b ++ y → (a ≡ b) × (x ≡ y)
@@ -53,8 +51,7 @@ no_frame_cut bytes rest n fits is cut body more small e =
 pub frame_read : (bytes rest : List ℕ) (n : ℕ) → bytes ≡ to_be_bytes w32 n ++ rest → n ≤ length rest → bytes ≡ frame (take n rest) ++ drop n rest
 frame_read bytes rest n is enough =
     let len : n ≡ length (take n rest) = omega (arith, length-take n rest) in
-    is ∙ ap (λ (x : List ℕ). to_be_bytes w32 n ++ x) (sym (take-append-drop n rest))
-    ∙ ap (λ (k : ℕ). to_be_bytes w32 k ++ (take n rest ++ drop n rest)) len
+    is ∙ ap (λ (x : List ℕ). to_be_bytes w32 n ++ x) (sym (take-append-drop n rest)) ∙ ap (λ (k : ℕ). to_be_bytes w32 k ++ (take n rest ++ drop n rest)) len
     ∙ sym (append_assoc (to_be_bytes w32 (length (take n rest))) (take n rest) (drop n rest))
 
 -- ---- numbers that were read

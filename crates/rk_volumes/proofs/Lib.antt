@@ -1,3 +1,4 @@
+mod Words
 pub mod Written
 pub mod Fronts
 pub mod NumbersOfKinds

@@ -1,19 +1,10 @@
 -- Which numbers are of serials, sessions, starts, ends, uses and errors.
-use Rattle.std.proofs.Common.{◌≡◌, ◌≢◌, ℕ, ◌≤◌, Bool, true, false, cond, eqb, ltb, Option, Some, None, refl, sym, ap, ◌∙◌, arith}
-use Rattle.std.specs.Prelude.{MatchOption}
+use Rattle.rk_volumes.proofs.Words.{ap, ◌≡◌, ℕ, ◌∙◌, arith, sym, refl, ◌≢◌, Option, Some, None, ◌≤◌, Bool, true, false, cond, eqb, ltb, MatchOption}
+use Rattle.rk_volumes.proofs.Words.{errno_number, errno_named, serial_of, Errno, SessionId, Client, Handler, Op, Ran, Plain, Piped, Failed, session_kind}
+use Rattle.rk_volumes.proofs.Words.{session_number, ran_kind, op_kind, IsSerial, IsSession}
 use Rattle.std.proofs.lemmas.Bool.{eqb-true, eqb-false, ltb-true, ltb-false}
-use Rattle.rk_names.specs.declared.errors.Errno.{Errno}
 use Rattle.rk_names.specs.declared.errors.Errno.TheVariants as errno
-use Rattle.rk_names.specs.declared.numbers.SessionId.{SessionId}
-use Rattle.rk_names.specs.declared.numbers.SessionId.TheVariants.{Client, Handler}
-use Rattle.rk_names.specs.Numbers.{errno_number, errno_named, serial_of}
-use Rattle.rk_macro.specs.declared.subject.Op.{Op}
 use Rattle.rk_macro.specs.declared.subject.Op.TheVariants as op
-use Rattle.rk_machine.specs.declared.event.Ran.{Ran}
-use Rattle.rk_machine.specs.declared.event.Ran.TheVariants.{Plain, Piped, Failed}
-use Rattle.rk_machine.specs.declared.event.How.{How}
-use Rattle.rk_volumes.specs.Kinds.{session_kind, session_number, ran_kind, op_kind}
-use Rattle.rk_volumes.specs.Rules.{IsSerial, IsSession}
 
 -- ---- serials
 
@@ -85,15 +76,10 @@ errno_step n k d e false others same is later found = later found
 -- an error that was found by its number
 pub errno_is : (n : ℕ) (e : Errno) → Some e ≡ errno_named n → n ≡ errno_number e
 errno_is n e found =
-    errno_step n 1 errno.Eperm e (eqb n 1) _ (λ t. eqb-true n 1 t) refl
-    (errno_step n 2 errno.Enoent e (eqb n 2) _ (λ t. eqb-true n 2 t) refl
-    (errno_step n 12 errno.Enomem e (eqb n 12) _ (λ t. eqb-true n 12 t) refl
-    (errno_step n 13 errno.Eacces e (eqb n 13) _ (λ t. eqb-true n 13 t) refl
-    (errno_step n 16 errno.Ebusy e (eqb n 16) _ (λ t. eqb-true n 16 t) refl
-    (errno_step n 22 errno.Einval e (eqb n 22) _ (λ t. eqb-true n 22 t) refl
-    (errno_step n 35 errno.Edeadlk e (eqb n 35) _ (λ t. eqb-true n 35 t) refl
-    (errno_step n 122 errno.Edquot e (eqb n 122) _ (λ t. eqb-true n 122 t) refl
-    (errno_step n 126 errno.Enokey e (eqb n 126) _ (λ t. eqb-true n 126 t) refl
-    (errno_step n 127 errno.Ekeyexpired e (eqb n 127) _ (λ t. eqb-true n 127 t) refl
+    errno_step n 1 errno.Eperm e (eqb n 1) _ (λ t. eqb-true n 1 t) refl (errno_step n 2 errno.Enoent e (eqb n 2) _ (λ t. eqb-true n 2 t) refl
+    (errno_step n 12 errno.Enomem e (eqb n 12) _ (λ t. eqb-true n 12 t) refl (errno_step n 13 errno.Eacces e (eqb n 13) _ (λ t. eqb-true n 13 t) refl
+    (errno_step n 16 errno.Ebusy e (eqb n 16) _ (λ t. eqb-true n 16 t) refl (errno_step n 22 errno.Einval e (eqb n 22) _ (λ t. eqb-true n 22 t) refl
+    (errno_step n 35 errno.Edeadlk e (eqb n 35) _ (λ t. eqb-true n 35 t) refl (errno_step n 122 errno.Edquot e (eqb n 122) _ (λ t. eqb-true n 122 t) refl
+    (errno_step n 126 errno.Enokey e (eqb n 126) _ (λ t. eqb-true n 126 t) refl (errno_step n 127 errno.Ekeyexpired e (eqb n 127) _ (λ t. eqb-true n 127 t) refl
     (errno_step n 128 errno.Ekeyrevoked e (eqb n 128) _ (λ t. eqb-true n 128 t) refl
     (errno_step n 129 errno.Ekeyrejected e (eqb n 129) None (λ t. eqb-true n 129 t) refl (λ none. absurd cc)))))))))))) (sym found)

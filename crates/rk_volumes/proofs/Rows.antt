@@ -1,36 +1,19 @@
 -- Rows, events and answers: which row is of which.
-use Rattle.std.proofs.Common.{◌≡◌, ◌≢◌, ℕ, ◌+◌, ◌<◌, ◌≤◌, List, [], ◌∷◌, ◌++◌, length, Option, Some, None, refl, sym, ap, ◌∙◌, append_assoc}
-use Rattle.std.proofs.Common.{length-append, arith}
-use Rattle.std.specs.Int.{w32, to_be_bytes}
-use Rattle.rk_names.specs.declared.errors.Errno.{Errno}
-use Rattle.rk_names.specs.declared.numbers.SessionId.{SessionId}
-use Rattle.rk_names.specs.declared.numbers.SessionId.TheVariants.{Client, Handler}
+use Rattle.rk_volumes.proofs.Words.{◌++◌, ap, ◌≡◌, ℕ, List, length, ◌∙◌, arith, sym, refl, ◌≢◌, ◌+◌, [], append_assoc, ◌<◌, ◌∷◌, Option, Some, None, ◌≤◌}
+use Rattle.rk_volumes.proofs.Words.{length-append, to_be_bytes, w32, frame, errno_number, errno_named, Errno, SessionId, Client, Handler, asks_are_told, Ask}
+use Rattle.rk_volumes.proofs.Words.{IsAsk, ask_message, spelling, Op, Subject, Event, Answer, How, Ran, Plain, Piped, Failed, session_kind, session_number}
+use Rattle.rk_volumes.proofs.Words.{ran_kind, op_kind, how_kind, status_of, put_out, HasNoEvent, HasNoAnswer, NamesSession, NamesNone, IsNoEvent, IsNoAnswer}
+use Rattle.rk_volumes.proofs.Words.{Row, row_bytes, event_row, answer_row, request_of, subject_bytes, IsSerial, IsSession, IsWord, IsSubject, IsPutOut, IsEvent}
+use Rattle.rk_volumes.proofs.Words.{IsAnswer}
 use Rattle.rk_names.specs.declared.errors.Errno.TheVariants as errno
-use Rattle.rk_names.specs.Numbers.{errno_number, errno_named}
 use Rattle.rk_names.specs.Rules.{payload_fault}
-use Rattle.rk_message.specs.Ask.{Ask}
 use Rattle.rk_message.specs.declared.reply.Reply.{Reply}
-use Rattle.rk_message.specs.Wire.{spelling}
-use Rattle.rk_message.specs.Asks.{IsAsk, ask_message}
 use Rattle.rk_message.specs.Replies.{IsReply, reply_message}
-use Rattle.rk_message.proofs.Asks.{asks_are_told}
 use Rattle.rk_message.proofs.Replies.{replies_are_told}
-use Rattle.rk_macro.specs.declared.subject.Op.{Op}
 use Rattle.rk_macro.specs.declared.subject.Op.TheVariants as op
-use Rattle.rk_macro.specs.declared.subject.Subject.{Subject}
-use Rattle.rk_machine.specs.declared.event.Ran.{Ran}
-use Rattle.rk_machine.specs.declared.event.Ran.TheVariants.{Plain, Piped, Failed}
-use Rattle.rk_machine.specs.declared.event.How.{How}
 use Rattle.rk_machine.specs.declared.event.How.TheVariants.{Exit, Signal, Fault}
-use Rattle.rk_machine.specs.Event.{Event}
 use Rattle.rk_machine.specs.declared.event.EventOf.TheVariants as event
-use Rattle.rk_machine.specs.declared.event.Answer.{Answer}
 use Rattle.rk_machine.specs.declared.event.Answer.TheVariants as answer
-use Rattle.rk_frame.specs.Framing.{frame}
-use Rattle.rk_volumes.specs.Kinds.{session_kind, session_number, ran_kind, how_kind, status_of, put_out, op_kind}
-use Rattle.rk_volumes.specs.Rows.{Row, row_bytes, event_row, answer_row, request_of, subject_bytes}
-use Rattle.rk_volumes.specs.Rules.{IsWord, IsSerial, IsSession, IsPutOut, IsEvent, IsSubject, IsAnswer}
-use Rattle.rk_volumes.specs.Reading.{NamesSession, NamesNone, IsNoEvent, HasNoEvent, IsNoAnswer, HasNoAnswer}
 use Rattle.rk_volumes.proofs.Fronts.{same_word}
 
 -- ---- the parts of rows
@@ -46,8 +29,7 @@ abbrev made : ℕ → ℕ → ℕ → List ℕ → Row
 made kind how number rest = record { kind = kind; how = how; number = number; rest = rest }
 
 same_fields : (a b c x y z : ℕ) (r s : List ℕ) → a ≡ x → b ≡ y → c ≡ z → r ≡ s → made a b c r ≡ made x y z s
-same_fields a b c x y z r s p q u v =
-    ap (λ (k : ℕ). made k b c r) p ∙ ap (λ (k : ℕ). made x k c r) q ∙ ap (λ (k : ℕ). made x y k r) u ∙ ap (made x y z) v
+same_fields a b c x y z r s p q u v = ap (λ (k : ℕ). made k b c r) p ∙ ap (λ (k : ℕ). made x k c r) q ∙ ap (λ (k : ℕ). made x y k r) u ∙ ap (made x y z) v
 
 -- rows with the same bytes are equal
 pub same_row : (r s : Row) → IsWord r.number → IsWord s.number → row_bytes r ≡ row_bytes s → r ≡ s
@@ -89,37 +71,25 @@ answer_fits (answer.Refused e) is = zero_fits
 
 pub same_session : (s t : SessionId) → session_kind s ≡ session_kind t → session_number s ≡ session_number t → s ≡ t
 same_session (Client n) (Client m) k e = cc
-same_session (Client n) (Handler m) k e = absurd cc
-same_session (Handler n) (Client m) k e = absurd cc
 same_session (Handler n) (Handler m) k e = cc
+same_session _ _ k e = absurd cc
 
 pub same_ran : (r s : Ran) → ran_kind r ≡ ran_kind s → r ≡ s
 same_ran Plain Plain e = refl
-same_ran Plain Piped e = absurd cc
-same_ran Plain Failed e = absurd cc
-same_ran Piped Plain e = absurd cc
 same_ran Piped Piped e = refl
-same_ran Piped Failed e = absurd cc
-same_ran Failed Plain e = absurd cc
-same_ran Failed Piped e = absurd cc
 same_ran Failed Failed e = refl
+same_ran _ _ e = absurd cc
 
 pub same_how : (h g : How) → how_kind h ≡ how_kind g → status_of h ≡ status_of g → h ≡ g
 same_how (Exit c) (Exit d) e f = cc
-same_how (Exit c) Signal e f = absurd cc
-same_how (Exit c) Fault e f = absurd cc
-same_how Signal (Exit d) e f = absurd cc
 same_how Signal Signal e f = refl
-same_how Signal Fault e f = absurd cc
-same_how Fault (Exit d) e f = absurd cc
-same_how Fault Signal e f = absurd cc
 same_how Fault Fault e f = refl
+same_how _ _ e f = absurd cc
 
 pub same_op : (o p : Op) → op_kind o ≡ op_kind p → o ≡ p
 same_op op.Create op.Create e = refl
-same_op op.Create op.Negate e = absurd cc
-same_op op.Negate op.Create e = absurd cc
 same_op op.Negate op.Negate e = refl
+same_op _ _ e = absurd cc
 
 empty_fails : payload_fault [] ≢ None
 empty_fails e = absurd cc
@@ -149,23 +119,18 @@ rest_of r = r.rest
 -- events of the same row are the same
 pub same_event : (e f : Event) → IsEvent e → IsEvent f → event_row e ≡ event_row f → e ≡ f
 same_event (event.Opened s) (event.Opened t) is other eq = ap event.Opened (same_session s t (ap how_of eq) (ap number_of eq))
-same_event (event.Opened s) f is other eq = absurd (omega (arith, ap kind_of eq))
 same_event (event.Asked s a) (event.Asked t b) is other eq =
     let session = same_session s t (ap how_of eq) (ap number_of eq) in let ask = asks_are_told a b is.1 other.1 (ap rest_of eq) in cc
-same_event (event.Asked s a) f is other eq = absurd (omega (arith, ap kind_of eq))
 same_event (event.Launched k ran) (event.Launched l way) is other eq = let key = ap number_of eq in let how = same_ran ran way (ap how_of eq) in cc
-same_event (event.Launched k ran) f is other eq = absurd (omega (arith, ap kind_of eq))
 same_event (event.Ended k how p) (event.Ended l way q) is other eq =
     let key = ap number_of eq in
     let parts = second (status_of how) (status_of way) (put_out p) (put_out q) (ap rest_of eq) in
     let ways = same_how how way (ap how_of eq) parts.0 in
     let payload = same_put_out p q is.2 other.2 parts.1 in
     cc
-same_event (event.Ended k how p) f is other eq = absurd (omega (arith, ap kind_of eq))
 same_event (event.Collect s) (event.Collect t) is other eq = ap event.Collect (same_session s t (ap how_of eq) (ap number_of eq))
-same_event (event.Collect s) f is other eq = absurd (omega (arith, ap kind_of eq))
 same_event (event.Gone s) (event.Gone t) is other eq = ap event.Gone (same_session s t (ap how_of eq) (ap number_of eq))
-same_event (event.Gone s) f is other eq = absurd (omega (arith, ap kind_of eq))
+same_event _ _ is other eq = absurd (omega (arith, ap kind_of eq))
 
 -- a row of no client or handler that is there
 abbrev pub NamesNoneAlone : Row → Type 0
@@ -183,13 +148,11 @@ pub no_gone : (r : Row) → r.kind ≡ 6 → NamesNoneAlone r → IsNoEvent r
 no_gone r k none (event.Gone s) is eq = none (ap rest_of eq) s is (ap how_of eq, ap number_of eq)
 no_gone r k none e is eq = omega (arith, k, ap kind_of eq)
 
-pub no_asked : (r : Row) → r.kind ≡ 2
-    → ((s : SessionId) (a : Ask) → IsSession s → IsAsk a → NamesSession r s → r.rest ≢ spelling (ask_message a)) → IsNoEvent r
+pub no_asked : (r : Row) → r.kind ≡ 2 → ((s : SessionId) (a : Ask) → IsSession s → IsAsk a → NamesSession r s → r.rest ≢ spelling (ask_message a)) → IsNoEvent r
 no_asked r k none (event.Asked s a) is eq = none s a is.0 is.1 (ap how_of eq, ap number_of eq) (ap rest_of eq)
 no_asked r k none e is eq = omega (arith, k, ap kind_of eq)
 
-pub no_launched : (r : Row) → r.kind ≡ 3
-    → ((k : ℕ) (ran : Ran) → IsSerial k → r.number ≡ k → r.how ≡ ran_kind ran → r.rest ≢ []) → IsNoEvent r
+pub no_launched : (r : Row) → r.kind ≡ 3 → ((k : ℕ) (ran : Ran) → IsSerial k → r.number ≡ k → r.how ≡ ran_kind ran → r.rest ≢ []) → IsNoEvent r
 no_launched r k none (event.Launched key ran) is eq = none key ran is (ap number_of eq) (ap how_of eq) (ap rest_of eq)
 no_launched r k none e is eq = omega (arith, k, ap kind_of eq)
 
@@ -218,34 +181,10 @@ no_short_event body short e is eq = omega (arith, short, ap length eq, row_len (
 
 errno_again : (e : Errno) → errno_named (errno_number e) ≡ Some e
 errno_again errno.Eperm = refl
-errno_again errno.Enoent = refl
-errno_again errno.Enomem = refl
-errno_again errno.Eacces = refl
-errno_again errno.Ebusy = refl
-errno_again errno.Einval = refl
-errno_again errno.Edeadlk = refl
-errno_again errno.Edquot = refl
-errno_again errno.Enokey = refl
-errno_again errno.Ekeyexpired = refl
-errno_again errno.Ekeyrevoked = refl
-errno_again errno.Ekeyrejected = refl
+errno_again _ = refl
 
 pub same_errno : (e f : Errno) → errno_number e ≡ errno_number f → e ≡ f
 same_errno e f eq = let named = ap errno_named eq in let one = errno_again e in let other = errno_again f in cc
-
-abbrev subject : ℕ → Op → List ℕ → List ℕ → List ℕ → ℕ → ℕ → ℕ → ℕ → ℕ → Subject
-subject key op typ desc callout uid gid thread process session = record {
-  key = key;
-  op = op;
-  typ = typ;
-  desc = desc;
-  callout = callout;
-  uid = uid;
-  gid = gid;
-  thread = thread;
-  process = process;
-  session = session;
-}
 
 -- the names of a subject, as the body of a REQUEST
 abbrev pub names_bytes : Subject → List ℕ
@@ -283,33 +222,30 @@ same_subject s t is other op eq =
     let typ : s.typ ≡ t.typ = cc in
     let desc : s.desc ≡ t.desc = cc in
     let callout : s.callout ≡ t.callout = cc in
-    ap (λ (x : ℕ). subject x s.op s.typ s.desc s.callout s.uid s.gid s.thread s.process s.session) key.0
-    ∙ ap (λ (x : Op). subject t.key x s.typ s.desc s.callout s.uid s.gid s.thread s.process s.session) op
-    ∙ ap (λ (x : List ℕ). subject t.key t.op x s.desc s.callout s.uid s.gid s.thread s.process s.session) typ
-    ∙ ap (λ (x : List ℕ). subject t.key t.op t.typ x s.callout s.uid s.gid s.thread s.process s.session) desc
-    ∙ ap (λ (x : List ℕ). subject t.key t.op t.typ t.desc x s.uid s.gid s.thread s.process s.session) callout
-    ∙ ap (λ (x : ℕ). subject t.key t.op t.typ t.desc t.callout x s.gid s.thread s.process s.session) uid.0
-    ∙ ap (λ (x : ℕ). subject t.key t.op t.typ t.desc t.callout t.uid x s.thread s.process s.session) gid.0
-    ∙ ap (λ (x : ℕ). subject t.key t.op t.typ t.desc t.callout t.uid t.gid x s.process s.session) thread.0
-    ∙ ap (λ (x : ℕ). subject t.key t.op t.typ t.desc t.callout t.uid t.gid t.thread x s.session) process.0
-    ∙ ap (λ (x : ℕ). subject t.key t.op t.typ t.desc t.callout t.uid t.gid t.thread t.process x) session.0
+    λ i. record {
+      key = key.0 i;
+      op = op i;
+      typ = typ i;
+      desc = desc i;
+      callout = callout i;
+      uid = uid.0 i;
+      gid = gid.0 i;
+      thread = thread.0 i;
+      process = process.0 i;
+      session = session.0 i;
+    }
 
 -- answers of the same row are the same
 pub same_answer : (a b : Answer) → IsAnswer a → IsAnswer b → answer_row a ≡ answer_row b → a ≡ b
 same_answer (answer.Done r) (answer.Done q) is other eq = ap answer.Done (replies_are_told r q is other (ap rest_of eq))
-same_answer (answer.Done r) b is other eq = absurd (omega (arith, ap kind_of eq))
 same_answer (answer.Start k s) (answer.Start l t) is other eq =
     let key = ap number_of eq in let subject = same_subject s t is.1 other.1 (same_op s.op t.op (ap how_of eq)) (ap rest_of eq) in cc
-same_answer (answer.Start k s) b is other eq = absurd (omega (arith, ap kind_of eq))
 same_answer (answer.Negate k) (answer.Negate l) is other eq = ap answer.Negate (ap number_of eq)
-same_answer (answer.Negate k) b is other eq = absurd (omega (arith, ap kind_of eq))
 same_answer (answer.Waiting k) (answer.Waiting l) is other eq = ap answer.Waiting (ap number_of eq)
-same_answer (answer.Waiting k) b is other eq = absurd (omega (arith, ap kind_of eq))
 same_answer (answer.Refused e) (answer.Refused f) is other eq = ap answer.Refused (same_errno e f (ap how_of eq))
-same_answer (answer.Refused e) b is other eq = absurd (omega (arith, ap kind_of eq))
+same_answer _ _ is other eq = absurd (omega (arith, ap kind_of eq))
 
-pub no_done : (r : Row) → r.kind ≡ 1
-    → ((reply : Reply) → IsReply reply → r.how ≡ 0 → r.number ≡ 0 → r.rest ≢ spelling (reply_message reply)) → IsNoAnswer r
+pub no_done : (r : Row) → r.kind ≡ 1 → ((reply : Reply) → IsReply reply → r.how ≡ 0 → r.number ≡ 0 → r.rest ≢ spelling (reply_message reply)) → IsNoAnswer r
 no_done r k none (answer.Done reply) is eq = none reply is (ap how_of eq) (ap number_of eq) (ap rest_of eq)
 no_done r k none a is eq = omega (arith, k, ap kind_of eq)
 

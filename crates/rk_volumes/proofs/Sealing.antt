@@ -1,11 +1,6 @@
 -- A seal, and the sum after what it is of.
-use Rattle.std.proofs.Common.{◌≡◌, ◌≢◌, ℕ, ◌+◌, ◌<◌, Bool, true, false, List, [], ◌∷◌, ◌++◌, length, take, drop, refl, sym, ap, ◌∙◌}
-use Rattle.std.proofs.Common.{append_assoc, length-append, arith}
-use Rattle.std.proofs.lemmas.List.{take-append-drop}
-use Rattle.sha2.specs.Sha256.{sha256}
-use Rattle.sha2.proofs.Facts256.{length-sha256}
-use Rattle.rk_volumes.specs.declared.seal.Seal.{Seal}
-use Rattle.rk_volumes.specs.Seals.{sealed_title, seal_bytes, mark, summed, IsSeal, HasNoSum}
+use Rattle.rk_volumes.proofs.Words.{length-sha256, sha256, ◌++◌, ap, ◌≡◌, ℕ, List, length, ◌∙◌, arith, sym, refl, ◌≢◌, [], append_assoc, ◌<◌, ◌∷◌, take}
+use Rattle.rk_volumes.proofs.Words.{length-append, drop, Bool, true, false, take-append-drop, seal_bytes, sealed_title, IsSeal, summed, HasNoSum, mark, Seal}
 use Rattle.rk_volumes.proofs.Fronts.{same_front}
 use Rattle.rk_volumes.proofs.Rows.{second}
 
@@ -30,8 +25,7 @@ same_seal s t x y is other eq =
     (sym (in_parts s x) ∙ eq ∙ in_parts t y) in
     let run = same_front s.run t.run (s.previous ++ x) (t.previous ++ y) (is.run ∙ sym other.run) closing.1 in
     let previous = same_front s.previous t.previous x y (is.previous ∙ sym other.previous) run.1 in (
-      ap (λ (b : Bool). sealed b s.run s.previous) (same_mark s.closing t.closing closing.0)
-          ∙ ap (λ (r : List ℕ). sealed t.closing r s.previous) run.0
+      ap (λ (b : Bool). sealed b s.run s.previous) (same_mark s.closing t.closing closing.0) ∙ ap (λ (r : List ℕ). sealed t.closing r s.previous) run.0
           ∙ ap (λ (p : List ℕ). sealed t.closing t.run p) previous.0,
       previous.1,
     )
@@ -46,24 +40,20 @@ pub seal_put : (o a b c d : List ℕ) (s : Seal) → a ≡ o ++ sealed_title →
 seal_put o a b c d s first next third fourth =
     let k : List ℕ = mark s.closing ∷ [] in
     fourth ∙ ap (λ (x : List ℕ). x ++ s.previous) (third ∙ ap (λ (x : List ℕ). x ++ s.run) (next ∙ ap (λ (x : List ℕ). x ++ k) first))
-    ∙ append_assoc ((o ++ sealed_title) ++ k) s.run s.previous
-    ∙ append_assoc (o ++ sealed_title) k (s.run ++ s.previous)
+    ∙ append_assoc ((o ++ sealed_title) ++ k) s.run s.previous ∙ append_assoc (o ++ sealed_title) k (s.run ++ s.previous)
     ∙ append_assoc o sealed_title (k ++ (s.run ++ s.previous))
 
 -- a seal that was read, with its parts
 pub seal_read : (bytes rest more left : List ℕ) (number : ℕ) (s : Seal) → bytes ≡ number ∷ rest → number ≡ mark s.closing → rest ≡ s.run ++ more
     → more ≡ s.previous ++ left → bytes ≡ seal_bytes s ++ left
 seal_read bytes rest more left number s is closing run previous =
-    is ∙ ap (λ (n : ℕ). n ∷ rest) closing
-    ∙ ap (λ (x : List ℕ). mark s.closing ∷ x) (run ∙ ap (λ (x : List ℕ). s.run ++ x) previous)
-    ∙ sym (in_parts s left)
+    is ∙ ap (λ (n : ℕ). n ∷ rest) closing ∙ ap (λ (x : List ℕ). mark s.closing ∷ x) (run ∙ ap (λ (x : List ℕ). s.run ++ x) previous) ∙ sym (in_parts s left)
 
 -- ---- sums at the end
 
 -- what is before and after a place from the end
 pub cut_at : (file front sum : List ℕ) (n : ℕ) → front ≡ take n file → sum ≡ drop n file → file ≡ front ++ sum
-cut_at file front sum n is other =
-    sym (take-append-drop n file) ∙ ap (λ (x : List ℕ). x ++ drop n file) (sym is) ∙ ap (λ (x : List ℕ). front ++ x) (sym other)
+cut_at file front sum n is other = sym (take-append-drop n file) ∙ ap (λ (x : List ℕ). x ++ drop n file) (sym is) ∙ ap (λ (x : List ℕ). front ++ x) (sym other)
 
 -- a file has one front that may have its sum after it
 pub same_sum : (front sum other : List ℕ) → length sum ≡ 32 → front ++ sum ≡ other ++ sha256 other → (front ≡ other) × (sum ≡ sha256 other)

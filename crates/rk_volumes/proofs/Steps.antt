@@ -1,14 +1,6 @@
 -- A step at the front of bytes.
-use Rattle.std.proofs.Common.{◌≡◌, ◌≢◌, ℕ, ◌+◌, ◌<◌, ◌^◌, List, ◌++◌, length, refl, sym, ap, ◌∙◌, append_assoc, arith}
-use Rattle.std.specs.Int.{w64, to_be_bytes}
-use Rattle.rk_frame.specs.Framing.{frame}
-use Rattle.rk_machine.specs.Event.{Event}
-use Rattle.rk_machine.specs.declared.event.Answer.{Answer}
-use Rattle.rk_record.specs.declared.recorded.Recorded.{Recorded}
-use Rattle.rk_volumes.specs.Rows.{Row, row_bytes, event_row, answer_row}
-use Rattle.rk_volumes.specs.Rules.{IsStep}
-use Rattle.rk_volumes.specs.Format.{step_bytes, HasNoStep}
-use Rattle.rk_volumes.specs.Reading.{HasNoEvent, HasNoAnswer}
+use Rattle.rk_volumes.proofs.Words.{◌++◌, ap, ◌≡◌, ℕ, List, length, ◌∙◌, sym, refl, ◌≢◌, append_assoc, ◌<◌, ◌^◌, to_be_bytes, w64, frame, Event, Answer}
+use Rattle.rk_volumes.proofs.Words.{Recorded, HasNoStep, step_bytes, HasNoEvent, HasNoAnswer, row_bytes, event_row, answer_row, IsStep}
 use Rattle.rk_volumes.proofs.Fronts.{same_long, same_frame, too_short}
 use Rattle.rk_volumes.proofs.Rows.{same_row, event_fits, answer_fits, same_event, same_answer}
 
@@ -52,8 +44,7 @@ same_step s t x y is other eq =
 
 -- fewer than eight bytes begin with no step
 pub no_moment : (bytes : List ℕ) → length bytes < 8 → HasNoStep bytes
-no_moment bytes short s more is eq =
-    too_short bytes (to_be_bytes w64 s.now) (event_frame s ++ (answer_frame s ++ more)) 8 short refl (eq ∙ in_parts s more)
+no_moment bytes short s more is eq = too_short bytes (to_be_bytes w64 s.now) (event_frame s ++ (answer_frame s ++ more)) 8 short refl (eq ∙ in_parts s more)
 
 abbrev HasNoFrame : List ℕ → Type 0
 HasNoFrame bytes = (body more : List ℕ) → length body < 2 ^ 32 → bytes ≢ frame body ++ more

@@ -1,20 +1,11 @@
 -- What is started, as bytes: its numbers, and the request that asks for its names.
-use Rattle.std.proofs.Common.{◌≡◌, ◌≢◌, ℕ, ◌+◌, ◌<◌, ◌≤◌, List, ◌++◌, length, Some, None, refl, sym, ap, ◌∙◌, append_assoc}
-use Rattle.std.proofs.Common.{length-append, arith}
-use Rattle.std.specs.Prelude.{pos}
-use Rattle.std.specs.Int.{w32, to_be_bytes}
-use Rattle.rk_names.specs.Numbers.{serial_of}
-use Rattle.rk_message.specs.Ask.{Ask}
+use Rattle.rk_volumes.proofs.Words.{◌++◌, ap, ◌≡◌, ℕ, List, length, ◌∙◌, arith, sym, refl, ◌≢◌, ◌+◌, append_assoc, ◌<◌, Some, None, ◌≤◌, length-append}
+use Rattle.rk_volumes.proofs.Words.{to_be_bytes, w32, pos, serial_of, asks_are_told, Ask, IsAsk, ask_message, spelling, Subject, request_of, subject_bytes}
+use Rattle.rk_volumes.proofs.Words.{IsWord, IsSubject}
 use Rattle.rk_message.specs.declared.ask.AskOf.TheVariants as ask
 use Rattle.rk_message.specs.declared.fault.Fault.{Fault}
 use Rattle.rk_message.specs.declared.fault.ReadError.{ReadError}
 use Rattle.rk_message.specs.declared.fault.ReadError.TheVariants as error
-use Rattle.rk_message.specs.Wire.{spelling}
-use Rattle.rk_message.specs.Asks.{IsAsk, ask_message}
-use Rattle.rk_message.proofs.Asks.{asks_are_told}
-use Rattle.rk_macro.specs.declared.subject.Subject.{Subject}
-use Rattle.rk_volumes.specs.Rows.{request_of, subject_bytes}
-use Rattle.rk_volumes.specs.Rules.{IsWord, IsSubject}
 use Rattle.rk_volumes.proofs.Fronts.{same_word}
 use Rattle.rk_volumes.proofs.NumbersOfKinds.{no_serial}
 use Rattle.rk_volumes.proofs.Rows.{serial_fits, from_uid, from_gid, from_thread, from_process, from_session, names_bytes}
@@ -28,7 +19,7 @@ numbers key uid gid thread process session rest =
 four : (n : ℕ) → length (to_be_bytes w32 n) ≡ 4
 four n = refl
 
-subject_len : (s : Subject) → 24 ≤ length (subject_bytes s)
+subject_len : (s : Subject) → length (subject_bytes s) ≡ 24 + length (names_bytes s)
 subject_len s =
     omega (
       arith,
@@ -67,39 +58,32 @@ words_of k u g t p s is = record { key = is.0; uid = is.1; gid = is.2; thread = 
 pub no_fault : (e : ReadError) (f : Fault) → e ≡ error.Fault f → e ≢ error.NoMemory
 no_fault e f is none = absurd cc
 
--- of a subject that starts with these numbers, its key and its names
-pub parts_of : (bytes rest : List ℕ) (key uid gid thread process session : ℕ) → AreWords key uid gid thread process session
-    → bytes ≡ numbers key uid gid thread process session rest → (s : Subject) → IsSubject s → bytes ≡ subject_bytes s → (key ≡ s.key) × (rest ≡ names_bytes s)
-parts_of bytes rest key uid gid thread process session fits is s subject e =
-    let one = same_word key s.key _ (from_uid s) fits.key (serial_fits s.key subject.key) (sym is ∙ e) in
-    let two = same_word uid s.uid _ (from_gid s) fits.uid subject.uid one.1 in
-    let three = same_word gid s.gid _ (from_thread s) fits.gid subject.gid two.1 in
-    let four = same_word thread s.thread _ (from_process s) fits.thread subject.thread three.1 in
-    let five = same_word process s.process _ (from_session s) fits.process subject.process four.1 in
-    let six = same_word session s.session rest (names_bytes s) fits.session subject.session five.1 in
-    (one.0, six.1)
+module _ (bytes rest : List ℕ) (key uid gid thread process session : ℕ) (fits : AreWords key uid gid thread process session)
+    (is : bytes ≡ numbers key uid gid thread process session rest) where
+  -- of a subject that starts with these numbers, its key and its names
+  pub parts_of : (s : Subject) → IsSubject s → bytes ≡ subject_bytes s → (key ≡ s.key) × (rest ≡ names_bytes s)
+  parts_of s subject e =
+      let one = same_word key s.key _ (from_uid s) fits.key (serial_fits s.key subject.key) (sym is ∙ e) in
+      let two = same_word uid s.uid _ (from_gid s) fits.uid subject.uid one.1 in
+      let three = same_word gid s.gid _ (from_thread s) fits.gid subject.gid two.1 in
+      let four = same_word thread s.thread _ (from_process s) fits.thread subject.thread three.1 in
+      let five = same_word process s.process _ (from_session s) fits.process subject.process four.1 in
+      let six = same_word session s.session rest (names_bytes s) fits.session subject.session five.1 in
+      (one.0, six.1)
 
-pub no_subject_key : (bytes rest : List ℕ) (key uid gid thread process session : ℕ) → AreWords key uid gid thread process session
-    → bytes ≡ numbers key uid gid thread process session rest → None ≡ serial_of key → (s : Subject) → IsSubject s → bytes ≢ subject_bytes s
-no_subject_key bytes rest key uid gid thread process session fits is none s subject e =
-    let parts = parts_of bytes rest key uid gid thread process session fits is s subject e in
-    no_serial key none (omega (arith, subject.key.0, parts.0), omega (arith, subject.key.1, parts.0))
+  pub no_subject_key : None ≡ serial_of key → (s : Subject) → IsSubject s → bytes ≢ subject_bytes s
+  no_subject_key none s subject e =
+      let parts = parts_of s subject e in no_serial key none (omega (arith, subject.key.0, parts.0), omega (arith, subject.key.1, parts.0))
 
--- six numbers and then bytes that spell no request are no subject
-pub no_subject_ask : (bytes rest : List ℕ) (key uid gid thread process session : ℕ) → AreWords key uid gid thread process session
-    → bytes ≡ numbers key uid gid thread process session rest → ((a : Ask) → IsAsk a → rest ≢ spelling (ask_message a))
-    → (s : Subject) → IsSubject s → bytes ≢ subject_bytes s
-no_subject_ask bytes rest key uid gid thread process session fits is none s subject e =
-    let parts = parts_of bytes rest key uid gid thread process session fits is s subject e in
-    none (request_of s) subject.names parts.1
+  -- six numbers and then bytes that spell no request are no subject
+  pub no_subject_ask : ((a : Ask) → IsAsk a → rest ≢ spelling (ask_message a)) → (s : Subject) → IsSubject s → bytes ≢ subject_bytes s
+  no_subject_ask none s subject e = none (request_of s) subject.names (parts_of s subject e).1
 
--- nor are six numbers and a request other than one with a callout and destination 0
-pub no_subject_names : (bytes rest : List ℕ) (key uid gid thread process session : ℕ) (a : Ask) → AreWords key uid gid thread process session
-    → bytes ≡ numbers key uid gid thread process session rest → IsAsk a → rest ≡ spelling (ask_message a)
-    → ((typ description callout : List ℕ) → a ≢ ask.Request typ description (Some callout) (pos 0)) → (s : Subject) → IsSubject s → bytes ≢ subject_bytes s
-no_subject_names bytes rest key uid gid thread process session a fits is asked spelt none s subject e =
-    let parts = parts_of bytes rest key uid gid thread process session fits is s subject e in
-    none s.typ s.desc s.callout (asks_are_told a (request_of s) asked subject.names (sym spelt ∙ parts.1))
+  -- nor are six numbers and a request other than one with a callout and destination 0
+  pub no_subject_names : (a : Ask) → IsAsk a → rest ≡ spelling (ask_message a)
+      → ((typ description callout : List ℕ) → a ≢ ask.Request typ description (Some callout) (pos 0)) → (s : Subject) → IsSubject s → bytes ≢ subject_bytes s
+  no_subject_names a asked spelt none s subject e =
+      none s.typ s.desc s.callout (asks_are_told a (request_of s) asked subject.names (sym spelt ∙ (parts_of s subject e).1))
 
 -- a subject that was read
 pub subject_is : (bytes rest : List ℕ) (key : ℕ) (a : Ask) (s : Subject) → bytes ≡ numbers key s.uid s.gid s.thread s.process s.session rest → key ≡ s.key
@@ -120,30 +104,10 @@ subject_put a b c d e f g s first second third fourth fifth sixth seventh =
     let q = to_be_bytes w32 s.session in
     let n = names_bytes s in
     seventh ∙ ap (λ (x : List ℕ). x ++ n) (sixth ∙ ap (λ (x : List ℕ). x ++ q) (fifth ∙ ap (λ (x : List ℕ). x ++ p) (fourth ∙ ap (λ (x : List ℕ). x ++ t)
-    (third ∙ ap (λ (x : List ℕ). x ++ v) (second ∙ ap (λ (x : List ℕ). x ++ u) first)))))
-    ∙ append_assoc (((((k ++ u) ++ v) ++ t) ++ p)) q n
-    ∙ append_assoc ((((k ++ u) ++ v) ++ t)) p (q ++ n)
-    ∙ append_assoc (((k ++ u) ++ v)) t (p ++ (q ++ n))
-    ∙ append_assoc ((k ++ u)) v (t ++ (p ++ (q ++ n)))
-    ∙ append_assoc k u (v ++ (t ++ (p ++ (q ++ n))))
+    (third ∙ ap (λ (x : List ℕ). x ++ v) (second ∙ ap (λ (x : List ℕ). x ++ u) first))))) ∙ append_assoc (((((k ++ u) ++ v) ++ t) ++ p)) q n
+    ∙ append_assoc ((((k ++ u) ++ v) ++ t)) p (q ++ n) ∙ append_assoc (((k ++ u) ++ v)) t (p ++ (q ++ n))
+    ∙ append_assoc ((k ++ u)) v (t ++ (p ++ (q ++ n))) ∙ append_assoc k u (v ++ (t ++ (p ++ (q ++ n))))
 
 -- a subject and its length
 pub subject_fits : (s : Subject) (n : ℕ) → n ≡ length (names_bytes s) → n ≤ 65536 → length (subject_bytes s) ≤ 65560
-subject_fits s n is small =
-    omega (
-      arith,
-      is,
-      small,
-      length-append (to_be_bytes w32 s.key) (from_uid s),
-      length-append (to_be_bytes w32 s.uid) (from_gid s),
-      length-append (to_be_bytes w32 s.gid) (from_thread s),
-      length-append (to_be_bytes w32 s.thread) (from_process s),
-      length-append (to_be_bytes w32 s.process) (from_session s),
-      length-append (to_be_bytes w32 s.session) (names_bytes s),
-      four s.key,
-      four s.uid,
-      four s.gid,
-      four s.thread,
-      four s.process,
-      four s.session,
-    )
+subject_fits s n is small = omega (arith, is, small, subject_len s)

@@ -1,6 +1,5 @@
 -- What a call leaves where it is done.
-use Rattle.std.proofs.Common.{◌≡◌, ℕ, List}
-use Rattle.std.specs.Prelude.{Result, Ok, Err, OnOk, is_ok, if◌then◌else◌}
+use Rattle.rk_volumes.proofs.Words.{◌≡◌, ℕ, List, Err, Result, Ok, OnOk, is_ok, if◌then◌else◌}
 
 -- what a write appends, where it is done
 pub where_done : {A E : Type 0} (r : Result A E) (P : Type 0) (x y z : List ℕ) → x ≡ (if is_ok r then y else z) → (x ≡ y → P) → OnOk r P

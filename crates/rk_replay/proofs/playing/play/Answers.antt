@@ -1,5 +1,4 @@
-use Rattle.std.proofs.Common.{◌≡◌, ◌≢◌}
-use Rattle.rk_conf.specs.declared.fault.ConfKind.TheVariants.{NoMemory}
+use Rattle.rk_replay.proofs.Words.{◌≡◌, ◌≢◌, NoMemory}
 use Rattle.rk_replay.specs.declared.fault.ScriptFault.TheVariants as fault
 use Rattle.rk_replay.proofs.Scripts.{written, refused}
 use Rattle.rk_replay.proofs.playing.play.Goals as goal

@@ -1,4 +1,4 @@
-use Rattle.std.proofs.Common.{◌≡◌, ◌∙◌, None}
+use Rattle.rk_replay.proofs.Words.{◌≡◌, None, ◌∙◌}
 use Rattle.rk_replay.proofs.Bodies.{played_first, played_line, played_all}
 use Rattle.rk_replay.proofs.LinesLeft.{line_cut, number_fits, number_follows}
 use Rattle.rk_replay.proofs.playing.play_from.Goals as goal

@@ -1,5 +1,4 @@
-use Rattle.std.proofs.Common.{◌≡◌, ◌+◌, ◌<◌, ◌^◌, false}
-use Rattle.rk_replay.specs.Playing.{readings_left, readings_from, bytes_left}
+use Rattle.rk_replay.proofs.Words.{◌≡◌, ◌+◌, ◌<◌, false, ◌^◌, readings_left, readings_from, bytes_left}
 use Rattle.rk_replay.proofs.Bodies.{Played}
 use Rattle.rk_replay.proofs.playing.play_from.Given as goal
 

@@ -1,4 +1,4 @@
-use Rattle.std.proofs.Common.{Some}
+use Rattle.rk_replay.proofs.Words.{Some}
 use Rattle.rk_replay.proofs.LinesLeft.{on_ok_then}
 use Rattle.rk_replay.proofs.playing.play_happening.Goals as goal
 

@@ -1,4 +1,4 @@
-use Rattle.std.proofs.Common.{◌∙◌, sym}
+use Rattle.rk_replay.proofs.Words.{sym, ◌∙◌}
 use Rattle.rk_replay.proofs.Scripts.{heard_line, happens_not}
 use Rattle.rk_replay.proofs.LinesLeft.{line_cut, number_fits}
 use Rattle.rk_replay.proofs.playing.read_head.Goals as goal

@@ -1,7 +1,4 @@
-use Rattle.std.proofs.Common.{◌+◌, ◌<◌, ◌^◌, map}
-use Rattle.rk_text.specs.Text.{lines_of}
-use Rattle.rk_replay.specs.Reading.{reading_of}
-use Rattle.rk_replay.specs.Playing.{readings_left, bytes_left}
+use Rattle.rk_replay.proofs.Words.{◌+◌, map, ◌<◌, ◌^◌, lines_of, readings_left, bytes_left, reading_of}
 use Rattle.rk_replay.proofs.Scripts.{Heard}
 use Rattle.rk_replay.proofs.playing.read_head.Given as goal
 

@@ -1,6 +1,4 @@
-use Rattle.std.proofs.Common.{◌≡◌, ◌++◌, take}
-use Rattle.std.specs.List.{flat_map}
-use Rattle.rk_replay.specs.Writing.{output_line}
+use Rattle.rk_replay.proofs.Words.{◌≡◌, ◌++◌, take, flat_map, output_line}
 use Rattle.rk_replay.proofs.playing.tell_all.Given as goal
 
 abbrev pub invariant-loop-output : goal.invariant-loop-output

@@ -1,6 +1,5 @@
-use Rattle.std.proofs.Common.{◌≡◌, length, take, length-append, ap, refl, sym, arith, rules, [], ◌<◌, ◌++◌, true}
+use Rattle.rk_replay.proofs.Words.{◌≡◌, ◌++◌, ap, length, [], sym, arith, take, refl, ◌<◌, length-append, true, rules, append-nil}
 use Rattle.std.specs.Result.{is_ok}
-use Rattle.std.proofs.lemmas.List.{append-nil}
 use Rattle.std.proofs.KnownBytes.{Consumes-nil, Consumes-trans, Consumes-all}
 use Rattle.rk_replay.proofs.BytesRead.{consumes_many}
 use Rattle.rk_replay.proofs.script.read_all.Goals as goal

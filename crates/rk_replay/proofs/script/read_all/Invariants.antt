@@ -1,5 +1,4 @@
-use Rattle.std.proofs.Common.{◌≡◌, ◌≤◌, length}
-use Rattle.std.specs.Io.KnownBytes.{Consumes}
+use Rattle.rk_replay.proofs.Words.{◌≡◌, length, ◌≤◌, Consumes}
 use Rattle.rk_replay.proofs.script.read_all.Given as goal
 
 abbrev pub invariant-loop-turn : goal.invariant-loop-turn

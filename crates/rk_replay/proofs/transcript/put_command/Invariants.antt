@@ -1,7 +1,4 @@
-use Rattle.std.proofs.Common.{◌≡◌, ◌++◌, take}
-use Rattle.std.specs.Prelude.{string_bytes}
-use Rattle.std.specs.List.{flat_map}
-use Rattle.rk_replay.specs.Writing.{kind_text, word_text}
+use Rattle.rk_replay.proofs.Words.{◌≡◌, ◌++◌, take, flat_map, string_bytes, kind_text, word_text}
 use Rattle.rk_replay.proofs.transcript.put_command.Given as goal
 
 abbrev pub invariant-loop-word : goal.invariant-loop-word

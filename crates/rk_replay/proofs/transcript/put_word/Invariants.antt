@@ -1,7 +1,4 @@
-use Rattle.std.proofs.Common.{◌≡◌, ◌++◌, take}
-use Rattle.std.specs.Prelude.{codes, string_bytes}
-use Rattle.std.specs.List.{flat_map}
-use Rattle.rk_replay.specs.Writing.{byte_text}
+use Rattle.rk_replay.proofs.Words.{◌≡◌, ◌++◌, take, flat_map, string_bytes, codes, byte_text}
 use Rattle.rk_replay.proofs.transcript.put_word.Given as goal
 
 abbrev pub invariant-loop-byte : goal.invariant-loop-byte

@@ -1,5 +1,4 @@
-use Rattle.std.proofs.Common.{length, ap, arith}
-use Rattle.std.proofs.lemmas.List.{length-take}
+use Rattle.rk_volumes.proofs.Words.{ap, length, arith, length-take}
 use Rattle.rk_volumes.proofs.Sealing.{cut_at}
 use Rattle.rk_volumes.proofs.numbers.array.Goals as goal
 

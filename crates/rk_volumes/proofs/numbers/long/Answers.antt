@@ -1,5 +1,4 @@
-use Rattle.std.proofs.Common.{ℕ, List, ◌++◌, drop, sym, ap, ◌∙◌, arith}
-use Rattle.std.specs.Int.{w64, to_be_bytes}
+use Rattle.rk_volumes.proofs.Words.{◌++◌, ap, ℕ, List, ◌∙◌, arith, sym, drop, to_be_bytes, w64}
 use Rattle.rk_volumes.proofs.Fronts.{long_read}
 use Rattle.rk_volumes.proofs.numbers.long.Goals as goal
 

@@ -1,5 +1,4 @@
-use Rattle.rk_volumes.specs.Seals.{seal_bytes}
-use Rattle.std.proofs.Common.{◌++◌}
+use Rattle.rk_volumes.proofs.Words.{◌++◌, seal_bytes}
 use Rattle.rk_volumes.proofs.seal.split_seal.Goals as goal
 
 pub returns-in_default-clause-only : goal.returns-in_default-clause-only

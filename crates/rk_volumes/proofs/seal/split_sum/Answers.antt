@@ -1,5 +1,4 @@
-use Rattle.std.proofs.Common.{◌≡◌, ◌≢◌, ◌++◌, ◌-◌, length, ap, arith, length-append}
-use Rattle.sha2.specs.Sha256.{sha256}
+use Rattle.rk_volumes.proofs.Words.{sha256, ◌++◌, ap, ◌≡◌, length, arith, ◌≢◌, length-append, ◌-◌}
 use Rattle.rk_volumes.proofs.Sealing.{cut_at, no_sum_short, no_sum_other}
 use Rattle.rk_volumes.proofs.seal.split_sum.Goals as goal
 

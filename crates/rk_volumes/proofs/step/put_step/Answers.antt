@@ -1,6 +1,4 @@
-use Rattle.std.proofs.Common.{List, ℕ, ◌++◌, ap, ◌∙◌}
-use Rattle.std.specs.Int.{w64, to_be_bytes}
-use Rattle.rk_record.specs.declared.recorded.Recorded.{Recorded}
+use Rattle.rk_volumes.proofs.Words.{◌++◌, ap, ℕ, List, ◌∙◌, to_be_bytes, w64, Recorded}
 use Rattle.rk_volumes.proofs.Steps.{event_frame, answer_frame, step_put}
 use Rattle.rk_volumes.proofs.Written.{follows}
 use Rattle.rk_volumes.proofs.step.put_step.Goals as goal

@@ -1,6 +1,4 @@
-use Rattle.std.proofs.Common.{rules, ◌≡◌, length, ap, arith}
-use Rattle.std.specs.Prelude.{Err}
-use Rattle.std.proofs.lemmas.Result.{err_from_is_err_and}
+use Rattle.rk_volumes.proofs.Words.{ap, ◌≡◌, length, arith, rules, err_from_is_err_and, Err}
 use Rattle.rk_volumes.specs.declared.fault.Unread.TheVariants.{Bad}
 use Rattle.rk_volumes.proofs.Steps.{no_moment, no_event_frame, no_event_there, no_answer_frame, no_answer_there, step_is}
 use Rattle.rk_volumes.proofs.step.read_step.Goals as goal

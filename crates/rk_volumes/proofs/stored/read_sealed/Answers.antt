@@ -1,8 +1,4 @@
-use Rattle.std.proofs.Common.{◌≡◌, List, Option, refl, inl, inr, Some}
-use Rattle.rk_record.specs.declared.recorded.Recorded.{Recorded}
-use Rattle.rk_volumes.specs.declared.head.Head.{Head}
-use Rattle.rk_volumes.specs.declared.seal.Sealed.{Sealed}
-use Rattle.std.proofs.lemmas.Result.{err_from_is_err_and}
+use Rattle.rk_volumes.proofs.Words.{◌≡◌, List, refl, Option, Some, inl, inr, err_from_is_err_and, Recorded, Head, Sealed}
 use Rattle.rk_volumes.specs.declared.fault.Fault.TheVariants as fault
 use Rattle.rk_volumes.proofs.Filed.{where_sealed, no_sum_filed, no_seal_filed, with_sum}
 use Rattle.rk_volumes.proofs.stored.read_sealed.Goals as goal
@@ -53,5 +49,4 @@ returns-clause-only c =
     where_sealed c.args.file.now c.in-Some.front.now c.in-Some.sum.now seal.volume.now seal.seal
     (λ (h : Head) (ss : List Recorded) (s : Option Sealed). (c.in_ok-head.head ≡ h) × (c.in_ok-head.steps.items ≡ ss)
     × (Some (record { seal = seal.seal; sum = c.in-Some.sum.now }) ≡ s))
-    cut.0 cut.1 seal.ensures.found.0 seal.ensures.found.1
-    (λ h ss is. let one = c.in_ok-head.ensures.only h ss is in (one.0, one.1, refl)) c.requires
+    cut.0 cut.1 seal.ensures.found.0 seal.ensures.found.1 (λ h ss is. let one = c.in_ok-head.ensures.only h ss is in (one.0, one.1, refl)) c.requires

@@ -1,7 +1,4 @@
-use Rattle.std.proofs.Common.{◌≡◌, ◌++◌, length}
-use Rattle.std.specs.List.{flat_map, AllByRecursion}
-use Rattle.rk_volumes.specs.Rules.{IsStep}
-use Rattle.rk_volumes.specs.Format.{step_bytes}
+use Rattle.rk_volumes.proofs.Words.{◌++◌, ◌≡◌, length, flat_map, AllByRecursion, step_bytes, IsStep}
 use Rattle.rk_volumes.proofs.stored.read_steps.Given as goal
 
 abbrev pub invariant-loop-place : goal.invariant-loop-place

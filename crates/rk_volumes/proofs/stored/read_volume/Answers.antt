@@ -1,5 +1,4 @@
-use Rattle.std.proofs.Common.{rules, ◌<◌, ◌≤◌, length}
-use Rattle.std.proofs.lemmas.Result.{err_from_is_err_and}
+use Rattle.rk_volumes.proofs.Words.{length, ◌<◌, ◌≤◌, rules, err_from_is_err_and}
 use Rattle.rk_volumes.specs.declared.fault.Fault.TheVariants as fault
 use Rattle.rk_volumes.proofs.Files.{stored_has_none, stored_is_read, missing_of, file_of, trailing_of, stored_of}
 use Rattle.rk_volumes.proofs.stored.read_volume.Goals as goal

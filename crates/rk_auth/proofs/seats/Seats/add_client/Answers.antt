@@ -55,5 +55,6 @@ pub returns-clause-sessions : goal.returns-clause-sessions
 returns-clause-sessions c =
     let inside = c.self.inside in
     ap {B = Sessions} (λ index. View c.put_in-place.new.slots.facts index inside.constructions.facts) c.insert.ensures.facts
-    ∙ client_put_view c.self.invariant c.put_in-place.new.slots.facts c.put_in-place.result c.args.number c.args.session c.put_in-place.ensures.new c.put_in-place.ensures.standing
+    ∙ client_put_view c.self.invariant c.put_in-place.new.slots.facts c.put_in-place.result
+    c.args.number c.args.session c.put_in-place.ensures.new c.put_in-place.ensures.standing
     ∙ ap {B = Sessions} (λ h. record { constructions = h.sessions.constructions; clients = map.insert h.sessions.clients c.args.number c.args.session }) c.self.view_is

@@ -50,6 +50,7 @@ returns c =
     let inside = c.self.inside in
     ap {B = Sessions} (λ index. View c.put_in-place.new.slots.facts inside.clients.facts index)
     (c.insert.ensures.facts ∙ ap (λ k. map.insert inside.constructions.facts k c.put_in-place.result) c.get.ensures.number)
-    ∙ construction_put_view c.self.invariant c.put_in-place.new.slots.facts c.put_in-place.result c.args.key c.args.construction c.put_in-place.ensures.new c.put_in-place.ensures.standing
+    ∙ construction_put_view c.self.invariant c.put_in-place.new.slots.facts c.put_in-place.result
+    c.args.key c.args.construction c.put_in-place.ensures.new c.put_in-place.ensures.standing
     ∙ ap {B = Sessions} (λ h. record { constructions = map.insert h.sessions.constructions c.args.key c.args.construction; clients = h.sessions.clients })
     c.self.view_is

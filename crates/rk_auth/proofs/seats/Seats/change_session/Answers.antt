@@ -10,7 +10,8 @@ invariant_of-self g c =
 pub returns-in-Some-clause-sessions : goal.returns-in-Some-clause-sessions
 returns-in-Some-clause-sessions g c =
     let f = g.C.ChangeOnce.changed c.args.change in
-    changed_view c.self.invariant c.change_at.new.slots.facts f c.args.id.now c.in-Some.place (sym c.place_of.ensures ∙ c.in-Some.is) c.change_at.ensures.standing
+    changed_view c.self.invariant c.change_at.new.slots.facts f c.args.id.now c.in-Some.place
+    (sym c.place_of.ensures ∙ c.in-Some.is) c.change_at.ensures.standing
     ∙ ap (λ h. session_changed c.args.id.now f h.sessions) c.self.view_is
 
 pub returns-in_default-clause-sessions : goal.returns-in_default-clause-sessions

@@ -1,5 +1,5 @@
 use Rattle.rk_served.proofs.Words.{on_ok_weaker}
-use Rattle.rk_served.proofs.OwnSteps.{ends_last, ends_unmade, ends_followed}
+use Rattle.rk_served.proofs.OwnSteps.{ends_last, ends_followed}
 use Rattle.rk_served.proofs.server.Server.end.Goals as goal
 
 pub returns-in_default : goal.returns-in_default
@@ -13,8 +13,3 @@ returns-in-Some c k peers ended =
     ends_followed c.args.occasion.now.conf.now c.args.occasion.now.moment k c.args.event c.args.subject peers _ ended c.step.result c.step.new.self c.step.ensures.step
     c.in-Negate.key c.in-Negate.is c.in-Some.subject c.in-Some.is c.args.out.now.items _ _ (rw c.negated.ensures at starts))
     c.start.ensures
-
-pub returns-in-None : goal.returns-in-None
-returns-in-None c k peers ended =
-    absurd (ends_unmade c.args.occasion.now.conf.now c.args.occasion.now.moment k c.args.event c.args.subject peers _ ended c.step.result c.step.new.self c.step.ensures.step
-    c.in-Negate.key c.in-Negate.is c.in-None.is)

@@ -1,4 +1,4 @@
-use Rattle.std.proofs.Common.{ℕ, List, [], ◌∷◌, ◌++◌, ap, ◌∙◌}
+use Rattle.rk_volumes.proofs.Words.{◌++◌, ap, ℕ, List, ◌∙◌, [], ◌∷◌}
 use Rattle.rk_volumes.proofs.Files.{head_put}
 use Rattle.rk_volumes.proofs.Written.{where_done}
 use Rattle.rk_volumes.proofs.head.Head.put.Goals as goal

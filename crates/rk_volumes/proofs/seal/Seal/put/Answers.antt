@@ -1,4 +1,4 @@
-use Rattle.std.proofs.Common.{ℕ, [], ◌∷◌, ◌++◌, ap, ◌∙◌}
+use Rattle.rk_volumes.proofs.Words.{◌++◌, ap, ℕ, ◌∙◌, [], ◌∷◌}
 use Rattle.rk_volumes.proofs.Sealing.{seal_put}
 use Rattle.rk_volumes.proofs.Written.{where_done}
 use Rattle.rk_volumes.proofs.seal.Seal.put.Goals as goal

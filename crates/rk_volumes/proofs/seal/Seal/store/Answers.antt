@@ -1,11 +1,5 @@
-use Rattle.std.proofs.Common.{List, [], ℕ, ◌≡◌, ◌++◌, ap, sym, subst, ◌∙◌, length, take}
-use Rattle.std.specs.List.{flat_map}
-use Rattle.std.specs.Io.KnownBytes.{Appends}
-use Rattle.std.proofs.lemmas.List.{take_all}
-use Rattle.sha2.specs.Hashers.{Holds256}
-use Rattle.rk_volumes.specs.Rules.{IsStep}
-use Rattle.rk_volumes.specs.Format.{title, head_bytes, step_bytes}
-use Rattle.rk_volumes.specs.Seals.{sealed_title, seal_bytes}
+use Rattle.rk_volumes.proofs.Words.{Holds256, ◌++◌, ap, ◌≡◌, ℕ, List, length, ◌∙◌, sym, [], take, subst, take_all, Appends, flat_map, title, head_bytes}
+use Rattle.rk_volumes.proofs.Words.{step_bytes, IsStep, seal_bytes, sealed_title}
 use Rattle.rk_volumes.proofs.Files.{take_step, all_snoc, appended, step_more}
 use Rattle.rk_volumes.proofs.Filed.{lead, no_steps, none_each, filed_written}
 use Rattle.rk_volumes.proofs.seal.Seal.store.Goals as goal
@@ -14,8 +8,7 @@ pub loop-step-init : goal.loop-step-init
 loop-step-init g c =
     let steps = c.args.steps.now in
     let before = lead c.args.self.now c.args.head.now (length steps) in
-    let text = c.in_ok-put-2.ensures.bytes
-    ∙ ap (λ (x : List ℕ). x ++ (title ++ head_bytes c.args.head.now (length steps))) (c.in_ok-put.ensures.bytes
+    let text = c.in_ok-put-2.ensures.bytes ∙ ap (λ (x : List ℕ). x ++ (title ++ head_bytes c.args.head.now (length steps))) (c.in_ok-put.ensures.bytes
     ∙ ap (λ (x : List ℕ). x ++ (sealed_title ++ seal_bytes c.args.self.now)) c.new-text.ensures.items) in
     let none = sym (no_steps before steps) in
     record {

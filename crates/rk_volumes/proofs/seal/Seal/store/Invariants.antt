@@ -1,10 +1,4 @@
-use Rattle.std.proofs.Common.{◌++◌, length, take}
-use Rattle.std.specs.List.{flat_map, AllByRecursion}
-use Rattle.std.specs.Io.KnownBytes.{Appends}
-use Rattle.sha2.specs.Hashers.{Holds256}
-use Rattle.rk_volumes.specs.Rules.{IsStep}
-use Rattle.rk_volumes.specs.Seals.{IsSeal}
-use Rattle.rk_volumes.specs.Format.{step_bytes, IsHead}
+use Rattle.rk_volumes.proofs.Words.{Holds256, ◌++◌, length, take, Appends, flat_map, AllByRecursion, IsHead, step_bytes, IsStep, IsSeal}
 use Rattle.rk_volumes.proofs.Filed.{lead}
 use Rattle.rk_volumes.proofs.seal.Seal.store.Given as goal
 

@@ -1,8 +1,4 @@
-use Rattle.std.proofs.Common.{◌≡◌, List, Option, None, refl, inl}
-use Rattle.std.proofs.lemmas.Result.{err_from_is_err_and}
-use Rattle.rk_record.specs.declared.recorded.Recorded.{Recorded}
-use Rattle.rk_volumes.specs.declared.head.Head.{Head}
-use Rattle.rk_volumes.specs.declared.seal.Sealed.{Sealed}
+use Rattle.rk_volumes.proofs.Words.{◌≡◌, List, refl, Option, None, inl, err_from_is_err_and, Recorded, Head, Sealed}
 use Rattle.rk_volumes.specs.declared.fault.Fault.TheVariants as fault
 use Rattle.rk_volumes.proofs.Filed.{where_bare}
 use Rattle.rk_volumes.proofs.stored.Stored.read.Goals as goal
@@ -19,6 +15,5 @@ returns-in_err-head-clause-fault c =
 
 pub returns-clause-only : goal.returns-clause-only
 returns-clause-only c =
-    where_bare c.args.file.now
-    (λ (h : Head) (ss : List Recorded) (s : Option Sealed). (c.in_ok-head.head ≡ h) × (c.in_ok-head.steps.items ≡ ss) × (None ≡ s))
+    where_bare c.args.file.now (λ (h : Head) (ss : List Recorded) (s : Option Sealed). (c.in_ok-head.head ≡ h) × (c.in_ok-head.steps.items ≡ ss) × (None ≡ s))
     c.in_default.ensures.only (λ h ss is. let one = c.in_ok-head.ensures.only h ss is in (one.0, one.1, refl))
