@@ -11,7 +11,9 @@ import subprocess
 import sys
 import tempfile
 
-BUILT = pathlib.Path(__file__).resolve().parent.parent / "build"
+from serving import Server, top
+
+BUILT = top / "build"
 ROUNDS, BATCHES = (int(word) for word in (sys.argv[1:] + ["15", "200"][len(sys.argv) - 1 :])[:2])
 
 
@@ -25,9 +27,7 @@ def main():
     with tempfile.TemporaryDirectory() as room:
         socket = f"{room}/socket"
         (pathlib.Path(room) / "conf").touch()
-        words = [BUILT / "reqkeyd", "serve", "--socket", socket, "--conf", f"{room}/conf"]
-        daemon = subprocess.Popen(list(map(str, words)), stderr=subprocess.PIPE, text=True)
-        daemon.stderr.readline()
+        daemon = Server([BUILT / "reqkeyd", "serve", "--socket", socket, "--conf", f"{room}/conf"], socket)
         keys, library = BUILT / "c" / "keys", BUILT / "libkeyutils.so.1"
         ways = {
             "the kernel": lambda: measured(keys, BATCHES),
@@ -40,8 +40,7 @@ def main():
                 for name, way in ways.items():
                     rounds[name].append(way())
         finally:
-            daemon.kill()
-            daemon.wait()
+            daemon.end()
     print("| answered by | a read | least | getppid(2) | least |\n|---|---|---|---|---|")
     for name, results in rounds.items():
         cells = []

@@ -47,19 +47,25 @@ def run(command, lines, errors=None):
     return taken_apart(ran.stdout, lines, ran.returncode), ran.returncode
 
 
-def taken_apart(output, lines, status):
-    """What came of each line, and last at the end, of the output of a marked script."""
+def by_line(answers):
+    """What came of each line, and last at the end, of the lines that a marked script outputs: the faults of marks have even numbers."""
     came = [[]]
-    for answer in lines_of(output):
+    for answer in answers:
         if not ANSWER.fullmatch(answer):
             raise Failed(f"{answer[:80]!r} is no output of a script")
         verb, number, *rest = answer.split(" ")
-        if verb == "fault" and int(number) == 2 * len(came):
+        if verb == "fault" and int(number) % 2 == 0:
             came.append([])
         elif verb == "fault":
             came[-1].append(f"fault {(int(number) + 1) // 2} {rest[0]}")
         else:
             came[-1].append(answer)
+    return came
+
+
+def taken_apart(output, lines, status):
+    """The same of an output, which has to be that of the whole script."""
+    came = by_line(lines_of(output))
     refused = any(answer.startswith("conf ") for answer in came[-1])
     if len(came) <= len(lines) and not refused:
         raise Failed(f"it did not come to the end of the script, and its status was {status}")

@@ -2,6 +2,7 @@
 import hashlib
 import os
 import pathlib
+import shutil
 
 top = pathlib.Path(__file__).resolve().parent.parent
 
@@ -55,6 +56,15 @@ def without_comments(path):
     mark = COMMENTS.get(path.suffix)
     lines = path.read_bytes().splitlines(keepends=True)
     return b"".join(it for it in lines if mark is None or not it.lstrip().startswith(mark))
+
+
+def lay_out(room, names, *left_out):
+    """Makes a repository in this folder that has these crates alone, without what has these names in them."""
+    for name in names:
+        shutil.copytree(top / "crates" / name, room / "crates" / name, ignore=shutil.ignore_patterns(*left_out))
+    (room / "crates.txt").write_text("".join(line for name, line in listed().items() if name in names))
+    shutil.copy(top / "HANDLES", room)
+    (room / ".git").mkdir()
 
 
 def jobs():

@@ -72,16 +72,21 @@ def proves(name, folder):
 
 def main():
     used, states, edited, built = crates.uses(), {}, [], False
+
+    def state_of(name):
+        """What a crate and those below it are, in one number."""
+        return hashlib.sha256("".join([crates.digest(crates.top / "crates" / name), *[states[it] for it in used[name]]]).encode()).hexdigest()
+
     for name in used:
         folder = crates.top / "crates" / name
         own = crates.digest(folder, [*crates.PARTS, "edits", "must-fail"])
-        states[name] = hashlib.sha256("".join([crates.digest(folder), *[states[it] for it in used[name]]]).encode()).hexdigest()
+        states[name] = state_of(name)
         if not is_kept(name, states[name]):
             begun = time.monotonic()
             if not proves(name, folder):
                 return f"{name}: failed"
             print(f"{name}: proved, {time.monotonic() - begun:.0f} s", flush=True)
-            states[name] = hashlib.sha256("".join([crates.digest(folder), *[states[it] for it in used[name]]]).encode()).hexdigest()
+            states[name] = state_of(name)
             keep(name, states[name])
             built |= (folder / "src" / "main.rt").exists()
         if (folder / "edits").is_dir() and not is_kept(f"{name}.edits", own):

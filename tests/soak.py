@@ -16,7 +16,6 @@ import pathlib
 import random
 import re
 import signal
-import subprocess
 import sys
 import tempfile
 import threading
@@ -26,7 +25,7 @@ import zlib
 sys.path.insert(0, str(pathlib.Path(__file__).resolve().parent))
 import protocol_peer as ask
 from daemon import LIMIT, Client, Daemon, GaveUp, told
-from programs import PROGRAMS
+from programs import PROGRAMS, ran
 
 SESSIONS = 64
 EACH_MINUTE = 5_000  # connections for each minute, after which the daemon ends; a soak that makes more is over before its time
@@ -230,10 +229,10 @@ def otherwise(heard, volumes):
 
 def judged(program, volumes):
     """What is wrong with the volumes that were written, and how many steps they have."""
-    run = subprocess.run([program, "rejoin", *volumes], capture_output=True, text=True)
-    last = re.fullmatch(r"ok, 4 halls, ([0-9]+) steps: a run of the machine, to its end", (run.stdout.splitlines() or [""])[-1])
-    if run.returncode or run.stderr or not last:
-        return [f"rejoin of {len(volumes)} volumes: {run.stdout[-200:]} {run.stderr}"], 0
+    status, output, errors = ran(program, "rejoin", *volumes, text=True)
+    last = re.fullmatch(r"ok, 4 halls, ([0-9]+) steps: a run of the machine, to its end", (output.splitlines() or [""])[-1])
+    if status or errors or not last:
+        return [f"rejoin of {len(volumes)} volumes: {output[-200:]} {errors}"], 0
     return [], int(last[1])
 
 

@@ -14,7 +14,6 @@ whose edits are all refused, while a control without them has no open goal.
 import concurrent.futures
 import os
 import pathlib
-import shutil
 import sys
 import tempfile
 
@@ -29,11 +28,7 @@ top = crates.top
 def brought_up_to_date(needed, room):
     """The crates in a copy, proved there over what was kept of them, and the processor seconds of that."""
     copied = room / "built"
-    (copied / ".git").mkdir(parents=True)
-    shutil.copy(top / "HANDLES", copied)
-    (copied / "crates.txt").write_text("".join(line for name, line in crates.listed().items() if name in needed))
-    for name in needed:
-        shutil.copytree(top / "crates" / name, copied / "crates" / name, ignore=shutil.ignore_patterns("must-fail", "edits", "*_tests", "*.o", "*.by-rattle"))
+    crates.lay_out(copied, needed, "must-fail", "edits", "*_tests", "*.o", "*.by-rattle")
     said, seconds = ran(["rt", "all", "check", "--jobs", str(crates.jobs())], copied)
     if f"{len(needed)} of {len(needed)} crates ok" not in said:
         sys.exit(f"{said[-2000:]}\nthe crates themselves are not proved\n0 passed, 1 failed")

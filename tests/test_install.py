@@ -20,47 +20,20 @@ from trap import notifies
 count = Counted()
 PATH = {"PATH": f"{pathlib.Path(sys.executable).parent}:/usr/local/bin:/usr/bin:/bin:/usr/sbin:/sbin", "LC_ALL": "C.UTF-8"}
 
-# What is installed, below a PREFIX; the module of Python and the functions of zsh have their place by options.
-PYTHON, ZSH = "lib/python3/dist-packages", "share/zsh/site-functions"
-FILES = {
-    "bin/reqkey-trap": 0o755,
-    "bin/reqkeyctl": 0o755,
-    "bin/reqkeyd": 0o755,
-    "include/reqkey.h": 0o644,
-    f"{PYTHON}/reqkey.py": 0o644,
-    "lib/reqkeyd/libkeyutils.so.1": 0o644,
-    "lib/systemd/system/reqkeyd-sweep@.service": 0o644,
-    "lib/systemd/system/reqkeyd-sweep@.timer": 0o644,
-    "lib/systemd/system/reqkeyd.service": 0o644,
-    "lib/systemd/user/reqkeyd-sweep.service": 0o644,
-    "lib/systemd/user/reqkeyd-sweep.timer": 0o644,
-    "lib/systemd/user/reqkeyd.service": 0o644,
-    "share/bash-completion/completions/reqkey-trap": 0o644,
-    "share/bash-completion/completions/reqkeyctl": 0o644,
-    "share/bash-completion/completions/reqkeyd": 0o644,
-    "share/doc/reqkeyd/LICENSE-APACHE": 0o644,
-    "share/doc/reqkeyd/LICENSE-MIT": 0o644,
-    "share/doc/reqkeyd/copyright": 0o644,
-    "share/doc/reqkeyd/examples/example_client.c": 0o644,
-    "share/doc/reqkeyd/examples/example_client.py": 0o644,
-    "share/doc/reqkeyd/examples/example_handler.c": 0o644,
-    "share/doc/reqkeyd/examples/example_handler.py": 0o644,
-    "share/doc/reqkeyd/examples/reqkeyd.conf": 0o644,
-    "share/fish/vendor_completions.d/reqkey-trap.fish": 0o644,
-    "share/fish/vendor_completions.d/reqkeyctl.fish": 0o644,
-    "share/fish/vendor_completions.d/reqkeyd.fish": 0o644,
-    "share/man/man1/reqkey-trap.1": 0o644,
-    "share/man/man1/reqkeyctl.1": 0o644,
-    "share/man/man5/reqkeyd.conf.5": 0o644,
-    "share/man/man8/reqkeyd.8": 0o644,
-    "share/reqkeyd/reqkey.c": 0o644,
-    f"{ZSH}/_reqkey-trap": 0o644,
-    f"{ZSH}/_reqkeyctl": 0o644,
-    f"{ZSH}/_reqkeyd": 0o644,
-    **{f"share/doc/reqkeyd/{path.relative_to(top)}": 0o644 for path in [*top.glob("docs/*.md"), *top.glob("docs/pictures/*")]},
-    **{f"share/doc/reqkeyd/{name}": 0o644 for name in ["CHANGELOG.md", "README.md", "SECURITY.md"]},
-}
-
+# What is installed below a PREFIX: programs to be run, and all else to be read. The module of Python and the functions of zsh have their place by options.
+PYTHON, ZSH, DOC = "lib/python3/dist-packages", "share/zsh/site-functions", "share/doc/reqkeyd"
+OF_A_PROGRAM = ["bin/{}", "share/bash-completion/completions/{}", "share/fish/vendor_completions.d/{}.fish", f"{ZSH}/_{{}}"]
+NAMES = [
+    *(place.format(name) for name in ["reqkeyd", "reqkeyctl", "reqkey-trap"] for place in OF_A_PROGRAM),
+    *(f"lib/systemd/system/{name}" for name in ["reqkeyd.service", "reqkeyd-sweep@.service", "reqkeyd-sweep@.timer"]),
+    *(f"lib/systemd/user/{name}" for name in ["reqkeyd.service", "reqkeyd-sweep.service", "reqkeyd-sweep.timer"]),
+    *(f"share/man/{page}" for page in ["man1/reqkey-trap.1", "man1/reqkeyctl.1", "man5/reqkeyd.conf.5", "man8/reqkeyd.8"]),
+    *(f"{DOC}/{name}" for name in ["LICENSE-APACHE", "LICENSE-MIT", "copyright", "CHANGELOG.md", "README.md", "SECURITY.md"]),
+    *(f"{DOC}/{path.relative_to(top)}" for path in [*top.glob("docs/*.md"), *top.glob("docs/pictures/*")]),
+    *(f"{DOC}/examples/{name}" for name in ["example_client.c", "example_client.py", "example_handler.c", "example_handler.py", "reqkeyd.conf"]),
+    "include/reqkey.h", f"{PYTHON}/reqkey.py", "lib/reqkeyd/libkeyutils.so.1", "share/reqkeyd/reqkey.c",
+]
+FILES = {name: 0o755 if name.startswith("bin/") else 0o644 for name in NAMES}
 
 # A program that makes the system call itself.
 ADDS = "import ctypes, os; print(ctypes.CDLL(None).syscall({'x86_64': 248, 'aarch64': 217}[os.uname().machine], b'user', b'n', b'v', 1, -3) > 0)"

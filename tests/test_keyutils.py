@@ -18,6 +18,7 @@ from daemon import Daemon, text_of, until
 from keyctl_commands import ALONE, CASES, DENIED, EXPIRED, LEFT_OUT, MISSING, NONE, OF_ANY_LENGTH, REJECTED, REVOKED, SERIAL, USAGE, Keyctl
 from keyutils_library import ENVIRONMENT, UID, Programs, everywhere, resolves
 from programs import ran, top
+from trap import environment
 
 count = Counted()
 CALLS = top / "tests" / "clients" / "calls.py"
@@ -192,9 +193,7 @@ class Runner:
     def run(self, *words, options=None, piped="", folder=None, **changes):
         """The status, output and errors of a program."""
         options = ["--socket", self.path, "--library", self.library] if options is None else options
-        unset = ["LD_PRELOAD", "REQKEYD_SOCKET", "REQKEYD_JOIN", "REQKEYD_STREAMS"]
-        environment = {**{name: value for name, value in os.environ.items() if name not in unset}, **changes}
-        return ran(self.program, "run", *options, "--", *words, input=piped, text=True, env=environment, cwd=folder)
+        return ran(self.program, "run", *options, "--", *words, input=piped, text=True, env=environment(**changes), cwd=folder)
 
     def shell(self, script, **more):
         return self.run("/bin/sh", "-c", script, **more)

@@ -7,14 +7,14 @@ the same. Or the run ends with its fault, and writes nothing.
 """
 import collections
 import itertools
-import re
 import sys
 
 from compiled import library
 from programs import check_all, lacks, ran, top
 from scenarios import scenario
 
-sys.path.insert(0, str(top / "tools"))
+sys.path[:0] = [str(top / "examples"), str(top / "tools")]
+import demo
 from messages import read_ask
 from script import lines_of
 
@@ -69,29 +69,6 @@ def wrong_starts(lines):
     return f"keys {often} are started too often" if often else None
 
 
-# An invalid line behind each line of a script tells in the output what came of that line: the number of its fault is even, that of any other odd.
-MARK = "?"
-FAULT = re.compile(r"fault ([0-9]+) S[12]")
-
-
-def marked(script):
-    """The script with a mark behind each line."""
-    return "".join(f"{line}\n{MARK}\n" for line in script).encode("latin-1")
-
-
-def groups_of(lines):
-    """What came of each line of a script that was marked, with the numbers of its faults as they are without marks."""
-    groups = [[]]
-    for line in lines:
-        fault = FAULT.fullmatch(line)
-        number = int(fault[1]) if fault else 1
-        if number % 2 == 0:
-            groups.append([])
-        else:
-            groups[-1].append(f"fault {(number + 1) // 2} {line[-2:]}" if fault else line)
-    return groups
-
-
 class Waits:
     """Who waits for which key, and what they get, as a script and what came of each of its lines say it."""
 
@@ -104,7 +81,7 @@ class Waits:
     def happens(self, line, came):
         """A line of the script, and what came of it."""
         words, awake = line.split(), []
-        if any(FAULT.fullmatch(it) for it in came) or len(words) < 3:
+        if any(it.startswith("fault ") for it in came) or len(words) < 3:
             return
         if words[1] == "bytes" or words[1] == "out" and words[2] in self.plain:
             awake.append(session := ("h" if words[1] == "out" else "c") + words[2])
@@ -164,9 +141,9 @@ def waits_in(script, groups):
 
 
 def run(program, script, allocation):
-    """One run: its status, its output and what it says."""
+    """One run: its status, what came of each line, and what it says."""
     status, output, errors = ran(program, "replay", input=script, env={"LD_PRELOAD": library("refusing_malloc"), "REFUSED": str(allocation)})
-    return status, groups_of(lines_of(output)), errors
+    return status, demo.by_line(lines_of(output)), errors
 
 
 def fault(program, case):
@@ -178,7 +155,7 @@ def fault(program, case):
     # (an allocation that is refused may be made up for: a few runs that come out as ever are the end)
     while kinds["whole"] < 5:
         allocation += 1
-        status, groups, errors = run(program, marked(script), allocation)
+        status, groups, errors = run(program, demo.marked(script), allocation)
         lines, waits = list(itertools.chain(*groups)), waits_in(script, groups)
         if (status, lines) == (case.status, expected):
             kinds["whole"] += 1

@@ -108,9 +108,9 @@ class Center:
         return ran(*words, input=piped, text=True, env=self.environment)[0] == 0
 
     def begins(self):
-        made = self.does("kdb5_util", "create", "-s", "-r", "KEYS.TEST", "-P", "master")
-        made = made and self.does("kadmin.local", "-q", "addprinc -pw secret user") and self.does("kadmin.local", "-q", "addprinc -randkey cifs/server")
-        if not made:
+        steps = [["kdb5_util", "create", "-s", "-r", "KEYS.TEST", "-P", "master"],
+                 ["kadmin.local", "-q", "addprinc -pw secret user"], ["kadmin.local", "-q", "addprinc -randkey cifs/server"]]
+        if not all(self.does(*words) for words in steps):
             return False
         quiet = {"stdin": subprocess.DEVNULL, "stdout": subprocess.DEVNULL, "stderr": subprocess.DEVNULL}
         self.process = subprocess.Popen(["krb5kdc", "-n"], env=self.environment, **quiet)

@@ -15,21 +15,20 @@ import tempfile
 
 here = pathlib.Path(__file__).resolve().parent
 top = here.parent.parent
+sys.path.insert(0, str(top / "tests"))
+import crates
 
 
 def copy(room, names):
     """The crates with what was kept of their proofs, and the programs' own files."""
-    shutil.copytree(top / "crates", room / "crates", ignore=shutil.ignore_patterns("must-fail", "edits", "*_tests"))
-    lines = [line for line in (top / "crates.txt").read_text().splitlines() if "_tests" not in line]
+    crates.lay_out(room, [name for name in crates.listed() if not name.endswith("_tests")], "must-fail", "edits", "*_tests")
     for name in names:
         for path in (here / name).rglob("*.in"):
             to = room / "crates" / name / path.relative_to(here / name).with_suffix("")
             to.parent.mkdir(parents=True, exist_ok=True)
             shutil.copy(path, to)
-        lines.append(f"{name}: {' '.join((here / name / 'uses').read_text().split())}")
-    (room / "crates.txt").write_text("\n".join(lines) + "\n")
-    shutil.copy(top / "HANDLES", room)
-    (room / ".git").mkdir()
+        with (room / "crates.txt").open("a") as listed:
+            listed.write(f"{name}: {' '.join((here / name / 'uses').read_text().split())}\n")
 
 
 def is_built(room, name):
