@@ -11,7 +11,6 @@ use Rattle.rk_macro.specs.declared.subject.Op.{Op}
 use Rattle.rk_macro.specs.declared.subject.Op.TheVariants as op
 use Rattle.rk_machine.specs.declared.event.Ran.{Ran}
 use Rattle.rk_machine.specs.declared.event.Ran.TheVariants.{Plain, Piped, Failed}
-use Rattle.rk_machine.specs.declared.event.How.{How}
 use Rattle.rk_volumes.specs.Kinds.{session_kind, session_number, ran_kind, op_kind}
 use Rattle.rk_volumes.specs.Rules.{IsSerial, IsSession}
 

@@ -1,11 +1,11 @@
 -- A step at the front of bytes.
-use Rattle.std.proofs.Common.{◌≡◌, ◌≢◌, ℕ, ◌+◌, ◌<◌, ◌^◌, List, ◌++◌, length, refl, sym, ap, ◌∙◌, append_assoc, arith}
+use Rattle.std.proofs.Common.{◌≡◌, ◌≢◌, ℕ, ◌<◌, ◌^◌, List, ◌++◌, length, refl, sym, ap, ◌∙◌, append_assoc}
 use Rattle.std.specs.Int.{w64, to_be_bytes}
 use Rattle.rk_frame.specs.Framing.{frame}
 use Rattle.rk_machine.specs.Event.{Event}
 use Rattle.rk_machine.specs.declared.event.Answer.{Answer}
 use Rattle.rk_record.specs.declared.recorded.Recorded.{Recorded}
-use Rattle.rk_volumes.specs.Rows.{Row, row_bytes, event_row, answer_row}
+use Rattle.rk_volumes.specs.Rows.{row_bytes, event_row, answer_row}
 use Rattle.rk_volumes.specs.Rules.{IsStep}
 use Rattle.rk_volumes.specs.Format.{step_bytes, HasNoStep}
 use Rattle.rk_volumes.specs.Reading.{HasNoEvent, HasNoAnswer}

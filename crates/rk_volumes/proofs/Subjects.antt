@@ -1,18 +1,21 @@
 -- What is started, as bytes: its numbers, and the request that asks for its names.
-use Rattle.std.proofs.Common.{◌≡◌, ◌≢◌, ℕ, ◌+◌, ◌<◌, ◌≤◌, List, ◌++◌, length, Some, None, refl, sym, ap, ◌∙◌, append_assoc}
+use Rattle.std.proofs.Common.{◌≡◌, ◌≢◌, ℕ, ◌<◌, ◌≤◌, List, ◌++◌, length, Some, None, Result, Ok, Err, refl, sym, ap, ◌∙◌, append_assoc}
+use Rattle.std.specs.Result.{IsErrAnd}
 use Rattle.std.proofs.Common.{length-append, arith}
 use Rattle.std.specs.Prelude.{pos}
 use Rattle.std.specs.Int.{w32, to_be_bytes}
 use Rattle.rk_names.specs.Numbers.{serial_of}
 use Rattle.rk_message.specs.Ask.{Ask}
 use Rattle.rk_message.specs.declared.ask.AskOf.TheVariants as ask
-use Rattle.rk_message.specs.declared.fault.Fault.{Fault}
 use Rattle.rk_message.specs.declared.fault.ReadError.{ReadError}
 use Rattle.rk_message.specs.declared.fault.ReadError.TheVariants as error
 use Rattle.rk_message.specs.Wire.{spelling}
 use Rattle.rk_message.specs.Asks.{IsAsk, ask_message}
 use Rattle.rk_message.proofs.Asks.{asks_are_told}
 use Rattle.rk_macro.specs.declared.subject.Subject.{Subject}
+use Rattle.rk_volumes.specs.declared.fault.Unread.{Unread}
+use Rattle.rk_volumes.specs.declared.fault.Unread.TheVariants as unread
+use Rattle.rk_volumes.specs.Reading.{unread_by}
 use Rattle.rk_volumes.specs.Rows.{request_of, subject_bytes}
 use Rattle.rk_volumes.specs.Rules.{IsWord, IsSubject}
 use Rattle.rk_volumes.proofs.Fronts.{same_word}
@@ -63,9 +66,11 @@ pub record AreWords (k u g t p s : ℕ) : Type 0 where
 pub words_of : (k u g t p s : ℕ) → IsWord k × IsWord u × IsWord g × IsWord t × IsWord p × IsWord s → AreWords k u g t p s
 words_of k u g t p s is = record { key = is.0; uid = is.1; gid = is.2; thread = is.3; process = is.4; session = is.5 }
 
--- a fault is not out of memory
-pub no_fault : (e : ReadError) (f : Fault) → e ≡ error.Fault f → e ≢ error.NoMemory
-no_fault e f is none = absurd cc
+-- a part is not bad where memory ran out
+pub not_bad : {A : Type 0} (e : ReadError) (r : Result A Unread) → IsErrAnd r (λ u. u ≡ unread_by e) → r ≡ Err unread.Bad → e ≢ error.NoMemory
+not_bad (error.Fault f) r is bad none = absurd cc
+not_bad error.NoMemory (Ok part) is bad none = absurd cc
+not_bad error.NoMemory (Err u) is bad none = absurd cc
 
 -- of a subject that starts with these numbers, its key and its names
 pub parts_of : (bytes rest : List ℕ) (key uid gid thread process session : ℕ) → AreWords key uid gid thread process session
