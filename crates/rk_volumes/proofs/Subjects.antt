@@ -1,11 +1,14 @@
 -- What is started, as bytes: its numbers, and the request that asks for its names.
 use Rattle.rk_volumes.proofs.Words.{◌++◌, ap, ◌≡◌, ℕ, List, length, ◌∙◌, arith, sym, refl, ◌≢◌, ◌+◌, append_assoc, ◌<◌, Some, None, ◌≤◌, length-append}
 use Rattle.rk_volumes.proofs.Words.{to_be_bytes, w32, pos, serial_of, asks_are_told, Ask, IsAsk, ask_message, spelling, Subject, request_of, subject_bytes}
-use Rattle.rk_volumes.proofs.Words.{IsWord, IsSubject}
+use Rattle.rk_volumes.proofs.Words.{IsWord, IsSubject, Result, Ok, Err}
+use Rattle.std.specs.Result.{IsErrAnd}
 use Rattle.rk_message.specs.declared.ask.AskOf.TheVariants as ask
-use Rattle.rk_message.specs.declared.fault.Fault.{Fault}
 use Rattle.rk_message.specs.declared.fault.ReadError.{ReadError}
 use Rattle.rk_message.specs.declared.fault.ReadError.TheVariants as error
+use Rattle.rk_volumes.specs.declared.fault.Unread.{Unread}
+use Rattle.rk_volumes.specs.declared.fault.Unread.TheVariants as unread
+use Rattle.rk_volumes.specs.Reading.{unread_by}
 use Rattle.rk_volumes.proofs.Fronts.{same_word}
 use Rattle.rk_volumes.proofs.NumbersOfKinds.{no_serial}
 use Rattle.rk_volumes.proofs.Rows.{serial_fits, from_uid, from_gid, from_thread, from_process, from_session, names_bytes}
@@ -54,9 +57,11 @@ pub record AreWords (k u g t p s : ℕ) : Type 0 where
 pub words_of : (k u g t p s : ℕ) → IsWord k × IsWord u × IsWord g × IsWord t × IsWord p × IsWord s → AreWords k u g t p s
 words_of k u g t p s is = record { key = is.0; uid = is.1; gid = is.2; thread = is.3; process = is.4; session = is.5 }
 
--- a fault is not out of memory
-pub no_fault : (e : ReadError) (f : Fault) → e ≡ error.Fault f → e ≢ error.NoMemory
-no_fault e f is none = absurd cc
+-- a part is not bad where memory ran out
+pub not_bad : {A : Type 0} (e : ReadError) (r : Result A Unread) → IsErrAnd r (λ u. u ≡ unread_by e) → r ≡ Err unread.Bad → e ≢ error.NoMemory
+not_bad (error.Fault f) r is bad none = absurd cc
+not_bad error.NoMemory (Ok part) is bad none = absurd cc
+not_bad error.NoMemory (Err u) is bad none = absurd cc
 
 module _ (bytes rest : List ℕ) (key uid gid thread process session : ℕ) (fits : AreWords key uid gid thread process session)
     (is : bytes ≡ numbers key uid gid thread process session rest) where

@@ -1,8 +1,12 @@
 -- What readers of parts find: the value that the bytes or the row are of, or that there is none.
 use Rattle.std.specs.Prelude.{◌≡◌, ℕ, List}
 use Rattle.rk_names.specs.declared.numbers.SessionId.{SessionId}
+use Rattle.rk_message.specs.declared.fault.ReadError.{ReadError}
+use Rattle.rk_message.specs.declared.fault.ReadError.TheVariants.{Fault, NoMemory}
 use Rattle.rk_machine.specs.Event.{Event}
 use Rattle.rk_machine.specs.declared.event.Answer.{Answer}
+use Rattle.rk_volumes.specs.declared.fault.Unread.{Unread}
+use Rattle.rk_volumes.specs.declared.fault.Unread.TheVariants as unread
 use Rattle.rk_volumes.specs.declared.row.Row.{Row as RowRead}
 use Rattle.rk_volumes.specs.Kinds.{session_kind, session_number}
 use Rattle.rk_volumes.specs.Rows.{Row, event_row, answer_row, row_bytes}
@@ -35,3 +39,8 @@ HasNoEvent body = (e : Event) → IsEvent e → body ≡ row_bytes (event_row e)
 -- the bytes are no answer
 abbrev pub HasNoAnswer : List ℕ → Type 0
 HasNoAnswer body = (a : Answer) → IsAnswer a → body ≡ row_bytes (answer_row a) → ⊥
+
+-- what a part is whose message was not read: bad if that spells nothing, and else out of memory
+abbrev pub unread_by : ReadError → Unread
+unread_by (Fault f) = unread.Bad
+unread_by NoMemory = unread.NoMemory

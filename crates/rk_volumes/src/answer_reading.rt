@@ -10,7 +10,7 @@ use crate::kinds::op;
 use crate::row::Row;
 use crate::subject::read_subject;
 use rk_machine::{Answer, BoxedSubject};
-use rk_message::{ReadError, Reply};
+use rk_message::Reply;
 use rk_names::{Errno, Serial};
 use std::alloc::Global;
 
@@ -55,11 +55,8 @@ fn done(alloc: Global, row: &Row<'_>) -> Result<Answer, Unread>
     if row.how != 0 || row.number != 0 {
         return Err(Unread::Bad);
     }
-    match Reply::read(alloc, row.rest) {
-        Ok(reply) => Ok(Answer::Done(reply)),
-        Err(ReadError::NoMemory) => Err(Unread::NoMemory),
-        Err(ReadError::Fault(_)) => Err(Unread::Bad),
-    }
+    let reply = Reply::read(alloc, row.rest)?;
+    Ok(Answer::Done(reply))
 }
 
 /// What is started for a key.

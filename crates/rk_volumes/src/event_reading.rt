@@ -15,7 +15,7 @@ use crate::fault::Unread;
 use crate::kinds::{how, ran, session};
 use crate::row::Row;
 use rk_machine::{Event, How};
-use rk_message::{Ask, ReadError, SharedAsk};
+use rk_message::{Ask, SharedAsk};
 use rk_names::{Payload, Serial, SessionId};
 use std::alloc::Global;
 
@@ -75,14 +75,9 @@ fn asked(alloc: Global, row: &Row<'_>) -> Result<Event, Unread>
     let Some(id) = session(row.how, row.number) else {
         return Err(Unread::Bad);
     };
-    match Ask::read(alloc, row.rest) {
-        Ok(ask) => match SharedAsk::new(alloc, ask) {
-            Ok(ask) => Ok(Event::Asked(id, ask)),
-            Err(_) => Err(Unread::NoMemory),
-        },
-        Err(ReadError::NoMemory) => Err(Unread::NoMemory),
-        Err(ReadError::Fault(_)) => Err(Unread::Bad),
-    }
+    let ask = Ask::read(alloc, row.rest)?;
+    let ask = SharedAsk::new(alloc, ask)?;
+    Ok(Event::Asked(id, ask))
 }
 
 /// What became of a start.

@@ -2,6 +2,7 @@
 ghost use Rattle.std.specs.Prelude.{◌≡◌};
 ghost use Rattle.rk_volumes.specs.declared.fault.Unread.TheVariants.{NoMemory as no_memory};
 
+use rk_message::ReadError;
 use std::alloc::AllocError;
 use thiserror::Error;
 
@@ -42,5 +43,20 @@ impl From<AllocError> for Unread {
 
     fn from(_error: AllocError) -> Unread {
         Unread::NoMemory
+    }
+}
+
+/// A message that spells nothing is a bad part; a lack of memory stays one.
+impl From<ReadError> for Unread {
+    ghost use Rattle.std.specs.Prelude.{◌≡◌};
+    ghost use Rattle.rk_volumes.specs.Reading.{unread_by};
+
+    ghost from_gives = { λ error unread. unread ≡ unread_by error };
+
+    fn from(error: ReadError) -> Unread {
+        match error {
+            ReadError::NoMemory => Unread::NoMemory,
+            ReadError::Fault(_) => Unread::Bad,
+        }
     }
 }

@@ -9,7 +9,7 @@ ghost use Rattle.rk_volumes.specs.Rules.{IsWord, IsSubject};
 use crate::fault::Unread;
 use crate::numbers::word;
 use rk_macro::{Op, Subject};
-use rk_message::{Ask, ReadError};
+use rk_message::Ask;
 use rk_names::{Callout, Description, Serial, TypeName};
 use std::alloc::{AllocError, Global};
 
@@ -88,11 +88,7 @@ pub(crate) fn read_subject(alloc: Global, op: Op, bytes: &[u8]) -> Result<Subjec
     let Some(key) = Serial::new(party.key) else {
         return Err(Unread::Bad);
     };
-    let ask = match Ask::read(alloc, rest) {
-        Ok(ask) => ask,
-        Err(ReadError::NoMemory) => return Err(Unread::NoMemory),
-        Err(ReadError::Fault(_)) => return Err(Unread::Bad),
-    };
+    let ask = Ask::read(alloc, rest)?;
     let Some((typ, desc, callout)) = names_of(ask) else {
         return Err(Unread::Bad);
     };
