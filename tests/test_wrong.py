@@ -30,6 +30,9 @@ COUNTED = "counting::what_is_in_each_hall_is_counted"
 OF_HALLS = {"always_no_memory": MADE, "behind_on_seen": MADE, "stray_for_owed": MADE, "settle_tells_no_stray": ASTRAY, "counts_of_hall_zero": COUNTED}
 LEFT_OUT = ["children", "fakes", "sessions", "threads"]
 
+# After so many seconds a run is ended that hangs. No run that goes on takes nearly as long, so that it decides nothing.
+HANGS = "1800"
+
 
 def made(edit, copy):
     """Makes the edit in a copy: a line `file: PATH`, and pairs of lines `old: TEXT` and `new: TEXT`. The file's path."""
@@ -80,7 +83,7 @@ def fails_in_halls(copy, test):
     listed = (copy / "crates.txt").read_text()
     whole = next(line for line in listed.splitlines() if line.startswith("rk_live_tests:"))
     (copy / "crates.txt").write_text(listed.replace(whole, f"rk_live_tests: {' '.join(it for it in whole.split()[1:] if it in named)}"))
-    written = tried(copy, "rk_live_tests", ["--test", "--seconds", "600"], stdin=subprocess.DEVNULL, stderr=subprocess.STDOUT)
+    written = tried(copy, "rk_live_tests", ["--test", "--seconds", HANGS], stdin=subprocess.DEVNULL, stderr=subprocess.STDOUT)
     return f"test halls::{test} ... FAILED".encode() in written, written[-2000:]
 
 
@@ -119,7 +122,7 @@ def serves_one_by_one(copy):
     path, conf = copy / "socket", copy / "conf"
     conf.write_text("")
     add_program(copy, "serves", "rk_daemon log")
-    words = ["rt", "try", "--steps", "1", "--seconds", "60", "--", "--clients", "2", "--socket", path, "--conf", conf]
+    words = ["rt", "try", "--steps", "1", "--seconds", HANGS, "--", "--clients", "2", "--socket", path, "--conf", conf]
     daemon = subprocess.Popen(words, cwd=copy / "crates" / "serves", stdin=subprocess.DEVNULL, stdout=subprocess.PIPE, stderr=subprocess.STDOUT)
     first = greeted(daemon, path)
     second = reply_to(first) and greeted(daemon, path)
