@@ -1,5 +1,9 @@
 //! Threads act in one order: each waits until its turn has come.
 
+use rk_devices::{Gate, Report};
+use rk_macro::Subject;
+use rk_names::{Serial, SessionId};
+use std::sync::Wait;
 use std::sync::atomic::AtomicU64;
 use std::sync::atomic::Ordering::SeqCst;
 use std::thread::yield_now;
@@ -44,5 +48,34 @@ impl Turns {
     /// How often a turn did not come.
     pub fn late(&self) -> u64 {
         self.late.load(SeqCst)
+    }
+}
+
+/// A gate at which a turn begins whenever a handler was started, and which holds that handler until another turn.
+#[derive(Drop)]
+pub struct Held<'a> {
+    /// The turns of the scene.
+    pub turns: &'a Turns,
+    /// Until which one a handler is held.
+    pub until: u64,
+}
+
+impl<'a> Gate for Held<'a> {
+    fn started<R: Wait>(&self, rt: &R, key: Serial, subject: &Subject) {
+        let _ = rt;
+        let _ = key;
+        let _ = subject;
+        self.turns.next();
+        self.turns.wait(self.until);
+    }
+
+    fn driven<R: Wait>(&self, rt: &R, report: Report<'_>) {
+        let _ = rt;
+        let _ = report;
+    }
+
+    fn answered<R: Wait>(&self, rt: &R, session: SessionId) {
+        let _ = rt;
+        let _ = session;
     }
 }
