@@ -4,10 +4,10 @@
     test_wrong.py [NAME ..]
 
 A start may fail when memory is out, and no contract sees how much memory there is; so a body that never starts a command keeps its contract. No contract
-names what a lock holds either, so a call of the halls that only gives up keeps its own, nor how many workers there are. Each edit of tests/wrong is made in
-a copy. With one of rk_hall the tests of the halls have to fail, with one of rk_daemon a client has to wait for the end of another one, and with any other
-the example has to come out otherwise. `rt try` runs all of them before any proof, and builds no more than that needs: a program that only replays, one
-that only serves (tests/wrong/*.program), or the tests of the halls with the libraries that they name.
+names what a lock holds either, so a call of the halls that only gives up keeps its own; nor how long one is held, nor how many workers there are. Each edit
+of tests/wrong is made in a copy. With one of rk_hall or rk_child a test of rk_live_tests has to fail, with one of rk_daemon a client has to wait for the end
+of another one, and with any other the example has to come out otherwise. `rt try` runs all of them before any proof, and builds no more than that needs: a
+program that only replays, one that only serves (tests/wrong/*.program), or tests with the libraries that they name.
 """
 import pathlib
 import re
@@ -25,26 +25,37 @@ from programs import top
 
 stored = top / "tests" / "replay" / "first_path"
 
-# The test of the halls that each of their edits has to fail, and the modules of its crate that it does without.
-MADE, ASTRAY = "growths::growths_of_a_key_that_is_made", "settling::tokens_that_went_astray_are_counted"
-COUNTED = "counting::what_is_in_each_hall_is_counted"
-OF_HALLS = {"always_no_memory": MADE, "behind_on_seen": MADE, "stray_for_owed": MADE, "settle_tells_no_stray": ASTRAY, "counts_of_hall_zero": COUNTED}
+# The test of rk_live_tests that each edit of a hall or of a handler's run has to fail, and the modules of that crate that the tests of the halls do without.
+MADE, ASTRAY = "halls::growths::growths_of_a_key_that_is_made", "halls::settling::tokens_that_went_astray_are_counted"
+COUNTED, SIDE_BY_SIDE = "halls::counting::what_is_in_each_hall_is_counted", "sessions::side_by_side::two_are_served_at_one_time"
+FAILING = {
+    "always_full": MADE,
+    "always_no_memory": MADE,
+    "behind_on_seen": MADE,
+    "counts_of_hall_zero": COUNTED,
+    "lock_round_child": SIDE_BY_SIDE,
+    "settle_tells_no_stray": ASTRAY,
+    "stray_for_gone": MADE,
+    "stray_for_owed": MADE,
+}
 LEFT_OUT = ["children", "fakes", "sessions", "threads"]
+
+# After so many seconds a run is ended that hangs. No run that goes on takes nearly as long, so that it decides nothing.
+HANGS = "1800"
 
 
 def made(edit, copy):
-    """Makes the edit in a copy: a line `file: PATH`, and pairs of lines `old: TEXT` and `new: TEXT`. The file's path."""
-    name, *pairs = edit.read_text().splitlines()
-    name = name.removeprefix("file: ")
-    path = copy / name
-    text = path.read_text()
-    for old, new in zip(pairs[::2], pairs[1::2]):
-        old, new = old.removeprefix("old: "), new.removeprefix("new: ")
-        if text.count(old) != 1:
-            sys.exit(f"{edit.name}: {old!r} stands {text.count(old)} times in {path.name}")
-        text = text.replace(old, new)
-    path.write_text(text)
-    return name
+    """Makes the edit in a copy: lines `file: PATH`, each with pairs of lines `old: TEXT` and `new: TEXT` after it. The first file's path."""
+    lines = [line.split(": ", 1) for line in edit.read_text().splitlines()]
+    for (word, text), (_, new) in zip(lines, [*lines[1:], ("", "")]):
+        if word == "file":
+            path = copy / text
+        elif word == "old":
+            whole = path.read_text()
+            if whole.count(text) != 1:
+                sys.exit(f"{edit.name}: {text!r} stands {whole.count(text)} times in {path.name}")
+            path.write_text(whole.replace(text, new))
+    return lines[0][1]
 
 
 def add_program(copy, name, libraries):
@@ -68,11 +79,11 @@ def replays_otherwise(copy):
     return written.startswith(b"to 1 ") and written != (stored / "expected").read_bytes(), written
 
 
-def fails_in_halls(copy, test):
-    """Whether the tests run, and this one of the halls fails; and what was written."""
+def fails(copy, test):
+    """Whether the tests run, and this one fails; and what was written. For one of the halls, no other tests run."""
     source = copy / "crates" / "rk_live_tests" / "src"
     root = (source / "lib.rt").read_text()
-    for name in LEFT_OUT:
+    for name in LEFT_OUT if test.startswith("halls::") else []:
         root = root.replace(f"#[cfg(test)]\nmod {name};\n", "")
         (source / f"{name}.rt").unlink()
         shutil.rmtree(source / name, ignore_errors=True)
@@ -81,8 +92,8 @@ def fails_in_halls(copy, test):
     listed = (copy / "crates.txt").read_text()
     whole = next(line for line in listed.splitlines() if line.startswith("rk_live_tests:"))
     (copy / "crates.txt").write_text(listed.replace(whole, f"rk_live_tests: {' '.join(it for it in whole.split()[1:] if it in named)}"))
-    written = tried(copy, "rk_live_tests", ["--test", "--seconds", "600"], stdin=subprocess.DEVNULL, stderr=subprocess.STDOUT)
-    return f"test halls::{test} ... FAILED".encode() in written, written[-2000:]
+    written = tried(copy, "rk_live_tests", ["--test", "--seconds", HANGS], stdin=subprocess.DEVNULL, stderr=subprocess.STDOUT)
+    return f"test {test} ... FAILED".encode() in written, written[-2000:]
 
 
 def greeted(daemon, path):
@@ -120,7 +131,7 @@ def serves_one_by_one(copy):
     path, conf = copy / "socket", copy / "conf"
     conf.write_text("")
     add_program(copy, "serves", "rk_daemon log")
-    words = ["rt", "try", "--steps", "1", "--seconds", "60", "--", "--clients", "2", "--socket", path, "--conf", conf]
+    words = ["rt", "try", "--steps", "1", "--seconds", HANGS, "--", "--clients", "2", "--socket", path, "--conf", conf]
     daemon = subprocess.Popen(words, cwd=copy / "crates" / "serves", stdin=subprocess.DEVNULL, stdout=subprocess.PIPE, stderr=subprocess.STDOUT)
     first = greeted(daemon, path)
     second = reply_to(first) and greeted(daemon, path)
@@ -136,9 +147,9 @@ def serves_one_by_one(copy):
 
 def trial_of(edit, name):
     """What is tried with this edit of this file."""
-    of_halls = lambda copy: fails_in_halls(copy, OF_HALLS[edit])
-    trials = {"rk_hall": of_halls, "rk_daemon": serves_one_by_one}
-    return trials.get(name.split("/")[1], replays_otherwise)
+    if edit in FAILING:
+        return lambda copy: fails(copy, FAILING[edit])
+    return serves_one_by_one if name.startswith("crates/rk_daemon/") else replays_otherwise
 
 
 count = Counted()

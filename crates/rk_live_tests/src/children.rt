@@ -2,5 +2,5 @@
 //! `growths` where memory is refused, and `told` what passes with a handler.
 mod growths;
 mod handling;
-mod rows;
+pub mod rows;
 mod told;

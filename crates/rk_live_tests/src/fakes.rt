@@ -1,6 +1,6 @@
 //! Devices that tests have in place of real ones: `launcher` starts programs that are lists of bytes, `telling` starts such programs too and tells all that
 //! passes with them, `programs` has programs and what starts them, `giving` what devices have in common, `around` what is around a session or a handler,
-//! and `turns` lets threads act in one order.
+//! and `turns` lets threads act in one order, also by a gate that holds handlers.
 pub mod around;
 pub mod giving;
 pub mod launcher;

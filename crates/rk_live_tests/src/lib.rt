@@ -4,7 +4,7 @@
 //!
 //! That calls succeed where there is memory; what a hall and its halls answer, by tables that were worked out by hand from docs/MACHINE.md and the manuals;
 //! that records, seats and receipts agree, and what is left of devices that fail. Each test uses public calls alone. What programs do that are really
-//! started, and clients side by side, is in tests/serve.
+//! started, and many clients side by side, is in tests/serve.
 //!
 //! They stand apart from those of the machine, in `rk_tests`, so that both are proved side by side.
 //!

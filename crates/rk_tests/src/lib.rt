@@ -13,7 +13,7 @@
 //! # How it is built
 //!
 //! A module for each layer, and in it one for each library or subject. `values` has numbers, frames, messages, patterns and the configuration;
-//! `state` tables, rings, sessions and the laws of the machine. `book` has what happens to a Book, in plain lines; `replay` happenings and scripts;
+//! `state` tables, rings and sessions. `book` has what happens to a Book, in plain lines; `replay` happenings and scripts;
 //! `texts` what faults print. `same` compares a value with the one that was worked out.
 #![tactic(auto)]
 

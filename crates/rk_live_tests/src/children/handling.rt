@@ -92,7 +92,7 @@ impl Handling {
             seat,
             clock: Ticking::new(),
         };
-        let mut crew: Crew<Around<N, R>> = Crew {
+        let mut crew: Crew<Around<N, R, Open>> = Crew {
             caller,
             launcher: fake,
         };

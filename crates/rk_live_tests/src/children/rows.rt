@@ -2,14 +2,16 @@
 //! tests/serve, with programs that are really started.
 use crate::answers::Said;
 use crate::children::handling::Handling;
-use crate::fakes::launcher::{Call, Fuse};
+use crate::fakes::launcher::Call::{Read, Start, Wait, Write};
+use crate::fakes::launcher::Fuse;
 use crate::fakes::programs::{self, ASKS_OFTEN, ENDLESS, Started, WRITES_ON};
 use crate::halls::opening::in_new_halls;
-use rk_devices::Driven;
+use rk_devices::Driven::{self, ReadFailed, StartFailed, WaitFailed};
 use rk_machine::How;
 use rk_names::Errno;
 
-const MADE: Said = Said::Number(12);
+/// The client gets its key.
+pub const MADE: Said = Said::Number(12);
 
 const NO_KEY: Said = Said::Refused(Errno::Enokey);
 
@@ -35,6 +37,12 @@ pub const PLAIN: Handling = Handling {
     reads: None,
     reported: Some(1),
     volumes: 0,
+};
+
+/// One whose output comes in pieces.
+const IN_PIECES: Handling = Handling {
+    started: programs::IN_PIECES,
+    ..PLAIN
 };
 
 /// A piped one.
@@ -72,64 +80,45 @@ const NONE: &[u8] = b"\0\0\0\x02\x03\x7e";
 /// The callout, as a piped handler gets it.
 const X: &[u8] = b"x";
 
-/// Which call fails, how the launch ends, what the client is answered, how many commands are started, and what their handlers are told, those of the
-/// innermost first.
-type Row = (Fuse, Driven, Said, usize, &'static [&'static [u8]]);
+/// Which call fails, how the launch ends, what the client is answered, how many commands are started, what their handlers are told, those of the innermost
+/// first, and how many steps there are up to the client's outcome.
+pub type Row = (Fuse, Driven, Said, usize, &'static [&'static [u8]], u64);
 
-const PLAIN_ROWS: &[Row] = &[
-    (Fuse(1, Call::Start, 1), Driven::StartFailed, NO_KEY, 0, &[]),
-    (Fuse(1, Call::Read, 1), Driven::ReadFailed, NO_KEY, 1, &[]),
-    (
-        Fuse(1, Call::Read, 2),
-        Driven::ReadFailed,
-        MADE,
-        1,
-        &[ZERO, ZERO],
-    ),
-    (Fuse(1, Call::Write, 1), ENDED, NO_KEY, 1, &[]),
-    (Fuse(1, Call::Write, 2), ENDED, MADE, 1, &[ZERO]),
-    (
-        Fuse(1, Call::Wait, 1),
-        Driven::WaitFailed,
-        MADE,
-        1,
-        &[ZERO, ZERO],
-    ),
+/// Of a plain handler.
+pub const PLAIN_ROWS: &[Row] = &[
+    (Fuse(1, Start, 1), StartFailed, NO_KEY, 0, &[], 5),
+    (Fuse(1, Read, 1), ReadFailed, NO_KEY, 1, &[], 6),
+    (Fuse(1, Read, 2), ReadFailed, MADE, 1, &[ZERO, ZERO], 8),
+    (Fuse(1, Write, 1), ENDED, NO_KEY, 1, &[], 7),
+    (Fuse(1, Write, 2), ENDED, MADE, 1, &[ZERO], 8),
+    (Fuse(1, Wait, 1), WaitFailed, MADE, 1, &[ZERO, ZERO], 8),
 ];
 
-const PIPED_ROWS: &[Row] = &[
-    (Fuse(1, Call::Start, 1), Driven::StartFailed, NO_KEY, 0, &[]),
-    (Fuse(1, Call::Read, 1), Driven::ReadFailed, NO_KEY, 1, &[X]),
-    (Fuse(1, Call::Read, 2), Driven::ReadFailed, NO_KEY, 1, &[X]),
-    (Fuse(1, Call::Write, 1), ENDED, MADE, 1, &[]),
-    (Fuse(1, Call::Wait, 1), Driven::WaitFailed, NO_KEY, 1, &[X]),
+/// Of a piped one. If it fails, no line says what is to make the key negative: a start that fails.
+pub const PIPED_ROWS: &[Row] = &[
+    (Fuse(1, Start, 1), StartFailed, NO_KEY, 0, &[], 5),
+    (Fuse(1, Read, 1), ReadFailed, NO_KEY, 1, &[X], 7),
+    (Fuse(1, Read, 2), ReadFailed, NO_KEY, 1, &[X], 7),
+    (Fuse(1, Write, 1), ENDED, MADE, 1, &[], 6),
+    (Fuse(1, Wait, 1), WaitFailed, NO_KEY, 1, &[X], 7),
 ];
+
+/// What both are told if all goes well: the callout; and 0 and 0.
+const NEGATES: &[&[u8]] = &[X, ZERO, ZERO];
 
 /// If the first command is started, the second one is too, whatever becomes of it.
-const FOLLOWED_ROWS: &[Row] = &[
-    (Fuse(1, Call::Start, 1), Driven::StartFailed, NO_KEY, 0, &[]),
-    (Fuse(1, Call::Read, 1), NEGATED, NO_KEY, 2, &[X, ZERO, ZERO]),
-    (Fuse(1, Call::Read, 2), NEGATED, NO_KEY, 2, &[X, ZERO, ZERO]),
-    (Fuse(1, Call::Write, 1), NEGATED, NO_KEY, 2, &[ZERO, ZERO]),
-    (Fuse(1, Call::Wait, 1), NEGATED, NO_KEY, 2, &[X, ZERO, ZERO]),
-    (Fuse(2, Call::Start, 1), FAILS, NO_KEY, 1, &[X]),
-    (Fuse(2, Call::Read, 1), Driven::ReadFailed, NO_KEY, 2, &[X]),
-    (
-        Fuse(2, Call::Read, 2),
-        Driven::ReadFailed,
-        NO_KEY,
-        2,
-        &[X, ZERO, ZERO],
-    ),
-    (Fuse(2, Call::Write, 1), NEGATED, NO_KEY, 2, &[X]),
-    (Fuse(2, Call::Write, 2), NEGATED, NO_KEY, 2, &[X, ZERO]),
-    (
-        Fuse(2, Call::Wait, 1),
-        Driven::WaitFailed,
-        NO_KEY,
-        2,
-        &[X, ZERO, ZERO],
-    ),
+pub const FOLLOWED_ROWS: &[Row] = &[
+    (Fuse(1, Start, 1), StartFailed, NO_KEY, 0, &[], 5),
+    (Fuse(1, Read, 1), NEGATED, NO_KEY, 2, NEGATES, 10),
+    (Fuse(1, Read, 2), NEGATED, NO_KEY, 2, NEGATES, 10),
+    (Fuse(1, Write, 1), NEGATED, NO_KEY, 2, &[ZERO, ZERO], 10),
+    (Fuse(1, Wait, 1), NEGATED, NO_KEY, 2, NEGATES, 10),
+    (Fuse(2, Start, 1), FAILS, NO_KEY, 1, &[X], 7),
+    (Fuse(2, Read, 1), ReadFailed, NO_KEY, 2, &[X], 8),
+    (Fuse(2, Read, 2), ReadFailed, NO_KEY, 2, NEGATES, 10),
+    (Fuse(2, Write, 1), NEGATED, NO_KEY, 2, &[X], 9),
+    (Fuse(2, Write, 2), NEGATED, NO_KEY, 2, &[X, ZERO], 10),
+    (Fuse(2, Wait, 1), WaitFailed, NO_KEY, 2, NEGATES, 10),
 ];
 
 /// What both are told if all goes well: 0 and 0; and 0, 16 and 0.
@@ -139,43 +128,45 @@ const BOTH: &[&[u8]] = &[ZERO, ZERO, ZERO, SIXTEEN, ZERO];
 const WITHOUT: &[&[u8]] = &[ZERO, NONE, ZERO];
 
 /// Whatever becomes of the handler of key 16, the first one learns whether that key was made, goes on and makes key 12.
-const NESTED_ROWS: &[Row] = &[
-    (Fuse(2, Call::Start, 1), NESTS, MADE, 1, WITHOUT),
-    (Fuse(2, Call::Read, 1), NESTS, MADE, 2, WITHOUT),
-    (Fuse(2, Call::Read, 2), NESTS, MADE, 2, BOTH),
-    (Fuse(2, Call::Write, 1), NESTS, MADE, 2, WITHOUT),
+pub const NESTED_ROWS: &[Row] = &[
+    (Fuse(2, Start, 1), NESTS, MADE, 1, WITHOUT, 11),
+    (Fuse(2, Read, 1), NESTS, MADE, 2, WITHOUT, 12),
+    (Fuse(2, Read, 2), NESTS, MADE, 2, BOTH, 14),
+    (Fuse(2, Write, 1), NESTS, MADE, 2, WITHOUT, 13),
     (
-        Fuse(2, Call::Write, 2),
+        Fuse(2, Write, 2),
         NESTS,
         MADE,
         2,
         &[ZERO, ZERO, SIXTEEN, ZERO],
+        14,
     ),
-    (Fuse(2, Call::Wait, 1), NESTS, MADE, 2, BOTH),
-    (Fuse(1, Call::Start, 1), Driven::StartFailed, NO_KEY, 0, &[]),
-    (Fuse(1, Call::Read, 1), Driven::ReadFailed, NO_KEY, 1, &[]),
-    (Fuse(1, Call::Write, 1), NESTS, NO_KEY, 1, &[]),
+    (Fuse(2, Wait, 1), NESTS, MADE, 2, BOTH, 14),
+    (Fuse(1, Start, 1), StartFailed, NO_KEY, 0, &[], 5),
+    (Fuse(1, Read, 1), ReadFailed, NO_KEY, 1, &[], 6),
+    (Fuse(1, Write, 1), NESTS, NO_KEY, 1, &[], 7),
+    (Fuse(1, Write, 2), NESTS, NO_KEY, 2, &[ZERO, ZERO, ZERO], 13),
     (
-        Fuse(1, Call::Write, 2),
-        NESTS,
-        NO_KEY,
-        2,
-        &[ZERO, ZERO, ZERO],
-    ),
-    (
-        Fuse(1, Call::Write, 3),
+        Fuse(1, Write, 3),
         NESTS,
         MADE,
         2,
         &[ZERO, ZERO, ZERO, SIXTEEN],
+        14,
     ),
-    (Fuse(1, Call::Read, 2), Driven::ReadFailed, MADE, 2, BOTH),
-    (Fuse(1, Call::Wait, 1), Driven::WaitFailed, MADE, 2, BOTH),
+    (Fuse(1, Read, 2), ReadFailed, MADE, 2, BOTH, 14),
+    (Fuse(1, Wait, 1), WaitFailed, MADE, 2, BOTH, 14),
+];
+
+/// Of a plain handler whose output comes in pieces: its second read is the first one of its INSTANTIATE.
+pub const IN_PIECES_ROWS: &[Row] = &[
+    (Fuse(1, Read, 2), ReadFailed, NO_KEY, 1, &[ZERO], 7),
+    (Fuse(1, Read, 3), ReadFailed, NO_KEY, 1, &[ZERO], 7),
 ];
 
 /// The handling, of which a call fails.
 fn failing(whole: &Handling, row: &Row) -> Handling {
-    let (fuse, driven, outcome, count, told) = *row;
+    let (fuse, driven, outcome, count, told, steps) = *row;
     let commands = whole.started.commands;
     Handling {
         started: Started {
@@ -186,6 +177,7 @@ fn failing(whole: &Handling, row: &Row) -> Handling {
         driven,
         outcome,
         told: Some(told),
+        steps: Some(steps),
         reported: None,
         ..*whole
     }
@@ -198,6 +190,7 @@ fn a_call_of_a_device_fails(rt: HostRuntime) {
         (PIPED, PIPED_ROWS),
         (FOLLOWED, FOLLOWED_ROWS),
         (NESTED, NESTED_ROWS),
+        (IN_PIECES, IN_PIECES_ROWS),
     ] {
         for row in rows {
             in_new_halls(&rt, rt.alloc(), STEPS, &failing(&whole, row));
@@ -207,7 +200,7 @@ fn a_call_of_a_device_fails(rt: HostRuntime) {
 
 /// A handler that outputs bytes for ever is read a million times.
 const GIVEN_UP: Handling = Handling {
-    driven: Driven::ReadFailed,
+    driven: ReadFailed,
     outcome: NO_KEY,
     reads: Some(1_048_576),
     reported: None,

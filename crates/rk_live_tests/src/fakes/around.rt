@@ -106,10 +106,10 @@ impl Shelf for Bin {
     }
 }
 
-/// The types of what is around it, if its handlers are over the fake launcher.
-pub struct Around<N: Names, R>(PhantomData<(N, R)>);
+/// The types of what is around it, if its handlers are over the fake launcher, with this gate.
+pub struct Around<N: Names, R, G>(PhantomData<(N, R, G)>);
 
-impl<N: Names, R: Wait> Platform for Around<N, R> {
+impl<N: Names, R: Wait, G: Gate> Platform for Around<N, R, G> {
     type Names = N;
 
     type Runtime = R;
@@ -118,20 +118,20 @@ impl<N: Names, R: Wait> Platform for Around<N, R> {
 
     type Clock = Ticking;
 
-    type Gate = Open;
+    type Gate = G;
 
     type Shelf = Bin;
 }
 
 /// What it is lent.
-pub fn stage_of<'a, N: Names, R: Wait>(
+pub fn stage_of<'a, N: Names, R: Wait, G: Gate>(
     rt: &'a R,
     alloc: Global,
     halls: &'a Halls<N>,
     conf: &'a Conf,
-    gate: &'a Open,
+    gate: &'a G,
     shelf: &'a Bin,
-) -> Stage<'a, Around<N, R>> {
+) -> Stage<'a, Around<N, R, G>> {
     Stage {
         rt,
         alloc,

@@ -12,6 +12,8 @@ use std::alloc::{AllocError, Global};
 pub struct Program {
     /// Its output, each piece so many times.
     pub says: &'static [(usize, &'static [u8])],
+    /// How many bytes of it come at a read, at most.
+    pub piece: usize,
     /// Whether it then outputs one more byte for ever.
     pub endless: bool,
     /// How it ends.
@@ -40,6 +42,8 @@ pub struct Fuse(pub usize, pub Call, pub u64);
 struct Played {
     /// Its output.
     bytes: Vec<u8>,
+    /// How many of these come at a read, at most.
+    piece: usize,
     /// Whether bytes go on after these.
     endless: bool,
     /// How it ends once it is waited for.
@@ -51,6 +55,7 @@ impl Played {
     fn of(alloc: Global, program: &Program) -> Result<Played, AllocError> {
         Ok(Played {
             bytes: spelled(alloc, program.says)?,
+            piece: program.piece,
             endless: program.endless,
             ends: program.ends,
         })
@@ -60,6 +65,7 @@ impl Played {
     fn copy(&self) -> Result<Played, AllocError> {
         Ok(Played {
             bytes: self.bytes.clone()?,
+            piece: self.piece,
             endless: self.endless,
             ends: self.ends,
         })
@@ -213,7 +219,8 @@ impl Child for Running {
             return Err(DeviceFault);
         }
         let count = if self.given < self.program.bytes.len() {
-            give(&self.program.bytes[self.given..], buf)
+            let rest = &self.program.bytes[self.given..];
+            give(&rest[..rest.len().min(self.program.piece)], buf)
         } else if self.program.endless {
             give(b"a", buf)
         } else {

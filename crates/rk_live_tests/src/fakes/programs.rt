@@ -23,6 +23,7 @@ const MAKES_16: &[u8] = b"\0\0\0\x05\x03\0\0\0\x10\0\0\0\x0d\x04\0\0\0\x10\0\x02
 /// It completes its key.
 const COMPLETES: Program = Program {
     says: &[(1, ASSUME_12), (1, INSTANTIATE_12)],
+    piece: usize::MAX,
     endless: false,
     ends: How::Exit(0),
 };
@@ -94,6 +95,15 @@ pub const PLAIN: Started = Started {
     conf: b"create * * * /bin/h %k\n",
     programs: &[COMPLETES],
     commands: &[b"/bin/h 12 "],
+};
+
+/// One whose output comes in pieces of 9 bytes: the first is its ASSUME.
+pub const IN_PIECES: Started = Started {
+    programs: &[Program {
+        piece: 9,
+        ..COMPLETES
+    }],
+    ..PLAIN
 };
 
 /// A piped one.

@@ -1,16 +1,22 @@
 //! Threads act in one order: each waits until its turn has come.
 
+use rk_devices::{Gate, Report};
+use rk_macro::Subject;
+use rk_names::{Serial, SessionId};
+use std::sync::Wait;
 use std::sync::atomic::AtomicU64;
 use std::sync::atomic::Ordering::SeqCst;
-use std::thread;
-use std::time::{Clock, Duration};
+use std::thread::yield_now;
+
+/// How often a thread lets others run before it waits no more. No clock decides: others that can go on are run meanwhile, however slow the machine is.
+const MOST: u32 = 20_000_000;
 
 /// Whose turn it is, and how often one was waited for in vain.
 #[derive(Drop)]
 pub struct Turns {
     /// The turn that goes on.
     now: AtomicU64,
-    /// How many waits ended before their turn came, after ten seconds each.
+    /// How many waits ended before their turn came.
     late: AtomicU64,
 }
 
@@ -28,13 +34,13 @@ impl Turns {
         self.now.fetch_add(1, SeqCst);
     }
 
-    /// Waits for the turn, for at most 10,000 times a millisecond.
-    pub fn wait<R: Clock>(&self, rt: &R, turn: u64) {
-        for _ in 0..10_000 {
-            if self.now.load(SeqCst) >= turn {
+    /// Waits for the turn. Once a turn did not come, none is waited for: who waits for a thread that can't go on ends, and its test fails.
+    pub fn wait(&self, turn: u64) {
+        for _ in 0..MOST {
+            if self.now.load(SeqCst) >= turn || self.late() > 0 {
                 return;
             }
-            let _ = thread::sleep(rt, Duration::from_millis(1));
+            yield_now();
         }
         self.late.fetch_add(1, SeqCst);
     }
@@ -42,5 +48,34 @@ impl Turns {
     /// How often a turn did not come.
     pub fn late(&self) -> u64 {
         self.late.load(SeqCst)
+    }
+}
+
+/// A gate at which a turn begins whenever a handler was started, and which holds that handler until another turn.
+#[derive(Drop)]
+pub struct Held<'a> {
+    /// The turns of the scene.
+    pub turns: &'a Turns,
+    /// Until which one a handler is held.
+    pub until: u64,
+}
+
+impl<'a> Gate for Held<'a> {
+    fn started<R: Wait>(&self, rt: &R, key: Serial, subject: &Subject) {
+        let _ = rt;
+        let _ = key;
+        let _ = subject;
+        self.turns.next();
+        self.turns.wait(self.until);
+    }
+
+    fn driven<R: Wait>(&self, rt: &R, report: Report<'_>) {
+        let _ = rt;
+        let _ = report;
+    }
+
+    fn answered<R: Wait>(&self, rt: &R, session: SessionId) {
+        let _ = rt;
+        let _ = session;
     }
 }

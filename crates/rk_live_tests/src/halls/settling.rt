@@ -4,7 +4,7 @@ ghost use Rattle.rk_hall.specs.Seats.{IsCall};
 use crate::asks::{CLIENT, NOW, add, hello, request};
 use crate::halls::calls::{calls, greets, refuse_launch};
 use crate::halls::opening::{Scene, in_new_halls};
-use crate::halls::paths::{keep, settled};
+use crate::halls::paths::{goes, keep, settled};
 use crate::record::events::hall;
 use crate::same::same;
 use rk_hall::{
@@ -164,8 +164,20 @@ fn forged(number: u64) -> SettleFault {
     }
 }
 
+/// A seat that makes no call, in halls without a step.
+struct NoSteps;
+
+impl Scene for NoSteps {
+    fn play<N: Names, R: Wait + Abort + Copy>(&self, rt: &R, alloc: Global, halls: Halls<N>) {
+        let seat = halls.seat(rt).expect(rt, "a seat");
+        let seats = vec![in alloc; seat].expect(rt, "memory");
+        same(rt, settled(alloc, halls, seats, &[]), Ok(total(0, 0)));
+    }
+}
+
 #[test]
 fn seats_and_receipts_are_settled(rt: HostRuntime) {
+    in_new_halls(&rt, rt.alloc(), 100, &NoSteps);
     for (handed, odd, wanted) in [
         (Handed::Both, None, Ok(total(6, 0))),
         (Handed::OneRetired, None, Ok(total(3, 3))),
@@ -201,30 +213,42 @@ fn refused<N: Names, R: Wait + Abort>(
     }
 }
 
-/// Seats that have heard a receipt of another: the next number is above it, or there is no step.
+/// Seats that have heard a receipt of another: the next number is above it, or there is no step. The records agree with the seats alone, too.
 struct Hearing;
 
 impl Scene for Hearing {
     fn play<N: Names, R: Wait + Abort + Copy>(&self, rt: &R, alloc: Global, halls: Halls<N>) {
         let mut one = halls.seat(rt).expect(rt, "a seat");
         let mut two = halls.seat(rt).expect(rt, "a seat");
-        let first = calls(rt, &halls, &mut one, comes(1));
-        two.hear(&first);
-        let second = calls(rt, &halls, &mut two, comes(2));
-        same(rt, (first.number(), second.number()), (1, 2));
+        let mut receipts = Vec::new(alloc);
+        six_calls(rt, &halls, &mut one, &mut two, &mut receipts);
+        let three = hears_of_six(rt, &halls, &receipts);
         hears_of_nine(rt, alloc, &halls);
-        let seats = vec![in alloc; one, two].expect(rt, "memory");
-        let receipts = vec![in alloc; first, second].expect(rt, "memory");
-        same(rt, settled(alloc, halls, seats, &receipts), Ok(total(2, 0)));
+        let seats = vec![in alloc; one, two, three].expect(rt, "memory");
+        same(rt, settled(alloc, halls, seats, &[]), Ok(total(7, 0)));
     }
 }
 
-/// A seat that has heard of nine steps, while there are two, takes none.
+/// A new seat that has heard the last of six receipts makes the seventh step. It comes back.
+fn hears_of_six<N: Names, R: Wait + Abort>(
+    rt: &R,
+    halls: &Halls<N>,
+    receipts: &[Receipt],
+) -> Seat<N> {
+    let mut seat = halls.seat(rt).expect(rt, "a seat");
+    let sixth = receipts.last().expect(rt, "a receipt");
+    seat.hear(sixth);
+    let seventh = calls(rt, halls, &mut seat, comes(7));
+    same(rt, (sixth.number(), seventh.number()), (6, 7));
+    seat
+}
+
+/// A seat that has heard of nine steps, while there are seven, takes none.
 fn hears_of_nine<N: Names, R: Wait + Abort>(rt: &R, alloc: Global, halls: &Halls<N>) {
     let mut seat = halls.seat(rt).expect(rt, "a seat");
     seat.hear(&invented(rt, alloc, 9, 9));
-    let behind = refused(rt, halls, &mut seat, comes(5));
-    same(rt, behind, Some(CallFault::Behind { seen: 9, found: 3 }));
+    let behind = refused(rt, halls, &mut seat, comes(8));
+    same(rt, behind, Some(CallFault::Behind { seen: 9, found: 8 }));
     halls.retire(rt, seat);
 }
 
@@ -233,7 +257,8 @@ fn what_was_heard_is_passed(rt: HostRuntime) {
     in_new_halls(&rt, rt.alloc(), 100, &Hearing);
 }
 
-/// Five steps fill a volume of six, since the client's end is owed; its end is the sixth, in the next volume. A receipt of the first volume wants it.
+/// Five steps fill a volume of six, since the client's end is owed. The ADD that is refused is the sixth, in the next volume, and that end the seventh. A
+/// receipt of the first volume wants it.
 #[derive(Drop)]
 struct Volumes {
     /// Whether the first volume is handed in; without it a receipt of it is in no record.
@@ -246,12 +271,13 @@ impl Scene for Volumes {
         let mut receipts = Vec::new(alloc);
         fills(rt, alloc, &halls, &mut seat, &mut receipts);
         let volume = rolls(rt, &halls);
-        let next = calls(rt, &halls, &mut seat, comes(2));
-        same(rt, (next.volume(), next.number()), (2, 6));
-        keep(rt, &mut receipts, next);
+        let fourth = adds(rt, alloc, &halls, &mut seat, b"d");
+        same(rt, (fourth.volume(), fourth.number()), (2, 6));
+        keep(rt, &mut receipts, fourth);
+        goes(rt, &halls, &mut seat, &mut receipts, CLIENT);
         let seats = vec![in alloc; seat].expect(rt, "memory");
         let (volumes, wanted) = if self.handed_in {
-            (vec![in alloc; volume].expect(rt, "memory"), Ok(total(6, 0)))
+            (vec![in alloc; volume].expect(rt, "memory"), Ok(total(7, 0)))
         } else {
             drop(volume);
             (Vec::new(alloc), Err(MISSING))
@@ -265,7 +291,19 @@ const MISSING: SettleFault = SettleFault::Missing {
     volume: 1,
 };
 
-/// The five steps; another one is refused.
+/// The client adds a key of this name.
+fn adds<N: Names, R: Wait + Abort>(
+    rt: &R,
+    alloc: Global,
+    halls: &Halls<N>,
+    seat: &mut Seat<N>,
+    name: &[u8],
+) -> Receipt {
+    let ask = add(alloc, name).expect(rt, "an ask");
+    calls(rt, halls, seat, EventStep::Asked(CLIENT, ask))
+}
+
+/// The five steps; the fourth ADD is refused.
 fn fills<N: Names, R: Wait + Abort>(
     rt: &R,
     alloc: Global,
@@ -277,15 +315,10 @@ fn fills<N: Names, R: Wait + Abort>(
     keep(rt, receipts, opened);
     keep(rt, receipts, rings);
     for name in [b"a", b"b", b"c"] {
-        let ask = add(alloc, name).expect(rt, "an ask");
-        let added = calls(rt, halls, seat, EventStep::Asked(CLIENT, ask));
-        keep(rt, receipts, added);
+        keep(rt, receipts, adds(rt, alloc, halls, seat, name));
     }
-    same(
-        rt,
-        refused(rt, halls, seat, comes(2)),
-        Some(CallFault::Full),
-    );
+    let fourth = EventStep::Asked(CLIENT, add(alloc, b"d").expect(rt, "an ask"));
+    same(rt, refused(rt, halls, seat, fourth), Some(CallFault::Full));
 }
 
 /// The volume of the five steps.

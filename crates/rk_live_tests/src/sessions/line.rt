@@ -32,17 +32,17 @@ pub struct Line {
     /// The place of the next piece among them, the first one 0.
     given: usize,
     /// How often it was read.
-    reads: u64,
+    pub reads: u64,
     /// How often it was written to.
     writes: u64,
     /// How often something was sent that was kept.
     sendings: u64,
     /// How many calls failed.
-    failed: u64,
+    pub failed: u64,
     /// Whether something was written since the last sending.
-    kept: bool,
+    pub kept: bool,
     /// Whether a write or a sending failed.
-    is_cut: bool,
+    pub is_cut: bool,
     /// What was written.
     pub said: Vec<u8>,
     /// The receipts that it was handed, in order.

@@ -1,6 +1,9 @@
-//! Sessions whose wire fails, and others that only a fake can be the client of.
+//! Sessions whose wire or handler fails, and others that only a fake can be the client of.
 
-use crate::fakes::programs;
+use crate::children::rows::{
+    FOLLOWED_ROWS, IN_PIECES_ROWS, MADE, NESTED_ROWS, PIPED_ROWS, PLAIN_ROWS, Row,
+};
+use crate::fakes::programs::{self, Started};
 use crate::halls::opening::in_new_halls;
 use crate::sessions::bytes::{
     ACCESS, HELLO, HELLO_AND_NO_FRAME, HELLO_AND_REQUEST, INVALID, NO_KEY, OTHER_HELLO, QUOTA,
@@ -10,13 +13,12 @@ use crate::sessions::line::Cut;
 use crate::sessions::serving::Session;
 use rk_session::Served;
 
-/// How many steps a volume has: more than any session here makes.
-pub const STEPS: usize = 1_000;
-
 /// It greets, requests key 12, whose handler completes it, and gets its serial. The clock is read for each of its nine steps, and once more before the
 /// handler is started.
 pub const PLAIN: Session = Session {
+    room: 1_000,
     started: programs::PLAIN,
+    fuse: None,
     pieces: &[HELLO, REQUEST],
     endless: false,
     cut: None,
@@ -26,7 +28,14 @@ pub const PLAIN: Session = Session {
     repeats: 1,
     story: Some(b"rnwsrnwsr"),
     moments: &[2, 9],
+    volumes: 0,
     steps: 9,
+};
+
+/// The same with a handler whose output comes in pieces.
+const IN_PIECES: Session = Session {
+    started: programs::IN_PIECES,
+    ..PLAIN
 };
 
 /// The same with a handler that asks for another key.
@@ -91,7 +100,43 @@ fn failing(whole: &Session, fails: &Fails) -> Session {
 fn a_call_of_the_wire_fails(rt: HostRuntime) {
     for whole in [PLAIN, NESTED, PIPED, FOLLOWED] {
         for fails in FAILS_IN_TURN {
-            in_new_halls(&rt, rt.alloc(), STEPS, &failing(&whole, fails));
+            in_new_halls(&rt, rt.alloc(), whole.room, &failing(&whole, fails));
+        }
+    }
+}
+
+/// The session, where this call of a handler fails: its client gets the key, or ENOKEY.
+fn with_fuse(whole: &Session, row: &Row) -> Session {
+    let (fuse, _, outcome, count, _, steps) = *row;
+    let commands = whole.started.commands;
+    Session {
+        started: Started {
+            commands: &commands[..count.min(commands.len())],
+            ..whole.started
+        },
+        fuse: Some(fuse),
+        replies: if outcome == MADE {
+            &[RINGS, TWELVE]
+        } else {
+            &[RINGS, NO_KEY]
+        },
+        moments: &[],
+        steps: steps.saturating_add(1),
+        ..*whole
+    }
+}
+
+#[test]
+fn a_call_of_a_handler_fails(rt: HostRuntime) {
+    for (whole, rows) in [
+        (PLAIN, PLAIN_ROWS),
+        (PIPED, PIPED_ROWS),
+        (FOLLOWED, FOLLOWED_ROWS),
+        (NESTED, NESTED_ROWS),
+        (IN_PIECES, IN_PIECES_ROWS),
+    ] {
+        for row in rows {
+            in_new_halls(&rt, rt.alloc(), whole.room, &with_fuse(&whole, row));
         }
     }
 }
@@ -167,11 +212,21 @@ const OTHERS: &[Session] = &[
         steps: 69,
         ..QUIET
     },
+    // five steps fill a volume of six, since the client's end is owed: it is handed out, and the fourth READ made once more
+    Session {
+        room: 6,
+        pieces: &[HELLO, READ, READ, READ, READ],
+        replies: &[RINGS, NO_KEY, NO_KEY, NO_KEY, NO_KEY],
+        story: Some(b"rnwsrnwsrnwsrnwsrnwsr"),
+        volumes: 1,
+        steps: 7,
+        ..QUIET
+    },
 ];
 
 #[test]
 fn each_session_ends_as_its_row_says(rt: HostRuntime) {
     for session in OTHERS {
-        in_new_halls(&rt, rt.alloc(), STEPS, session);
+        in_new_halls(&rt, rt.alloc(), session.room, session);
     }
 }

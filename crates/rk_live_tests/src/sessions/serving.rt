@@ -2,7 +2,7 @@
 use crate::asks::NOW;
 use crate::fakes::around::{Around, Bin, Open, Ticking, stage_of};
 use crate::fakes::giving::joined;
-use crate::fakes::launcher::Fake;
+use crate::fakes::launcher::{Fake, Fuse};
 use crate::fakes::programs::Started;
 use crate::halls::counting::come;
 use crate::halls::opening::Scene;
@@ -10,18 +10,91 @@ use crate::halls::paths::{all, settled};
 use crate::same::same;
 use crate::sessions::line::{Cut, Line};
 use rk_conf::Conf;
+use rk_devices::Gate;
 use rk_frame::Frames;
 use rk_hall::{HallNo, Halls, Names, Receipt, Seat};
-use rk_session::{Caller, Crew, Served, serve};
+use rk_session::{Caller, Crew, Served, Wire, serve};
 use std::alloc::Global;
 use std::process::Abort;
 use std::sync::Wait;
 
+/// What a session has for itself.
+pub struct Own<N: Names> {
+    /// The seat for its calls.
+    pub seat: Seat<N>,
+    /// The number of its connection.
+    pub client: u32,
+    /// What is started for its request.
+    pub started: Started,
+    /// The call of a program that fails, if there is one.
+    pub fuse: Option<Fuse>,
+}
+
+/// What came of a session.
+#[derive(Drop)]
+pub struct Came {
+    /// How the session ended.
+    pub served: Served,
+    /// The launcher, with all that it kept.
+    pub fake: Fake,
+    /// How many volumes were handed out.
+    pub volumes: u64,
+}
+
+/// Serves a session over this wire to its end. The seat comes back.
+pub fn serves<'a, N: Names, R: Wait + Abort, G: Gate, W: Wire>(
+    rt: &'a R,
+    alloc: Global,
+    halls: &'a Halls<N>,
+    gate: &'a G,
+    own: Own<N>,
+    wire: &mut W,
+) -> (Seat<N>, Came) {
+    let Own {
+        seat,
+        client,
+        started,
+        fuse,
+    } = own;
+    let fake = Fake::new(alloc, started.programs, fuse).expect(rt, "memory");
+    let conf = Conf::read(alloc, started.conf).expect(rt, "lines");
+    let frames = Frames::new(alloc).expect(rt, "memory");
+    let shelf = Bin::new();
+    let stage = stage_of(rt, alloc, halls, &conf, gate, &shelf);
+    let caller = Caller {
+        seat,
+        clock: Ticking::new(),
+    };
+    let mut crew: Crew<Around<N, R, G>> = Crew {
+        caller,
+        launcher: fake,
+    };
+    let served = serve(&stage, &mut crew, client, frames, wire);
+    let Crew {
+        caller: Caller { seat, clock },
+        launcher: fake,
+    } = crew;
+    drop(clock);
+    let volumes = shelf.count();
+    (
+        seat,
+        Came {
+            served,
+            fake,
+            volumes,
+        },
+    )
+}
+
 /// A session: what comes on its wire, and what is to come of it.
 #[derive(Clone, Copy)]
 pub struct Session {
+    /// How many steps a volume has.
+    pub room: usize,
     /// What is started for its request, and by which commands.
     pub started: Started,
+    /// The call of a program that fails, if there is one.
+    pub fuse: Option<Fuse>,
     /// What comes, one piece for each read; then the end.
     pub pieces: &'static [&'static [u8]],
     /// Whether they come again and again.
@@ -40,19 +113,10 @@ pub struct Session {
     pub story: Option<&'static [u8]>,
     /// After how many seconds each receipt is of that is noted, by a clock that is a second on whenever it is read, as far as they are looked at.
     pub moments: &'static [u64],
+    /// How many volumes are to be handed out.
+    pub volumes: u64,
     /// How many steps there are to be.
     pub steps: u64,
-}
-
-/// What came of a session.
-#[derive(Drop)]
-struct Came {
-    /// How the session ended.
-    served: Served,
-    /// Its wire, with all that it kept.
-    line: Line,
-    /// The launcher, with all that it kept.
-    fake: Fake,
 }
 
 impl Scene for Session {
@@ -61,63 +125,62 @@ impl Scene for Session {
         let mut seats = Vec::with_capacity(alloc, 1).expect(rt, "memory");
         let said = joined(alloc, self.replies, self.repeats).expect(rt, "memory");
         let words = joined(alloc, self.started.commands, 1).expect(rt, "memory");
-        let (seat, came) = self.serves(rt, alloc, &halls);
+        let line = Line::new(alloc, self.pieces, self.endless, self.cut);
+        let mut line = line.expect(rt, "memory");
+        let (seat, came) = self.serves(rt, alloc, &halls, &mut line);
         same(
             rt,
             (came.fake.out, seat.clients()),
             (0, u64::from(self.crowd)),
         );
         seats.push(seat).expect(rt, "memory");
-        let total = settled(alloc, halls, seats, &came.line.noted).expect(rt, "a total");
+        let total = settled(alloc, halls, seats, self.in_record(&line.noted));
+        let total = total.expect(rt, "a total");
         same(rt, total, all(total.live));
         same(
             rt,
             (
                 total.steps,
                 came.served,
-                came.line.said.as_slice(),
+                line.said.as_slice(),
                 came.fake.words.as_slice(),
             ),
             (self.steps, self.served, said.as_slice(), words.as_slice()),
         );
-        let story = came.line.story.as_slice();
-        same(rt, story, self.story.unwrap_or(story));
-        self.is_in_time(rt, &came.line.noted);
+        let story = line.story.as_slice();
+        same(
+            rt,
+            (came.volumes, story),
+            (self.volumes, self.story.unwrap_or(story)),
+        );
+        self.is_in_time(rt, &line.noted);
     }
 }
 
 impl Session {
     /// Serves it to its end. The seat comes back.
-    fn serves<'a, N: Names, R: Wait + Abort>(
+    fn serves<N: Names, R: Wait + Abort>(
         &self,
-        rt: &'a R,
+        rt: &R,
         alloc: Global,
-        halls: &'a Halls<N>,
+        halls: &Halls<N>,
+        line: &mut Line,
     ) -> (Seat<N>, Came) {
         let mut seat = halls.seat(rt).expect(rt, "a seat");
         come(rt, halls, &mut seat, HallNo::One, self.crowd);
-        let fake = Fake::new(alloc, self.started.programs, None).expect(rt, "memory");
-        let conf = Conf::read(alloc, self.started.conf).expect(rt, "lines");
-        let line = Line::new(alloc, self.pieces, self.endless, self.cut);
-        let mut line = line.expect(rt, "memory");
-        let frames = Frames::new(alloc).expect(rt, "memory");
-        let (gate, shelf) = (Open::new(), Bin::new());
-        let stage = stage_of(rt, alloc, halls, &conf, &gate, &shelf);
-        let caller = Caller {
+        let own = Own {
             seat,
-            clock: Ticking::new(),
+            client: 1,
+            started: self.started,
+            fuse: self.fuse,
         };
-        let mut crew: Crew<Around<N, R>> = Crew {
-            caller,
-            launcher: fake,
-        };
-        let served = serve(&stage, &mut crew, 1, frames, &mut line);
-        let Crew {
-            caller: Caller { seat, clock },
-            launcher: fake,
-        } = crew;
-        drop(clock);
-        (seat, Came { served, line, fake })
+        let gate = Open::new();
+        serves(rt, alloc, halls, &gate, own, line)
+    }
+
+    /// The receipts that stand in the record in the end: none of a record whose first volumes are gone.
+    fn in_record<'a>(&self, noted: &'a [Receipt]) -> &'a [Receipt] {
+        if self.volumes == 0 { noted } else { &[] }
     }
 
     /// An outcome is collected when the handler has ended, and not at the moment of its request.

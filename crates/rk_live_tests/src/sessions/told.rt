@@ -73,7 +73,7 @@ fn hears<'a, N: Names, R: Wait + Abort>(rt: &'a R, alloc: Global, halls: &'a Hal
         seat,
         clock: Ticking::new(),
     };
-    let mut crew: Crew<Around<N, R>> = Crew {
+    let mut crew: Crew<Around<N, R, Open>> = Crew {
         caller,
         launcher: fake,
     };

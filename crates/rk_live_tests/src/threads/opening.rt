@@ -1,6 +1,7 @@
 //! Halls of new ledgers, which threads share. A trait's method can't hand its halls to a thread, so these scenes are an enum.
 ghost use Rattle.std.specs.Prelude.{◌≡◌, ◌≤◌};
 
+use crate::sessions::side_by_side::Pair;
 use crate::threads::together::SideBySide;
 use crate::threads::waking::Waking;
 use rk_hall::{Fresh, Halls, Names};
@@ -18,6 +19,8 @@ pub enum Scene {
     SideBySide(SideBySide),
     /// One waits until the other has made its key.
     Waking(Waking),
+    /// Each serves a session.
+    Served(Pair),
 }
 
 impl Scene {
@@ -30,6 +33,7 @@ impl Scene {
         match self {
             Scene::SideBySide(threads) => threads.play(rt, alloc, halls),
             Scene::Waking(waking) => waking.play(rt, alloc, halls),
+            Scene::Served(pair) => pair.play(rt, alloc, halls),
         }
     }
 }

@@ -128,7 +128,7 @@ impl Waking {
             is_waited_for(rt, turns);
             if let Some(ask) = self.step.ask(alloc, 12).expect(rt, "memory") {
                 asks(rt, halls, &mut seat, ask);
-                turns.wait(rt, TOLD);
+                turns.wait(TOLD);
             }
             ends(rt, halls, &mut seat, running);
         }
@@ -169,7 +169,7 @@ fn ends<N: Names, R: Wait + Abort>(
 
 /// Returns when the client waits, or is about to: a few milliseconds more, so that it is nearly always asleep and needs to be woken.
 fn is_waited_for<R: Clock>(rt: &R, turns: &Turns) {
-    turns.wait(rt, WAITS);
+    turns.wait(WAITS);
     let _ = thread::sleep(rt, Duration::from_millis(20));
 }
 
@@ -181,7 +181,7 @@ fn waits<N: Names, R: Wait + Abort + Clock>(
     turns: &Turns,
 ) -> Said {
     let mut seat = halls.seat(rt).expect(rt, "a seat");
-    turns.wait(rt, REQUESTED);
+    turns.wait(REQUESTED);
     drop(calls(rt, halls, &mut seat, EventStep::Opened(OTHER)));
     let joining = joining(key(rt, 4));
     drop(calls(rt, halls, &mut seat, EventStep::Asked(OTHER, joining)));

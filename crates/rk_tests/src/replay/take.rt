@@ -3,7 +3,7 @@ use crate::same::same;
 use rk_conf::Conf;
 use rk_core::Limits;
 use rk_names::Serial;
-use rk_replay::{LineFault, Outputs, Replay, ScriptLine, TakeFault, Transcript, served_is_run};
+use rk_replay::{LineFault, Outputs, Replay, ScriptLine, TakeFault, Transcript};
 use std::alloc::{AllocError, Global};
 use std::process::Abort;
 
@@ -134,10 +134,4 @@ fn growths_of_a_negate_command(rt: HostRuntime) {
     let played = play_lines(alloc, NEGATED, FAILED_AND_NEGATED, &mut transcript);
     let text = str::from_utf8(transcript.as_bytes()).unwrap_or("no text");
     is_said(&rt, text, played);
-}
-
-#[test]
-fn the_law_runs(rt: HostRuntime) {
-    served_is_run();
-    same(&rt, TakeFault::Unknown == TakeFault::NoMemory, false);
 }

@@ -1,0 +1,201 @@
+//! Two sessions, each served on a thread of its own.
+use crate::fakes::giving::joined;
+use crate::fakes::programs::PLAIN;
+use crate::fakes::turns::{Held, Turns};
+use crate::halls::paths::{all, settled};
+use crate::same::same;
+use crate::sessions::bytes::{
+    ADD_ONE, ADD_TWO, HELLO, JOIN, JOIN_AND_REQUEST, NINE, NO_KEY, ONE, OTHER_HELLO, OTHER_RINGS,
+    READ, READ_9, REQUEST, RINGS, SIXTEEN, THIRTEEN, TWELVE,
+};
+use crate::sessions::in_turn::InTurn;
+use crate::sessions::line::Line;
+use crate::sessions::serving::{Own, serves};
+use crate::threads::opening::{Scene, in_new_halls};
+use rk_hall::{Halls, Names, Receipt, Seat};
+use rk_session::Served;
+use std::alloc::Global;
+use std::marker::{Send, Sync};
+use std::process::Abort;
+use std::sync::Wait;
+use std::thread::{Threads, join};
+
+/// One of two clients: what comes on its wire, and what is to come of it.
+#[derive(Clone, Copy)]
+struct Side {
+    /// In which turns its pieces come; all others come at once.
+    at: &'static [u64],
+    /// What comes, one piece for each read; then the end.
+    pieces: &'static [&'static [u8]],
+    /// What it is to be told.
+    replies: &'static [&'static [u8]],
+    /// The commands that it is to start.
+    commands: &'static [&'static [u8]],
+}
+
+/// What is left of a session.
+#[derive(Drop)]
+struct Left<N: Names> {
+    /// The seat of its calls.
+    seat: Seat<N>,
+    /// The receipts that were noted on its wire.
+    noted: Vec<Receipt>,
+}
+
+impl Side {
+    /// Serves it to its end, and compares what came of it.
+    fn serves<N: Names, R: Wait + Abort>(
+        self,
+        rt: &R,
+        alloc: Global,
+        halls: &Halls<N>,
+        gate: &Held<'_>,
+        client: u32,
+    ) -> Left<N> {
+        let line = Line::new(alloc, self.pieces, false, None).expect(rt, "memory");
+        let mut wire = InTurn {
+            line,
+            turns: gate.turns,
+            at: self.at,
+            waited: 0,
+        };
+        let own = Own {
+            seat: halls.seat(rt).expect(rt, "a seat"),
+            client,
+            started: PLAIN,
+            fuse: None,
+        };
+        let (seat, came) = serves(rt, alloc, halls, gate, own, &mut wire);
+        let InTurn { line, .. } = wire;
+        let replies = joined(alloc, self.replies, 1).expect(rt, "memory");
+        let commands = joined(alloc, self.commands, 1).expect(rt, "memory");
+        same(
+            rt,
+            (came.served, came.fake.out, line.said.as_slice()),
+            (Served::Ended, 0, replies.as_slice()),
+        );
+        same(rt, came.fake.words.as_slice(), commands.as_slice());
+        let Line { noted, .. } = line;
+        Left { seat, noted }
+    }
+}
+
+/// Two clients. A turn begins with each sending of replies and with each start of a handler.
+#[derive(Clone, Copy)]
+pub struct Pair {
+    /// The turn until which a handler is held at its start.
+    until: u64,
+    /// On a thread of its own.
+    first: Side,
+    /// On another one.
+    second: Side,
+    /// How many steps there are to be.
+    steps: u64,
+}
+
+impl Pair {
+    /// Plays it, and settles with all receipts.
+    pub fn play<N: Names + Send + Sync, R: Wait + Abort + Threads + Sync>(
+        self,
+        rt: &R,
+        alloc: Global,
+        halls: Halls<N>,
+    ) {
+        let turns = Turns::new();
+        let gate = Held {
+            turns: &turns,
+            until: self.until,
+        };
+        let (first, second) = self.serves(rt, alloc, &halls, &gate);
+        let Left {
+            seat: one,
+            noted: mut receipts,
+        } = first;
+        let Left {
+            seat: two,
+            noted: mut others,
+        } = second;
+        receipts.append(&mut others).expect(rt, "memory");
+        receipts.sort_unstable_by_key(|receipt| receipt.number());
+        let seats = vec![in alloc; one, two].expect(rt, "memory");
+        let total = settled(alloc, halls, seats, &receipts);
+        same(rt, (turns.late(), total), (0, Ok(all(self.steps))));
+    }
+
+    /// Both, to their ends.
+    fn serves<N: Names + Send + Sync, R: Wait + Abort + Threads + Sync>(
+        self,
+        rt: &R,
+        alloc: Global,
+        halls: &Halls<N>,
+        gate: &Held<'_>,
+    ) -> (Left<N>, Left<N>) {
+        let Pair { first, second, .. } = self;
+        join(
+            rt,
+            move || first.serves(rt, alloc, halls, gate, 1),
+            move || second.serves(rt, alloc, halls, gate, 2),
+        )
+    }
+}
+
+const PAIRS: &[Pair] = &[
+    // the first one's handler is held until the second one, which waits for the same key, is told all that it was answered before
+    Pair {
+        until: 3,
+        first: Side {
+            at: &[0, 1],
+            pieces: &[HELLO, REQUEST],
+            replies: &[RINGS, TWELVE],
+            commands: &[b"/bin/h 12 "],
+        },
+        second: Side {
+            at: &[2],
+            pieces: &[JOIN_AND_REQUEST],
+            replies: &[RINGS, TWELVE],
+            commands: &[],
+        },
+        steps: 14,
+    },
+    // one adds a key, and another one reads it, until the first adds one of the same name
+    Pair {
+        until: 0,
+        first: Side {
+            at: &[0, 2, 4],
+            pieces: &[HELLO, ADD_ONE, ADD_TWO],
+            replies: &[RINGS, TWELVE, SIXTEEN],
+            commands: &[],
+        },
+        second: Side {
+            at: &[1, 3, 5],
+            pieces: &[JOIN, READ, READ],
+            replies: &[RINGS, ONE, NO_KEY],
+            commands: &[],
+        },
+        steps: 10,
+    },
+    // each in the hall of its uid, whose serials its keys have
+    Pair {
+        until: 0,
+        first: Side {
+            at: &[],
+            pieces: &[HELLO, ADD_ONE, READ, ADD_TWO, READ],
+            replies: &[RINGS, TWELVE, ONE, SIXTEEN, NO_KEY],
+            commands: &[],
+        },
+        second: Side {
+            at: &[],
+            pieces: &[OTHER_HELLO, ADD_ONE, READ_9, ADD_TWO, READ_9],
+            replies: &[OTHER_RINGS, NINE, ONE, THIRTEEN, NO_KEY],
+            commands: &[],
+        },
+        steps: 16,
+    },
+];
+
+#[test]
+fn two_are_served_at_one_time(rt: HostRuntime) {
+    for pair in PAIRS {
+        in_new_halls(&rt, rt.alloc(), Scene::Served(*pair));
+    }
+}
