@@ -1,9 +1,20 @@
 -- What the calls of a server do.
-use Rattle.rk_served.specs.Words.{List, ℕ, ◌≡◌, [], Option, Some, Bool, true, ◌∷◌, false, ◌⊎◌, ◌++◌, slice_get, is_some, IfSome, MatchOption, SessionId}
-use Rattle.rk_served.specs.Words.{Handler, Line, Ask, Command, Subject, Event, Step, has_wait, Answer, Launched, Ended, How}
+use Rattle.std.specs.Prelude.{◌≡◌, ◌⊎◌, ℕ, Bool, true, false, List, [], ◌∷◌, ◌++◌, Option, Some, is_some, IfSome, MatchOption, slice_get}
 use Rattle.std.specs.Bool.{MatchBool}
+use Rattle.rk_names.specs.declared.numbers.SessionId.{SessionId}
+use Rattle.rk_names.specs.declared.numbers.SessionId.TheVariants.{Handler}
+use Rattle.rk_conf.specs.declared.line.Line.{Line}
+use Rattle.rk_macro.specs.declared.command.Command.{Command}
+use Rattle.rk_macro.specs.declared.subject.Subject.{Subject}
+use Rattle.rk_message.specs.Ask.{Ask}
+use Rattle.rk_machine.specs.Event.{Event}
+use Rattle.rk_machine.specs.declared.event.EventOf.TheVariants.{Launched, Ended}
 use Rattle.rk_machine.specs.declared.event.Ran.TheVariants as ran
+use Rattle.rk_machine.specs.declared.event.How.{How}
+use Rattle.rk_machine.specs.declared.event.Answer.{Answer}
 use Rattle.rk_machine.specs.declared.event.Answer.TheVariants as answer
+use Rattle.rk_machine.specs.Steps.{Step}
+use Rattle.rk_machine.specs.Views.{has_wait}
 use Rattle.rk_served.specs.declared.happening.Happening.{Happening}
 use Rattle.rk_served.specs.declared.output.Output.{Output}
 use Rattle.rk_served.specs.declared.output.Output.TheVariants as output

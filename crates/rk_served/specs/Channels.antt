@@ -1,11 +1,13 @@
 -- What the channel of a peer is, and what it has next.
-use Rattle.rk_served.specs.Words.{List, ℕ, ◌≡◌, [], Option, Some, None, Bool, true, false, not, HasFault, Subject}
+use Rattle.std.specs.Prelude.{◌≡◌, ℕ, Bool, true, false, not, List, [], Option, Some, None}
+use Rattle.rk_macro.specs.declared.subject.Subject.{Subject}
 use Rattle.rk_served.specs.declared.peer.Channel.{Channel}
 use Rattle.rk_served.specs.declared.peer.Channel.TheVariants.{Talks, Starts, Pipes}
 use Rattle.rk_served.specs.declared.stream.Message.{Message}
 use Rattle.rk_served.specs.declared.stream.Message.TheVariants.{More}
 use Rattle.rk_served.specs.Unused.{Unused}
 use Rattle.rk_served.specs.declared.output.Output.{Output}
+use Rattle.rk_frame.specs.Streams.{HasFault}
 use Rattle.rk_served.specs.Streams.{closed}
 use Rattle.rk_served.specs.OwnStep.{callout_to}
 use Rattle.rk_served.specs.Message.{IsNext}

@@ -1,11 +1,19 @@
 -- What a served list leaves.
-use Rattle.rk_served.specs.Words.{List, ℕ, [], Option, Some, None, ◌∷◌, not, filter, SessionId, Handler, Client, Subject, Event, same_session, Beginning, Past}
-use Rattle.rk_served.specs.Words.{World, empty_world, Answer, Refused, Negate, Done, Start, Waiting}
+use Rattle.std.specs.Prelude.{ℕ, not, List, [], ◌∷◌, Option, Some, None, filter}
+use Rattle.rk_names.specs.declared.numbers.SessionId.{SessionId}
+use Rattle.rk_names.specs.declared.numbers.SessionId.TheVariants.{Client, Handler}
+use Rattle.rk_macro.specs.declared.subject.Subject.{Subject}
 use Rattle.rk_message.specs.declared.reply.Reply.{Reply}
 use Rattle.rk_message.specs.declared.reply.Reply.TheVariants as reply
 use Rattle.rk_message.specs.Wire.{spelling}
 use Rattle.rk_message.specs.Replies.{reply_message}
 use Rattle.rk_frame.specs.Framing.{frame}
+use Rattle.rk_machine.specs.Event.{Event}
+use Rattle.rk_machine.specs.declared.event.Answer.{Answer}
+use Rattle.rk_machine.specs.declared.event.Answer.TheVariants.{Done, Start, Waiting, Refused, Negate}
+use Rattle.rk_machine.specs.World.{World, empty_world}
+use Rattle.rk_machine.specs.Steps.{Beginning, Past}
+use Rattle.rk_machine.specs.Laws.{same_session}
 use Rattle.rk_served.specs.declared.output.Output.{Output}
 use Rattle.rk_served.specs.declared.output.Output.TheVariants as output
 use Rattle.rk_served.specs.declared.peer.Channel.{Channel}

@@ -1,4 +1,3 @@
-mod Words
 pub mod Unused
 pub mod Streams
 pub mod Message

@@ -1,8 +1,10 @@
 -- What a stream has next.
-use Rattle.rk_served.specs.Words.{List, ℕ, ◌≡◌, HasFault, IsPartial, Spells, IsRefusedAs}
+use Rattle.std.specs.Prelude.{◌≡◌, ℕ, List}
 use Rattle.rk_served.specs.declared.stream.Message.{Message}
 use Rattle.rk_served.specs.declared.stream.Message.TheVariants as message
 use Rattle.rk_served.specs.Unused.{Unused}
+use Rattle.rk_frame.specs.Streams.{IsPartial, HasFault}
+use Rattle.rk_message.specs.Bodies.{Spells, IsRefusedAs}
 use Rattle.rk_served.specs.Streams.{Takes}
 
 -- the message is what the old stream has next, and the new one goes on after it

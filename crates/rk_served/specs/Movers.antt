@@ -1,6 +1,7 @@
 -- The order of a heap of sessions, whose greatest is the one that comes first.
-use Rattle.rk_served.specs.Words.{Reverse, SessionId}
 use Rattle.std.specs.declared.cmp.Ordering.{Ordering}
+use Rattle.std.specs.declared.cmp.Reverse.{Reverse}
+use Rattle.rk_names.specs.declared.numbers.SessionId.{SessionId}
 use Rattle.rk_names.specs.contracts.numbers.SessionIdOrd.TheImpl.{cmp-value}
 
 -- a session as it stands in the heap

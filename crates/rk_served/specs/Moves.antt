@@ -1,14 +1,28 @@
 -- The moves of sessions.
-use Rattle.rk_served.specs.Words.{All, List, ℕ, ◌≡◌, [], Option, Some, Bool, true, ◌∷◌, false, ◌⊎◌, ◌++◌, slice_get, slice_set, HasFault, IsPartial, Errno}
-use Rattle.rk_served.specs.Words.{SessionId, Handler, Client, Line, Ask, Spells, IsRefusedAs, Command, Subject, Step, has_wait, is_ready, World, Answer}
-use Rattle.rk_served.specs.Words.{Refused, Negate, Done, Start, Waiting, Launched, Gone, Asked, Collect}
+use Rattle.std.specs.Prelude.{◌≡◌, ◌⊎◌, ℕ, Bool, true, false, List, [], ◌∷◌, ◌++◌, Option, Some, slice_get, slice_set}
+use Rattle.std.specs.List.{All}
+use Rattle.rk_names.specs.declared.numbers.SessionId.{SessionId}
+use Rattle.rk_names.specs.declared.numbers.SessionId.TheVariants.{Client, Handler}
+use Rattle.rk_names.specs.declared.errors.Errno.{Errno}
+use Rattle.rk_message.specs.Ask.{Ask}
 use Rattle.rk_message.specs.declared.reply.Reply.TheVariants as reply
+use Rattle.rk_conf.specs.declared.line.Line.{Line}
+use Rattle.rk_macro.specs.declared.command.Command.{Command}
+use Rattle.rk_macro.specs.declared.subject.Subject.{Subject}
+use Rattle.rk_machine.specs.declared.event.EventOf.TheVariants.{Asked, Launched, Collect, Gone}
 use Rattle.rk_machine.specs.declared.event.Ran.TheVariants as ran
+use Rattle.rk_machine.specs.declared.event.Answer.{Answer}
+use Rattle.rk_machine.specs.declared.event.Answer.TheVariants.{Done, Start, Waiting, Refused, Negate}
+use Rattle.rk_machine.specs.World.{World}
+use Rattle.rk_machine.specs.Steps.{Step}
+use Rattle.rk_machine.specs.Views.{is_ready, has_wait}
 use Rattle.rk_served.specs.declared.output.Output.TheVariants as output
 use Rattle.rk_served.specs.declared.peer.Channel.{Channel}
 use Rattle.rk_served.specs.declared.peer.Channel.TheVariants.{Talks, Starts, Pipes}
 use Rattle.rk_served.specs.declared.peer.Peer.{Peer}
 use Rattle.rk_served.specs.Unused.{Unused}
+use Rattle.rk_frame.specs.Streams.{IsPartial, HasFault}
+use Rattle.rk_message.specs.Bodies.{Spells, IsRefusedAs}
 use Rattle.rk_served.specs.Streams.{closed, Takes}
 use Rattle.rk_served.specs.Left.{Left, peer, without, Part, step, no_step, one_step, reply_to, replies_to}
 use Rattle.rk_served.specs.Commands.{IsCommand, HasNoCommand}

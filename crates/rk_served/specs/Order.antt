@@ -1,5 +1,8 @@
 -- The order of work: of the sessions that can move, which one is next.
-use Rattle.rk_served.specs.Words.{All, List, ℕ, ◌≡◌, [], Option, Some, None, true, ◌∷◌, slice_get, Line, Beginning, Past}
+use Rattle.std.specs.Prelude.{◌≡◌, ℕ, true, List, [], ◌∷◌, Option, Some, None, slice_get}
+use Rattle.std.specs.List.{All}
+use Rattle.rk_conf.specs.declared.line.Line.{Line}
+use Rattle.rk_machine.specs.Steps.{Beginning, Past}
 use Rattle.rk_served.specs.declared.happening.Happening.{Happening}
 use Rattle.rk_served.specs.declared.output.Output.{Output}
 use Rattle.rk_served.specs.declared.peer.Peer.{Peer}

@@ -1,12 +1,24 @@
 -- The own step of a happening.
-use Rattle.rk_served.specs.Words.{List, ℕ, ◌≡◌, [], Option, Some, None, Bool, ◌∷◌, ◌⊎◌, ◌++◌, slice_get, not, if◌then◌else◌, slice_set, is_none, Errno}
-use Rattle.rk_served.specs.Words.{SessionId, Handler, Client, Line, Command, Subject, Event, Step, is_owed, World, Answer, Refused, Negate, Launched, Ended}
-use Rattle.rk_served.specs.Words.{Gone, Opened, How}
+use Rattle.std.specs.Prelude.{◌≡◌, ◌⊎◌, ℕ, Bool, not, List, [], ◌∷◌, ◌++◌, Option, Some, None, is_none, slice_get, slice_set, if◌then◌else◌}
+use Rattle.rk_names.specs.declared.numbers.SessionId.{SessionId}
+use Rattle.rk_names.specs.declared.numbers.SessionId.TheVariants.{Client, Handler}
+use Rattle.rk_names.specs.declared.errors.Errno.{Errno}
 use Rattle.rk_names.specs.Rules.{payload_fault}
+use Rattle.rk_conf.specs.declared.line.Line.{Line}
+use Rattle.rk_macro.specs.declared.command.Command.{Command}
+use Rattle.rk_macro.specs.declared.subject.Subject.{Subject}
 use Rattle.rk_macro.specs.declared.subject.Op.TheVariants as op
+use Rattle.rk_machine.specs.Event.{Event}
+use Rattle.rk_machine.specs.declared.event.EventOf.TheVariants.{Opened, Launched, Ended, Gone}
 use Rattle.rk_machine.specs.declared.event.Ran.TheVariants as ran
+use Rattle.rk_machine.specs.declared.event.How.{How}
 use Rattle.rk_machine.specs.declared.event.How.TheVariants.{Fault}
+use Rattle.rk_machine.specs.declared.event.Answer.{Answer}
+use Rattle.rk_machine.specs.declared.event.Answer.TheVariants.{Negate, Refused}
 use Rattle.rk_machine.specs.Allowed.{done}
+use Rattle.rk_machine.specs.World.{World}
+use Rattle.rk_machine.specs.Steps.{Step}
+use Rattle.rk_machine.specs.Views.{is_owed}
 use Rattle.rk_served.specs.declared.happening.Happening.{Happening}
 use Rattle.rk_served.specs.declared.happening.Happening.TheVariants as happening
 use Rattle.rk_served.specs.declared.happening.StartResult.TheVariants.{Started, Failed}

@@ -1,10 +1,17 @@
 -- Who stands in a queue, and when nobody else may move.
-use Rattle.rk_served.specs.Words.{All, Contains, List, ℕ, ◌≡◌, [], Option, Some, None, ◌⊎◌, Reverse, SessionId, Handler, Client, unspent, awaited, World}
+use Rattle.std.specs.Prelude.{◌≡◌, ◌⊎◌, ℕ, List, [], Option, Some, None}
+use Rattle.std.specs.List.{All, Contains}
 use Rattle.std.specs.Global.{Vec}
 use Rattle.std.specs.BinaryHeap.{heap_items, heap_len}
+use Rattle.std.specs.declared.cmp.Reverse.{Reverse}
 use Rattle.std.specs.Ordering.{nat_cmp}
 use Rattle.std.specs.Option.{option_map_or}
 use Rattle.std.specs.FinMap as map
+use Rattle.rk_names.specs.declared.numbers.SessionId.{SessionId}
+use Rattle.rk_names.specs.declared.numbers.SessionId.TheVariants.{Client, Handler}
+use Rattle.rk_auth.specs.Sessions.{unspent}
+use Rattle.rk_machine.specs.World.{World}
+use Rattle.rk_machine.specs.Views.{awaited}
 use Rattle.rk_machine.proofs.Effects.OfOneConstruction.{Goods}
 use Rattle.rk_served.specs.declared.queue.Queue.{Queue}
 use Rattle.rk_served.specs.Left.{Left}

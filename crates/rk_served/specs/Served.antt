@@ -1,5 +1,9 @@
 -- Served lists: happenings, what was output for each, and the run of the machine that they are.
-use Rattle.rk_served.specs.Words.{flat_map, List, ℕ, ◌≡◌, [], Option, Some, None, true, ◌∷◌, false, ◌++◌, reverse, Line, ContinuesTo, Beginning, Past}
+use Rattle.std.specs.Prelude.{◌≡◌, ℕ, List, [], ◌∷◌, ◌++◌, reverse, Option, Some, None, true, false}
+use Rattle.std.specs.List.{flat_map}
+use Rattle.rk_conf.specs.declared.line.Line.{Line}
+use Rattle.rk_machine.specs.Laws.{ContinuesTo}
+use Rattle.rk_machine.specs.Steps.{Beginning, Past}
 use Rattle.rk_served.specs.declared.happening.Happening.{Happening}
 use Rattle.rk_served.specs.declared.output.Output.{Output}
 use Rattle.rk_served.specs.Left.{Left, Part, nothing}

@@ -1,5 +1,8 @@
 -- The order in which sessions move, and in which the peers stand.
-use Rattle.rk_served.specs.Words.{list_all, List, [], Bool, true, ◌∷◌, false, not, ◌&&◌, nat_lt, SessionId, Handler, Client}
+use Rattle.std.specs.Prelude.{Bool, true, false, not, ◌&&◌, nat_lt, List, [], ◌∷◌}
+use Rattle.std.specs.List.{list_all}
+use Rattle.rk_names.specs.declared.numbers.SessionId.{SessionId}
+use Rattle.rk_names.specs.declared.numbers.SessionId.TheVariants.{Client, Handler}
 use Rattle.rk_served.specs.declared.peer.Peer.{Peer}
 
 -- clients by rising number, and then handlers by rising key

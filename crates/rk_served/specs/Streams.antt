@@ -1,5 +1,6 @@
 -- The stream of a session.
-use Rattle.rk_served.specs.Words.{List, ℕ, ◌≡◌, [], true, false, ◌++◌, if◌then◌else◌, TakesBody}
+use Rattle.std.specs.Prelude.{◌≡◌, ℕ, true, false, List, [], ◌++◌, if◌then◌else◌}
+use Rattle.rk_frame.specs.Streams.{TakesBody}
 use Rattle.rk_served.specs.Unused.{Unused}
 
 -- a stream that is not shut, and has no unused bytes

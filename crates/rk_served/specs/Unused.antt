@@ -1,5 +1,5 @@
 -- What is left of a stream.
-use Rattle.rk_served.specs.Words.{List, ℕ, Bool}
+use Rattle.std.specs.Prelude.{ℕ, List, Bool}
 
 -- the bytes that were not used yet, and whether the stream is shut
 pub record Unused : Type 0 where

@@ -1,7 +1,9 @@
 -- What a caller sees of a replay.
-use Rattle.rk_served.specs.Words.{List, Option, Some, None, Bool, Ok, Err, Result, refl, Line, World, world_code}
+use Rattle.std.specs.Prelude.{Bool, List, Option, Some, None, Result, Ok, Err, refl}
 use Rattle.std.specs.Coded.{Coded, code_by, coded×, coded_list, coded_bool}
+use Rattle.rk_conf.specs.declared.line.Line.{Line}
 use Rattle.rk_conf.specs.contracts.line.Line as line
+use Rattle.rk_machine.specs.World.{World, world_code}
 use Rattle.rk_served.specs.declared.output.Output.{Output}
 use Rattle.rk_served.specs.declared.peer.Peer.{Peer}
 use Rattle.rk_served.specs.contracts.peer.Peer as peer

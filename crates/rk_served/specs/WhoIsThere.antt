@@ -1,9 +1,12 @@
 -- The peers are those of who is there.
-use Rattle.rk_served.specs.Words.{List, ℕ, ◌≡◌, [], Option, Some, None, Bool, true, ◌∷◌, false, slice_get, not, if◌then◌else◌, is_some, ◌&&◌, SessionId}
-use Rattle.rk_served.specs.Words.{Handler, Client, stage_of, same_session}
+use Rattle.std.specs.Prelude.{◌≡◌, ℕ, Bool, true, false, not, ◌&&◌, List, [], ◌∷◌, Option, Some, None, is_some, slice_get, if◌then◌else◌}
 use Rattle.std.specs.FinSet as set
+use Rattle.rk_names.specs.declared.numbers.SessionId.{SessionId}
+use Rattle.rk_names.specs.declared.numbers.SessionId.TheVariants.{Client, Handler}
 use Rattle.rk_auth.specs.declared.construction.Stage.{Stage}
 use Rattle.rk_auth.specs.declared.construction.Stage.TheVariants.{Starting, Plain, Piped, Negating}
+use Rattle.rk_auth.specs.Sessions.{stage_of}
+use Rattle.rk_machine.specs.Laws.{same_session}
 use Rattle.rk_served.specs.declared.peer.Channel.{Channel}
 use Rattle.rk_served.specs.declared.peer.Channel.TheVariants.{Talks, Starts, Pipes}
 use Rattle.rk_served.specs.declared.peer.Peer.{Peer}
