@@ -82,6 +82,21 @@ def add(typ, description, payload, ring):
 CALLOUT = b"\x10"
 
 
+# bytes that are no reply to any ask
+NO_REPLY = {
+    "an empty body": frame(b""),
+    "a body above the most": b"\x00\x01\x00\x01" + bytes(65537),
+    "a body of 4 GiB": b"\xff\xff\xff\xff",
+    "an unknown kind": frame(b"\x04\x00"),
+    "the greatest kind": frame(b"\xff" * 65536),
+    "an errno that there is not": frame(refused(3)),
+    "errno 0": frame(refused(0)),
+    "an errno of five bytes": frame(b"\x03\x00\x00\x00\x16"),
+    "a refusal without its errno": frame(b"\x03"),
+    "a refusal that goes on": frame(b"\x03\x16\x00"),
+}
+
+
 def answering(*bodies, split=False):
     """A daemon that answers by these bodies, of which None closes."""
     return Daemon([body and frame(body) for body in bodies], split)

@@ -91,19 +91,13 @@ REPLIES = [
 
 # bytes that begin with no reply
 MALFORMED = {
-    "an empty body": peer.frame(b""),
-    "a length above the most": b"\x00\x01\x00\x01" + bytes(65537),
-    "a length of 4 GiB": b"\xff\xff\xff\xff",
-    "an unknown kind": peer.frame(b"\x04\x00"),
+    **peer.NO_REPLY,
     "a number that is cut": peer.frame(b"\x00\x00\x00\x00"),
     "a number that goes on": peer.frame(peer.number(1) + b"\x00"),
     "bytes that are cut": peer.frame(b"\x01\x00\x03hi"),
     "bytes that go on": peer.frame(peer.data(b"hi") + b"\x00"),
     "too many bytes": peer.frame(b"\x01\xff\xfe" + bytes(65533)),
     "three rings": peer.frame(b"\x02" + bytes(12)),
-    "an errno that there is not": peer.frame(peer.refused(3)),
-    "errno 0": peer.frame(peer.refused(0)),
-    "a refusal without its errno": peer.frame(b"\x03"),
 }
 
 # bytes that end before a reply does

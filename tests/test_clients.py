@@ -66,19 +66,6 @@ GOOD = [
     ("callout", peer.CALLOUT, peer.data("Räuber".encode()), "bytes R%C3%A4uber"),
 ]
 
-# replies to no ask
-NO_REPLY = {
-    "an empty body": peer.frame(b""),
-    "a body above the most": b"\x00\x01\x00\x01" + bytes(65537),
-    "a body of 4 GiB": b"\xff\xff\xff\xff",
-    "an unknown kind": peer.frame(b"\x04\x00"),
-    "the greatest kind": peer.frame(b"\xff" * 65536),
-    "an errno that there is not": peer.frame(peer.refused(3)),
-    "errno 0": peer.frame(peer.refused(0)),
-    "an errno of five bytes": peer.frame(b"\x03\x00\x00\x00\x16"),
-    "a refusal without its errno": peer.frame(b"\x03"),
-    "a refusal that goes on": peer.frame(b"\x03\x16\x00"),
-}
 NUMBER, BYTES, FOUR = peer.number(0), peer.data(b"hi"), RINGS
 # what is no reply to an ask that is answered by such a number, bytes, or rings
 WRONG = {
@@ -158,7 +145,7 @@ def meets_hostile(client, room):
     names, cases = [], []
     for name, line in ONE_OF_EACH.items():
         wrong = {f"wrong reply {body[:8].hex()} of {len(body)}": peer.frame(body) for body in WRONG[ANSWERED.get(name, "0")]}
-        for fault, reply in {**(NO_REPLY if name in ["hello", "request", "read", "revoke"] else {}), **wrong}.items():
+        for fault, reply in {**(peer.NO_REPLY if name in ["hello", "request", "read", "revoke"] else {}), **wrong}.items():
             names.append(f"{client.name}: {name} and {fault}")
             cases.append(([line, "revoke 3"], [reply, peer.frame(NUMBER)], False))
     for name, (told, heard) in zip(names, sessions(client, cases)):

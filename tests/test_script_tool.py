@@ -201,6 +201,7 @@ def whole_texts():
         (b"c0 READ {N}\n  c0 <- {2*N+1}\n", b"c0 READ 1\n  c0 <- 3\nc0 READ 2\n  c0 <- 5\nc0 READ 3\n  c0 <- 7\n"),
         (b"c0 body {N+8:02x}ff\n", b"c0 body 09ff\nc0 body 0aff\nc0 body 0bff\n"),
         (b"bytes 0 ff{0001000203:N-1}\n", b"bytes 0 ff\nbytes 0 ff00\nbytes 0 ff0001\n"),
+        (b"bytes 0 {0a0b0c0d0e@N+2}\n", b"bytes 0 0c\nbytes 0 0d\nbytes 0 0e\n"),
     ]:
         told, wanted = b"100 accept 0\nrepeat N 1 3\n" + repeated + b"end\ngone 0\n", b"100 accept 0\n" + unrolled + b"gone 0\n"
         count.same(f"a repeat of {repeated}", (script.write(told), script.answers(told)), (script.write(wanted), script.answers(wanted)))

@@ -22,7 +22,7 @@ CLIENTS = 2**32 - 1
 KEYS = 2**31 - 1
 MOMENTS = 2**64 - 1
 ROUNDS = 1_000_000
-PLACE = re.compile(r"\{(?:((?:[0-9a-f]{2})+):)?(?:([0-9]+)\*)?N([+-][0-9]+)?(?::(02x))?\}")
+PLACE = re.compile(r"\{(?:((?:[0-9a-f]{2})+)([:@]))?(?:([0-9]+)\*)?N([+-][0-9]+)?(?::(02x))?\}")
 
 
 def split(text):
@@ -277,14 +277,14 @@ def rounds(text):
 
 def in_round(text, at):
     """A line in one round: the number of the round, or a sum of it, in the place of `{N}`, `{N+999}`, `{2*N-1}`, as two hexadecimal digits in that of
-    `{N:02x}`, and so many bytes from the first on in that of `{0000000507:N}`."""
+    `{N:02x}`; of bytes the first so many in that of `{0000000507:N}`, and one of them, counted from 1, in that of `{0000000507@N}`."""
 
     def value(found):
-        given, factor, term, digits = found.groups()
+        given, part, factor, term, digits = found.groups()
         total = int(factor or 1) * at + int(term or 0)
         if total < 0:
             raise Fault(f"{found[0]} is less than 0 where N is {at}")
-        return given[: 2 * total] if given else format(total, digits or "d")
+        return given[2 * total - 2 if part == "@" else 0 : 2 * total] if given else format(total, digits or "d")
 
     return PLACE.sub(value, text)
 
