@@ -281,8 +281,9 @@ def served_again(daemon):
 
 
 def full_record(program, hall):
-    """More steps in one hall than a volume of its record has: it is reported and dropped, and nobody notices. A few places of it are kept for what is owed."""
-    with Daemon(program) as daemon, daemon.client(1000 + hall) as client:
+    """More steps in one hall than a volume of its record has: it is reported, counted and dropped, and nobody notices. A few places of it are kept for what is
+    owed."""
+    with Daemon(program, "", "--status", "1", "--log", "error") as daemon, daemon.client(1000 + hall) as client:
         key = client.ask(ask.add(b"user", b"k", b"v", -4))
         asks, reply = ask.frame(ask.default(-1)) * 4096, ask.frame(ask.number(0)) * 4096
         for sent in range(0, VOLUME + 4096, 4096):
@@ -293,12 +294,18 @@ def full_record(program, hall):
             ended(sender, "the asks")
         told = until(lambda: [line for line in daemon.lines if line.startswith("volume ")], "the line of the volume")
         steps = int(told[0].removeprefix(f"volume {hall} 1 "))
+        until(lambda: are_counted(daemon, 1), "a line of figures that counts the volume")
         return differs((client.ask(ask.on_key(7, key)), len(told), VOLUME - 64 <= steps <= VOLUME), (b"v", 1, True)) or daemon.lives()
+
+
+def are_counted(daemon, volumes):
+    """Whether a line of figures says that so many volumes were full."""
+    return any(text_of(line).startswith("info: status: ") and line.endswith(f", volumes {volumes}") for line in daemon.lines)
 
 
 def long_payloads(program, hall):
     """Long payloads in one hall: the volume of its record is handed out long before it has all its steps, and what the daemon holds stays bounded."""
-    with Daemon(program, "", "--clients", "1") as daemon:
+    with Daemon(program, "", "--clients", "1", "--status", "1", "--log", "error") as daemon:
         with daemon.client(1000 + hall) as client:
             add = ask.add(b"user", b"k", b"v" * 32000, -4)
             before = memory(daemon, "VmRSS")
@@ -307,8 +314,9 @@ def long_payloads(program, hall):
                 if not all(isinstance(key, int) for key in keys):
                     return f"a reply among the asks from {sent} on: {keys}"
             held = memory(daemon, "VmRSS") - before
+            until(lambda: are_counted(daemon, 4), "a line of figures that counts the volumes")
         status, lines = daemon.end()
-        steps = [int(line.removeprefix(f"volume {hall} ").split(" ")[1]) for line in lines]
+        steps = [int(line.removeprefix(f"volume {hall} ").split(" ")[1]) for line in lines if line.startswith("volume ")]
         return differs((status, len(steps), min(steps, default=0) > 400, max(steps, default=0) < 800, held < 100 << 10), (0, 4, True, True, True))
 
 

@@ -26,6 +26,7 @@ use Rattle.rk_daemon.specs.contracts.tally.Tally as tally
 use Rattle.rk_daemon.specs.contracts.tally.Tallies as tallies
 use Rattle.rk_daemon.specs.contracts.reporter.LogState as log_state
 use Rattle.rk_daemon.specs.contracts.workers.Shared as shared
+use Rattle.rk_daemon.specs.contracts.workers.Times as times
 
 typ_send : IsSend typ.the_row
 typ_send = search (sendable, crosses) depth 40 fits 20000
@@ -126,6 +127,12 @@ log_send = let t = tallies_send in search (sendable, crosses) depth 40 fits 2000
 log_sync : IsSync (Struct (shape log_state.the_type))
 log_sync = let t = tallies_sync in search (sendable, crosses) depth 40 fits 20000
 
+times_send : IsSend (Struct (shape times.the_type))
+times_send = search (sendable, crosses) depth 40 fits 20000
+
+times_sync : IsSync (Struct (shape times.the_type))
+times_sync = search (sendable, crosses) depth 40 fits 20000
+
 module _ (N : RattleType) (g : names.Ghosts N.Denot) (n : IsSend N) where
   pub shared_send : IsSend (shared.the_row N g)
   shared_send =
@@ -147,7 +154,7 @@ module _ (N : RattleType) (g : names.Ghosts N.Denot) (n : IsSend N) where
                     log_send,
                     (
                       search (sendable, crosses) depth 40 fits 20000,
-                      (let r = run_send in search (sendable, crosses) depth 40 fits 20000, (search sendable depth 20, (search sendable depth 20, tt))),
+                      (let r = run_send in search (sendable, crosses) depth 40 fits 20000, (times_send, tt)),
                     ),
                   ),
                 ),
@@ -177,7 +184,7 @@ module _ (N : RattleType) (g : names.Ghosts N.Denot) (n : IsSend N) where
                     log_sync,
                     (
                       search (sendable, crosses) depth 40 fits 20000,
-                      (let r = run_sync in search (sendable, crosses) depth 40 fits 20000, (search sendable depth 20, (search sendable depth 20, tt))),
+                      (let r = run_sync in search (sendable, crosses) depth 40 fits 20000, (times_sync, tt)),
                     ),
                   ),
                 ),

@@ -120,7 +120,6 @@ impl<'a, E: Wait + Eprint + Clock, N: Names, S: Shelf> Gate for Relief<'a, E, N,
             if self.held.is_over(hall, MOST)
                 && let Ok(volume) = self.halls.roll(rt, hall)
             {
-                self.held.roll();
                 self.shelf.put(rt, volume);
             }
         }

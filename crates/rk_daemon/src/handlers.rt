@@ -1,5 +1,5 @@
 //! The handlers that run.
-ghost use Rattle.std.specs.Prelude.{◌≡◌, ◌<◌, IfSome, length, position};
+ghost use Rattle.std.specs.Prelude.{◌≡◌, ◌<◌, ◌==◌, not, IfSome, filter, length, position};
 ghost use Rattle.rk_daemon.specs.Handlers.{is_slow, oldest_of, IsTaken};
 
 use crate::figures::{InRun, Oldest};
@@ -76,6 +76,13 @@ fn oldest_of(running: &[Started], now: u64) -> Option<Oldest>
     })
 }
 
+/// The handler of this key runs no more. The others stay, in their order.
+fn leave_out(running: &mut Vec<Started>, key: Serial)
+    ensures { running.new.items ≡ filter (λ s. not (s.key == key)) running.old.items }
+{
+    running.retain(|started| started.key != key);
+}
+
 /// The handlers that run, in the order in which they were started.
 #[derive(Drop)]
 pub struct Handlers {
@@ -103,7 +110,7 @@ impl Handlers {
 
     /// The handler of this key has ended, or was not started.
     pub fn end<R: Wait>(&self, rt: &R, key: Serial) {
-        self.running.lock(rt).retain(|started| started.key != key);
+        leave_out(&mut self.running.lock(rt), key);
     }
 
     /// The first one that has run for so many seconds, and for which this was not asked before.

@@ -8,13 +8,13 @@ use rk_machine::Answer;
 use rk_message::{Ask, Reply};
 use std::sync::atomic::{AtomicU64, Ordering};
 
-/// How many bytes of asks and replies each hall's record has taken since its volume was last handed out, about, and how many volumes were. Threads count
-/// here without a lock.
+/// How many bytes of asks and replies each hall's record has taken since its volume was last handed out, about, and how many volumes were full. Threads
+/// count here without a lock.
 #[derive(Drop)]
 pub struct Held {
     /// The bytes of each hall.
     bytes: ByHall<AtomicU64>,
-    /// The volumes that were handed out, of all halls.
+    /// The volumes that were full and handed out, of all halls.
     volumes: AtomicU64,
 }
 
@@ -37,12 +37,12 @@ impl Held {
         self.bytes.of(hall).fetch_add(bytes, Ordering::Relaxed);
     }
 
-    /// Counts a volume that was handed out.
+    /// Counts a volume that was full and handed out.
     pub fn roll(&self) {
         self.volumes.fetch_add(1, Ordering::Relaxed);
     }
 
-    /// How many volumes were handed out.
+    /// How many volumes were full and handed out.
     pub fn volumes(&self) -> u64 {
         self.volumes.load(Ordering::Relaxed)
     }

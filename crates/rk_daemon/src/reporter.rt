@@ -1,5 +1,5 @@
 //! The one place that makes lines of the log.
-ghost use Rattle.std.specs.Prelude.{Some};
+ghost use Rattle.std.specs.Prelude.{◌≡◌, ◌/◌, Some};
 ghost use Rattle.log.specs.Level.{allows};
 
 use crate::entry::{Entry, Prefix, moment};
@@ -42,6 +42,13 @@ impl LogState {
     }
 }
 
+/// The whole minutes of so many seconds.
+fn minute_of(seconds: u64) -> u64
+    ensures { result ≡ seconds / 60 }
+{
+    seconds / 60
+}
+
 /// A log on standard error. A line that is not important enough is dropped, and so is one of a kind of which there were many in this minute.
 #[derive_where(Clone, Copy)]
 pub struct Reporter<'a, R> {
@@ -72,7 +79,7 @@ impl<'a, R: Eprint + Clock + Wait> Reporter<'a, R> {
 
     /// The minute of the monotonic clock.
     pub fn minute(&self) -> u64 {
-        self.seconds() / 60
+        minute_of(self.seconds())
     }
 
     /// Writes how many lines of each kind were left out in the minutes before this one.

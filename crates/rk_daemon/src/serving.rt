@@ -19,7 +19,7 @@ use crate::style::Style;
 use crate::system_door::SystemDoor;
 use crate::system_place::SystemPlace;
 use crate::system_standard::SystemStandard;
-use crate::workers::{Shared, start, start_watch};
+use crate::workers::{Shared, Times, start, start_watch};
 use log::warn;
 use rk_conf::Conf;
 use rk_hall::{Fresh, HallNo, Halls, Names};
@@ -111,8 +111,7 @@ fn serve_at<
             log,
             keyutils,
             run,
-            negative: settings.negative,
-            idle: settings.idle,
+            times: Times::of(settings),
         },
     )?;
     serve_out(rt, alloc, &shared, listener, settings, errors)?;

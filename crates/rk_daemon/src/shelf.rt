@@ -4,6 +4,7 @@ ghost use Rattle.std.specs.Prelude.{None};
 use crate::bindery::Bindery;
 use crate::binding::{bind, head_of};
 use crate::chain::{Chain, Run};
+use crate::held::Held;
 use crate::record::Keeper;
 use log::Log;
 use rk_hall::{Names, Recorded, Volume};
@@ -25,16 +26,26 @@ pub struct Outlet<'a, R: Eprint + Log + Keeper> {
     run: Option<&'a Run>,
     /// For how many seconds keys of these halls are negative.
     negative: u32,
+    /// Counts the volumes that were full.
+    held: &'a Held,
 }
 
 impl<'a, R: Eprint + Log + Keeper> Outlet<'a, R> {
-    /// A shelf that writes by this handle, into the folder of this run's record, volumes of halls with these seconds for negative keys.
-    pub fn new(rt: &'a R, alloc: Global, run: Option<&'a Run>, negative: u32) -> Outlet<'a, R> {
+    /// A shelf that writes by this handle, into the folder of this run's record, volumes of halls with these seconds for negative keys. It counts here those
+    /// that were full.
+    pub fn new(
+        rt: &'a R,
+        alloc: Global,
+        run: Option<&'a Run>,
+        negative: u32,
+        held: &'a Held,
+    ) -> Outlet<'a, R> {
         Outlet {
             rt,
             alloc,
             run,
             negative,
+            held,
         }
     }
 
@@ -69,8 +80,9 @@ impl<'a, R: Eprint + Log + Keeper> Outlet<'a, R> {
 }
 
 impl<'a, E: Eprint + Log + Keeper> Shelf for Outlet<'a, E> {
-    /// A volume that can't be written is a warning, and dropped; then the record lacks it.
+    /// Counts a volume, which was full of steps or of bytes. One that can't be written is a warning, and dropped; then the record lacks it.
     fn put<N: Names, R: Wait>(&self, rt: &R, volume: Volume<N>) {
+        self.held.roll();
         self.hand_out(rt, volume, false);
     }
 }

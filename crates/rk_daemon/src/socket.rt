@@ -1,5 +1,8 @@
 //! The wire of a client over a socket.
-ghost use Rattle.std.specs.Prelude.{◌≡◌, ◌≤◌, ◌+◌, ◌==◌, not, None, true, false, length, vec_len, vec_capacity};
+ghost use Rattle.std.specs.Prelude.{◌≡◌, ◌≤◌, ◌+◌, ◌*◌, ◌==◌, ◌↔◌, IsTrue, not, None, true, false, length, option_map, vec_len, vec_capacity};
+ghost use Rattle.std.specs.Prelude.{if◌then◌else◌};
+ghost use Rattle.std.specs.Duration.{as_nanos};
+ghost use Rattle.std.specs.IoError.{error_kind};
 ghost use Rattle.rk_devices.specs.Counts.{Rose, raised};
 ghost use Rattle.rk_session.specs.Wires.{Sends, Writes};
 
@@ -44,6 +47,23 @@ fn one_more(count: u64) -> u64
     if count < u64::MAX { count + 1 } else { count }
 }
 
+/// For how long a read waits that may wait so many seconds, of which 0 is no limit.
+fn patience(seconds: u32) -> Option<Duration>
+    ensures { option_map as_nanos result ≡ (if seconds == 0 then None else Some (seconds * 1_000_000_000)) }
+{
+    if seconds == 0 {
+        return None;
+    }
+    Some(Duration::from_secs(u64::from(seconds)))
+}
+
+/// Whether a read has failed since nothing came for as long as it waits (SO_RCVTIMEO of socket(7)).
+fn is_silence(error: &io::Error) -> bool
+    ensures { IsTrue result ↔ (error_kind error.now ≡ ErrorKind.WouldBlock) }
+{
+    matches!(error.kind(), ErrorKind::WouldBlock)
+}
+
 impl<'a> Socket<'a> {
     /// The socket of a connection that was accepted, which counts what the records hold here. It takes no memory.
     pub fn new(alloc: Global, stream: UnixStream, held: &'a Held) -> Socket<'a>
@@ -67,11 +87,10 @@ impl<'a> Socket<'a> {
 
     /// Has reads fail after so many seconds in which nothing comes; 0 is no limit.
     pub fn set_patience(&self, seconds: u32) -> io::Result<()> {
-        if seconds == 0 {
-            return Ok(());
+        match patience(seconds) {
+            Some(time) => self.stream.set_read_timeout(Some(time)),
+            None => Ok(()),
         }
-        self.stream
-            .set_read_timeout(Some(Duration::from_secs(u64::from(seconds))))
     }
 
     /// Whether a read has failed since nothing came for so long.
@@ -150,7 +169,7 @@ impl<'a> Wire for Socket<'a> {
         match self.stream.read(buf) {
             Ok(count) => Ok(count),
             Err(error) => {
-                self.is_idle = error.kind() == ErrorKind::WouldBlock;
+                self.is_idle = is_silence(&error);
                 Err(self.fault())
             }
         }

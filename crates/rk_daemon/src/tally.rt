@@ -107,6 +107,9 @@ pub struct Tallies {
 }
 
 impl Tallies {
+    ghost use Rattle.std.specs.Prelude.{◌≡◌};
+    ghost use Rattle.rk_daemon.specs.Tally.{tally_of};
+
     /// No line yet.
     pub fn new() -> Tallies {
         Tallies {
@@ -120,7 +123,9 @@ impl Tallies {
     }
 
     /// That of a kind.
-    pub fn of(&self, kind: Kind) -> &Tally {
+    pub fn of(&self, kind: Kind) -> &Tally
+        ensures { result.now ≡ tally_of kind self.now }
+    {
         match kind {
             Kind::Session => &self.session,
             Kind::Handler => &self.handler,

@@ -1,5 +1,5 @@
 //! What the daemon looks after by the clock.
-ghost use Rattle.std.specs.Prelude.{◌≡◌, ◌-◌};
+ghost use Rattle.std.specs.Prelude.{◌≡◌, ◌-◌, ◌&&◌, nat_le, nat_lt, if◌then◌else◌};
 
 use crate::figures::{Clients, Figures, InHalls, Running};
 use crate::handlers::Started;
@@ -34,11 +34,22 @@ pub fn watch<N: Names, R: Wait + Clock + Eprint + Keeper>(
         if settings.slow > 0 {
             tell_slow(rt, &log, shared, now, u64::from(settings.slow));
         }
-        if settings.status > 0 && now.saturating_sub(told) >= u64::from(settings.status) {
+        if is_due(&mut told, now, settings.status) {
             tell_figures(rt, &log, shared, now);
-            told = now;
         }
     }
+}
+
+/// Whether the figures, which were told then, are to be told now, after so many seconds; 0 is for never. If so, they are told now.
+fn is_due(told: &mut u64, now: u64, seconds: u32) -> bool
+    ensures due { result ≡ (nat_lt 0 seconds && nat_le seconds (now - told.old)) }
+    ensures told { told.new ≡ (if result then now else told.old) }
+{
+    let is_due = seconds > 0 && now.saturating_sub(*told) >= u64::from(seconds);
+    if is_due {
+        *told = now;
+    }
+    is_due
 }
 
 /// Warns of each handler that has run for so many seconds, once.

@@ -1,5 +1,5 @@
 //! Workers that serve one connection at a time.
-ghost use Rattle.std.specs.Prelude.{◌≤◌};
+ghost use Rattle.std.specs.Prelude.{◌≡◌, ◌≤◌, vec_len, IfOk};
 ghost use Rattle.rk_devices.specs.Counts.{most};
 
 use crate::chain::Run;
@@ -11,7 +11,7 @@ use crate::held::Held;
 use crate::platform::WorkerPlatform;
 use crate::record::Keeper;
 use crate::reporter::{LogState, Reporter};
-use crate::settings::LogSettings;
+use crate::settings::{LogSettings, Settings};
 use crate::shelf::Outlet;
 use crate::socket::Socket;
 use crate::watching::watch;
@@ -61,10 +61,30 @@ pub struct Shared<N: Names> {
     pub keyutils: Option<String>,
     /// This run, where its record is written.
     pub run: Option<Run>,
-    /// For how many seconds a key is negative whose handler did not complete it.
+    /// How long keys are negative and clients may be silent.
+    pub times: Times,
+}
+
+/// Times that an operator sets, in seconds.
+#[derive(Clone, Copy, Debug)]
+pub struct Times {
+    /// For how long a key is negative whose handler did not complete it.
     pub negative: u32,
-    /// For how many seconds a client that is read may be silent; 0 for any time.
+    /// For how long a client that is read may be silent; 0 for any time.
     pub idle: u32,
+}
+
+impl Times {
+    /// Those of the settings.
+    pub fn of(settings: &Settings<'_>) -> Times
+        ensures negative { result.negative ≡ settings.now.negative }
+        ensures idle { result.idle ≡ settings.now.idle }
+    {
+        Times {
+            negative: settings.negative,
+            idle: settings.idle,
+        }
+    }
 }
 
 impl<N: Names> Shared<N> {
@@ -74,7 +94,13 @@ impl<N: Names> Shared<N> {
         log: &'a Reporter<'a, R>,
         alloc: Global,
     ) -> Outlet<'a, Reporter<'a, R>> {
-        Outlet::new(log, alloc, self.run.as_ref(), self.negative)
+        Outlet::new(
+            log,
+            alloc,
+            self.run.as_ref(),
+            self.times.negative,
+            &self.held,
+        )
     }
 }
 
@@ -134,7 +160,7 @@ fn serve_clients<'a, N: Names, R: Wait + Processes + Clock + Eprint + Keeper>(
         let Client { number, stream } = client;
         let mut socket = Socket::new(alloc, stream, &shared.held);
         shared.connections.begin();
-        let _ = socket.set_patience(shared.idle);
+        let _ = socket.set_patience(shared.times.idle);
         serve_client(&stage, &log, &mut crew, number, &mut socket);
         // (before the connection is closed: whoever sees that may count on this worker)
         shared.connections.go();
@@ -179,15 +205,40 @@ pub fn start<
     shared: &Arc<Shared<N>>,
     clients: &Receiver<Client>,
     workers: u32,
-) -> Result<Vec<JoinHandle<()>>, AllocError> {
+) -> Result<Vec<JoinHandle<()>>, AllocError>
+    ensures { IfOk result (λ all. vec_len all ≡ workers) }
+{
     let mut all = Vec::with_capacity(alloc, workers as usize)?;
     for _ in 0..workers {
-        let (own, theirs) = (rt.clone()?, clients.clone()?);
-        let shared = Arc::try_clone(shared)?;
-        let worker = thread::spawn(rt, move || work(&own, alloc, &shared, &theirs))?;
+        let worker = start_one(rt, alloc, shared, clients)?;
         all.push(worker)?;
     }
     Ok(all)
+}
+
+/// Starts a worker.
+fn start_one<
+    N: Names + Send + Sync + 'static,
+    R: Threads
+        + Wait
+        + Processes<Started = SystemProcess>
+        + Clock
+        + Eprint
+        + Keeper
+        + Clone
+        + Send
+        + Drop
+        + 'static,
+>(
+    rt: &R,
+    alloc: Global,
+    shared: &Arc<Shared<N>>,
+    clients: &Receiver<Client>,
+) -> Result<JoinHandle<()>, AllocError> {
+    let (own, theirs) = (rt.clone()?, clients.clone()?);
+    let shared = Arc::try_clone(shared)?;
+    let worker = thread::spawn(rt, move || work(&own, alloc, &shared, &theirs))?;
+    Ok(worker)
 }
 
 /// Starts the thread that looks after the daemon until the other end of the channel is dropped.

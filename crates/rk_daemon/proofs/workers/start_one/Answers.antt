@@ -4,7 +4,7 @@ use Rattle.std.proofs.Crossing.{crosses, Arc-send}
 use Rattle.rk_daemon.specs.contracts.workers.Client as client
 use Rattle.rk_daemon.specs.contracts.workers.Shared as shared
 use Rattle.rk_daemon.proofs.Crossing.{shared_send, shared_sync}
-use Rattle.rk_daemon.proofs.workers.start.Goals as goal
+use Rattle.rk_daemon.proofs.workers.start_one.Goals as goal
 
 client_send : IsSend client.the_row
 client_send = search (sendable, crosses) depth 40 fits 20000
