@@ -1,6 +1,9 @@
-//! What the faults of halls and records print.
+//! What the faults of halls and records print, and the ends of launches.
 use crate::same::same;
+use rk_devices::{Driven, OutputFault};
 use rk_hall::{CallFault, HallFault, HallNo, Lapse, Rejoin, SettleFault};
+use rk_machine::How;
+use rk_macro::ExpandFault;
 use std::alloc::Global;
 use std::fmt::Display;
 use std::process::Abort;
@@ -82,6 +85,34 @@ fn records_that_do_not_agree(rt: HostRuntime) -> Result<(), Fail> {
         (Rejoin::NoMemory, "out of memory"),
     ] {
         prints(&rt, alloc, fault, text)?;
+    }
+    Ok(())
+}
+
+#[test]
+fn how_a_launch_was_brought_to_its_end(rt: HostRuntime) -> Result<(), Fail> {
+    let alloc = rt.alloc();
+    for (driven, text) in [
+        (
+            Driven::NoPayload(OutputFault::Empty),
+            "no payload (0 bytes)",
+        ),
+        (
+            Driven::NotMade(ExpandFault::NoKey),
+            "X1: an argument %{..} is the payload of a key that the requester doesn't find",
+        ),
+        (
+            Driven::NotMade(ExpandFault::NotText),
+            "X2: a payload is no text",
+        ),
+        (
+            Driven::NotMade(ExpandFault::TooLong),
+            "X3: the words are more than 65536 bytes",
+        ),
+        (Driven::NotMade(ExpandFault::NoMemory), "X4: no memory"),
+        (Driven::Ended(How::Exit(3)), "Ended(Exit(3))"),
+    ] {
+        prints(&rt, alloc, driven, text)?;
     }
     Ok(())
 }

@@ -1,5 +1,4 @@
 -- What a thread has kept may go to the one that gathers it. Each part is a lemma, since a search that goes down through all of them runs out of steps.
-use denote.Ref.{NamedLft}
 use denote.RattleType.{RattleType}
 use denote.Param.Send.{IsSend, IsSync, sendable}
 use Rattle.std.proofs.Crossing.{crosses}
@@ -12,10 +11,8 @@ use Rattle.rk_hall.specs.declared.names.Names as names
 use Rattle.rk_hall.specs.contracts.seat.Seat as seat
 use Rattle.rk_hall.specs.contracts.volume.Volume as volume
 use Rattle.rk_hall.proofs.Crossing.{answer_send, book_send, recorded_send, reply_send, shared_send, subject_send}
-use Rattle.rk_live_tests.specs.contracts.fakes.turns.Held as held
 use Rattle.rk_live_tests.specs.contracts.fakes.turns.Turns as turns
 use Rattle.rk_live_tests.specs.contracts.sessions.side_by_side.Left as left
-use Rattle.rk_live_tests.specs.contracts.sessions.side_by_side.Side as side
 use Rattle.rk_live_tests.specs.contracts.threads.caller.Caller as caller
 
 -- threads may share the allocator
@@ -25,14 +22,6 @@ global_sync = search (sendable, crosses) depth 40 fits 20000
 -- threads may share the turns of a scene
 pub turns_sync : IsSync turns.the_row
 turns_sync = search (sendable, crosses) depth 40 fits 20000
-
--- threads may share a gate
-pub held_sync : (ℓ : NamedLft) → IsSync (held.the_row ℓ)
-held_sync ℓ = let t = turns_sync in search (sendable, crosses) depth 40 fits 20000
-
--- what a client says and is to be told may go to another thread
-pub side_send : IsSend side.the_row
-side_send = search (sendable, crosses) depth 40 fits 20000
 
 told_send : IsSend told.the_row
 told_send = let k = shared_send in search (sendable, crosses) depth 120 fits 20000

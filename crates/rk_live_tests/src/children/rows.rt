@@ -9,6 +9,8 @@ use crate::halls::opening::in_new_halls;
 use rk_devices::Driven::{self, ReadFailed, StartFailed, WaitFailed};
 use rk_machine::How;
 use rk_names::Errno;
+use std::alloc::Global;
+use std::process::Abort;
 
 /// The client gets its key.
 pub const MADE: Said = Said::Number(12);
@@ -183,6 +185,18 @@ fn failing(whole: &Handling, row: &Row) -> Handling {
     }
 }
 
+/// The handling, where the call of each of these rows fails.
+fn each_fails<R: std::sync::Wait + Abort + Copy>(
+    rt: &R,
+    alloc: Global,
+    whole: &Handling,
+    rows: &[Row],
+) {
+    for row in rows {
+        in_new_halls(rt, alloc, STEPS, &failing(whole, row));
+    }
+}
+
 #[test]
 fn a_call_of_a_device_fails(rt: HostRuntime) {
     for (whole, rows) in [
@@ -192,9 +206,7 @@ fn a_call_of_a_device_fails(rt: HostRuntime) {
         (NESTED, NESTED_ROWS),
         (IN_PIECES, IN_PIECES_ROWS),
     ] {
-        for row in rows {
-            in_new_halls(&rt, rt.alloc(), STEPS, &failing(&whole, row));
-        }
+        each_fails(&rt, rt.alloc(), &whole, rows);
     }
 }
 

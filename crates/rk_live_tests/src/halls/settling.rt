@@ -2,7 +2,7 @@
 ghost use Rattle.rk_hall.specs.Seats.{IsCall};
 
 use crate::asks::{CLIENT, NOW, add, hello, request};
-use crate::halls::calls::{calls, greets, refuse_launch};
+use crate::halls::calls::{calls, calls_in, greets, refuse_launch};
 use crate::halls::opening::{Scene, in_new_halls};
 use crate::halls::paths::{goes, keep, settled};
 use crate::record::events::hall;
@@ -250,6 +250,29 @@ fn hears_of_nine<N: Names, R: Wait + Abort>(rt: &R, alloc: Global, halls: &Halls
     let behind = refused(rt, halls, &mut seat, comes(8));
     same(rt, behind, Some(CallFault::Behind { seen: 9, found: 8 }));
     halls.retire(rt, seat);
+}
+
+/// A seat that has turns in each hall is given back: all of them stay counted.
+struct FourHalls;
+
+impl Scene for FourHalls {
+    fn play<N: Names, R: Wait + Abort + Copy>(&self, rt: &R, alloc: Global, halls: Halls<N>) {
+        let mut one = halls.seat(rt).expect(rt, "a seat");
+        let mut two = halls.seat(rt).expect(rt, "a seat");
+        for hall in HallNo::ALL {
+            drop(calls_in(rt, &halls, &mut one, hall, comes(1)));
+            drop(calls_in(rt, &halls, &mut one, hall, comes(2)));
+            drop(calls_in(rt, &halls, &mut two, hall, comes(3)));
+        }
+        halls.retire(rt, one);
+        let seats = vec![in alloc; two].expect(rt, "memory");
+        same(rt, settled(alloc, halls, seats, &[]), Ok(total(4, 8)));
+    }
+}
+
+#[test]
+fn a_seat_is_given_back_in_each_hall(rt: HostRuntime) {
+    in_new_halls(&rt, rt.alloc(), 100, &FourHalls);
 }
 
 #[test]

@@ -12,6 +12,9 @@ use crate::sessions::bytes::{
 use crate::sessions::line::Cut;
 use crate::sessions::serving::Session;
 use rk_session::Served;
+use std::alloc::Global;
+use std::process::Abort;
+use std::sync::Wait;
 
 /// It greets, requests key 12, whose handler completes it, and gets its serial. The clock is read for each of its nine steps, and once more before the
 /// handler is started.
@@ -126,6 +129,13 @@ fn with_fuse(whole: &Session, row: &Row) -> Session {
     }
 }
 
+/// The session, where the call of each of these rows fails.
+fn each_fails<R: Wait + Abort + Copy>(rt: &R, alloc: Global, whole: &Session, rows: &[Row]) {
+    for row in rows {
+        in_new_halls(rt, alloc, whole.room, &with_fuse(whole, row));
+    }
+}
+
 #[test]
 fn a_call_of_a_handler_fails(rt: HostRuntime) {
     for (whole, rows) in [
@@ -135,9 +145,7 @@ fn a_call_of_a_handler_fails(rt: HostRuntime) {
         (NESTED, NESTED_ROWS),
         (IN_PIECES, IN_PIECES_ROWS),
     ] {
-        for row in rows {
-            in_new_halls(&rt, rt.alloc(), whole.room, &with_fuse(&whole, row));
-        }
+        each_fails(&rt, rt.alloc(), &whole, rows);
     }
 }
 

@@ -49,13 +49,15 @@ impl Side {
         rt: &R,
         alloc: Global,
         halls: &Halls<N>,
-        gate: &Held<'_>,
+        turns: &Turns,
+        until: u64,
         client: u32,
     ) -> Left<N> {
+        let gate = Held { turns, until };
         let line = Line::new(alloc, self.pieces, false, None).expect(rt, "memory");
         let mut wire = InTurn {
             line,
-            turns: gate.turns,
+            turns,
             at: self.at,
             waited: 0,
         };
@@ -65,7 +67,7 @@ impl Side {
             started: PLAIN,
             fuse: None,
         };
-        let (seat, came) = serves(rt, alloc, halls, gate, own, &mut wire);
+        let (seat, came) = serves(rt, alloc, halls, &gate, own, &mut wire);
         let InTurn { line, .. } = wire;
         let replies = joined(alloc, self.replies, 1).expect(rt, "memory");
         let commands = joined(alloc, self.commands, 1).expect(rt, "memory");
@@ -94,19 +96,15 @@ pub struct Pair {
 }
 
 impl Pair {
-    /// Plays it, and settles with all receipts.
+    /// Plays the pair at this place of `PAIRS`, and settles with all receipts.
     pub fn play<N: Names + Send + Sync, R: Wait + Abort + Threads + Sync>(
-        self,
+        place: usize,
         rt: &R,
         alloc: Global,
         halls: Halls<N>,
     ) {
         let turns = Turns::new();
-        let gate = Held {
-            turns: &turns,
-            until: self.until,
-        };
-        let (first, second) = self.serves(rt, alloc, &halls, &gate);
+        let (first, second) = Pair::serves(place, rt, alloc, &halls, &turns);
         let Left {
             seat: one,
             noted: mut receipts,
@@ -119,22 +117,35 @@ impl Pair {
         receipts.sort_unstable_by_key(|receipt| receipt.number());
         let seats = vec![in alloc; one, two].expect(rt, "memory");
         let total = settled(alloc, halls, seats, &receipts);
-        same(rt, (turns.late(), total), (0, Ok(all(self.steps))));
+        same(
+            rt,
+            (turns.late(), total),
+            (0, Ok(all(Pair::at(rt, place).steps))),
+        );
     }
 
-    /// Both, to their ends.
+    fn at<R: Abort>(rt: &R, place: usize) -> Pair {
+        *PAIRS.get(place).expect(rt, "a pair")
+    }
+
+    /// Both, to their ends. (The threads get the place: that any struct may go to another thread has to be shown.)
     fn serves<N: Names + Send + Sync, R: Wait + Abort + Threads + Sync>(
-        self,
+        place: usize,
         rt: &R,
         alloc: Global,
         halls: &Halls<N>,
-        gate: &Held<'_>,
+        turns: &Turns,
     ) -> (Left<N>, Left<N>) {
-        let Pair { first, second, .. } = self;
         join(
             rt,
-            move || first.serves(rt, alloc, halls, gate, 1),
-            move || second.serves(rt, alloc, halls, gate, 2),
+            move || {
+                let Pair { until, first, .. } = Pair::at(rt, place);
+                first.serves(rt, alloc, halls, turns, until, 1)
+            },
+            move || {
+                let Pair { until, second, .. } = Pair::at(rt, place);
+                second.serves(rt, alloc, halls, turns, until, 2)
+            },
         )
     }
 }
@@ -195,7 +206,7 @@ const PAIRS: &[Pair] = &[
 
 #[test]
 fn two_are_served_at_one_time(rt: HostRuntime) {
-    for pair in PAIRS {
-        in_new_halls(&rt, rt.alloc(), Scene::Served(*pair));
+    for place in 0..PAIRS.len() {
+        in_new_halls(&rt, rt.alloc(), Scene::Served(place));
     }
 }

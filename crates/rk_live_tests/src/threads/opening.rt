@@ -20,7 +20,7 @@ pub enum Scene {
     /// One waits until the other has made its key.
     Waking(Waking),
     /// Each serves a session.
-    Served(Pair),
+    Served(usize),
 }
 
 impl Scene {
@@ -33,7 +33,7 @@ impl Scene {
         match self {
             Scene::SideBySide(threads) => threads.play(rt, alloc, halls),
             Scene::Waking(waking) => waking.play(rt, alloc, halls),
-            Scene::Served(pair) => pair.play(rt, alloc, halls),
+            Scene::Served(place) => Pair::play(place, rt, alloc, halls),
         }
     }
 }

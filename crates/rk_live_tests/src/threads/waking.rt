@@ -1,15 +1,17 @@
-//! Who waits for a key is woken by each step that gives its outcome.
+//! Who waits for a key is woken by each step that gives its outcome, in the hall of the key.
+ghost use Rattle.rk_hall.specs.Seats.{IsCall};
+
 use crate::answers::{Said, in_words};
-use crate::asks::{NOW, OTHER, joining, payload, request};
+use crate::asks::{CLIENT, NOW, OTHER, hello, joining, payload, request};
 use crate::fakes::turns::Turns;
-use crate::halls::calls::{calls, fails, greets, refuse_launch, requests};
+use crate::halls::calls::{calls_in, fails, refuse_launch};
 use crate::record::events::key;
 use crate::same::same;
 use crate::threads::opening::{Scene, in_new_halls};
-use rk_hall::{HallNo, Halls, Launch, Names, Owed, Running, Seat};
+use rk_hall::{Called, HallNo, Halls, Launch, Names, Owed, Running, Seat};
 use rk_machine::{EventStep, How, Ran};
 use rk_message::AskStep;
-use rk_names::{Errno, KeyError, SessionId};
+use rk_names::{Errno, KeyError, Serial, SessionId};
 use rk_wait::await_outcome;
 use std::alloc::{AllocError, Global};
 use std::marker::{Send, Sync};
@@ -67,9 +69,116 @@ impl Step {
     }
 }
 
-/// A client waits for key 12 on a thread of its own, until this step is done on another.
+/// Where a client waits.
+#[derive(Clone, Copy)]
+struct Place {
+    /// The hall in which it waits.
+    hall: HallNo,
+    /// The key for which it waits. The hall draws its serial after those of the first client's two rings.
+    key: u8,
+}
+
+impl Place {
+    /// Where a client waits for this key: in the hall that draws it.
+    fn of(key: u8) -> Place {
+        Place {
+            hall: HallNo::of_uid(u32::from(key)),
+            key,
+        }
+    }
+
+    fn key<R: Abort>(self, rt: &R) -> Serial {
+        key(rt, u32::from(self.key))
+    }
+
+    /// The first client's session ring.
+    fn ring<R: Abort>(self, rt: &R) -> Serial {
+        key(rt, u32::from(self.key.saturating_sub(8)))
+    }
+
+    /// A call that begins no construction.
+    fn calls<N: Names, R: Wait + Abort>(
+        self,
+        rt: &R,
+        halls: &Halls<N>,
+        seat: &mut Seat<N>,
+        event: EventStep<'_>,
+    ) -> Said
+        requires { IsCall event }
+    {
+        in_words(calls_in(rt, halls, seat, self.hall, event).answer())
+    }
+
+    /// The first client comes, says who it is, and requests the key `a`, whose construction begins.
+    fn requests<N: Names, R: Wait + Abort>(
+        self,
+        rt: &R,
+        halls: &Halls<N>,
+        seat: &mut Seat<N>,
+    ) -> Launch<N> {
+        self.calls(rt, halls, seat, EventStep::Opened(CLIENT));
+        self.calls(rt, halls, seat, EventStep::Asked(CLIENT, hello()));
+        let asked = EventStep::Asked(CLIENT, request(b"a").expect(rt, "an ask"));
+        let called = halls.call(rt, seat, self.hall, NOW, asked);
+        let Called { receipt: _, launch } = called.expect(rt, "a receipt");
+        launch.expect(rt, "a launch")
+    }
+
+    /// The handler of the key asks this, and it is done.
+    fn asks<N: Names, R: Wait + Abort>(
+        self,
+        rt: &R,
+        halls: &Halls<N>,
+        seat: &mut Seat<N>,
+        ask: AskStep<'_>,
+    ) {
+        let handler = SessionId::Handler(self.key(rt));
+        let said = self.calls(rt, halls, seat, EventStep::Asked(handler, ask));
+        same(rt, said, Said::Number(0));
+    }
+
+    /// The handler runs, and assumes its key.
+    fn runs<N: Names, R: Wait + Abort>(
+        self,
+        rt: &R,
+        halls: &Halls<N>,
+        seat: &mut Seat<N>,
+        launch: Launch<N>,
+    ) -> Running<N> {
+        let Owed { value, receipt } = halls.launched(rt, seat, NOW, launch, Ran::Plain);
+        drop(receipt);
+        let key = i32::from(self.key);
+        self.asks(rt, halls, seat, AskStep::Assume { key });
+        value.expect(rt, "a handler that runs")
+    }
+
+    /// The other client joins the first one's session ring and requests the same key. What it is answered in the end.
+    fn waits<N: Names, R: Wait + Abort + Clock>(
+        self,
+        rt: &R,
+        halls: &Halls<N>,
+        turns: &Turns,
+    ) -> Said {
+        let mut seat = halls.seat(rt).expect(rt, "a seat");
+        turns.wait(REQUESTED);
+        self.calls(rt, halls, &mut seat, EventStep::Opened(OTHER));
+        let joining = joining(self.ring(rt));
+        self.calls(rt, halls, &mut seat, EventStep::Asked(OTHER, joining));
+        let ask = request(b"a").expect(rt, "an ask");
+        let said = self.calls(rt, halls, &mut seat, EventStep::Asked(OTHER, ask));
+        same(rt, said, Said::Waiting(u32::from(self.key)));
+        turns.next();
+        let outcome = await_outcome(rt, halls, &mut seat, self.hall, OTHER, NOW);
+        turns.next();
+        in_words(&outcome.value)
+    }
+}
+
+/// A client waits for a key on a thread of its own, until this step is done on another.
 #[derive(Clone, Copy)]
 pub struct Waking {
+    /// In which hall, and for which key.
+    place: Place,
     /// The step that completes the key, or ends its construction.
     step: Step,
     /// What the client is answered then.
@@ -99,9 +208,11 @@ impl Waking {
         halls: &Halls<N>,
         turns: &Turns,
     ) -> Said {
+        // (that any struct may go to another thread has to be shown)
+        let key = self.place.key;
         let (told, ()) = join(
             rt,
-            move || waits(rt, alloc, halls, turns),
+            move || Place::of(key).waits(rt, halls, turns),
             move || self.acts(rt, alloc, halls, turns),
         );
         told
@@ -116,43 +227,22 @@ impl Waking {
         turns: &Turns,
     ) {
         let mut seat = halls.seat(rt).expect(rt, "a seat");
-        drop(greets(rt, halls, &mut seat));
-        let (receipt, launch) = requests(rt, halls, &mut seat);
-        drop(receipt);
+        let launch = self.place.requests(rt, halls, &mut seat);
         turns.next();
         if let Step::FailedStart = self.step {
             is_waited_for(rt, turns);
             drop(fails(rt, halls, &mut seat, launch));
         } else {
-            let running = runs(rt, halls, &mut seat, launch);
+            let running = self.place.runs(rt, halls, &mut seat, launch);
             is_waited_for(rt, turns);
-            if let Some(ask) = self.step.ask(alloc, 12).expect(rt, "memory") {
-                asks(rt, halls, &mut seat, ask);
+            let key = i32::from(self.place.key);
+            if let Some(ask) = self.step.ask(alloc, key).expect(rt, "memory") {
+                self.place.asks(rt, halls, &mut seat, ask);
                 turns.wait(TOLD);
             }
             ends(rt, halls, &mut seat, running);
         }
     }
-}
-
-/// The handler runs, and assumes its key.
-fn runs<N: Names, R: Wait + Abort>(
-    rt: &R,
-    halls: &Halls<N>,
-    seat: &mut Seat<N>,
-    launch: Launch<N>,
-) -> Running<N> {
-    let Owed { value, receipt } = halls.launched(rt, seat, NOW, launch, Ran::Plain);
-    drop(receipt);
-    asks(rt, halls, seat, AskStep::Assume { key: 12 });
-    value.expect(rt, "a handler that runs")
-}
-
-/// The handler of key 12 asks this, and it is done.
-fn asks<N: Names, R: Wait + Abort>(rt: &R, halls: &Halls<N>, seat: &mut Seat<N>, ask: AskStep<'_>) {
-    let handler = SessionId::Handler(key(rt, 12));
-    let done = calls(rt, halls, seat, EventStep::Asked(handler, ask));
-    same(rt, in_words(done.answer()), Said::Number(0));
 }
 
 /// The handler ends.
@@ -173,37 +263,28 @@ fn is_waited_for<R: Clock>(rt: &R, turns: &Turns) {
     let _ = thread::sleep(rt, Duration::from_millis(20));
 }
 
-/// The other client joins the first one's session ring and requests the same key. What it is answered in the end.
-fn waits<N: Names, R: Wait + Abort + Clock>(
-    rt: &R,
-    alloc: Global,
-    halls: &Halls<N>,
-    turns: &Turns,
-) -> Said {
-    let mut seat = halls.seat(rt).expect(rt, "a seat");
-    turns.wait(REQUESTED);
-    drop(calls(rt, halls, &mut seat, EventStep::Opened(OTHER)));
-    let joining = joining(key(rt, 4));
-    drop(calls(rt, halls, &mut seat, EventStep::Asked(OTHER, joining)));
-    let ask = request(b"a").expect(rt, "an ask");
-    let receipt = calls(rt, halls, &mut seat, EventStep::Asked(OTHER, ask));
-    same(rt, in_words(receipt.answer()), Said::Waiting(12));
-    turns.next();
-    let outcome = await_outcome(rt, halls, &mut seat, HallNo::Zero, OTHER, NOW);
-    turns.next();
-    in_words(&outcome.value)
-}
-
-#[test]
-fn each_outcome_wakes_who_waits(rt: HostRuntime) {
+/// Each outcome in this hall, of this key.
+fn each_outcome_in<R: Wait + Abort + Threads + Clock + Sync>(rt: &R, alloc: Global, place: Place) {
     let rows = [
-        (Step::Instantiate, Said::Number(12)),
+        (Step::Instantiate, Said::Number(u32::from(place.key))),
         (Step::Negate, Said::Refused(Errno::Enokey)),
         (Step::Reject, Said::Refused(Errno::Ekeyrejected)),
         (Step::FailedStart, Said::Refused(Errno::Enokey)),
         (Step::End, Said::Refused(Errno::Enokey)),
     ];
     for (step, outcome) in rows {
-        in_new_halls(&rt, rt.alloc(), Scene::Waking(Waking { step, outcome }));
+        let waking = Waking {
+            place,
+            step,
+            outcome,
+        };
+        in_new_halls(rt, alloc, Scene::Waking(waking));
+    }
+}
+
+#[test]
+fn each_outcome_wakes_who_waits(rt: HostRuntime) {
+    for key in [12, 11] {
+        each_outcome_in(&rt, rt.alloc(), Place::of(key));
     }
 }
