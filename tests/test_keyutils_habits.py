@@ -42,14 +42,19 @@ wait
 if [ -e %room/wrong ]; then payload=$(cat %room/wrong); else payload=right; fi
 keyctl instantiate $1 "$payload" @s
 """,
-    # a child that has left the standard streams goes on: by execve, or by fork alone
+    # a child that has left the standard streams goes on: by execve, by fork alone, or by an execve after its handler has ended
     "behind": """#!/usr/bin/env python3
 import os, subprocess, sys, time
 key, how = sys.argv[1:]
 subprocess.run(["keyctl", "instantiate", key, how, "@s"], check=True)
+null = {"stdin": subprocess.DEVNULL, "stdout": subprocess.DEVNULL, "stderr": subprocess.DEVNULL}
+away = {"start_new_session": True, "close_fds": False, **null}
 if how == "executed":
-    null = {"stdin": subprocess.DEVNULL, "stdout": subprocess.DEVNULL, "stderr": subprocess.DEVNULL}
-    print("behind", subprocess.Popen(["sleep", "1000"], start_new_session=True, close_fds=False, **null).pid)
+    print("behind", subprocess.Popen(["sleep", "1000"], **away).pid)
+elif how == "late":
+    wait = f'while [ "$(cut -d " " -f 4 /proc/$$/stat)" = {os.getpid()} ]; do sleep 0.05; done; LD_PRELOAD="$LATE" exec sleep 1000'
+    without = {**os.environ, "LATE": os.environ["LD_PRELOAD"], "LD_PRELOAD": ""}
+    print("behind", subprocess.Popen(["sh", "-c", wait], env=without, **away).pid)
 else:
     child = os.fork()
     if child == 0:
@@ -84,7 +89,7 @@ def handlers(keys):
 
 def behind(keys):
     """A handler has ended when it has, whatever it leaves running."""
-    for how in ["executed", "forked"]:
+    for how in ["executed", "forked", "late"]:
         before = len(keys.daemon.lines)
         gives(keys, f"behind:{how}", how, how)
         child = until(lambda: next((int(line.split()[1]) for line in keys.daemon.lines[before:] if line.startswith("behind ")), None), "a child")

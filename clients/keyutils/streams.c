@@ -7,6 +7,7 @@
 #include <pthread.h>
 #include <stdio.h>
 #include <stdlib.h>
+#include <string.h>
 #include <sys/mman.h>
 #include <sys/stat.h>
 #include <unistd.h>
@@ -51,15 +52,32 @@ static int open_again(int which)
     return -1;
 }
 
-/* Closes what this process has inherited, unless it holds the streams or could not open them again. */
+/* Whether the holder has ended. The daemon waits for it only when all have closed the streams, so until then it is a zombie (proc(5), "stat"). */
+static bool holder_has_ended(void)
+{
+    char path[64], text[512];
+    snprintf(path, sizeof path, "/proc/%d/stat", (int)way.holder);
+    int file = open(path, O_RDONLY | O_CLOEXEC);
+    ssize_t length = file < 0 ? -1 : read(file, text, sizeof text - 1);
+    if (file >= 0)
+        close(file);
+    if (length < 0)
+        return false;
+    text[length] = 0;
+    const char *name_end = strrchr(text, ')');
+    return name_end != NULL && strncmp(name_end, ") Z", 3) == 0;
+}
+
+/* Closes what this process has inherited, unless it holds the streams, or could not open them again although the holder lives. */
 static void leave(void)
 {
     if (!way.told || way.holder == 0 || way.holder == getpid())
         return;
     int again = open_again(OUTPUT);
-    if (again < 0)
+    if (again >= 0)
+        close(again);
+    else if (!holder_has_ended())
         return;
-    close(again);
     for (int which = 0; which < COUNT; which++)
         if (is_here(which))
             close(way.descriptor[which]);
