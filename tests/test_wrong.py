@@ -4,10 +4,11 @@
     test_wrong.py [NAME ..]
 
 A start may fail when memory is out, and no contract sees how much memory there is; so a body that never starts a command keeps its contract. No contract
-names what a lock holds either, so a call of the halls that only gives up keeps its own; nor how long one is held, nor for how many workers the daemon asks. Each edit
-of tests/wrong is made in a copy. With one of rk_hall or rk_child a test of rk_live_tests has to fail, with one of rk_daemon a client has to wait for the end
-of another one, and with any other the example has to come out otherwise. `rt try` runs all of them before any proof, and builds no more than that needs: a
-program that only replays, one that only serves (tests/wrong/*.program), or tests with the libraries that they name.
+names what a lock holds either, so a call of the halls that only gives up keeps its own; nor how long one is held, nor for how many workers the daemon asks.
+
+Each edit of tests/wrong is made in a copy. With one of rk_hall or rk_child a test of rk_live_tests has to fail. With one of rk_daemon a client has to wait
+for the end of another one. With any other the example has to come out otherwise. `rt try` runs all of them before any proof, and builds no more than that
+needs: a program that only replays, one that only serves (tests/wrong/*.program), or tests with the libraries that they name.
 """
 import pathlib
 import re
