@@ -20,7 +20,8 @@ PYTHON_DIR = $(shell python3 -c 'import site, sys; \
 
 .PHONY: all bench quick check cost walk edits demo soak install uninstall deb completion pictures clean help toolchain
 
-all: $(addprefix build/,$(PROGRAMS))  ## Prove and build the programs, into build/
+all: build/proved  ## Prove and build the programs, into build/
+	@$(MAKE) --no-print-directory --silent --jobs=2 $(addprefix build/,$(PROGRAMS))
 
 bench: all  ## Prove and build the programs, and build their peers in C, into build/ (bench/README.md)
 	@$(MAKE) -C bench --no-print-directory
@@ -59,7 +60,7 @@ demo: toolchain  ## Run the example script and the daemon, and show what they do
 quick: toolchain  ## Check what changed since the last time, over kept work, in minutes; no verdict
 	@tests/quick.py
 
-check: toolchain  ## Prove every crate and pass all tests; the last line counts them. With ANEW=1 nothing is taken from earlier runs
+check: toolchain  ## Prove every crate and pass all tests; the last line counts them. With ANEW=1 nothing is taken from earlier runs, and edits.lock is written
 	@bash tests/check.sh
 
 # The crates of which `make cost` tells; none for all.

@@ -2,10 +2,12 @@
 # Runs the toolchain's gate, then each test program of this folder, and adds up what passed and failed.
 #
 # The gate proves every crate and its tests, tries the edits of crates/NAME/must-fail, and runs the tests and the programs. What earlier runs on this
-# machine proved or refused of the same files, and the edits that edits.lock lists, are not done again unless ANEW is in the environment. Each
-# verdict is kept as soon as it is there, so that a run that was cut off goes on where it was. A test of this folder is an executable test_*.sh or test_*.py;
-# its last line is `N passed, M failed`, and what it prints before that tells what failed. The log ends with what was taken from earlier runs, with what each
-# part took of processors, the dearest last, with the last ten lines from each one that failed, and with the names of those.
+# machine proved or refused of the same files, and the edits that edits.lock lists, are not done again unless ANEW is in the environment; then edits.lock
+# is written, too. Each verdict is kept as soon as it is there, so that a run that was cut off goes on where it was.
+#
+# A test of this folder is an executable test_*.sh or test_*.py; its last line is `N passed, M failed`, and what it prints before that tells what failed.
+# The log ends with what was taken from earlier runs, with what each part took of processors, the dearest last, with the last ten lines from each one that
+# failed, and with the names of those.
 set -uo pipefail
 cd "$(dirname "$0")/.."
 
@@ -70,8 +72,6 @@ count() {
     echo "$((seconds - before)) $name" >> "$taken"
 }
 
-# (the copy of a `make` that was killed)
-rm -rf build/programs
 # (some toolchains keep no proofs: each of their gates begins from nothing, and has no such word)
 if [[ -n ${ANEW:-} ]] && ! (cd / && rt ci --anew 2>&1) | grep -q '^usage:'; then
     count rt ci --anew

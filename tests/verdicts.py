@@ -5,9 +5,9 @@ lemmas, and the interfaces of their built libraries. The sum of all these is the
 none of them, so it costs the edits of its own crate and not those above; and comments are in none.
 
 A run on this machine keeps its verdicts in the user's cache. `edits.lock`, at the top, has the sums of all crates, one in a line, after the toolchain with
-which it was tried; `make edits` writes it. So machines with different toolchains each have their lines. The lock says what others can't see, so a run tries
-a twelfth of the crates that it lists once more, drawn by lot. A line with another sum counts for nothing. If ANEW is in the environment (`make check
-ANEW=1`), all are tried again.
+which it was tried; `make edits` writes it, and so does `ANEW=1 make check`, which tries all again. So machines with different toolchains each have their
+lines. The lock says what others can't see, so a run tries a twelfth of the crates that it lists once more, drawn by lot. A line with another sum counts
+for nothing.
 """
 import contextlib
 import fcntl

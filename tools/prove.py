@@ -3,28 +3,24 @@
 
     prove.py LOG
 
-Begins with what earlier checks kept in crates/NAME/out; `rt run` then builds the programs of it. Once each crate that is left stands on the one before it,
-only one can be proved at a time: it gets all processors. LOG gets what the toolchain prints. RT_JOBS in the environment is the number of processors to use.
+Begins with what earlier checks kept in crates/NAME/out; `rt run` then builds the programs of it. LOG gets what the toolchain prints. RT_JOBS in the
+environment is the number of processors to use.
 
-Before any proof, the toolchain reads all sources once for each crate that no other uses, which takes a minute or two each. So it works in build/programs, a
-copy that has the crates of the programs alone. The copy goes at the end, since `rt ci` takes no sources beside those of crates/.
+A crate is begun once those below it are proved. Of those that can be begun, the one with most to prove above it goes first. It gets the processors that no
+other crate wants, and at least half of them, since the others wait for it at last. Two jobs for one crate cost a quarter more than one, so the others have
+one each.
 """
 import os
 import pathlib
-import re
-import shutil
 import signal
 import subprocess
 import sys
+import tempfile
 import time
 
 top = pathlib.Path(__file__).resolve().parent.parent
 sys.path.insert(0, str(top / "tests"))
 import crates
-
-copy = top / "build" / "programs"
-# What the toolchain prints as a crate is done: `== NAME` for one of many, and how much it checked of each.
-CRATE = re.compile(rb"(?:== |crate )(\w+)\b")
 
 
 def uses():
@@ -38,95 +34,83 @@ def is_program(name):
     return (top / "crates" / name / "src" / "main.rt").exists()
 
 
-def move_kept(names, old, new):
-    """Moves what checks kept of these crates from one tree to the other."""
-    for name in names:
-        if (old / "crates" / name / "out").is_dir():
-            shutil.rmtree(new / "crates" / name / "out", ignore_errors=True)
-            (old / "crates" / name / "out").rename(new / "crates" / name / "out")
+def size(name):
+    """How much of a crate there is to prove."""
+    return sum(path.stat().st_size for part in crates.PARTS for path in (top / "crates" / name / part).rglob("*") if path.is_file())
 
 
-def lay_out(names):
-    """Makes the copy anew, of the sources as they are, with what checks kept."""
-    # (a run that was killed may have left one)
-    take_back(names)
-    for name in names:
-        shutil.copytree(top / "crates" / name, copy / "crates" / name, ignore=shutil.ignore_patterns("out"))
-    shutil.copy2(top / "HANDLES", copy)
-    lines = (top / "crates.txt").read_text().splitlines(keepends=True)
-    (copy / "crates.txt").write_text("".join(it for it in lines if it.startswith("#") or it.split(":")[0].split(" ")[0] in names))
-    move_kept(names, top, copy)
+class Check:
+    """The proof of one crate, under way. What it prints is kept until it has ended."""
 
+    def __init__(self, name, jobs):
+        self.name = name
+        self.said = tempfile.TemporaryFile()
+        words = ["rt", "check" if is_program(name) else "lib", "--jobs", str(jobs)]
+        how = {"stdin": subprocess.DEVNULL, "stdout": self.said, "stderr": subprocess.STDOUT, "start_new_session": True}
+        self.process = subprocess.Popen(words, cwd=top / "crates" / name, **how)
 
-def take_back(names):
-    """Moves what checks kept back, and removes the copy."""
-    if copy.exists():
-        move_kept(names, copy, top)
-        shutil.rmtree(copy)
+    def status(self):
+        """Its exit status; None while it goes on."""
+        return self.process.poll()
+
+    def output(self):
+        self.said.seek(0)
+        return self.said.read()
+
+    def end(self):
+        """Ends it, with what it has started."""
+        if self.status() is None:
+            os.killpg(self.process.pid, signal.SIGTERM)
 
 
 class Proof:
     """The proof of all these crates, and how far it is."""
 
-    def __init__(self, used, log):
+    def __init__(self, used, log, processors):
         self.used = used
         self.log = log
-        self.left = set(used)
+        self.processors = processors
+        self.waiting = set(used)
+        self.running = []
+        self.proved = set()
+        self.ahead = {name: size(name) + sum(size(it) for it in used if name in used[it]) for name in used}
         self.started = time.monotonic()
 
-    def run(self, jobs):
-        """Proves all that is left. Whether it is proved."""
+    def run(self):
+        """Proves all crates. Whether each is proved."""
         try:
-            lay_out(self.used)
-            is_proved = self.does(["rt", "all", "check", "--jobs", jobs], copy, lambda done: jobs != "1" and self.is_chain_after(done))
+            while self.waiting or self.running:
+                self.begin()
+                time.sleep(0.2)
+                for check in [it for it in self.running if it.status() is not None]:
+                    self.running.remove(check)
+                    self.log.write(check.output())
+                    if check.status() != 0:
+                        return False
+                    self.is_proved(check.name)
+            return True
         finally:
-            take_back(self.used)
-        while is_proved is None and self.left:
-            name = self.chain()[0]
-            verb = "check" if is_program(name) else "lib"
-            if not self.does(["rt", verb, "--jobs", jobs], top / "crates" / name, lambda done: False):
-                return False
-            self.is_done(name)
-        return is_proved is not False
+            for check in self.running:
+                check.end()
 
-    def does(self, words, folder, ends_early):
-        """Runs a command that proves crates. Whether all are proved; None if it was ended early."""
-        how = {"stdin": subprocess.DEVNULL, "stdout": subprocess.PIPE, "stderr": subprocess.STDOUT, "start_new_session": True}
-        with subprocess.Popen(words, cwd=folder, **how) as proving:
-            try:
-                for line in proving.stdout:
-                    self.log.write(line)
-                    found = CRATE.match(line)
-                    name = found and found[1].decode()
-                    if name in self.left:
-                        self.is_done(name)
-                        if ends_early(name):
-                            return None
-                return proving.wait() == 0
-            finally:
-                if proving.poll() is None:
-                    # (with what it has started, which works in the folders of the copy)
-                    os.killpg(proving.pid, signal.SIGTERM)
+    def begin(self):
+        """Begins what can be begun, while there are processors."""
+        ready = sorted((it for it in self.waiting if self.used[it] <= self.proved), key=self.ahead.get, reverse=True)
+        free = self.processors - len(self.running)
+        for place, name in enumerate(ready[:free]):
+            jobs = 1 if place > 0 else max(self.processors // 2, free - len(ready) + 1, 1)
+            self.waiting.remove(name)
+            self.running.append(Check(name, jobs))
 
-    def is_done(self, name):
+    def is_proved(self, name):
         """Says that a crate is proved."""
-        if name in self.left:
-            self.left.remove(name)
-            minutes = (time.monotonic() - self.started) / 60
-            print(f"{name}: {len(self.used) - len(self.left)} of {len(self.used)}, {minutes:.0f} minutes so far", flush=True)
-
-    def chain(self):
-        """The crates that are left, lowest first."""
-        return sorted(self.left, key=lambda it: len(self.used[it]))
-
-    def is_chain_after(self, done):
-        """Whether each crate that is left stands on the one before it, and the first on this one, so that it has only begun."""
-        chain = [done, *self.chain()]
-        return len(chain) > 1 and all(one in self.used[other] for one, other in zip(chain, chain[1:]))
+        self.proved.add(name)
+        minutes = (time.monotonic() - self.started) / 60
+        print(f"{name}: {len(self.proved)} of {len(self.used)}, {minutes:.0f} minutes so far", flush=True)
 
 
 if __name__ == "__main__":
-    # (so that the copy goes then, too)
+    # (so that what runs is ended then, too)
     signal.signal(signal.SIGTERM, lambda *_: sys.exit(1))
     with open(sys.argv[1], "wb") as file:
-        sys.exit(0 if Proof(uses(), file).run(os.environ.get("RT_JOBS") or str(len(os.sched_getaffinity(0)))) else 1)
+        sys.exit(0 if Proof(uses(), file, crates.jobs()).run() else 1)
