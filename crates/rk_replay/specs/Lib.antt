@@ -7,4 +7,5 @@ pub mod Writing
 pub mod Script
 pub mod Settings
 pub mod Playing
+pub mod Taken
 pub mod Written

@@ -1,6 +1,7 @@
 //! A script from a reader, played to a writer.
 ghost use Rattle.std.specs.Prelude.{◌≡◌, ◌≢◌, ◌⊎◌, ◌≤◌, List, ℕ, length, IfOk, IfErr, OnOk, IfSome, Err};
 ghost use Rattle.std.specs.Io.KnownBytes.{Appends};
+ghost use Rattle.rk_replay.specs.Taken.{IsTaken};
 ghost use Rattle.rk_replay.specs.Written.{IsWritten, IsRefused};
 
 use crate::fault::ScriptFault;
@@ -34,6 +35,8 @@ pub fn run_script<R: Read, W: Write>(
     // or the lines before the first happening and the fault of the configuration
     ensures refused { result ≡ Err ScriptFault.Conf → IfSome (R.remaining reader.old) (λ input. (text : List ℕ) × IsRefused input text
         × Appends (W.contents writer.old) (W.contents writer.new) text) }
+    // whatever comes of it, at most 1,048,576 pieces of 4,096 bytes are read
+    ensures most { IsTaken (R.remaining reader.old) (R.remaining reader.new) }
     // each read before the end gives a byte
     ensures long { result ≡ Err ScriptFault.TurnsUsed → IfSome (R.remaining reader.old) (λ input. 1048576 ≤ length input) }
     // nothing is written before all is read and played
@@ -69,6 +72,7 @@ fn write_out<W: Write>(transcript: &Transcript, writer: &mut W) -> Result<(), Sc
 fn read_all<R: Read>(alloc: Global, reader: &mut R) -> Result<Vec<u8>, ScriptFault>
     ensures all { IfOk result (λ text. IfSome (R.remaining reader.old) (λ input. text.items ≡ input)) }
     ensures long { result ≡ Err ScriptFault.TurnsUsed → IfSome (R.remaining reader.old) (λ input. 1048576 ≤ length input) }
+    ensures most { IsTaken (R.remaining reader.old) (R.remaining reader.new) }
     ensures fault { result ≢ Err ScriptFault.Conf }
 {
     let mut text = Vec::new(alloc);
