@@ -22,7 +22,7 @@ BOX, HEIGHT, GAP, STEP, MARGIN, HEAD = 108, 30, 20, 60, 24, 60
 LEGEND = {PROGRAM: "programs", MACHINE: "the machine, and of what it is made", APART: "messages alone", AROUND: "what drives the machine"}
 
 # What is not drawn: lemmas, on which nearly all stand, and tests, which stand on nearly all.
-LEFT_OUT = {"rk_lemmas", "rk_tests", "rk_live_tests", "rk_daemon_tests"}
+LEFT_OUT = {"rk_lemmas", "rk_tests", "rk_live_tests", "rk_edge_tests"}
 
 
 def drawn_crates():

@@ -1,16 +1,11 @@
 //! The daemon at the sockets of the system.
-ghost use Rattle.std.specs.Prelude.{◌≡◌, None, IfOk};
-ghost use Rattle.std.specs.Option.{option_copied};
-ghost use Rattle.reqkeyctl.specs.Daemon.{HasConversed};
+ghost use Rattle.std.specs.Prelude.{◌≡◌, None};
 
-use crate::daemon::Daemon;
-use crate::search::Search;
-use crate::searching::{self, Found};
-use rk_client::{PeerFault, exchange, exchange_greeted};
+use rk_client::PeerFault;
+use rk_ctl::{Daemon, Found, Search, converse, find_keys};
 use rk_message::{Ask, Reply};
 use rk_run::told;
 use std::alloc::Global;
-use std::io::{Read, Write};
 use std::net::Net;
 use std::os::unix::net::UnixStream;
 
@@ -71,7 +66,7 @@ impl<'a, R: Net> Daemon for Sockets<'a, R> {
             }
         };
         let (mut reader, mut writer) = (&stream, &stream);
-        match searching::search(self.alloc, &mut reader, &mut writer, greeting, search) {
+        match find_keys(self.alloc, &mut reader, &mut writer, greeting, search) {
             Ok(found) => Ok(found),
             Err(fault) => Err(self.note(path, fault)),
         }
@@ -82,22 +77,5 @@ impl<'a, R: Net> Daemon for Sockets<'a, R> {
             Some(text) => Some(text.as_str()),
             None => None,
         }
-    }
-}
-
-/// Asks over a connection that has just been made, after the greeting if one is given.
-fn converse<I: Read, W: Write>(
-    alloc: Global,
-    reader: &mut I,
-    writer: &mut W,
-    greeting: Option<&Ask>,
-    ask: &Ask,
-) -> Result<Reply, PeerFault>
-    ensures { IfOk result (HasConversed (W.contents writer.old) (W.contents writer.new) (I.remaining reader.old) (I.remaining reader.new)
-        (option_copied greeting.entry) ask.now) }
-{
-    match greeting {
-        Some(greeting) => exchange_greeted(alloc, reader, writer, greeting, ask),
-        None => exchange(alloc, reader, writer, ask),
     }
 }

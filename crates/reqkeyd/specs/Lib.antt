@@ -1,5 +1,4 @@
 pub mod Complaint
-pub mod Disk
 pub mod Doubted
 pub mod Outcome
 pub mod Reason

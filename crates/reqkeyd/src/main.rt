@@ -8,13 +8,12 @@
 //! All that it does is one call, [`run::run_words`], over the words, the streams, the process and the disk that are passed in.
 //!
 //! `args` is the command line, and `preview_args` the part of `check` and `pick`; `complaint` says what is wrong with a value that looks right. `showing`
-//! writes what `check` and `pick` have to say, and `doubting` the warnings. `rejoining` reads volumes from a `disk`, that of `system_disk`, and writes what
-//! they are. `reason` is the second line of a fault: which file it is, and why.
+//! writes what `check` and `pick` have to say, and `doubting` the warnings. `rejoining` writes what rk_rejoin says of the files of a record, which it reads by
+//! the disk of the system, `system_disk`. `reason` is the second line of a fault: which file it is, and why.
 #![tactic(auto)]
 
 mod args;
 mod complaint;
-mod disk;
 mod doubting;
 mod preview_args;
 mod reason;

@@ -9,13 +9,13 @@ ghost use Rattle.reqkeyd.specs.Outcome.{asks_check, asks_preview, asks_replay, a
 
 use crate::args::{command, is_memory};
 use crate::complaint::Complaint;
-use crate::disk::Disk;
 use crate::reason::tell_reason;
 use crate::rejoining::rejoin;
 use crate::showing::show;
 use clap::Error;
 use rk_daemon::{Keeper, Settings, serve};
 use rk_preview::Preview;
+use rk_rejoin::Disk;
 use rk_replay::run_script;
 use std::alloc::{AllocError, Global};
 use std::fs::Files;

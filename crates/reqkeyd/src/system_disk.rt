@@ -1,7 +1,7 @@
 //! The disk of the system.
 ghost use Rattle.std.specs.Prelude.{None};
 
-use crate::disk::{Disk, ReadFault};
+use rk_rejoin::{Disk, ReadFault};
 use std::fs;
 use std::fs::Files;
 use std::io::ErrorKind;

@@ -12,7 +12,7 @@ use Rattle.rk_record.specs.HallNumbers.{hall_number}
 use Rattle.rk_record.specs.declared.hall_no.HallNo.{HallNo}
 use Rattle.rk_record.specs.declared.recorded.Recorded.{Recorded}
 use Rattle.rk_volumes.specs.declared.stored.Stored.{Stored}
-use Rattle.rk_rejoin.specs.Judged.{steps_of, of_hall, joined, AreNext}
+use Rattle.rk_rejoin.specs.Judged.{steps_of, of_hall, AreNext}
 
 -- one volume more of those that stand in a list
 pub take_volume : (vs : List Stored) (i : ℕ) (v : Stored) → i < length vs → v ≡ get_or vs i v → take (i + 1) vs ≡ take i vs ++ v ∷ []

@@ -1,3 +1,4 @@
 pub mod Joined
 pub mod Told
 pub mod Chained
+pub mod Readings

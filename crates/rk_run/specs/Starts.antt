@@ -1,7 +1,7 @@
 -- What is started in a session ring.
-use Rattle.std.specs.Prelude.{◌≡◌, ◌≢◌, ℕ, false, List, [], ◌∷◌, ◌++◌, Option, Some, None, codes, decimal, map, string_bytes}
-use Rattle.rk_run.specs.declared.wanted.Wanted.{Wanted}
+use Rattle.std.specs.Prelude.{◌≡◌, ◌≢◌, ℕ, false, List, [], ◌∷◌, ◌++◌, Option, Some, None, codes, decimal}
 use Rattle.rk_variables.specs.Starts.{Start}
+use Rattle.rk_run.specs.Words.{Said}
 
 -- a library, and after it what was to be preloaded before; a colon stands between them (ld.so(8))
 abbrev pub preloads : List ℕ → Option (List ℕ) → List ℕ
@@ -19,9 +19,9 @@ pub record IsCalled (path : List ℕ) (arguments : List (List ℕ)) (s : Start) 
 
 -- the program that is wanted, with its words, in the folder where it is called. It preloads the library, and gets the daemon's socket and its session
 -- ring; it is not told that it is a handler; all other variables are as they are
-pub record IsStart (w : Wanted) (library : List ℕ) (before : Option (List ℕ)) (path : List ℕ) (ring : ℕ) (s : Start) : Type 0 where
-  pub program : s.program ≡ w.program.now
-  pub words : s.words ≡ map string_bytes w.words.now
+pub record IsStart (said : Said) (library : List ℕ) (before : Option (List ℕ)) (path : List ℕ) (ring : ℕ) (s : Start) : Type 0 where
+  pub program : s.program ≡ said.program
+  pub words : s.words ≡ said.words
   pub preload : s.variable (codes "LD_PRELOAD") ≡ Some (Some (preloads library before))
   pub socket : s.variable (codes "REQKEYD_SOCKET") ≡ Some (Some path)
   pub join : s.variable (codes "REQKEYD_JOIN") ≡ Some (Some (decimal ring))
@@ -32,6 +32,5 @@ pub record IsStart (w : Wanted) (library : List ℕ) (before : Option (List ℕ)
   pub folder : s.folder ≡ None
 
 -- reqkey-trap, the program at a path, with the socket of the daemon, and after `--` the program that is wanted with its words; all variables are as they are
-abbrev pub IsTrapped : Wanted → List ℕ → List ℕ → Start → Type 0
-IsTrapped w trap socket s =
-    IsCalled trap (codes "--socket" ∷ socket ∷ codes "--" ∷ w.program.now ∷ map string_bytes w.words.now) s
+abbrev pub IsTrapped : Said → List ℕ → List ℕ → Start → Type 0
+IsTrapped said trap socket s = IsCalled trap (codes "--socket" ∷ socket ∷ codes "--" ∷ said.program ∷ said.words) s

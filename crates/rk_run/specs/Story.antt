@@ -7,11 +7,12 @@ use Rattle.rk_message.specs.declared.reply.Reply.{Reply}
 use Rattle.rk_variables.specs.Starts.{Start}
 use Rattle.rk_run.specs.declared.host.Here.{Here}
 use Rattle.rk_run.specs.declared.host.StartFault.{StartFault}
+use Rattle.rk_run.specs.Seen.{Seen, seen_in}
 
 -- what is done: it looks who runs the program, and whether there is a file; it connects to a path and asks, first of all, and reads a reply; it starts a
 -- program, waits for its end, and closes the connection
 pub data Event : Type 0 where
-  Looked : Here → Event
+  Looked : Seen → Event
   Sought : List ℕ → Bool → Event
   Greeted : List ℕ → Ask → Result Reply PeerFault → Event
   Started : Start → Result Unit StartFault → Event
@@ -24,5 +25,5 @@ and_then story more = option_map (λ s. s ++ more) story
 
 -- a look, which out of memory may refuse
 abbrev pub Looks : {E : Type 0} → Result Here E → Option (List Event) → Option (List Event) → Type 0
-Looks (Ok here) old new = new ≡ and_then old (Looked here ∷ [])
+Looks (Ok here) old new = new ≡ and_then old (Looked (seen_in here) ∷ [])
 Looks (Err e) old new = new ≡ old

@@ -4,7 +4,7 @@ use rk_names::Errno;
 use thiserror::Error;
 
 /// Why a program has no status to be told.
-#[derive(Clone, Copy, Debug, Error)]
+#[derive(Clone, Copy, Debug, PartialEq, Eq, Error)]
 pub enum RunFault {
     /// No socket is named, nobody answers there, or what was answered is no reply to HELLO.
     #[error("the daemon can't be reached")]

@@ -9,7 +9,7 @@ use std::alloc::AllocError;
 use std::process::{Command, ExitStatus};
 
 /// Who runs a program, and what is there for it.
-#[derive(Drop)]
+#[derive(Debug, Drop)]
 pub struct Here {
     /// The effective user.
     pub uid: u32,
@@ -28,7 +28,7 @@ pub struct Here {
 }
 
 /// Why a program was not started.
-#[derive(Clone, Copy)]
+#[derive(Clone, Copy, Debug, PartialEq, Eq)]
 pub enum StartFault {
     /// There is no such program.
     NotFound,

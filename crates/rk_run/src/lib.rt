@@ -8,10 +8,10 @@
 //!
 //! # What it promises
 //!
-//! Whatever its [`Host`] answers, what is done of it is a run as `specs/Runs.antt` says: HELLO is asked first; the program is started with its own words,
-//! and with exactly the variables of `specs/Starts.antt` besides those that are there; the connection is closed after the wait for its end, and not
-//! before; and what is answered is its status, as a shell tells it, or why there is none. What a host does out there no contract can say: [`System`] is
-//! the one that calls the system.
+//! Whatever its [`Host`] answers, what is done of it, if the host tells that, is a run as `specs/Runs.antt` says: HELLO is asked first; the program is started
+//! with its own words, and with exactly the variables of `specs/Starts.antt` besides those that are there; the connection is closed after the wait for its
+//! end, and not before; and what is answered is its status, as a shell tells it, or why there is none. What a host does out there no contract can say:
+//! [`System`] is the one that calls the system, and tells nothing. The one of rk_edge_tests tells all.
 //!
 //! # How it is built
 //!

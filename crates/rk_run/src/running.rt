@@ -1,6 +1,8 @@
 //! A run from its start to its end.
 ghost use Rattle.std.specs.Prelude.{◌≡◌, IfOk, option_map, string_bytes};
 ghost use Rattle.rk_run.specs.Runs.{HasRun, HasRunIn, HasTrapped, HasTried, IsStartIn, hello_of, library_of, ring_in, socket_of, tool_of, unheard, unstarted_by};
+ghost use Rattle.rk_run.specs.Seen.{seen_in};
+ghost use Rattle.rk_run.specs.Words.{said_by};
 ghost use Rattle.rk_variables.specs.Starts.{start_of};
 
 use crate::fault::RunFault;
@@ -22,7 +24,7 @@ use std::process::Command;
 ///
 /// If `reqkey-trap` is wanted, it is there in place of the library, and is started with the program; it makes a connection and a session ring itself.
 pub fn run<H: Host>(alloc: Global, host: &mut H, wanted: &Wanted<'_>) -> Result<u8, RunFault>
-    ensures { HasRun wanted.now (H.story host.old) (H.story host.new) result }
+    ensures { HasRun (said_by wanted.now) (H.story host.old) (H.story host.new) result }
 {
     let Ok(here) = host.look() else {
         return Err(RunFault::NoMemory);
@@ -55,7 +57,7 @@ fn in_session<H: Host>(
     socket: &str,
     reply: &Reply,
 ) -> Result<u8, RunFault>
-    ensures { HasRunIn wanted.now here.now socket.now reply.now (H.story host.old) (H.story host.new) result }
+    ensures { HasRunIn (said_by wanted.now) (seen_in here.now) socket.now reply.now (H.story host.old) (H.story host.new) result }
 {
     let ring = match ring_in(reply) {
         Ok(ring) => ring,
@@ -75,7 +77,7 @@ fn by_trap<H: Host>(
     here: &Here,
     socket: &str,
 ) -> Result<u8, RunFault>
-    ensures { HasTrapped wanted.now here.now socket.now (H.story host.old) (H.story host.new) result }
+    ensures { HasTrapped (said_by wanted.now) (seen_in here.now) socket.now (H.story host.old) (H.story host.new) result }
 {
     let Ok(command) = trapped(alloc, wanted, here.trap.as_str(), socket) else {
         return Err(RunFault::NoMemory);
@@ -104,7 +106,7 @@ fn made_in(
     socket: &str,
     ring: u32,
 ) -> Result<Command, AllocError>
-    ensures { IfOk result (λ c. IsStartIn wanted.now here.now socket.now ring (start_of c)) }
+    ensures { IfOk result (λ c. IsStartIn (said_by wanted.now) (seen_in here.now) socket.now ring (start_of c)) }
 {
     let (library, before) = (library_of(wanted, here), text_of(&here.preloaded));
     let socket = from_anywhere(alloc, text_of(&here.folder), socket)?;
@@ -113,7 +115,7 @@ fn made_in(
 
 /// HELLO with a new session ring and no other.
 fn hello_of(wanted: &Wanted<'_>, here: &Here) -> Ask
-    ensures { result ≡ hello_of wanted.now here.now }
+    ensures { result ≡ hello_of (said_by wanted.now) (seen_in here.now) }
 {
     Ask::Hello(Greeting {
         uid: wanted.uid.unwrap_or(here.uid),
@@ -126,7 +128,7 @@ fn hello_of(wanted: &Wanted<'_>, here: &Here) -> Ask
 
 /// The socket that is named, or else that of the environment.
 fn socket_of<'a, 'w: 'a>(wanted: &Wanted<'w>, here: &'a Here) -> Option<&'a str>
-    ensures { option_map (λ s. s.now) result ≡ socket_of wanted.now here.now }
+    ensures { option_map (λ s. s.now) result ≡ socket_of (said_by wanted.now) (seen_in here.now) }
 {
     match (wanted.socket, &here.socket) {
         (Some(path), _) => Some(path),
@@ -137,7 +139,7 @@ fn socket_of<'a, 'w: 'a>(wanted: &Wanted<'w>, here: &'a Here) -> Option<&'a str>
 
 /// The library that is named, or else the one that is installed.
 fn library_of<'a, 'w: 'a>(wanted: &Wanted<'w>, here: &'a Here) -> &'a str
-    ensures { result.now ≡ library_of wanted.now here.now }
+    ensures { result.now ≡ library_of (said_by wanted.now) (seen_in here.now) }
 {
     match wanted.library {
         Some(path) => path,
@@ -147,7 +149,7 @@ fn library_of<'a, 'w: 'a>(wanted: &Wanted<'w>, here: &'a Here) -> &'a str
 
 /// The file that has to be there: `reqkey-trap`, or the library.
 fn tool_of<'a, 'w: 'a>(wanted: &Wanted<'w>, here: &'a Here) -> &'a str
-    ensures { result.now ≡ tool_of wanted.now here.now }
+    ensures { result.now ≡ tool_of (said_by wanted.now) (seen_in here.now) }
 {
     if wanted.trap {
         here.trap.as_str()

@@ -1,6 +1,7 @@
 //! The command of a program in a session ring.
 ghost use Rattle.std.specs.Prelude.{◌≡◌, IfOk, map, option_map, string_bytes};
 ghost use Rattle.rk_run.specs.Starts.{IsCalled, IsStart, IsTrapped, preloads};
+ghost use Rattle.rk_run.specs.Words.{said_by};
 ghost use Rattle.rk_variables.specs.Starts.{start_of};
 
 use crate::wanted::Wanted;
@@ -19,7 +20,7 @@ pub fn made(
     socket: &str,
     ring: u32,
 ) -> Result<Command, AllocError>
-    ensures { IfOk result (λ c. IsStart wanted.now library.now (option_map (λ s. s.now) before.entry) socket.now ring (start_of c)) }
+    ensures { IfOk result (λ c. IsStart (said_by wanted.now) library.now (option_map (λ s. s.now) before.entry) socket.now ring (start_of c)) }
 {
     let preload = preloads(alloc, library, before)?;
     let mut buffer = Buffer::new();
@@ -50,7 +51,7 @@ pub fn trapped(
     trap: &str,
     socket: &str,
 ) -> Result<Command, AllocError>
-    ensures { IfOk result (λ c. IsTrapped wanted.now trap.now socket.now (start_of c)) }
+    ensures { IfOk result (λ c. IsTrapped (said_by wanted.now) trap.now socket.now (start_of c)) }
 {
     let mut command = Command::new(alloc, trap)?;
     command.arg("--socket")?;

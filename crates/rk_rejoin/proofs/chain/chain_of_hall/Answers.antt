@@ -1,6 +1,5 @@
-use Rattle.std.proofs.Common.{rules, Some, sym, ap, subst, ◌∙◌}
+use Rattle.std.proofs.Common.{Some, sym, ap, subst, ◌∙◌}
 use Rattle.std.proofs.lemmas.Result.{err_from_is_err_and}
-use Rattle.rk_rejoin.specs.Judged.{of_hall}
 use Rattle.rk_rejoin.specs.Chains.{no_sum, last_link, AreChained, IsTied}
 use Rattle.rk_rejoin.specs.Refused.{IsUntied}
 use Rattle.rk_rejoin.proofs.Joined.{is_here, is_elsewhere, none_more}

@@ -1,5 +1,0 @@
-use Rattle.std.proofs.Common.{length}
-use Rattle.reqkeyctl.proofs.help.+asks_in_front.Given as goal
-
-abbrev pub decreases-asks_in_front : goal.decreases-asks_in_front
-decreases-asks_in_front l = length l.words.now

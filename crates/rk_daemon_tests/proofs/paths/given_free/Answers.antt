@@ -1,7 +1,0 @@
-use Rattle.std.proofs.Common.{Some, ap, map, refl}
-use Rattle.rk_daemon_tests.specs.Done.{at_path}
-use Rattle.rk_daemon_tests.proofs.Told.{all_told}
-use Rattle.rk_daemon_tests.proofs.paths.given_free.Goals as goal
-
-pub returns : goal.returns
-returns g c = all_told _ _ _ _ (ap (λ items. Some (map at_path items)) c.new-place.ensures) refl c.give_free.ensures
