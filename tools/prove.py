@@ -4,7 +4,7 @@
     prove.py LOG
 
 Begins with what earlier checks kept in crates/NAME/out; `rt run` then builds the programs of it. LOG gets what the toolchain prints. RT_JOBS in the
-environment is the number of processors to use.
+environment is the number of processors to use; else it is as many as there are, and as memory holds at 4 GB for a check.
 
 A crate is begun once those below it are proved. Of those that can be begun, the one with most to prove above it goes first. It gets the processors that no
 other crate wants, and at least half of them, since the others wait for it at last. Two jobs for one crate cost a quarter more than one, so the others have
@@ -32,6 +32,13 @@ def uses():
 
 def is_program(name):
     return (top / "crates" / name / "src" / "main.rt").exists()
+
+
+def processors():
+    """How many processors to use."""
+    with open("/proc/meminfo") as file:
+        free = next(int(line.split()[1]) for line in file if line.startswith("MemAvailable:"))
+    return int(os.environ.get("RT_JOBS") or max(1, min(crates.jobs(), free // 4_000_000)))
 
 
 def size(name):
@@ -85,6 +92,7 @@ class Proof:
                 for check in [it for it in self.running if it.status() is not None]:
                     self.running.remove(check)
                     self.log.write(check.output())
+                    self.log.flush()
                     if check.status() != 0:
                         return False
                     self.is_proved(check.name)
@@ -113,4 +121,4 @@ if __name__ == "__main__":
     # (so that what runs is ended then, too)
     signal.signal(signal.SIGTERM, lambda *_: sys.exit(1))
     with open(sys.argv[1], "wb") as file:
-        sys.exit(0 if Proof(uses(), file, crates.jobs()).run() else 1)
+        sys.exit(0 if Proof(uses(), file, processors()).run() else 1)

@@ -1,4 +1,4 @@
-//! What is done outside of the daemon, kept. It stands here, and not among the tests, since `specs/` says what it means.
+//! What is done outside of a program, kept. It stands here, and not among the tests, since `specs/` says what it means.
 
 use rk_client::PeerFault;
 use rk_daemon::{FileId, Stream};
