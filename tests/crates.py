@@ -51,6 +51,11 @@ def digest(folder, parts=PARTS, but=(), read=pathlib.Path.read_bytes):
     return said.hexdigest()
 
 
+def size(name):
+    """How many bytes of a crate there are to prove."""
+    return sum(path.stat().st_size for part in PARTS for path in (top / "crates" / name / part).rglob("*") if path.is_file())
+
+
 def without_comments(path):
     """A file of a crate without the lines that are comments."""
     mark = COMMENTS.get(path.suffix)

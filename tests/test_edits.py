@@ -41,11 +41,6 @@ def are_built(libraries):
     return "PROVED" in os.environ and all((it / f"{it.parent.parent.name}.rlib").is_dir() and not (it / "stamp").exists() for it in folders)
 
 
-def size(name):
-    """How much of a crate there is to check."""
-    return sum(path.stat().st_size for part in crates.PARTS for path in (top / "crates" / name / part).rglob("*") if path.is_file())
-
-
 def main(words):
     writes, chosen, used = "--lock" in words or bool(os.environ.get("ANEW")), {it for it in words if it != "--lock"}, crates.uses()
     asked = [it for it in used if edits_of(it) and (not chosen or it in chosen)]
@@ -90,7 +85,7 @@ def unfit_in(name):
 def tried(trials):
     """The trials, run side by side, each as soon as it is done."""
     with concurrent.futures.ThreadPoolExecutor(crates.jobs()) as pool:
-        running = [pool.submit(it.run) for it in sorted(trials, key=lambda it: size(it.name), reverse=True)]
+        running = [pool.submit(it.run) for it in sorted(trials, key=lambda it: crates.size(it.name), reverse=True)]
         yield from (it.result() for it in concurrent.futures.as_completed(running))
 
 

@@ -9,9 +9,13 @@ environment is the number of processors to use; else it is as many as there are,
 A crate is begun once those below it are proved. Of those that can be begun, the one with most to prove above it goes first. It gets the processors that no
 other crate wants, and at least half of them, since the others wait for it at last. Two jobs for one crate cost a quarter more than one, so the others have
 one each.
+
+The toolchain locks the folder of a crate that it checks, and those of all crates below. So each crate is proved in a repository of its own, in build/proving,
+which has the crates below it with their libraries, as links.
 """
 import os
 import pathlib
+import shutil
 import signal
 import subprocess
 import sys
@@ -21,6 +25,8 @@ import time
 top = pathlib.Path(__file__).resolve().parent.parent
 sys.path.insert(0, str(top / "tests"))
 import crates
+
+rooms = top / "build" / "proving"
 
 
 def uses():
@@ -41,20 +47,48 @@ def processors():
     return int(os.environ.get("RT_JOBS") or max(1, min(crates.jobs(), free // 4_000_000)))
 
 
-def size(name):
-    """How much of a crate there is to prove."""
-    return sum(path.stat().st_size for part in crates.PARTS for path in (top / "crates" / name / part).rglob("*") if path.is_file())
+def link(file, other):
+    """Makes a link to a file, or a copy where there are no links."""
+    try:
+        os.link(file, other)
+    except OSError:
+        shutil.copy2(file, other)
+
+
+def lay_out(name, below):
+    """Makes the repository in which a crate is proved, with what checks kept of it. Its folder."""
+    room = rooms / name
+    crates.lay_out(room, {name, *below}, "out", "edits", "must-fail")
+    for it in below:
+        kept = pathlib.Path("crates") / it / "out" / "rlib"
+        shutil.copytree(top / kept, room / kept, copy_function=link)
+    move(top / "crates" / name / "out", room / "crates" / name / "out")
+    return room
+
+
+def take_back(room):
+    """Moves what a check kept back, and removes its repository."""
+    move(room / "crates" / room.name / "out", top / "crates" / room.name / "out")
+    shutil.rmtree(room)
+
+
+def move(old, new):
+    """Moves a folder, if there is one, to where another one may be."""
+    if old.is_dir():
+        shutil.rmtree(new, ignore_errors=True)
+        old.rename(new)
 
 
 class Check:
     """The proof of one crate, under way. What it prints is kept until it has ended."""
 
-    def __init__(self, name, jobs):
+    def __init__(self, name, below, jobs):
         self.name = name
         self.said = tempfile.TemporaryFile()
+        self.room = lay_out(name, below)
         words = ["rt", "check" if is_program(name) else "lib", "--jobs", str(jobs)]
         how = {"stdin": subprocess.DEVNULL, "stdout": self.said, "stderr": subprocess.STDOUT, "start_new_session": True}
-        self.process = subprocess.Popen(words, cwd=top / "crates" / name, **how)
+        self.process = subprocess.Popen(words, cwd=self.room / "crates" / name, **how)
 
     def status(self):
         """Its exit status; None while it goes on."""
@@ -65,9 +99,11 @@ class Check:
         return self.said.read()
 
     def end(self):
-        """Ends it, with what it has started."""
+        """Ends it, with what it has started, and keeps what it has made."""
         if self.status() is None:
             os.killpg(self.process.pid, signal.SIGTERM)
+            self.process.wait()
+        take_back(self.room)
 
 
 class Proof:
@@ -80,17 +116,21 @@ class Proof:
         self.waiting = set(used)
         self.running = []
         self.proved = set()
-        self.ahead = {name: size(name) + sum(size(it) for it in used if name in used[it]) for name in used}
+        self.ahead = {name: crates.size(name) + sum(crates.size(it) for it in used if name in used[it]) for name in used}
         self.started = time.monotonic()
 
     def run(self):
         """Proves all crates. Whether each is proved."""
+        # (a run that was killed may have left some)
+        for room in list(rooms.glob("*")):
+            take_back(room)
         try:
             while self.waiting or self.running:
                 self.begin()
                 time.sleep(0.2)
                 for check in [it for it in self.running if it.status() is not None]:
                     self.running.remove(check)
+                    check.end()
                     self.log.write(check.output())
                     self.log.flush()
                     if check.status() != 0:
@@ -108,7 +148,7 @@ class Proof:
         for place, name in enumerate(ready[:free]):
             jobs = 1 if place > 0 else max(self.processors // 2, free - len(ready) + 1, 1)
             self.waiting.remove(name)
-            self.running.append(Check(name, jobs))
+            self.running.append(Check(name, self.used[name], jobs))
 
     def is_proved(self, name):
         """Says that a crate is proved."""
