@@ -3,8 +3,9 @@
 
     test_wrong.py [NAME ..]
 
-A start may fail when memory is out, and no contract sees how much memory there is; so a body that never starts a command keeps its contract. No contract
-names what a lock holds either, so a call of the halls that only gives up keeps its own; nor how long one is held, nor for how many workers the daemon asks.
+A start may fail when memory is out, and no contract sees how much memory there is; so a body that never starts a command keeps its contract. Nor does one
+see whether a reader or a writer has failed, so a script may always be said to. No contract names what a lock holds either, so a call of the halls that only
+gives up keeps its own; nor how long one is held, nor for how many workers the daemon asks.
 
 Each edit of tests/wrong is made in a copy. With one of rk_hall or rk_child a test of rk_live_tests has to fail. With one of rk_daemon a client has to wait
 for the end of another one. With any other the example has to come out otherwise. `rt try` runs all of them before any proof, and builds no more than that
@@ -77,7 +78,7 @@ def replays_otherwise(copy):
     """Whether the program runs, and not as the right body does; and what it wrote."""
     add_program(copy, "replays", "rk_replay")
     written = tried(copy, "replays", [], input=(stored / "script").read_bytes(), stderr=subprocess.DEVNULL)
-    return written.startswith(b"to 1 ") and written != (stored / "expected").read_bytes(), written
+    return written.startswith((b"to 1 ", b"failed")) and written != (stored / "expected").read_bytes(), written
 
 
 def fails(copy, test):

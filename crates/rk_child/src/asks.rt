@@ -13,8 +13,8 @@ use crate::driving::drive;
 use crate::making::says_made;
 use crate::replying::reply;
 use crate::spent::fail;
-use rk_devices::{Child, Clock, Course, Launcher, MAX_READS, PIECE, ReadFault, read_out};
-use rk_frame::{Frames, Next};
+use rk_devices::{Child, Clock, Course, Launcher, ReadFault, read_out};
+use rk_frame::{Frames, MAX_PIECE, MAX_READS, Next};
 use rk_hall::{Called, HallNo, Launch};
 use rk_message::AskStep;
 use rk_names::{Serial, SessionId};
@@ -66,7 +66,7 @@ pub fn serve_asks<P: Platform>(
         frames,
         course: Course::new(),
     };
-    let mut piece = [0u8; PIECE];
+    let mut piece = [0u8; MAX_PIECE];
     for reads in 0..MAX_READS {
         let count = match child.read(&mut piece) {
             Ok(0) => return (Ok(()), asks.course),

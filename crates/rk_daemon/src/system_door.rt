@@ -8,6 +8,7 @@ use crossbeam_channel::Sender;
 use libc::net::{POLLIN, poll};
 use libc::types::pollfd;
 use log::Log;
+use rk_frame::MAX_PIECE;
 use std::os::fd::AsRawFd;
 use std::os::unix::net::{UnixListener, UnixStream};
 use std::sync::Wait;
@@ -16,9 +17,6 @@ use std::{io, thread};
 
 /// How many milliseconds it waits after an accept that failed.
 const PAUSE: u64 = 100;
-
-/// How many bytes of standard input are read and dropped at a time.
-const PIECE: usize = 4_096;
 
 /// A socket that listens, standard input, and a channel to the workers. Once it is let go, nobody can connect, and the workers get no more.
 #[derive(Drop)]
@@ -110,6 +108,6 @@ fn asked_of(descriptor: i32) -> pollfd
 
 /// Reads some of standard input, which can be read; whether there is no more, or no more can be read.
 fn has_ended() -> bool {
-    let mut piece = [0u8; PIECE];
+    let mut piece = [0u8; MAX_PIECE];
     libc::read(libc::STDIN_FILENO, &mut piece) <= 0
 }

@@ -32,5 +32,5 @@ pub use around::{Clock, Gate};
 pub use device::{Child, DeviceFault, Launcher, StartFault};
 pub use driven::Driven;
 pub use output::{Output, OutputFault};
-pub use reading::{MAX_READS, PIECE, ReadFault, pipe_through, read_out};
+pub use reading::{ReadFault, pipe_through, read_out};
 pub use report::{Course, Report};

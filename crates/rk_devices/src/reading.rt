@@ -4,13 +4,8 @@ ghost use Rattle.rk_devices.specs.Shown.{FailsReading, GoesOn, IsGiven, IsHeard,
 
 use crate::device::Child;
 use crate::output::Output;
+use rk_frame::{MAX_PIECE, MAX_READS};
 use thiserror::Error;
-
-/// The most reads of one child.
-pub const MAX_READS: u32 = 1_048_576;
-
-/// The most bytes of one read.
-pub const PIECE: usize = 4_096;
 
 /// Why a child's output was not read to its end.
 #[derive(Clone, Copy, Debug, PartialEq, Eq, Error)]
@@ -32,7 +27,7 @@ pub fn read_out<C: Child>(child: &mut C, reads: u32) -> Result<(), ReadFault>
     ensures end { OnOk result ((C.shown child.new).at_end ≡ true) }
     ensures fault { IfErr result (λ f. FailsReading f (C.shown child.old) (C.shown child.new)) }
 {
-    let mut piece = [0u8; PIECE];
+    let mut piece = [0u8; MAX_PIECE];
     for _ in reads..MAX_READS {
         match child.read(&mut piece) {
             Ok(0) => return Ok(()),
@@ -63,7 +58,7 @@ fn keep<C: Child>(child: &mut C, output: &mut Output) -> Result<(), ReadFault>
     ensures end { OnOk result ((C.shown child.new).at_end ≡ true) }
     ensures fault { IfErr result (λ f. FailsReading f (C.shown child.old) (C.shown child.new)) }
 {
-    let mut piece = [0u8; PIECE];
+    let mut piece = [0u8; MAX_PIECE];
     for _ in 0..MAX_READS {
         match child.read(&mut piece) {
             Ok(0) => return Ok(()),

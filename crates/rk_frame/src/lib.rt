@@ -55,6 +55,10 @@ pub const MAX_BODY: usize = 65_536;
 /// The longest piece, in bytes, that [`Frames::feed`] takes after `More` without memory.
 pub const MAX_PIECE: usize = 4_096;
 
+/// The most reads of one stream, whether a client's, a handler's output or a script. Each asks for a
+/// piece of [`MAX_PIECE`] bytes.
+pub const MAX_READS: u32 = 1_048_576;
+
 /// The bytes that [`Frames::new`] reserves: a frame that lacks one byte, of 65,539 bytes, and the
 /// longest piece after it.
 pub const RESERVED: usize = 69_635;

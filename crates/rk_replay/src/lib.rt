@@ -39,6 +39,6 @@ pub use fault::ScriptFault;
 pub use rk_served::{
     Bytes, Happening, Output, Outputs, Replay, StartResult, TakeFault, served_is_run,
 };
-pub use script::{MAX_READS, run_script};
+pub use script::run_script;
 pub use script_line::ScriptLine;
 pub use transcript::{LineFault, Transcript};

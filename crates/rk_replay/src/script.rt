@@ -7,14 +7,9 @@ ghost use Rattle.rk_replay.specs.Written.{IsWritten, IsRefused};
 use crate::fault::ScriptFault;
 use crate::playing::play;
 use crate::transcript::Transcript;
+use rk_frame::{MAX_PIECE, MAX_READS};
 use std::alloc::Global;
 use std::io::{Read, Write};
-
-/// The most reads of one script.
-pub const MAX_READS: u32 = 1_048_576;
-
-/// How much one read asks for.
-const PIECE: usize = 4096;
 
 /// Reads a script to its end, plays it, and writes what results from it: one line for each output, and one for each line
 /// that changed nothing.
@@ -76,7 +71,7 @@ fn read_all<R: Read>(alloc: Global, reader: &mut R) -> Result<Vec<u8>, ScriptFau
     ensures fault { result ≢ Err ScriptFault.Conf }
 {
     let mut text = Vec::new(alloc);
-    let mut piece = [0u8; PIECE];
+    let mut piece = [0u8; MAX_PIECE];
     for _turn in 0..MAX_READS {
         let Ok(count) = reader.read(&mut piece) else {
             return Err(ScriptFault::Read);
