@@ -1,10 +1,8 @@
 -- What was done with a launcher.
-use Rattle.std.proofs.Common.{◌≡◌, ◌≤◌, ◌<◌, ◌+◌, ◌-◌, ℕ, Bool, true, false, inl, inr, arith, refl, ap, sym, subst, ◌∙◌}
+use Rattle.std.proofs.Common.{◌≡◌, ◌≤◌, ◌<◌, ◌+◌, ◌-◌, ℕ, Bool, true, false, inl, inr, arith, refl, ap, sym, subst, ◌∙◌, append_assoc, append-nil}
 use Rattle.std.specs.Prelude.{List, [], ◌∷◌, ◌++◌, Option, Some, None, Result, Ok, Err, OnOk, IfErr, max, nat_lt, ◌||◌, ◌==◌, if◌then◌else◌}
-use Rattle.std.specs.List.{All}
 use Rattle.std.proofs.Math.Nat.{le-min, min-le_right, max-le, le-max_left, le-max_right}
 use Rattle.std.proofs.lemmas.Bool.Decides.{nat_tests}
-use Rattle.std.proofs.lemmas.List.Elements.{All-append, All-nil, All-push}
 use Rattle.rk_machine.specs.declared.event.How.TheVariants.{Exit, Signal, Fault}
 use Rattle.rk_devices.specs.declared.output.OutputFault.{OutputFault}
 use Rattle.rk_devices.specs.declared.reading.ReadFault.{ReadFault}
@@ -19,42 +17,48 @@ use Rattle.rk_devices.specs.declared.driven.Driven.TheVariants.{Ended, NoPayload
 use Rattle.rk_conf.specs.declared.line.Line.{Line}
 use Rattle.rk_macro.specs.declared.subject.Subject.{Subject}
 use Rattle.rk_child.specs.Commands.{IsCommandFor, IsUnprepared}
-use Rattle.rk_child.specs.Driving.{Runs, FaultRose, TellsEnd, TriesMore, Tries, Drives, HasRun, HasTried, EndsAs, later_of, told_with}
+use Rattle.rk_child.specs.Driving.{AreStarts, no_start, a_start, Runs, FaultRose, TellsEnd, TriesMore, Tries, Drives, HasRun, HasTried, EndsAs, later_of, told_with}
 
 at_most : {a b c : ℕ} → a ≤ b → b ≤ c → a ≤ c
 at_most le more = omega (arith, le, more)
 
+-- some starts, and then some more
+starts_on : (conf : List Line) (out : ℕ) (x y : List Tried) → AreStarts conf out x → AreStarts conf out y → AreStarts conf out (x ++ y)
+starts_on conf out x y (no_start n) more = more
+starts_on conf out x y (a_start n subject command nested later is inner rest) more =
+    let one : Tried = record { out = n; command = command } in
+    subst (λ z. AreStarts conf n (one ∷ z)) (sym (append_assoc nested later y))
+    (a_start n subject command nested (later ++ y) is inner (starts_on conf n later y rest more))
+
+-- one start, and what was started while it was out
+one_start : (conf : List Line) (n : ℕ) (subject : Subject) (command : Command) (nested : List Tried) → IsCommandFor conf subject command
+    → AreStarts conf (n + 1) nested → AreStarts conf n (record { out = n; command = command } ∷ nested)
+one_start conf n subject command nested is inner =
+    let one : Tried = record { out = n; command = command } in
+    subst (λ z. AreStarts conf n (one ∷ z)) (append-nil nested) (a_start n subject command nested [] is inner (no_start n))
+
 -- no command
-tries_none : (a : LauncherShown) → TriesMore a a
-tries_none a = ([], and_none a.tried, All-nil (λ (t : Tried). a.out ≤ t.out))
+tries_none : (conf : List Line) (a : LauncherShown) → TriesMore conf a a
+tries_none conf a = ([], and_none a.tried, no_start a.out)
 
 -- some commands, and then some more
-tries_then : (a b c : LauncherShown) → b.out ≡ a.out → TriesMore a b → TriesMore b c → TriesMore a c
-tries_then a b c same (x, is, all) (y, more, others) = (
+tries_then : (conf : List Line) (a b c : LauncherShown) → b.out ≡ a.out → TriesMore conf a b → TriesMore conf b c → TriesMore conf a c
+tries_then conf a b c same (x, is, all) (y, more, others) = (
   x ++ y,
   more ∙ ap (λ t. and_then t y) is ∙ and_more a.tried x y,
-  All-append (λ (t : Tried). a.out ≤ t.out) x y all (subst (λ n. All (λ (t : Tried). n ≤ t.out) y) same others),
+  starts_on conf a.out x y all (subst (λ n. AreStarts conf n y) same others),
 )
 
-at_least : {a b : ℕ} → a + 1 ≤ b → a ≤ b
-at_least le = omega (arith, le)
-
--- one command
-only : (a : LauncherShown) (command : Command) → All (λ (t : Tried). a.out ≤ t.out) (record { out = a.out; command = command } ∷ [])
-only a command = All-push (λ (t : Tried). a.out ≤ t.out) [] (record { out = a.out; command = command }) (All-nil (λ (t : Tried). a.out ≤ t.out)) (omega arith)
-
 -- one command, and what was started while it was out
-tries_one : (a b : LauncherShown) (command : Command) (c : ChildShown) → TriesMore (one_more (with_tried command a)) b → TriesMore a (taken_back b c)
-tries_one a b command c (x, is, all) =
-    let one : Tried = record { out = a.out; command = command } in (
-      one ∷ x,
-      is ∙ and_more a.tried (one ∷ []) x,
-      All-append (λ (t : Tried). a.out ≤ t.out) (one ∷ []) x (only a command) (λ k t lt. at_least (all k t lt)),
-    )
+tries_one : (conf : List Line) (subject : Subject) (a b : LauncherShown) (command : Command) (c : ChildShown) → IsCommandFor conf subject command
+    → TriesMore conf (one_more (with_tried command a)) b → TriesMore conf a (taken_back b c)
+tries_one conf subject a b command c for (x, is, all) =
+    let one : Tried = record { out = a.out; command = command } in
+    (one ∷ x, is ∙ and_more a.tried (one ∷ []) x, one_start conf a.out subject command x for all)
 
 -- nothing was done
-pub runs_same : (d : ℕ) (a : LauncherShown) → a.count ≤ most → Runs d a a
-runs_same d a bound = record {
+pub runs_same : (conf : List Line) (d : ℕ) (a : LauncherShown) → a.count ≤ most → Runs conf d a a
+runs_same conf d a bound = record {
   bound = bound;
   rises = omega arith;
   longest = omega arith;
@@ -62,19 +66,19 @@ runs_same d a bound = record {
   hasty = refl;
   out = refl;
   deepest = le-max_left a.deepest (a.out + (9 - d));
-  tried = tries_none a;
+  tried = tries_none conf a;
 }
 
 -- one after the other
-pub runs_further : (d : ℕ) (a b c : LauncherShown) → Runs d a b → Runs d b c → Runs d a c
-runs_further d a b c f g = record {
+pub runs_further : (conf : List Line) (d : ℕ) (a b c : LauncherShown) → Runs conf d a b → Runs conf d b c → Runs conf d a c
+runs_further conf d a b c f g = record {
   bound = g.bound;
   rises = at_most f.rises g.rises;
   longest = at_most f.longest g.longest;
   reads = at_most g.reads (max-le f.reads (le-max_right a.longest 1048576));
   hasty = g.hasty ∙ f.hasty;
   out = g.out ∙ f.out;
-  tried = tries_then a b c f.out f.tried g.tried;
+  tried = tries_then conf a b c f.out f.tried g.tried;
   deepest =
       let inside : b.out + (9 - d) ≤ max a.deepest (a.out + (9 - d))
       = subst (λ n. n + (9 - d) ≤ max a.deepest (a.out + (9 - d))) (sym f.out) (le-max_right a.deepest (a.out + (9 - d))) in
@@ -82,8 +86,8 @@ runs_further d a b c f g = record {
 }
 
 -- a deeper launch
-pub runs_deeper : (d e : ℕ) (a b : LauncherShown) → d < e → Runs e a b → Runs (d + 1) a b
-runs_deeper d e a b lt f = record {
+pub runs_deeper : (conf : List Line) (d e : ℕ) (a b : LauncherShown) → d < e → Runs conf e a b → Runs conf (d + 1) a b
+runs_deeper conf d e a b lt f = record {
   bound = f.bound;
   rises = f.rises;
   longest = f.longest;
@@ -97,16 +101,16 @@ runs_deeper d e a b lt f = record {
 }
 
 -- a start that failed
-pub runs_failed : (d : ℕ) (a b : LauncherShown) (command : Command) → b.count ≤ most → Rose a.count b.count
-    → b ≡ record (with_tried command a) { count = b.count } → Runs d a b
-runs_failed d a b command bound rose is = record {
+pub runs_failed : (conf : List Line) (subject : Subject) (d : ℕ) (a b : LauncherShown) (command : Command) → IsCommandFor conf subject command
+    → b.count ≤ most → Rose a.count b.count → b ≡ record (with_tried command a) { count = b.count } → Runs conf d a b
+runs_failed conf subject d a b command for bound rose is = record {
   bound = bound;
   rises = rose_up a.count b.count rose;
   longest = let e : b.longest ≡ a.longest = ap (λ (l : LauncherShown). l.longest) is in omega (arith, e);
   reads = let e : b.longest ≡ a.longest = ap (λ (l : LauncherShown). l.longest) is in at_most (omega (arith, e)) (le-max_left a.longest 1048576);
   hasty = ap (λ (l : LauncherShown). l.hasty) is;
   out = ap (λ (l : LauncherShown). l.out) is;
-  tried = (record { out = a.out; command = command } ∷ [], ap (λ (l : LauncherShown). l.tried) is, only a command);
+  tried = (_, ap (λ (l : LauncherShown). l.tried) is, one_start conf a.out subject command [] for (no_start (a.out + 1)));
   deepest = let e : b.deepest ≡ a.deepest = ap (λ (l : LauncherShown). l.deepest) is in at_most (omega (arith, e)) (le-max_left a.deepest (a.out + (9 - d)));
 }
 
@@ -115,15 +119,16 @@ not_hasty true b is = refl
 not_hasty false b is = is
 
 -- a child that was started came back
-runs_child : (d : ℕ) (a b : LauncherShown) (command : Command) (c : ChildShown) → d ≤ 8 → c.reads ≤ 1048576 → c.hasty ≡ false
-    → Runs (d + 1) (one_more (with_tried command a)) b → Runs d a (taken_back b c)
-runs_child d a b command c deep few shut f = record {
+runs_child : (conf : List Line) (subject : Subject) (d : ℕ) (a b : LauncherShown) (command : Command) (c : ChildShown) → d ≤ 8
+    → IsCommandFor conf subject command → c.reads ≤ 1048576 → c.hasty ≡ false → Runs conf (d + 1) (one_more (with_tried command a)) b
+    → Runs conf d a (taken_back b c)
+runs_child conf subject d a b command c deep for few shut f = record {
   bound = min-le_right (b.count + c.count) most;
   rises = at_most f.rises (le-min (omega arith) f.bound);
   longest = at_most f.longest (le-max_left b.longest c.reads);
   reads = max-le f.reads (at_most few (le-max_right a.longest 1048576));
   hasty = not_hasty b.hasty c.hasty shut ∙ f.hasty;
-  tried = tries_one a b command c f.tried;
+  tried = tries_one conf subject a b command c for f.tried;
   out = let e = f.out in omega (arith, e);
   deepest =
       let inside = le-max_right a.deepest (a.out + (9 - d)) in
@@ -214,14 +219,15 @@ shut_first t c e (Ok u) StartFailed goes ends = absurd ends
 shut_first t c e (Ok u) ReadFailed goes ends = absurd ends
 
 -- a command from its start to its end
-pub came_back : (d : ℕ) (a b : LauncherShown) (command : Command) (t : Bool) (c e : ChildShown) (read : Result Unit ReadFault) (driven : Driven) → d ≤ 8
-    → Runs (d + 1) (one_more (with_tried command a)) b → GoesOn (new_child t) c → ReadsUpTo 1048576 read (new_child t) c → OnOk read (c.at_end ≡ true)
+pub came_back : (conf : List Line) (subject : Subject) (d : ℕ) (a b : LauncherShown) (command : Command) (t : Bool) (c e : ChildShown)
+    (read : Result Unit ReadFault) (driven : Driven) → d ≤ 8 → IsCommandFor conf subject command
+    → Runs conf (d + 1) (one_more (with_tried command a)) b → GoesOn (new_child t) c → ReadsUpTo 1048576 read (new_child t) c → OnOk read (c.at_end ≡ true)
     → IfErr read (λ f. FailsReading f (new_child t) c) → EndsAs read driven c e
-    → Runs d a (taken_back b e) × FaultRose driven a (taken_back b e) × TellsEnd driven a (taken_back b e) × HasRun driven
-came_back d a b command t c e read driven deep f goes reads end fails ends =
+    → Runs conf d a (taken_back b e) × FaultRose driven a (taken_back b e) × TellsEnd driven a (taken_back b e) × HasRun driven
+came_back conf subject d a b command t c e read driven deep for f goes reads end fails ends =
     let told = told_back a b t c e read driven f.rises f.bound goes reads end fails ends in
     let few : e.reads ≤ 1048576 = subst (λ n. n ≤ 1048576) (sym (same_waited c e read driven ends).0) (few_reads t c read reads) in
-    (runs_child d a b command e deep few (shut_first t c e read driven goes ends) f, told.0, told.1, told.2)
+    (runs_child conf subject d a b command e deep for few (shut_first t c e read driven goes ends) f, told.0, told.1, told.2)
 
 -- a fault that came later
 fault_from : (driven : Driven) (a b c : LauncherShown) → a.count ≤ b.count → FaultRose driven b c → FaultRose driven a c
@@ -260,29 +266,29 @@ same_end NoMemory a b c run same end is = absurd run
 same_end StartFailed a b c run same end is = absurd run
 
 -- one command, where none came back since
-still_told : (first : Driven) (a b c : LauncherShown) (d : ℕ) → HasRun first → FaultRose first a b → TellsEnd first a b → Runs d b c
-    → c.reads ≡ b.reads → c.last ≡ b.last → c.at_end ≡ b.at_end → FaultRose first a c × TellsEnd first a c
-still_told first a b c d run rose ends g reads same end = (fault_to first a b c g.rises reads rose, same_end first a b c run same end ends)
+still_told : (conf : List Line) (first : Driven) (a b c : LauncherShown) (d : ℕ) → HasRun first → FaultRose first a b → TellsEnd first a b
+    → Runs conf d b c → c.reads ≡ b.reads → c.last ≡ b.last → c.at_end ≡ b.at_end → FaultRose first a c × TellsEnd first a c
+still_told conf first a b c d run rose ends g reads same end = (fault_to first a b c g.rises reads rose, same_end first a b c run same end ends)
 
 -- one command that another one followed
-pub followed : (first second : Driven) (a b c : LauncherShown) (d : ℕ) → HasRun first → Runs d a b → FaultRose first a b → TellsEnd first a b
-    → Runs d b c → FaultRose second b c → TellsEnd second b c → FaultRose (later_of first second) a c × TellsEnd (later_of first second) a c
-followed first NotStarted a b c d run f rose ends g rose' ends' =
-    still_told first a b c d run rose ends g (ap (λ (l : LauncherShown). l.reads) ends') (ap (λ (l : LauncherShown). l.last) ends')
+pub followed : (conf : List Line) (first second : Driven) (a b c : LauncherShown) (d : ℕ) → HasRun first → Runs conf d a b → FaultRose first a b
+    → TellsEnd first a b → Runs conf d b c → FaultRose second b c → TellsEnd second b c → FaultRose (later_of first second) a c × TellsEnd (later_of first second) a c
+followed conf first NotStarted a b c d run f rose ends g rose' ends' =
+    still_told conf first a b c d run rose ends g (ap (λ (l : LauncherShown). l.reads) ends') (ap (λ (l : LauncherShown). l.last) ends')
     (ap (λ (l : LauncherShown). l.at_end) ends')
-followed first (NotMade fault) a b c d run f rose ends g rose' ends' =
-    still_told first a b c d run rose ends g (ap (λ (l : LauncherShown). l.reads) ends') (ap (λ (l : LauncherShown). l.last) ends')
+followed conf first (NotMade fault) a b c d run f rose ends g rose' ends' =
+    still_told conf first a b c d run rose ends g (ap (λ (l : LauncherShown). l.reads) ends') (ap (λ (l : LauncherShown). l.last) ends')
     (ap (λ (l : LauncherShown). l.at_end) ends')
-followed first NoMemory a b c d run f rose ends g rose' ends' =
-    still_told first a b c d run rose ends g (ap (λ (l : LauncherShown). l.reads) ends') (ap (λ (l : LauncherShown). l.last) ends')
+followed conf first NoMemory a b c d run f rose ends g rose' ends' =
+    still_told conf first a b c d run rose ends g (ap (λ (l : LauncherShown). l.reads) ends') (ap (λ (l : LauncherShown). l.last) ends')
     (ap (λ (l : LauncherShown). l.at_end) ends')
-followed first StartFailed a b c d run f rose ends g rose' ends' =
-    still_told first a b c d run rose ends g (ap (λ (l : LauncherShown). l.reads) ends') (ap (λ (l : LauncherShown). l.last) ends')
+followed conf first StartFailed a b c d run f rose ends g rose' ends' =
+    still_told conf first a b c d run rose ends g (ap (λ (l : LauncherShown). l.reads) ends') (ap (λ (l : LauncherShown). l.last) ends')
     (ap (λ (l : LauncherShown). l.at_end) ends')
-followed first (Ended how) a b c d run f rose ends g rose' ends' = (fault_from (Ended how) a b c f.rises rose', ends')
-followed first (NoPayload fault) a b c d run f rose ends g rose' ends' = (fault_from (NoPayload fault) a b c f.rises rose', ends')
-followed first ReadFailed a b c d run f rose ends g rose' ends' = (fault_from ReadFailed a b c f.rises rose', ends')
-followed first WaitFailed a b c d run f rose ends g rose' ends' = (fault_from WaitFailed a b c f.rises rose', ends')
+followed conf first (Ended how) a b c d run f rose ends g rose' ends' = (fault_from (Ended how) a b c f.rises rose', ends')
+followed conf first (NoPayload fault) a b c d run f rose ends g rose' ends' = (fault_from (NoPayload fault) a b c f.rises rose', ends')
+followed conf first ReadFailed a b c d run f rose ends g rose' ends' = (fault_from ReadFailed a b c f.rises rose', ends')
+followed conf first WaitFailed a b c d run f rose ends g rose' ends' = (fault_from WaitFailed a b c f.rises rose', ends')
 
 -- a command with an output, or none
 with_told : (ended : Driven) (output : Option (Result (List ℕ) OutputFault)) (a b : LauncherShown) → FaultRose ended a b → TellsEnd ended a b → HasRun ended
@@ -308,29 +314,29 @@ with_told ReadFailed (Some (Err fault)) a b rose ends run = (rose, ends, run)
 with_told WaitFailed (Some (Err fault)) a b rose ends run = (rose, ends, run)
 
 -- the same, by what each call said
-pub ran_through : (d : ℕ) (a s b new : LauncherShown) (command : Command) (t : Bool) (n c e : ChildShown) (read : Result Unit ReadFault) (driven : Driven)
-    → d ≤ 8 → s ≡ one_more (with_tried command a) → n ≡ new_child t → Runs (d + 1) s b → GoesOn n c → ReadsUpTo 1048576 read n c
+pub ran_through : (conf : List Line) (subject : Subject) (d : ℕ) (a s b new : LauncherShown) (command : Command) (t : Bool) (n c e : ChildShown) (read : Result Unit ReadFault) (driven : Driven)
+    → d ≤ 8 → IsCommandFor conf subject command → s ≡ one_more (with_tried command a) → n ≡ new_child t → Runs conf (d + 1) s b → GoesOn n c → ReadsUpTo 1048576 read n c
     → OnOk read (c.at_end ≡ true) → IfErr read (λ f. FailsReading f n c) → EndsAs read driven c e → new ≡ taken_back b e
-    → Runs d a new × FaultRose driven a new × TellsEnd driven a new × HasRun driven
-ran_through d a s b new command t n c e read driven deep started fresh f goes reads end fails ends back =
-    subst (λ (x : LauncherShown). Runs d a x × FaultRose driven a x × TellsEnd driven a x × HasRun driven) (sym back)
-    (came_back d a b command t c e read driven deep (subst (λ (x : LauncherShown). Runs (d + 1) x b) started f)
+    → Runs conf d a new × FaultRose driven a new × TellsEnd driven a new × HasRun driven
+ran_through conf subject d a s b new command t n c e read driven deep for started fresh f goes reads end fails ends back =
+    subst (λ (x : LauncherShown). Runs conf d a x × FaultRose driven a x × TellsEnd driven a x × HasRun driven) (sym back)
+    (came_back conf subject d a b command t c e read driven deep for (subst (λ (x : LauncherShown). Runs conf (d + 1) x b) started f)
     (subst (λ (x : ChildShown). GoesOn x c) fresh goes) (subst (λ (x : ChildShown). ReadsUpTo 1048576 read x c) fresh reads) end
     (subst (λ (x : ChildShown). IfErr read (λ f. FailsReading f x c)) fresh fails) ends)
 
 -- the same of one with an output, or none
-pub ran_with : (d : ℕ) (a s b new : LauncherShown) (command : Command) (t : Bool) (n c e : ChildShown) (read : Result Unit ReadFault)
-    (ended driven : Driven) (output : Option (Result (List ℕ) OutputFault)) → d ≤ 8
-    → s ≡ one_more (with_tried command a) → n ≡ new_child t → Runs (d + 1) s b → GoesOn n c → ReadsUpTo 1048576 read n c → OnOk read (c.at_end ≡ true)
+pub ran_with : (conf : List Line) (subject : Subject) (d : ℕ) (a s b new : LauncherShown) (command : Command) (t : Bool) (n c e : ChildShown) (read : Result Unit ReadFault)
+    (ended driven : Driven) (output : Option (Result (List ℕ) OutputFault)) → d ≤ 8 → IsCommandFor conf subject command
+    → s ≡ one_more (with_tried command a) → n ≡ new_child t → Runs conf (d + 1) s b → GoesOn n c → ReadsUpTo 1048576 read n c → OnOk read (c.at_end ≡ true)
     → IfErr read (λ f. FailsReading f n c) → EndsAs read ended c e → new ≡ taken_back b e → driven ≡ told_with ended output
-    → Runs d a new × FaultRose driven a new × TellsEnd driven a new × HasRun driven
-ran_with d a s b new command t n c e read ended driven output deep started fresh f goes reads end fails ends back told =
-    let r = ran_through d a s b new command t n c e read ended deep started fresh f goes reads end fails ends back in
+    → Runs conf d a new × FaultRose driven a new × TellsEnd driven a new × HasRun driven
+ran_with conf subject d a s b new command t n c e read ended driven output deep for started fresh f goes reads end fails ends back told =
+    let r = ran_through conf subject d a s b new command t n c e read ended deep for started fresh f goes reads end fails ends back in
     let w = with_told ended output a new r.1 r.2 r.3 in
-    subst (λ (x : Driven). Runs d a new × FaultRose x a new × TellsEnd x a new × HasRun x) (sym told) (r.0, w.0, w.1, w.2)
+    subst (λ (x : Driven). Runs conf d a new × FaultRose x a new × TellsEnd x a new × HasRun x) (sym told) (r.0, w.0, w.1, w.2)
 
 ran : (conf : List Line) (subject : Subject) (out : ℕ) (command : Command) (nested : List Tried) (driven : Driven) → IsCommandFor conf subject command
-    → HasRun driven → All (λ (t : Tried). out < t.out) nested → Tries conf subject out driven (record { out = out; command = command } ∷ nested)
+    → HasRun driven → AreStarts conf (out + 1) nested → Tries conf subject out driven (record { out = out; command = command } ∷ nested)
 ran conf subject out command nested (Ended how) is run all = (command, nested, is, all, refl)
 ran conf subject out command nested (NoPayload fault) is run all = (command, nested, is, all, refl)
 ran conf subject out command nested ReadFailed is run all = (command, nested, is, all, refl)
@@ -340,19 +346,16 @@ ran conf subject out command nested (NotMade fault) is run all = absurd run
 ran conf subject out command nested NoMemory is run all = absurd run
 ran conf subject out command nested StartFailed is run all = absurd run
 
-deeper : {a b : ℕ} → a + 1 ≤ b → a < b
-deeper le = omega (arith, le)
-
 -- the command that was prepared was started, and then what its handler's own starts are
 pub tried_it : (conf : List Line) (subject : Subject) (driven : Driven) (a s b new : LauncherShown) (command : Command) (e : ChildShown)
-    → IsCommandFor conf subject command → HasRun driven → s ≡ one_more (with_tried command a) → TriesMore s b → new ≡ taken_back b e
+    → IsCommandFor conf subject command → HasRun driven → s ≡ one_more (with_tried command a) → TriesMore conf s b → new ≡ taken_back b e
     → HasTried conf subject driven a new
 tried_it conf subject driven a s b new command e is run started more back =
-    let m = subst (λ (x : LauncherShown). TriesMore x b) started more in
+    let m = subst (λ (x : LauncherShown). TriesMore conf x b) started more in
     let one : Tried = record { out = a.out; command = command } in (
       one ∷ m.0,
       ap (λ (x : LauncherShown). x.tried) back ∙ m.1 ∙ and_more a.tried (one ∷ []) m.0,
-      ran conf subject a.out command m.0 driven is run (λ k t lt. deeper (m.2 k t lt)),
+      ran conf subject a.out command m.0 driven is run m.2,
     )
 
 -- its start failed
@@ -360,7 +363,7 @@ pub tried_in_vain : (conf : List Line) (subject : Subject) (a b : LauncherShown)
     → b ≡ record (with_tried command a) { count = b.count } → HasTried conf subject StartFailed a b
 tried_in_vain conf subject a b command is failed =
     let one : Tried = record { out = a.out; command = command } in
-    (one ∷ [], ap (λ (x : LauncherShown). x.tried) failed, (command, [], is, All-nil (λ (t : Tried). a.out < t.out), refl))
+    (one ∷ [], ap (λ (x : LauncherShown). x.tried) failed, (command, [], is, no_start (a.out + 1), refl))
 
 -- none was prepared
 pub tried_none : (conf : List Line) (subject : Subject) (driven : Driven) (a : LauncherShown) → IsUnprepared driven → HasTried conf subject driven a a
@@ -386,7 +389,7 @@ reads_more k old mid new first so is same = same ∙ is ∙ ap raised so ∙ rai
 
 -- two commands, one after the other
 pub drives_on : (conf : List Line) (t l : TokenShown) (first second driven : Driven) (a b c : LauncherShown) → (l ≡ negated t) × HasRun first
-    → Runs t.depth a b → HasTried conf t.subject first a b → HasTried conf l.subject second b c → driven ≡ later_of first second
+    → Runs conf t.depth a b → HasTried conf t.subject first a b → HasTried conf l.subject second b c → driven ≡ later_of first second
     → Drives conf t.subject driven a c
 drives_on conf t l first second driven a b c next f one two is =
     inr (first, second, b, next.1, one, f.out, subst (λ (x : TokenShown). HasTried conf x.subject second b c) next.0 two, is)

@@ -1,6 +1,5 @@
 -- How a launch is brought to its end.
-use Rattle.std.specs.Prelude.{ℕ, ◌≡◌, ◌==◌, ◌≤◌, ◌<◌, ◌⊎◌, ◌+◌, ◌-◌, max, List, [], ◌∷◌, true, false, Option, Some, None, Result, Ok, Err, if◌then◌else◌}
-use Rattle.std.specs.List.{All}
+use Rattle.std.specs.Prelude.{ℕ, ◌≡◌, ◌==◌, ◌≤◌, ◌⊎◌, ◌+◌, ◌-◌, max, List, [], ◌∷◌, ◌++◌, true, false, Option, Some, None, Result, Ok, Err, if◌then◌else◌}
 use Rattle.rk_conf.specs.declared.line.Line.{Line}
 use Rattle.rk_macro.specs.declared.command.Command.{Command}
 use Rattle.rk_macro.specs.declared.subject.Op.TheVariants.{Negate}
@@ -14,14 +13,21 @@ use Rattle.rk_devices.specs.declared.driven.Driven.{Driven}
 use Rattle.rk_devices.specs.declared.driven.Driven.TheVariants.{Ended, NoPayload, NotStarted, NotMade, NoMemory, StartFailed, ReadFailed, WaitFailed}
 use Rattle.rk_child.specs.Commands.{IsCommandFor}
 
--- commands were to be started, each while at least as many children were out as before
-abbrev pub TriesMore : LauncherShown → LauncherShown → Type 0
-TriesMore old new = (tried : List Tried) × (new.tried ≡ and_then old.tried tried) × All (λ (t : Tried). old.out ≤ t.out) tried
+-- what was to be started while so many children were out, and what their handlers' own starts are while one more is, and so on: each command is that of the
+-- line that is chosen for some subject
+pub data AreStarts (conf : List Line) : ℕ → List Tried → Type 0 where
+  no_start : (out : ℕ) → AreStarts conf out []
+  a_start : (out : ℕ) (subject : Subject) (command : Command) (nested later : List Tried) → IsCommandFor conf subject command → AreStarts conf (out + 1) nested
+      → AreStarts conf out later → AreStarts conf out (record { out = out; command = command } ∷ (nested ++ later))
+
+-- so commands were to be started while as many children were out as before
+abbrev pub TriesMore : List Line → LauncherShown → LauncherShown → Type 0
+TriesMore conf old new = (tried : List Tried) × (new.tried ≡ and_then old.tried tried) × AreStarts conf old.out tried
 
 -- what was done with a launcher in the run of a launch of this depth: its counts did not fall, no child was read more than 1,048,576 times, none was waited for
 -- while its input was open, each came back, and no more children were out at one time than those before, or with those that are out one for each depth from
 -- this one to 8
-pub record Runs (depth : ℕ) (old new : LauncherShown) : Type 0 where
+pub record Runs (conf : List Line) (depth : ℕ) (old new : LauncherShown) : Type 0 where
   pub bound : new.count ≤ most
   pub rises : old.count ≤ new.count
   pub longest : old.longest ≤ new.longest
@@ -29,7 +35,7 @@ pub record Runs (depth : ℕ) (old new : LauncherShown) : Type 0 where
   pub hasty : new.hasty ≡ old.hasty
   pub out : new.out ≡ old.out
   pub deepest : new.deepest ≤ max old.deepest (old.out + (9 - depth))
-  pub tried : TriesMore old new
+  pub tried : TriesMore conf old new
 
 -- a fault comes only if the count of failures rose, or the child that came back last was read as often as it may be
 abbrev pub FaultRose : Driven → LauncherShown → LauncherShown → Type 0
@@ -67,12 +73,12 @@ HasRun StartFailed = ⊥
 HasRun _ = Unit {0}
 
 -- what was to be started for one command of a launch while so many children were out: nothing if none was prepared; else the command of the line that is
--- chosen for the subject, once, and then what its handler's own starts are, each while it is out
+-- chosen for the subject, once, and then what its handler's own starts are, while it is out
 abbrev pub Tries : List Line → Subject → ℕ → Driven → List Tried → Type 0
 Tries conf subject out NotStarted tried = tried ≡ []
 Tries conf subject out (NotMade fault) tried = tried ≡ []
 Tries conf subject out NoMemory tried = tried ≡ []
-Tries conf subject out _ tried = (command : Command) × (nested : List Tried) × IsCommandFor conf subject command × All (λ (t : Tried). out < t.out) nested
+Tries conf subject out _ tried = (command : Command) × (nested : List Tried) × IsCommandFor conf subject command × AreStarts conf (out + 1) nested
     × (tried ≡ record { out = out; command = command } ∷ nested)
 
 -- what was to be started for one command of a launch, by a launcher that tells it

@@ -55,7 +55,7 @@ pub fn serve_asks<P: Platform>(
     requires empty { IsEmpty frames }
     ensures talked { Talked key result.0 crew.old.caller.seat (standing_of crew.new.caller.seat result.1) (P.Launcher.Started.shown child.old)
         (P.Launcher.Started.shown child.new) }
-    ensures runs { Runs (depth + 1) (P.Launcher.shown crew.old.launcher) (P.Launcher.shown crew.new.launcher) }
+    ensures runs { Runs stage.now.conf.now (depth + 1) (P.Launcher.shown crew.old.launcher) (P.Launcher.shown crew.new.launcher) }
     ensures child { GoesOn (P.Launcher.Started.shown child.old) (P.Launcher.Started.shown child.new) }
     ensures reads { ReadsUpTo 1048576 result.0 (P.Launcher.Started.shown child.old) (P.Launcher.Started.shown child.new) }
     ensures end { OnOk result.0 ((P.Launcher.Started.shown child.new).at_end ≡ true) }
@@ -100,7 +100,7 @@ fn answer_all<P: Platform>(
     requires bound { (P.Launcher.shown crew.old.launcher).count ≤ most }
     ensures takes { TakesAll key result (P.Launcher.Started.shown child.old) asks.old.frames (standing_of crew.old.caller.seat asks.old.course)
         (P.Launcher.Started.shown child.new) asks.new.frames (standing_of crew.new.caller.seat asks.new.course) }
-    ensures runs { Runs (depth + 1) (P.Launcher.shown crew.old.launcher) (P.Launcher.shown crew.new.launcher) }
+    ensures runs { Runs stage.now.conf.now (depth + 1) (P.Launcher.shown crew.old.launcher) (P.Launcher.shown crew.new.launcher) }
     ensures child { GoesOn (P.Launcher.Started.shown child.old) (P.Launcher.Started.shown child.new) }
     ensures reads { (P.Launcher.Started.shown child.new).reads ≡ (P.Launcher.Started.shown child.old).reads }
     ensures stays { Stays crew.old.caller.seat crew.new.caller.seat }
@@ -127,7 +127,7 @@ fn answer_next<P: Platform>(
     requires bound { (P.Launcher.shown crew.old.launcher).count ≤ most }
     ensures takes { Turns key result (P.Launcher.Started.shown child.old) asks.old.frames (standing_of crew.old.caller.seat asks.old.course)
         (P.Launcher.Started.shown child.new) asks.new.frames (standing_of crew.new.caller.seat asks.new.course) }
-    ensures runs { Runs (depth + 1) (P.Launcher.shown crew.old.launcher) (P.Launcher.shown crew.new.launcher) }
+    ensures runs { Runs stage.now.conf.now (depth + 1) (P.Launcher.shown crew.old.launcher) (P.Launcher.shown crew.new.launcher) }
     ensures child { GoesOn (P.Launcher.Started.shown child.old) (P.Launcher.Started.shown child.new) }
     ensures reads { (P.Launcher.Started.shown child.new).reads ≡ (P.Launcher.Started.shown child.old).reads }
     ensures stays { Stays crew.old.caller.seat crew.new.caller.seat }
@@ -160,7 +160,7 @@ fn brought_to_end<P: Platform>(
     depth: u8,
 )
     requires bound { (P.Launcher.shown crew.old.launcher).count ≤ most }
-    ensures runs { Runs (depth + 1) (P.Launcher.shown crew.old.launcher) (P.Launcher.shown crew.new.launcher) }
+    ensures runs { Runs stage.now.conf.now (depth + 1) (P.Launcher.shown crew.old.launcher) (P.Launcher.shown crew.new.launcher) }
     ensures stays { Stays crew.old.caller.seat crew.new.caller.seat }
     ensures idle { launch ≡ None → crew.new.caller.seat ≡ crew.old.caller.seat }
 {
@@ -184,7 +184,7 @@ fn answered<P: Platform>(
 ) -> Saying
     requires bound { (P.Launcher.shown crew.old.launcher).count ≤ most }
     ensures says { SaysOf key body.now crew.old.caller.seat crew.new.caller.seat result }
-    ensures runs { Runs (depth + 1) (P.Launcher.shown crew.old.launcher) (P.Launcher.shown crew.new.launcher) }
+    ensures runs { Runs stage.now.conf.now (depth + 1) (P.Launcher.shown crew.old.launcher) (P.Launcher.shown crew.new.launcher) }
     ensures stays { Stays crew.old.caller.seat crew.new.caller.seat }
 {
     let hall = HallNo::of_serial(key);

@@ -42,7 +42,7 @@ pub fn drive<P: Platform>(
     launch: Launch<P::Names>,
 ) -> Driven
     requires { (P.Launcher.shown crew.old.launcher).count ≤ most }
-    ensures runs { Runs launch.depth (P.Launcher.shown crew.old.launcher) (P.Launcher.shown crew.new.launcher) }
+    ensures runs { Runs stage.now.conf.now launch.depth (P.Launcher.shown crew.old.launcher) (P.Launcher.shown crew.new.launcher) }
     ensures fault { FaultRose result (P.Launcher.shown crew.old.launcher) (P.Launcher.shown crew.new.launcher) }
     ensures end { TellsEnd result (P.Launcher.shown crew.old.launcher) (P.Launcher.shown crew.new.launcher) }
     ensures why { TellsWhy stage.now.conf.now launch.subject result }
@@ -70,7 +70,7 @@ fn run<P: Platform>(
 ) -> (Driven, Option<Launch<P::Names>>)
     requires bound { (P.Launcher.shown crew.old.launcher).count ≤ most }
     requires depth { launch.depth ≤ 8 }
-    ensures runs { Runs launch.depth (P.Launcher.shown crew.old.launcher) (P.Launcher.shown crew.new.launcher) }
+    ensures runs { Runs stage.now.conf.now launch.depth (P.Launcher.shown crew.old.launcher) (P.Launcher.shown crew.new.launcher) }
     ensures fault { FaultRose result.0 (P.Launcher.shown crew.old.launcher) (P.Launcher.shown crew.new.launcher) }
     ensures end { TellsEnd result.0 (P.Launcher.shown crew.old.launcher) (P.Launcher.shown crew.new.launcher) }
     ensures why { TellsWhy stage.now.conf.now launch.subject result.0 }
@@ -139,7 +139,7 @@ fn attend<P: Platform>(
 )
     requires bound { (P.Launcher.shown crew.old.launcher).count ≤ most }
     requires empty { IsEmptyRoom room }
-    ensures runs { Runs (running.now.depth + 1) (P.Launcher.shown crew.old.launcher) (P.Launcher.shown crew.new.launcher) }
+    ensures runs { Runs stage.now.conf.now (running.now.depth + 1) (P.Launcher.shown crew.old.launcher) (P.Launcher.shown crew.new.launcher) }
     ensures child { GoesOn (P.Launcher.Started.shown child.old) (P.Launcher.Started.shown child.new) }
     ensures attends { Attends room running.now.key running.now.subject result.0 result.1 crew.old.caller.seat (standing_of crew.new.caller.seat result.2)
         (P.Launcher.Started.shown child.old) (P.Launcher.Started.shown child.new) }

@@ -9,25 +9,35 @@ ghost use Rattle.rk_talk.specs.Said.{IsCalled, HasLaunch};
 use crate::message::Message;
 use crate::shelf::Shelf;
 use crate::stage::{Platform, Stage};
-use rk_hall::{CallFault, Called, HallFault, HallNo, Seat};
+use rk_hall::{CallFault, Called, HallFault, HallNo, Seat, Volume};
 use rk_machine::{EventOf, EventStep};
 use rk_message::AskStep;
 use rk_names::{Moment, SessionId};
 
-// The hall's volume is handed out, so that there are places again.
+// The volume of a hall whose record is full, which goes on with an empty one.
+fn full_volume<P: Platform>(
+    stage: &Stage<'_, P>,
+    hall: HallNo,
+) -> Result<Volume<P::Names>, CallFault>
+    ensures volume { IfOk result (λ v. v.hall ≡ hall) }
+    ensures fault { IfErr result (λ f. (f ≡ CallFault.Full) ⊎ (f ≡ CallFault.NoMemory)) }
+{
+    match stage.halls.roll(stage.rt, hall) {
+        Ok(volume) => Ok(volume),
+        Err(HallFault::Full) => Err(CallFault::Full),
+        Err(HallFault::NoMemory) => Err(CallFault::NoMemory),
+    }
+}
+
+// The hall's volume goes to the shelf, so that there are places again.
 #[cold]
 #[inline(never)]
 fn make_places<P: Platform>(stage: &Stage<'_, P>, hall: HallNo) -> Result<(), CallFault>
     ensures { IfErr result (λ f. (f ≡ CallFault.Full) ⊎ (f ≡ CallFault.NoMemory)) }
 {
-    match stage.halls.roll(stage.rt, hall) {
-        Ok(volume) => {
-            stage.shelf.put(stage.rt, volume);
-            Ok(())
-        }
-        Err(HallFault::Full) => Err(CallFault::Full),
-        Err(HallFault::NoMemory) => Err(CallFault::NoMemory),
-    }
+    let volume = full_volume(stage, hall)?;
+    stage.shelf.put(stage.rt, volume);
+    Ok(())
 }
 
 // The second try of an ask whose call found the record full: its volume goes to the shelf, and the ask is read again from its body.

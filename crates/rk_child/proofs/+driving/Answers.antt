@@ -1,15 +1,15 @@
 use Rattle.std.proofs.Common.{◌≡◌, ◌≢◌, ◌+◌, ◌∙◌, length, ap, arith, refl, subst, sym, rules}
-use Rattle.std.specs.Prelude.{Option, IfSome}
+use Rattle.std.specs.Prelude.{Option, IfErr, IfSome}
 use Rattle.rk_names.specs.declared.numbers.SessionId.TheVariants.{Handler}
 use Rattle.rk_frame.specs.Streams.{IsPartial}
 use Rattle.rk_hall.specs.Seats.{TokenShown, negated}
 use Rattle.rk_talk.specs.Said.{IsMade, IsNotAsked, NotRead}
 use Rattle.rk_talk.proofs.Sayings.{receipt_answers, why_not_read}
 use Rattle.rk_child.specs.Driving.{Runs, HasRun}
-use Rattle.rk_devices.specs.Shown.{ChildShown}
+use Rattle.rk_devices.specs.Shown.{ChildShown, FailsReading, GoesOn, ReadsUpTo}
 use Rattle.rk_devices.proofs.Rising.{goes_further, goes_same}
 use Rattle.rk_talk.proofs.Seats.{stays_on, stays_same}
-use Rattle.rk_child.proofs.Running.{drives_on, raised_none, ran_with, reads_more, runs_further, runs_same, tried_it, tried_none}
+use Rattle.rk_child.proofs.Running.{drives_on, raised_none, ran_through, ran_with, reads_more, runs_failed, runs_further, runs_same, tried_in_vain, tried_it, tried_none}
 use Rattle.rk_child.specs.Talk.{standing_of}
 use Rattle.rk_child.proofs.Passing.{dropped_on, either_passed, passed_on}
 use Rattle.rk_child.proofs.Taking.{nothing_held, takes_fewer}
@@ -30,7 +30,7 @@ asks::answer_all-loop-preserved g t c =
       talks = talks_then c.args.key (child c.args.child.now) (child c.loop.child) (child c.answer_next.new.child) c.args.asks.now.frames.bytes c.loop.asks.frames.bytes
           c.answer_next.new.asks.frames.bytes begun here there i.talks
           (turn_talks c.args.key (child c.loop.child) (child c.answer_next.new.child) c.loop.asks.frames c.answer_next.new.asks.frames here there e.takes);
-      runs = runs_further (c.args.depth + 1) (shown c.args.crew.now.launcher) (shown c.loop.crew.launcher) (shown c.answer_next.new.crew.launcher) i.runs e.runs;
+      runs = runs_further c.args.stage.now.conf.now (c.args.depth + 1) (shown c.args.crew.now.launcher) (shown c.loop.crew.launcher) (shown c.answer_next.new.crew.launcher) i.runs e.runs;
       child = goes_further (child c.args.child.now) (child c.loop.child) (child c.answer_next.new.child) i.child e.child;
       reads = e.reads ∙ i.reads;
       stays = stays_on c.args.crew.now.caller.seat c.loop.crew.caller.seat c.answer_next.new.crew.caller.seat i.stays e.stays;
@@ -42,7 +42,7 @@ asks::answer_all-loop-init g t c =
     let here = standing_of c.args.crew.now.caller.seat c.args.asks.now.course in
     record {
       talks = talks_nowhere c.args.key child child c.args.asks.now.frames.bytes c.args.asks.now.frames.bytes here here refl refl refl;
-      runs = runs_same (c.args.depth + 1) (g.P.Launcher.Launcher.shown c.args.crew.now.launcher) c.requires.bound;
+      runs = runs_same c.args.stage.now.conf.now (c.args.depth + 1) (g.P.Launcher.Launcher.shown c.args.crew.now.launcher) c.requires.bound;
       child = goes_same child;
       reads = refl;
       stays = stays_same c.args.crew.now.caller.seat;
@@ -69,30 +69,38 @@ asks::answer_all-returns-in-AtEnd-clause-takes g t c =
 pub asks::answer_all-returns-in-NoneYet-clause-runs : goal.asks::answer_all-returns-in-NoneYet-clause-runs
 asks::answer_all-returns-in-NoneYet-clause-runs g t c =
     let shown = g.P.Launcher.Launcher.shown in
-    runs_further (c.args.depth + 1) (shown c.args.crew.now.launcher) (shown c.loop.crew.launcher) (shown c.answer_next.new.crew.launcher)
+    runs_further c.args.stage.now.conf.now (c.args.depth + 1) (shown c.args.crew.now.launcher) (shown c.loop.crew.launcher) (shown c.answer_next.new.crew.launcher)
     c.loop.invariant.runs c.in-NoneYet.ensures.runs
 
 pub asks::answer_all-returns-in-AtEnd-clause-runs : goal.asks::answer_all-returns-in-AtEnd-clause-runs
 asks::answer_all-returns-in-AtEnd-clause-runs g t c =
     let shown = g.P.Launcher.Launcher.shown in
-    runs_further (c.args.depth + 1) (shown c.args.crew.now.launcher) (shown c.loop.crew.launcher) (shown c.answer_next.new.crew.launcher)
+    runs_further c.args.stage.now.conf.now (c.args.depth + 1) (shown c.args.crew.now.launcher) (shown c.loop.crew.launcher) (shown c.answer_next.new.crew.launcher)
     c.loop.invariant.runs c.in-AtEnd.ensures.runs
 
 pub asks::answer_next-returns-in-Fault-clause-runs : goal.asks::answer_next-returns-in-Fault-clause-runs
 asks::answer_next-returns-in-Fault-clause-runs g t c =
-    runs_same (c.args.depth + 1) (g.P.Launcher.Launcher.shown c.args.crew.now.launcher) c.requires.bound
+    runs_same c.args.stage.now.conf.now (c.args.depth + 1) (g.P.Launcher.Launcher.shown c.args.crew.now.launcher) c.requires.bound
 
 pub asks::answered-returns-in-Err-clause-runs : goal.asks::answered-returns-in-Err-clause-runs
 asks::answered-returns-in-Err-clause-runs g t c =
-    runs_same (c.args.depth + 1) (g.P.Launcher.Launcher.shown c.args.crew.now.launcher) c.requires.bound
+    runs_same c.args.stage.now.conf.now (c.args.depth + 1) (g.P.Launcher.Launcher.shown c.args.crew.now.launcher) c.requires.bound
 
 pub asks::answered-returns-in-Err-ask_in-clause-runs : goal.asks::answered-returns-in-Err-ask_in-clause-runs
 asks::answered-returns-in-Err-ask_in-clause-runs g t c =
-    runs_same (c.args.depth + 1) (g.P.Launcher.Launcher.shown c.args.crew.now.launcher) c.requires.bound
+    runs_same c.args.stage.now.conf.now (c.args.depth + 1) (g.P.Launcher.Launcher.shown c.args.crew.now.launcher) c.requires.bound
+
+pub asks::answer_next-returns-in-More-clause-runs : goal.asks::answer_next-returns-in-More-clause-runs
+asks::answer_next-returns-in-More-clause-runs g t c =
+    runs_same c.args.stage.now.conf.now (c.args.depth + 1) (g.P.Launcher.Launcher.shown c.args.crew.now.launcher) c.requires.bound
+
+pub asks::brought_to_end-returns-in_default-clause-runs : goal.asks::brought_to_end-returns-in_default-clause-runs
+asks::brought_to_end-returns-in_default-clause-runs g t c =
+    runs_same c.args.stage.now.conf.now (c.args.depth + 1) (g.P.Launcher.Launcher.shown c.args.crew.now.launcher) c.requires.bound
 
 pub asks::brought_to_end-returns-else-depth-clause-runs : goal.asks::brought_to_end-returns-else-depth-clause-runs
 asks::brought_to_end-returns-else-depth-clause-runs g t c =
-    runs_same (c.args.depth + 1) (g.P.Launcher.Launcher.shown c.args.crew.now.launcher) c.requires.bound
+    runs_same c.args.stage.now.conf.now (c.args.depth + 1) (g.P.Launcher.Launcher.shown c.args.crew.now.launcher) c.requires.bound
 
 pub asks::serve_asks-loop-reads-init : goal.asks::serve_asks-loop-reads-init
 asks::serve_asks-loop-reads-init g t c = record {
@@ -102,7 +110,7 @@ asks::serve_asks-loop-reads-init g t c = record {
   room = c.requires.empty.1;
   reads = omega arith;
   times = raised_none (g.P.Launcher.Started.Child.shown c.args.child.now).reads;
-  runs = runs_same (c.args.depth + 1) (g.P.Launcher.Launcher.shown c.args.crew.now.launcher) c.requires.bound;
+  runs = runs_same c.args.stage.now.conf.now (c.args.depth + 1) (g.P.Launcher.Launcher.shown c.args.crew.now.launcher) c.requires.bound;
   child = goes_same (g.P.Launcher.Started.Child.shown c.args.child.now);
   stays = stays_same c.args.crew.now.caller.seat;
 }
@@ -129,7 +137,7 @@ asks::serve_asks-loop-reads-preserved g t c =
       reads = search rules;
       times = reads_more c.loop-reads.reads (child c.loop-reads.child).reads (child c.read.new.self).reads (child c.answer_all-goes_on.new.child).reads
           (child c.args.child.now).reads i.times (ap (λ (x : ChildShown). x.reads) c.in-Ok.ensures.reads.1) e.reads;
-      runs = runs_further (c.args.depth + 1) (shown c.args.crew.now.launcher) (shown c.loop-reads.crew.launcher) (shown c.answer_all-goes_on.new.crew.launcher)
+      runs = runs_further c.args.stage.now.conf.now (c.args.depth + 1) (shown c.args.crew.now.launcher) (shown c.loop-reads.crew.launcher) (shown c.answer_all-goes_on.new.crew.launcher)
           i.runs e.runs;
       child = search rules;
       stays = stays_on c.args.crew.now.caller.seat c.loop-reads.crew.caller.seat c.answer_all-goes_on.new.crew.caller.seat i.stays e.stays;
@@ -160,7 +168,7 @@ asks::serve_asks-returns-then-not-goes_on-clause-talked g t c =
 pub asks::serve_asks-returns-then-not-goes_on-clause-runs : goal.asks::serve_asks-returns-then-not-goes_on-clause-runs
 asks::serve_asks-returns-then-not-goes_on-clause-runs g t c =
     let shown = g.P.Launcher.Launcher.shown in
-    runs_further (c.args.depth + 1) (shown c.args.crew.now.launcher) (shown c.loop-reads.crew.launcher) (shown c.answer_all-goes_on.new.crew.launcher)
+    runs_further c.args.stage.now.conf.now (c.args.depth + 1) (shown c.args.crew.now.launcher) (shown c.loop-reads.crew.launcher) (shown c.answer_all-goes_on.new.crew.launcher)
     c.loop-reads.invariant.runs c.answer_all-goes_on.ensures.runs
 
 pub driving::drive-returns-clause-runs : goal.driving::drive-returns-clause-runs
@@ -170,8 +178,8 @@ driving::drive-returns-clause-runs g t c =
     let end = shown c.run-second.new.crew.launcher in
     let next = subst (λ (o : Option TokenShown). IfSome o (λ l. (l ≡ negated c.args.launch) × HasRun c.run-first.result.0)) c.in-Some.is
     c.run-first.ensures.next in
-    runs_further c.args.launch.depth (shown c.args.crew.now.launcher) b end c.run-first.ensures.runs
-    (subst (λ (x : TokenShown). Runs x.depth b end) next.0 c.run-second.ensures.runs)
+    runs_further c.args.stage.now.conf.now c.args.launch.depth (shown c.args.crew.now.launcher) b end c.run-first.ensures.runs
+    (subst (λ (x : TokenShown). Runs c.args.stage.now.conf.now x.depth b end) next.0 c.run-second.ensures.runs)
 
 pub driving::drive-returns-clause-commands : goal.driving::drive-returns-clause-commands
 driving::drive-returns-clause-commands g t c =
@@ -202,10 +210,47 @@ driving::run-returns-in_default-clause-passed g t c =
 
 pub driving::attend-returns-in-Piped-clause-runs : goal.driving::attend-returns-in-Piped-clause-runs
 driving::attend-returns-in-Piped-clause-runs g t c =
-    runs_same (c.args.running.now.depth + 1) (g.P.Launcher.Launcher.shown c.args.crew.now.launcher) c.requires.bound
+    runs_same c.args.stage.now.conf.now (c.args.running.now.depth + 1) (g.P.Launcher.Launcher.shown c.args.crew.now.launcher) c.requires.bound
 
 pub driving::run-returns-in-Err-clause-runs : goal.driving::run-returns-in-Err-clause-runs
-driving::run-returns-in-Err-clause-runs g t c = runs_same c.args.launch.depth (g.P.Launcher.Launcher.shown c.args.crew.now.launcher) c.requires.bound
+driving::run-returns-in-Err-clause-runs g t c = runs_same c.args.stage.now.conf.now c.args.launch.depth (g.P.Launcher.Launcher.shown c.args.crew.now.launcher) c.requires.bound
+
+pub driving::run-returns-in-Err-start-clause-runs : goal.driving::run-returns-in-Err-start-clause-runs
+driving::run-returns-in-Err-start-clause-runs g t c =
+    let failed = c.in-Err-start.ensures.starts in
+    runs_failed c.args.stage.now.conf.now c.args.launch.subject c.args.launch.depth (g.P.Launcher.Launcher.shown c.args.crew.now.launcher)
+    (g.P.Launcher.Launcher.shown c.start.new.self) _ c.in-Ok.ensures.ok.0 c.start.ensures.bound failed.0 failed.1
+
+pub driving::run-returns-in-Err-start-clause-commands : goal.driving::run-returns-in-Err-start-clause-commands
+driving::run-returns-in-Err-start-clause-commands g t c =
+    tried_in_vain c.args.stage.now.conf.now c.args.launch.subject (g.P.Launcher.Launcher.shown c.args.crew.now.launcher)
+    (g.P.Launcher.Launcher.shown c.start.new.self) _ c.in-Ok.ensures.ok.0 c.in-Err-start.ensures.starts.1
+
+pub driving::run-returns-in_default-clause-runs : goal.driving::run-returns-in_default-clause-runs
+driving::run-returns-in_default-clause-runs g t c =
+    let shown = g.P.Launcher.Launcher.shown in
+    let child = g.P.Launcher.Started.Child.shown in
+    let conf = c.args.stage.now.conf.now in
+    let s = shown c.start.new.self in
+    let n = child c.in-Ok-start.child in
+    let r = child c.read_out-read.new.child in
+    let read = c.read_out-read.result in
+    let goes : GoesOn n r = search rules in
+    let reads : ReadsUpTo 1048576 read n r = search rules in
+    let fails : IfErr read (λ f. FailsReading f n r) = search rules in
+    (ran_through conf c.args.launch.subject c.args.launch.depth (shown c.args.crew.now.launcher) s s (shown c.back.new.self) _ _ n r
+    (child c.wait_for-driven.new.child) read c.wait_for-driven.result c.requires.depth c.in-Ok.ensures.ok.0 c.in-Ok-start.ensures.starts
+    c.in-Ok-start.ensures.fresh (runs_same conf (c.args.launch.depth + 1) s c.start.ensures.bound) goes reads c.read_out-read.ensures.end fails
+    c.wait_for-driven.ensures c.back.ensures).0
+
+pub driving::run-returns-in_default-clause-commands : goal.driving::run-returns-in_default-clause-commands
+driving::run-returns-in_default-clause-commands g t c =
+    let shown = g.P.Launcher.Launcher.shown in
+    let s = shown c.start.new.self in
+    let run : HasRun c.wait_for-driven.result = search rules in
+    tried_it c.args.stage.now.conf.now c.args.launch.subject c.wait_for-driven.result (shown c.args.crew.now.launcher) s s (shown c.back.new.self) _
+    (g.P.Launcher.Started.Child.shown c.wait_for-driven.new.child) c.in-Ok.ensures.ok.0 run c.in-Ok-start.ensures.starts
+    (runs_same c.args.stage.now.conf.now (c.args.launch.depth + 1) s c.start.ensures.bound).tried c.back.ensures
 
 pub driving::run-returns-in-Err-clause-commands : goal.driving::run-returns-in-Err-clause-commands
 driving::run-returns-in-Err-clause-commands g t c =
@@ -248,9 +293,9 @@ driving::run-returns g t c =
     let child = g.P.Launcher.Started.Child.shown in
     let new = shown c.back-2.new.self in
     let driven = c.with_output-driven.result.0 in
-    let h = ran_with c.args.launch.depth a s b new _ _ (child c.in-Ok-start.child) (child c.attend-read.new.child) (child c.wait_for-ended.new.child)
-    c.attend-read.result.0 c.wait_for-ended.result driven c.attend-read.result.1 c.requires.depth c.in-Ok-start.ensures.starts c.in-Ok-start.ensures.fresh
-    (subst (λ n. Runs (n + 1) s b) depth c.attend-read.ensures.runs) c.attend-read.ensures.child c.attend-read.ensures.reads c.attend-read.ensures.end
+    let h = ran_with c.args.stage.now.conf.now c.args.launch.subject c.args.launch.depth a s b new _ _ (child c.in-Ok-start.child) (child c.attend-read.new.child) (child c.wait_for-ended.new.child)
+    c.attend-read.result.0 c.wait_for-ended.result driven c.attend-read.result.1 c.requires.depth c.in-Ok.ensures.ok.0 c.in-Ok-start.ensures.starts c.in-Ok-start.ensures.fresh
+    (subst (λ n. Runs c.args.stage.now.conf.now (n + 1) s b) depth c.attend-read.ensures.runs) c.attend-read.ensures.child c.attend-read.ensures.reads c.attend-read.ensures.end
     c.attend-read.ensures.fault c.wait_for-ended.ensures c.back-2.ensures c.with_output-driven.ensures.told in
     let run : HasRun driven = h.3 in
     record {

@@ -37,7 +37,7 @@ abbrev pub invariant-asks::answer_all-loop : goal.invariant-asks::answer_all-loo
 invariant-asks::answer_all-loop g l = record {
   talks : TalksOn l.key (g.P.Launcher.Started.Child.shown l.fn.child) l.fn.asks.frames.bytes (standing_of l.fn.crew.caller.seat l.fn.asks.course)
       (g.P.Launcher.Started.Child.shown l.child) l.asks.frames.bytes (standing_of l.crew.caller.seat l.asks.course);
-  runs : Runs (l.depth + 1) (g.P.Launcher.Launcher.shown l.fn.crew.launcher) (g.P.Launcher.Launcher.shown l.crew.launcher);
+  runs : Runs l.stage.conf.now (l.depth + 1) (g.P.Launcher.Launcher.shown l.fn.crew.launcher) (g.P.Launcher.Launcher.shown l.crew.launcher);
   child : GoesOn (g.P.Launcher.Started.Child.shown l.fn.child) (g.P.Launcher.Started.Child.shown l.child);
   reads : (g.P.Launcher.Started.Child.shown l.child).reads ≡ (g.P.Launcher.Started.Child.shown l.fn.child).reads;
   stays : Stays l.fn.crew.caller.seat l.crew.caller.seat;
@@ -54,7 +54,7 @@ invariant-asks::serve_asks-loop-reads g l = record {
   room : 4096 ≤ l.asks.frames.room;
   reads : l.reads ≤ (g.P.Launcher.Started.Child.shown l.child).reads;
   times : (g.P.Launcher.Started.Child.shown l.child).reads ≡ raised_by l.reads (g.P.Launcher.Started.Child.shown l.fn.child).reads;
-  runs : Runs (l.depth + 1) (g.P.Launcher.Launcher.shown l.fn.crew.launcher) (g.P.Launcher.Launcher.shown l.crew.launcher);
+  runs : Runs l.stage.conf.now (l.depth + 1) (g.P.Launcher.Launcher.shown l.fn.crew.launcher) (g.P.Launcher.Launcher.shown l.crew.launcher);
   child : GoesOn (g.P.Launcher.Started.Child.shown l.fn.child) (g.P.Launcher.Started.Child.shown l.child);
   stays : Stays l.fn.crew.caller.seat l.crew.caller.seat;
 }
