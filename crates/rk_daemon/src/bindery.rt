@@ -8,7 +8,7 @@ use rk_volumes::{Head, Seal, Sum};
 use std::io;
 
 /// Where a volume is written behind those of its hall that came before it, of which each says the sum of the one before; several threads hand them out. It may
-/// tell what was done, as one for a test would; the system's tells nothing.
+/// tell what was done, as a test's does; the system's tells nothing.
 pub trait Bindery {
     /// What was done, first things first, if it tells that.
     ghost story: { Self → Option (List Act) };

@@ -5,7 +5,7 @@ ghost use Rattle.rk_daemon.specs.Door.{Act, Watched, Accepted, Paused, HandedOut
 
 use std::io;
 
-/// Where connections come in, and are handed to those who serve them. It may tell what was done, as one for a test would; the system's tells nothing.
+/// Where connections come in, and are handed to those who serve them. It may tell what was done, as a test's does; the system's tells nothing.
 pub trait Door {
     /// What was done, first things first, if it tells that.
     ghost story: { Self → Option (List Act) };

@@ -7,7 +7,7 @@ ghost use Rattle.rk_daemon.specs.Folder.{Act, Created, Flushed, Linked, Removed}
 use std::io;
 use std::io::Write;
 
-/// Who does what is to be done with the files of a record. It may tell what was done, as one for a test would; the system's tells nothing.
+/// Who does what is to be done with the files of a record. It may tell what was done, as a test's does; the system's tells nothing.
 pub trait Folder {
     /// What was done, first things first, if it tells that.
     ghost story: { Self → Option (List Act) };

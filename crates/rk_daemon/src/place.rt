@@ -20,7 +20,7 @@ pub struct FileId {
     pub nanoseconds: i64,
 }
 
-/// Who does what is to be done at the path of a socket. It may tell what was done, as one for a test would; the system's tells nothing.
+/// Who does what is to be done at the path of a socket. It may tell what was done, as a test's does; the system's tells nothing.
 pub trait Place {
     /// What was done, first things first, if it tells that.
     ghost story: { Self → Option (List Act) };

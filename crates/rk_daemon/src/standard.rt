@@ -32,7 +32,7 @@ impl Stream {
     }
 }
 
-/// Who has the descriptors of the standard streams. It may tell what was done, as one for a test would; the system's tells nothing.
+/// Who has the descriptors of the standard streams. It may tell what was done, as a test's does; the system's tells nothing.
 pub trait Standard {
     /// What was done, first things first, if it tells that.
     ghost story: { Self → Option (List Act) };

@@ -2,9 +2,9 @@
 //!
 //! # Purpose
 //!
-//! What the contracts of [`rk_daemon::take`], [`rk_daemon::give_free`], [`rk_daemon::keep`], [`rk_daemon::accept`], [`rk_daemon::fill`], [`rk_daemon::bind`],
-//! [`rk_rejoin::rejoin_files`], [`rk_run::run`] and [`rk_ctl::run_words`] say of devices that tell what is done there is said here of such ones, without a
-//! premise. That these calls succeed where nothing fails, and what is done where something does, is tried by tables.
+//! The contracts of [`rk_daemon::take`], [`rk_daemon::give_free`], [`rk_daemon::keep`], [`rk_daemon::accept`], [`rk_daemon::fill`], [`rk_daemon::bind`],
+//! [`rk_rejoin::rejoin_files`], [`rk_run::run`] and [`rk_ctl::run_words`] speak of devices that tell what is done. Here are such devices, so what each
+//! contract promises is shown without a premise. Tables try that these calls succeed where nothing fails, and what is done where something does.
 //!
 //! # How it is built
 //!

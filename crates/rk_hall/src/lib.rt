@@ -39,7 +39,8 @@
 //! `genuine` looks for receipts in it, and `settling` puts the four together.
 //!
 //! In `specs/`, `Seats` says what a call does to a seat, and `Locked` what the lock keeps and what a call does under it. `Tickets` says of which hall
-//! a ticket is, `Closed` what is known of a hall without its lock, `Settle` what a settlement answers.
+//! a ticket is, `Closed` what is known of a hall without its lock, `Settle` what a settlement answers, and `Waking` which calls give those who wait
+//! their outcome.
 #![tactic(auto)]
 
 mod closed;

@@ -11,7 +11,7 @@ pub enum ReadFault {
     NoMemory,
 }
 
-/// Who reads files. It may tell which were read and what they had, as one for a test would; the system's tells nothing.
+/// Who reads files. It may tell which were read and what they had, as a test's does; the system's tells nothing.
 pub trait Disk {
     /// What was read, first things first, if it tells that.
     ghost story: { Self → Option (List Reading) };

@@ -39,6 +39,6 @@ pub enum Verdict {
     #[error("hall {hall}: the volume that closes its record is missing")]
     Unclosed { hall: u8 },
     /// There was no memory to judge them.
-    #[error("no memory")]
+    #[error("memory")]
     NoMemory,
 }

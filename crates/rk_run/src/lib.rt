@@ -4,14 +4,14 @@
 //!
 //! [`run`] is what `reqkeyctl run` does: it connects to the daemon, says HELLO with a new session ring, starts a program to which keyutils' calls are
 //! the daemon's, by a library that is preloaded, and keeps its connection until the program has ended. So the ring is there as long, for the program and
-//! for all that it starts.
+//! for all that it starts. With `--trap` it starts `reqkey-trap` with the program instead, and says nothing to the daemon itself.
 //!
 //! # What it promises
 //!
-//! Whatever its [`Host`] answers, what is done of it, if the host tells that, is a run as `specs/Runs.antt` says: HELLO is asked first; the program is started
-//! with its own words, and with exactly the variables of `specs/Starts.antt` besides those that are there; the connection is closed after the wait for its
-//! end, and not before; and what is answered is its status, as a shell tells it, or why there is none. What a host does out there no contract can say:
-//! [`System`] is the one that calls the system, and tells nothing. The one of rk_edge_tests tells all.
+//! Whatever its [`Host`] answers, what is done of it, if the host tells that, is a run as `specs/Runs.antt` says. Without `--trap`, HELLO is asked first. The
+//! program is started with its own words, and with exactly the variables of `specs/Starts.antt` besides those that are there. The connection is closed after
+//! the wait for its end, and not before. What is answered is its status, as a shell tells it, or why there is none. What a host does out there no contract
+//! can say: [`System`] is the one that calls the system, and tells nothing. The one of rk_edge_tests tells all.
 //!
 //! # How it is built
 //!

@@ -9,9 +9,9 @@
 //! # What it promises
 //!
 //! A [`Table`] and a [`HashTable`] are seen alike, as their facts, a finite map, and their room, the number of entries that can be put in with no
-//! memory. `reserve` alone takes memory; if it is refused, nothing has changed. `insert` wants a new key and room, and has no way to fail. An
-//! entry that is taken out of a `Table` leaves its place to the next one: `retain` and `remove` keep the sum of facts and room. A `HashTable`
-//! promises no more than that its room is not less.
+//! memory. Only `reserve` and `with_room` take memory; if `reserve` is refused, nothing has changed. `insert` wants a new key and room, and has no way
+//! to fail. An entry that is taken out of a `Table` leaves its place to the next one: `retain` and `remove` keep the sum of facts and room. A
+//! `HashTable` promises no more than that its room is not less.
 //!
 //! # Use
 //!

@@ -8,7 +8,8 @@
 //! the manuals and from docs/, and none was taken from a run. Each test uses public calls alone.
 //!
 //! The tests of these libraries stand here, above them. A crate that has tests is proved twice, and each program of tests is proved down to the last
-//! function that it reaches. So one program costs less than one for each library. Those of what runs in threads are in `rk_live_tests`.
+//! function that it reaches. So one program costs less than one for each library. Those of what runs in threads are in
+//! `rk_live_tests`, and those of what programs do outside of themselves in `rk_edge_tests`.
 //!
 //! # How it is built
 //!
