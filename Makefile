@@ -33,7 +33,7 @@ SOURCES := $(shell find crates -path '*/out' -prune -o -type f \( -name '*.rt' -
 build/proved: $(SOURCES)
 	@$(MAKE) --no-print-directory toolchain
 	@mkdir -p build
-	@echo "Proving the crates; the first time takes an hour or so (build/prove.log)"
+	@echo "Proving the crates; the first time takes 40 minutes on four processors (build/prove.log)"
 	@tools/prove.py build/prove.log || { echo "A crate is not proved: build/prove.log says why." >&2; exit 1; }
 	@touch $@
 
