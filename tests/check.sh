@@ -72,6 +72,8 @@ count() {
     echo "$((seconds - before)) $name" >> "$taken"
 }
 
+# (what a `make` that was killed has left: the toolchain takes no sources beside those of crates/)
+rm -rf build/proving
 # (some toolchains keep no proofs: each of their gates begins from nothing, and has no such word)
 if [[ -n ${ANEW:-} ]] && ! (cd / && rt ci --anew 2>&1) | grep -q '^usage:'; then
     count rt ci --anew

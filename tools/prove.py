@@ -10,7 +10,7 @@ A crate is begun once those below it are proved. Of those that can be begun, the
 since the others wait for it at last. These have one job each, at a lower priority, so that they take what it leaves.
 
 The toolchain locks the folder of a crate that it checks, and those of all crates below. So each crate is proved in a repository of its own, in build/proving,
-which has the crates below it with their libraries, as links.
+which has the crates below it with their libraries, as links. It goes with its check, since `rt ci` takes no sources beside those of crates/.
 """
 import os
 import pathlib

@@ -10,7 +10,8 @@
 //!
 //! *No orphan.* Each launch is spent, its own and those of the starts that its handlers ask for, whichever start, write, read or wait fails; each
 //! child comes back to its launcher. Starts are nested at most eight deep, since a nested one is started only if it is deeper than its handler's
-//! own.
+//! own. A command that is started for the launch is that of the line for its subject; one that is started for its handlers' own starts is that of the
+//! line for some subject.
 //!
 //! *Faults.* What is returned (`Driven`) is how the child has ended that came back last. `StartFailed` and `WaitFailed` come only if the launcher's
 //! count of failures rose, its children's counted, and `ReadFailed` only there or where the child that came back last was read 1,048,576 times. No child is
