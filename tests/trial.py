@@ -62,9 +62,10 @@ class Trial:
         self.refused |= self.seen_among_holes(batch) if batch else set()
         left = [edit for edit in [*batch, *alone] if edit.name not in self.refused]
         try:
-            # (the goals of a function that calls one without a proof are not looked at)
-            if len(left) > 1 and stand_apart(left):
-                self.refused |= refused_by(wrong.opened(self.check(left), self.crate), left)
+            # (the goals of a function that calls one without a proof are not looked at, unless both are of one cycle of calls)
+            for some in rounds(left):
+                if len(some) > 1:
+                    self.refused |= refused_by(wrong.opened(self.check(some), self.crate), some)
             for edit in edits:
                 if edit.name not in self.refused:
                     said = self.check([edit])
@@ -112,10 +113,17 @@ def edits_of(name):
     return sorted((crates.top / "crates" / name / "edits").glob("*.edit"))
 
 
-def stand_apart(edits):
-    """Whether no two of the edits stand in one function, and each stands in some."""
-    places = [place for edit in edits for place in edit.functions()]
-    return all(edit.functions() for edit in edits) and len(places) == len({*places})
+def rounds(edits):
+    """Those of the edits that stand in functions, in lists of which each has at most one of a function."""
+    found = []
+    for edit in (it for it in edits if it.functions()):
+        places = edit.functions()
+        fits = next((it for it in found if not any(places & other.functions() for other in it)), None)
+        if fits is None:
+            found.append([edit])
+        else:
+            fits.append(edit)
+    return found
 
 
 def crate_words(name, built):
