@@ -1,5 +1,5 @@
 //! The door of the system.
-ghost use Rattle.std.specs.Prelude.{◌≡◌, None, pos};
+ghost use Rattle.std.specs.Prelude.{◌≡◌, ◌↔◌, ◌≤ℤ◌, IsTrue, None, pos};
 
 use crate::door::Door;
 use crate::entrance::Entrance;
@@ -109,5 +109,12 @@ fn asked_of(descriptor: i32) -> pollfd
 /// Reads some of standard input, which can be read; whether there is no more, or no more can be read.
 fn has_ended() -> bool {
     let mut piece = [0u8; MAX_PIECE];
-    libc::read(libc::STDIN_FILENO, &mut piece) <= 0
+    is_end(libc::read(libc::STDIN_FILENO, &mut piece))
+}
+
+/// Whether a read that returned this count has found the end of its input, or has failed (`read(2)`).
+fn is_end(count: isize) -> bool
+    ensures { IsTrue result ↔ (count ≤ℤ pos 0) }
+{
+    count <= 0
 }
