@@ -14,7 +14,7 @@ use crate::making::says_made;
 use crate::replying::reply;
 use crate::spent::fail;
 use rk_devices::{Child, Clock, Course, Launcher, ReadFault, read_out};
-use rk_frame::{Frames, MAX_PIECE, MAX_READS, Next};
+use rk_frame::{Frames, MAX_READS, Next};
 use rk_hall::{Called, HallNo, Launch};
 use rk_message::AskStep;
 use rk_names::{Serial, SessionId};
@@ -66,14 +66,13 @@ pub fn serve_asks<P: Platform>(
         frames,
         course: Course::new(),
     };
-    let mut piece = [0u8; MAX_PIECE];
     for reads in 0..MAX_READS {
-        let count = match child.read(&mut piece) {
+        let count = match child.read(&mut crew.piece) {
             Ok(0) => return (Ok(()), asks.course),
             Ok(count) => count,
             Err(_) => return (Err(ReadFault::Failed), asks.course),
         };
-        match asks.frames.feed(&piece[..count]) {
+        match asks.frames.feed(&crew.piece[..count]) {
             Ok(()) => {}
             Err(_) => unreachable!(),
         }

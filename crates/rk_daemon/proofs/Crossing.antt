@@ -23,7 +23,6 @@ use Rattle.rk_daemon.specs.contracts.handlers.Started as started
 use Rattle.rk_daemon.specs.contracts.handlers.Handlers as handlers
 use Rattle.rk_daemon.specs.contracts.tally.Count as count
 use Rattle.rk_daemon.specs.contracts.tally.Tally as tally
-use Rattle.rk_daemon.specs.contracts.tally.Tallies as tallies
 use Rattle.rk_daemon.specs.contracts.reporter.LogState as log_state
 use Rattle.rk_daemon.specs.contracts.workers.Shared as shared
 use Rattle.rk_daemon.specs.contracts.workers.Times as times
@@ -115,17 +114,11 @@ tally_send = let c = count_send in search (sendable, crosses) depth 40 fits 2000
 tally_sync : IsSync (Struct (shape tally.the_type))
 tally_sync = let c = count_send in search (sendable, crosses) depth 40 fits 20000
 
-tallies_send : IsSend (Struct (shape tallies.the_type))
-tallies_send = let t = tally_send in search (sendable, crosses) depth 40 fits 20000
-
-tallies_sync : IsSync (Struct (shape tallies.the_type))
-tallies_sync = let t = tally_sync in search (sendable, crosses) depth 40 fits 20000
-
 log_send : IsSend (Struct (shape log_state.the_type))
-log_send = let t = tallies_send in search (sendable, crosses) depth 40 fits 20000
+log_send = let t = tally_send in search (sendable, crosses) depth 40 fits 20000
 
 log_sync : IsSync (Struct (shape log_state.the_type))
-log_sync = let t = tallies_sync in search (sendable, crosses) depth 40 fits 20000
+log_sync = let t = tally_sync in search (sendable, crosses) depth 40 fits 20000
 
 times_send : IsSend (Struct (shape times.the_type))
 times_send = search (sendable, crosses) depth 40 fits 20000

@@ -1,6 +1,7 @@
 pub mod Accepting
 pub mod Binding
 pub mod ByHall
+pub mod ByKind
 pub mod Door
 pub mod Ending
 pub mod Entry

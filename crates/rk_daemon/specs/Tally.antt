@@ -1,10 +1,6 @@
 -- How many lines of a kind are written.
 use Rattle.std.specs.Prelude.{ℕ, Bool, ◌+◌, ◌-◌, ◌^◌, min, if◌then◌else◌, nat_le, nat_lt}
-use Rattle.rk_daemon.specs.declared.kind.Kind.{Kind}
-use Rattle.rk_daemon.specs.declared.kind.Kind.TheVariants.{Session, Handler, Slow, Busy, Accept, Other}
 use Rattle.rk_daemon.specs.declared.tally.Count.{Count}
-use Rattle.rk_daemon.specs.declared.tally.Tallies.{Tallies}
-use Rattle.rk_daemon.specs.declared.tally.Tally.{Tally}
 
 -- in this minute, or in the newest one if that is later
 abbrev pub at : ℕ → Count → Count
@@ -29,12 +25,3 @@ left_out minute c = if nat_le minute c.minute then 0 else c.left_out
 -- they are counted from 0 again
 abbrev pub emptied : ℕ → Count → Count
 emptied minute c = if nat_le minute c.minute then c else record c { left_out = 0 }
-
--- the lines of this kind
-abbrev pub tally_of : Kind → Tallies → Tally
-tally_of Session t = t.session
-tally_of Handler t = t.handler
-tally_of Slow t = t.slow
-tally_of Busy t = t.busy
-tally_of Accept t = t.accept
-tally_of Other t = t.other

@@ -26,14 +26,15 @@
 //! system's, of `system_place` and `system_folder`, or by those of a test. So connections come in by a `door`, `streams` are taken in `standard` places, and
 //! `binding` ties a volume to the one before it in a `bindery`.
 //!
-//! `reporter` makes each line of the log: an `entry` in the `style` of the journal or with the time, of a `kind` of which `tally` counts the lines. `ending`
-//! has the line of a handler that has ended, and `purpose` what one was started for.
+//! `reporter` makes each line of the log: an `entry` in the `style` of the journal or with the time, of a `kind`. `tally` counts the lines of each kind
+//! (`by_kind`). `ending` has the line of a handler that has ended, and `purpose` what one was started for.
 #![tactic(auto)]
 
 mod accepting;
 mod bindery;
 mod binding;
 mod by_hall;
+mod by_kind;
 mod chain;
 mod clock;
 mod connections;

@@ -2,11 +2,12 @@
 ghost use Rattle.std.specs.Prelude.{◌≡◌, ◌/◌, Some};
 ghost use Rattle.log.specs.Level.{allows};
 
+use crate::by_kind::ByKind;
 use crate::entry::{Entry, Prefix, moment};
 use crate::kind::Kind;
 use crate::record::Keeper;
 use crate::style::Style;
-use crate::tally::Tallies;
+use crate::tally::{Tally, tallies};
 use jiff::civil::DateTime;
 use log::kv::Source;
 use log::span::Spans;
@@ -28,7 +29,7 @@ pub struct LogState {
     /// How each line begins.
     style: Style,
     /// How many lines of each kind were written.
-    tallies: Tallies,
+    tallies: ByKind<Tally>,
 }
 
 impl LogState {
@@ -37,7 +38,7 @@ impl LogState {
         LogState {
             least: level.to_level_filter(),
             style,
-            tallies: Tallies::new(),
+            tallies: tallies(),
         }
     }
 }

@@ -2,7 +2,7 @@
 ghost use Rattle.std.specs.Prelude.{◌≡◌, ◌≤◌};
 ghost use Rattle.rk_daemon.specs.Tally.{admits, counted, emptied, left_out};
 
-use crate::kind::Kind;
+use crate::by_kind::ByKind;
 use std::sync::{Mutex, Wait};
 
 /// How many lines of one kind are written in a minute.
@@ -89,50 +89,14 @@ impl Tally {
     }
 }
 
-/// A tally for each kind.
-#[derive(Drop)]
-pub struct Tallies {
-    /// How sessions end.
-    session: Tally,
-    /// How handlers end.
-    handler: Tally,
-    /// Handlers that run for long.
-    slow: Tally,
-    /// Connections that wait for a worker.
-    busy: Tally,
-    /// Connections that can't be accepted.
-    accept: Tally,
-    /// Volumes, and all that has no kind of its own.
-    other: Tally,
-}
-
-impl Tallies {
-    ghost use Rattle.std.specs.Prelude.{◌≡◌};
-    ghost use Rattle.rk_daemon.specs.Tally.{tally_of};
-
-    /// No line yet.
-    pub fn new() -> Tallies {
-        Tallies {
-            session: Tally::new(),
-            handler: Tally::new(),
-            slow: Tally::new(),
-            busy: Tally::new(),
-            accept: Tally::new(),
-            other: Tally::new(),
-        }
-    }
-
-    /// That of a kind.
-    pub fn of(&self, kind: Kind) -> &Tally
-        ensures { result.now ≡ tally_of kind self.now }
-    {
-        match kind {
-            Kind::Session => &self.session,
-            Kind::Handler => &self.handler,
-            Kind::Slow => &self.slow,
-            Kind::Busy => &self.busy,
-            Kind::Accept => &self.accept,
-            Kind::Other => &self.other,
-        }
+/// A tally for each kind, with no line yet.
+pub fn tallies() -> ByKind<Tally> {
+    ByKind {
+        session: Tally::new(),
+        handler: Tally::new(),
+        slow: Tally::new(),
+        busy: Tally::new(),
+        accept: Tally::new(),
+        other: Tally::new(),
     }
 }

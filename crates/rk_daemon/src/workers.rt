@@ -18,7 +18,7 @@ use crate::watching::watch;
 use crossbeam_channel::Receiver;
 use log::{info, warn};
 use rk_conf::Conf;
-use rk_frame::Frames;
+use rk_frame::{Frames, MAX_PIECE};
 use rk_hall::{Halls, Names};
 use rk_programs::Programs;
 use rk_session::{Caller, Crew, Platform, Served, Stage, serve};
@@ -154,6 +154,7 @@ fn serve_clients<'a, N: Names, R: Wait + Processes + Clock + Eprint + Keeper>(
             clock: Seconds::since(rt, shared.start),
         },
         launcher: Programs::new(rt, alloc, keyutils),
+        piece: [0; MAX_PIECE],
     };
     let log = Reporter::new(rt, &shared.log);
     for client in clients.iter(rt) {
@@ -166,7 +167,11 @@ fn serve_clients<'a, N: Names, R: Wait + Processes + Clock + Eprint + Keeper>(
         shared.connections.go();
         drop(socket);
     }
-    let Crew { caller, launcher } = crew;
+    let Crew {
+        caller,
+        launcher,
+        piece: _,
+    } = crew;
     let Caller { seat, clock } = caller;
     drop(launcher);
     drop(clock);

@@ -12,7 +12,7 @@ ghost use Rattle.rk_session.specs.Wires.{Counts};
 use crate::standing::{Place, leave, open};
 use crate::turns::next_turn;
 use crate::wire::Wire;
-use rk_frame::{Frames, MAX_PIECE, MAX_READS};
+use rk_frame::{Frames, MAX_READS};
 use rk_hall::HallNo;
 use rk_talk::{Crew, Platform, Stage};
 
@@ -108,13 +108,12 @@ fn talk<P: Platform, W: Wire>(
     ensures moves { Moves place.old.hall place.new.hall crew.old.caller.seat crew.new.caller.seat }
 {
     let mut frames = frames;
-    let mut piece = [0u8; MAX_PIECE];
     for _ in 0..MAX_READS {
-        let count = match hear(wire, &mut piece) {
+        let count = match hear(wire, &mut crew.piece) {
             Ok(count) => count,
             Err(served) => return served,
         };
-        match frames.feed(&piece[..count]) {
+        match frames.feed(&crew.piece[..count]) {
             Ok(()) => {}
             Err(_) => unreachable!(),
         }

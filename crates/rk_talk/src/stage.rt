@@ -1,12 +1,13 @@
 //! What is around a session: what a worker shares with others, and what is its own.
 //!
 //! Every function from a connection's first byte to a handler's last reply wants most of it, so it stands in three structs: [`Stage`] is shared and
-//! never changes, [`Caller`] is who makes the calls, and [`Crew`] is a caller with the launcher of its handlers. Which types they are of, a [`Platform`]
+//! never changes, [`Caller`] is who makes the calls, and [`Crew`] is a caller with the launcher of its handlers, and the room for what it reads. Which types they are of, a [`Platform`]
 //! says: the daemon has one, and each test its own.
 
 use crate::shelf::Shelf;
 use rk_conf::Conf;
 use rk_devices::{Clock, Gate, Launcher};
+use rk_frame::MAX_PIECE;
 use rk_hall::{Halls, Names, Seat};
 use std::alloc::Global;
 use std::sync::Wait;
@@ -63,4 +64,6 @@ pub struct Crew<P: Platform> {
     pub caller: Caller<P>,
     /// Starts its handlers.
     pub launcher: P::Launcher,
+    /// Where each read of a client, or of a handler, puts what it brings.
+    pub piece: [u8; MAX_PIECE],
 }

@@ -148,7 +148,7 @@ asks::serve_asks-returns-in-Ok-eq0-clause-talked g t c =
     let child = g.P.Launcher.Started.Child.shown in
     let i = c.loop-reads.invariant in
     stands_end c.args.key c.args.crew.now.caller.seat (child c.args.child.now) (child c.loop-reads.child) (child c.read.new.self) c.loop-reads.asks.frames.bytes
-    c.read.new.buf (standing_of c.loop-reads.crew.caller.seat c.loop-reads.asks.course) c.in-Ok-eq0.field-0 (length c.loop-reads.piece) i.stands i.is_partial
+    c.read.new.buf (standing_of c.loop-reads.crew.caller.seat c.loop-reads.asks.course) c.in-Ok-eq0.field-0 (length c.loop-reads.crew.piece) i.stands i.is_partial
     c.in-Ok-eq0.field-0-test c.in-Ok-eq0.ensures.reads
 
 pub asks::serve_asks-returns-then-not-goes_on-clause-talked : goal.asks::serve_asks-returns-then-not-goes_on-clause-talked

@@ -11,6 +11,7 @@ use crate::halls::paths::settles;
 use crate::same::same;
 use rk_child::{Caller, Crew, Driven, drive};
 use rk_conf::Conf;
+use rk_frame::MAX_PIECE;
 use rk_hall::{HallNo, Halls, Names, Seat};
 use rk_wait::await_outcome;
 use std::alloc::Global;
@@ -95,11 +96,13 @@ impl Handling {
         let mut crew: Crew<Around<N, R, Open>> = Crew {
             caller,
             launcher: fake,
+            piece: [0; MAX_PIECE],
         };
         let driven = drive(&stage, &mut crew, launch);
         let Crew {
             caller: Caller { mut seat, clock },
             launcher: fake,
+            piece: _,
         } = crew;
         drop(clock);
         let outcome = await_outcome(rt, halls, &mut seat, HallNo::Zero, CLIENT, NOW);

@@ -12,6 +12,7 @@ use crate::kept::{Passed, Tried};
 use crate::same::same;
 use rk_child::{Caller, Crew, Driven, Platform, Stage, drive};
 use rk_conf::Conf;
+use rk_frame::MAX_PIECE;
 use rk_hall::{Halls, Launch, Names, Seat};
 use rk_machine::How;
 use std::alloc::{AllocError, Global};
@@ -177,11 +178,16 @@ fn is_driven<'a, N: Names, R: Wait + Abort + Copy>(
         clock: Ticking::new(),
     };
     let launcher = Telling::new(*rt, alloc, speeches).expect(rt, "memory");
-    let mut crew: Crew<Told<N, R>> = Crew { caller, launcher };
+    let mut crew: Crew<Told<N, R>> = Crew {
+        caller,
+        launcher,
+        piece: [0; MAX_PIECE],
+    };
     let driven = drive_told(&stage, &mut crew, launch);
     let Crew {
         caller: Caller { seat, clock },
         launcher,
+        piece: _,
     } = crew;
     drop(clock);
     (seat, driven, launcher)

@@ -11,7 +11,7 @@ use crate::same::same;
 use crate::sessions::line::{Cut, Line};
 use rk_conf::Conf;
 use rk_devices::Gate;
-use rk_frame::Frames;
+use rk_frame::{Frames, MAX_PIECE};
 use rk_hall::{HallNo, Halls, Names, Receipt, Seat};
 use rk_session::{Caller, Crew, Served, Wire, serve};
 use std::alloc::Global;
@@ -68,11 +68,13 @@ pub fn serves<'a, N: Names, R: Wait + Abort, G: Gate, W: Wire>(
     let mut crew: Crew<Around<N, R, G>> = Crew {
         caller,
         launcher: fake,
+        piece: [0; MAX_PIECE],
     };
     let served = serve(&stage, &mut crew, client, frames, wire);
     let Crew {
         caller: Caller { seat, clock },
         launcher: fake,
+        piece: _,
     } = crew;
     drop(clock);
     let volumes = shelf.count();

@@ -14,7 +14,7 @@ use crate::same::same;
 use crate::sessions::bytes::HELLO_AND_READ;
 use crate::sessions::telling::Telling;
 use rk_conf::Conf;
-use rk_frame::Frames;
+use rk_frame::{Frames, MAX_PIECE};
 use rk_hall::{Halls, Names, Seat};
 use rk_session::{Caller, Crew, Platform, Served, Stage, serve};
 use std::alloc::{AllocError, Global};
@@ -76,6 +76,7 @@ fn hears<'a, N: Names, R: Wait + Abort>(rt: &'a R, alloc: Global, halls: &'a Hal
     let mut crew: Crew<Around<N, R, Open>> = Crew {
         caller,
         launcher: fake,
+        piece: [0; MAX_PIECE],
     };
     let mut wire = Telling::new(rt, alloc, HELLO_AND_READ);
     let served = serve_told(&stage, &mut crew, 1, frames, &mut wire);
@@ -88,6 +89,7 @@ fn hears<'a, N: Names, R: Wait + Abort>(rt: &'a R, alloc: Global, halls: &'a Hal
     let Crew {
         caller: Caller { seat, clock },
         launcher,
+        piece: _,
     } = crew;
     drop(clock);
     drop(launcher);
