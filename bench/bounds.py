@@ -5,7 +5,7 @@ says why, where it raises the bound.
 """
 
 MOST = {
-    "found REQUEST": 4_570,
-    "READ of one byte": 4_740,
-    "ADD displacing": 7_940,
+    "found REQUEST": 3_550,
+    "READ of one byte": 4_150,
+    "ADD displacing": 7_090,
 }

@@ -18,6 +18,7 @@ use rk_names::{Errno, KeyError, Moment, SessionId};
 
 impl Tables {
     /// What a session asks is done, refused, waited for or started.
+    #[inline(always)]
     pub fn asked(&mut self, now: Moment, id: &SessionId, ask: AskStep<'_>) -> Answer
         requires sound { IsSound self.old }
         ensures { Step self.old now (EventOf.Asked id.now ask.entry) result self.new }
@@ -28,6 +29,7 @@ impl Tables {
         }
     }
 
+    #[inline(always)]
     fn ask(&mut self, now: Moment, id: &SessionId, ask: AskStep<'_>) -> Result<Answer, Errno>
         requires sound { IsSound self.old }
         ensures { Step self.old now (EventOf.Asked id.now ask.entry) (answer_of result) self.new }
@@ -54,6 +56,7 @@ impl Tables {
     }
 
     /// The asks of one who acts. It has a context, so that HELLO is EINVAL.
+    #[inline(always)]
     fn act(
         &mut self,
         now: Moment,

@@ -38,6 +38,7 @@ pub fn serial_of(number: i32) -> Result<Serial, Errno>
 impl Tables {
     /// Who acts when the session asks; `None` if nobody does: a client that has no context, a handler that has assumed no
     /// authority (request-key.rst). EINVAL for a session that is not there, EBUSY for one that waits.
+    #[inline(always)]
     pub fn asker(&self, id: &SessionId) -> Result<Option<Asker>, Errno>
         ensures { FindsAsker self.now id.now result }
     {
@@ -50,6 +51,7 @@ impl Tables {
         Ok(self.asker_of(id, session))
     }
 
+    #[inline(always)]
     fn asker_of(&self, id: &SessionId, session: &Session) -> Option<Asker>
         requires { session_of self.now.sessions id.now ≡ Some session.now }
         ensures { result ≡ asker_of self.now id.now }

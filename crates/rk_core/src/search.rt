@@ -56,6 +56,7 @@ impl Missed {
     }
 
     /// What the search comes to with what was found in one more ring.
+    #[inline(always)]
     fn with(self, found: &Option<Match>) -> Sought
         ensures { (w : World) (q : Query) (rings : List ℕ) (ring : Option ℕ) → IsSought w q rings (Sought.Missed self) → IsSole w q ring found.now
             → IsSought w q (rings ++ option_to_list ring) result }
@@ -111,6 +112,7 @@ struct Search<'a> {
 
 impl Search<'_> {
     /// The key of the name in a ring, if one is given and has it.
+    #[inline(always)]
     fn match_in(&self, ring: &Option<Serial>) -> Option<Match>
         ensures { (found : Option ℕ) × IsMatch self.now.rings.now self.now.name ring.now found × (result ≡ matched self.now.keys.now self.now.moment found) }
     {
@@ -123,6 +125,7 @@ impl Search<'_> {
     }
 
     /// Looks in the next ring, if one is given, unless one before it had a hit.
+    #[inline(always)]
     fn further(&self, before: Sought, ring: &Option<Serial>) -> Sought
         ensures { (w : World) (q : Query) (rings : List ℕ) → self.now.moment ≡ q.now → IsNumberOf w q self.now.keys.now self.now.rings.now self.now.name
             → IsSought w q rings before → IsSought w q (rings ++ option_to_list ring.now) result }
@@ -137,6 +140,7 @@ impl Search<'_> {
 impl Tables {
     /// Looks for the key of that name in one ring of the context after the other, up to the first hit. It takes no memory, and looks up the
     /// name once.
+    #[inline(always)]
     pub fn search(
         &self,
         context: &Context,

@@ -63,6 +63,7 @@ impl Frames {
     /// It is refused only if an allocation failed, and then nothing has changed. Pieces that
     /// together have no more bytes than the room that is left are never refused; after `More`, and at
     /// first, that is [`MAX_PIECE`](crate::MAX_PIECE) bytes or more.
+    #[inline(always)]
     pub fn feed(&mut self, piece: &[u8]) -> Result<(), AllocError>
         ensures ok { OnOk result (Makes (Fed piece.now) self.old.bytes self.new.bytes) }
         ensures room { OnOk result (self.old.room ≤ self.new.room + length piece.now) }

@@ -56,6 +56,7 @@ impl Bucket {
     }
 
     /// What is kept of a name; `None` if it is not among these.
+    #[inline(always)]
     pub fn find(&self, typ: &[u8], description: &[u8]) -> Option<&Named>
         ensures { option_copied result ≡ list_find (is_of typ.now description.now) self.now }
     {

@@ -19,6 +19,7 @@ impl Named {
     ghost use Rattle.rk_keys.specs.Buckets.{is_of};
 
     /// Whether it is this name.
+    #[inline(always)]
     pub fn is(&self, typ: &[u8], description: &[u8]) -> bool
         ensures { result ≡ is_of typ.now description.now self.now }
     {

@@ -16,6 +16,7 @@ use std::hash::{FoldHasher, Hasher};
 
 /// The hash of a name. Who does not know the seed can't choose names whose hashes are equal.
 #[tactic(auto, unfolding(crate::specs::Buckets::name_hash))]
+#[inline(always)]
 fn hash_of(seed: u64, typ: &[u8], description: &[u8]) -> u32
     ensures { result ≡ name_hash seed typ.now description.now }
 {
@@ -28,6 +29,7 @@ fn hash_of(seed: u64, typ: &[u8], description: &[u8]) -> u32
 
 /// Feeds a hasher with bytes, eight at a time: more would be multiplied with one another, and a client that chooses both factors could wipe the seed out.
 #[tactic(auto, unfolding(crate::specs::Buckets::fed_words))]
+#[inline(always)]
 fn feed(hasher: &mut FoldHasher, bytes: &[u8])
     ensures { hasher.new ≡ fed_with bytes.now hasher.old }
 {
@@ -116,6 +118,7 @@ pub fn leave_name(facts: &HashTable<Key>, by_name: &mut HashTable<Bucket>, seed:
 }
 
 /// What is kept of a name under a hash.
+#[inline(always)]
 fn kept<'a>(
     by_name: &'a HashTable<Bucket>,
     hash: u32,

@@ -36,6 +36,7 @@ impl Ask {
 
 impl<'a> AskStep<'a> {
     /// The same, with its names borrowed from the body and a payload of its own: what a step takes.
+    #[inline(always)]
     pub fn read(alloc: Global, body: &'a [u8]) -> Result<AskStep<'a>, ReadError>
         // What is read is spelled by the body.
         ensures found { IfOk result (λ a. IsAsk a × (body.now ≡ spelling (ask_message a))) }
@@ -52,6 +53,7 @@ impl<'a> AskStep<'a> {
 
 impl<'a> AskView<'a> {
     /// The ask that all of the body spells, borrowed from it. An `Err` is the leftmost fault of a body that spells none.
+    #[inline(always)]
     pub fn read(body: &'a [u8]) -> Result<AskView<'a>, Fault>
         // What is read is spelled by the body.
         ensures found { IfOk result (λ a. IsAsk a × (body.now ≡ spelling (ask_message a))) }
@@ -67,6 +69,7 @@ impl<'a> AskView<'a> {
 }
 
 #[tactic(auto, unfolding(crate::specs::Reading::message_at))]
+#[inline(always)]
 fn read_body(body: &[u8]) -> Result<AskView<'_>, Fault>
     ensures { ReadsAsk result (message_at asks body.now) }
 {
@@ -78,6 +81,7 @@ fn read_body(body: &[u8]) -> Result<AskView<'_>, Fault>
 
 /// The ask of the op that has this byte, if there is one.
 #[tactic(auto, unfolding(crate::specs::Reading::message_behind))]
+#[inline(always)]
 fn read_behind(op: u8, rest: &[u8]) -> Result<AskView<'_>, Fault>
     ensures { ReadsAsk result (message_behind asks op rest.now) }
 {
@@ -161,6 +165,7 @@ fn hello(bytes: &[u8]) -> Result<AskView<'_>, Fault>
 }
 
 #[tactic(auto, unfolding(crate::specs::Reading::message_behind, crate::specs::Reading::all_values, crate::specs::Reading::values_at))]
+#[inline(always)]
 fn request(bytes: &[u8]) -> Result<AskView<'_>, Fault>
     ensures { ReadsAsk result (message_behind asks 2 bytes.now) }
 {

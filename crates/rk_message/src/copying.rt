@@ -50,6 +50,7 @@ impl<'a> AskView<'a> {
     }
 
     /// The same ask with a copy of its payload alone. An `Err` is out of memory, and comes only of an ask that has a payload.
+    #[inline(always)]
     pub fn to_step(self, alloc: Global) -> Result<AskStep<'a>, AllocError>
         ensures { IfOk result (λ ask. ask ≡ self.entry) }
     {
@@ -69,6 +70,7 @@ impl<'a> AskView<'a> {
 
 impl<'a> AskStep<'a> {
     /// The same ask with copies of its names and its payload. An `Err` is out of memory.
+    #[inline(always)]
     pub fn to_owned(&self, alloc: Global) -> Result<Ask, AllocError>
         ensures { IfOk result (λ ask. ask ≡ self.now) }
     {
@@ -124,6 +126,7 @@ impl Clone for Ask {
     }
 }
 
+#[inline(always)]
 fn owned_request(
     alloc: Global,
     typ: &TypeView<'_>,

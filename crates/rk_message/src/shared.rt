@@ -23,6 +23,7 @@ impl Model for SharedAsk {
 
 impl SharedAsk {
     /// Moves an ask to the heap. An `Err` is out of memory.
+    #[inline(always)]
     pub fn new(alloc: Global, ask: Ask) -> Result<SharedAsk, AllocError>
         ensures { IfOk result (λ shared. shared ≡ ask) }
     {

@@ -59,6 +59,7 @@ impl Description {
 
     /// A copy of bytes in which `fault` finds none, without another look at them. The only refusal
     /// is out of memory.
+    #[inline(always)]
     pub fn from_checked(alloc: Global, bytes: &[u8]) -> Result<Description, AllocError>
         requires { description_fault bytes.now ≡ None }
         ensures { IfOk result (λ n. n ≡ bytes.now) }
@@ -134,6 +135,7 @@ impl<'a> DescriptionView<'a> {
     }
 
     /// A copy. The only refusal is out of memory.
+    #[inline(always)]
     pub fn to_owned(&self, alloc: Global) -> Result<Description, AllocError>
         ensures { IfOk result (λ n. n ≡ self.now) }
     {

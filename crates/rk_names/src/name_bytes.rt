@@ -28,6 +28,7 @@ impl Model for NameBytes {
 
 impl NameBytes {
     /// A copy of the bytes. An `Err` is out of memory, which comes for more than 31 bytes alone.
+    #[inline(always)]
     pub(crate) fn of(alloc: Global, bytes: &[u8]) -> Result<NameBytes, AllocError>
         ensures { IfOk result (λ copy. copy ≡ bytes.now) }
     {

@@ -11,6 +11,7 @@ use rk_names::Errno;
 use std::alloc::{AllocError, Global};
 
 /// The names that an event asks for, where it may start a construction, in a place for the subject of a start.
+#[inline(always)]
 pub(crate) fn place_for_subject(
     alloc: Global,
     event: &Event,
@@ -38,6 +39,7 @@ pub(crate) fn place_for_subject(
 
 /// A copy of an answer for the record, which for a start takes no memory but the place. `None` if there is none: out of memory is no answer
 /// for a record, and for bytes there may be no memory. Neither has changed anything.
+#[inline(always)]
 pub(crate) fn recorded_answer(answer: &Answer, place: Option<BoxedSubject>) -> Option<Answer>
     requires { FitsStart (option_map names_in place) answer.now }
     ensures copy { IfSome result (λ a. (a ≡ answer.now) × (a ≢ Answer.Refused Errno.Enomem)) }
@@ -82,6 +84,7 @@ fn recorded_reply(reply: &Reply) -> Option<Reply>
 }
 
 /// The subject of a start once more. It takes no memory.
+#[inline(always)]
 pub(crate) fn started_subject(answer: &Answer, place: Option<BoxedSubject>) -> Option<BoxedSubject>
     requires { FitsStart (option_map names_in place) answer.now }
     ensures { result ≡ started answer.now }

@@ -1,5 +1,5 @@
 //! The steps of a volume that is being recorded.
-ghost use Rattle.std.specs.Prelude.{◌≡◌, ◌↔◌, ◌+◌, ◌-◌, ◌<◌, ◌≤◌, ◌++◌, ◌∷◌, [], length, vec_len, IfOk, OnErr, OnOk, IsOk, Err};
+ghost use Rattle.std.specs.Prelude.{◌≡◌, ◌↔◌, ◌+◌, ◌-◌, ◌<◌, ◌≤◌, ◌++◌, ◌∷◌, [], length, vec_len, vec_capacity, IfOk, OnErr, OnOk, IsOk, Err};
 
 use crate::fault::HallFault;
 use crate::recorded::Recorded;
@@ -7,6 +7,9 @@ use crate::room::Room;
 use std::alloc::{AllocError, Global};
 use std::marker::Model;
 use std::mem;
+
+/// For how many steps memory is taken at a time.
+const BLOCK: usize = 8_192;
 
 /// The steps of a volume that is being recorded. Of its places and of the memory for payloads it keeps what later steps need.
 #[derive(Drop)]
@@ -94,7 +97,9 @@ impl Journal {
         if self.places - self.steps.len() - self.reserved < count {
             return Err(HallFault::Full);
         }
-        if self.steps.reserve(self.reserved + count).is_err() {
+        let needed = self.reserved + count;
+        let left = self.places - self.steps.len();
+        if make_places(&mut self.steps, needed, left).is_err() {
             return Err(HallFault::NoMemory);
         }
         self.reserved += count;
@@ -102,6 +107,7 @@ impl Journal {
     }
 
     /// Keeps room for so many payloads more. A refusal changes nothing.
+    #[inline(always)]
     pub(crate) fn reserve_ends(&mut self, count: usize) -> Result<(), AllocError>
         requires { (count ≤ 1048576) × (self.old.ends ≤ 1048576) }
         ensures ok { OnOk result (self.new ≡ record self.old { ends = self.old.ends + count }) }
@@ -155,7 +161,22 @@ impl Journal {
     }
 }
 
+/// Makes room for so many steps more. Where there is none, it is made for all that are left of the volume, or for [`BLOCK`], so that the steps that were recorded
+/// are rarely copied while others wait for the hall.
+fn make_places(steps: &mut Vec<Recorded>, needed: usize, left: usize) -> Result<(), AllocError>
+    requires { (needed ≤ left) × (left ≤ 1048576) }
+    ensures same { steps.new.items ≡ steps.old.items }
+    ensures made { OnOk result (vec_len steps.new + needed ≤ vec_capacity steps.new) }
+    ensures kept { vec_capacity steps.old ≤ vec_capacity steps.new }
+{
+    if steps.capacity() - steps.len() >= needed {
+        return Ok(());
+    }
+    steps.reserve(needed.max(left.min(BLOCK)))
+}
+
 /// Makes rooms until there are so many; where an allocation fails, there are as many as before or more.
+#[inline(always)]
 fn make_rooms(alloc: Global, rooms: &mut Vec<Room>, count: usize) -> Result<(), AllocError>
     ensures more { vec_len rooms.old ≤ vec_len rooms.new }
     ensures made { OnOk result (count ≤ vec_len rooms.new) }

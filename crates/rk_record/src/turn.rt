@@ -137,6 +137,7 @@ pub struct Copies {
 
 impl Copies {
     /// The copies of an event. An `Err` is out of memory.
+    #[inline(always)]
     pub fn of(alloc: Global, event: &EventStep<'_>) -> Result<Copies, AllocError>
         ensures { IfOk result (λ c. AreCopies event.now c) }
     {

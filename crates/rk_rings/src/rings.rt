@@ -99,6 +99,7 @@ impl Rings {
         self.rows.contains(ring.get())
     }
 
+    #[inline(always)]
     fn row(&self, ring: Serial) -> Option<&Row>
         ensures row { option_copied result ≡ map.get self.now ring }
         ensures once { IfSome result (λ r. HasEachNameOnce r.now.links) }
@@ -296,6 +297,7 @@ impl Rings {
 
     /// The key of that name in the ring, which has no other; `None` if there is none, or no such ring. It takes no
     /// memory.
+    #[inline(always)]
     pub fn find_in(&self, ring: Serial, name: NameNo) -> Option<Serial>
         ensures { IsMatch self.now name (Some ring) result }
     {

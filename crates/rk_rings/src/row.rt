@@ -126,6 +126,7 @@ impl Row {
     }
 
     /// The key of that name, if one is linked. If there are few links, it looks at each, which takes less than to hash the name.
+    #[inline(always)]
     pub fn find(&self, name: NameNo) -> Option<Serial>
         ensures { MatchOption result ((k : ℕ) → ¬ (map.get self.now.links k ≡ Some name)) (λ k. map.get self.now.links k ≡ Some name) }
     {

@@ -68,6 +68,7 @@ fn finished<P: Platform, W: Wire>(
 }
 
 // The ask is made, and what it starts or waits for is brought to its end. Before that, what is kept is sent.
+#[inline(always)]
 fn asked<P: Platform, W: Wire>(
     stage: &Stage<'_, P>,
     crew: &mut Crew<P>,
@@ -142,6 +143,7 @@ fn greeted<P: Platform, W: Wire>(
 
 /// What is to be said of the message with this body: it is asked in the client's hall, and what it starts is brought to its end. A HELLO of a client without a
 /// context is asked in the hall of its uid, to which the client moves first. It may wait; what the wire keeps is sent before that.
+#[inline(always)]
 pub fn answered<P: Platform, W: Wire>(
     stage: &Stage<'_, P>,
     crew: &mut Crew<P>,

@@ -70,6 +70,7 @@ fn ask_again<P: Platform>(
 /// Makes the ask of a message, as `Halls::call` does. If the record is full, its volume goes to the shelf, the ask is read again from its body, since
 /// the refused call has it, and the call is made once more; only a refusal then is answered. Out of memory at the second reading is `NoMemory`. It may
 /// wait.
+#[inline(always)]
 pub fn ask_in<P: Platform>(
     stage: &Stage<'_, P>,
     seat: &mut Seat<P::Names>,

@@ -40,6 +40,7 @@ pub fn refusal_frame(errno: Errno) -> [u8; 6]
 }
 
 /// A reply with its length before it. Only bytes and the serials of rings take memory.
+#[inline(always)]
 fn framed(alloc: Global, reply: &Reply) -> Result<Frame, AllocError>
     ensures framed { IfOk result (λ b. b ≡ reply_bytes reply.now) }
     ensures memory { IfErr result (λ e. TakesMemory (Some reply.now)) }
@@ -53,6 +54,7 @@ fn framed(alloc: Global, reply: &Reply) -> Result<Frame, AllocError>
 
 /// What an answer says to the session that asked, with its length before it. A number and a refusal take no memory. An `Err` is out of memory; an answer that
 /// says nothing, of a session that waits, is refused as that too.
+#[inline(always)]
 pub fn answer_frame(alloc: Global, answer: &Answer) -> Result<Frame, AllocError>
     ensures framed { IfOk result (λ b. ReplyFramed answer.now b) }
     ensures memory { IfErr result (λ e. LacksFrame answer.now) }

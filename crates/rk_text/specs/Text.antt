@@ -1,5 +1,5 @@
 -- What text is, and how it is cut into lines, and a line into fields.
-use Rattle.std.specs.Prelude.{ℕ, List, [], ◌∷◌, Bool, true, false, not, ◌&&◌, ◌||◌, ◌==◌, filter, drop, nat_eq}
+use Rattle.std.specs.Prelude.{ℕ, List, [], ◌∷◌, Bool, true, false, not, ◌&&◌, ◌||◌, ◌==◌, filter, drop, nat_eq, nat_lt}
 use Rattle.std.specs.List.{slice_split, prefix_len, list_any}
 use Rattle.std.specs.Str.{is_utf8}
 use Rattle.rk_text.specs.declared.space.Space.{Space}
@@ -8,6 +8,10 @@ use Rattle.rk_text.specs.declared.space.Space.TheVariants.{Blank, Any}
 -- UTF-8 without a zero byte: what a C string of text can hold
 unfoldable pub is_text : List ℕ → Bool
 is_text bytes = not (list_any (λ b. nat_eq b 0) bytes) && is_utf8 bytes
+
+-- a byte of ASCII other than zero
+abbrev pub is_plain : ℕ → Bool
+is_plain b = not (b == 0) && nat_lt b 128
 
 -- the first byte is this one
 abbrev pub begins_with : ℕ → List ℕ → Bool
