@@ -8,9 +8,12 @@ import pathlib
 import re
 import signal
 import tempfile
+import threading
+import time
 
 import protocol_peer as ask
-from daemon import Client, Daemon
+from compiled import library
+from daemon import Client, Daemon, ended, until
 from programs import Wrong, check_all, ran, same, top
 
 CONF = """create user make:* * |/bin/echo %c
@@ -251,6 +254,47 @@ def at_once(program, folder):
     same((accepted(program, files)[0].split(",")[0], count >= 5), (f"hall 0: {count} volumes", True))
 
 
+class Asker:
+    """A client of hall 0 that asks more than a volume has places, and counts the replies."""
+
+    def __init__(self, path):
+        self.replies = 0
+        self.thread = threading.Thread(target=self.asks, args=(path,), daemon=True)
+        self.thread.start()
+
+    def asks(self, path):
+        with Client(path, 1000) as client:
+            for _ in range(8300):
+                client.ask(ask.default(-1))
+                self.replies += 1
+
+    def stands(self):
+        """Whether it has filled a volume, and no reply comes for a moment."""
+        before = self.replies
+        time.sleep(0.1)
+        return before == self.replies > 8000
+
+
+def waits(program, folder):
+    """A volume is full while the one before it is being written: its worker waits, and is woken once that one is done."""
+    gate, record = folder / "gate", folder / "record"
+    os.mkfifo(gate)
+    record.mkdir()
+    holding = {"LD_PRELOAD": library("holding_link"), "GATE": str(gate)}
+    with Daemon(program, CONF, "--record", str(record), "--clients", "2", environment=holding) as daemon:
+        first = Asker(daemon.path)
+        held = os.open(gate, os.O_WRONLY)
+        second = Asker(daemon.path)
+        until(second.stands, "a second volume that is full")
+        same(volumes(record), [])
+        os.close(held)
+        for asker in (first, second):
+            ended(asker.thread, "the replies")
+        daemon.end()
+    same([first.replies, second.replies], [8300, 8300])
+    accepted(program, volumes(record))
+
+
 def many(program, folder, hall):
     """More volumes than one: a second one, and the first left out."""
     with Daemon(program, CONF, "--record", str(folder), "--clients", "1") as daemon:
@@ -321,6 +365,7 @@ def replaces_none(program, folder):
 CASES = [("a whole record is a run", whole), ("changed, cut, longer and doubled files are refused", changed), ("any bit that is another is seen", flipped),
          ("the examples of the format", one_step), ("messages that spell nothing", spells_nothing),
          ("volumes of two runs", runs), ("volumes are chained", chained), ("several clients at once", at_once),
+         ("a volume waits for the one before it", waits),
          ("a second volume of hall 0", many, 0), ("a second volume of another hall", many, 1), ("another negative time", negative),
          ("folders that are missing or have volumes", starts), ("a signal leaves whole volumes", killed),
          ("a full disk costs its volume alone", full), ("no file is replaced", replaces_none)]
