@@ -14,12 +14,12 @@ from compiled import library
 from programs import Wrong, check_all, differs, ran, top
 
 # Each path through a hall, and its steps, where memory ends it one allocation later each time. Before it comes the client makes no step; it goes after having
-# come, after its HELLO, or at the end. Of two requesters the second one may not come, and goes after having come, after its HELLO, or at the end.
+# come, after its HELLO, or at the end. Of two requesters the second one comes without memory: the record has taken what it needs at its first step.
 BEFORE = [0, 2, 3]
 PATHS = [
     ("growths_of_a_key_that_is_made", [*BEFORE, 7]),
     ("growths_of_a_second_handler", [*BEFORE, 8]),
-    ("growths_of_two_requesters", [*BEFORE, 7, 9, 10, 12]),
+    ("growths_of_two_requesters", [*BEFORE, 9, 10, 12]),
 ]
 
 PLAIN, ANOTHER, PIPED, NEGATE = "/bin/h 12 ", "/bin/h 16 ", "/bin/p ", "/bin/n negate 12 "
