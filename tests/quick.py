@@ -1,9 +1,10 @@
 #!/usr/bin/env python3
 """Checks what changed since it last passed here: `make quick`.
 
-Each crate whose files, or those of a crate below it, are not those that passed last time is laid out, proved over what earlier checks kept, and its tests
-are run before any proof of theirs. Then the edits of those crates that changed themselves are tried, and, where a program changed, the test programs of
-this folder; those that play what documents show also where these changed. It is for daily use and no verdict: that is `make check`.
+First it says which edits can't be made any more, since the text that they change is another. Then each crate whose files, or those of a crate below it, are
+not those that passed last time is laid out, proved over what earlier checks kept, and its tests are run before any proof of theirs. Then the edits of those
+crates that changed themselves are tried, and, where a program changed, the test programs of this folder; those that play what documents show also where
+these changed. It is for daily use and no verdict: that is `make check`.
 """
 import hashlib
 import os
@@ -12,6 +13,7 @@ import sys
 import time
 
 import crates
+from test_edits import unfit_in
 
 kept = crates.top / "build" / "quick"
 OF_PROGRAMS = ["replay", "replay_growths", "words", "pick", "client", "clients", "keyutils", "keyutils_habits", "trap", "serve", "manuals",
@@ -77,6 +79,8 @@ def main():
         """What a crate and those below it are, in one number."""
         return hashlib.sha256("".join([crates.digest(crates.top / "crates" / name), *[states[it] for it in used[name]]]).encode()).hexdigest()
 
+    if unfit := [fault for name in used for fault in unfit_in(name)]:
+        return "\n".join(unfit)
     for name in used:
         folder = crates.top / "crates" / name
         own = crates.digest(folder, [*crates.PARTS, "edits", "must-fail"])
