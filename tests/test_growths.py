@@ -14,7 +14,8 @@ from compiled import library
 from programs import Wrong, check_all, differs, ran, top
 
 # Each path through a hall, and its steps, where memory ends it one allocation later each time. Before it comes the client makes no step; it goes after having
-# come, after its HELLO, or at the end. Of two requesters the second one comes without memory: the record has taken what it needs at its first step.
+# come, after its HELLO, or at the end. Of two requesters the second one comes without memory, since the record has taken its own at its first step; it goes
+# after having come, after its HELLO, or at the end.
 BEFORE = [0, 2, 3]
 PATHS = [
     ("growths_of_a_key_that_is_made", [*BEFORE, 7]),
