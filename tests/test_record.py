@@ -238,8 +238,8 @@ def chained(program, folder):
 
 
 def at_once(program, folder):
-    """Four clients at a time fill the volumes of one hall, so that several workers hand them out: each has the sum of the one before it. Two workers that
-    find the same volume full hand out two, of which the second has few steps."""
+    """Four clients at a time fill the volumes of one hall, so that several workers hand them out: each has the sum of the one before it. Workers that find
+    the same volume full hand out one: 32,812 steps are four full volumes and one more."""
     def ask_much(_):
         with Client(daemon.path, 1000) as client:
             for _ in range(8200):
@@ -250,8 +250,7 @@ def at_once(program, folder):
             list(pool.map(ask_much, range(4)))
         daemon.end()
     files = volumes(folder)
-    count = sum(file.name.startswith("hall-0-") for file in files)
-    same((accepted(program, files)[0].split(",")[0], count >= 5), (f"hall 0: {count} volumes", True))
+    same((accepted(program, files)[0].split(",")[0], sum(file.name.startswith("hall-0-") for file in files)), ("hall 0: 5 volumes", 5))
 
 
 class Asker:

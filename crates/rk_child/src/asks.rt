@@ -79,7 +79,7 @@ pub fn serve_asks<P: Platform>(
         let goes_on = answer_all(stage, crew, key, depth, &mut asks, child);
         if !goes_on {
             child.close_input();
-            let read = read_out(child, reads + 1);
+            let read = read_out(child, reads + 1, &mut crew.piece);
             return (read, asks.course);
         }
     }

@@ -98,7 +98,7 @@ fn run<P: Platform>(
     let key = launch.key();
     let Some(running) = begin(stage, &mut crew.caller, launch, room.ran()) else {
         child.close_input();
-        let read = read_out(&mut child, 0);
+        let read = read_out(&mut child, 0, &mut crew.piece);
         let driven = wait_for(&mut child, read);
         crew.launcher.back(child);
         let report = Report {
@@ -156,7 +156,8 @@ fn attend<P: Platform>(
         }
         Room::Piped(output) => {
             let mut output = output;
-            let read = pipe_through(child, running.subject().callout.as_bytes(), &mut output);
+            let callout = running.subject().callout.as_bytes();
+            let read = pipe_through(child, callout, &mut output, &mut crew.piece);
             (read, Some(output.into_payload()), Course::new())
         }
     }

@@ -1,6 +1,4 @@
 //! Something for each kind of line.
-ghost use Rattle.std.specs.Prelude.{◌≡◌};
-ghost use Rattle.rk_daemon.specs.ByKind.{of_kind};
 
 use crate::kind::Kind;
 

@@ -18,8 +18,12 @@ pub enum ReadFault {
     UsedUp,
 }
 
-/// Reads to its end, and drops, the output of a child that was read so often.
-pub fn read_out<C: Child>(child: &mut C, reads: u32) -> Result<(), ReadFault>
+/// Reads to its end, and drops, the output of a child that was read so often; each read goes into the piece.
+pub fn read_out<C: Child>(
+    child: &mut C,
+    reads: u32,
+    piece: &mut [u8; MAX_PIECE],
+) -> Result<(), ReadFault>
     requires { reads ≤ (C.shown child.old).reads }
     ensures goes_on { GoesOn (C.shown child.old) (C.shown child.new) }
     ensures heard { IsHeard result (C.shown child.old) (C.shown child.new) }
@@ -27,9 +31,8 @@ pub fn read_out<C: Child>(child: &mut C, reads: u32) -> Result<(), ReadFault>
     ensures end { OnOk result ((C.shown child.new).at_end ≡ true) }
     ensures fault { IfErr result (λ f. FailsReading f (C.shown child.old) (C.shown child.new)) }
 {
-    let mut piece = [0u8; MAX_PIECE];
     for _ in reads..MAX_READS {
-        match child.read(&mut piece) {
+        match child.read(piece) {
             Ok(0) => return Ok(()),
             Ok(_) => {}
             Err(_) => return Err(ReadFault::Failed),
@@ -51,16 +54,19 @@ fn give<C: Child>(child: &mut C, callout: &[u8])
 }
 
 // Keeps the output of a child, to its end.
-fn keep<C: Child>(child: &mut C, output: &mut Output) -> Result<(), ReadFault>
+fn keep<C: Child>(
+    child: &mut C,
+    output: &mut Output,
+    piece: &mut [u8; MAX_PIECE],
+) -> Result<(), ReadFault>
     ensures goes_on { GoesOn (C.shown child.old) (C.shown child.new) }
     ensures kept { IsKept result (C.shown child.old) (C.shown child.new) output.old output.new }
     ensures reads { ReadsUpTo 1048576 result (C.shown child.old) (C.shown child.new) }
     ensures end { OnOk result ((C.shown child.new).at_end ≡ true) }
     ensures fault { IfErr result (λ f. FailsReading f (C.shown child.old) (C.shown child.new)) }
 {
-    let mut piece = [0u8; MAX_PIECE];
     for _ in 0..MAX_READS {
-        match child.read(&mut piece) {
+        match child.read(piece) {
             Ok(0) => return Ok(()),
             Ok(count) => output.add(&piece[..count]),
             Err(_) => return Err(ReadFault::Failed),
@@ -69,12 +75,13 @@ fn keep<C: Child>(child: &mut C, output: &mut Output) -> Result<(), ReadFault>
     Err(ReadFault::UsedUp)
 }
 
-/// Gives the callout to a piped handler's child, and keeps the child's output, to its end. That the input can't be written is passed over: a handler
-/// need not read it.
+/// Gives the callout to a piped handler's child, and keeps the child's output, to its end; each read goes into the piece. That the input can't be
+/// written is passed over: a handler need not read it.
 pub fn pipe_through<C: Child>(
     child: &mut C,
     callout: &[u8],
     output: &mut Output,
+    piece: &mut [u8; MAX_PIECE],
 ) -> Result<(), ReadFault>
     ensures goes_on { GoesOn (C.shown child.old) (C.shown child.new) }
     ensures piped { IsPiped callout.now result (C.shown child.old) (C.shown child.new) output.old output.new }
@@ -83,5 +90,5 @@ pub fn pipe_through<C: Child>(
     ensures fault { IfErr result (λ f. FailsReading f (C.shown child.old) (C.shown child.new)) }
 {
     give(child, callout);
-    keep(child, output)
+    keep(child, output, piece)
 }

@@ -337,13 +337,24 @@ impl<N: Names> Halls<N> {
     pub fn roll<R: Wait>(&self, rt: &R, hall: HallNo) -> Result<Volume<N>, HallFault>
         ensures { IfOk result (λ v. v.hall ≡ hall) }
     {
-        let rolled = by_hall!(hall, HallNo, of_hall!(self.roll(rt)));
-        match rolled {
-            Ok(volume) => Ok(Volume {
+        let volume = by_hall!(hall, HallNo, of_hall!(self.roll(rt)))?;
+        Ok(Volume {
+            volume,
+            names: PhantomData,
+        })
+    }
+
+    /// The same, where an event was refused as full. `None` where there are places for any event by now, since another thread has begun the next volume;
+    /// then nothing changes.
+    pub fn roll_full<R: Wait>(&self, rt: &R, hall: HallNo) -> Result<Option<Volume<N>>, HallFault>
+        ensures { IfOk result (λ found. IfSome found (λ v. v.hall ≡ hall)) }
+    {
+        match by_hall!(hall, HallNo, of_hall!(self.roll_full(rt)))? {
+            None => Ok(None),
+            Some(volume) => Ok(Some(Volume {
                 volume,
                 names: PhantomData,
-            }),
-            Err(fault) => Err(fault),
+            })),
         }
     }
 }

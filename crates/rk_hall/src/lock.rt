@@ -233,6 +233,13 @@ impl<N: Names, const H: u64> Lock<N, H> {
         self.locked.lock(rt).roll()
     }
 
+    /// The same, unless there are places for any event.
+    pub(crate) fn roll_full<R: Wait>(&self, rt: &R) -> Result<Option<Volume>, HallFault>
+        ensures { IfOk result (λ found. IfSome found (λ v. hall_number v.hall ≡ H)) }
+    {
+        self.locked.lock(rt).roll_full()
+    }
+
     /// The hall, out of its lock.
     pub(crate) fn close(self) -> Closed<N, H>
         ensures { result.live ≡ 0 }

@@ -5,7 +5,7 @@ ghost use Rattle.rk_machine.specs.Views.{is_owed, is_ready, has_wait, depth_of, 
 ghost use Rattle.rk_machine.specs.Owing.{constructions, begun, is_followed};
 ghost use Rattle.rk_machine.specs.Allowed.{done};
 ghost use Rattle.rk_record.specs.HallNumbers.{hall_number};
-ghost use Rattle.rk_record.specs.Record.{IsRecord, IsFull};
+ghost use Rattle.rk_record.specs.Record.{IsRecord, IsFull, free};
 ghost use Rattle.rk_record.specs.Turns.{Turned};
 ghost use Rattle.rk_record.specs.Copies.{started, AreCopies};
 ghost use Rattle.rk_record.specs.Volumes.{volume_of, rolled, CannotRoll};
@@ -364,6 +364,19 @@ impl<N: Names, const H: u64> Locked<N, H> {
         ensures full { (result ≡ Err HallFault.Full) ↔ CannotRoll self.old.hall }
     {
         self.hall.roll()
+    }
+
+    /// The same, unless there are places for any event: then another has begun a volume, and nothing changes.
+    pub(crate) fn roll_full(&mut self) -> Result<Option<Volume>, HallFault>
+        ensures ok { IfOk result (λ found. MatchOption found ((6 ≤ free self.old.hall) × (self.new ≡ self.old))
+            (λ v. (free self.old.hall < 6) × (v ≡ volume_of self.old.hall) × (self.new ≡ record self.old { hall = rolled self.old.hall }))) }
+        ensures hall { IfOk result (λ found. IfSome found (λ v. hall_number v.hall ≡ H)) }
+        ensures err { OnErr result (self.new ≡ self.old) }
+    {
+        if self.hall.has_places() {
+            return Ok(None);
+        }
+        Ok(Some(self.roll()?))
     }
 
     /// Takes a ticket back for which nothing is owed.

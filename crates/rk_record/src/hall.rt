@@ -1,10 +1,11 @@
 //! A hall: a book, and the record of its steps.
-ghost use Rattle.std.specs.Prelude.{◌≡◌, ◌+◌, ◌≤◌, [], length, IfOk, option_map};
+ghost use Rattle.std.specs.Prelude.{◌≡◌, ◌+◌, ◌≤◌, [], length, nat_le, IfOk, IsTrue, option_map};
 ghost use Rattle.std.specs.FinMap as map;
 ghost use Rattle.rk_machine.specs.World.{empty_world};
 ghost use Rattle.rk_machine.specs.Owing.{constructions};
 ghost use Rattle.rk_machine.specs.Views.{is_owed, is_ready, has_wait, depth_of, Peeks};
-ghost use Rattle.rk_record.specs.Record.{IsRecord};
+ghost use Rattle.rk_machine.specs.Event.{Event};
+ghost use Rattle.rk_record.specs.Record.{IsRecord, IsFull, free};
 
 use crate::hall_no::HallNo;
 use crate::journal::Journal;
@@ -18,6 +19,9 @@ use std::snapshot::Snapshot;
 
 /// The most steps of a volume.
 pub const MAX_STEPS: usize = 1_048_576;
+
+/// The most places that an event may need: those of a REQUEST.
+const MOST_NEEDED: usize = 6;
 
 /// A book, and the record of its steps: the volume that is being recorded, where volumes before it were handed out.
 ///
@@ -125,6 +129,14 @@ impl Hall {
         ensures { result.now ≡ self.now.steps }
     {
         self.journal.steps()
+    }
+
+    /// Whether any event finds the places that it may need, so that none is refused as full.
+    pub fn has_places(&self) -> bool
+        ensures exact { result ≡ nat_le 6 (free self.now) }
+        ensures any { IsTrue result → (event : Event) → ¬ (IsFull self.now event) }
+    {
+        self.journal.free() >= MOST_NEEDED
     }
 
     /// How many keys there are, however they stand: those under construction too.

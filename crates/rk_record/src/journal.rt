@@ -83,6 +83,13 @@ impl Journal {
         self.ends
     }
 
+    /// How many places are free: neither taken nor kept.
+    pub(crate) fn free(&self) -> usize
+        ensures { result ≡ self.now.places - (length self.now.steps + self.now.reserved) }
+    {
+        self.places - self.steps.len() - self.reserved
+    }
+
     /// Keeps so many places more. Full comes if there are not so many that are free; a refusal changes nothing, and none comes for no place.
     pub(crate) fn reserve(&mut self, count: usize) -> Result<(), HallFault>
         requires { count ≤ 1048576 }
@@ -94,7 +101,7 @@ impl Journal {
         if count == 0 {
             return Ok(());
         }
-        if self.places - self.steps.len() - self.reserved < count {
+        if self.free() < count {
             return Err(HallFault::Full);
         }
         let needed = self.reserved + count;
@@ -161,8 +168,8 @@ impl Journal {
     }
 }
 
-/// Makes room for so many steps more. Where there is none, it is made for all that are left of the volume, or for [`BLOCK`], so that the steps that were recorded
-/// are rarely copied while others wait for the hall.
+/// Makes room for so many steps more. Where there is none, it is made for all that are left of the volume, or for [`BLOCK`], so that the steps that
+/// were recorded are rarely copied while others wait for the hall.
 fn make_places(steps: &mut Vec<Recorded>, needed: usize, left: usize) -> Result<(), AllocError>
     requires { (needed ≤ left) × (left ≤ 1048576) }
     ensures same { steps.new.items ≡ steps.old.items }

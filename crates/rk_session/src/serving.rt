@@ -9,8 +9,9 @@ ghost use Rattle.rk_session.specs.Places.{at_first, standing_of};
 ghost use Rattle.rk_session.specs.Talk.{EndCounts, Serves, Talked};
 ghost use Rattle.rk_session.specs.Wires.{Counts};
 
-use crate::standing::{Place, leave, open};
+use crate::standing::{leave, open};
 use crate::turns::next_turn;
+use crate::visit::Visit;
 use crate::wire::Wire;
 use rk_frame::{Frames, MAX_READS};
 use rk_hall::HallNo;
@@ -65,21 +66,20 @@ fn part<W: Wire>(wire: &mut W, served: Served) -> Served
 fn take_all<P: Platform, W: Wire>(
     stage: &Stage<'_, P>,
     crew: &mut Crew<P>,
-    client: u32,
-    place: &mut Place,
-    frames: &mut Frames,
+    visit: &mut Visit,
     wire: &mut W,
 ) -> Result<(), Served>
     requires bound { (P.Launcher.shown crew.old.launcher).count ≤ most }
     ensures bound { (P.Launcher.shown crew.new.launcher).count ≤ most }
-    ensures takes { TakesAll (Client client) result (W.shown wire.old) frames.old (standing_of place.old crew.old.caller.seat)
-        (W.shown wire.new) frames.new (standing_of place.new crew.new.caller.seat) }
+    ensures takes { TakesAll (Client visit.old.client) result (W.shown wire.old) visit.old.frames (standing_of visit.old.place crew.old.caller.seat)
+        (W.shown wire.new) visit.new.frames (standing_of visit.new.place crew.new.caller.seat) }
+    ensures same { visit.new.client ≡ visit.old.client }
     ensures counts { Counts (W.shown wire.old) (W.shown wire.new) }
     ensures reads { (W.shown wire.new).reads ≡ (W.shown wire.old).reads }
-    ensures moves { Moves place.old.hall place.new.hall crew.old.caller.seat crew.new.caller.seat }
+    ensures moves { Moves visit.old.place.hall visit.new.place.hall crew.old.caller.seat crew.new.caller.seat }
 {
     loop {
-        match next_turn(stage, crew, client, place, frames, wire) {
+        match next_turn(stage, crew, visit, wire) {
             Ok(true) => {}
             Ok(false) => return Ok(()),
             Err(served) => return Err(served),
@@ -91,33 +91,31 @@ fn take_all<P: Platform, W: Wire>(
 fn talk<P: Platform, W: Wire>(
     stage: &Stage<'_, P>,
     crew: &mut Crew<P>,
-    client: u32,
-    place: &mut Place,
-    frames: Frames,
+    visit: &mut Visit,
     wire: &mut W,
 ) -> Served
-    requires frames { (frames.bytes ≡ []) × (4096 ≤ frames.room) }
-    requires first { place.old ≡ at_first }
+    requires frames { (visit.old.frames.bytes ≡ []) × (4096 ≤ visit.old.frames.room) }
+    requires first { visit.old.place ≡ at_first }
     requires bound { (P.Launcher.shown crew.old.launcher).count ≤ most }
     ensures bound { (P.Launcher.shown crew.new.launcher).count ≤ most }
-    ensures talked { Talked (Client client) result crew.old.caller.seat (standing_of place.new crew.new.caller.seat) (W.shown wire.old) (W.shown wire.new) }
+    ensures talked { Talked (Client visit.old.client) result crew.old.caller.seat (standing_of visit.new.place crew.new.caller.seat)
+        (W.shown wire.old) (W.shown wire.new) }
     ensures fault { EndCounts result (W.shown wire.old).count (W.shown wire.new).count }
     ensures sent { (W.shown wire.new).kept ≡ false }
     ensures turns { result ≡ Served.TurnsUsed → (W.shown wire.new).reads ≡ raised_by 1048576 (W.shown wire.old).reads }
     ensures reads { (W.shown wire.new).reads ≤ (W.shown wire.old).reads + 1048576 }
-    ensures moves { Moves place.old.hall place.new.hall crew.old.caller.seat crew.new.caller.seat }
+    ensures moves { Moves visit.old.place.hall visit.new.place.hall crew.old.caller.seat crew.new.caller.seat }
 {
-    let mut frames = frames;
     for _ in 0..MAX_READS {
         let count = match hear(wire, &mut crew.piece) {
             Ok(count) => count,
             Err(served) => return served,
         };
-        match frames.feed(&crew.piece[..count]) {
+        match visit.frames.feed(&crew.piece[..count]) {
             Ok(()) => {}
             Err(_) => unreachable!(),
         }
-        match take_all(stage, crew, client, place, &mut frames, wire) {
+        match take_all(stage, crew, visit, wire) {
             Ok(()) => {}
             Err(served) => return part(wire, served),
         }
@@ -155,11 +153,8 @@ pub fn serve<P: Platform, W: Wire>(
             return Served::NotOpened;
         }
     }
-    let mut place = Place {
-        hall: HallNo::Zero,
-        greeted: false,
-    };
-    let served = talk(stage, crew, client, &mut place, frames, wire);
-    drop(leave(stage, &mut crew.caller, place.hall, client));
+    let mut visit = Visit::new(client, frames);
+    let served = talk(stage, crew, &mut visit, wire);
+    drop(leave(stage, &mut crew.caller, visit.place.hall, client));
     served
 }

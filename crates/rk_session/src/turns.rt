@@ -12,9 +12,10 @@ ghost use Rattle.rk_session.specs.Wires.{Counts};
 use crate::answering::answered;
 use crate::serving::Served;
 use crate::standing::Place;
+use crate::visit::Visit;
 use crate::wire::Wire;
 use rk_devices::{DeviceFault, Gate};
-use rk_frame::{Frames, Next};
+use rk_frame::Next;
 use rk_hall::Receipt;
 use rk_names::{Errno, SessionId};
 use rk_talk::{Crew, Platform, Saying, Stage, answer_frame, refusal_frame};
@@ -106,22 +107,21 @@ fn turn<P: Platform, W: Wire>(
 pub fn next_turn<P: Platform, W: Wire>(
     stage: &Stage<'_, P>,
     crew: &mut Crew<P>,
-    client: u32,
-    place: &mut Place,
-    frames: &mut Frames,
+    visit: &mut Visit,
     wire: &mut W,
 ) -> Result<bool, Served>
     requires bound { (P.Launcher.shown crew.old.launcher).count ≤ most }
     ensures bound { (P.Launcher.shown crew.new.launcher).count ≤ most }
-    ensures takes { TakesOne (Client client) result (W.shown wire.old) frames.old (standing_of place.old crew.old.caller.seat)
-        (W.shown wire.new) frames.new (standing_of place.new crew.new.caller.seat) }
+    ensures takes { TakesOne (Client visit.old.client) result (W.shown wire.old) visit.old.frames (standing_of visit.old.place crew.old.caller.seat)
+        (W.shown wire.new) visit.new.frames (standing_of visit.new.place crew.new.caller.seat) }
+    ensures same { visit.new.client ≡ visit.old.client }
     ensures counts { Counts (W.shown wire.old) (W.shown wire.new) }
     ensures reads { (W.shown wire.new).reads ≡ (W.shown wire.old).reads }
-    ensures moves { Moves place.old.hall place.new.hall crew.old.caller.seat crew.new.caller.seat }
+    ensures moves { Moves visit.old.place.hall visit.new.place.hall crew.old.caller.seat crew.new.caller.seat }
 {
-    match frames.next() {
+    match visit.frames.next() {
         Next::Whole(body) => {
-            match turn(stage, crew, client, place, body, wire) {
+            match turn(stage, crew, visit.client, &mut visit.place, body, wire) {
                 Ok(()) => Ok(true),
                 Err(served) => Err(served),
             }

@@ -1,5 +1,5 @@
 //! Calls of the halls. If the record is full, its volume is handed out and the call made once more.
-ghost use Rattle.std.specs.Prelude.{◌≡◌, ◌⊎◌, IfOk, IfErr, OnErr};
+ghost use Rattle.std.specs.Prelude.{◌≡◌, ◌⊎◌, IfOk, IfSome, IfErr, OnErr};
 ghost use Rattle.rk_message.specs.Bodies.{Spells};
 ghost use Rattle.rk_message.specs.Ask.{Ask as Asks};
 ghost use Rattle.rk_record.specs.declared.told.Told.TheVariants as told;
@@ -14,15 +14,15 @@ use rk_machine::{EventOf, EventStep};
 use rk_message::AskStep;
 use rk_names::{Moment, SessionId};
 
-// The volume of a hall whose record is full, which goes on with an empty one.
+// The volume of a hall whose record is full, which goes on with an empty one; `None` where another thread has taken it.
 fn full_volume<P: Platform>(
     stage: &Stage<'_, P>,
     hall: HallNo,
-) -> Result<Volume<P::Names>, CallFault>
-    ensures volume { IfOk result (λ v. v.hall ≡ hall) }
+) -> Result<Option<Volume<P::Names>>, CallFault>
+    ensures volume { IfOk result (λ found. IfSome found (λ v. v.hall ≡ hall)) }
     ensures fault { IfErr result (λ f. (f ≡ CallFault.Full) ⊎ (f ≡ CallFault.NoMemory)) }
 {
-    match stage.halls.roll(stage.rt, hall) {
+    match stage.halls.roll_full(stage.rt, hall) {
         Ok(volume) => Ok(volume),
         Err(HallFault::Full) => Err(CallFault::Full),
         Err(HallFault::NoMemory) => Err(CallFault::NoMemory),
@@ -35,8 +35,9 @@ fn full_volume<P: Platform>(
 fn make_places<P: Platform>(stage: &Stage<'_, P>, hall: HallNo) -> Result<(), CallFault>
     ensures { IfErr result (λ f. (f ≡ CallFault.Full) ⊎ (f ≡ CallFault.NoMemory)) }
 {
-    let volume = full_volume(stage, hall)?;
-    stage.shelf.put(stage.rt, volume);
+    if let Some(volume) = full_volume(stage, hall)? {
+        stage.shelf.put(stage.rt, volume);
+    }
     Ok(())
 }
 

@@ -5,7 +5,7 @@ ghost use Rattle.rk_talk.specs.Replies.{reply_bytes, LacksFrame, ReplyFramed, Ta
 
 use crate::frame::Frame;
 use rk_machine::Answer;
-use rk_message::Reply;
+use rk_message::{Reply, ReplyBytes};
 use rk_names::Errno;
 use std::alloc::{AllocError, Global};
 
@@ -19,6 +19,20 @@ fn reply_frame(alloc: Global, reply: &Reply) -> Result<Vec<u8>, AllocError>
     bytes.extend_from_slice(&(len as u32).to_be_bytes())?;
     reply.write_into(&mut bytes)?;
     Ok(bytes)
+}
+
+/// A payload with its length before it, in memory of its own.
+#[tactic(auto, unfolding(crate::specs::Replies::reply_bytes, rk_message::specs::Wire::spelled))]
+fn payload_frame(alloc: Global, payload: &ReplyBytes) -> Result<Vec<u8>, AllocError>
+    ensures { IfOk result (λ b. b.items ≡ reply_bytes (reply.Bytes payload.now)) }
+{
+    let bytes = payload.as_bytes();
+    let mut frame = Vec::with_capacity(alloc, 7 + bytes.len())?;
+    frame.extend_from_slice(&((3 + bytes.len()) as u32).to_be_bytes())?;
+    frame.push(1)?;
+    frame.extend_from_slice(&(bytes.len() as u16).to_be_bytes())?;
+    frame.extend_from_slice(bytes)?;
+    Ok(frame)
 }
 
 /// A number with its length before it, as most replies are. It takes no memory.
@@ -48,7 +62,8 @@ fn framed(alloc: Global, reply: &Reply) -> Result<Frame, AllocError>
     match reply {
         Reply::Number(number) => Ok(Frame::number(number_frame(*number))),
         Reply::Refused(errno) => Ok(Frame::refusal(refusal_frame(*errno))),
-        Reply::Bytes(_) | Reply::Rings { .. } => Ok(Frame::other(reply_frame(alloc, reply)?)),
+        Reply::Bytes(payload) => Ok(Frame::other(payload_frame(alloc, payload)?)),
+        Reply::Rings { .. } => Ok(Frame::other(reply_frame(alloc, reply)?)),
     }
 }
 

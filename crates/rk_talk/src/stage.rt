@@ -1,8 +1,8 @@
 //! What is around a session: what a worker shares with others, and what is its own.
 //!
 //! Every function from a connection's first byte to a handler's last reply wants most of it, so it stands in three structs: [`Stage`] is shared and
-//! never changes, [`Caller`] is who makes the calls, and [`Crew`] is a caller with the launcher of its handlers, and the room for what it reads. Which types they are of, a [`Platform`]
-//! says: the daemon has one, and each test its own.
+//! never changes, [`Caller`] is who makes the calls, and [`Crew`] is a caller with the launcher of its handlers and the room for what it reads. Which
+//! types they are of, a [`Platform`] says: the daemon has one, and each test its own.
 
 use crate::shelf::Shelf;
 use rk_conf::Conf;

@@ -292,6 +292,7 @@ impl Scene for Volumes {
     fn play<N: Names, R: Wait + Abort + Copy>(&self, rt: &R, alloc: Global, halls: Halls<N>) {
         let mut seat = halls.seat(rt).expect(rt, "a seat");
         let mut receipts = Vec::new(alloc);
+        rolls_none(rt, &halls);
         fills(rt, alloc, &halls, &mut seat, &mut receipts);
         let volume = rolls(rt, &halls);
         let fourth = adds(rt, alloc, &halls, &mut seat, b"d");
@@ -344,9 +345,16 @@ fn fills<N: Names, R: Wait + Abort>(
     same(rt, refused(rt, halls, seat, fourth), Some(CallFault::Full));
 }
 
+/// No volume of a hall that has places for any event.
+fn rolls_none<N: Names, R: Wait + Abort>(rt: &R, halls: &Halls<N>) {
+    let volume = halls.roll_full(rt, HallNo::Zero).expect(rt, "memory");
+    same(rt, volume.is_none(), true);
+}
+
 /// The volume of the five steps.
 fn rolls<N: Names, R: Wait + Abort>(rt: &R, halls: &Halls<N>) -> Volume<N> {
-    let volume = halls.roll(rt, HallNo::Zero).expect(rt, "a volume");
+    let volume = halls.roll_full(rt, HallNo::Zero).expect(rt, "memory");
+    let volume = volume.expect(rt, "a volume");
     same(
         rt,
         (volume.hall(), volume.index(), volume.before()),

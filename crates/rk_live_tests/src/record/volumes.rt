@@ -24,10 +24,11 @@ const NEXT: &[(u64, Happens, Said)] = &[
     (101, Happens::Gone, Said::Number(0)),
 ];
 
-/// Fills the first volume of a hall of six steps, and hands it out.
+/// Fills the first volume of a hall of six steps, and hands it out. Six are enough for any event, and the one that is left is not.
 fn rolled(rt: &impl Abort, alloc: Global, hall: &mut Hall) -> Volume {
+    same(rt, hall.has_places(), true);
     play(rt, alloc, hall, FILLED);
-    same(rt, hall.count(), 5);
+    same(rt, (hall.count(), hall.has_places()), (5, false));
     hall.roll().expect(rt, "a volume")
 }
 

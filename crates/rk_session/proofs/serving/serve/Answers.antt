@@ -1,6 +1,7 @@
-use Rattle.std.proofs.Common.{inl, inr, refl}
+use Rattle.std.proofs.Common.{inl, inr, refl, subst}
 use Rattle.rk_record.specs.declared.hall_no.HallNo.TheVariants.{Zero}
 use Rattle.rk_names.specs.declared.numbers.SessionId.TheVariants.{Client}
+use Rattle.rk_session.specs.Moving.{Moves}
 use Rattle.rk_session.specs.Places.{standing_of}
 use Rattle.rk_session.proofs.Seats.{came_and_went, left_clients, opened_clients}
 use Rattle.rk_session.proofs.serving.serve.Goals as goal
@@ -12,15 +13,17 @@ pub returns-clause-talked : goal.returns-clause-talked
 returns-clause-talked g c =
     inl (
       c.open.new.caller.seat,
-      standing_of c.talk-served.new.place c.talk-served.new.crew.caller.seat,
+      standing_of c.talk-served.new.visit.place c.talk-served.new.crew.caller.seat,
       c.in-None.ensures,
-      c.talk-served.ensures.talked,
+      rw c.new-visit.ensures.client at c.talk-served.ensures.talked,
       c.talk-served.ensures.sent,
       c.leave.ensures.left,
     )
 
 pub returns-clause-stays : goal.returns-clause-stays
 returns-clause-stays g c =
-    came_and_went Zero c.talk-served.new.place.hall c.args.crew.now.caller.seat c.open.new.caller.seat c.talk-served.new.crew.caller.seat c.leave.new.caller.seat
-    (opened_clients (Client c.args.client) Zero c.args.crew.now.caller.seat c.open.new.caller.seat c.in-None.ensures) c.talk-served.ensures.moves
-    (left_clients (Client c.args.client) c.talk-served.new.place.hall c.talk-served.new.crew.caller.seat c.leave.new.caller.seat c.leave.ensures.left)
+    came_and_went Zero c.talk-served.new.visit.place.hall c.args.crew.now.caller.seat c.open.new.caller.seat c.talk-served.new.crew.caller.seat c.leave.new.caller.seat
+    (opened_clients (Client c.args.client) Zero c.args.crew.now.caller.seat c.open.new.caller.seat c.in-None.ensures)
+    (subst (λ place. Moves place.hall c.talk-served.new.visit.place.hall c.open.new.caller.seat c.talk-served.new.crew.caller.seat)
+    c.new-visit.ensures.place c.talk-served.ensures.moves)
+    (left_clients (Client c.args.client) c.talk-served.new.visit.place.hall c.talk-served.new.crew.caller.seat c.leave.new.caller.seat c.leave.ensures.left)

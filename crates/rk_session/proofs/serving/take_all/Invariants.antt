@@ -10,12 +10,13 @@ use Rattle.rk_session.proofs.serving.take_all.Given as goal
 abbrev pub invariant-loop-served : goal.invariant-loop-served
 invariant-loop-served g l = record {
   bound : (g.P.Launcher.Launcher.shown l.crew.launcher).count ≤ most;
-  goes : GoesOn (Client l.client) (g.W.Wire.shown l.fn.wire) l.fn.frames.bytes (standing_of l.fn.place l.fn.crew.caller.seat) (g.W.Wire.shown l.wire)
-      l.frames.bytes (standing_of l.place l.crew.caller.seat);
+  goes : GoesOn (Client l.fn.visit.client) (g.W.Wire.shown l.fn.wire) l.fn.visit.frames.bytes (standing_of l.fn.visit.place l.fn.crew.caller.seat)
+      (g.W.Wire.shown l.wire) l.visit.frames.bytes (standing_of l.visit.place l.crew.caller.seat);
+  same : l.visit.client ≡ l.fn.visit.client;
   counts : Counts (g.W.Wire.shown l.fn.wire) (g.W.Wire.shown l.wire);
   reads : (g.W.Wire.shown l.wire).reads ≡ (g.W.Wire.shown l.fn.wire).reads;
-  moves : Moves l.fn.place.hall l.place.hall l.fn.crew.caller.seat l.crew.caller.seat;
+  moves : Moves l.fn.visit.place.hall l.visit.place.hall l.fn.crew.caller.seat l.crew.caller.seat;
 }
 
 abbrev pub decreases-loop-served : goal.decreases-loop-served
-decreases-loop-served g l = length l.frames.bytes
+decreases-loop-served g l = length l.visit.frames.bytes

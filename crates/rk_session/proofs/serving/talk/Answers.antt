@@ -1,4 +1,4 @@
-use Rattle.std.proofs.Common.{◌≡◌, sym, ap, ◌∙◌, subst, arith}
+use Rattle.std.proofs.Common.{◌≡◌, refl, sym, ap, ◌∙◌, subst, arith}
 use Rattle.std.specs.Prelude.{Err}
 use Rattle.rk_names.specs.declared.numbers.SessionId.TheVariants.{Client}
 use Rattle.rk_frame.specs.Streams.{IsPartial}
@@ -18,10 +18,11 @@ loop-init g c =
     let wire = g.W.Wire.shown c.args.wire.now in
     record {
       bound = c.requires.bound;
-      stands = subst (λ place. Stands (Client c.args.client) c.args.crew.now.caller.seat wire wire c.args.frames.bytes (standing_of place c.args.crew.now.caller.seat))
+      stands = subst (λ place. Stands (Client c.args.visit.now.client) c.args.crew.now.caller.seat wire wire c.args.visit.now.frames.bytes (standing_of place c.args.crew.now.caller.seat))
           (sym c.requires.first)
-          (subst (λ held. Stands (Client c.args.client) c.args.crew.now.caller.seat wire wire held (standing_of at_first c.args.crew.now.caller.seat))
-          (sym c.requires.frames.0) (stands_first (Client c.args.client) c.args.crew.now.caller.seat wire));
+          (subst (λ held. Stands (Client c.args.visit.now.client) c.args.crew.now.caller.seat wire wire held (standing_of at_first c.args.crew.now.caller.seat))
+          (sym c.requires.frames.0) (stands_first (Client c.args.visit.now.client) c.args.crew.now.caller.seat wire));
+      same = refl;
       is_partial = subst IsPartial (sym c.requires.frames.0) nothing_held;
       room = c.requires.frames.1;
       reads = raised_none _;
@@ -34,8 +35,8 @@ loop-init g c =
 
 pub returns-in-Err-clause-talked : goal.returns-in-Err-clause-talked
 returns-in-Err-clause-talked g c =
-    hears_talked (Client c.args.client) c.args.crew.now.caller.seat c.in-Err.served (g.W.Wire.shown c.args.wire.now) (g.W.Wire.shown c.loop.wire)
-    (g.W.Wire.shown c.hear.new.wire) c.loop.frames.bytes c.hear.new.piece (standing_of c.loop.place c.loop.crew.caller.seat) c.loop.invariant.stands
+    hears_talked (Client c.args.visit.now.client) c.args.crew.now.caller.seat c.in-Err.served (g.W.Wire.shown c.args.wire.now) (g.W.Wire.shown c.loop.wire)
+    (g.W.Wire.shown c.hear.new.wire) c.loop.visit.frames.bytes c.hear.new.piece (standing_of c.loop.visit.place c.loop.crew.caller.seat) c.loop.invariant.stands
     c.loop.invariant.is_partial c.in-Err.ensures.hears
 
 pub returns-in-Err-clause-fault : goal.returns-in-Err-clause-fault
@@ -57,17 +58,17 @@ returns-in-Err-clause-reads g c =
 
 pub returns-in-Err-take_all-clause-talked : goal.returns-in-Err-take_all-clause-talked
 returns-in-Err-take_all-clause-talked g c =
-    let here = standing_of c.loop.place c.loop.crew.caller.seat in
-    let last = standing_of c.take_all.new.place c.take_all.new.crew.caller.seat in
+    let here = standing_of c.loop.visit.place c.loop.crew.caller.seat in
+    let last = standing_of c.take_all.new.visit.place c.take_all.new.crew.caller.seat in
     let begun = g.W.Wire.shown c.args.wire.now in
-    parts_talked (Client c.args.client) c.in-Err-take_all.served c.part.result c.args.crew.now.caller.seat last begun (g.W.Wire.shown c.take_all.new.wire)
+    parts_talked (Client c.args.visit.now.client) c.in-Err-take_all.served c.part.result c.args.crew.now.caller.seat last begun (g.W.Wire.shown c.take_all.new.wire)
     (g.W.Wire.shown c.part.new.wire) (parts_in_turns c.in-Err-take_all.served _ c.in-Err-take_all.ensures.takes.0)
-    (stands_ends (Client c.args.client) c.in-Err-take_all.served c.args.crew.now.caller.seat last begun (g.W.Wire.shown c.hear.new.wire)
+    (stands_ends (Client c.args.visit.now.client) c.in-Err-take_all.served c.args.crew.now.caller.seat last begun (g.W.Wire.shown c.hear.new.wire)
     (g.W.Wire.shown c.take_all.new.wire) c.feed.new.self.bytes here
-    (stands_read (Client c.args.client) c.args.crew.now.caller.seat begun (g.W.Wire.shown c.loop.wire) (g.W.Wire.shown c.hear.new.wire) c.loop.frames.bytes
+    (stands_read (Client c.args.visit.now.client) c.args.crew.now.caller.seat begun (g.W.Wire.shown c.loop.wire) (g.W.Wire.shown c.hear.new.wire) c.loop.visit.frames.bytes
     c.feed.new.self.bytes c.hear.new.piece here c.in-Ok.count _ c.loop.invariant.stands c.loop.invariant.is_partial c.in-Ok.ensures.bound c.in-Ok.ensures.same
     c.in-Ok.ensures.hears c.in-Ok-feed.ensures.ok)
-    c.in-Err-take_all.ensures.takes.1)
+    (rw c.loop.invariant.same at c.in-Err-take_all.ensures.takes.1))
     c.part.ensures
 
 pub returns-in-Err-take_all-clause-fault : goal.returns-in-Err-take_all-clause-fault
@@ -96,10 +97,10 @@ returns-in-Err-take_all-clause-reads g c =
 
 pub returns-clause-talked : goal.returns-clause-talked
 returns-clause-talked g c =
-    parts_talked (Client c.args.client) TurnsUsed c.part-2.result c.args.crew.now.caller.seat (standing_of c.loop.place c.loop.crew.caller.seat)
+    parts_talked (Client c.args.visit.now.client) TurnsUsed c.part-2.result c.args.crew.now.caller.seat (standing_of c.loop.visit.place c.loop.crew.caller.seat)
     (g.W.Wire.shown c.args.wire.now) (g.W.Wire.shown c.loop.wire) (g.W.Wire.shown c.part-2.new.wire) tt
-    (used_ends (Client c.args.client) c.args.crew.now.caller.seat (g.W.Wire.shown c.args.wire.now) (g.W.Wire.shown c.loop.wire) c.loop.frames.bytes
-    (standing_of c.loop.place c.loop.crew.caller.seat) c.loop.invariant.stands c.loop.invariant.is_partial)
+    (used_ends (Client c.args.visit.now.client) c.args.crew.now.caller.seat (g.W.Wire.shown c.args.wire.now) (g.W.Wire.shown c.loop.wire) c.loop.visit.frames.bytes
+    (standing_of c.loop.visit.place c.loop.crew.caller.seat) c.loop.invariant.stands c.loop.invariant.is_partial)
     c.part-2.ensures
 
 pub returns-clause-fault : goal.returns-clause-fault
@@ -124,16 +125,17 @@ loop-preserved g c =
     let e = c.in-Ok-take_all.ensures in
     let i = c.loop.invariant in
     let is = hears_more c.in-Ok.count c.hear.new.piece (g.W.Wire.shown c.loop.wire) (g.W.Wire.shown c.hear.new.wire) c.in-Ok.ensures.hears in
-    let here = standing_of c.loop.place c.loop.crew.caller.seat in
+    let here = standing_of c.loop.visit.place c.loop.crew.caller.seat in
     record {
       bound = e.bound;
-      stands = stands_on (Client c.args.client) c.args.crew.now.caller.seat (g.W.Wire.shown c.args.wire.now) (g.W.Wire.shown c.hear.new.wire)
-          (g.W.Wire.shown c.take_all.new.wire) c.feed.new.self.bytes c.take_all.new.frames.bytes here
-          (standing_of c.take_all.new.place c.take_all.new.crew.caller.seat)
-          (stands_read (Client c.args.client) c.args.crew.now.caller.seat (g.W.Wire.shown c.args.wire.now) (g.W.Wire.shown c.loop.wire)
-          (g.W.Wire.shown c.hear.new.wire) c.loop.frames.bytes c.feed.new.self.bytes c.hear.new.piece here c.in-Ok.count _ i.stands i.is_partial
+      stands = stands_on (Client c.args.visit.now.client) c.args.crew.now.caller.seat (g.W.Wire.shown c.args.wire.now) (g.W.Wire.shown c.hear.new.wire)
+          (g.W.Wire.shown c.take_all.new.wire) c.feed.new.self.bytes c.take_all.new.visit.frames.bytes here
+          (standing_of c.take_all.new.visit.place c.take_all.new.crew.caller.seat)
+          (stands_read (Client c.args.visit.now.client) c.args.crew.now.caller.seat (g.W.Wire.shown c.args.wire.now) (g.W.Wire.shown c.loop.wire)
+          (g.W.Wire.shown c.hear.new.wire) c.loop.visit.frames.bytes c.feed.new.self.bytes c.hear.new.piece here c.in-Ok.count _ i.stands i.is_partial
           c.in-Ok.ensures.bound c.in-Ok.ensures.same c.in-Ok.ensures.hears c.in-Ok-feed.ensures.ok)
-          e.takes.0;
+          (rw i.same at e.takes.0);
+      same = e.same ∙ i.same;
       is_partial = e.takes.1;
       room = e.takes.2;
       reads = reads_more c.loop.counter _ _ _ _ i.reads is e.reads;

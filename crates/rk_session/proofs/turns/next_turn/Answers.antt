@@ -6,6 +6,7 @@ use Rattle.rk_session.proofs.turns.next_turn.Goals as goal
 
 pub returns-in-Err-clause-takes : goal.returns-in-Err-clause-takes
 returns-in-Err-clause-takes g c =
-    let h = subst (λ r. Leaves r c.args.frames.now c.next.follows.lender-at-none) c.in-Whole.is c.next.follows.holds-at-none in
-    turn_ends _ _ c.in-Err.served (g.W.Wire.shown c.args.wire.now) (g.W.Wire.shown c.turn.new.wire) _ _ (standing_of c.args.place.now c.args.crew.now.caller.seat) (standing_of c.turn.new.place c.turn.new.crew.caller.seat)
+    let h = subst (λ r. Leaves r c.args.visit.now.frames c.next.follows.lender-at-none) c.in-Whole.is c.next.follows.holds-at-none in
+    turn_ends _ _ c.in-Err.served (g.W.Wire.shown c.args.wire.now) (g.W.Wire.shown c.turn.new.wire) _ _ (standing_of c.args.visit.now.place c.args.crew.now.caller.seat)
+    (standing_of c.turn.new.place c.turn.new.crew.caller.seat)
     (record { is_body = h.0.0; front = h.0.1 }) c.in-Err.ensures.ends
