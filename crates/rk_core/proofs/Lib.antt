@@ -1,3 +1,4 @@
+mod Words
 pub mod LinksAndNames
 pub mod Vanishing
 pub mod Searching

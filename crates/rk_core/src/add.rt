@@ -6,9 +6,10 @@ ghost use Rattle.rk_core.specs.Finding.{answer_of, FindsRoom};
 ghost use Rattle.rk_core.specs.Sound.{IsSound};
 
 use crate::tables::Tables;
+use rk_keys::HashedName;
 use rk_machine::{Answer, Asker};
 use rk_message::Reply;
-use rk_names::{Description, DescriptionView, Errno, Payload, Serial, TypeName, TypeView};
+use rk_names::{Errno, Payload, Serial};
 use std::alloc::AllocError;
 
 impl Tables {
@@ -16,18 +17,14 @@ impl Tables {
     fn ring_with_room(
         &self,
         asker: &Asker,
-        typ: &TypeView<'_>,
-        description: &DescriptionView<'_>,
+        name: &HashedName<'_>,
         ring: i32,
         left: bool,
     ) -> Result<Serial, Errno>
-        ensures { FindsRoom self.now asker.now typ.now description.now ring left result }
+        ensures { FindsRoom self.now asker.now name.now.typ name.now.description ring left result }
     {
         let ring = self.ring(asker, ring)?;
-        if self.keys.is_full(asker.context.uid)
-            || !left
-            || self.is_full_at(ring, typ, description)
-        {
+        if self.keys.is_full(asker.context.uid) || !left || self.is_full_at(ring, name) {
             return Err(Errno::Edquot);
         }
         Ok(ring)
@@ -39,56 +36,36 @@ impl Tables {
     pub fn add(
         &mut self,
         asker: &Asker,
-        typ: TypeView<'_>,
-        description: DescriptionView<'_>,
+        name: &HashedName<'_>,
         payload: Payload,
         ring: i32,
     ) -> Result<Answer, Errno>
         requires sound { IsSound self.old }
-        ensures { Adds self.old asker.now typ.entry description.entry payload ring (answer_of result) self.new }
+        ensures { Adds self.old asker.now name.now.typ name.now.description payload ring (answer_of result) self.new }
     {
         let left = self.keys.left(1);
-        let ring = self.ring_with_room(asker, &typ, &description, ring, left)?;
-        match self.add_copy(asker, &typ, &description, payload, ring) {
+        let ring = self.ring_with_room(asker, name, ring, left)?;
+        match self.add_to(asker, name, payload, ring) {
             Ok(key) => Ok(Answer::Done(Reply::Number(key.get()))),
             Err(_) => Err(Errno::Enomem),
         }
     }
 
+    /// The key is made, with copies of the name, before anything changes.
     fn add_to(
         &mut self,
         asker: &Asker,
-        typ: TypeName,
-        description: Description,
+        name: &HashedName<'_>,
         payload: Payload,
         ring: Serial,
     ) -> Result<Serial, AllocError>
         requires sound { IsSound self.old }
-        requires room { is_full_at self.old ring typ description ≡ false }
-        ensures ok { IfOk result (λ k. AddsTo self.old asker.now typ description payload ring (Answer.Done (Reply.Number k)) self.new) }
+        requires room { is_full_at self.old ring name.now.typ name.now.description ≡ false }
+        ensures ok { IfOk result (λ k. AddsTo self.old asker.now name.now.typ name.now.description payload ring (Answer.Done (Reply.Number k)) self.new) }
         ensures err { OnErr result (self.new ≡ self.old) }
     {
-        let key = self.make_key(typ, description, asker.context.uid, payload)?;
+        let key = self.make_key(name, asker.context.uid, payload)?;
         self.link_in_room(ring, key);
         Ok(key)
-    }
-
-    /// The same with copies of the names, which are made before anything changes.
-    fn add_copy(
-        &mut self,
-        asker: &Asker,
-        typ: &TypeView<'_>,
-        description: &DescriptionView<'_>,
-        payload: Payload,
-        ring: Serial,
-    ) -> Result<Serial, AllocError>
-        requires sound { IsSound self.old }
-        requires room { is_full_at self.old ring typ.now description.now ≡ false }
-        ensures ok { IfOk result (λ k. AddsTo self.old asker.now typ.now description.now payload ring (Answer.Done (Reply.Number k)) self.new) }
-        ensures err { OnErr result (self.new ≡ self.old) }
-    {
-        let alloc = self.alloc;
-        let description = description.to_owned(alloc)?;
-        self.add_to(asker, typ.to_owned(), description, payload, ring)
     }
 }

@@ -78,11 +78,8 @@ impl Tables {
                 callout,
                 destination,
             } => {
-                let wanted = Wanted {
-                    typ,
-                    description,
-                    callout,
-                };
+                let name = self.keys.hashed(typ, description);
+                let wanted = Wanted { name, callout };
                 self.request(now, id, asker, &wanted, destination)
             }
             AskStep::Assume { key } => self.assume(id, key),
@@ -115,7 +112,10 @@ impl Tables {
                 description,
                 payload,
                 ring,
-            } => self.add(asker, typ, description, payload, ring),
+            } => {
+                let name = self.keys.hashed(typ, description);
+                self.add(asker, &name, payload, ring)
+            }
             AskStep::Callout => self.callout(id),
         }
     }

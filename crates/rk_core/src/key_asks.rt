@@ -51,19 +51,24 @@ fn state_word(standing: Standing) -> &'static str
     }
 }
 
-/// type;uid;state;description (keyctl_describe(3)).
+/// The most bytes between a type and a description: a uid of ten digits, a word of eight letters, and three semicolons.
+const BETWEEN: usize = 21;
+
+/// type;uid;state;description (keyctl_describe(3)). Its memory is taken at once.
 fn description(alloc: Global, fact: &Key, now: Moment) -> Result<Vec<u8>, AllocError>
     ensures bytes { IfOk result (λ bytes. bytes.items ≡ description_of now fact.now) }
     ensures short { IfOk result (λ bytes. length bytes.items ≤ 65533) }
 {
+    let (typ, description) = (fact.typ.as_bytes(), fact.description.as_bytes());
     let mut buffer = Buffer::new();
-    let mut bytes = fact.typ.as_bytes().to_vec(alloc)?;
+    let mut bytes = Vec::with_capacity(alloc, typ.len() + BETWEEN + description.len())?;
+    bytes.extend_from_slice(typ)?;
     bytes.push(b';')?;
     bytes.extend_from_slice(buffer.format(fact.owner).as_bytes())?;
     bytes.push(b';')?;
     bytes.extend_from_slice(state_word(fact.standing(now)).as_bytes())?;
     bytes.push(b';')?;
-    bytes.extend_from_slice(fact.description.as_bytes())?;
+    bytes.extend_from_slice(description)?;
     Ok(bytes)
 }
 

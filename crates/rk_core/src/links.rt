@@ -1,5 +1,5 @@
 //! Links of keys in rings, and the keys that vanish with their last link.
-ghost use Rattle.std.specs.Prelude.{◌≡◌, true, false, not, None, Some, ◌||◌, ◌&&◌, ◌==◌, MatchOption, ℕ};
+ghost use Rattle.std.specs.Prelude.{◌≡◌, true, false, None, Some, Ok, Err, ◌||◌, ◌==◌, MatchOption, ℕ};
 ghost use Rattle.std.specs.Option.{option_map_or};
 ghost use Rattle.std.specs.FinMap as map;
 ghost use Rattle.rk_rings.specs.Ring.{is_linked};
@@ -8,31 +8,31 @@ ghost use Rattle.rk_machine.specs.Links.{is_full_at, full_refusal, linked_in, un
 ghost use Rattle.rk_core.specs.Vanishing.{Links, PutsLink, StayBut, vanished_at, without_ring};
 
 use crate::tables::Tables;
-use rk_names::{DescriptionView, Errno, Serial, TypeView};
+use rk_keys::HashedName;
+use rk_names::{Errno, Serial};
+use rk_rings::RingFault;
 
-/// The key that was found, unless it is this one.
-fn other_than(found: Option<Serial>, key: Serial) -> Option<Serial>
-    ensures { (j : ℕ) → option_map_or (λ f. (j == f) && not (f == key)) found false ≡ option_map_or (λ r. j == r) result false }
+/// What a link that a ring refuses comes to: EDQUOT if the ring is full. A ring that is not there takes no link.
+fn unlinked(fault: RingFault) -> Result<Option<Serial>, Errno>
+    ensures full { fault ≡ RingFault.Full → result ≡ Err Errno.Edquot }
+    ensures absent { fault ≡ RingFault.NoRing → result ≡ Ok None }
 {
-    let found = found?;
-    if found == key { None } else { Some(found) }
+    match fault {
+        RingFault::Full => Err(Errno::Edquot),
+        _ => Ok(None),
+    }
 }
 
 impl Tables {
     /// Whether a ring has no room for a key of that name.
-    pub fn is_full_at(
-        &self,
-        ring: Serial,
-        typ: &TypeView<'_>,
-        description: &DescriptionView<'_>,
-    ) -> bool
-        ensures { result ≡ is_full_at self.now ring typ.now description.now }
+    pub fn is_full_at(&self, ring: Serial, name: &HashedName<'_>) -> bool
+        ensures { result ≡ is_full_at self.now ring name.now.typ name.now.description }
     {
-        self.rings.is_full(ring, self.keys.name(typ, description))
+        self.rings.is_full(ring, self.keys.name(name))
     }
 
-    /// Links a key in a ring, if one is given. The result is the key that gives way. EDQUOT if the ring is full; then nothing has changed. The number of
-    /// the key's name is looked up once.
+    /// Links a key in a ring, if one is given. The result is the key that gives way. EDQUOT if the ring is full; then nothing has changed. A ring that is
+    /// not there takes no link.
     pub fn put_link(&mut self, ring: &Option<Serial>, key: Serial) -> Result<Option<Serial>, Errno>
         requires { map.contains_key self.old.keys key ≡ true }
         ensures { PutsLink self.old ring.now key result self.new }
@@ -43,12 +43,10 @@ impl Tables {
         let Some(name) = self.keys.number(key) else {
             return Ok(None);
         };
-        if self.rings.is_full(*ring, Some(name)) {
-            return Err(Errno::Edquot);
+        match self.rings.link(*ring, key, name) {
+            Ok(rival) => Ok(rival),
+            Err(fault) => unlinked(fault),
         }
-        let rival = other_than(self.rings.find_in(*ring, name), key);
-        let _ = self.rings.link(*ring, key, name);
-        Ok(rival)
     }
 
     /// Takes the link of a key out of a ring.

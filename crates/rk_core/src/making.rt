@@ -10,27 +10,27 @@ ghost use Rattle.rk_core.specs.Sound.{IsSound};
 
 use crate::tables::Tables;
 use rk_auth::Authority;
-use rk_names::{Description, Payload, Serial, TypeName};
+use rk_keys::HashedName;
+use rk_names::{Payload, Serial};
 use std::alloc::AllocError;
 
 impl Tables {
     /// Makes a key that has its payload, with no link yet. A failed allocation changes nothing, and draws no serial.
     pub fn make_key(
         &mut self,
-        typ: TypeName,
-        description: Description,
+        name: &HashedName<'_>,
         owner: u32,
         payload: Payload,
     ) -> Result<Serial, AllocError>
         requires sound { IsSound self.old }
         ensures ok { IfOk result (λ k. self.new ≡ record (drawn k self.old) {
-          keys = map.insert self.old.keys k (new_key typ description owner (Some payload));
+          keys = map.insert self.old.keys k (new_key name.now.typ name.now.description owner (Some payload));
         }) }
         ensures fresh { IfOk result (λ k. IsFresh self.old.serials k) }
         ensures unlinked { IfOk result (λ k. has_link self.old.rings k ≡ false) }
         ensures err { OnErr result (self.new ≡ self.old) }
     {
-        let Ok(key) = self.keys.make(typ, description, owner, Some(payload)) else {
+        let Ok(key) = self.keys.make(name, owner, Some(payload)) else {
             return Err(AllocError);
         };
         Ok(key)
@@ -39,14 +39,13 @@ impl Tables {
     /// Makes a key under construction with its authority, and with no link yet. A failed allocation changes nothing, and draws no serial.
     pub fn make_construction(
         &mut self,
-        typ: TypeName,
-        description: Description,
+        name: &HashedName<'_>,
         authority: Authority,
     ) -> Result<Serial, AllocError>
         requires sound { IsSound self.old }
         requires shallow { authority.depth < 9 }
         ensures ok { IfOk result (λ k. self.new ≡ record (drawn k self.old) {
-          keys = map.insert self.old.keys k (new_key typ description authority.context.uid None);
+          keys = map.insert self.old.keys k (new_key name.now.typ name.now.description authority.context.uid None);
           sessions = with_construction k authority self.old.sessions;
         }) }
         ensures fresh { IfOk result (λ k. IsFresh self.old.serials k) }
@@ -55,7 +54,7 @@ impl Tables {
     {
         self.auths.reserve()?;
         let owner = authority.context.uid;
-        let Ok(key) = self.keys.make(typ, description, owner, None) else {
+        let Ok(key) = self.keys.make(name, owner, None) else {
             return Err(AllocError);
         };
         let _ = self.auths.issue(key, authority);

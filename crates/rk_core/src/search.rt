@@ -9,8 +9,8 @@ ghost use Rattle.rk_machine.specs.Search.{Query, same_error, errors};
 ghost use Rattle.rk_core.specs.Sought.{matched, IsSole, IsNumberOf, IsSought};
 
 use crate::tables::Tables;
-use rk_keys::{Keys, Standing};
-use rk_names::{Context, DescriptionView, KeyError, Moment, NameNo, Serial, TypeView};
+use rk_keys::{HashedName, Keys, Standing};
+use rk_names::{Context, KeyError, Moment, NameNo, Serial};
 use rk_rings::Rings;
 
 /// What a search comes to (request_key(2)).
@@ -141,20 +141,15 @@ impl Tables {
     /// Looks for the key of that name in one ring of the context after the other, up to the first hit. It takes no memory, and looks up the
     /// name once.
     #[inline(always)]
-    pub fn search(
-        &self,
-        context: &Context,
-        typ: &TypeView<'_>,
-        description: &DescriptionView<'_>,
-        now: Moment,
-    ) -> Sought
-        ensures { IsSought self.now (record { context = context.now; typ = typ.now; description = description.now; now = now }) (rings_of context.now) result }
+    pub fn search(&self, context: &Context, name: &HashedName<'_>, now: Moment) -> Sought
+        ensures { IsSought self.now (record { context = context.now; typ = name.now.typ; description = name.now.description; now = now })
+            (rings_of context.now) result }
     {
         let sought = Sought::Missed(Missed {
             block: None,
             stale: None,
         });
-        let Some(name) = self.keys.name(typ, description) else {
+        let Some(name) = self.keys.name(name) else {
             return sought;
         };
         let search = Search {

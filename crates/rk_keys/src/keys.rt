@@ -15,13 +15,12 @@ ghost use Rattle.rk_keys.specs.Faults.{use_fault, change_fault};
 use crate::by_name::Bucket;
 use crate::changes::{Conclude, Mark, Time};
 use crate::fault::KeyFault;
+use crate::hashed_name::HashedName;
 use crate::key::{Condition, Key, Standing};
 use crate::naming::{count_in, leave_name, number_of};
 use crate::owners::leave;
 use crate::serials::Serials;
-use rk_names::{
-    Description, DescriptionView, KeyError, Moment, NameNo, Payload, Serial, TypeName, TypeView,
-};
+use rk_names::{DescriptionView, KeyError, Moment, NameNo, Payload, Serial, TypeView};
 use rk_table::{Counts, HashTable};
 use std::alloc::{AllocError, Global};
 use std::marker::Model;
@@ -124,13 +123,22 @@ impl Keys {
         }
     }
 
-    /// The number of the name: live keys share one exactly if their type and description are equal. `None` if no live key has that name.
-    pub fn name(&self, typ: &TypeView<'_>, description: &DescriptionView<'_>) -> Option<NameNo>
-        ensures naming { IsNaming self.now.keys self.now.numbers }
-        ensures none { result ≡ None → (k : ℕ) → has_name self.now.keys k typ.now description.now ≡ false }
-        ensures some { IfSome result (λ n. (k : ℕ) × (has_name self.now.keys k typ.now description.now ≡ true) × (map.get self.now.numbers k ≡ Some n)) }
+    /// A name with its hash, with which these keys find it.
+    #[inline(always)]
+    pub fn hashed<'a>(&self, typ: TypeView<'a>, description: DescriptionView<'a>) -> HashedName<'a>
+        ensures { result ≡ record { typ = typ.entry; description = description.entry } }
     {
-        number_of(&self.by_name, self.seed, typ, description)
+        HashedName::new(self.seed, typ, description)
+    }
+
+    /// The number of the name: live keys share one exactly if their type and description are equal. `None` if no live key has that name.
+    pub fn name(&self, name: &HashedName<'_>) -> Option<NameNo>
+        ensures naming { IsNaming self.now.keys self.now.numbers }
+        ensures none { result ≡ None → (k : ℕ) → has_name self.now.keys k name.now.typ name.now.description ≡ false }
+        ensures some { IfSome result (λ n.
+            (k : ℕ) × (has_name self.now.keys k name.now.typ name.now.description ≡ true) × (map.get self.now.numbers k ≡ Some n)) }
+    {
+        number_of(&self.by_name, self.seed, name)
     }
 
     /// The number of the key's name; `None` if there is no key of that serial.
@@ -170,19 +178,18 @@ impl Keys {
         self.serials = serials;
     }
 
-    /// Makes a key of this user under the least unused serial, without expiry: under construction, or with a payload. Its name has the number of
+    /// Makes a key of this name and user under the least unused serial, without expiry: under construction, or with a payload. Its name has the number of
     /// the live keys of that name, else its own serial. Refusals: `Quota` exactly if the user has 200 keys or no serial is left (add_key(2),
     /// EDQUOT); else `NoMemory`. A refusal changes nothing, and draws no serial.
     pub fn make(
         &mut self,
-        typ: TypeName,
-        description: Description,
+        name: &HashedName<'_>,
         owner: u32,
         payload: Option<Payload>,
     ) -> Result<Serial, KeyFault>
-        ensures ok { IfOk result (λ k. IsNext self.old.serials k × Makes self.old k (new_key typ description owner payload) self.new) }
+        ensures ok { IfOk result (λ k. IsNext self.old.serials k × Makes self.old k (new_key name.now.typ name.now.description owner payload) self.new) }
         ensures naming { IsNaming self.old.keys self.old.numbers }
-        ensures number { IfOk result (λ k. IsNumberFor self.old typ description k (map.get self.new.numbers k)) }
+        ensures number { IfOk result (λ k. IsNumberFor self.old name.now.typ name.now.description k (map.get self.new.numbers k)) }
         ensures fresh { IfOk result (IsFresh self.old.serials) }
         ensures err { OnErr result (self.new ≡ self.old) }
         ensures quota { (result ≡ Err KeyFault.Quota) ↔ IsRefused self.old owner }
@@ -195,18 +202,21 @@ impl Keys {
         let Some(serial) = drawn.draw() else {
             return Err(KeyFault::Quota);
         };
+        let description = name.owned_description(self.alloc)?;
         reserve_one(&mut self.facts, &mut self.numbers, &mut self.counts)?;
         let number = count_in(
             &mut self.by_name,
             self.alloc,
             self.seed,
-            &typ,
+            name,
             &description,
             serial.get(),
         )?;
         self.numbers.insert(serial.get(), number);
-        self.facts
-            .insert(serial.get(), Key::new(typ, description, owner, payload));
+        self.facts.insert(
+            serial.get(),
+            Key::new(name.owned_typ(), description, owner, payload),
+        );
         self.counts.one_more(owner);
         self.serials = drawn;
         Ok(serial)

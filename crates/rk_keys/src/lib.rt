@@ -24,15 +24,16 @@
 //!
 //! `key` has one key and what it is at a moment, `serials` the serials, `fault` the refusals. `keys` puts three tables, the names by their hashes and
 //! the serials to draw together. `named` has what is kept of a name, its number and how many live keys have it, and `by_name` the names with one
-//! hash. `naming` hashes names, looks up their numbers, and counts keys in and out. So they are an index from type and description to serials, since
-//! the number of a name is the serial of the key with which the name came. The index grows in `make` alone. `owners` counts the keys of each user,
-//! `changes` has what happens to one key. What the specifications say of a key in few words, as `standing_of`, stands in `specs/Key.antt`, and of
-//! all keys in `specs/Known.antt`.
+//! hash. `hashed_name` is a name with its hash, which an ask takes once. `naming` hashes names, looks up their numbers, and counts keys in and out. So
+//! they are an index from type and description to serials, since the number of a name is the serial of the key with which the name came. The index
+//! grows in `make` alone. `owners` counts the keys of each user, `changes` has what happens to one key. What the specifications say of a key in few
+//! words, as `standing_of`, stands in `specs/Key.antt`, and of all keys in `specs/Known.antt`.
 #![tactic(auto)]
 
 mod by_name;
 mod changes;
 mod fault;
+mod hashed_name;
 mod key;
 mod keys;
 mod named;
@@ -41,6 +42,7 @@ mod owners;
 mod serials;
 
 pub use fault::KeyFault;
+pub use hashed_name::HashedName;
 pub use key::{Condition, Key, Standing};
 pub use keys::Keys;
 pub use serials::Serials;

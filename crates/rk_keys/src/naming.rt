@@ -7,9 +7,10 @@ ghost use Rattle.std.specs.FinMap as map;
 ghost use Rattle.rk_keys.specs.Buckets.{IsIndex, name_hash, fed_with, is_of, is_same, names_at, kept_of, recounted, count_of, number_in, counted_in, counted_out};
 
 use crate::by_name::{Bucket, Lose, Recount};
+use crate::hashed_name::HashedName;
 use crate::key::Key;
 use crate::named::Named;
-use rk_names::{Description, DescriptionView, NameNo, TypeName, TypeView};
+use rk_names::{Description, NameNo};
 use rk_table::HashTable;
 use std::alloc::{AllocError, Global};
 use std::hash::{FoldHasher, Hasher};
@@ -17,7 +18,7 @@ use std::hash::{FoldHasher, Hasher};
 /// The hash of a name. Who does not know the seed can't choose names whose hashes are equal.
 #[tactic(auto, unfolding(crate::specs::Buckets::name_hash))]
 #[inline(always)]
-fn hash_of(seed: u64, typ: &[u8], description: &[u8]) -> u32
+pub fn hash_of(seed: u64, typ: &[u8], description: &[u8]) -> u32
     ensures { result ≡ name_hash seed typ.now description.now }
 {
     let mut hasher = FoldHasher::default();
@@ -41,40 +42,37 @@ fn feed(hasher: &mut FoldHasher, bytes: &[u8])
 }
 
 /// The number that the live keys of this name share; `None` if none is kept.
-pub fn number_of(
-    by_name: &HashTable<Bucket>,
-    seed: u64,
-    typ: &TypeView<'_>,
-    description: &DescriptionView<'_>,
-) -> Option<NameNo>
-    ensures { result ≡ number_in (kept_of seed by_name.now.facts typ.now description.now) }
+pub fn number_of(by_name: &HashTable<Bucket>, seed: u64, name: &HashedName<'_>) -> Option<NameNo>
+    ensures { result ≡ number_in (kept_of seed by_name.now.facts name.now.typ name.now.description) }
 {
-    let (typ, description) = (typ.as_bytes(), description.as_bytes());
-    let hash = hash_of(seed, typ, description);
+    let (typ, description) = (name.typ(), name.description());
+    let hash = name.hash(seed);
     kept(by_name, hash, typ, description).map(|named| named.number)
 }
 
-/// Counts a new key to those of its name, and answers the number of the name: that which is kept, else the key's own serial. An `Err` changes nothing.
+/// Counts a new key to those of its name, and answers the number of the name: that which is kept, else the key's own serial. The first key of a name
+/// lends it its description. An `Err` changes nothing.
 pub fn count_in(
     by_name: &mut HashTable<Bucket>,
     alloc: Global,
     seed: u64,
-    typ: &TypeName,
+    name: &HashedName<'_>,
     description: &Description,
     serial: u32,
 ) -> Result<NameNo, AllocError>
-    requires few { count_of (kept_of seed by_name.old.facts typ.now description.now) < 4294967295 }
-    ensures ok { OnOk result ((t d : List ℕ) → kept_of seed by_name.new.facts t d ≡ (if is_same typ.now description.now t d
-        then Some (counted_in typ.now description.now serial (kept_of seed by_name.old.facts t d)) else kept_of seed by_name.old.facts t d)) }
-    ensures number { IfOk result (λ n. n ≡ unwrap_or (number_in (kept_of seed by_name.old.facts typ.now description.now)) serial) }
+    requires same { description.now ≡ name.now.description }
+    requires few { count_of (kept_of seed by_name.old.facts name.now.typ name.now.description) < 4294967295 }
+    ensures ok { OnOk result ((t d : List ℕ) → kept_of seed by_name.new.facts t d ≡ (if is_same name.now.typ name.now.description t d
+        then Some (counted_in name.now.typ name.now.description serial (kept_of seed by_name.old.facts t d)) else kept_of seed by_name.old.facts t d)) }
+    ensures number { IfOk result (λ n. n ≡ unwrap_or (number_in (kept_of seed by_name.old.facts name.now.typ name.now.description)) serial) }
     ensures err { OnErr result ((t d : List ℕ) → kept_of seed by_name.new.facts t d ≡ kept_of seed by_name.old.facts t d) }
 {
-    let (type_bytes, bytes) = (typ.as_bytes(), description.as_bytes());
-    let hash = hash_of(seed, type_bytes, bytes);
+    let (type_bytes, bytes) = (name.typ(), name.description());
+    let hash = name.hash(seed);
     let Some(named) = kept(by_name, hash, type_bytes, bytes) else {
         let number = NameNo(serial);
         let named = Named {
-            typ: typ.clone()?,
+            typ: name.owned_typ(),
             description: description.clone()?,
             number,
             keys: 1,

@@ -64,7 +64,8 @@ impl Model for Rings {
 }
 
 impl Rings {
-    ghost use Rattle.std.specs.Prelude.{◌≡◌, ◌≤◌, ◌<◌, ◌+◌, ◌↔◌, ◌⊎◌, ℕ, true, false, length, IsTrue, Some, None, Ok, Err, OnOk, OnErr, IfSome, IfErr};
+    ghost use Rattle.std.specs.Prelude.{◌≡◌, ◌≤◌, ◌<◌, ◌+◌, ◌↔◌, ◌⊎◌, ℕ, true, false, length, IsTrue, Some, None, Ok, Err, OnOk, OnErr, IfSome, IfErr, IfOk};
+    ghost use Rattle.std.specs.Bool.{MatchBool};
     ghost use Rattle.std.specs.Prelude.{MatchOption};
     ghost use Rattle.std.specs.FinMap as map;
     ghost use Rattle.std.specs.Option.{option_map, option_map_or, option_copied};
@@ -186,15 +187,21 @@ impl Rings {
         Ok(())
     }
 
-    /// Links a key in a ring, in the place of another key of that name. It takes no memory, and changes
+    /// Links a key in a ring, in the place of another key of that name, which is returned. It takes no memory, and changes
     /// nothing where the key is linked there already (keyctl_link(3); keyctl(2), `KEYCTL_LINK`).
     ///
     /// `NoRing` exactly if there is no such ring. `Full` exactly if the ring has 256 links, none of
     /// them to the key nor to one of that name. A refusal changes nothing.
-    pub fn link(&mut self, ring: Serial, key: Serial, name: NameNo) -> Result<(), RingFault>
+    pub fn link(
+        &mut self,
+        ring: Serial,
+        key: Serial,
+        name: NameNo,
+    ) -> Result<Option<Serial>, RingFault>
         ensures ok { OnOk result (self.new ≡ changed_at ring (linked key name) self.old) }
         ensures err { OnErr result (self.new ≡ self.old) }
         ensures no_ring { (result ≡ Err RingFault.NoRing) ↔ (map.contains_key self.old ring ≡ false) }
+        ensures rival { IfOk result (λ rival. MatchBool (holds self.old ring key) (rival ≡ None) (IsMatch self.old name (Some ring) rival)) }
         ensures full { (result ≡ Err RingFault.Full) ↔ ((is_full_at self.old ring (Some name) ≡ true) × (holds self.old ring key ≡ false)) }
         ensures others { IfErr result (λ f. (f ≡ RingFault.NoRing) ⊎ (f ≡ RingFault.Full)) }
     {
@@ -202,7 +209,7 @@ impl Rings {
             return Err(RingFault::NoRing);
         };
         if row.holds(key) {
-            return Ok(());
+            return Ok(None);
         }
         if row.is_full(Some(name)) {
             return Err(RingFault::Full);
@@ -211,7 +218,7 @@ impl Rings {
         self.rows.change(ring.get(), Link { key, name });
         count_gone(&mut self.counts, &rival);
         self.counts.one_more(key.get());
-        Ok(())
+        Ok(rival)
     }
 
     /// Takes out the link of a key from a ring. It takes no memory (keyctl_unlink(3)).

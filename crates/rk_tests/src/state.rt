@@ -1,4 +1,5 @@
-//! The libraries of the daemon's state, where no script shows them: `table` for rk_table, `rings` for rk_rings and `auths` for rk_auth.
+//! The libraries of the daemon's state, where no script shows them: `table` for rk_table, `keys` for rk_keys, `rings` for rk_rings and `auths` for rk_auth.
 mod auths;
+mod keys;
 mod rings;
 mod table;

@@ -1,18 +1,8 @@
 -- An ask that completes a key, step by step.
-use Rattle.std.proofs.Common.{◌≡◌, ℕ, refl, sym, ap, ◌∙◌}
-use Rattle.std.specs.Prelude.{ℤ, [], ◌∷◌, Option, Some, None, unwrap_or}
-use Rattle.rk_names.specs.declared.errors.Errno.{Errno}
-use Rattle.rk_keys.specs.declared.key.Condition.{Condition}
-use Rattle.rk_machine.specs.World.{World, tidied}
-use Rattle.rk_machine.specs.Allowed.{done, first_of}
-use Rattle.rk_machine.specs.declared.asker.Asker.{Asker}
-use Rattle.rk_machine.specs.declared.event.Answer.TheVariants.{Refused}
-use Rattle.rk_machine.specs.Asker.{serial_named, ring_for, own_refusal, ring_or_none_refusal}
-use Rattle.rk_machine.specs.Links.{full_refusal, linked_in}
-use Rattle.rk_machine.specs.Completion.{completed}
-use Rattle.rk_machine.specs.KeyAsks.{serial_in}
-use Rattle.rk_machine.specs.Asks.{completion_refusal, Completes}
-use Rattle.rk_machine.proofs.Found.Refusals.{only_one, unless_none, unless_some}
+use Rattle.rk_core.proofs.Words.{◌≡◌, ℕ, refl, sym, ap, ◌∙◌, ℤ, Option, Some, None, unwrap_or, Errno, Condition, World, tidied, done, first_of, Asker, Refused}
+use Rattle.rk_core.proofs.Words.{serial_named, ring_for, own_refusal, ring_or_none_refusal, full_refusal, linked_in, completed, serial_in, completion_refusal}
+use Rattle.rk_core.proofs.Words.{Completes, only_one, unless_none, unless_some}
+use Rattle.std.specs.Prelude.{[], ◌∷◌}
 
 pub serial_is : (key : ℤ) (k : ℕ) → serial_named key ≡ Some k → serial_in key ≡ k
 serial_is key k is = ap (λ (o : Option ℕ). unwrap_or o 0) is

@@ -1,17 +1,9 @@
 -- HELLO makes rings under serials that were never drawn, and takes no link away.
-use Rattle.std.proofs.Common.{◌≡◌, ℕ, Bool, true, false, cond, refl, sym, ap, ◌∙◌, inl, inr, subst}
-use Rattle.std.specs.Prelude.{Option, Some, None, nat_eq}
+use Rattle.rk_core.proofs.Words.{◌≡◌, ℕ, Bool, true, false, cond, refl, sym, ap, ◌∙◌, inl, inr, subst, Option, Some, None, nat_eq, eqb-true, both_ways}
+use Rattle.rk_core.proofs.Words.{RingKind, empty_ring, is_linked, World, Greeting, Makes, MakesIf, HasSessionRing, HasUserRing, MakesRings, get_inserted}
+use Rattle.rk_core.proofs.Words.{is_drawn, KeepsDrawn, if_drawn, session_drawn, user_drawn}
 use Rattle.std.specs.FinMap as map
-use Rattle.std.proofs.lemmas.Bool.{eqb-true, both_ways}
-use Rattle.rk_rings.specs.declared.kind.RingKind.{RingKind}
 use Rattle.rk_rings.specs.declared.kind.RingKind.TheVariants as kind
-use Rattle.rk_rings.specs.Ring.{empty_ring, is_linked}
-use Rattle.rk_machine.specs.World.{World}
-use Rattle.rk_message.specs.declared.greeting.Greeting.{Greeting}
-use Rattle.rk_machine.specs.Hello.{Makes, MakesIf, HasSessionRing, HasUserRing, MakesRings}
-use Rattle.rk_machine.proofs.Found.InMaps.{get_inserted}
-use Rattle.rk_machine.proofs.Effects.DrawnSerials.{is_drawn}
-use Rattle.rk_machine.proofs.Effects.SerialsStayDrawn.{KeepsDrawn, if_drawn, session_drawn, user_drawn}
 use Rattle.rk_core.proofs.LinksAndNames.LinksAfter.{has_key}
 use Rattle.rk_core.proofs.Stepping.UndrawnIsNothing.{none_inserted, apart}
 

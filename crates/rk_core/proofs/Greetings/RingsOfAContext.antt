@@ -1,22 +1,11 @@
 -- Rings that are to be made, with the numbers of names and without.
-use Rattle.std.proofs.Common.{◌≡◌, ℕ, zero, suc, false, cond, ◌||◌, List, [], ◌∷◌, ◌++◌, refl, sym, ap, ◌∙◌, subst, arith}
-use Rattle.std.specs.Prelude.{Option, Some, None, nat_eq, option_map}
-use Rattle.std.specs.Ordering.{nat_cmp}
+use Rattle.rk_core.proofs.Words.{◌≡◌, ℕ, zero, suc, false, cond, ◌||◌, List, [], ◌∷◌, ◌++◌, refl, sym, ap, ◌∙◌, subst, arith, Option, Some, None, nat_eq}
+use Rattle.rk_core.proofs.Words.{option_map, nat_cmp, nat_cmp_total, tie, Drawn, IsFresh, with_drawn, NewRing, Ring, empty_ring, Rings, ring_seen, rings_seen}
+use Rattle.rk_core.proofs.Words.{new_ring, with_rings, AreNew, some_key, one_less, get-rings_seen, contains_key-rings_seen, rings_seen-empty, rings_seen-insert}
+use Rattle.rk_core.proofs.Words.{rings_seen-remove, ring_seen-new_ring, World, Makes, with_all, AreAllNew, with_new_rings, AreNewRings, get_inserted, or_left}
+use Rattle.rk_core.proofs.Words.{or_right}
 use Rattle.std.specs.FinMap as map
 use Rattle.std.specs.FinSet as set
-use Rattle.std.specs.Cmp.{nat_cmp_total}
-use Rattle.rk_table.proofs.Entries.{tie}
-use Rattle.rk_keys.specs.Serials.{Drawn, IsFresh, with_drawn}
-use Rattle.rk_rings.specs.declared.kind.NewRing.{NewRing}
-use Rattle.rk_rings.specs.Ring.{Ring, empty_ring}
-use Rattle.rk_rings.specs.Numbered.{Rings, ring_seen, rings_seen, new_ring, with_rings, AreNew}
-use Rattle.rk_rings.proofs.Counts.{some_key, one_less}
-use Rattle.rk_rings.proofs.Seen.{get-rings_seen, contains_key-rings_seen, rings_seen-empty, rings_seen-insert, rings_seen-remove, ring_seen-new_ring}
-use Rattle.rk_machine.specs.World.{World}
-use Rattle.rk_machine.specs.Hello.{Makes}
-use Rattle.rk_core.specs.NewRings.{with_all, AreAllNew, with_new_rings, AreNewRings}
-use Rattle.rk_machine.proofs.Found.InMaps.{get_inserted}
-use Rattle.rk_machine.proofs.Found.Refusals.{or_left, or_right}
 
 -- ---- rings as they are seen
 

@@ -1,22 +1,11 @@
 -- The user ring of a uid: which it is, and that the other rings of a context are none.
-use Rattle.std.proofs.Common.{◌≡◌, ℕ, Bool, true, false, cond, ◌+◌, refl, sym, ap, ◌∙◌, subst, inl, inr}
-use Rattle.std.specs.Prelude.{Option, Some, None, is_none, nat_eq, option_map, MatchOption}
-use Rattle.std.specs.Option.{option_map_or}
-use Rattle.std.specs.Ordering.{nat_cmp}
+use Rattle.rk_core.proofs.Words.{◌≡◌, ℕ, Bool, true, false, cond, ◌+◌, refl, sym, ap, ◌∙◌, subst, inl, inr, Option, Some, None, is_none, nat_eq, option_map}
+use Rattle.rk_core.proofs.Words.{MatchOption, option_map_or, nat_cmp, both_ways, eqb-true, RingKind, Ring, empty_ring, is_users, Numbered, Rings, ring_seen}
+use Rattle.rk_core.proofs.Words.{rings_seen, is_user_ring, any_value, some_entry, entry_found, get-rings_seen, World, Greeting, has_user_ring, rings_made}
+use Rattle.rk_core.proofs.Words.{Makes, MakesIf, HasSessionRing, HasUserRing, MakesOr, IsUserRing, get_inserted}
 use Rattle.std.specs.FinMap as map
 use Rattle.std.specs.FinSet as set
-use Rattle.std.proofs.lemmas.Bool.{both_ways, eqb-true}
-use Rattle.rk_rings.specs.declared.kind.RingKind.{RingKind}
 use Rattle.rk_rings.specs.declared.kind.RingKind.TheVariants as kind
-use Rattle.rk_rings.specs.Ring.{Ring, empty_ring, is_users}
-use Rattle.rk_rings.specs.Numbered.{Numbered, Rings, ring_seen, rings_seen, is_user_ring}
-use Rattle.rk_rings.proofs.Finds.{any_value, some_entry, entry_found}
-use Rattle.rk_rings.proofs.Seen.{get-rings_seen}
-use Rattle.rk_machine.specs.World.{World}
-use Rattle.rk_message.specs.declared.greeting.Greeting.{Greeting}
-use Rattle.rk_machine.specs.Hello.{has_user_ring, rings_made, Makes, MakesIf, HasSessionRing, HasUserRing}
-use Rattle.rk_core.specs.NewRings.{MakesOr, IsUserRing}
-use Rattle.rk_machine.proofs.Found.InMaps.{get_inserted}
 use Rattle.rk_core.proofs.Greetings.RingsOfAContext.{not_used, still_none}
 
 -- ---- whether a uid has one

@@ -1,14 +1,8 @@
 -- Which keys the number of a name stands for.
-use Rattle.std.proofs.Common.{◌≡◌, ℕ, Bool, true, false, not, ◌&&◌, List, refl, sym, ap, ◌∙◌}
-use Rattle.std.specs.Prelude.{Option, Some, None, IfSome, nat_eq, option_map, unwrap_or, is_some, bytes_eq}
-use Rattle.std.specs.Option.{option_map_or}
-use Rattle.std.specs.Ordering.{nat_cmp}
+use Rattle.rk_core.proofs.Words.{◌≡◌, ℕ, Bool, true, false, not, ◌&&◌, List, refl, sym, ap, ◌∙◌, Option, Some, None, IfSome, nat_eq, option_map, unwrap_or}
+use Rattle.rk_core.proofs.Words.{is_some, bytes_eq, option_map_or, nat_cmp, and_parts, both_ways, bytes_eq-Decides, Key, is_named, has_name, is_rival, Known}
+use Rattle.rk_core.proofs.Words.{IsNaming}
 use Rattle.std.specs.FinMap as map
-use Rattle.std.proofs.lemmas.Bool.{and_parts, both_ways}
-use Rattle.std.proofs.lemmas.Slice.Eq.{bytes_eq-Decides}
-use Rattle.rk_keys.specs.declared.key.Key.{Key}
-use Rattle.rk_keys.specs.Key.{is_named, has_name, is_rival}
-use Rattle.rk_keys.specs.Known.{Known, IsNaming}
 
 -- a key has the name where its number is that of the name, None for a name that no key has
 abbrev pub IsNameOf : Known → List ℕ → List ℕ → Option ℕ → Type 0

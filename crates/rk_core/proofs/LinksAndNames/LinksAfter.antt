@@ -1,17 +1,9 @@
 -- Which keys have a link after a change of rings.
-use Rattle.std.proofs.Common.{◌≡◌, ℕ, Bool, true, false, cond, not, ◌&&◌, ◌||◌, refl, sym, ap, ◌∙◌}
-use Rattle.std.specs.Prelude.{Option, Some, None, nat_eq, option_map}
-use Rattle.std.specs.Option.{option_map_or}
-use Rattle.std.specs.Ordering.{nat_cmp, eq_by_cmp}
-use Rattle.std.specs.Cmp.{nat_cmp_total}
+use Rattle.rk_core.proofs.Words.{◌≡◌, ℕ, Bool, true, false, cond, not, ◌&&◌, ◌||◌, refl, sym, ap, ◌∙◌, Option, Some, None, nat_eq, option_map, option_map_or}
+use Rattle.rk_core.proofs.Words.{nat_cmp, eq_by_cmp, nat_cmp_total, eqb-true, eq-eqb, both_ways, changed_at, tie, Ring, is_linked, has_link, with_link}
+use Rattle.rk_core.proofs.Words.{without_link, without_links, any_value, some_entry, entry_found, get_changed_at, get_removed}
 use Rattle.std.specs.FinMap as map
 use Rattle.std.specs.FinSet as set
-use Rattle.std.proofs.lemmas.Bool.{eqb-true, eq-eqb, both_ways}
-use Rattle.rk_table.specs.Maps.{changed_at}
-use Rattle.rk_table.proofs.Entries.{tie}
-use Rattle.rk_rings.specs.Ring.{Ring, is_linked, has_link, with_link, without_link, without_links}
-use Rattle.rk_rings.proofs.Finds.{any_value, some_entry, entry_found}
-use Rattle.rk_machine.proofs.Found.InMaps.{get_changed_at, get_removed}
 
 -- the live rings, by their serials
 abbrev pub Rings : Type 0

@@ -1,28 +1,16 @@
 -- Links by the numbers of names, as the world sees them.
-use Rattle.std.proofs.Common.{◌≡◌, ◌⊎◌, ◌↔◌, ℕ, Bool, true, false, cond, not, ◌&&◌, ◌||◌, List, [], ◌∷◌, refl, sym, ap, ◌∙◌, inl, inr}
-use Rattle.std.specs.Prelude.{⊤, Option, Some, None, Result, Ok, Err, OnOk, OnErr, IfErr, nat_eq, nat_le, option_map, unwrap_or, is_some}
-use Rattle.std.specs.Option.{option_map_or}
-use Rattle.std.specs.List.{list_any}
-use Rattle.std.specs.Ordering.{nat_cmp, eq_by_cmp}
-use Rattle.std.specs.Cmp.{nat_cmp_total}
+use Rattle.rk_core.proofs.Words.{◌≡◌, ◌⊎◌, ℕ, Bool, true, false, cond, not, ◌&&◌, ◌||◌, List, [], ◌∷◌, refl, sym, ap, ◌∙◌, inl, inr, ⊤, Option, Some, None}
+use Rattle.rk_core.proofs.Words.{Result, Ok, Err, OnOk, OnErr, IfErr, nat_eq, nat_le, option_map, unwrap_or, is_some, option_map_or, list_any, nat_cmp}
+use Rattle.rk_core.proofs.Words.{eq_by_cmp, nat_cmp_total, eqb-true, eq-eqb, ne_eqb, both_ways, changed_at, Key, key_passes, has_name, is_rival, Known}
+use Rattle.rk_core.proofs.Words.{IsNaming, RingFault, Ring, is_linked, with_link, without_link, Numbered, Rings, ring_seen, rings_seen, holds, linked, unlinked}
+use Rattle.rk_core.proofs.Words.{has_number, IsMatch, tied, tied_itself, any_value, some_entry, entry_found, get-rings_seen, rings_seen-changed_at}
+use Rattle.rk_core.proofs.Words.{ring_seen-linked, contains-ring_seen, len-ring_seen, is_linked-rings_seen, contains_key-rings_seen, rings_seen-remove}
+use Rattle.rk_core.proofs.Words.{ring_seen-unlinked, GivesWay, NumbersAgree, is_full, holds_name, get_removed, MatchBool}
+use Rattle.std.proofs.Common.{◌↔◌}
 use Rattle.std.specs.FinMap as map
 use Rattle.std.specs.FinSet as set
-use Rattle.std.proofs.lemmas.Bool.{eqb-true, eq-eqb, ne_eqb, both_ways}
-use Rattle.rk_table.specs.Maps.{changed_at}
-use Rattle.rk_keys.specs.declared.key.Key.{Key}
-use Rattle.rk_keys.specs.Key.{key_passes, has_name, is_rival}
-use Rattle.rk_keys.specs.Known.{Known, IsNaming}
-use Rattle.rk_rings.specs.declared.fault.RingFault.{RingFault}
 use Rattle.rk_rings.specs.declared.fault.RingFault.TheVariants as fault
-use Rattle.rk_rings.specs.Ring.{Ring, is_linked, with_link, without_link}
-use Rattle.rk_rings.specs.Numbered.{Numbered, Rings, ring_seen, rings_seen, holds, linked, unlinked, has_number, IsMatch}
 use Rattle.rk_rings.specs.Numbered as numbered
-use Rattle.rk_rings.proofs.Finds.{tied, tied_itself, any_value, some_entry, entry_found}
-use Rattle.rk_rings.proofs.Seen.{get-rings_seen, rings_seen-changed_at, ring_seen-linked, contains-ring_seen, len-ring_seen, is_linked-rings_seen}
-use Rattle.rk_rings.proofs.Seen.{contains_key-rings_seen, rings_seen-remove, ring_seen-unlinked, GivesWay}
-use Rattle.rk_core.specs.Numbering.{NumbersAgree}
-use Rattle.rk_machine.specs.Links.{is_full, holds_name}
-use Rattle.rk_machine.proofs.Found.InMaps.{get_removed}
 use Rattle.rk_core.proofs.LinksAndNames.LinksAfter.{same_answer}
 use Rattle.rk_core.proofs.LinksAndNames.KeysOfAName.{IsNameOf, key_of, by_key, gives_way_by}
 
@@ -44,6 +32,10 @@ seen_linked known rings ring k n naming kept number =
     (λ r there. ring_seen-linked (is_rival known.keys k) k n r (way known rings ring k n r naming kept number there))
 
 -- ---- if there is room
+
+and_true : (b : Bool) → (b && true) ≡ b
+and_true true = refl
+and_true false = refl
 
 or_true : (b : Bool) → (b || true) ≡ true
 or_true true = refl
@@ -133,7 +125,8 @@ unnumbered known k p naming none = by_key (map.get known.keys k) (sym (naming.ea
 
 -- ---- the call that links
 
-not_there : (rings : Rings) (ring k : ℕ) (f : Ring → Ring) → map.contains_key rings ring ≡ false → changed_at ring f (rings_seen rings) ≡ rings_seen rings
+-- a change of a ring that is not there is seen as none
+pub not_there : (rings : Rings) (ring k : ℕ) (f : Ring → Ring) → map.contains_key rings ring ≡ false → changed_at ring f (rings_seen rings) ≡ rings_seen rings
 not_there rings ring k f h =
     ap (λ o. option_map_or (λ v. map.insert (rings_seen rings) ring (f v)) o (rings_seen rings)) (get-rings_seen rings ring ∙ none (map.get rings ring) h)
   where
@@ -141,24 +134,27 @@ not_there rings ring k f h =
     none None h = refl
     none (Some r) h = absurd (both_ways _ h refl)
 
--- if the ring has room for the key, the key is linked, or there is no ring
-pub link_seen : (known : Known) (rings new : Rings) (ring k n : ℕ) (key : Key) (r : Result ⊤ RingFault)
-    → IsNaming known.keys known.numbers → NumbersAgree known rings
-    → map.get known.keys k ≡ Some key → map.get known.numbers k ≡ Some n
-    → option_map_or (is_full known.keys key.typ key.description) (map.get (rings_seen rings) ring) false ≡ false
-    → OnOk r (new ≡ changed_at ring (linked k n) rings) → OnErr r (new ≡ rings) → ((r ≡ Err fault.NoRing) ↔ (map.contains_key rings ring ≡ false))
-    → ((r ≡ Err fault.Full) ↔ ((numbered.is_full_at rings ring (Some n) ≡ true) × (holds rings ring k ≡ false)))
-    → IfErr r (λ f. (f ≡ fault.NoRing) ⊎ (f ≡ fault.Full))
-    → rings_seen new ≡ changed_at ring (with_link (is_rival known.keys k) k) (rings_seen rings)
-link_seen known rings new ring k n key (Ok x) naming kept there number room ok err none full others =
-    ap rings_seen ok ∙ seen_linked known rings ring k n naming kept number
-link_seen known rings new ring k n key (Err f) naming kept there number room ok err none full others = by_fault others
+-- a conjunction with a false last part is false
+pub last_false : (a b : Bool) → b ≡ false → (a && b) ≡ false
+last_false true b h = h
+last_false false b h = refl
+
+-- a ring that holds the key has room for it
+pub held_has_room : (known : Known) (rings : Rings) (ring k n : ℕ) → NumbersAgree known rings → map.get known.numbers k ≡ Some n
+    → holds rings ring k ≡ true → numbered.is_full_at rings ring (Some n) ≡ false
+held_has_room known rings ring k n kept number held = by_ring (map.get rings ring) refl held
   where
-    by_fault : (f ≡ fault.NoRing) ⊎ (f ≡ fault.Full) → rings_seen new ≡ changed_at ring (with_link (is_rival known.keys k) k) (rings_seen rings)
-    by_fault (inl e) = ap rings_seen err ∙ sym (not_there rings ring k (with_link (is_rival known.keys k) k) (none.0 (ap (λ (x : RingFault). Err x) e)))
-    by_fault (inr e) =
-        absurd (both_ways _ room (sym (full_alike known rings ring key.typ key.description (Some n) kept (by_key known k n key naming there number))
-        ∙ (full.0 (ap (λ (x : RingFault). Err x) e)).0))
+    by_ring : (o : Option Numbered) → map.get rings ring ≡ o → option_map_or (λ (r : Numbered). map.contains_key r.links k) o false ≡ true
+        → option_map_or (numbered.is_full (Some n)) o false ≡ false
+    by_ring None is there = refl
+    by_ring (Some r) is there =
+        let m = some_there (map.get r.links k) there in
+        let same : Some m.0 ≡ Some n = sym (kept.numbered ring k m.0 r is m.1) ∙ number in
+        let mn : m.0 ≡ n = cc in
+        let named : has_number r n ≡ true =
+        any_value (λ m. nat_eq m n) r.links
+        ∙ some_entry (λ (e : ℕ × ℕ). nat_eq e.1 n) r.links k m.0 m.1 (ap (λ x. nat_eq x n) mn ∙ eq-eqb n n refl) in
+        last_false (nat_le 256 (map.len r.links)) (not (has_number r n)) (ap not named)
 
 -- ---- the key that gives way
 
@@ -175,11 +171,6 @@ not_linked rings ring k none = is_linked-rings_seen rings ring k ∙ ap (λ x. o
 both_false : (a b c : Bool) → b ≡ false → ((a && b) && c) ≡ false
 both_false true b c h = ap (λ x. x && c) h
 both_false false b c h = refl
-
--- a conjunction with a false last part is false
-pub last_false : (a b : Bool) → b ≡ false → (a && b) ≡ false
-last_false true b h = h
-last_false false b h = refl
 
 module _ (known : Known) (rings : Rings) (ring k n : ℕ) (naming : IsNaming known.keys known.numbers) (kept : NumbersAgree known rings)
     (number : map.get known.numbers k ≡ Some n) where
@@ -245,6 +236,43 @@ module _ (known : Known) (rings : Rings) (ring k n : ℕ) (naming : IsNaming kno
       by_ring None none =
           both_false (not (is_linked (rings_seen rings) ring k)) (is_linked (rings_seen rings) ring j) (is_rival known.keys k j) (not_linked rings ring j none)
       by_ring (Some r) there = by_link r there (map.get r.links j) refl
+
+  -- what a call that links tells is what gives way: nothing where the ring holds the key, and else what is found by the number
+  pub rival_told : (rival : Option ℕ) → MatchBool (holds rings ring k) (rival ≡ None) (IsMatch rings n (Some ring) rival) → (j : ℕ)
+      → ((not (is_linked (rings_seen rings) ring k) && is_linked (rings_seen rings) ring j) && is_rival known.keys k j)
+      ≡ option_map_or (λ r. nat_eq j r) rival false
+  rival_told rival told j = by_held (holds rings ring k) refl told
+    where
+      seen : (b : Bool) → holds rings ring k ≡ b → is_linked (rings_seen rings) ring k ≡ b
+      seen b is = is_linked-rings_seen rings ring k ∙ is
+
+      other : (rival : Option ℕ) → IsMatch rings n (Some ring) rival → holds rings ring k ≡ false
+          → option_map_or (λ f. nat_eq j f && not (nat_eq f k)) rival false ≡ option_map_or (λ r. nat_eq j r) rival false
+      other None h free = refl
+      other (Some f) h free =
+          ap (λ b. nat_eq j f && not b) (ne_eqb f k (λ e. both_ways _ free (
+          ap (λ o. option_map_or (λ (r : Numbered). map.contains_key r.links k) o false) h.1
+          ∙ ap (map.contains_key h.0.links) (sym e) ∙ ap is_some h.2)))
+          ∙ and_true (nat_eq j f)
+
+      by_held : (b : Bool) → holds rings ring k ≡ b → MatchBool b (rival ≡ None) (IsMatch rings n (Some ring) rival)
+          → ((not (is_linked (rings_seen rings) ring k) && is_linked (rings_seen rings) ring j) && is_rival known.keys k j)
+          ≡ option_map_or (λ r. nat_eq j r) rival false
+      by_held true is told =
+          ap (λ b. (not b && is_linked (rings_seen rings) ring j) && is_rival known.keys k j) (seen true is)
+          ∙ ap (λ o. option_map_or (λ r. nat_eq j r) o false) (sym told)
+      by_held false is told = rival_seen rival told j ∙ other rival told is
+
+  -- nothing gives way where there is no such ring
+  pub none_told : map.contains_key rings ring ≡ false → (j : ℕ)
+      → ((not (is_linked (rings_seen rings) ring k) && is_linked (rings_seen rings) ring j) && is_rival known.keys k j) ≡ false
+  none_told none j =
+      both_false (not (is_linked (rings_seen rings) ring k)) (is_linked (rings_seen rings) ring j) (is_rival known.keys k j)
+      (is_linked-rings_seen rings ring j ∙ by_ring (map.get rings ring) none)
+    where
+      by_ring : (o : Option Numbered) → is_some o ≡ false → option_map_or (λ (r : Numbered). map.contains_key r.links j) o false ≡ false
+      by_ring None h = refl
+      by_ring (Some r) h = absurd (both_ways true h refl)
 
 -- ---- the calls that take links out
 

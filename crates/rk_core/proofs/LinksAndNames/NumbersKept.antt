@@ -1,19 +1,10 @@
 -- The numbers of names stay in order where keys and rings change.
-use Rattle.std.proofs.Common.{◌≡◌, ◌⊎◌, ℕ, Bool, true, false, cond, List, [], ◌∷◌, refl, sym, ap, ◌∙◌, inl, inr, subst}
-use Rattle.std.specs.Prelude.{Option, Some, None, Result, Ok, Err, OnOk, OnErr, nat_eq, option_map, is_some}
-use Rattle.std.specs.Ordering.{nat_cmp}
+use Rattle.rk_core.proofs.Words.{◌≡◌, ◌⊎◌, ℕ, Bool, true, false, cond, List, [], ◌∷◌, refl, sym, ap, ◌∙◌, inl, inr, subst, Option, Some, None, Result, Ok, Err}
+use Rattle.rk_core.proofs.Words.{OnOk, OnErr, nat_eq, option_map, is_some, nat_cmp, eqb-true, both_ways, changed_at, Key, Known, IsNaming, without_key, NewRing}
+use Rattle.rk_core.proofs.Words.{Numbered, Rings, is_held, linked, unlinked, new_ring, with_rings, new_or_there, left_there, no_link, ring_there, any_value}
+use Rattle.rk_core.proofs.Words.{some_entry, entry_found, NumbersAgree, get_inserted, get_removed, get_changed_at}
 use Rattle.std.specs.FinMap as map
-use Rattle.std.proofs.lemmas.Bool.{eqb-true, both_ways}
-use Rattle.rk_table.specs.Maps.{changed_at}
-use Rattle.rk_keys.specs.declared.key.Key.{Key}
-use Rattle.rk_keys.specs.Known.{Known, Makes, IsNaming, without_key}
-use Rattle.rk_rings.specs.declared.kind.NewRing.{NewRing}
-use Rattle.rk_rings.specs.Numbered.{Numbered, Rings, is_held, linked, unlinked, new_ring, with_rings}
-use Rattle.rk_rings.proofs.Named.{new_or_there, left_there, no_link}
-use Rattle.rk_rings.proofs.Changed.{ring_there}
-use Rattle.rk_rings.proofs.Finds.{any_value, some_entry, entry_found}
-use Rattle.rk_core.specs.Numbering.{NumbersAgree}
-use Rattle.rk_machine.proofs.Found.InMaps.{get_inserted, get_removed, get_changed_at}
+use Rattle.rk_keys.specs.Known.{Makes}
 
 -- what came of a call, whatever it answered
 pub either_way : {A B : Type 0} (r : Result A B) (P Q : Type 0) → OnOk r P → OnErr r Q → P ⊎ Q

@@ -1,20 +1,8 @@
 -- The one key of a name in a ring, found by the number of the name.
-use Rattle.std.proofs.Common.{◌≡◌, ℕ, Bool, true, false, ◌&&◌, refl, sym, ap, ◌∙◌}
-use Rattle.std.specs.Prelude.{Option, Some, None, nat_eq, option_map, unwrap_or}
-use Rattle.std.specs.Option.{option_map_or}
+use Rattle.rk_core.proofs.Words.{◌≡◌, ℕ, Bool, true, false, ◌&&◌, refl, sym, ap, ◌∙◌, Option, Some, None, nat_eq, option_map, unwrap_or, option_map_or}
+use Rattle.rk_core.proofs.Words.{eqb-true, eq-eqb, ne_eqb, both_ways, Key, Standing, standing_of, key_passes, has_name, is_named, Known, IsNaming, is_linked}
+use Rattle.rk_core.proofs.Words.{Numbered, Rings, rings_seen, IsMatch, NumbersAgree, World, Query, answers, matched, IsSole, Match}
 use Rattle.std.specs.FinMap as map
-use Rattle.std.proofs.lemmas.Bool.{eqb-true, eq-eqb, ne_eqb, both_ways}
-use Rattle.rk_keys.specs.declared.key.Key.{Key}
-use Rattle.rk_keys.specs.declared.key.Standing.{Standing}
-use Rattle.rk_keys.specs.Key.{standing_of, key_passes, has_name, is_named}
-use Rattle.rk_keys.specs.Known.{Known, IsNaming}
-use Rattle.rk_rings.specs.Ring.{is_linked}
-use Rattle.rk_rings.specs.Numbered.{Numbered, Rings, rings_seen, IsMatch}
-use Rattle.rk_core.specs.Numbering.{NumbersAgree}
-use Rattle.rk_machine.specs.World.{World}
-use Rattle.rk_machine.specs.Search.{Query, answers}
-use Rattle.rk_core.specs.Sought.{matched, IsSole}
-use Rattle.rk_core.specs.declared.search.Match.{Match}
 use Rattle.rk_core.proofs.LinksAndNames.KeysOfAName.{IsNameOf, key_of}
 use Rattle.rk_core.proofs.LinksAndNames.LinksByNumber.{linked_is, not_linked, last_false}
 

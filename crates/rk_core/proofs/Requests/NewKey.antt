@@ -1,29 +1,12 @@
 -- A key that was just made: it has no link, and no handler yet.
-use Rattle.std.proofs.Common.{◌≡◌, ℕ, true, false, cond, not, ◌&&◌, refl, sym, ap, ◌∙◌}
-use Rattle.std.specs.Prelude.{Option, Some, None, nat_eq, nat_le, option_map, option_and_then, unwrap_or, is_some, List}
-use Rattle.std.specs.Option.{option_map_or}
-use Rattle.std.specs.Ordering.{nat_cmp}
+use Rattle.rk_core.proofs.Words.{◌≡◌, ℕ, true, false, cond, not, ◌&&◌, refl, sym, ap, ◌∙◌, Option, Some, None, nat_eq, nat_le, option_map, option_and_then}
+use Rattle.rk_core.proofs.Words.{unwrap_or, is_some, option_map_or, nat_cmp, both_ways, ne_eqb, nat_eq_equiv, SessionId, Handler, Key, has_name, is_named, Ring}
+use Rattle.rk_core.proofs.Words.{has_link, Authority, Construction, Starting, Sessions, session_of, handler_in, with_construction, Leads, its_own, further}
+use Rattle.rk_core.proofs.Words.{World, refused_if, is_full, is_full_at, is_full_for, holds_name, StayBut, get_inserted}
+use Rattle.std.specs.Prelude.{List}
 use Rattle.std.specs.FinMap as map
 use Rattle.std.specs.FinSet as set
-use Rattle.std.proofs.lemmas.Bool.{both_ways, ne_eqb}
-use Rattle.std.proofs.lemmas.Cmp.{nat_eq_equiv}
 use Rattle.rk_names.specs.declared.errors.Errno.TheVariants as errno
-use Rattle.rk_names.specs.declared.numbers.SessionId.{SessionId}
-use Rattle.rk_names.specs.declared.numbers.SessionId.TheVariants.{Handler}
-use Rattle.rk_keys.specs.declared.key.Key.{Key}
-use Rattle.rk_keys.specs.Key.{has_name, is_named}
-use Rattle.rk_rings.specs.Ring.{Ring, has_link}
-use Rattle.rk_auth.specs.declared.construction.Authority.{Authority}
-use Rattle.rk_auth.specs.declared.construction.Construction.{Construction}
-use Rattle.rk_auth.specs.declared.construction.Stage.TheVariants.{Starting}
-use Rattle.rk_auth.specs.Sessions.{Sessions, session_of, handler_in}
-use Rattle.rk_auth.specs.Changes.{with_construction}
-use Rattle.rk_auth.specs.Circles.{Leads, its_own, further}
-use Rattle.rk_machine.specs.World.{World}
-use Rattle.rk_machine.specs.Allowed.{refused_if}
-use Rattle.rk_machine.specs.Links.{is_full, is_full_at, is_full_for, holds_name}
-use Rattle.rk_core.specs.Vanishing.{StayBut}
-use Rattle.rk_machine.proofs.Found.InMaps.{get_inserted}
 use Rattle.rk_core.proofs.LinksAndNames.LinksAfter.{same_answer, tied_itself, link_somewhere, has_key}
 use Rattle.rk_core.proofs.Vanishing.OneByOne.{stays_by}
 use Rattle.rk_core.proofs.LinksAndNames.LinksByNumber.{item_passes, passing_item}

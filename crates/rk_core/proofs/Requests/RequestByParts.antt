@@ -1,29 +1,11 @@
 -- A request, step by step.
-use Rattle.std.proofs.Common.{◌≡◌, ℕ, Bool, true, false, not, List, [], ◌∷◌, refl, sym, ap, ◌∙◌, subst}
-use Rattle.std.specs.Prelude.{ℤ, Option, Some, None, option_map, unwrap_or, MatchOption}
-use Rattle.std.specs.Bool.{MatchBool}
+use Rattle.rk_core.proofs.Words.{◌≡◌, ℕ, Bool, true, false, not, List, [], ◌∷◌, refl, sym, ap, ◌∙◌, subst, ℤ, Option, Some, None, option_map, unwrap_or}
+use Rattle.rk_core.proofs.Words.{MatchOption, MatchBool, SessionId, Errno, key_errno, Says, Key, key_passes, is_building, HasSerials, rings_of, Answer, Refused}
+use Rattle.rk_core.proofs.Words.{Missed, World, Asker, ring_for, ring_or_none_refusal, first_of, OrNoMemory, Query, Hits, block_of, IsSought, start_refusal}
+use Rattle.rk_core.proofs.Words.{destination_of, Begins, Misses, MeetsBuilding, MeetsPositive, Meets, Requests, unless_none, unless_some}
 use Rattle.std.specs.FinMap as map
-use Rattle.rk_names.specs.declared.numbers.SessionId.{SessionId}
-use Rattle.rk_names.specs.declared.errors.Errno.{Errno}
-use Rattle.rk_names.specs.Numbers.{key_errno}
 use Rattle.rk_names.specs.declared.errors.KeyError.TheVariants as error
-use Rattle.rk_table.specs.Says.{Says}
-use Rattle.rk_keys.specs.declared.key.Key.{Key}
-use Rattle.rk_keys.specs.Key.{key_passes, is_building}
-use Rattle.rk_keys.specs.Serials.{HasSerials}
-use Rattle.rk_rings.specs.Places.{rings_of}
-use Rattle.rk_machine.specs.declared.event.Answer.{Answer}
-use Rattle.rk_machine.specs.declared.event.Answer.TheVariants.{Refused}
-use Rattle.rk_core.specs.declared.search.Missed.{Missed}
 use Rattle.rk_core.specs.declared.search.Sought.TheVariants as sought
-use Rattle.rk_machine.specs.World.{World}
-use Rattle.rk_machine.specs.declared.asker.Asker.{Asker}
-use Rattle.rk_machine.specs.Asker.{ring_for, ring_or_none_refusal}
-use Rattle.rk_machine.specs.Allowed.{first_of, OrNoMemory}
-use Rattle.rk_machine.specs.Search.{Query, Hits, block_of}
-use Rattle.rk_core.specs.Sought.{IsSought}
-use Rattle.rk_machine.specs.Request.{start_refusal, destination_of, Begins, Misses, MeetsBuilding, MeetsPositive, Meets, Requests}
-use Rattle.rk_machine.proofs.Found.Refusals.{unless_none, unless_some}
 
 module _ (old : World) (s : SessionId) (asker : Asker) (q : Query) (ring : ℕ) (missed : Missed)
     (found : IsSought old q (rings_of q.context) (sought.Missed missed)) where

@@ -1,31 +1,14 @@
 -- What is found in each ring tells what the search hits, and which errors there are.
-use Rattle.std.proofs.Common.{◌≡◌, ◌⊎◌, ℕ, Bool, true, false, cond, not, ◌&&◌, ◌||◌, List, [], ◌∷◌, ◌++◌, refl, sym, ap, ◌∙◌, inl, inr, subst}
-use Rattle.std.specs.Prelude.{Option, Some, None, nat_eq, option_map, option_to_list, unwrap_or, is_some, find}
-use Rattle.std.specs.Option.{option_map_or}
-use Rattle.std.specs.List.{list_any}
-use Rattle.std.specs.Ordering.{nat_cmp}
+use Rattle.rk_core.proofs.Words.{◌≡◌, ◌⊎◌, ℕ, Bool, true, false, cond, not, ◌&&◌, ◌||◌, List, [], ◌∷◌, ◌++◌, refl, sym, ap, ◌∙◌, inl, inr, subst, Option, Some}
+use Rattle.rk_core.proofs.Words.{None, nat_eq, option_map, option_to_list, unwrap_or, is_some, find, option_map_or, list_any, nat_cmp, and_parts, both_ways}
+use Rattle.rk_core.proofs.Words.{append-nil, list_any-append, KeyError, Context, Condition, Key, Standing, key_passes, is_named, is_building, builds, is_past}
+use Rattle.rk_core.proofs.Words.{standing_of, stands_by, Ring, is_linked, rings_of, World, Query, Hits, answers, is_live, is_hit, has_match, same_error, blocks}
+use Rattle.rk_core.proofs.Words.{is_stale, errors, IsSole, IsSought, error_in, Match, Missed, Sought}
 use Rattle.std.specs.FinMap as map
 use Rattle.std.specs.FinSet as set
-use Rattle.std.proofs.lemmas.Bool.{and_parts, both_ways}
-use Rattle.std.proofs.lemmas.List.{append-nil}
-use Rattle.std.proofs.lemmas.List.Folds.{list_any-append}
-use Rattle.rk_names.specs.declared.errors.KeyError.{KeyError}
 use Rattle.rk_names.specs.declared.errors.KeyError.TheVariants as error
-use Rattle.rk_names.specs.declared.context.Context.{Context}
-use Rattle.rk_keys.specs.declared.key.Condition.{Condition}
 use Rattle.rk_keys.specs.declared.key.Condition.TheVariants as condition
-use Rattle.rk_keys.specs.declared.key.Key.{Key}
-use Rattle.rk_keys.specs.declared.key.Standing.{Standing}
 use Rattle.rk_keys.specs.declared.key.Standing.TheVariants as standing
-use Rattle.rk_keys.specs.Key.{key_passes, is_named, is_building, builds, is_past, standing_of, stands_by}
-use Rattle.rk_rings.specs.Ring.{Ring, is_linked}
-use Rattle.rk_rings.specs.Places.{rings_of}
-use Rattle.rk_machine.specs.World.{World}
-use Rattle.rk_machine.specs.Search.{Query, Hits, answers, is_live, is_hit, has_match, same_error, blocks, is_stale, errors}
-use Rattle.rk_core.specs.Sought.{IsSole, IsSought, error_in}
-use Rattle.rk_core.specs.declared.search.Match.{Match}
-use Rattle.rk_core.specs.declared.search.Missed.{Missed}
-use Rattle.rk_core.specs.declared.search.Sought.{Sought}
 use Rattle.rk_core.specs.declared.search.Sought.TheVariants as sought
 use Rattle.rk_core.proofs.LinksAndNames.LinksByNumber.{item_passes, passing_item, last_false}
 use Rattle.rk_core.proofs.LinksAndNames.LinksAfter.{same_answer, tied_itself, has_key}

@@ -1,21 +1,9 @@
 -- What a key's handler may see of another key.
-use Rattle.std.proofs.Common.{◌≡◌, ◌⊎◌, ℕ, true, false, List, inl, inr, refl, sym, subst}
-use Rattle.std.specs.Prelude.{Option, Some, None, option_map, option_and_then, unwrap_or, MatchOption}
+use Rattle.rk_core.proofs.Words.{◌≡◌, ◌⊎◌, ℕ, true, false, List, inl, inr, refl, sym, subst, Option, Some, None, option_map, option_and_then, unwrap_or}
+use Rattle.rk_core.proofs.Words.{MatchOption, both_ways, Authority, unspent, Condition, Key, key_passes, is_building, builds, rings_of, World, Hits, positive}
+use Rattle.rk_core.proofs.Words.{Peeks, IsSought, Missed, Sought}
 use Rattle.std.specs.FinMap as map
-use Rattle.std.proofs.lemmas.Bool.{both_ways}
-use Rattle.rk_auth.specs.declared.construction.Authority.{Authority}
-use Rattle.rk_auth.specs.Sessions.{unspent}
-use Rattle.rk_keys.specs.declared.key.Condition.{Condition}
 use Rattle.rk_keys.specs.declared.key.Condition.TheVariants as condition
-use Rattle.rk_keys.specs.declared.key.Key.{Key}
-use Rattle.rk_keys.specs.Key.{key_passes, is_building, builds}
-use Rattle.rk_rings.specs.Places.{rings_of}
-use Rattle.rk_machine.specs.World.{World}
-use Rattle.rk_machine.specs.Search.{Hits}
-use Rattle.rk_machine.specs.Views.{positive, Peeks}
-use Rattle.rk_core.specs.Sought.{IsSought}
-use Rattle.rk_core.specs.declared.search.Missed.{Missed}
-use Rattle.rk_core.specs.declared.search.Sought.{Sought}
 use Rattle.rk_core.specs.declared.search.Sought.TheVariants as sought
 
 -- the payload of the key of a search's hit

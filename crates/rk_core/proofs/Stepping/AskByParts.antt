@@ -1,25 +1,9 @@
 -- The gate, for one who acts and for nobody.
-use Rattle.std.proofs.Common.{◌≡◌, ℕ, Bool, true, false, not, [], ◌∷◌, refl, sym, ap, ◌∙◌, subst}
-use Rattle.std.specs.Prelude.{ℤ, Option, Some, None, is_some, is_none, MatchOption, if◌then◌else◌}
-use Rattle.std.specs.Bool.{MatchBool}
-use Rattle.rk_names.specs.declared.numbers.SessionId.{SessionId}
-use Rattle.rk_names.specs.declared.numbers.SessionId.TheVariants.{Client, Handler}
-use Rattle.rk_names.specs.declared.errors.Errno.{Errno}
+use Rattle.rk_core.proofs.Words.{◌≡◌, ℕ, Bool, true, false, not, [], ◌∷◌, refl, sym, ap, ◌∙◌, subst, ℤ, Option, Some, None, is_some, is_none, MatchOption}
+use Rattle.rk_core.proofs.Words.{if◌then◌else◌, MatchBool, SessionId, Client, Handler, Errno, Ask, Asked, Answer, Refused, World, first_of, refused_if, Tells}
+use Rattle.rk_core.proofs.Words.{Unless, Asker, asker_of, Reads, gate, ask_refusal, Asking, Step, unless_some, only_one, session_refusal, is_hello, is_first}
 use Rattle.rk_names.specs.declared.errors.Errno.TheVariants as errno
-use Rattle.rk_message.specs.Ask.{Ask}
 use Rattle.rk_message.specs.declared.ask.AskOf.TheVariants as ask
-use Rattle.rk_machine.specs.declared.event.EventOf.TheVariants.{Asked}
-use Rattle.rk_machine.specs.declared.event.Answer.{Answer}
-use Rattle.rk_machine.specs.declared.event.Answer.TheVariants.{Refused}
-use Rattle.rk_machine.specs.World.{World}
-use Rattle.rk_machine.specs.Allowed.{first_of, refused_if, Tells, Unless}
-use Rattle.rk_machine.specs.declared.asker.Asker.{Asker}
-use Rattle.rk_machine.specs.Asker.{asker_of}
-use Rattle.rk_machine.specs.KeyAsks.{Reads}
-use Rattle.rk_machine.specs.Asks.{gate, ask_refusal, Asking}
-use Rattle.rk_machine.specs.Steps.{Step}
-use Rattle.rk_machine.proofs.Found.Refusals.{unless_some, only_one}
-use Rattle.rk_core.specs.Finding.{session_refusal, is_hello, is_first}
 
 -- ---- what the gate says
 

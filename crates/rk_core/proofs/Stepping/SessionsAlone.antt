@@ -1,10 +1,5 @@
 -- A change of the sessions alone, as the world sees it.
-use Rattle.std.proofs.Common.{◌≡◌, ℕ, ap, ◌∙◌}
-use Rattle.rk_keys.specs.Known.{Known}
-use Rattle.rk_rings.specs.Numbered.{Rings}
-use Rattle.rk_auth.specs.Sessions.{Sessions}
-use Rattle.rk_machine.specs.World.{World}
-use Rattle.rk_core.specs.Numbering.{world_of}
+use Rattle.rk_core.proofs.Words.{◌≡◌, ℕ, ap, ◌∙◌, Known, Rings, Sessions, World, world_of}
 
 -- a change of the sessions alone is that change of the world
 pub in_sessions : (negative : ℕ) (known : Known) (rings : Rings) (before after : Sessions) (w : World) (f : Sessions → Sessions)

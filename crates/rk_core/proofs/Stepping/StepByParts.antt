@@ -1,25 +1,9 @@
 -- A step, by what its call did.
-use Rattle.std.proofs.Common.{◌≡◌, ℕ, Bool, true, false, not, List, refl, sym, ap, subst}
-use Rattle.std.specs.Prelude.{Option, Some}
-use Rattle.std.specs.Bool.{MatchBool}
-use Rattle.std.proofs.lemmas.Bool.{both_ways}
+use Rattle.rk_core.proofs.Words.{◌≡◌, ℕ, Bool, true, false, not, List, refl, sym, ap, subst, Option, Some, MatchBool, both_ways, Stage, Starting, Plain, Piped}
+use Rattle.rk_core.proofs.Words.{Negating, stage_of, unspent, is_running, Launched, Ended, Ran, How, Answer, Negate, World, tidied, done, refused_if, ended}
+use Rattle.rk_core.proofs.Words.{condition_after, launched, may_launch, would_negate, negating, Ends, Step, follows, StayBut, unless_none}
 use Rattle.rk_names.specs.declared.errors.Errno.TheVariants as errno
-use Rattle.rk_auth.specs.declared.construction.Stage.{Stage}
-use Rattle.rk_auth.specs.declared.construction.Stage.TheVariants.{Starting, Plain, Piped, Negating}
-use Rattle.rk_auth.specs.Sessions.{stage_of, unspent, is_running}
 use Rattle.rk_auth.specs.Changes as sessions
-use Rattle.rk_machine.specs.declared.event.EventOf.TheVariants.{Launched, Ended}
-use Rattle.rk_machine.specs.declared.event.Ran.{Ran}
-use Rattle.rk_machine.specs.declared.event.How.{How}
-use Rattle.rk_machine.specs.declared.event.Answer.{Answer}
-use Rattle.rk_machine.specs.declared.event.Answer.TheVariants.{Negate}
-use Rattle.rk_machine.specs.World.{World, tidied}
-use Rattle.rk_machine.specs.Allowed.{done, refused_if}
-use Rattle.rk_machine.specs.Completion.{ended, condition_after}
-use Rattle.rk_machine.specs.Steps.{launched, may_launch, would_negate, negating, Ends, Step}
-use Rattle.rk_core.specs.Follows.{follows}
-use Rattle.rk_core.specs.Vanishing.{StayBut}
-use Rattle.rk_machine.proofs.Found.Refusals.{unless_none}
 use Rattle.rk_core.proofs.Vanishing.OneByOne.{all_stay}
 
 -- ---- a handler starts, and ends

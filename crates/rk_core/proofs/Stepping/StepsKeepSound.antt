@@ -1,41 +1,17 @@
 -- Every step keeps what holds of every world.
-use Rattle.std.proofs.Common.{◌≡◌, ℕ, Bool, true, false, cond, ◌||◌, refl, sym, ap, ◌∙◌, inl, inr, subst}
-use Rattle.std.specs.Prelude.{Option, Some, None, nat_eq, option_map, option_and_then, is_some}
+use Rattle.rk_core.proofs.Words.{◌≡◌, ℕ, Bool, true, false, cond, ◌||◌, refl, sym, ap, ◌∙◌, inl, inr, subst, Option, Some, None, nat_eq, option_map}
+use Rattle.rk_core.proofs.Words.{option_and_then, is_some, both_ways, Key, nat_cmp, is_building, Drawn, Negative, Client, with_context, completed, ended}
+use Rattle.rk_core.proofs.Words.{keys_ended, Sessions, new_session, has_link, Event, Answer, World, drawn, empty_world, IsSound, stays, StayBut, Construction}
+use Rattle.rk_core.proofs.Words.{Plain, Piped, new_key, linked_in, unlinked_in, cleared_in, query, waiting, started, with_key, with_key_changed, Step, gone}
+use Rattle.rk_core.proofs.Words.{built_marked, Effect, effect, IsMild, authority_for, refused, still, took, came, went, greets, begins, joins, links, unlinks}
+use Rattle.rk_core.proofs.Words.{marks, tells, sets, adds, assumes, concludes, ran_plain, ran_piped, negates, failed, finished, get_changed_at, is_drawn}
+use Rattle.rk_core.proofs.Words.{keeps_drawn, greeted_sessions, greeted_keys}
 use Rattle.std.specs.FinMap as map
 use Rattle.std.specs.FinSet as set
-use Rattle.std.proofs.lemmas.Bool.{both_ways}
-use Rattle.rk_keys.specs.declared.key.Key.{Key}
-use Rattle.std.specs.Ordering.{nat_cmp}
-use Rattle.rk_keys.specs.Key.{is_building}
-use Rattle.rk_keys.specs.Serials.{Drawn}
-use Rattle.rk_keys.specs.declared.key.Condition.TheVariants.{Negative}
 use Rattle.rk_names.specs.declared.errors.KeyError.TheVariants as error
-use Rattle.rk_names.specs.declared.numbers.SessionId.TheVariants.{Client}
-use Rattle.rk_auth.specs.Changes.{with_context, launched}
-use Rattle.rk_machine.specs.Completion.{completed, ended, keys_ended}
-use Rattle.rk_auth.specs.Sessions.{Sessions, new_session}
-use Rattle.rk_rings.specs.Ring.{has_link}
-use Rattle.rk_machine.specs.Event.{Event}
-use Rattle.rk_machine.specs.declared.event.Answer.{Answer}
-use Rattle.rk_machine.specs.World.{World, drawn, empty_world}
-use Rattle.rk_core.specs.Sound.{IsSound}
-use Rattle.rk_core.specs.Vanishing.{stays, StayBut}
-use Rattle.rk_auth.specs.declared.construction.Construction.{Construction}
-use Rattle.rk_auth.specs.declared.construction.Stage.TheVariants.{Plain, Piped}
-use Rattle.rk_keys.specs.Known.{new_key}
-use Rattle.rk_machine.specs.Links.{linked_in, unlinked_in, cleared_in}
-use Rattle.rk_machine.specs.Request.{query, waiting, started, with_key}
-use Rattle.rk_machine.specs.KeyAsks.{with_key_changed}
-use Rattle.rk_machine.specs.Steps.{Step, gone}
-use Rattle.rk_machine.proofs.Effects.BuildingAfter.{built_marked}
+use Rattle.rk_auth.specs.Changes.{launched}
 use Rattle.rk_core.proofs.Vanishing.WhichMayVanish.{still_stays}
 use Rattle.rk_core.proofs.Stepping.UnspentIsBuilding.{building_after}
-use Rattle.rk_machine.proofs.Effects.KindsOfStep.{Effect, effect, IsMild, authority_for, refused, still, took, came, went, greets, begins, joins, links}
-use Rattle.rk_machine.proofs.Effects.KindsOfStep.{unlinks, marks, tells, sets, adds, assumes, concludes, ran_plain, ran_piped, negates, failed, finished}
-use Rattle.rk_machine.proofs.Found.InMaps.{get_changed_at}
-use Rattle.rk_machine.proofs.Effects.DrawnSerials.{is_drawn}
-use Rattle.rk_machine.proofs.Effects.SerialsStayDrawn.{keeps_drawn}
-use Rattle.rk_machine.proofs.Effects.HelloChanges.{greeted_sessions, greeted_keys}
 use Rattle.rk_core.proofs.Greetings.HelloTakesNothing.{Grows, rings_grow}
 use Rattle.rk_core.proofs.Stepping.UndrawnIsNothing.{IsClear, none_changed, none_kept, none_inserted, none_linked, none_ended, free_changed, free_launched}
 use Rattle.rk_core.proofs.Stepping.UndrawnIsNothing.{free_concluded, free_ended, apart}

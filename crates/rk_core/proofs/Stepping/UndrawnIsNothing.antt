@@ -1,25 +1,11 @@
 -- A serial that was never drawn is that of no key, no ring and no construction.
-use Rattle.std.proofs.Common.{◌≡◌, ℕ, Bool, true, false, cond, ◌||◌, refl, sym, ap, ◌∙◌}
-use Rattle.std.specs.Prelude.{Option, Some, None, nat_eq, option_map, is_some}
-use Rattle.std.specs.Option.{option_map_or}
-use Rattle.std.specs.Ordering.{nat_cmp}
+use Rattle.rk_core.proofs.Words.{◌≡◌, ℕ, Bool, true, false, cond, ◌||◌, refl, sym, ap, ◌∙◌, Option, Some, None, nat_eq, option_map, is_some, option_map_or}
+use Rattle.rk_core.proofs.Words.{nat_cmp, SessionId, Client, Handler, changed_at, changed_all, kept_where, Key, Condition, concluded, Ring, Session, Stage}
+use Rattle.rk_core.proofs.Words.{Sessions, unspent, session_changed, in_handler, in_new_stage, spent, without_authority, without_construction, all_told, told}
+use Rattle.rk_core.proofs.Words.{World, drawn, rings_changed, outcome_of, announced, keys_ended, sessions_ended, expiry_after, get_inserted, get_removed}
+use Rattle.rk_core.proofs.Words.{get_changed_at, get_changed_all, get_kept_where, is_drawn, drawn_is}
 use Rattle.std.specs.FinMap as map
-use Rattle.rk_names.specs.declared.numbers.SessionId.{SessionId}
-use Rattle.rk_names.specs.declared.numbers.SessionId.TheVariants.{Client, Handler}
-use Rattle.rk_table.specs.Maps.{changed_at, changed_all, kept_where}
-use Rattle.rk_keys.specs.declared.key.Key.{Key}
-use Rattle.rk_keys.specs.declared.key.Condition.{Condition}
-use Rattle.rk_keys.specs.Known.{concluded}
-use Rattle.rk_rings.specs.Ring.{Ring}
-use Rattle.rk_auth.specs.declared.session.Session.{Session}
-use Rattle.rk_auth.specs.declared.construction.Stage.{Stage}
-use Rattle.rk_auth.specs.Sessions.{Sessions, unspent}
-use Rattle.rk_auth.specs.Changes.{session_changed, in_handler, in_new_stage, launched, spent, without_authority, without_construction, all_told, told}
-use Rattle.rk_machine.specs.World.{World, drawn}
-use Rattle.rk_machine.specs.Links.{rings_changed}
-use Rattle.rk_machine.specs.Completion.{outcome_of, announced, keys_ended, sessions_ended, expiry_after}
-use Rattle.rk_machine.proofs.Found.InMaps.{get_inserted, get_removed, get_changed_at, get_changed_all, get_kept_where}
-use Rattle.rk_machine.proofs.Effects.DrawnSerials.{is_drawn, drawn_is}
+use Rattle.rk_auth.specs.Changes.{launched}
 
 -- ---- maps
 

@@ -1,35 +1,14 @@
 -- An unspent authority is that of a key under construction, after every step.
-use Rattle.std.proofs.Common.{◌≡◌, ℕ, Bool, true, false, cond, refl, sym, ap, ◌∙◌, inl, inr, subst}
-use Rattle.std.specs.Prelude.{Option, Some, None, nat_eq, option_and_then, is_some}
-use Rattle.std.specs.Ordering.{nat_cmp}
+use Rattle.rk_core.proofs.Words.{◌≡◌, ℕ, Bool, true, false, cond, refl, sym, ap, ◌∙◌, inl, inr, subst, Option, Some, None, nat_eq, option_and_then, is_some}
+use Rattle.rk_core.proofs.Words.{nat_cmp, eqb-true, both_ways, nat_eq_equiv, Client, changed_at, Key, Negative, new_key, concluded, Ring, Authority}
+use Rattle.rk_core.proofs.Words.{Construction, Plain, Piped, Negating, Sessions, new_session, unspent, with_context, with_wait, new_wait, with_setting}
+use Rattle.rk_core.proofs.Words.{with_assumed, with_construction, Event, Answer, World, drawn, serial_named, linked_in, unlinked_in, cleared_in, keys_ended}
+use Rattle.rk_core.proofs.Words.{IsSound, rings_without, Effect, authority_for, refused, still, took, came, went, greets, begins, joins, links, unlinks, marks}
+use Rattle.rk_core.proofs.Words.{tells, sets, adds, assumes, concludes, ran_plain, ran_piped, negates, failed, finished, greeted_sessions, greeted_keys}
+use Rattle.rk_core.proofs.Words.{built_at, built_in, built_tidied, built_put, built_marked, built_concluded, unspent_changed, unspent_launched}
+use Rattle.rk_core.proofs.Words.{unspent_concluded, unspent_ended, unspent_issued}
 use Rattle.std.specs.FinMap as map
-use Rattle.std.proofs.lemmas.Bool.{eqb-true, both_ways}
-use Rattle.std.proofs.lemmas.Cmp.{nat_eq_equiv}
 use Rattle.rk_names.specs.declared.errors.KeyError.TheVariants as error
-use Rattle.rk_names.specs.declared.numbers.SessionId.TheVariants.{Client}
-use Rattle.rk_table.specs.Maps.{changed_at}
-use Rattle.rk_keys.specs.declared.key.Key.{Key}
-use Rattle.rk_keys.specs.declared.key.Condition.TheVariants.{Negative}
-use Rattle.rk_keys.specs.Known.{new_key, concluded}
-use Rattle.rk_rings.specs.Ring.{Ring}
-use Rattle.rk_auth.specs.declared.construction.Authority.{Authority}
-use Rattle.rk_auth.specs.declared.construction.Construction.{Construction}
-use Rattle.rk_auth.specs.declared.construction.Stage.TheVariants.{Plain, Piped, Negating}
-use Rattle.rk_auth.specs.Sessions.{Sessions, new_session, unspent}
-use Rattle.rk_auth.specs.Changes.{with_context, with_wait, new_wait, with_setting, with_assumed, with_construction}
-use Rattle.rk_machine.specs.Event.{Event}
-use Rattle.rk_machine.specs.declared.event.Answer.{Answer}
-use Rattle.rk_machine.specs.World.{World, drawn}
-use Rattle.rk_machine.specs.Asker.{serial_named}
-use Rattle.rk_machine.specs.Links.{linked_in, unlinked_in, cleared_in}
-use Rattle.rk_machine.specs.Completion.{keys_ended}
-use Rattle.rk_core.specs.Sound.{IsSound}
-use Rattle.rk_machine.specs.Steps.{rings_without}
-use Rattle.rk_machine.proofs.Effects.KindsOfStep.{Effect, authority_for, refused, still, took, came, went, greets, begins, joins, links, unlinks, marks}
-use Rattle.rk_machine.proofs.Effects.KindsOfStep.{tells, sets, adds, assumes, concludes, ran_plain, ran_piped, negates, failed, finished}
-use Rattle.rk_machine.proofs.Effects.HelloChanges.{greeted_sessions, greeted_keys}
-use Rattle.rk_machine.proofs.Effects.BuildingAfter.{built_at, built_in, built_tidied, built_put, built_marked, built_concluded}
-use Rattle.rk_machine.proofs.Effects.AuthoritiesAfter.{unspent_changed, unspent_launched, unspent_concluded, unspent_ended, unspent_issued}
 use Rattle.rk_core.proofs.Vanishing.WhichMayVanish.{other_key}
 
 -- if the authority of k alone is spent, and the condition of k alone changes

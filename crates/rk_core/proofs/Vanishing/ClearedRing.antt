@@ -1,19 +1,9 @@
 -- A ring is cleared link by link.
-use Rattle.std.proofs.Common.{◌≡◌, ℕ, zero, suc, Bool, true, false, cond, ◌-◌, ◌<◌, refl, sym, ap, ◌∙◌, arith}
-use Rattle.std.specs.Prelude.{Option, Some, None, nat_eq, option_map}
-use Rattle.std.specs.Option.{option_map_or}
-use Rattle.std.specs.Ordering.{nat_cmp}
-use Rattle.std.specs.Cmp.{nat_cmp_total}
+use Rattle.rk_core.proofs.Words.{◌≡◌, ℕ, zero, suc, Bool, true, false, cond, ◌-◌, ◌<◌, refl, sym, ap, ◌∙◌, arith, Option, Some, None, nat_eq, option_map}
+use Rattle.rk_core.proofs.Words.{option_map_or, nat_cmp, nat_cmp_total, eqb-true, both_ways, changed_at, Key, Ring, is_linked, without_link, without_links}
+use Rattle.rk_core.proofs.Words.{World, tidied, unlinked_in, cleared_in, stays, StayBut, get_changed_at}
 use Rattle.std.specs.FinMap as map
 use Rattle.std.specs.FinSet as set
-use Rattle.std.proofs.lemmas.Bool.{eqb-true, both_ways}
-use Rattle.rk_table.specs.Maps.{changed_at}
-use Rattle.rk_keys.specs.declared.key.Key.{Key}
-use Rattle.rk_rings.specs.Ring.{Ring, is_linked, without_link, without_links}
-use Rattle.rk_machine.specs.World.{World, tidied}
-use Rattle.rk_machine.specs.Links.{unlinked_in, cleared_in}
-use Rattle.rk_core.specs.Vanishing.{stays, StayBut}
-use Rattle.rk_machine.proofs.Found.InMaps.{get_changed_at}
 use Rattle.rk_core.proofs.LinksAndNames.LinksAfter.{links_kept, has_key, tied_itself}
 use Rattle.rk_core.proofs.Vanishing.OneByOne.{same_keys, get_tidied, all_stay, stays_by}
 use Rattle.rk_core.proofs.Vanishing.WhichMayVanish.{still_stays}

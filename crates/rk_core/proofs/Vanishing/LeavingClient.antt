@@ -1,21 +1,9 @@
 -- A client goes, and its rings one by one.
-use Rattle.std.proofs.Common.{◌≡◌, ℕ, Bool, true, false, cond, not, ◌&&◌, ◌||◌, refl, sym, ap, ◌∙◌}
-use Rattle.std.specs.Prelude.{Option, Some, None, nat_eq}
-use Rattle.std.specs.Option.{option_map_or}
-use Rattle.std.specs.Cmp.{nat_cmp_total}
+use Rattle.rk_core.proofs.Words.{◌≡◌, ℕ, Bool, true, false, cond, not, ◌&&◌, ◌||◌, refl, sym, ap, ◌∙◌, Option, Some, None, nat_eq, option_map_or, nat_cmp_total}
+use Rattle.rk_core.proofs.Words.{both_ways, Context, kept_where, Key, is_building, Ring, is_linked, has_link, is_shared, without_client, World, tidied}
+use Rattle.rk_core.proofs.Words.{context_of, is_ring, goes_with, rings_without, gone, stays, StayBut, removed_if, without_if, session_goes, get_removed}
+use Rattle.rk_core.proofs.Words.{get_kept_where}
 use Rattle.std.specs.FinMap as map
-use Rattle.std.proofs.lemmas.Bool.{both_ways}
-use Rattle.rk_names.specs.declared.context.Context.{Context}
-use Rattle.rk_table.specs.Maps.{kept_where}
-use Rattle.rk_keys.specs.declared.key.Key.{Key}
-use Rattle.rk_keys.specs.Key.{is_building}
-use Rattle.rk_rings.specs.Ring.{Ring, is_linked, has_link}
-use Rattle.rk_auth.specs.Sessions.{is_shared}
-use Rattle.rk_auth.specs.Changes.{without_client}
-use Rattle.rk_machine.specs.World.{World, tidied}
-use Rattle.rk_machine.specs.Steps.{context_of, is_ring, goes_with, rings_without, gone}
-use Rattle.rk_core.specs.Vanishing.{stays, StayBut, removed_if, without_if, session_goes}
-use Rattle.rk_machine.proofs.Found.InMaps.{get_removed, get_kept_where}
 use Rattle.rk_core.proofs.LinksAndNames.LinksAfter.{Rings, links_kept, has_key}
 use Rattle.rk_core.proofs.Vanishing.OneByOne.{same_keys, get_tidied, all_stay, stays_by}
 use Rattle.rk_core.proofs.Vanishing.WhichMayVanish.{still_stays}

@@ -1,18 +1,8 @@
 -- The keys that vanish, one by one.
-use Rattle.std.proofs.Common.{◌≡◌, ℕ, Bool, true, false, cond, not, ◌&&◌, ◌||◌, refl, sym, ap, ◌∙◌}
-use Rattle.std.specs.Prelude.{Option, Some, None, nat_eq, option_map, unwrap_or}
-use Rattle.std.specs.Option.{option_map_or}
-use Rattle.std.specs.Ordering.{nat_cmp}
-use Rattle.std.specs.Cmp.{nat_cmp_total}
+use Rattle.rk_core.proofs.Words.{◌≡◌, ℕ, Bool, true, false, cond, not, ◌&&◌, ◌||◌, refl, sym, ap, ◌∙◌, Option, Some, None, nat_eq, option_map, unwrap_or}
+use Rattle.rk_core.proofs.Words.{option_map_or, nat_cmp, nat_cmp_total, eqb-true, both_ways, nat_eq_equiv, Key, is_building, has_link, World, tidied, stays}
+use Rattle.rk_core.proofs.Words.{StayBut, vanished_at, get_kept_where, get_removed}
 use Rattle.std.specs.FinMap as map
-use Rattle.std.proofs.lemmas.Bool.{eqb-true, both_ways}
-use Rattle.std.proofs.lemmas.Cmp.{nat_eq_equiv}
-use Rattle.rk_keys.specs.declared.key.Key.{Key}
-use Rattle.rk_keys.specs.Key.{is_building}
-use Rattle.rk_rings.specs.Ring.{has_link}
-use Rattle.rk_machine.specs.World.{World, tidied}
-use Rattle.rk_core.specs.Vanishing.{stays, StayBut, vanished_at}
-use Rattle.rk_machine.proofs.Found.InMaps.{get_kept_where, get_removed}
 
 -- two worlds that have the same at each serial have the same keys
 pub same_keys : (m n : map.FinMap nat_cmp Key) → ((q : ℕ) → map.get m q ≡ map.get n q) → m ≡ n

@@ -1,21 +1,9 @@
 -- Which keys may vanish after a change of the world.
-use Rattle.std.proofs.Common.{◌≡◌, ℕ, Bool, true, false, cond, not, ◌&&◌, ◌||◌, refl, sym, ap, ◌∙◌}
-use Rattle.std.specs.Prelude.{Option, Some, None, nat_eq, option_map, unwrap_or, is_some}
-use Rattle.std.specs.Cmp.{nat_cmp_total}
+use Rattle.rk_core.proofs.Words.{◌≡◌, ℕ, Bool, true, false, cond, not, ◌&&◌, ◌||◌, refl, sym, ap, ◌∙◌, Option, Some, None, nat_eq, option_map, unwrap_or}
+use Rattle.rk_core.proofs.Words.{is_some, nat_cmp_total, both_ways, nat_eq_equiv, changed_at, Condition, key_passes, is_building, is_rival, concluded, unspent}
+use Rattle.rk_core.proofs.Words.{Ring, is_linked, has_link, without_links, World, tidied, linked_in, unlinked_in, cleared_in, completed, ended, keys_ended}
+use Rattle.rk_core.proofs.Words.{expiry_after, stays, StayBut, vanished_at, without_ring, rival_in, get_changed_at, get_removed}
 use Rattle.std.specs.FinMap as map
-use Rattle.std.proofs.lemmas.Bool.{both_ways}
-use Rattle.std.proofs.lemmas.Cmp.{nat_eq_equiv}
-use Rattle.rk_table.specs.Maps.{changed_at}
-use Rattle.rk_keys.specs.declared.key.Condition.{Condition}
-use Rattle.rk_keys.specs.Key.{key_passes, is_building, is_rival}
-use Rattle.rk_keys.specs.Known.{concluded}
-use Rattle.rk_auth.specs.Sessions.{unspent}
-use Rattle.rk_rings.specs.Ring.{Ring, is_linked, has_link, without_links}
-use Rattle.rk_machine.specs.World.{World, tidied}
-use Rattle.rk_machine.specs.Links.{linked_in, unlinked_in, cleared_in}
-use Rattle.rk_machine.specs.Completion.{completed, ended, keys_ended, expiry_after}
-use Rattle.rk_core.specs.Vanishing.{stays, StayBut, vanished_at, without_ring, rival_in}
-use Rattle.rk_machine.proofs.Found.InMaps.{get_changed_at, get_removed}
 use Rattle.rk_core.proofs.LinksAndNames.LinksAfter.{links_kept, stays_linked, stays_unlinked, cleared_alike}
 use Rattle.rk_core.proofs.Vanishing.OneByOne.{same_keys, get_tidied, one_settles, stays_by}
 

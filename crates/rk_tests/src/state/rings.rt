@@ -31,21 +31,21 @@ fn full_ring(alloc: Global) -> Rings {
 #[test]
 fn a_ring_has_room_for_256_links(rt: HostRuntime) {
     let mut rings = full_ring(rt.alloc());
-    for (key, name, fault) in [
-        (5_000, 256, Some(RingFault::Full)),
-        (5_000, 7, None),
-        (1_003, 999, None),
-        (5_001, 999, Some(RingFault::Full)),
+    for (key, name, linked) in [
+        (5_000, 256, Err(RingFault::Full)),
+        (5_000, 7, Ok(Some(serial(1_007)))),
+        (1_003, 999, Ok(None)),
+        (5_001, 999, Err(RingFault::Full)),
     ] {
-        let linked = rings.link(serial(1), serial(key), NameNo(name));
-        same(&rt, (key, linked.err()), (key, fault));
+        let told = rings.link(serial(1), serial(key), NameNo(name));
+        same(&rt, (key, told), (key, linked));
     }
     same(&rt, rings.holds(serial(1), serial(1_007)), false);
     same(&rt, rings.unlink(serial(1), serial(1_003)), Ok(()));
     same(
         &rt,
         rings.link(serial(1), serial(5_001), NameNo(256)),
-        Ok(()),
+        Ok(None),
     );
     same(&rt, rings.holds(serial(1), serial(5_001)), true);
 }
@@ -64,7 +64,11 @@ fn a_full_ring_takes_new_names_for_good(rt: HostRuntime) {
         let unlinked = rings.unlink(serial(1), of_number(&rt, 1_000 + turn));
         same(&rt, unlinked, Ok(()));
         let key = of_number(&rt, 1_256 + turn);
-        same(&rt, rings.link(serial(1), key, NameNo(256 + turn)), Ok(()));
+        same(
+            &rt,
+            rings.link(serial(1), key, NameNo(256 + turn)),
+            Ok(None),
+        );
     }
     for name in 100_000..100_256u32 {
         let key = rings.find_in(serial(1), NameNo(name));

@@ -1,6 +1,5 @@
 use mir.Val.{bool_byte}
-use Rattle.std.proofs.Common.{◌≡◌, Bool, true, false, cond, not, ◌+◌, sym, ap, ◌∙◌, refl}
-use Rattle.std.specs.Prelude.{is_none}
+use Rattle.rk_core.proofs.Words.{◌≡◌, Bool, true, false, cond, not, ◌+◌, sym, ap, ◌∙◌, refl, is_none}
 use Rattle.rk_core.proofs.Greetings.UserRing.{count_made}
 use Rattle.rk_core.proofs.hello.rings_made.Goals as goal
 

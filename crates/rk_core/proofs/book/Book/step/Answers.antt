@@ -1,6 +1,4 @@
-use Rattle.std.proofs.Common.{sym, subst}
-use Rattle.rk_machine.specs.Steps.{Past, Run}
-use Rattle.rk_machine.proofs.EveryRun.KeepsLaws.{continues}
+use Rattle.rk_core.proofs.Words.{sym, subst, Past, Run, continues}
 use Rattle.rk_core.proofs.Stepping.StepsKeepSound.{step_sound}
 use Rattle.rk_core.proofs.book.Book.step.Goals as goal
 

@@ -1,7 +1,5 @@
-use Rattle.std.proofs.Common.{◌++◌, sym, subst}
-use Rattle.std.specs.Prelude.{option_to_list}
+use Rattle.rk_core.proofs.Words.{◌++◌, sym, subst, option_to_list, IsSole, IsSought}
 use Rattle.rk_core.specs.declared.search.Sought.TheVariants as sought
-use Rattle.rk_core.specs.Sought.{IsSole, IsSought}
 use Rattle.rk_core.proofs.Searching.WhatIsHit.{with_nothing, with_positive, with_building, with_negative, with_revoked, with_expired}
 use Rattle.rk_core.proofs.search.Missed.with.Goals as goal
 

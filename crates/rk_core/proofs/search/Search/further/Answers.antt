@@ -1,5 +1,4 @@
-use Rattle.std.proofs.Common.{sym, ap, ◌∙◌, subst}
-use Rattle.rk_core.specs.Sought.{matched, IsSole, IsSought}
+use Rattle.rk_core.proofs.Words.{sym, ap, ◌∙◌, subst, matched, IsSole, IsSought}
 use Rattle.rk_core.proofs.Searching.WhatIsHit.{stays_hit}
 use Rattle.rk_core.proofs.search.Search.further.Goals as goal
 

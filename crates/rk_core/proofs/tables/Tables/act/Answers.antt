@@ -1,6 +1,4 @@
-use Rattle.std.proofs.Common.{◌≡◌, subst, rules, w32, to_z, of_z}
-use Rattle.rk_machine.specs.KeyAsks.{Reads}
-use Rattle.rk_core.specs.Finding.{answer_of}
+use Rattle.rk_core.proofs.Words.{◌≡◌, subst, rules, w32, to_z, of_z, Reads, answer_of}
 use Rattle.rk_core.proofs.Stepping.AskByParts.{reads_so}
 use Rattle.rk_core.proofs.tables.Tables.act.Goals as goal
 

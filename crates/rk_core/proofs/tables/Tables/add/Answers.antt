@@ -1,11 +1,4 @@
-use Rattle.std.proofs.Common.{ap, ◌∙◌, sym, subst, w32}
-use Rattle.std.proofs.lemmas.Int.{to_z-of_z}
-use Rattle.std.proofs.lemmas.Result.{err_from_is_err_and}
-use Rattle.rk_table.specs.Says.{Says}
-use Rattle.rk_keys.specs.Serials.{HasSerials}
-use Rattle.rk_machine.specs.World.{World}
-use Rattle.rk_machine.specs.KeyAsks.{add_refusal, Adds}
-use Rattle.rk_machine.proofs.Found.Refusals.{unless_some}
+use Rattle.rk_core.proofs.Words.{ap, ◌∙◌, sym, subst, w32, to_z-of_z, err_from_is_err_and, Says, HasSerials, World, add_refusal, Adds, unless_some}
 use Rattle.rk_core.proofs.tables.Tables.add.Goals as goal
 
 pub returns-in_err-ring : goal.returns-in_err-ring
@@ -18,5 +11,5 @@ returns-in_err-ring c =
     rw (error.1, error.2) (
       left,
       subst (λ (v : World). Says left (HasSerials v.serials 1)) c.self.view_is c.left-left.ensures,
-      unless_some _ _ w _ (sym (ap (λ n. add_refusal w c.args.asker.now c.args.typ c.args.description n left) number) ∙ c.in_err-ring.ensures),
+      unless_some _ _ w _ (sym (ap (λ n. add_refusal w c.args.asker.now c.args.name.now.typ c.args.name.now.description n left) number) ∙ c.in_err-ring.ensures),
     )

@@ -1,5 +1,4 @@
-use Rattle.std.proofs.Common.{sym, ◌∙◌}
-use Rattle.rk_core.specs.Finding.{answer_of}
+use Rattle.rk_core.proofs.Words.{sym, ◌∙◌, answer_of}
 use Rattle.rk_core.proofs.Stepping.AskByParts.{session_refused, acts_so, asks_first}
 use Rattle.rk_core.proofs.tables.Tables.ask.Goals as goal
 

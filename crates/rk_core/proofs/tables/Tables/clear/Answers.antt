@@ -1,7 +1,4 @@
-use Rattle.std.proofs.Common.{false, sym, ◌∙◌, subst}
-use Rattle.std.specs.Prelude.{Some}
-use Rattle.rk_machine.specs.Links.{unlinked_in}
-use Rattle.rk_core.specs.Vanishing.{StayBut}
+use Rattle.rk_core.proofs.Words.{false, sym, ◌∙◌, subst, Some, unlinked_in, StayBut}
 use Rattle.rk_core.proofs.Vanishing.ClearedRing.{tidied_stay, still_to_clear, fewer_links, all_cleared}
 use Rattle.rk_core.proofs.tables.Tables.clear.Goals as goal
 

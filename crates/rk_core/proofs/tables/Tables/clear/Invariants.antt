@@ -1,12 +1,6 @@
-use Rattle.std.proofs.Common.{◌≡◌, false}
-use Rattle.std.specs.Prelude.{Some}
-use Rattle.std.specs.Option.{option_map_or}
+use Rattle.rk_core.proofs.Words.{◌≡◌, false, Some, option_map_or, Ring, tidied, cleared_in, StayBut}
 use Rattle.std.specs.FinMap as map
 use Rattle.std.specs.FinSet as set
-use Rattle.rk_rings.specs.Ring.{Ring}
-use Rattle.rk_machine.specs.World.{tidied}
-use Rattle.rk_machine.specs.Links.{cleared_in}
-use Rattle.rk_core.specs.Vanishing.{StayBut}
 use Rattle.rk_core.proofs.tables.Tables.clear.Given as goal
 
 abbrev pub invariant-loop-key : goal.invariant-loop-key

@@ -1,20 +1,7 @@
-use Rattle.std.proofs.Common.{◌≡◌, ℕ, cond, true, false, sym, ap, ◌∙◌, refl}
-use Rattle.std.specs.Prelude.{Option, Some, None, is_some, option_map}
-use Rattle.std.specs.Option.{option_map_or, option_copied}
-use Rattle.std.specs.Ordering.{nat_cmp}
+use Rattle.rk_core.proofs.Words.{◌≡◌, ℕ, cond, true, false, sym, ap, ◌∙◌, refl, Option, Some, None, is_some, option_map, option_map_or, option_copied, nat_cmp}
+use Rattle.rk_core.proofs.Words.{both_ways, changed_at, Key, Condition, Known, concluded, Outcome, Sessions, spent, all_told, World, world_of, outcome_of}
+use Rattle.rk_core.proofs.Words.{completed, announced, get_changed_at}
 use Rattle.std.specs.FinMap as map
-use Rattle.std.proofs.lemmas.Bool.{both_ways}
-use Rattle.rk_table.specs.Maps.{changed_at}
-use Rattle.rk_keys.specs.declared.key.Key.{Key}
-use Rattle.rk_keys.specs.declared.key.Condition.{Condition}
-use Rattle.rk_keys.specs.Known.{Known, concluded}
-use Rattle.rk_auth.specs.declared.session.Outcome.{Outcome}
-use Rattle.rk_auth.specs.Sessions.{Sessions}
-use Rattle.rk_auth.specs.Changes.{spent, all_told}
-use Rattle.rk_machine.specs.World.{World}
-use Rattle.rk_core.specs.Numbering.{world_of}
-use Rattle.rk_machine.specs.Completion.{outcome_of, completed, announced}
-use Rattle.rk_machine.proofs.Found.InMaps.{get_changed_at}
 use Rattle.rk_core.proofs.LinksAndNames.LinksAfter.{tied_itself}
 use Rattle.rk_core.proofs.tables.Tables.complete.Goals as goal
 

@@ -1,16 +1,7 @@
-use Rattle.std.proofs.Common.{◌≡◌, ℕ, Bool, false, ◌||◌, refl, sym, ap, ◌∙◌, subst, w32, to_z, of_z}
-use Rattle.std.specs.Prelude.{[], ◌∷◌, Option, None, nat_eq}
-use Rattle.std.specs.Option.{option_map_or}
-use Rattle.std.proofs.lemmas.Int.{to_z-of_z}
-use Rattle.std.proofs.lemmas.Result.{err_from_is_err_and}
-use Rattle.rk_machine.specs.World.{World, tidied}
-use Rattle.rk_machine.specs.declared.asker.Asker.{Asker}
-use Rattle.rk_machine.specs.Allowed.{first_of}
-use Rattle.rk_machine.specs.Links.{full_refusal, linked_in}
-use Rattle.rk_machine.specs.Asker.{serial_named, ring_for, own_refusal, ring_or_none_refusal}
-use Rattle.rk_machine.specs.Asks.{Completes}
-use Rattle.rk_machine.specs.Completion.{completed}
-use Rattle.rk_core.specs.Vanishing.{StayBut}
+use Rattle.rk_core.proofs.Words.{◌≡◌, ℕ, Bool, false, ◌||◌, refl, sym, ap, ◌∙◌, subst, w32, to_z, of_z, Option, None, nat_eq, option_map_or, to_z-of_z}
+use Rattle.rk_core.proofs.Words.{err_from_is_err_and, World, tidied, Asker, first_of, full_refusal, linked_in, serial_named, ring_for, own_refusal}
+use Rattle.rk_core.proofs.Words.{ring_or_none_refusal, Completes, completed, StayBut}
+use Rattle.std.specs.Prelude.{[], ◌∷◌}
 use Rattle.rk_core.proofs.Vanishing.WhichMayVanish.{link_stay, completed_stay}
 use Rattle.rk_core.proofs.Completions.CompletionByParts.{completes_so, not_allowed}
 use Rattle.rk_core.proofs.tables.Tables.complete_key.Goals as goal

@@ -1,7 +1,4 @@
-use Rattle.std.proofs.Common.{ap, sym, ◌∙◌}
-use Rattle.rk_rings.specs.Places.{default_ring}
-use Rattle.rk_rings.proofs.SeenPlaces.{default_ring-rings_seen}
-use Rattle.rk_machine.specs.World.{World}
+use Rattle.rk_core.proofs.Words.{ap, sym, ◌∙◌, default_ring, default_ring-rings_seen, World}
 use Rattle.rk_core.proofs.tables.Tables.default_ring.Goals as goal
 
 pub returns : goal.returns

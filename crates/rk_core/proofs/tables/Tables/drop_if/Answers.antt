@@ -1,7 +1,4 @@
-use Rattle.std.proofs.Common.{ℕ, false, sym, ap, ◌∙◌, subst}
-use Rattle.std.specs.Prelude.{Option}
-use Rattle.rk_machine.specs.World.{tidied}
-use Rattle.rk_core.specs.Vanishing.{StayBut, without_ring, without_if}
+use Rattle.rk_core.proofs.Words.{ℕ, false, sym, ap, ◌∙◌, subst, Option, tidied, StayBut, without_ring, without_if}
 use Rattle.rk_core.proofs.Vanishing.OneByOne.{all_stay}
 use Rattle.rk_core.proofs.Vanishing.ClearedRing.{tidied_stay}
 use Rattle.rk_core.proofs.tables.Tables.drop_if.Goals as goal

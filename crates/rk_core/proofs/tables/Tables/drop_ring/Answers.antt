@@ -1,5 +1,4 @@
-use Rattle.std.proofs.Common.{◌∙◌, ap}
-use Rattle.rk_core.specs.Vanishing.{without_ring}
+use Rattle.rk_core.proofs.Words.{◌∙◌, ap, without_ring}
 use Rattle.rk_core.proofs.Vanishing.WhichMayVanish.{drop_tidies}
 use Rattle.rk_core.proofs.tables.Tables.drop_ring.Goals as goal
 

@@ -1,9 +1,4 @@
-use Rattle.std.proofs.Common.{◌≡◌, ℕ, Bool, true, false, ap, sym, ◌∙◌}
-use Rattle.std.specs.Prelude.{Option, Some, None, MatchOption}
-use Rattle.rk_rings.specs.Ring.{is_linked}
-use Rattle.rk_rings.specs.Numbered.{holds}
-use Rattle.rk_rings.proofs.Seen.{is_linked-rings_seen}
-use Rattle.rk_machine.specs.World.{World}
+use Rattle.rk_core.proofs.Words.{◌≡◌, ℕ, Bool, true, false, ap, sym, ◌∙◌, Option, Some, None, MatchOption, is_linked, holds, is_linked-rings_seen, World}
 use Rattle.rk_core.proofs.tables.Tables.first_key.Goals as goal
 
 -- what holds of one test holds of one that answers alike

@@ -1,9 +1,5 @@
-use Rattle.std.proofs.Common.{◌≡◌, ap, ◌∙◌}
+use Rattle.rk_core.proofs.Words.{◌≡◌, ap, ◌∙◌, rings_seen, World, world_of, without_ring}
 use Rattle.std.specs.FinMap as map
-use Rattle.rk_rings.specs.Numbered.{rings_seen}
-use Rattle.rk_machine.specs.World.{World}
-use Rattle.rk_core.specs.Numbering.{world_of}
-use Rattle.rk_core.specs.Vanishing.{without_ring}
 use Rattle.rk_core.proofs.LinksAndNames.NumbersKept.{kept_drop, either_way}
 use Rattle.rk_core.proofs.LinksAndNames.LinksByNumber.{drop_seen}
 use Rattle.rk_core.proofs.tables.Tables.forget_ring.Goals as goal

@@ -1,12 +1,7 @@
-use Rattle.std.proofs.Common.{refl, ap, ◌∙◌, subst}
+use Rattle.rk_core.proofs.Words.{refl, ap, ◌∙◌, subst, session_changed, with_context, Done, World, Greeting, MakesIf, HasSessionRing, HasUserRing}
+use Rattle.rk_core.proofs.Words.{with_new_rings}
 use Rattle.rk_message.specs.declared.reply.Reply.TheVariants.{Rings}
 use Rattle.rk_rings.specs.declared.kind.RingKind.TheVariants as kind
-use Rattle.rk_auth.specs.Changes.{session_changed, with_context}
-use Rattle.rk_machine.specs.declared.event.Answer.TheVariants.{Done}
-use Rattle.rk_machine.specs.World.{World}
-use Rattle.rk_message.specs.declared.greeting.Greeting.{Greeting}
-use Rattle.rk_machine.specs.Hello.{MakesIf, HasSessionRing, HasUserRing}
-use Rattle.rk_core.specs.NewRings.{with_new_rings}
 use Rattle.rk_core.proofs.Stepping.SessionsAlone.{in_sessions}
 use Rattle.rk_core.proofs.Greetings.RingsOfAContext.{new_at_first, none_made_yet}
 use Rattle.rk_core.proofs.Greetings.UserRing.{KeepsUsers, keeps_all, keeps_if, keeps_session, joined_or_made, user_made}

@@ -1,7 +1,4 @@
-use Rattle.std.proofs.Common.{ap, sym, ◌∙◌}
-use Rattle.rk_rings.specs.Ring.{has_link}
-use Rattle.rk_rings.proofs.Seen.{has_link-rings_seen}
-use Rattle.rk_machine.specs.World.{World}
+use Rattle.rk_core.proofs.Words.{ap, sym, ◌∙◌, has_link, has_link-rings_seen, World}
 use Rattle.rk_core.proofs.tables.Tables.has_link.Goals as goal
 
 pub returns : goal.returns

@@ -1,7 +1,5 @@
-use Rattle.std.proofs.Common.{ap, sym, ◌∙◌}
+use Rattle.rk_core.proofs.Words.{ap, sym, ◌∙◌, contains_key-rings_seen, World}
 use Rattle.std.specs.FinMap as map
-use Rattle.rk_rings.proofs.Seen.{contains_key-rings_seen}
-use Rattle.rk_machine.specs.World.{World}
 use Rattle.rk_core.proofs.tables.Tables.has_ring.Goals as goal
 
 pub returns : goal.returns

@@ -1,7 +1,5 @@
-use Rattle.std.proofs.Common.{◌≡◌, ◌+◌, ◌≤◌, sym, ap, ◌∙◌, subst}
-use Rattle.std.specs.Prelude.{◌↔◌, IsTrue}
+use Rattle.rk_core.proofs.Words.{◌≡◌, ◌+◌, ◌≤◌, sym, ap, ◌∙◌, subst, ◌↔◌, IsTrue, World}
 use Rattle.std.specs.FinMap as map
-use Rattle.rk_machine.specs.World.{World}
 use Rattle.rk_core.proofs.Greetings.RingsOfAContext.{len-rings_seen}
 use Rattle.rk_core.proofs.tables.Tables.has_room.Goals as goal
 

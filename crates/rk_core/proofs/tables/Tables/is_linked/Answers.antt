@@ -1,7 +1,4 @@
-use Rattle.std.proofs.Common.{ap, sym, ◌∙◌}
-use Rattle.rk_rings.specs.Ring.{is_linked}
-use Rattle.rk_rings.proofs.Seen.{is_linked-rings_seen}
-use Rattle.rk_machine.specs.World.{World}
+use Rattle.rk_core.proofs.Words.{ap, sym, ◌∙◌, is_linked, is_linked-rings_seen, World}
 use Rattle.rk_core.proofs.tables.Tables.is_linked.Goals as goal
 
 pub returns : goal.returns

@@ -1,5 +1,4 @@
-use Rattle.std.proofs.Common.{sym, ◌∙◌}
-use Rattle.rk_auth.specs.Changes.{without_client}
+use Rattle.rk_core.proofs.Words.{sym, ◌∙◌, without_client}
 use Rattle.rk_core.proofs.Stepping.SessionsAlone.{in_sessions}
 use Rattle.rk_core.proofs.Vanishing.LeavingClient.{leaves_alone, leaves_with}
 use Rattle.rk_core.proofs.tables.Tables.leave.Goals as goal

@@ -1,7 +1,4 @@
-use Rattle.std.proofs.Common.{ℕ, false, ap, ◌∙◌, subst, ◌||◌}
-use Rattle.std.specs.Prelude.{Option, nat_eq}
-use Rattle.std.specs.Option.{option_map_or}
-use Rattle.rk_core.specs.Vanishing.{StayBut, vanished_at}
+use Rattle.rk_core.proofs.Words.{ℕ, false, ap, ◌∙◌, subst, ◌||◌, Option, nat_eq, option_map_or, StayBut, vanished_at}
 use Rattle.rk_core.proofs.Vanishing.OneByOne.{one_settles, two_settle}
 use Rattle.rk_core.proofs.tables.Tables.let_both_vanish.Goals as goal
 

@@ -1,10 +1,4 @@
-use Rattle.std.proofs.Common.{◌≡◌, false, sym, ap, ◌∙◌, subst}
-use Rattle.rk_keys.specs.Known.{Known}
-use Rattle.rk_rings.specs.Ring.{has_link}
-use Rattle.rk_rings.specs.Numbered.{is_held}
-use Rattle.rk_rings.proofs.Seen.{has_link-rings_seen}
-use Rattle.rk_machine.specs.World.{World}
-use Rattle.rk_core.specs.Numbering.{NumbersAgree}
+use Rattle.rk_core.proofs.Words.{◌≡◌, false, sym, ap, ◌∙◌, subst, Known, has_link, is_held, has_link-rings_seen, World, NumbersAgree}
 use Rattle.rk_core.proofs.LinksAndNames.NumbersKept.{kept_forget}
 use Rattle.rk_core.proofs.tables.Tables.let_vanish.Goals as goal
 

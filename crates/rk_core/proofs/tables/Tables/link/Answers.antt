@@ -1,7 +1,4 @@
-use Rattle.std.proofs.Common.{false, ◌||◌, sym, subst}
-use Rattle.std.specs.Prelude.{Some, nat_eq}
-use Rattle.std.specs.Option.{option_map_or}
-use Rattle.rk_core.specs.Vanishing.{StayBut}
+use Rattle.rk_core.proofs.Words.{false, ◌||◌, sym, subst, Some, nat_eq, option_map_or, StayBut}
 use Rattle.rk_core.proofs.Vanishing.WhichMayVanish.{link_stay}
 use Rattle.rk_core.proofs.tables.Tables.link.Goals as goal
 

@@ -1,7 +1,4 @@
-use Rattle.std.proofs.Common.{ℕ, sym, ap, ◌∙◌}
-use Rattle.std.specs.Prelude.{Option}
-use Rattle.rk_machine.specs.World.{tidied}
-use Rattle.rk_machine.specs.Links.{full_refusal, linked_in}
+use Rattle.rk_core.proofs.Words.{ℕ, sym, ap, ◌∙◌, Option, tidied, full_refusal, linked_in}
 use Rattle.rk_core.proofs.Vanishing.OneByOne.{all_stay}
 use Rattle.rk_core.proofs.tables.Tables.link_if.Goals as goal
 

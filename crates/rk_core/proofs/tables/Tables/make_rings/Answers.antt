@@ -1,10 +1,5 @@
-use Rattle.std.proofs.Common.{◌≡◌, List, sym, ap, ◌∙◌, subst}
-use Rattle.rk_keys.specs.Known.{Known}
-use Rattle.rk_rings.specs.declared.kind.NewRing.{NewRing}
-use Rattle.rk_rings.specs.Numbered.{rings_seen, AreNew}
-use Rattle.rk_machine.specs.World.{World}
-use Rattle.rk_core.specs.Numbering.{NumbersAgree, world_of}
-use Rattle.rk_core.specs.NewRings.{with_all, AreAllNew, with_new_rings}
+use Rattle.rk_core.proofs.Words.{◌≡◌, List, sym, ap, ◌∙◌, subst, Known, NewRing, rings_seen, AreNew, World, NumbersAgree, world_of, with_all, AreAllNew}
+use Rattle.rk_core.proofs.Words.{with_new_rings}
 use Rattle.rk_core.proofs.LinksAndNames.NumbersKept.{kept_rings, kept_numbers}
 use Rattle.rk_core.proofs.Greetings.RingsOfAContext.{all_new, with_all_seen}
 use Rattle.rk_core.proofs.tables.Tables.make_rings.Goals as goal

@@ -1,22 +1,16 @@
-use Rattle.std.proofs.Common.{ap, ◌∙◌, refl, inl, inr, subst}
-use Rattle.std.proofs.lemmas.Result.{err_from_is_err_and}
-use Rattle.rk_names.specs.Numbers.{key_errno}
-use Rattle.rk_table.specs.Says.{Says}
-use Rattle.rk_keys.specs.Serials.{HasSerials}
-use Rattle.rk_machine.specs.World.{World}
-use Rattle.rk_machine.specs.Search.{Query}
+use Rattle.rk_core.proofs.Words.{ap, ◌∙◌, refl, inl, inr, subst, err_from_is_err_and, key_errno, Says, HasSerials, World, Query}
 use Rattle.rk_core.proofs.Requests.RequestByParts.{told_error, start_refused, start_allowed}
 use Rattle.rk_core.proofs.tables.Tables.miss.Goals as goal
 
 pub returns-in_default : goal.returns-in_default
 returns-in_default c = λ now found.
-    let q : Query = record { context = c.args.asker.now.context; typ = c.args.wanted.now.typ; description = c.args.wanted.now.description; now = now } in
+    let q : Query = record { context = c.args.asker.now.context; typ = c.args.wanted.now.name.typ; description = c.args.wanted.now.name.description; now = now } in
     told_error c.args.self.now c.args.id.now c.args.asker.now q c.args.ring c.args.missed.now found c.args.wanted.now.callout c.errno.result c.in_default.is
     (c.errno.ensures ∙ ap key_errno c.error.ensures)
 
 pub returns-in_err-may_start : goal.returns-in_err-may_start
 returns-in_err-may_start c = λ now found.
-    let q : Query = record { context = c.args.asker.now.context; typ = c.args.wanted.now.typ; description = c.args.wanted.now.description; now = now } in
+    let q : Query = record { context = c.args.asker.now.context; typ = c.args.wanted.now.name.typ; description = c.args.wanted.now.name.description; now = now } in
     let says = subst (λ (w : World). Says c.left-left.result (HasSerials w.serials 1)) c.self.view_is c.left-left.ensures in
     let error = err_from_is_err_and c.from_residual.result c.from_residual.ensures.1 in
     rw (error.1, error.2) (start_refused c.args.self.now c.args.id.now c.args.asker.now q c.args.ring c.args.missed.now found c.args.wanted.now.callout
@@ -24,7 +18,7 @@ returns-in_err-may_start c = λ now found.
 
 pub returns-in-Ok : goal.returns-in-Ok
 returns-in-Ok c = λ now found.
-    let q : Query = record { context = c.args.asker.now.context; typ = c.args.wanted.now.typ; description = c.args.wanted.now.description; now = now } in
+    let q : Query = record { context = c.args.asker.now.context; typ = c.args.wanted.now.name.typ; description = c.args.wanted.now.name.description; now = now } in
     let says = subst (λ (w : World). Says c.left-left.result (HasSerials w.serials 1)) c.self.view_is c.left-left.ensures in
     start_allowed c.args.self.now c.args.id.now c.args.asker.now q c.args.ring c.args.missed.now found c.args.wanted.now.callout c.in-Some.callout
     c.left-left.result c.in-Ok.answer c.begin.new.self c.in-Some.is says (c.in_ok-may_start.ensures.is now)
@@ -32,7 +26,7 @@ returns-in-Ok c = λ now found.
 
 pub returns-in-Err : goal.returns-in-Err
 returns-in-Err c = λ now found.
-    let q : Query = record { context = c.args.asker.now.context; typ = c.args.wanted.now.typ; description = c.args.wanted.now.description; now = now } in
+    let q : Query = record { context = c.args.asker.now.context; typ = c.args.wanted.now.name.typ; description = c.args.wanted.now.name.description; now = now } in
     let says = subst (λ (w : World). Says c.left-left.result (HasSerials w.serials 1)) c.self.view_is c.left-left.ensures in
     start_allowed c.args.self.now c.args.id.now c.args.asker.now q c.args.ring c.args.missed.now found c.args.wanted.now.callout c.in-Some.callout
     c.left-left.result _ c.begin.new.self c.in-Some.is says (c.in_ok-may_start.ensures.is now)

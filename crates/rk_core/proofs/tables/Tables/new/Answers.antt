@@ -1,11 +1,5 @@
-use Rattle.std.proofs.Common.{◌≡◌, ℕ, sym, ap, ◌∙◌}
-use Rattle.std.specs.Prelude.{Some, None}
-use Rattle.std.specs.Ordering.{nat_cmp}
+use Rattle.rk_core.proofs.Words.{◌≡◌, ℕ, sym, ap, ◌∙◌, Some, None, nat_cmp, Known, Numbered, Rings, rings_seen, rings_seen-empty, NumbersAgree}
 use Rattle.std.specs.FinMap as map
-use Rattle.rk_keys.specs.Known.{Known}
-use Rattle.rk_rings.specs.Numbered.{Numbered, Rings, rings_seen}
-use Rattle.rk_rings.proofs.Seen.{rings_seen-empty}
-use Rattle.rk_core.specs.Numbering.{NumbersAgree}
 use Rattle.rk_core.proofs.tables.Tables.new.Goals as goal
 
 nothing : (rings : Rings) (ring : ℕ) (r : Numbered) → rings ≡ map.empty → map.get rings ring ≡ Some r → ⊥

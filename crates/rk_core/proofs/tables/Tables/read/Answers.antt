@@ -1,8 +1,4 @@
-use Rattle.std.proofs.Common.{◌≡◌, false, sym, subst, rules, w32}
-use Rattle.std.specs.Bool.{MatchBool}
-use Rattle.std.proofs.lemmas.Int.{to_z-of_z}
-use Rattle.rk_machine.specs.KeyAsks.{is_authority, TellsCallout, ReadsKey}
-use Rattle.rk_core.specs.Finding.{answer_of}
+use Rattle.rk_core.proofs.Words.{◌≡◌, false, sym, subst, rules, w32, MatchBool, to_z-of_z, is_authority, TellsCallout, ReadsKey, answer_of}
 use Rattle.rk_core.proofs.tables.Tables.read.Goals as goal
 
 pub returns-else-number-eqminus7 : goal.returns-else-number-eqminus7

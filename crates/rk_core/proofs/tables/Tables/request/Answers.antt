@@ -1,13 +1,5 @@
-use Rattle.std.proofs.Common.{ℕ, sym, ap, ◌∙◌, subst, w32}
-use Rattle.std.specs.Prelude.{Option, Some, None, unwrap_or}
-use Rattle.std.proofs.lemmas.Int.{to_z-of_z}
-use Rattle.rk_rings.specs.Places.{default_ring}
-use Rattle.rk_machine.specs.World.{World}
-use Rattle.rk_machine.specs.declared.asker.Asker.{Asker}
-use Rattle.rk_machine.specs.Search.{Query}
-use Rattle.rk_machine.specs.Asker.{ring_for, ring_or_none_refusal}
-use Rattle.rk_machine.specs.Request.{query, Meets, Misses}
-use Rattle.rk_core.specs.Finding.{answer_of}
+use Rattle.rk_core.proofs.Words.{ℕ, sym, ap, ◌∙◌, subst, w32, Option, Some, None, unwrap_or, to_z-of_z, default_ring, World, Asker, Query, ring_for}
+use Rattle.rk_core.proofs.Words.{ring_or_none_refusal, query, Meets, Misses, answer_of}
 use Rattle.rk_core.proofs.Requests.RequestByParts.{requested, meets_positive, meets_building}
 use Rattle.rk_core.proofs.Searching.WhatIsHit.{passes_known}
 use Rattle.rk_core.proofs.tables.Tables.request.Goals as goal
@@ -23,7 +15,7 @@ returns-in-Positive c =
     let w : World = c.args.self.now in
     let asker : Asker = c.args.asker.now in
     let number = to_z-of_z w32 c.args.destination c.ranges.destination in
-    requested w c.args.now c.args.id.now asker c.args.wanted.now.typ c.args.wanted.now.description c.args.wanted.now.callout c.args.destination
+    requested w c.args.now c.args.id.now asker c.args.wanted.now.name.typ c.args.wanted.now.name.description c.args.wanted.now.callout c.args.destination
     (answer_of c.find.result) c.find.new.self (Some c.in-Positive.key)
     (sym (ap (ring_or_none_refusal w asker) number) ∙ c.in_ok-named.ensures.1) c.in-Positive.ensures.0
     (subst (λ (o : Option ℕ). Meets w c.args.id.now c.in-Positive.key o (answer_of c.find.result) c.find.new.self)
@@ -36,7 +28,7 @@ returns-in-Building c =
     let w : World = c.args.self.now in
     let asker : Asker = c.args.asker.now in
     let number = to_z-of_z w32 c.args.destination c.ranges.destination in
-    requested w c.args.now c.args.id.now asker c.args.wanted.now.typ c.args.wanted.now.description c.args.wanted.now.callout c.args.destination
+    requested w c.args.now c.args.id.now asker c.args.wanted.now.name.typ c.args.wanted.now.name.description c.args.wanted.now.callout c.args.destination
     (answer_of c.join.result) c.join.new.self (Some c.in-Building.key)
     (sym (ap (ring_or_none_refusal w asker) number) ∙ c.in_ok-named.ensures.1) c.in-Building.ensures.0
     (subst (λ (o : Option ℕ). Meets w c.args.id.now c.in-Building.key o (answer_of c.join.result) c.join.new.self)
@@ -48,9 +40,9 @@ pub returns-in-Missed : goal.returns-in-Missed
 returns-in-Missed c =
     let w : World = c.args.self.now in
     let asker : Asker = c.args.asker.now in
-    let q : Query = query asker c.args.wanted.now.typ c.args.wanted.now.description c.args.now in
+    let q : Query = query asker c.args.wanted.now.name.typ c.args.wanted.now.name.description c.args.now in
     let number = to_z-of_z w32 c.args.destination c.ranges.destination in
-    requested w c.args.now c.args.id.now asker c.args.wanted.now.typ c.args.wanted.now.description c.args.wanted.now.callout c.args.destination
+    requested w c.args.now c.args.id.now asker c.args.wanted.now.name.typ c.args.wanted.now.name.description c.args.wanted.now.callout c.args.destination
     (answer_of c.miss.result) c.miss.new.self None
     (sym (ap (ring_or_none_refusal w asker) number) ∙ c.in_ok-named.ensures.1) c.in-Missed.ensures.0
     (subst (λ r. Misses w c.args.id.now asker q c.args.wanted.now.callout r (answer_of c.miss.result) c.miss.new.self)

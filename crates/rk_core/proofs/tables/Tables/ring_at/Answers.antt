@@ -1,10 +1,6 @@
-use Rattle.std.proofs.Common.{◌≡◌, ℕ, Bool, ap, sym, ◌∙◌, subst}
-use Rattle.std.specs.Prelude.{Option, Some, None, MatchResult, Result, if◌then◌else◌}
-use Rattle.rk_rings.specs.declared.fault.RingFault.{RingFault}
+use Rattle.rk_core.proofs.Words.{◌≡◌, ℕ, Bool, ap, sym, ◌∙◌, subst, Option, Some, None, MatchResult, Result, if◌then◌else◌, RingFault, ring_at}
+use Rattle.rk_core.proofs.Words.{is_numbered_live, ring_at-rings_seen, is_numbered_live-rings_seen, World}
 use Rattle.rk_rings.specs.declared.fault.RingFault.TheVariants as fault
-use Rattle.rk_rings.specs.Places.{ring_at, is_numbered_live}
-use Rattle.rk_rings.proofs.SeenPlaces.{ring_at-rings_seen, is_numbered_live-rings_seen}
-use Rattle.rk_machine.specs.World.{World}
 use Rattle.rk_core.proofs.tables.Tables.ring_at.Goals as goal
 
 abbrev At : Result ℕ RingFault → Option ℕ → Bool → Type 0

@@ -1,11 +1,5 @@
-use Rattle.std.proofs.Common.{◌≡◌, ℕ, refl, ap, sym, ◌∙◌}
-use Rattle.std.specs.Prelude.{Option, Some, None, option_map}
+use Rattle.rk_core.proofs.Words.{◌≡◌, ℕ, refl, ap, sym, ◌∙◌, Option, Some, None, option_map, Ring, Numbered, ring_seen, RingKind, get-rings_seen, World}
 use Rattle.std.specs.FinMap as map
-use Rattle.rk_rings.specs.Ring.{Ring}
-use Rattle.rk_rings.specs.Numbered.{Numbered, ring_seen}
-use Rattle.rk_rings.specs.declared.kind.RingKind.{RingKind}
-use Rattle.rk_rings.proofs.Seen.{get-rings_seen}
-use Rattle.rk_machine.specs.World.{World}
 use Rattle.rk_core.proofs.tables.Tables.ring_kind.Goals as goal
 
 abbrev kind_in : Option Ring → Option (RingKind × ℕ)

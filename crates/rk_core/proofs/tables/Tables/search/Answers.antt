@@ -1,10 +1,4 @@
-use Rattle.std.proofs.Common.{◌≡◌, ℕ, [], ap, refl, subst}
-use Rattle.std.specs.Prelude.{Option, Some, None}
-use Rattle.rk_rings.specs.Numbered.{rings_seen}
-use Rattle.rk_machine.specs.World.{World}
-use Rattle.rk_machine.specs.Search.{Query}
-use Rattle.rk_core.specs.Sought.{IsSole, IsSought, IsNumberOf}
-use Rattle.rk_core.specs.declared.search.Missed.{Missed}
+use Rattle.rk_core.proofs.Words.{◌≡◌, ℕ, [], ap, refl, subst, Option, Some, None, rings_seen, World, Query, IsSole, IsSought, IsNumberOf, Missed}
 use Rattle.rk_core.specs.declared.search.Sought.TheVariants as sought
 use Rattle.rk_core.proofs.LinksAndNames.KeysOfAName.{IsNameOf, by_name}
 use Rattle.rk_core.proofs.LinksAndNames.SoleKeyOfAName.{none_sole, found_sole}
@@ -14,7 +8,7 @@ use Rattle.rk_core.proofs.tables.Tables.search.Goals as goal
 pub returns-in_default : goal.returns-in_default
 returns-in_default c =
     let w : World = c.args.self.now in
-    let q : Query = record { context = c.args.context.now; typ = c.args.typ.now; description = c.args.description.now; now = c.args.now } in
+    let q : Query = record { context = c.args.context.now; typ = c.args.name.now.typ; description = c.args.name.now.description; now = c.args.now } in
     let none : (ring : Option ℕ) → IsSole w q ring None =
     none_sole c.self.inside.keys c.self.inside.rings q c.name.ensures.naming c.self.invariant w (ap (λ (w : World). w.keys) c.self.view_is)
     (ap (λ (w : World). w.rings) c.self.view_is) (c.name.ensures.none c.in_default.is) in
@@ -28,10 +22,10 @@ returns-in_default c =
 pub returns : goal.returns
 returns c =
     let w : World = c.args.self.now in
-    let q : Query = record { context = c.args.context.now; typ = c.args.typ.now; description = c.args.description.now; now = c.args.now } in
-    let names : IsNameOf c.self.inside.keys c.args.typ.now c.args.description.now (Some c.in-Some.name) =
-    subst (IsNameOf c.self.inside.keys c.args.typ.now c.args.description.now) c.in-Some.is
-    (by_name c.self.inside.keys c.args.typ.now c.args.description.now c.name.result c.name.ensures.naming c.name.ensures.none c.name.ensures.some) in
+    let q : Query = record { context = c.args.context.now; typ = c.args.name.now.typ; description = c.args.name.now.description; now = c.args.now } in
+    let names : IsNameOf c.self.inside.keys c.args.name.now.typ c.args.name.now.description (Some c.in-Some.name) =
+    subst (IsNameOf c.self.inside.keys c.args.name.now.typ c.args.name.now.description) c.in-Some.is
+    (by_name c.self.inside.keys c.args.name.now.typ c.args.name.now.description c.name.result c.name.ensures.naming c.name.ensures.none c.name.ensures.some) in
     let keys : c.self.inside.keys.keys ≡ w.keys = ap (λ (w : World). w.keys) c.self.view_is in
     let seen : rings_seen c.self.inside.rings ≡ w.rings = ap (λ (w : World). w.rings) c.self.view_is in
     let number : IsNumberOf w q c.self.inside.keys c.self.inside.rings c.in-Some.name =

@@ -1,11 +1,4 @@
-use Rattle.std.proofs.Common.{◌≡◌, true, ap, ◌∙◌}
-use Rattle.std.specs.Prelude.{Some}
-use Rattle.rk_table.specs.Maps.{changed_at}
-use Rattle.rk_rings.specs.Ring.{is_linked, without_link}
-use Rattle.rk_rings.specs.Numbered.{rings_seen}
-use Rattle.rk_machine.specs.World.{World}
-use Rattle.rk_core.specs.Numbering.{world_of}
-use Rattle.rk_machine.specs.Links.{unlinked_in}
+use Rattle.rk_core.proofs.Words.{◌≡◌, true, ap, ◌∙◌, Some, changed_at, is_linked, without_link, rings_seen, World, world_of, unlinked_in}
 use Rattle.rk_core.proofs.LinksAndNames.NumbersKept.{kept_unlink, either_way}
 use Rattle.rk_core.proofs.LinksAndNames.LinksByNumber.{unlink_seen}
 use Rattle.rk_core.proofs.tables.Tables.take_link.Goals as goal

@@ -1,5 +1,4 @@
-use Rattle.std.proofs.Common.{◌∙◌, ap}
-use Rattle.rk_core.specs.Vanishing.{vanished_at}
+use Rattle.rk_core.proofs.Words.{◌∙◌, ap, vanished_at}
 use Rattle.rk_core.proofs.Vanishing.WhichMayVanish.{unlink_tidies}
 use Rattle.rk_core.proofs.tables.Tables.unlink.Goals as goal
 

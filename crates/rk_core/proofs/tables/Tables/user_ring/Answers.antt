@@ -1,5 +1,4 @@
-use Rattle.std.proofs.Common.{ap}
-use Rattle.rk_machine.specs.World.{World}
+use Rattle.rk_core.proofs.Words.{ap, World}
 use Rattle.rk_core.proofs.Greetings.UserRing.{user_seen}
 use Rattle.rk_core.proofs.tables.Tables.user_ring.Goals as goal
 

@@ -10,9 +10,15 @@ use Rattle.rk_keys.proofs.UserCounts.{counts_with}
 use Rattle.rk_keys.proofs.Refused.{no_quota}
 use Rattle.rk_keys.proofs.keys.Keys.make.Goals as goal
 
+pub returns-in_err-description-clause-quota : goal.returns-in_err-description-clause-quota
+returns-in_err-description-clause-quota c =
+    let p = err_from_is_err_and c.from_residual.result c.from_residual.ensures.1 in
+    rw (p.1, p.2) (no_quota _ c.args.self.now c.args.owner c.in-Some.serial c.is_full.result _ (λ e. cc) c.self.view_is c.is_full.ensures
+    c.if-is_full.false c.in-Some.ensures.cases.0)
+
 pub returns-in_err-reserve_one-clause-quota : goal.returns-in_err-reserve_one-clause-quota
 returns-in_err-reserve_one-clause-quota c =
-    let p = err_from_is_err_and c.from_residual.result c.from_residual.ensures.1 in
+    let p = err_from_is_err_and c.from_residual-in_err-reserve_one.result c.from_residual-in_err-reserve_one.ensures.1 in
     rw (p.1, p.2) (no_quota _ c.args.self.now c.args.owner c.in-Some.serial c.is_full.result _ (λ e. cc) c.self.view_is c.is_full.ensures
     c.if-is_full.false c.in-Some.ensures.cases.0)
 
@@ -31,25 +37,27 @@ pub invariant_of-self-2 : goal.invariant_of-self-2
 invariant_of-self-2 c =
     let known : Known = record { keys = c.reserve_one.new.facts.facts; numbers = c.reserve_one.new.numbers.facts; serials = c.self.inside.serials } in
     let held : IsHeld known = rw (c.reserve_one.ensures.facts, c.reserve_one.ensures.numbers) c.self.invariant.held in
-    let key : Key = new_key c.args.typ c.args.description c.args.owner c.args.payload in
+    let key : Key = new_key c.args.name.now.typ c.args.name.now.description c.args.owner c.args.payload in
     let k : ℕ = c.in-Some.serial in
     let keys : map.FinMap nat_cmp Key = c.reserve_one.new.facts.facts in
     let by_name : map.FinMap nat_cmp (List Named) = c.self.inside.by_name.facts in
     let index : IsIndex c.self.inside.seed keys known.numbers by_name =
     rw (c.reserve_one.ensures.facts, c.reserve_one.ensures.numbers) c.self.invariant.index in
-    let shared : Option ℕ = number_in (kept_of c.self.inside.seed by_name c.args.typ c.args.description) in
+    let shared : Option ℕ = number_in (kept_of c.self.inside.seed by_name c.args.name.now.typ c.args.name.now.description) in
     let which : c.in_ok-number.number ≡ unwrap_or shared k = subst (λ s. c.in_ok-number.number ≡ unwrap_or shared s) c.get.ensures.number
     c.in_ok-number.ensures.number in
     let number = number_of_new known key k shared held c.in-Some.ensures.cases.0.drawable.unused
-    (none_of c.self.inside.seed keys known.numbers by_name index c.args.typ c.args.description)
-    (some_of c.self.inside.seed keys known.numbers by_name index c.args.typ c.args.description) in
+    (none_of c.self.inside.seed keys known.numbers by_name index c.args.name.now.typ c.args.name.now.description)
+    (some_of c.self.inside.seed keys known.numbers by_name index c.args.name.now.typ c.args.name.now.description) in
     let counts : AreCounts keys c.reserve_one.new.counts.facts = rw (c.reserve_one.ensures.facts, c.reserve_one.ensures.counts) c.self.invariant.counts in
     let new : map.get keys k ≡ None = held.drawn k c.in-Some.ensures.cases.0.drawable.unused in
-    let put : c.insert-2.new.self.facts ≡ map.insert keys k key = cc (c.insert-2.ensures.facts, c.get-3.ensures.number) in
+    let made : c.new.result ≡ key = c.new.ensures ∙ ap (λ t. new_key t c.in_ok-description.description c.args.owner c.args.payload) c.owned_typ.ensures
+    ∙ ap (λ d. new_key c.args.name.now.typ d c.args.owner c.args.payload) c.in_ok-description.ensures in
+    let put : c.insert-2.new.self.facts ≡ map.insert keys k key = cc (c.insert-2.ensures.facts, c.get-3.ensures.number, made) in
     let put_number : c.insert.new.self.facts ≡ map.insert known.numbers k c.in_ok-number.number = cc (c.insert.ensures.facts, c.get-2.ensures.number) in
     let kept : List ℕ → List ℕ → Option Named = kept_of c.self.inside.seed by_name in
     let with_it : ℕ → List ℕ → List ℕ → Option Named =
-    λ s t d. cond (is_same c.args.typ c.args.description t d) (Some (counted_in c.args.typ c.args.description s (kept t d))) (kept t d) in
+    λ s t d. cond (is_same c.args.name.now.typ c.args.name.now.description t d) (Some (counted_in c.args.name.now.typ c.args.name.now.description s (kept t d))) (kept t d) in
     let under : (t d : List ℕ) → kept_of c.self.inside.seed c.count_in.new.by_name.facts t d ≡ with_it k t d =
     λ t d. c.in_ok-number.ensures.ok t d ∙ ap (λ s. with_it s t d) c.get.ensures.number in
     let counted : IsIndex c.self.inside.seed (map.insert keys k key) (map.insert known.numbers k c.in_ok-number.number) c.count_in.new.by_name.facts =
@@ -69,23 +77,23 @@ returns-clause-number c =
     let index : IsIndex c.self.inside.seed known.keys known.numbers by_name =
     rw (c.reserve_one.ensures.facts, c.reserve_one.ensures.numbers) c.self.invariant.index in
     let k : ℕ = c.in-Some.serial in
-    let shared : Option ℕ = number_in (kept_of c.self.inside.seed by_name c.args.typ c.args.description) in
+    let shared : Option ℕ = number_in (kept_of c.self.inside.seed by_name c.args.name.now.typ c.args.name.now.description) in
     let which : c.in_ok-number.number ≡ unwrap_or shared k = subst (λ s. c.in_ok-number.number ≡ unwrap_or shared s) c.get.ensures.number
     c.in_ok-number.ensures.number in
     let put : c.insert.new.self.facts ≡ map.insert known.numbers k c.in_ok-number.number = cc (c.insert.ensures.facts, c.get-2.ensures.number) in
     let is : map.get c.insert.new.self.facts k ≡ Some (unwrap_or shared k) = ap (λ m. map.get m k) put ∙
     at_new known.numbers k c.in_ok-number.number k refl ∙ ap Some which in
-    subst (λ (n : Known). IsNumberFor n c.args.typ c.args.description k (map.get c.insert.new.self.facts k)) same
-    (rw is (number_for_new known c.args.typ c.args.description k shared
-    (none_of c.self.inside.seed known.keys known.numbers by_name index c.args.typ c.args.description)
-    (some_of c.self.inside.seed known.keys known.numbers by_name index c.args.typ c.args.description)))
+    subst (λ (n : Known). IsNumberFor n c.args.name.now.typ c.args.name.now.description k (map.get c.insert.new.self.facts k)) same
+    (rw is (number_for_new known c.args.name.now.typ c.args.name.now.description k shared
+    (none_of c.self.inside.seed known.keys known.numbers by_name index c.args.name.now.typ c.args.name.now.description)
+    (some_of c.self.inside.seed known.keys known.numbers by_name index c.args.name.now.typ c.args.name.now.description)))
 
 -- there are fewer keys of the name than serials
-pub count_in-requires : goal.count_in-requires
-count_in-requires c =
+pub count_in-requires-clause-few : goal.count_in-requires-clause-few
+count_in-requires-clause-few c =
     let known : Known = record { keys = c.self.inside.facts.facts; numbers = c.self.inside.numbers.facts; serials = c.self.inside.serials } in
-    let counted = c.self.invariant.index.counted c.args.typ c.args.description in
-    let most = few_named known c.args.typ c.args.description c.self.invariant.held in
+    let counted = c.self.invariant.index.counted c.args.name.now.typ c.args.name.now.description in
+    let most = few_named known c.args.name.now.typ c.args.name.now.description c.self.invariant.held in
     let drawn : set.len c.self.inside.serials.used < 2147483648 = c.in-Some.ensures.few in
     omega (arith, counted, most, drawn)
 

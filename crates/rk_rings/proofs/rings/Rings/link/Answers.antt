@@ -1,5 +1,5 @@
 use Rattle.rk_rings.proofs.Words.{◌∙◌, ap, sym, ◌≡◌, subst, arith, cond, ◌≤◌, false, ◌+◌, get, contains_key, option_map_or, nat_eq, count_at, changed_at}
-use Rattle.rk_rings.proofs.Words.{AreCounted, linked_in_room}
+use Rattle.rk_rings.proofs.Words.{AreCounted, linked_in_room, Numbered, true, refl, holds}
 use Rattle.rk_rings.proofs.Named.{once_linked}
 use Rattle.rk_rings.proofs.Changed.{rows-changed_at, match_found}
 use Rattle.rk_rings.proofs.UserRings.{users_changed, user_linked}
@@ -56,3 +56,16 @@ invariant_of-self c =
           (λ q. c.one_more.ensures.each q ∙ ap (λ k. cond (nat_eq k q) (count_at mid.facts q + 1) (count_at mid.facts q)) c.get-2.ensures.number)
           c.one_more.ensures.positive c.one_more.ensures.places);
     }
+
+pub returns-then-holds-clause-rival : goal.returns-then-holds-clause-rival
+returns-then-holds-clause-rival c =
+    let held : holds c.args.self.now c.args.ring c.args.key ≡ true =
+    ap (λ o. option_map_or (λ (r : Numbered). contains_key r.links c.args.key) o false) (sym c.in-Some.ensures.row) ∙ sym c.holds.ensures ∙ c.if-holds.true in
+    rw held refl
+
+pub returns-clause-rival : goal.returns-clause-rival
+returns-clause-rival c =
+    let held : holds c.args.self.now c.args.ring c.args.key ≡ false =
+    ap (λ o. option_map_or (λ (r : Numbered). contains_key r.links c.args.key) o false) (sym c.in-Some.ensures.row) ∙ sym c.holds.ensures ∙ c.if-holds.false in
+    rw held (match_found c.args.self.now c.args.ring c.args.name c.in-Some.row.now c.find-rival.result (sym c.in-Some.ensures.row) c.in-Some.ensures.once
+    c.find-rival.ensures)
