@@ -1,15 +1,8 @@
 -- The volumes of a hall that are tied to one another, one more at a time.
-use Rattle.std.proofs.Common.{◌≡◌, ℕ, ◌+◌, ◌<◌, Bool, true, List, [], ◌∷◌, ◌++◌, length, take, drop, get_or, Option, Some, refl, sym, ap}
-use Rattle.std.proofs.Common.{subst, ◌∙◌, inl, inr}
-use Rattle.std.specs.Prelude.{◌⊎◌}
-use Rattle.rk_record.specs.declared.hall_no.HallNo.{HallNo}
+use Rattle.rk_rejoin.proofs.Words.{◌≡◌, ℕ, ◌+◌, ◌<◌, Bool, true, List, [], ◌∷◌, ◌++◌, length, take, drop, get_or, Option, Some, refl, sym, ap, subst, ◌∙◌, inl}
+use Rattle.rk_rejoin.proofs.Words.{inr, ◌⊎◌, HallNo, Stored, Verdict, Total, no_sum, link_of, last_link, is_closed, IsTied, AreChained, of_hall, part_of}
+use Rattle.rk_rejoin.proofs.Words.{IsUntied, IsUnchained, IsOpenOf, IsOpenBeside}
 use Rattle.rk_record.specs.declared.hall_no.HallNo.TheVariants as hall
-use Rattle.rk_volumes.specs.declared.stored.Stored.{Stored}
-use Rattle.rk_rejoin.specs.declared.verdict.Verdict.{Verdict}
-use Rattle.rk_rejoin.specs.declared.part.Total.{Total}
-use Rattle.rk_rejoin.specs.Chains.{no_sum, link_of, last_link, is_closed, IsTied, AreChained}
-use Rattle.rk_rejoin.specs.Judged.{of_hall, part_of}
-use Rattle.rk_rejoin.specs.Refused.{IsUntied, IsUnchained, IsOpenOf, IsOpenBeside}
 use Rattle.rk_rejoin.proofs.Joined.{is_of, behind, one_more}
 
 -- ---- one volume more

@@ -1,18 +1,8 @@
 -- The volumes of a hall, one more at a time.
-use Rattle.std.proofs.Common.{◌≡◌, ◌≢◌, ℕ, ◌+◌, ◌<◌, Bool, true, false, List, [], ◌∷◌, ◌++◌, ◌==◌, length, take, drop, get_or, map, refl, sym, ap, subst}
-use Rattle.std.proofs.Common.{◌∙◌, Bor}
-use Rattle.std.proofs.Common.{append-nil, length-append, arith}
-use Rattle.std.specs.List.{flat_map, filter}
-use Rattle.std.proofs.lemmas.Bool.{eqb-true, eqb-false}
-use Rattle.std.proofs.lemmas.List.{take_more, map-append, length-map, take-append-drop, drop_more}
-use Rattle.std.proofs.lemmas.List.Elements.{filter-append}
-use Rattle.std.proofs.lemmas.List.Concat.{flat_map-cons}
-use Rattle.std.proofs.lemmas.Grind.{flat_map-append}
-use Rattle.rk_record.specs.HallNumbers.{hall_number}
-use Rattle.rk_record.specs.declared.hall_no.HallNo.{HallNo}
-use Rattle.rk_record.specs.declared.recorded.Recorded.{Recorded}
-use Rattle.rk_volumes.specs.declared.stored.Stored.{Stored}
-use Rattle.rk_rejoin.specs.Judged.{steps_of, of_hall, AreNext}
+use Rattle.rk_rejoin.proofs.Words.{◌≡◌, ◌≢◌, ℕ, ◌+◌, ◌<◌, Bool, true, false, List, [], ◌∷◌, ◌++◌, ◌==◌, length, take, drop, get_or, map, refl, sym, ap, subst}
+use Rattle.rk_rejoin.proofs.Words.{◌∙◌, Bor, append-nil, length-append, arith, flat_map, filter, eqb-true, eqb-false, take_more, map-append, length-map}
+use Rattle.rk_rejoin.proofs.Words.{take-append-drop, drop_more, filter-append, flat_map-cons, flat_map-append, hall_number, HallNo, Recorded, Stored, steps_of}
+use Rattle.rk_rejoin.proofs.Words.{of_hall, AreNext}
 
 -- one volume more of those that stand in a list
 pub take_volume : (vs : List Stored) (i : ℕ) (v : Stored) → i < length vs → v ≡ get_or vs i v → take (i + 1) vs ≡ take i vs ++ v ∷ []

@@ -1,3 +1,4 @@
+mod Words
 pub mod Joined
 pub mod Told
 pub mod Chained

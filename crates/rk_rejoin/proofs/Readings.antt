@@ -1,21 +1,11 @@
 -- What is read, one file after the other.
-use Rattle.std.proofs.Common.{◌≡◌, ◌<◌, ◌+◌, ℕ, List, [], ◌∷◌, ◌++◌, length, map, take, drop, get_or, Option, Some, None, refl, sym, ap, ◌∙◌, inl, inr}
-use Rattle.std.proofs.lemmas.List.{append_assoc, append-nil, drop_more, map-append, map_more, map_push, take-append-drop}
-use Rattle.std.proofs.lemmas.Slice.Zip.{all_zipped_more}
-use Rattle.std.specs.List.{AllByRecursion}
-use Rattle.std.specs.List.Sorted.{IsPermutation, IsSortedByKey}
-use Rattle.rk_record.specs.declared.hall_no.HallNo.{HallNo}
+use Rattle.rk_rejoin.proofs.Words.{◌≡◌, ◌<◌, ◌+◌, ℕ, List, [], ◌∷◌, ◌++◌, length, map, take, drop, get_or, Option, Some, None, refl, sym, ap, ◌∙◌, inl, inr}
+use Rattle.rk_rejoin.proofs.Words.{append_assoc, drop_more, map-append, map_more, map_push, take-append-drop, all_zipped_more, AllByRecursion, IsPermutation}
+use Rattle.rk_rejoin.proofs.Words.{IsSortedByKey, HallNo, Stored, FilesFault, NoMemory, Total, run_of, run_of_first, Reading, Reads, ReadsOne, and_then}
+use Rattle.rk_rejoin.proofs.Words.{AreClosedAlike, IsRecordOf, negative_of, part_of, AreOfFiles, AreRead, IsVolumeIn, rank_cmp, rank_of, AreRejoined}
+use Rattle.rk_rejoin.proofs.Words.{AreRefused, AreUnread, IsNoVolumeIn}
+use Rattle.std.proofs.lemmas.List.{append-nil}
 use Rattle.rk_record.specs.declared.hall_no.HallNo.TheVariants as hall
-use Rattle.rk_volumes.specs.declared.stored.Stored.{Stored}
-use Rattle.rk_rejoin.specs.declared.files_fault.FilesFault.{FilesFault}
-use Rattle.rk_rejoin.specs.declared.files_fault.FilesFault.TheVariants.{NoMemory}
-use Rattle.rk_rejoin.specs.declared.part.Total.{Total}
-use Rattle.rk_rejoin.specs.Chains.{run_of, run_of_first}
-use Rattle.rk_rejoin.specs.Disk.{Reading, Reads, ReadsOne, and_then}
-use Rattle.rk_rejoin.specs.Judged.{AreClosedAlike, IsRecordOf, negative_of, part_of}
-use Rattle.rk_rejoin.specs.Read.{AreOfFiles, AreRead, IsVolumeIn, rank_cmp, rank_of}
-use Rattle.rk_rejoin.specs.Rejoined.{AreRejoined}
-use Rattle.rk_rejoin.specs.Unread.{AreRefused, AreUnread, IsNoVolumeIn}
 
 abbrev Told : Type 0
 Told = Option (List Reading)

@@ -1,25 +1,9 @@
 -- What is reported of volumes that are refused.
-use Rattle.std.proofs.Common.{◌≡◌, ℕ, ◌+◌, ◌-◌, ◌<◌, ◌≤◌, ◌^◌, true, false, List, [], length, take, drop, get_or, refl, ap, subst}
-use Rattle.std.proofs.Common.{inl, inr, arith}
-use Rattle.std.specs.List.{flat_map}
-use Rattle.std.proofs.lemmas.List.{take_all}
-use Rattle.std.proofs.lemmas.Option.{slice_get_within}
-use Rattle.rk_machine.specs.World.{World, empty_world}
-use Rattle.rk_machine.specs.Laws.{ContinuesTo}
-use Rattle.rk_record.specs.HallNumbers.{hall_number}
-use Rattle.rk_record.specs.declared.hall_no.HallNo.{HallNo}
-use Rattle.rk_record.specs.declared.recorded.Recorded.{Recorded}
-use Rattle.rk_record.specs.Record.{past_of}
-use Rattle.rk_record.specs.Volumes.{IsBrokenAt, Breaks, counted}
-use Rattle.rk_record.specs.declared.rejoin_fault.Rejoin.{Rejoin}
+use Rattle.rk_rejoin.proofs.Words.{◌≡◌, ℕ, ◌+◌, ◌-◌, ◌<◌, ◌≤◌, ◌^◌, true, false, List, [], length, take, drop, get_or, refl, ap, subst, inl, inr, arith}
+use Rattle.rk_rejoin.proofs.Words.{flat_map, take_all, slice_get_within, World, empty_world, ContinuesTo, hall_number, HallNo, Recorded, past_of, IsBrokenAt}
+use Rattle.rk_rejoin.proofs.Words.{Breaks, counted, Rejoin, Limits, first_serial, Stored, Verdict, Broken, steps_of, of_hall, joined, beginning, negative_of}
+use Rattle.rk_rejoin.proofs.Words.{AreNext, IsNoNext, CannotJoin, NamesStep, IsBroken, IsHallRefused, IsRefusedFor}
 use Rattle.rk_record.specs.declared.rejoin_fault.Rejoin.TheVariants as rejoin
-use Rattle.rk_core.specs.declared.limits.Limits.{Limits}
-use Rattle.rk_hall.specs.Locked.{first_serial}
-use Rattle.rk_volumes.specs.declared.stored.Stored.{Stored}
-use Rattle.rk_rejoin.specs.declared.verdict.Verdict.{Verdict}
-use Rattle.rk_rejoin.specs.declared.verdict.Verdict.TheVariants.{Broken}
-use Rattle.rk_rejoin.specs.Judged.{steps_of, of_hall, joined, beginning, negative_of, AreNext}
-use Rattle.rk_rejoin.specs.Refused.{IsNoNext, CannotJoin, NamesStep, IsBroken, IsHallRefused, IsRefusedFor}
 use Rattle.rk_rejoin.proofs.Joined.{is_of, behind, place_of, one_more, none_more, count_more}
 
 -- a volume that does not follow on those before it

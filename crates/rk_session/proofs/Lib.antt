@@ -1,3 +1,4 @@
+mod Words
 pub mod Seats
 pub mod Talks
 pub mod Sayings

@@ -1,28 +1,11 @@
 -- What is said of a message, and how it is told.
-use Rattle.std.proofs.Common.{ℕ, List, [], ◌∷◌, refl, sym, ap, ◌∙◌, subst}
-use Rattle.std.specs.Prelude.{Option, Some, None, Result, Ok, Err}
-use Rattle.rk_names.specs.declared.numbers.SessionId.{SessionId}
-use Rattle.rk_names.specs.declared.errors.Errno.{Errno}
-use Rattle.rk_names.specs.declared.errors.Errno.TheVariants.{Enomem}
-use Rattle.rk_devices.specs.declared.device.DeviceFault.{DeviceFault}
-use Rattle.rk_devices.specs.Shown.{and_then}
-use Rattle.rk_devices.proofs.Rising.{and_more}
+use Rattle.rk_session.proofs.Words.{ℕ, List, [], ◌∷◌, refl, sym, ap, ◌∙◌, subst, Option, Some, None, Result, Ok, Err, SessionId, Errno, Enomem, DeviceFault}
+use Rattle.rk_session.proofs.Words.{and_then, and_more, Answer, HallNo, Noted, SeatShown, IsSettled, IsToWait, Saying, LacksFrame, ReplyFramed, TakesMemory}
+use Rattle.rk_session.proofs.Words.{reply_bytes, reply_of, answered_settled, refusal_settled, Happened, HasNoted, Said, WireShown, Notes, Writes, Speaks, ended}
+use Rattle.rk_session.proofs.Words.{IsNotCalled, IsNotOpened, IsRefused, IsShutOut, Refuses, told_in, AsksHere, Greets, NotRead, Says, ShutOut, Standing}
 use Rattle.rk_message.specs.declared.reply.Reply.TheVariants as reply
-use Rattle.rk_machine.specs.declared.event.Answer.{Answer}
 use Rattle.rk_machine.specs.declared.event.Answer.TheVariants as answer
-use Rattle.rk_record.specs.declared.hall_no.HallNo.{HallNo}
-use Rattle.rk_record.specs.Turns.{Noted}
-use Rattle.rk_hall.specs.Seats.{SeatShown}
-use Rattle.rk_talk.specs.Said.{IsSettled, IsToWait}
-use Rattle.rk_talk.specs.declared.saying.Saying.{Saying}
 use Rattle.rk_talk.specs.declared.saying.Saying.TheVariants as saying
-use Rattle.rk_talk.specs.Replies.{LacksFrame, ReplyFramed, TakesMemory, reply_bytes, reply_of}
-use Rattle.rk_talk.proofs.Sayings.{answered_settled, refusal_settled}
-use Rattle.rk_session.specs.Wires.{Happened, HasNoted, Said, WireShown, Notes, Writes}
-use Rattle.rk_session.specs.Parts.{Speaks, ended}
-use Rattle.rk_session.specs.Opening.{IsNotCalled, IsNotOpened, IsRefused, IsShutOut, Refuses}
-use Rattle.rk_session.specs.Talk.{told_in}
-use Rattle.rk_session.specs.Places.{AsksHere, Greets, NotRead, Says, ShutOut, Standing}
 
 refused_settled : (a : Answer) → IsRefused a → IsToWait a → ⊥
 refused_settled (answer.Done r) is waits = is

@@ -1,26 +1,12 @@
 -- The clients of a seat, hall by hall.
-use Rattle.std.proofs.Common.{◌≡◌, ◌≤◌, ◌<◌, ℕ, ◌+◌, ◌-◌, inl, inr, refl, sym, ap, ◌∙◌, subst, arith}
-use Rattle.std.specs.Prelude.{Option, Some, None, Result}
-use Rattle.rk_names.specs.declared.numbers.SessionId.{SessionId}
-use Rattle.rk_machine.specs.Event.{Event}
-use Rattle.rk_machine.specs.declared.event.EventOf.TheVariants.{Gone, Opened}
-use Rattle.rk_machine.specs.declared.event.Answer.{Answer}
+use Rattle.rk_session.proofs.Words.{◌≡◌, ◌≤◌, ◌<◌, ℕ, ◌+◌, ◌-◌, inl, inr, refl, sym, ap, ◌∙◌, subst, arith, Option, Some, None, Result, SessionId, Event, Gone}
+use Rattle.rk_session.proofs.Words.{Opened, Answer, Saying, HasLaunch, IsCalled, IsToWait, HallNo, Zero, One, Two, Three, started, Noted, Lapse, PartShown}
+use Rattle.rk_session.proofs.Words.{SeatShown, TokenShown, part, with_part, after_call, without_client, opens, OwedSeen, Clients, Stays, SeesOn, clients_at}
+use Rattle.rk_session.proofs.Words.{with_one, without_one, none_started, call_stays, owed_stays, sees_part, stays_on, stays_same, HasGone, IsMoved, IsNotOpened}
+use Rattle.rk_session.proofs.Words.{IsOpened, IsRefused, Refuses, HasOpened, Leaves, Moves}
 use Rattle.rk_machine.specs.declared.event.Answer.TheVariants as answer
 use Rattle.rk_record.specs.declared.told.Told.TheVariants as told
-use Rattle.rk_talk.specs.declared.saying.Saying.{Saying}
 use Rattle.rk_talk.specs.declared.saying.Saying.TheVariants as saying
-use Rattle.rk_talk.specs.Said.{HasLaunch, IsCalled, IsToWait}
-use Rattle.rk_record.specs.declared.hall_no.HallNo.{HallNo}
-use Rattle.rk_record.specs.declared.hall_no.HallNo.TheVariants.{Zero, One, Two, Three}
-use Rattle.rk_record.specs.Copies.{started}
-use Rattle.rk_record.specs.Turns.{Noted}
-use Rattle.rk_hall.specs.declared.lapse.Lapse.{Lapse}
-use Rattle.rk_hall.specs.Seats.{PartShown, SeatShown, TokenShown, part, with_part, after_call, without_client, opens, OwedSeen}
-use Rattle.rk_talk.specs.Stays.{Clients, Stays, SeesOn, clients_at, with_one, without_one}
-use Rattle.rk_talk.proofs.Sayings.{none_started}
-use Rattle.rk_talk.proofs.Seats.{call_stays, owed_stays, sees_part, stays_on, stays_same}
-use Rattle.rk_session.specs.Opening.{HasGone, IsMoved, IsNotOpened, IsOpened, IsRefused, Refuses}
-use Rattle.rk_session.specs.Moving.{HasOpened, Leaves, Moves}
 
 more_part : (h : HallNo) (s : SeatShown) (p : PartShown) → p.clients ≡ (part h s).clients + 1 → clients_at (with_part h s p) ≡ with_one h (clients_at s)
 more_part Zero s p e = ap (λ n. record (clients_at s) { zero = n }) e

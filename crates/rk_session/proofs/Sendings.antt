@@ -1,16 +1,7 @@
 -- What is written and sent, and the count of a wire.
-use Rattle.std.proofs.Common.{◌≡◌, ◌≤◌, ◌+◌, ℕ, List, inl, inr, refl, sym, ap, subst, ◌∙◌, arith}
-use Rattle.std.specs.Prelude.{Bool, true, false, nat_lt, if◌then◌else◌, Result, Ok, Err}
-use Rattle.std.proofs.lemmas.Bool.{false≢true}
-use Rattle.rk_devices.specs.declared.device.DeviceFault.{DeviceFault}
-use Rattle.rk_devices.specs.Counts.{Rose, most, raised}
-use Rattle.rk_devices.proofs.Rising.{rose_from, rose_up}
-use Rattle.rk_record.specs.Turns.{Noted}
-use Rattle.rk_session.specs.Wires.{Counts, Notes, Sends, WireShown, Writes}
-use Rattle.rk_session.specs.Parts.{Hears, IsEndInTurns, Parts, Pushes}
-use Rattle.rk_session.specs.Talk.{EndCounts}
-use Rattle.rk_session.specs.declared.serving.Served.{Served}
-use Rattle.rk_session.specs.declared.serving.Served.TheVariants.{Ended, NotOpened, ReadFault, WriteFault, Malformed, TurnsUsed, Behind}
+use Rattle.rk_session.proofs.Words.{◌≡◌, ◌≤◌, ◌+◌, ℕ, List, inl, inr, refl, sym, ap, subst, ◌∙◌, arith, Bool, true, false, nat_lt, if◌then◌else◌, Result, Ok}
+use Rattle.rk_session.proofs.Words.{Err, false≢true, DeviceFault, Rose, most, raised, rose_from, rose_up, Noted, Counts, Notes, Sends, WireShown, Writes, Hears}
+use Rattle.rk_session.proofs.Words.{IsEndInTurns, Parts, Pushes, EndCounts, Served, Ended, NotOpened, ReadFault, WriteFault, Malformed, TurnsUsed, Behind}
 
 -- where count and cut are as before
 same_counts : (old new : WireShown) → new.count ≡ old.count → new.cut ≡ old.cut → Counts old new

@@ -1,22 +1,9 @@
 -- A talk, message by message.
-use Rattle.std.proofs.Common.{◌≡◌, ◌≢◌, inl, inr, ℕ, ◌<◌, ◌≤◌, ◌+◌, List, [], ◌∷◌, ◌++◌, length, refl, sym, ap, ◌∙◌, subst, arith}
-use Rattle.std.specs.Prelude.{Option, Some, Ok, Err, Bool, true, false, take, nat_lt, if◌then◌else◌}
-use Rattle.std.proofs.lemmas.Bool.Decides.{nat_tests}
-use Rattle.std.proofs.lemmas.List.{length-take-le}
-use Rattle.rk_names.specs.declared.numbers.SessionId.{SessionId}
-use Rattle.rk_frame.specs.Streams.{TakesBody, IsPartial, HasFault}
-use Rattle.rk_frame.specs.Unread.{Unread}
-use Rattle.rk_hall.specs.Seats.{SeatShown}
-use Rattle.rk_talk.specs.Replies.{reply_bytes}
-use Rattle.rk_devices.specs.Counts.{most, raised, raised_by}
-use Rattle.rk_devices.specs.Shown.{and_then}
-use Rattle.rk_child.proofs.Taking.{takes_fewer}
-use Rattle.rk_session.specs.Wires.{Happened, Heard, WireShown}
-use Rattle.rk_session.specs.declared.serving.Served.{Served}
-use Rattle.rk_session.specs.declared.serving.Served.TheVariants.{Ended, NotOpened, ReadFault, WriteFault, Malformed, TurnsUsed, Behind}
-use Rattle.rk_session.specs.Places.{Says, Standing, at_first, standing_of}
-use Rattle.rk_session.specs.Talk.{Begun, Ends, Turn, Talking, begins, hears, turns, told_in, Talked}
-use Rattle.rk_session.specs.Parts.{EndsHere, GoesOn, Hears, IsEndInTurns, Parts, TakesAll, TakesOne, TurnEnds}
+use Rattle.rk_session.proofs.Words.{◌≡◌, ◌≢◌, inl, inr, ℕ, ◌<◌, ◌≤◌, ◌+◌, List, [], ◌∷◌, ◌++◌, length, refl, sym, ap, ◌∙◌, subst, arith, Option, Some, Ok, Err}
+use Rattle.rk_session.proofs.Words.{Bool, true, false, take, nat_lt, if◌then◌else◌, nat_tests, length-take-le, SessionId, TakesBody, IsPartial, HasFault}
+use Rattle.rk_session.proofs.Words.{Unread, SeatShown, reply_bytes, most, raised, raised_by, and_then, takes_fewer, Happened, Heard, WireShown, Served, Ended}
+use Rattle.rk_session.proofs.Words.{NotOpened, ReadFault, WriteFault, Malformed, TurnsUsed, Behind, Says, Standing, at_first, standing_of, Begun, Ends, Turn}
+use Rattle.rk_session.proofs.Words.{Talking, begins, hears, turns, told_in, Talked, EndsHere, GoesOn, Hears, IsEndInTurns, Parts, TakesAll, TakesOne, TurnEnds}
 use Rattle.rk_session.proofs.Sendings.{IsToPart}
 
 -- what a wire tells, with more

@@ -1,7 +1,4 @@
-use Rattle.std.proofs.Common.{Some, sym, ap, subst, ◌∙◌}
-use Rattle.std.proofs.lemmas.Result.{err_from_is_err_and}
-use Rattle.rk_rejoin.specs.Chains.{no_sum, last_link, AreChained, IsTied}
-use Rattle.rk_rejoin.specs.Refused.{IsUntied}
+use Rattle.rk_rejoin.proofs.Words.{Some, sym, ap, subst, ◌∙◌, err_from_is_err_and, no_sum, last_link, AreChained, IsTied, IsUntied}
 use Rattle.rk_rejoin.proofs.Joined.{is_here, is_elsewhere, none_more}
 use Rattle.rk_rejoin.proofs.Chained.{first_link, none_chained, tied_more, link_more, unchained}
 use Rattle.rk_rejoin.proofs.chain.chain_of_hall.Goals as goal

@@ -1,6 +1,4 @@
-use Rattle.std.proofs.Common.{◌≡◌, take, Some}
-use Rattle.rk_rejoin.specs.Judged.{of_hall}
-use Rattle.rk_rejoin.specs.Chains.{no_sum, last_link, AreChained}
+use Rattle.rk_rejoin.proofs.Words.{◌≡◌, take, Some, of_hall, no_sum, last_link, AreChained}
 use Rattle.rk_rejoin.proofs.chain.chain_of_hall.Given as goal
 
 abbrev pub invariant-loop-volume : goal.invariant-loop-volume

@@ -1,7 +1,4 @@
-use Rattle.std.proofs.Common.{map, string_bytes, subst, sym}
-use Rattle.std.proofs.lemmas.Result.{err_from_is_err_and}
-use Rattle.rk_rejoin.specs.Disk.{Reads}
-use Rattle.rk_rejoin.specs.Read.{AreOfFiles}
+use Rattle.rk_rejoin.proofs.Words.{map, string_bytes, subst, sym, err_from_is_err_and, Reads, AreOfFiles}
 use Rattle.rk_rejoin.proofs.Readings.{rejoined, unread}
 use Rattle.rk_rejoin.proofs.files.rejoin_files.Goals as goal
 

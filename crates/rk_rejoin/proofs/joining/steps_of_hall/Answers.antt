@@ -1,9 +1,5 @@
-use Rattle.std.proofs.Common.{◌≡◌, ◌+◌, List, [], ◌∷◌, ◌++◌, length, map, take, refl, sym, ap, subst, ◌∙◌, arith}
-use Rattle.std.specs.List.{flat_map}
-use Rattle.std.proofs.lemmas.List.{take_all}
-use Rattle.std.proofs.lemmas.Result.{err_from_is_err_and}
-use Rattle.rk_volumes.specs.declared.stored.Stored.{Stored}
-use Rattle.rk_rejoin.specs.Judged.{steps_of, of_hall, joined, AreNext}
+use Rattle.rk_rejoin.proofs.Words.{◌≡◌, ◌+◌, List, [], ◌∷◌, ◌++◌, length, map, take, refl, sym, ap, subst, ◌∙◌, arith, flat_map, take_all, err_from_is_err_and}
+use Rattle.rk_rejoin.proofs.Words.{Stored, steps_of, of_hall, joined, AreNext}
 use Rattle.rk_rejoin.proofs.Joined.{next_none, one_more, none_more, count_more, next_on, pushed, as_many, is_here, is_elsewhere}
 use Rattle.rk_rejoin.proofs.Told.{no_next}
 use Rattle.rk_rejoin.proofs.joining.steps_of_hall.Goals as goal

@@ -1,6 +1,4 @@
-use Rattle.std.proofs.Common.{◌≡◌, ◌<◌, ◌^◌, length, take, map}
-use Rattle.std.specs.List.{flat_map}
-use Rattle.rk_rejoin.specs.Judged.{steps_of, of_hall, AreNext}
+use Rattle.rk_rejoin.proofs.Words.{◌≡◌, ◌<◌, ◌^◌, length, take, map, flat_map, steps_of, of_hall, AreNext}
 use Rattle.rk_rejoin.proofs.joining.steps_of_hall.Given as goal
 
 abbrev pub invariant-loop-volume : goal.invariant-loop-volume

@@ -1,6 +1,4 @@
-use Rattle.std.proofs.Common.{◌<◌, length, take}
-use Rattle.std.specs.List.{flat_map}
-use Rattle.rk_rejoin.specs.Judged.{steps_of, of_hall}
+use Rattle.rk_rejoin.proofs.Words.{◌<◌, length, take, flat_map, steps_of, of_hall}
 use Rattle.rk_rejoin.proofs.judging.broken_at.Given as goal
 
 abbrev pub invariant-loop-volume : goal.invariant-loop-volume

@@ -1,6 +1,4 @@
-use Rattle.std.proofs.Common.{rules, ◌≡◌, length, refl, sym, ◌∙◌}
-use Rattle.std.proofs.lemmas.Option.{slice_get_read}
-use Rattle.rk_rejoin.specs.Judged.{negative_of}
+use Rattle.rk_rejoin.proofs.Words.{rules, ◌≡◌, length, refl, sym, ◌∙◌, slice_get_read, negative_of}
 use Rattle.rk_rejoin.proofs.judging.common_negative.Goals as goal
 
 pub returns-then-volume-negative-clause-refused : goal.returns-then-volume-negative-clause-refused

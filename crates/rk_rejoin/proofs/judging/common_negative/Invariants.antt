@@ -1,5 +1,4 @@
-use Rattle.std.proofs.Common.{◌≡◌, take}
-use Rattle.std.specs.List.{AllByRecursion}
+use Rattle.rk_rejoin.proofs.Words.{◌≡◌, take, AllByRecursion}
 use Rattle.rk_rejoin.proofs.judging.common_negative.Given as goal
 
 abbrev pub invariant-loop-volume : goal.invariant-loop-volume

@@ -1,8 +1,5 @@
-use Rattle.std.proofs.Common.{◌≡◌, ℕ, inl, inr, subst}
-use Rattle.std.specs.List.{AllByRecursion}
-use Rattle.std.proofs.lemmas.Result.{err_from_is_err_and}
+use Rattle.rk_rejoin.proofs.Words.{◌≡◌, ℕ, inl, inr, subst, AllByRecursion, err_from_is_err_and, Stored}
 use Rattle.rk_record.specs.declared.hall_no.HallNo.TheVariants as hall
-use Rattle.rk_volumes.specs.declared.stored.Stored.{Stored}
 use Rattle.rk_rejoin.proofs.Chained.{beside_of}
 use Rattle.rk_rejoin.proofs.Told.{hall_refused}
 use Rattle.rk_rejoin.proofs.judging.judge.Goals as goal

@@ -1,8 +1,4 @@
-use Rattle.std.proofs.Common.{List, length, ap, ◌∙◌, inl, inr, arith}
-use Rattle.std.proofs.lemmas.Result.{err_from_is_err_and}
-use Rattle.rk_record.specs.declared.recorded.Recorded.{Recorded}
-use Rattle.rk_record.specs.Volumes.{counted}
-use Rattle.rk_rejoin.specs.Judged.{of_hall}
+use Rattle.rk_rejoin.proofs.Words.{List, length, ap, ◌∙◌, inl, inr, arith, err_from_is_err_and, Recorded, counted, of_hall}
 use Rattle.rk_rejoin.proofs.Joined.{as_many, flat_steps}
 use Rattle.rk_rejoin.proofs.Told.{run_of, broken_of, breaks_at, numbered, hall_broken}
 use Rattle.rk_rejoin.proofs.judging.judge_hall.Goals as goal

@@ -1,9 +1,5 @@
-use Rattle.std.proofs.Common.{rules, ◌≡◌, ◌≢◌, ℕ, List, Option, length, refl, sym, subst, ◌∙◌}
-use Rattle.std.specs.List.{AllByRecursion}
-use Rattle.std.proofs.lemmas.List.{take_all}
-use Rattle.std.proofs.lemmas.Option.{slice_get_read}
-use Rattle.rk_volumes.specs.declared.stored.Stored.{Stored}
-use Rattle.rk_rejoin.specs.Chains.{run_of, run_of_first}
+use Rattle.rk_rejoin.proofs.Words.{rules, ◌≡◌, ◌≢◌, ℕ, List, Option, length, refl, sym, subst, ◌∙◌, AllByRecursion, take_all, slice_get_read, Stored, run_of}
+use Rattle.rk_rejoin.proofs.Words.{run_of_first}
 use Rattle.rk_rejoin.proofs.one_run.have_one_run.Goals as goal
 
 pub returns-then-not-is_of_run-clause-refused : goal.returns-then-not-is_of_run-clause-refused

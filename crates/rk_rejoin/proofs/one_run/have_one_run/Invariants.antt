@@ -1,6 +1,4 @@
-use Rattle.std.proofs.Common.{◌≡◌, take}
-use Rattle.std.specs.List.{AllByRecursion}
-use Rattle.rk_rejoin.specs.Chains.{run_of}
+use Rattle.rk_rejoin.proofs.Words.{◌≡◌, take, AllByRecursion, run_of}
 use Rattle.rk_rejoin.proofs.one_run.have_one_run.Given as goal
 
 abbrev pub invariant-loop-volume : goal.invariant-loop-volume

@@ -1,5 +1,4 @@
-use Rattle.std.proofs.Common.{string_bytes}
-use Rattle.std.proofs.lemmas.Result.{err_from_is_err_and}
+use Rattle.rk_rejoin.proofs.Words.{string_bytes, err_from_is_err_and}
 use Rattle.rk_rejoin.proofs.Readings.{none_read, one_more, out_after, stops}
 use Rattle.rk_rejoin.proofs.reading.read_all.Goals as goal
 

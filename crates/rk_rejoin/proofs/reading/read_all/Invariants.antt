@@ -1,6 +1,4 @@
-use Rattle.std.proofs.Common.{map, string_bytes, take}
-use Rattle.rk_rejoin.specs.Disk.{Reads}
-use Rattle.rk_rejoin.specs.Read.{AreRead}
+use Rattle.rk_rejoin.proofs.Words.{map, string_bytes, take, Reads, AreRead}
 use Rattle.rk_rejoin.proofs.reading.read_all.Given as goal
 
 abbrev pub invariant-loop-file : goal.invariant-loop-file

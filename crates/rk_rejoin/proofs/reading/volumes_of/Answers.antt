@@ -1,6 +1,4 @@
-use Rattle.std.proofs.Common.{rules, append-nil, sym}
-use Rattle.std.proofs.lemmas.List.Sorted.{answers_always}
-use Rattle.rk_rejoin.specs.Read.{rank_of}
+use Rattle.rk_rejoin.proofs.Words.{rules, append-nil, sym, answers_always, rank_of}
 use Rattle.rk_rejoin.proofs.Readings.{in_order, ran_out}
 use Rattle.rk_rejoin.proofs.reading.volumes_of.Goals as goal
 

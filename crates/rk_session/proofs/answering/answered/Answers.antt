@@ -1,9 +1,4 @@
-use Rattle.std.proofs.Common.{refl, subst, sym}
-use Rattle.rk_names.specs.declared.numbers.SessionId.TheVariants.{Client}
-use Rattle.rk_talk.proofs.Sayings.{why_not_read}
-use Rattle.rk_session.specs.declared.standing.Place.{Place}
-use Rattle.rk_session.specs.Moving.{Moves}
-use Rattle.rk_session.specs.Places.{AsksHere, Greets, NotRead, Says, ShutOut, says_done, standing_of}
+use Rattle.rk_session.proofs.Words.{refl, subst, sym, Client, why_not_read, Place, Moves, AsksHere, Greets, NotRead, Says, ShutOut, says_done, standing_of}
 use Rattle.rk_session.proofs.Seats.{moved_clients, moves_then, stays_moves}
 use Rattle.rk_session.proofs.Sendings.{pushes_same}
 use Rattle.rk_session.proofs.answering.answered.Goals as goal

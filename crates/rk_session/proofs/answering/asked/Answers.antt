@@ -1,9 +1,5 @@
-use Rattle.std.proofs.Common.{inl, refl, subst, sym}
-use Rattle.rk_names.specs.declared.numbers.SessionId.TheVariants.{Client}
-use Rattle.rk_talk.specs.Said.{IsNotAsked, IsToWait}
+use Rattle.rk_session.proofs.Words.{inl, refl, subst, sym, Client, IsNotAsked, IsToWait, receipt_answers, stays_same}
 use Rattle.rk_talk.specs.declared.saying.Saying.TheVariants as saying
-use Rattle.rk_talk.proofs.Sayings.{receipt_answers}
-use Rattle.rk_talk.proofs.Seats.{stays_same}
 use Rattle.rk_session.proofs.Sendings.{pushes_same}
 use Rattle.rk_session.proofs.answering.asked.Goals as goal
 

@@ -1,5 +1,4 @@
-use Rattle.std.proofs.Common.{sym, ap, ◌∙◌}
-use Rattle.rk_session.specs.Places.{is_done, says_done}
+use Rattle.rk_session.proofs.Words.{sym, ap, ◌∙◌, is_done, says_done}
 use Rattle.rk_session.proofs.answering.is_done.Goals as goal
 
 pub returns-in-Done : goal.returns-in-Done

@@ -1,8 +1,4 @@
-use Rattle.std.proofs.Common.{inl, inr, refl, subst}
-use Rattle.rk_record.specs.declared.hall_no.HallNo.TheVariants.{Zero}
-use Rattle.rk_names.specs.declared.numbers.SessionId.TheVariants.{Client}
-use Rattle.rk_session.specs.Moving.{Moves}
-use Rattle.rk_session.specs.Places.{standing_of}
+use Rattle.rk_session.proofs.Words.{inl, inr, refl, subst, Zero, Client, Moves, standing_of}
 use Rattle.rk_session.proofs.Seats.{came_and_went, left_clients, opened_clients}
 use Rattle.rk_session.proofs.serving.serve.Goals as goal
 

@@ -1,7 +1,4 @@
-use Rattle.std.proofs.Common.{refl, ◌∙◌}
-use Rattle.rk_names.specs.declared.numbers.SessionId.TheVariants.{Client}
-use Rattle.rk_talk.proofs.Seats.{stays_same}
-use Rattle.rk_session.specs.Places.{standing_of}
+use Rattle.rk_session.proofs.Words.{refl, ◌∙◌, Client, stays_same, standing_of}
 use Rattle.rk_session.proofs.Seats.{moves_then, stays_moves}
 use Rattle.rk_session.proofs.Sendings.{counts_same, counts_then}
 use Rattle.rk_session.proofs.Talks.{all_taken, ends_then, goes_nowhere, goes_then, taken_fewer, taken_goes}

@@ -1,10 +1,4 @@
-use Rattle.std.proofs.Common.{◌≡◌, ◌≤◌, length}
-use Rattle.rk_names.specs.declared.numbers.SessionId.TheVariants.{Client}
-use Rattle.rk_devices.specs.Counts.{most}
-use Rattle.rk_session.specs.Moving.{Moves}
-use Rattle.rk_session.specs.Parts.{GoesOn}
-use Rattle.rk_session.specs.Places.{standing_of}
-use Rattle.rk_session.specs.Wires.{Counts}
+use Rattle.rk_session.proofs.Words.{◌≡◌, ◌≤◌, length, Client, most, Moves, GoesOn, standing_of, Counts}
 use Rattle.rk_session.proofs.serving.take_all.Given as goal
 
 abbrev pub invariant-loop-served : goal.invariant-loop-served

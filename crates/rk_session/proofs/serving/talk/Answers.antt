@@ -1,15 +1,7 @@
-use Rattle.std.proofs.Common.{◌≡◌, refl, sym, ap, ◌∙◌, subst, arith}
-use Rattle.std.specs.Prelude.{Err}
-use Rattle.rk_names.specs.declared.numbers.SessionId.TheVariants.{Client}
-use Rattle.rk_frame.specs.Streams.{IsPartial}
-use Rattle.rk_devices.specs.Counts.{raised_by}
-use Rattle.rk_session.specs.Parts.{Hears}
-use Rattle.rk_session.specs.declared.serving.Served.TheVariants.{TurnsUsed}
-use Rattle.rk_session.specs.Places.{at_first, standing_of}
-use Rattle.rk_talk.proofs.Seats.{stays_same}
+use Rattle.rk_session.proofs.Words.{◌≡◌, refl, sym, ap, ◌∙◌, subst, arith, Err, Client, IsPartial, raised_by, Hears, TurnsUsed, at_first, standing_of}
+use Rattle.rk_session.proofs.Words.{stays_same, nothing_held}
 use Rattle.rk_session.proofs.Seats.{moves_then, stays_moves}
 use Rattle.rk_session.proofs.Sendings.{counts_same, counts_then, hears_counts, hears_ends, hears_kept, hears_more, hears_reads, parts_ends, parts_in_turns, parts_kept, parts_reads, parts_unused}
-use Rattle.rk_child.proofs.Taking.{nothing_held}
 use Rattle.rk_session.proofs.Talks.{Stands, hears_talked, most_more, parts_talked, raised_none, reads_more, stands_ends, stands_first, stands_on, stands_read, used_ends}
 use Rattle.rk_session.proofs.serving.talk.Goals as goal
 

@@ -1,10 +1,4 @@
-use Rattle.std.proofs.Common.{◌≡◌, ◌≤◌, ◌+◌}
-use Rattle.rk_names.specs.declared.numbers.SessionId.TheVariants.{Client}
-use Rattle.rk_frame.specs.Streams.{IsPartial}
-use Rattle.rk_devices.specs.Counts.{most, raised_by}
-use Rattle.rk_session.specs.Moving.{Moves}
-use Rattle.rk_session.specs.Places.{standing_of}
-use Rattle.rk_session.specs.Wires.{Counts}
+use Rattle.rk_session.proofs.Words.{◌≡◌, ◌≤◌, ◌+◌, Client, IsPartial, most, raised_by, Moves, standing_of, Counts}
 use Rattle.rk_session.proofs.Talks.{Stands}
 use Rattle.rk_session.proofs.serving.talk.Given as goal
 

@@ -1,8 +1,4 @@
-use Rattle.std.proofs.Common.{subst, sym}
-use Rattle.rk_names.specs.declared.numbers.SessionId.TheVariants.{Client}
-use Rattle.rk_talk.specs.Stays.{Stays}
-use Rattle.rk_talk.proofs.Seats.{stays_same}
-use Rattle.rk_session.specs.Opening.{IsNotCalled}
+use Rattle.rk_session.proofs.Words.{subst, sym, Client, Stays, stays_same, IsNotCalled}
 use Rattle.rk_session.proofs.Seats.{opened_by}
 use Rattle.rk_session.proofs.standing.open.Goals as goal
 

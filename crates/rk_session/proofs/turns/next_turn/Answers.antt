@@ -1,6 +1,5 @@
-use Rattle.std.proofs.Common.{subst}
+use Rattle.rk_session.proofs.Words.{subst, standing_of}
 use Rattle.rk_frame.specs.Answer.{Leaves}
-use Rattle.rk_session.specs.Places.{standing_of}
 use Rattle.rk_session.proofs.Talks.{turn_ends}
 use Rattle.rk_session.proofs.turns.next_turn.Goals as goal
 

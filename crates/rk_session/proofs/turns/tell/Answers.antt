@@ -1,5 +1,4 @@
-use Rattle.std.proofs.Common.{subst, sym}
-use Rattle.rk_talk.specs.Replies.{LacksFrame, ReplyFramed}
+use Rattle.rk_session.proofs.Words.{subst, sym, LacksFrame, ReplyFramed}
 use Rattle.rk_session.proofs.Sendings.{counts_then, notes_counts, writes_counts}
 use Rattle.rk_session.proofs.Sayings.{memory_speaks, noted_speaks, settled_takes}
 use Rattle.rk_session.proofs.turns.tell.Goals as goal

@@ -1,5 +1,4 @@
-use Rattle.std.proofs.Common.{subst, ◌∙◌}
-use Rattle.rk_session.specs.Parts.{Speaks}
+use Rattle.rk_session.proofs.Words.{subst, ◌∙◌, Speaks}
 use Rattle.rk_session.proofs.Sayings.{says_settled}
 use Rattle.rk_session.proofs.Sendings.{counts_then}
 use Rattle.rk_session.proofs.turns.turn.Goals as goal
