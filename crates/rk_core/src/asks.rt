@@ -1,17 +1,20 @@
 //! One ask: whether the session may ask, and what it comes to.
-ghost use Rattle.std.specs.Prelude.{◌≡◌, None, Some, is_some, true};
+ghost use Rattle.std.specs.Prelude.{◌≡◌, None, Some, Err, is_some, true};
 ghost use Rattle.std.specs.Bool.{MatchBool};
 ghost use Rattle.rk_auth.specs.Sessions.{session_of};
 ghost use Rattle.rk_machine.specs.Allowed.{Tells};
 ghost use Rattle.rk_machine.specs.Asker.{asker_of};
 ghost use Rattle.rk_machine.specs.Asks.{Asking};
+ghost use Rattle.rk_machine.specs.Owing.{asked_in};
 ghost use Rattle.rk_machine.specs.Steps.{Step};
+ghost use Rattle.rk_core.specs.Copies.{Copied};
 ghost use Rattle.rk_core.specs.Finding.{answer_of, is_hello, is_first};
 ghost use Rattle.rk_core.specs.Sound.{IsSound};
 
 use crate::completion_asks::Completion;
+use crate::subject_copies::SubjectCopies;
 use crate::tables::Tables;
-use crate::wanted::Wanted;
+use crate::wanted::{Requester, Wanted};
 use rk_machine::{Answer, Asker, EventOf};
 use rk_message::AskStep;
 use rk_names::{Errno, KeyError, Moment, SessionId};
@@ -19,23 +22,37 @@ use rk_names::{Errno, KeyError, Moment, SessionId};
 impl Tables {
     /// What a session asks is done, refused, waited for or started.
     #[inline(always)]
-    pub fn asked(&mut self, now: Moment, id: &SessionId, ask: AskStep<'_>) -> Answer
+    pub fn asked(
+        &mut self,
+        now: Moment,
+        id: &SessionId,
+        ask: AskStep<'_>,
+        copies: &mut SubjectCopies,
+    ) -> Answer
         requires sound { IsSound self.old }
-        ensures { Step self.old now (EventOf.Asked id.now ask.entry) result self.new }
+        ensures step { Step self.old now (EventOf.Asked id.now ask.entry) result self.new }
+        ensures copies { is_some (asked_in ask.entry) ≡ true → Copied result copies.old copies.new }
     {
-        match self.ask(now, id, ask) {
+        match self.ask(now, id, ask, copies) {
             Ok(answer) => answer,
             Err(error) => Answer::Refused(error),
         }
     }
 
     #[inline(always)]
-    fn ask(&mut self, now: Moment, id: &SessionId, ask: AskStep<'_>) -> Result<Answer, Errno>
+    fn ask(
+        &mut self,
+        now: Moment,
+        id: &SessionId,
+        ask: AskStep<'_>,
+        copies: &mut SubjectCopies,
+    ) -> Result<Answer, Errno>
         requires sound { IsSound self.old }
-        ensures { Step self.old now (EventOf.Asked id.now ask.entry) (answer_of result) self.new }
+        ensures step { Step self.old now (EventOf.Asked id.now ask.entry) (answer_of result) self.new }
+        ensures copies { is_some (asked_in ask.entry) ≡ true → Copied (answer_of result) copies.old copies.new }
     {
         match self.asker(id) {
-            Ok(Some(asker)) => self.act(now, id, &asker, ask),
+            Ok(Some(asker)) => self.act(now, id, &asker, ask, copies),
             Ok(None) => self.first_ask(now, id, &ask),
             Err(error) => Err(error),
         }
@@ -44,8 +61,9 @@ impl Tables {
     /// An ask of a session for which nobody acts yet: HELLO of a client, ASSUME of a handler. EACCES for any other.
     fn first_ask(&mut self, now: Moment, id: &SessionId, ask: &AskStep<'_>) -> Result<Answer, Errno>
         requires sound { IsSound self.old }
-        ensures { MatchBool (is_first id.now ask.now) (Asking self.old now id.now ask.now (answer_of result) self.new)
+        ensures step { MatchBool (is_first id.now ask.now) (Asking self.old now id.now ask.now (answer_of result) self.new)
             (Tells (Answer.Refused Errno.Eacces) self.old (answer_of result) self.new) }
+        ensures request { is_some (asked_in ask.now) ≡ true → result ≡ Err Errno.Eacces }
     {
         let _ = now;
         match (id, ask) {
@@ -63,12 +81,14 @@ impl Tables {
         id: &SessionId,
         asker: &Asker,
         ask: AskStep<'_>,
+        copies: &mut SubjectCopies,
     ) -> Result<Answer, Errno>
         requires sound { IsSound self.old }
         requires there { is_some (session_of self.old.sessions id.now) ≡ true }
         requires asker { asker_of self.old id.now ≡ Some asker.now }
-        ensures { MatchBool (is_hello ask.entry) (Tells (Answer.Refused Errno.Einval) self.old (answer_of result) self.new)
+        ensures step { MatchBool (is_hello ask.entry) (Tells (Answer.Refused Errno.Einval) self.old (answer_of result) self.new)
             (Asking self.old now id.now ask.entry (answer_of result) self.new) }
+        ensures copies { is_some (asked_in ask.entry) ≡ true → Copied (answer_of result) copies.old copies.new }
     {
         match ask {
             AskStep::Hello(_) => Err(Errno::Einval),
@@ -80,7 +100,8 @@ impl Tables {
             } => {
                 let name = self.keys.hashed(typ, description);
                 let wanted = Wanted { name, callout };
-                self.request(now, id, asker, &wanted, destination)
+                let by = Requester { id, asker };
+                self.request(now, &by, &wanted, destination, copies)
             }
             AskStep::Assume { key } => self.assume(id, key),
             AskStep::Instantiate { key, payload, ring } => {

@@ -1,9 +1,19 @@
-//! What a REQUEST wants.
+//! What a REQUEST wants, and who wants it.
 ghost use Rattle.std.specs.Prelude.{◌≡◌, IfOk};
 
 use rk_keys::HashedName;
-use rk_names::{Callout, CalloutView, Description, TypeName};
+use rk_machine::Asker;
+use rk_names::{Callout, CalloutView, Description, SessionId, TypeName};
 use std::alloc::{AllocError, Global};
+
+/// Who requests a key.
+#[derive(Debug, Drop)]
+pub struct Requester<'a> {
+    /// The session that is to wait.
+    pub id: &'a SessionId,
+    /// Whose context is searched.
+    pub asker: &'a Asker,
+}
 
 /// What a REQUEST wants, in the session's own bytes.
 #[derive(Debug, Drop)]

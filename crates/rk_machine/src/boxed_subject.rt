@@ -1,13 +1,12 @@
 //! The subject of a construction on the heap, so that an answer is small to move.
 ghost use Rattle.std.specs.Prelude.{◌≡◌, IfOk};
 ghost use Rattle.rk_macro.specs.declared.subject.Op.TheVariants as op;
-ghost use Rattle.rk_machine.specs.Owing.{names_in};
 ghost use Rattle.rk_macro.specs.contracts.subject.SubjectPartialEq.TheImpl as partial;
 ghost use Rattle.rk_macro.specs.contracts.subject.SubjectPartialEq.TheImpl.Laws as partial_laws;
 ghost use Rattle.rk_macro.specs.contracts.subject.SubjectEq.TheImpl.Laws as total_laws;
 
 use rk_macro::{Op, Subject};
-use rk_names::{Callout, Description, Serial, TypeName};
+use rk_names::Serial;
 use std::alloc::{AllocError, Global};
 use std::marker::Model;
 
@@ -36,34 +35,6 @@ impl BoxedSubject {
         })
     }
 
-    /// A place for a subject with these names, whose key, operation and requester are not known yet: [`BoxedSubject::fill`] puts them in. So the memory
-    /// is taken before the step that must not want any. An `Err` is out of memory.
-    pub fn of_names(
-        alloc: Global,
-        typ: TypeName,
-        desc: Description,
-        callout: Callout,
-    ) -> Result<BoxedSubject, AllocError>
-        ensures { IfOk result (λ b. names_in b ≡ (typ, (desc, callout))) }
-    {
-        let Some(key) = Serial::new(1) else {
-            unreachable!()
-        };
-        let subject = Subject {
-            key,
-            op: Op::Create,
-            typ,
-            desc,
-            callout,
-            uid: 0,
-            gid: 0,
-            thread: 0,
-            process: 0,
-            session: 0,
-        };
-        BoxedSubject::new(alloc, subject)
-    }
-
     /// The subject.
     pub fn as_subject(&self) -> &Subject
         ensures { result.now ≡ self.now }
@@ -77,23 +48,6 @@ impl BoxedSubject {
     {
         let BoxedSubject { subject } = self;
         Box::into_inner(subject)
-    }
-
-    /// A copy of a subject with the same names, in this place. It takes no memory.
-    pub fn fill(self, subject: &Subject) -> BoxedSubject
-        requires { names_in self ≡ names_in subject.now }
-        ensures { result ≡ subject.now }
-    {
-        let mut copy = self;
-        let place: &mut Subject = &mut copy.subject;
-        place.key = subject.key;
-        place.op = subject.op;
-        place.uid = subject.uid;
-        place.gid = subject.gid;
-        place.thread = subject.thread;
-        place.process = subject.process;
-        place.session = subject.session;
-        copy
     }
 
     /// The same subject with this key. It takes no memory.

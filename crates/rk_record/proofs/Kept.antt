@@ -19,6 +19,9 @@ use Rattle.rk_machine.specs.Owing.{owed, ends_owed, owed_to, ends_owed_to, const
 use Rattle.rk_machine.specs.Recording.{Reached, Recording}
 use Rattle.rk_machine.proofs.OwedSteps.EachRecorded.{reached_recording, owed_part, ends_part}
 use Rattle.rk_machine.proofs.OwedSteps.WeightsOfMaps.{no_heavier}
+use Rattle.rk_core.specs.declared.subject_copies.SubjectCopies.{SubjectCopies}
+use Rattle.rk_core.specs.declared.subject_copies.SubjectCopies.TheVariants.{Wanted, Made}
+use Rattle.rk_core.specs.Copies.{Copied, pair_of}
 use Rattle.rk_record.specs.Journal.{JournalShown, prepared, rooms_taken, rooms_made}
 use Rattle.rk_record.specs.Copies.{FitsStart, IsNoAsk, IsIdleAnswer}
 
@@ -136,13 +139,16 @@ frees w v now e a j reached step owes owes_ends =
     let part = owed_part w (whose e) in
     let ends = ends_part w (whose e) in (omega arith, omega arith)
 
--- a start tells what was asked for
-pub fits_start : (w v : World) (now : ℕ) (e : Event) (a : Answer) → Reached w → Step w now e a v → FitsStart (asked_of e) a
-fits_start w v now e (Start k subject) r step = (reached_recording w now e _ v r step).asked k subject refl
-fits_start w v now e (Done x) r step = tt
-fits_start w v now e (Negate k) r step = tt
-fits_start w v now e (Waiting k) r step = tt
-fits_start w v now e (Refused x) r step = tt
+-- of a start two copies of its subject were made
+pub fits_start : (w v : World) (now : ℕ) (e : Event) (a : Answer) (new : SubjectCopies) → Reached w → Step w now e a v
+    → (is_some (asked_of e) ≡ true → Copied a Wanted new) → FitsStart (pair_of new).0 a × FitsStart (pair_of new).1 a
+fits_start w v now e (Start k subject) new r step made =
+    let both : new ≡ Made subject subject = made (ap is_some ((reached_recording w now e _ v r step).asked k subject refl)) refl in
+    (ap (λ c. (pair_of c).0) both, ap (λ c. (pair_of c).1) both)
+fits_start w v now e (Done x) new r step made = (tt, tt)
+fits_start w v now e (Negate k) new r step made = (tt, tt)
+fits_start w v now e (Waiting k) new r step made = (tt, tt)
+fits_start w v now e (Refused x) new r step made = (tt, tt)
 
 -- what can't be recorded changed nothing, and was not owed
 pub idle_same : (w v : World) (now : ℕ) (e : Event) (a : Answer) → Reached w → Step w now e a v → IsIdleAnswer a → (v ≡ w) × (is_owed w e ≡ false)

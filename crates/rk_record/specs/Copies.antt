@@ -1,4 +1,4 @@
--- What a receipt says of an event, and what has to be copied for a record before a step.
+-- What a receipt says of an event, and what has to be copied of a step for a record.
 use Rattle.std.specs.Prelude.{◌≡◌, ◌⊎◌, ℕ, List, length, Option, Some, None, option_map}
 use Rattle.rk_names.specs.declared.errors.Errno.TheVariants as errno
 use Rattle.rk_macro.specs.declared.subject.Subject.{Subject}
@@ -7,7 +7,6 @@ use Rattle.rk_machine.specs.Event.{Event}
 use Rattle.rk_machine.specs.declared.event.EventOf.TheVariants as event
 use Rattle.rk_machine.specs.declared.event.Answer.{Answer}
 use Rattle.rk_machine.specs.declared.event.Answer.TheVariants.{Done, Start, Refused}
-use Rattle.rk_machine.specs.Owing.{names_in, asked_of}
 use Rattle.rk_record.specs.declared.told.Told.{Told}
 use Rattle.rk_record.specs.declared.told.Told.TheVariants as told
 use Rattle.rk_record.specs.declared.turn.Copies.{Copies}
@@ -26,10 +25,10 @@ abbrev pub started : Answer → Option Subject
 started (Start k subject) = Some subject
 started _ = None
 
--- a start tells what was asked for
-abbrev pub FitsStart : Option (List ℕ × (List ℕ × List ℕ)) → Answer → Type 0
-FitsStart asked (Start k subject) = asked ≡ Some (names_in subject)
-FitsStart asked _ = Unit {0}
+-- of a start there is a copy of its subject
+abbrev pub FitsStart : Option Subject → Answer → Type 0
+FitsStart copy (Start k subject) = copy ≡ Some subject
+FitsStart copy _ = Unit {0}
 
 -- an event other than an ask, and so copied without memory but for its payload
 abbrev pub IsNoAsk : Event → Type 0
@@ -44,5 +43,3 @@ IsIdleAnswer a = ((b : List ℕ) × (a ≡ Done (Bytes b))) ⊎ (a ≡ Refused e
 pub record AreCopies (e : Event) (c : Copies) : Type 0 where
   pub event : c.event ≡ e
   pub told : c.told ≡ told_of e
-  pub recorded : option_map names_in c.recorded ≡ asked_of e
-  pub started : option_map names_in c.started ≡ asked_of e

@@ -1,54 +1,42 @@
-//! What is copied of a step, so that its record, its receipt and who launches a handler each have their own.
-ghost use Rattle.std.specs.Prelude.{◌≡◌, ◌≤◌, ◌-◌, None, Some, option_map, IfOk, IfSome, IfNone, ◌≢◌};
-ghost use Rattle.rk_machine.specs.Owing.{asked_of, names_in};
+//! What is copied of a step, so that its record and its receipt each have their own.
+ghost use Rattle.std.specs.Prelude.{◌≡◌, ◌≤◌, ◌-◌, is_some, IfSome, IfNone, ◌≢◌};
+ghost use Rattle.rk_machine.specs.Owing.{asked_of};
 ghost use Rattle.rk_record.specs.Journal.{rooms_taken};
 ghost use Rattle.rk_record.specs.Copies.{started, FitsStart, IsNoAsk, IsIdleAnswer};
 
 use crate::journal::Journal;
 use rk_machine::{Answer, BoxedSubject, Event, EventStep};
-use rk_message::{Ask, Reply};
+use rk_message::{AskStep, Reply};
 use rk_names::Errno;
-use std::alloc::{AllocError, Global};
 
-/// The names that an event asks for, where it may start a construction, in a place for the subject of a start.
-#[inline(always)]
-pub(crate) fn place_for_subject(
-    alloc: Global,
-    event: &Event,
-) -> Result<Option<BoxedSubject>, AllocError>
-    ensures { IfOk result (λ n. option_map names_in n ≡ asked_of event.now) }
+/// Whether an event may start a construction: a REQUEST with a callout.
+pub(crate) fn may_start(event: &EventStep<'_>) -> bool
+    ensures { result ≡ is_some (asked_of event.now) }
 {
-    match event {
-        Event::Asked(_, ask) => match ask.ask() {
-            Ask::Request {
-                typ,
-                description,
-                callout: Some(callout),
+    matches!(
+        event,
+        EventStep::Asked(
+            _,
+            AskStep::Request {
+                callout: Some(_),
                 ..
-            } => Ok(Some(BoxedSubject::of_names(
-                alloc,
-                typ.clone()?,
-                description.clone()?,
-                callout.clone()?,
-            )?)),
-            _ => Ok(None),
-        },
-        _ => Ok(None),
-    }
+            },
+        )
+    )
 }
 
-/// A copy of an answer for the record, which for a start takes no memory but the place. `None` if there is none: out of memory is no answer
+/// A copy of an answer for the record, which for a start has this copy of its subject. `None` if there is none: out of memory is no answer
 /// for a record, and for bytes there may be no memory. Neither has changed anything.
 #[inline(always)]
-pub(crate) fn recorded_answer(answer: &Answer, place: Option<BoxedSubject>) -> Option<Answer>
-    requires { FitsStart (option_map names_in place) answer.now }
+pub(crate) fn recorded_answer(answer: &Answer, subject: Option<BoxedSubject>) -> Option<Answer>
+    requires { FitsStart subject answer.now }
     ensures copy { IfSome result (λ a. (a ≡ answer.now) × (a ≢ Answer.Refused Errno.Enomem)) }
     ensures none { IfNone result (IsIdleAnswer answer.now) }
 {
     match answer {
         Answer::Done(reply) => Some(Answer::Done(recorded_reply(reply)?)),
-        Answer::Start(key, subject) => match place {
-            Some(place) => Some(Answer::Start(*key, place.fill(subject.as_subject()))),
+        Answer::Start(key, _) => match subject {
+            Some(subject) => Some(Answer::Start(*key, subject)),
             None => unreachable!(),
         },
         Answer::Negate(key) => Some(Answer::Negate(*key)),
@@ -83,14 +71,17 @@ fn recorded_reply(reply: &Reply) -> Option<Reply>
     }
 }
 
-/// The subject of a start once more. It takes no memory.
+/// The copy of the subject of a start, for whoever launches the handler; of any other answer there is none.
 #[inline(always)]
-pub(crate) fn started_subject(answer: &Answer, place: Option<BoxedSubject>) -> Option<BoxedSubject>
-    requires { FitsStart (option_map names_in place) answer.now }
+pub(crate) fn started_subject(
+    answer: &Answer,
+    subject: Option<BoxedSubject>,
+) -> Option<BoxedSubject>
+    requires { FitsStart subject answer.now }
     ensures { result ≡ started answer.now }
 {
-    match (answer, place) {
-        (Answer::Start(_, subject), Some(place)) => Some(place.fill(subject.as_subject())),
+    match answer {
+        Answer::Start(_, _) => subject,
         _ => None,
     }
 }

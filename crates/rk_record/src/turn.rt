@@ -7,14 +7,14 @@ ghost use Rattle.rk_record.specs.Turns.{Turned};
 ghost use Rattle.rk_record.specs.Journal.{prepared, rooms_taken, rooms_made};
 ghost use Rattle.rk_record.specs.Copies.{started, IsNoAsk, AreCopies};
 
-use crate::copies::{copy_without_memory, place_for_subject, recorded_answer, started_subject};
+use crate::copies::{copy_without_memory, may_start, recorded_answer, started_subject};
 use crate::fault::HallFault;
 use crate::hall::Hall;
 use crate::journal::Journal;
 use crate::receipt::Receipt;
 use crate::recorded::Recorded;
 use crate::told::Told;
-use rk_core::Book;
+use rk_core::{Book, SubjectCopies};
 use rk_machine::{BoxedSubject, Event, EventStep};
 use rk_names::{Moment, SessionId};
 use std::alloc::{AllocError, Global};
@@ -63,8 +63,10 @@ impl Hall {
         let copies = prepare(&self.book, &mut self.journal, &event, copies)?;
         let whose = event.whose();
         let owed = Kept::owed_to(&self.book, &whose);
-        let answer = self.book.step(now, event);
-        let Some(copy) = recorded_answer(&answer, copies.recorded) else {
+        let mut subjects = SubjectCopies::Wanted;
+        let answer = self.book.step_to_start(now, event, &mut subjects);
+        let (recorded, started) = subjects.into_pair();
+        let Some(copy) = recorded_answer(&answer, recorded) else {
             self.journal.keep(kept.places, kept.ends);
             return Err(HallFault::NoMemory);
         };
@@ -78,7 +80,7 @@ impl Hall {
             kept.places + left.places + answer.start_owes() - owed.places,
             kept.ends + left.ends + answer.start_ends() - owed.ends,
         );
-        let subject = started_subject(&answer, copies.started);
+        let subject = started_subject(&answer, started);
         Ok((
             Receipt {
                 hall: self.no,
@@ -122,17 +124,13 @@ impl Kept {
     }
 }
 
-/// What a turn copies of its event: for the record, the receipt, and whoever starts a handler.
+/// What a turn copies of its event: for the record and the receipt.
 #[derive(Drop)]
 pub struct Copies {
     /// The event, for the record.
     event: Event,
     /// What the receipt says of it.
     told: Told,
-    /// A place for the subject of a start, for the record.
-    recorded: Option<BoxedSubject>,
-    /// And once more, for whoever starts the handler.
-    started: Option<BoxedSubject>,
 }
 
 impl Copies {
@@ -144,8 +142,6 @@ impl Copies {
         let event = event.to_owned(alloc)?;
         Ok(Copies {
             told: Told::of(&event)?,
-            recorded: place_for_subject(alloc, &event)?,
-            started: place_for_subject(alloc, &event)?,
             event,
         })
     }
@@ -195,8 +191,6 @@ fn owed_copies(journal: &mut Journal, event: &EventStep<'_>) -> Copies
     Copies {
         event: copy_without_memory(event, journal),
         told: Told::of_no_ask(event),
-        recorded: None,
-        started: None,
     }
 }
 
@@ -215,7 +209,7 @@ fn with_ends(
     let Some(copies) = copies else {
         return Err(AllocError);
     };
-    let ends = if copies.recorded.is_some() { 2 } else { 0 };
+    let ends = if may_start(event) { 2 } else { 0 };
     journal.reserve_ends(ends)?;
     Ok(copies)
 }

@@ -28,10 +28,11 @@
 //! # How it is built
 //!
 //! `wire` is the trait, `standing` opens a client, moves it and reports it gone, `answering` finds what is to be said of a message, `turns` notes and writes
-//! it, and `serving` reads. A `Visit` has what is one client's. What is common to clients and plain handlers is in rk_talk. In `specs/`, `Talk` is to be read first: what a session does. It
-//! cites `Places`, what is to be said of a message and how the client stands then, and `Wires`, what is seen of a wire. `Places` cites `Opening`: how
-//! an opening came to what is said of it, as the seat knows; of an ask rk_talk says that. `Parts` and `Moving` are of the functions inside: a part of a talk,
-//! and the clients of a seat.
+//! it, and `serving` reads. A `Visit` has what is one client's. What is common to clients and plain handlers is in rk_talk.
+//!
+//! In `specs/`, `Talk` is to be read first: what a session does. It cites `Places`, what is to be said of a message and how the client stands then, and
+//! `Wires`, what is seen of a wire. `Places` cites `Opening`: how an opening came to what is said of it, as the seat knows; of an ask rk_talk says that.
+//! `Parts` and `Moving` are of the functions inside: a part of a talk, and the clients of a seat.
 #![tactic(auto)]
 
 mod answering;

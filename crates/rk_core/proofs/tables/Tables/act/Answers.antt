@@ -2,8 +2,8 @@ use Rattle.rk_core.proofs.Words.{◌≡◌, subst, rules, w32, to_z, of_z, Reads
 use Rattle.rk_core.proofs.Stepping.AskByParts.{reads_so}
 use Rattle.rk_core.proofs.tables.Tables.act.Goals as goal
 
-pub returns-in-Read : goal.returns-in-Read
-returns-in-Read c =
+pub returns-in-Read-clause-step : goal.returns-in-Read-clause-step
+returns-in-Read-clause-step c =
     let w = c.args.self.now in
     let number : to_z w32 (of_z w32 c.in-Read.key) ≡ c.in-Read.key = search rules in
     reads_so w c.args.now c.args.id.now c.args.asker.now c.in-Read.key c.args.ask (answer_of c.read.result) c.in-Read.is c.requires.asker
