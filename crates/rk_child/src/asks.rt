@@ -136,7 +136,13 @@ fn answer_next<P: Platform>(
             let saying = answered(stage, crew, key, depth, body);
             let completed = says_made(&saying, key);
             asks.course.made = asks.course.made || completed;
-            if reply(stage, child, SessionId::Handler(key), saying) {
+            if reply(
+                stage,
+                &mut crew.reply,
+                child,
+                SessionId::Handler(key),
+                saying,
+            ) {
                 Turned::Replied
             } else {
                 Turned::AtEnd

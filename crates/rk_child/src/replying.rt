@@ -5,16 +5,15 @@ ghost use Rattle.rk_child.specs.Replying.{EndsAsks};
 use rk_devices::{Child, Gate};
 use rk_names::{Errno, SessionId};
 use rk_talk::{Platform, Saying, Stage, answer_frame, refusal_frame};
-use std::alloc::Global;
 
-// Writes what is to be said, in one write; if there is no memory for the reply, it is out of memory. False if it can't be written, or nothing
-// is to be said.
-fn is_said<C: Child>(alloc: Global, child: &mut C, saying: Saying) -> bool
+// Writes what is to be said, in one write, from this buffer where it takes memory; if there is no memory for the reply, it is out of memory. False if it
+// can't be written, or nothing is to be said.
+fn is_said<C: Child>(buffer: &mut Vec<u8>, child: &mut C, saying: Saying) -> bool
     ensures goes_on { GoesOn (C.shown child.old) (C.shown child.new) }
     ensures ends { EndsAsks result saying (C.shown child.old) (C.shown child.new) }
 {
     match saying {
-        Saying::Noted(receipt) => match answer_frame(alloc, receipt.answer()) {
+        Saying::Noted(receipt) => match answer_frame(buffer, receipt.answer()) {
             Ok(bytes) => child.write(bytes.as_bytes()).is_ok(),
             Err(_) => child.write(&refusal_frame(Errno::Enomem)).is_ok(),
         },
@@ -23,9 +22,11 @@ fn is_said<C: Child>(alloc: Global, child: &mut C, saying: Saying) -> bool
     }
 }
 
-/// Replies to the handler of this session, and tells the gate. False if its asks are at their end: the reply can't be written, or there is none.
+/// Replies to the handler of this session, and tells the gate; a reply that takes memory lies in this buffer. False if its asks are at their end: the
+/// reply can't be written, or there is none.
 pub fn reply<P: Platform, C: Child>(
     stage: &Stage<'_, P>,
+    buffer: &mut Vec<u8>,
     child: &mut C,
     session: SessionId,
     saying: Saying,
@@ -33,7 +34,7 @@ pub fn reply<P: Platform, C: Child>(
     ensures goes_on { GoesOn (C.shown child.old) (C.shown child.new) }
     ensures ends { EndsAsks result saying (C.shown child.old) (C.shown child.new) }
 {
-    if !is_said(stage.alloc, child, saying) {
+    if !is_said(buffer, child, saying) {
         return false;
     }
     stage.gate.answered(stage.rt, session);

@@ -155,6 +155,7 @@ fn serve_clients<'a, N: Names, R: Wait + Processes + Clock + Eprint + Keeper>(
         },
         launcher: Programs::new(rt, alloc, keyutils),
         piece: [0; MAX_PIECE],
+        reply: Vec::new(alloc),
     };
     let log = Reporter::new(rt, &shared.log);
     for client in clients.iter(rt) {
@@ -171,6 +172,7 @@ fn serve_clients<'a, N: Names, R: Wait + Processes + Clock + Eprint + Keeper>(
         caller,
         launcher,
         piece: _,
+        reply: _,
     } = crew;
     let Caller { seat, clock } = caller;
     drop(launcher);

@@ -19,16 +19,16 @@ use rk_frame::Next;
 use rk_hall::Receipt;
 use rk_names::{Errno, SessionId};
 use rk_talk::{Crew, Platform, Saying, Stage, answer_frame, refusal_frame};
-use std::alloc::Global;
 
-// Notes the receipt, and then writes the reply of its answer. If there is no memory for the reply, it is out of memory, and nothing is noted.
-fn tell<W: Wire>(alloc: Global, wire: &mut W, receipt: Receipt) -> Result<(), DeviceFault>
+// Notes the receipt, and then writes the reply of its answer, which lies in this buffer where it takes memory. If there is no memory for the reply, it is
+// out of memory, and nothing is noted.
+fn tell<W: Wire>(buffer: &mut Vec<u8>, wire: &mut W, receipt: Receipt) -> Result<(), DeviceFault>
     requires { IsToWait receipt.answer → ⊥ }
     ensures speaks { Speaks (saying.Noted receipt) (ended result) (W.shown wire.old).story (W.shown wire.new) }
     ensures counts { Counts (W.shown wire.old) (W.shown wire.new) }
     ensures reads { (W.shown wire.new).reads ≡ (W.shown wire.old).reads }
 {
-    match answer_frame(alloc, receipt.answer()) {
+    match answer_frame(buffer, receipt.answer()) {
         Ok(bytes) => {
             wire.note(receipt);
             wire.write(bytes.as_bytes())
@@ -66,6 +66,7 @@ fn written<P: Platform>(
 // Says what is to be said.
 fn say<P: Platform, W: Wire>(
     stage: &Stage<'_, P>,
+    buffer: &mut Vec<u8>,
     wire: &mut W,
     client: u32,
     saying: Saying,
@@ -76,7 +77,7 @@ fn say<P: Platform, W: Wire>(
     ensures reads { (W.shown wire.new).reads ≡ (W.shown wire.old).reads }
 {
     match saying {
-        Saying::Noted(receipt) => written(stage, client, tell(stage.alloc, wire, receipt)),
+        Saying::Noted(receipt) => written(stage, client, tell(buffer, wire, receipt)),
         Saying::Short(errno) => written(stage, client, refuse(wire, errno)),
         Saying::Behind => Err(Served::Behind),
     }
@@ -100,7 +101,7 @@ fn turn<P: Platform, W: Wire>(
     ensures moves { Moves place.old.hall place.new.hall crew.old.caller.seat crew.new.caller.seat }
 {
     let saying = answered(stage, crew, client, place, body, wire);
-    say(stage, wire, client, saying)
+    say(stage, &mut crew.reply, wire, client, saying)
 }
 
 /// Takes the next message, if there is one, and says what is to be said of it. An `Err` is the session's end.

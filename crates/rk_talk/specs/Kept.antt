@@ -7,4 +7,4 @@ use Rattle.rk_talk.specs.declared.frame.Kept.TheVariants.{Number, Refusal, Other
 abbrev pub kept_bytes : Kept → List ℕ
 kept_bytes (Number bytes) = bytes
 kept_bytes (Refusal bytes) = bytes
-kept_bytes (Other bytes) = bytes.items
+kept_bytes (Other bytes) = bytes.now

@@ -5,23 +5,23 @@ use std::marker::Model;
 
 /// A reply with its length before it. Those of a number and of a refusal lie in their value, so that they take no memory.
 #[derive(Debug, Drop)]
-pub struct Frame {
+pub struct Frame<'a> {
     /// The reply's length and body.
-    bytes: Kept,
+    bytes: Kept<'a>,
 }
 
 /// Where the bytes lie.
 #[derive(Debug, Drop)]
-enum Kept {
+enum Kept<'a> {
     /// A length of four bytes, the kind, and a number of four.
     Number([u8; 9]),
     /// A length of four bytes, the kind, and an error of one.
     Refusal([u8; 6]),
     /// Any other reply, which takes memory.
-    Other(Vec<u8>),
+    Other(&'a [u8]),
 }
 
-impl Model for Frame {
+impl<'a> Model for Frame<'a> {
     ghost use Rattle.std.specs.Prelude.{List, ℕ};
     ghost use Rattle.rk_talk.specs.Kept.{kept_bytes};
 
@@ -30,9 +30,9 @@ impl Model for Frame {
     ghost view = { λ f. kept_bytes f.bytes };
 }
 
-impl Frame {
+impl<'a> Frame<'a> {
     /// The frame of a number. It takes no memory.
-    pub(crate) fn number(bytes: [u8; 9]) -> Frame
+    pub(crate) fn number(bytes: [u8; 9]) -> Frame<'a>
         ensures { result ≡ bytes }
     {
         Frame {
@@ -41,7 +41,7 @@ impl Frame {
     }
 
     /// The frame of a refusal. It takes no memory.
-    pub(crate) fn refusal(bytes: [u8; 6]) -> Frame
+    pub(crate) fn refusal(bytes: [u8; 6]) -> Frame<'a>
         ensures { result ≡ bytes }
     {
         Frame {
@@ -50,8 +50,8 @@ impl Frame {
     }
 
     /// The frame of any other reply, with its length.
-    pub(crate) fn other(bytes: Vec<u8>) -> Frame
-        ensures { result ≡ bytes.items }
+    pub(crate) fn other(bytes: &'a [u8]) -> Frame<'a>
+        ensures { result ≡ bytes.now }
     {
         Frame {
             bytes: Kept::Other(bytes),

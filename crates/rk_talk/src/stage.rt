@@ -66,4 +66,6 @@ pub struct Crew<P: Platform> {
     pub launcher: P::Launcher,
     /// Where each read of a client, or of a handler, puts what it brings.
     pub piece: [u8; MAX_PIECE],
+    /// The last reply that took memory, whose place is kept for the next one.
+    pub reply: Vec<u8>,
 }

@@ -97,12 +97,14 @@ impl Handling {
             caller,
             launcher: fake,
             piece: [0; MAX_PIECE],
+            reply: Vec::new(alloc),
         };
         let driven = drive(&stage, &mut crew, launch);
         let Crew {
             caller: Caller { mut seat, clock },
             launcher: fake,
             piece: _,
+            reply: _,
         } = crew;
         drop(clock);
         let outcome = await_outcome(rt, halls, &mut seat, HallNo::Zero, CLIENT, NOW);

@@ -182,12 +182,14 @@ fn is_driven<'a, N: Names, R: Wait + Abort + Copy>(
         caller,
         launcher,
         piece: [0; MAX_PIECE],
+        reply: Vec::new(alloc),
     };
     let driven = drive_told(&stage, &mut crew, launch);
     let Crew {
         caller: Caller { seat, clock },
         launcher,
         piece: _,
+        reply: _,
     } = crew;
     drop(clock);
     (seat, driven, launcher)

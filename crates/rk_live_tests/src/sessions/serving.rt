@@ -69,12 +69,14 @@ pub fn serves<'a, N: Names, R: Wait + Abort, G: Gate, W: Wire>(
         caller,
         launcher: fake,
         piece: [0; MAX_PIECE],
+        reply: Vec::new(alloc),
     };
     let served = serve(&stage, &mut crew, client, frames, wire);
     let Crew {
         caller: Caller { seat, clock },
         launcher: fake,
         piece: _,
+        reply: _,
     } = crew;
     drop(clock);
     let volumes = shelf.count();

@@ -77,6 +77,7 @@ fn hears<'a, N: Names, R: Wait + Abort>(rt: &'a R, alloc: Global, halls: &'a Hal
         caller,
         launcher: fake,
         piece: [0; MAX_PIECE],
+        reply: Vec::new(alloc),
     };
     let mut wire = Telling::new(rt, alloc, HELLO_AND_READ);
     let served = serve_told(&stage, &mut crew, 1, frames, &mut wire);
@@ -90,6 +91,7 @@ fn hears<'a, N: Names, R: Wait + Abort>(rt: &'a R, alloc: Global, halls: &'a Hal
         caller: Caller { seat, clock },
         launcher,
         piece: _,
+        reply: _,
     } = crew;
     drop(clock);
     drop(launcher);
