@@ -50,7 +50,7 @@ everything() {
     done
     put_text packaging/reqkeyd.conf "$examples/reqkeyd.conf"
 
-    # the documents, which the manual pages name; their pictures; and beside them what they link
+    # the documents, which the manual pages name; their pictures; and what users need of what they link (not CONTRIBUTING.md, tests/ and bench/)
     for name in docs/*.md docs/pictures/*; do
         put 644 "$name" "$share/doc/reqkeyd/$name"
     done
