@@ -171,6 +171,15 @@ def fails(client, room):
     count.same(f"{client.name}: no daemon", client.asks([f"connect {path}" for path in paths]), ["system"] * len(paths))
     with open("/dev/full", "wb") as full:
         count.same(f"{client.name}: a full device", client.handles(room, ["read 3"] * 2, stdout=full)[1], ["system", "ended"])
+    ours, theirs = socket.socketpair()
+    theirs.close()
+    with ours:
+        count.same(f"{client.name}: a socket that nobody reads", client.handles(room, ["read 3"] * 2, stdout=ours)[1], ["system", "ended"])
+    with socket.socket(socket.AF_UNIX) as anybody:
+        anybody.bind(bytes(108))  # what an empty path would name
+        anybody.listen()
+        anybody.setblocking(False)
+        count.same(f"{client.name}: an empty path", (client.asks(["connect "]), raised(anybody.accept)[:15]), (["system"], "BlockingIOError"))
 
 
 # as a client of user 1000 on a fresh daemon, whose serials are 4, 8, 12 ..; PIPED makes keys p:* of their callouts

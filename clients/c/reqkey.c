@@ -3,10 +3,12 @@
 #include "reqkey.h"
 
 #include <errno.h>
+#include <fcntl.h>
 #include <stdbool.h>
 #include <stdlib.h>
 #include <string.h>
 #include <sys/socket.h>
+#include <sys/stat.h>
 #include <sys/un.h>
 #include <unistd.h>
 
@@ -20,7 +22,8 @@ enum reply { NUMBER, BYTES, RINGS, REFUSED };
 
 struct reqkey {
     int input, output;
-    bool connected; /* the descriptor is its own, and a socket */
+    bool connected; /* the descriptor is its own */
+    bool socket;    /* what it writes to is one */
     bool over;
     bool unspelt;   /* the ask has no place in its frame */
     size_t asked, replied;
@@ -84,6 +87,12 @@ static int over(struct reqkey *session, int error)
 
 /* ---- sessions */
 
+static bool is_socket(int descriptor)
+{
+    struct stat file;
+    return fstat(descriptor, &file) == 0 && S_ISSOCK(file.st_mode);
+}
+
 struct reqkey *reqkey_open(int input, int output)
 {
     struct reqkey *session = malloc(sizeof *session);
@@ -92,22 +101,39 @@ struct reqkey *reqkey_open(int input, int output)
     session->input = input;
     session->output = output;
     session->connected = false;
+    session->socket = is_socket(output);
     session->over = session->unspelt = false;
     session->asked = session->replied = 0;
     return session;
+}
+
+/* A socket that is none of the standard streams, also if the program has closed those: it would print to the daemon. -1 and errno. */
+static int new_socket(void)
+{
+    /* closed by exec(3) at once, since another thread may start a program at any time */
+    int descriptor = socket(AF_UNIX, SOCK_STREAM | SOCK_CLOEXEC, 0);
+    if (descriptor < 0 || descriptor > STDERR_FILENO)
+        return descriptor;
+    int higher = fcntl(descriptor, F_DUPFD_CLOEXEC, STDERR_FILENO + 1), error = errno;
+    close(descriptor);
+    errno = error;
+    return higher;
 }
 
 /* A descriptor that is connected to the socket at this path, or -1. */
 static int connected(const char *path)
 {
     struct sockaddr_un address = {.sun_family = AF_UNIX};
+    if (path[0] == 0) { /* which would be a name that anybody may listen at (unix(7), "abstract") */
+        errno = ENOENT;
+        return -1;
+    }
     if (strlen(path) >= sizeof address.sun_path) {
         errno = ENAMETOOLONG;
         return -1;
     }
     strcpy(address.sun_path, path);
-    /* at once, since another thread may start a program at any time */
-    int descriptor = socket(AF_UNIX, SOCK_STREAM | SOCK_CLOEXEC, 0);
+    int descriptor = new_socket();
     if (descriptor < 0)
         return -1;
     int result;
@@ -214,7 +240,7 @@ static void begin_on_key(struct reqkey *session, enum ask ask, int32_t key)
 static int write_all(struct reqkey *session, const unsigned char *bytes, size_t length)
 {
     while (length > 0) {
-        ssize_t done = session->connected ? send(session->output, bytes, length, MSG_NOSIGNAL) : write(session->output, bytes, length);
+        ssize_t done = session->socket ? send(session->output, bytes, length, MSG_NOSIGNAL) : write(session->output, bytes, length);
         if (done < 0 && errno != EINTR)
             return over(session, REQKEY_SYSTEM);
         if (done > 0) {
