@@ -1,4 +1,5 @@
 """The daemon's side of the protocol, written from docs/PROTOCOL.md: frames, asks as bodies, replies as bodies, and a daemon that answers what its test says."""
+import itertools
 import pathlib
 import socket
 import struct
@@ -156,3 +157,50 @@ class Daemon:
         finally:
             self.listener.close()
             self.room.cleanup()
+
+
+class Crowd:
+    """A socket at this path that serves many clients, each in a thread. `answers(number, body)` gives the body of a reply to the client that came as this
+    number, from 0, and may wait; by default each HELLO makes a new ring, or is let into the one that it joins, and all else is answered a serial.
+
+    `heard` has the numbers and the bodies that came, `clients` the sockets."""
+
+    def __init__(self, path, answers=None):
+        self.path, self.answers = str(path), answers or self.usual
+        self.serials, self.heard, self.clients = itertools.count(100), [], []
+
+    def usual(self, _, body):
+        if body[0] != 1:
+            return number(next(self.serials))
+        return rings(0, 0, struct.unpack(">I", body[10:14])[0] or next(self.serials), 7)
+
+    def __enter__(self):
+        pathlib.Path(self.path).unlink(missing_ok=True)
+        self.listener = socket.socket(socket.AF_UNIX)
+        self.listener.bind(self.path)
+        self.listener.listen(256)
+        threading.Thread(target=self.accept, daemon=True).start()
+        return self
+
+    def accept(self):
+        for at in itertools.count():
+            try:
+                client, _ = self.listener.accept()
+            except OSError:
+                return
+            self.clients.append(client)
+            threading.Thread(target=self.serve, args=(at, client), daemon=True).start()
+
+    def serve(self, at, client):
+        try:
+            with client, client.makefile("rb") as stream:
+                while len(head := stream.read(4)) == 4:
+                    body = stream.read(struct.unpack(">I", head)[0])
+                    self.heard.append((at, body))
+                    client.sendall(frame(self.answers(at, body)))
+        except OSError:
+            pass
+
+    def __exit__(self, *_):
+        self.listener.shutdown(socket.SHUT_RDWR)
+        self.listener.close()

@@ -316,13 +316,13 @@ PRINTED = {
     "left_out": ["[]"],
     "faults": [
         "add_key EOPNOTSUPP", "add_key EFAULT", "add_key EINVAL", "add_key EFAULT", "add_key EINVAL", "add_key EINVAL", "request_key EFAULT",
-        "keyctl_instantiate EFAULT", "keyctl_join_session_keyring EINVAL", "keyctl_join_session_keyring EINVAL", "keyctl_join_session_keyring EPERM",
-        "keyctl_search EFAULT", "keyctl_search EINVAL", "keyctl_clear EINVAL",
+        "keyctl_instantiate EFAULT", "keyctl_instantiate_iov EINVAL", "keyctl_instantiate_iov EFAULT", "keyctl_join_session_keyring EINVAL",
+        "keyctl_join_session_keyring EINVAL", "keyctl_join_session_keyring EPERM", "keyctl_search EFAULT", "keyctl_search EINVAL", "keyctl_clear EINVAL",
         *[f"{name} ['EOPNOTSUPP', 'EOPNOTSUPP', 'EOPNOTSUPP', 'ENOKEY']" for name in ["keyctl_describe", "keyctl_read", "keyctl_revoke", "keyctl_set_timeout"]],
         "keyctl_link 0", "keyctl_revoke EOPNOTSUPP", "keyctl_get_keyring_ID ['ENOKEY', 'EOPNOTSUPP', 'ENOKEY', 'ENOKEY', 'ENOKEY', 'EINVAL'] True",
     ],
     "buffers": [
-        "keyctl_read 5 b''", "keyctl_read 5 b'hel'", "keyctl_read 5 b'hello'", "keyctl_describe 20 b'user'",
+        "keyctl_read 5 b''", "keyctl_read 5 b'hel'", "keyctl_read 5 b'hello'", "keyctl_describe 20 b''",
         r"keyctl_describe 20 b'user;;-1;3f000000;n\x00'", "keyctl_read_alloc 5 b'hello'", "keyctl_describe_alloc True",
     ],
     "raw": [
@@ -350,6 +350,11 @@ def without(keys, room):
         ({"REQKEYD_STREAMS": "88,89"}, "Bad file descriptor"),
     ]:
         count.same(f"with {changes}", keys.run("keyctl", "print", "5", **changes), (1, "", f"keyctl_read_alloc: {want}\n"))
+    reader, writer = os.pipe()
+    os.close(reader)
+    told = ran("keyctl", "print", "5", stdout=writer, text=True, env={**keys.environment, "REQKEYD_STREAMS": "0,1"})
+    os.close(writer)
+    count.same("a handler whose daemon is gone", told, (1, None, "keyctl_read_alloc: Connection reset by peer\n"))
     for replies, want in [([None], "Connection reset by peer"), ([ask.frame(b"\x09")], "Protocol error"), ([b"\0\0\0\5\0"], "Connection reset by peer"),
                           ([b"\xff" * 4], "Protocol error"), ([ask.frame(ask.refused(13))], DENIED)]:
         with ask.Daemon(replies) as hostile:

@@ -5,7 +5,10 @@ import os
 import pathlib
 import signal
 import subprocess
+import tempfile
+import threading
 
+import protocol_peer as peer
 from counted import Counted
 from daemon import Daemon, until
 from keyutils_library import ENVIRONMENT, UID, Programs, everywhere
@@ -117,8 +120,10 @@ HABITS = {
     "jump": ["before right", "after right", "ring done", "files 0"],
     "interrupt": ["inner right", "outer ECONNRESET", "after right"],
     "closes": ["before right", "after right", "heard EAGAIN", "heard EAGAIN", "again right"],
+    "stream": ["without right", "input closed"],
 }
 OF_ROOT = {
+    "number": ["set done", "its child's 0", "its own 4"],
     "user": ["root right", "seteuid done", "read refused", "ring other", "nobody right", "seteuid done", "read done", "unlink done"],
 }
 
@@ -139,7 +144,8 @@ def example(keys):
     before = len(keys.daemon.lines)
     gives(keys, "example:a", "words", "words")
     key = int(keys.run("keyctl", "id", "%user:example:a")[1])
-    want = ["assume done", "authority done", "ring done", f"described .request_key_auth;{UID};-1;0b010000;{key:x}", "add done", "instantiate done"]
+    want = ["assume done", "another ENOKEY", "authority done", "ring done", "itself done",
+            f"described .request_key_auth;{UID};-1;0b010000;{key:x}", "add done", "instantiate done"]
     first = [line.split()[0] for line in want]
 
     def said():
@@ -149,6 +155,42 @@ def example(keys):
     until(lambda: len(said()) >= len(want), "what the example says")
     count.same("what the example says", sorted(said()), sorted(want))
     count.same("a key that it has put beside", keys.run("keyctl", "pipe", "%user:beside"), (0, "v", ""))
+
+
+def connects(keys):
+    """A signal's function calls while a call connects: that call is over, and another thread has what the function has connected."""
+    go, reply = threading.Event(), threading.Event()
+    beside = peer.on_key(7, 3)
+
+    def answers(at, body):
+        if body[0] == 1:
+            if at == 0:
+                go.wait(LIMIT)
+            return peer.rings(0, 0, 4, 8)
+        if body == beside:
+            reply.wait(LIMIT)
+        return peer.data(b"v")
+
+    with tempfile.TemporaryDirectory() as folder, peer.Crowd(f"{folder}/s", answers) as crowd:
+        environment = {**keys.environment, "REQKEYD_SOCKET": crowd.path}
+        environment.pop("REQKEYD_JOIN")
+        program = started(keys.daemon.room / "habits", "connects", env=environment, stdin=subprocess.PIPE)
+
+        def line(said=""):
+            program.stdin.write(said)
+            program.stdin.flush()
+            return program.stdout.readline()
+
+        until(lambda: crowd.heard, "a call that connects")
+        count.same("the call of a signal's function", line("\n"), "inner done\n")
+        program.stdin.write("\n")
+        program.stdin.flush()
+        until(lambda: beside in [body for _, body in crowd.heard], "the call of another thread")
+        go.set()
+        count.same("the call that was interrupted", line(), "outer ECONNRESET\n")
+        reply.set()
+        output, errors = program.communicate(timeout=LIMIT)
+        count.same("the call beside", (program.returncode, output, errors), (0, "beside done\n", ""))
 
 
 def restarted(keys):
@@ -186,6 +228,7 @@ def tries(program, library, *before):
         killed(keys)
         example(keys)
         habits(keys)
+        connects(keys)
         restarted(keys)
 
 

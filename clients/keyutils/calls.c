@@ -215,6 +215,12 @@ static long copied(int length, const void *bytes, char *buffer, size_t buflen)
     return session_end(length);
 }
 
+/* The same of a description, which is written if there is room for all of it. */
+static long described(int length, const char *words, char *buffer, size_t buflen)
+{
+    return copied(length, words, length >= 0 && (size_t)length <= buflen ? buffer : NULL, buflen);
+}
+
 /* The authority's payload is the callout. */
 long keyctl_read(key_serial_t id, char *buffer, size_t buflen)
 {
@@ -254,22 +260,23 @@ static long described_authority(char *buffer, size_t buflen)
         length = 1 + snprintf(words, sizeof words, ".request_key_auth;%u;-1;0b010000;%x", (unsigned)strtoul(uid + 1, NULL, 10), (unsigned)key);
     else if (length >= 0)
         length = -REQKEY_MALFORMED;
-    return copied(length, words, buffer, buflen);
+    return described(length, words, buffer, buflen);
 }
 
 long keyctl_describe(key_serial_t id, char *buffer, size_t buflen)
 {
     const char *text;
     char words[DESCRIPTION];
-    if (meant(id) == REQKEY_AUTHORITY && session_is_handlers())
+    key_serial_t key = meant(id);
+    if (key == REQKEY_AUTHORITY && session_is_handlers())
         return described_authority(buffer, buflen);
-    struct reqkey *session = session_begin(id);
+    struct reqkey *session = session_begin(key);
     if (session == NULL)
         return -1;
-    int length = reqkey_describe(session, id, &text);
+    int length = reqkey_describe(session, key, &text);
     if (length >= 0)
         length = kernels_words(text, words);
-    return copied(length, words, buffer, buflen);
+    return described(length, words, buffer, buflen);
 }
 
 int keyctl_describe_alloc(key_serial_t id, char **_buffer)
@@ -303,14 +310,15 @@ int keyctl_read_alloc(key_serial_t id, void **_buffer)
 
 /* ---- a handler's key */
 
-/* The kernel answers the serial of the authority, which has none here. */
+/* The kernel answers the serial of the authority, which has none here. A refusal changes nothing. */
 long keyctl_assume_authority(key_serial_t key)
 {
     struct reqkey *session = session_begin(0);
     if (session == NULL)
         return -1;
     int result = reqkey_assume(session, key);
-    session_assumes(result == 0 ? key : 0);
+    if (result == 0)
+        session_assumes(key);
     return session_end(result);
 }
 
@@ -322,14 +330,16 @@ long keyctl_instantiate(key_serial_t id, const void *payload, size_t plen, key_s
     return session == NULL ? -1 : session_end(reqkey_instantiate(session, id, payload, plen, meant(ringid)));
 }
 
-/* All parts in one; EINVAL where they are no payload together. */
+/* All parts in one; EINVAL where they are no payload together. NULL is no parts, as in the kernel. */
 long keyctl_instantiate_iov(key_serial_t id, const struct iovec *payload_iov, unsigned ioc, key_serial_t ringid)
 {
     char payload[PAYLOAD];
     size_t length = 0;
-    for (unsigned i = 0; i < ioc; i++) {
+    for (unsigned i = 0; payload_iov != NULL && i < ioc; i++) {
         if (payload_iov[i].iov_len > sizeof payload - length)
             return failed(EINVAL);
+        if (payload_iov[i].iov_base == NULL && payload_iov[i].iov_len > 0)
+            return failed(EFAULT);
         if (payload_iov[i].iov_len > 0)
             memcpy(payload + length, payload_iov[i].iov_base, payload_iov[i].iov_len);
         length += payload_iov[i].iov_len;

@@ -2,6 +2,7 @@
 
 #include <errno.h>
 #include <poll.h>
+#include <sys/socket.h>
 
 int errno_of(int result)
 {
@@ -13,7 +14,7 @@ int errno_of(int result)
     case REQKEY_MALFORMED:
         return EPROTO;
     case REQKEY_SYSTEM:
-        return errno;
+        return errno == EPIPE ? ECONNRESET : errno;
     default:
         return -result;
     }
@@ -23,4 +24,11 @@ bool connection_has_ended(const struct reqkey *session)
 {
     struct pollfd end = {reqkey_descriptor(session), POLLIN | POLLRDHUP, 0};
     return poll(&end, 1, 0) > 0;
+}
+
+pid_t connection_daemon(const struct reqkey *session)
+{
+    struct ucred who = {0, 0, 0};
+    socklen_t length = sizeof who;
+    return getsockopt(reqkey_descriptor(session), SOL_SOCKET, SO_PEERCRED, &who, &length) == 0 ? who.pid : 0;
 }

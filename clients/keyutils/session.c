@@ -7,11 +7,13 @@
 
 #include <errno.h>
 #include <fcntl.h>
+#include <pthread.h>
 #include <signal.h>
 #include <stdio.h>
 #include <stdlib.h>
 #include <sys/socket.h>
 #include <sys/stat.h>
+#include <time.h>
 #include <unistd.h>
 
 /* The calls after which a connection is made anew. The daemon reads a connection 1,048,576 times, at most 4,096 bytes each time. */
@@ -47,14 +49,6 @@ static struct {
 
 /* ---- a client's connection */
 
-/* The process that listens at the other end; 0 if that is not known. */
-static pid_t daemon_of(const struct reqkey *session)
-{
-    struct ucred who = {0, 0, 0};
-    socklen_t length = sizeof who;
-    return getsockopt(reqkey_descriptor(session), SOL_SOCKET, SO_PEERCRED, &who, &length) == 0 ? who.pid : 0;
-}
-
 /* A connection in this session ring, or in a new one for 0; NULL, and errno. A ring of a daemon that is not the same one any more is not there: ENOKEY. */
 static struct reqkey *client(uint32_t join, struct reqkey_rings *rings)
 {
@@ -66,7 +60,7 @@ static struct reqkey *client(uint32_t join, struct reqkey_rings *rings)
     struct reqkey *session = reqkey_connect(path);
     if (session == NULL)
         return NULL;
-    bool other = join != 0 && own.daemon != 0 && daemon_of(session) != own.daemon;
+    bool other = join != 0 && own.daemon != 0 && connection_daemon(session) != own.daemon;
     int result = other ? -REQKEY_ENOKEY : reqkey_hello(session, geteuid(), getegid(), 0, join, rings);
     if (result < 0) {
         int error = errno_of(result);
@@ -102,7 +96,7 @@ static struct reqkey *next_client(struct reqkey_rings *rings)
         return session;
     if (told == 0 || (before != 0 && !is_same_user()))
         return client(0, rings);
-    errno = errno == ENOKEY ? EKEYREVOKED : errno;
+    errno = EKEYREVOKED;
     return NULL;
 }
 
@@ -113,13 +107,38 @@ static bool is_mine(const struct held *held)
     return fstat(reqkey_descriptor(held->session), &file) == 0 && file.st_dev == held->device && file.st_ino == held->inode;
 }
 
+/* It is gone from here before it ends: another thread may fork meanwhile, and its child must not find it. */
 static void end(struct held *held)
 {
-    if (held->session != NULL && is_mine(held))
-        reqkey_free(held->session);
-    else if (held->session != NULL)
-        reqkey_forget(held->session);
-    held->session = NULL;
+    struct held was = *held;
+    __atomic_store_n(&held->session, NULL, __ATOMIC_SEQ_CST);
+    if (was.session != NULL && is_mine(&was))
+        reqkey_free(was.session);
+    else if (was.session != NULL)
+        reqkey_forget(was.session);
+}
+
+/* A child has no connection yet. In a process namespace of its own it may have its parent's number. */
+static void forked(void)
+{
+    own.owner = 0;
+}
+
+__attribute__((constructor)) static void loaded(void)
+{
+    pthread_atfork(NULL, NULL, forked);
+}
+
+/*
+ * Whether this call has its turn, for a change of the session. A signal's function that has called has taken it away. So signals are blocked until the change
+ * is done, and the mask before is set again.
+ */
+static bool may_change(sigset_t *before)
+{
+    sigset_t all;
+    sigfillset(&all);
+    pthread_sigmask(SIG_BLOCK, &all, before);
+    return turn_is_mine();
 }
 
 /* This session, which may be none, in the place of the one before. */
@@ -135,11 +154,24 @@ static bool is_now(struct reqkey *session, const struct reqkey_rings *rings)
     own.owner = getpid();
     own.uid = geteuid();
     own.gid = getegid();
-    own.daemon = daemon_of(session);
+    own.daemon = connection_daemon(session);
     own.calls = 0;
     if (own.handed == rings->session)
         fcntl(reqkey_descriptor(session), F_SETFD, 0);
     return true;
+}
+
+/* The same, unless this call has lost its turn: ECONNRESET then, as for a call that was interrupted later. */
+static bool takes_place(struct reqkey *session, const struct reqkey_rings *rings)
+{
+    sigset_t before;
+    bool mine = may_change(&before), done = mine && is_now(session, rings);
+    pthread_sigmask(SIG_SETMASK, &before, NULL);
+    if (mine)
+        return done;
+    reqkey_free(session);
+    errno = ECONNRESET;
+    return false;
 }
 
 /* Sees to a connection that is right for this call. */
@@ -150,10 +182,43 @@ static bool is_connected(void)
     if (right && own.calls++ < CALLS)
         return true;
     struct reqkey *next = next_client(&rings);
-    return is_now(next, &rings) || (right && next == NULL);
+    return takes_place(next, &rings) || (right && next == NULL);
 }
 
 /* ---- a handler's session, over its streams */
+
+/* Whether SIGPIPE is kept from this thread's call, and was not blocked before. A write to streams that the daemon has left raises it; no call of keys does. */
+static __thread bool hushed, was_open;
+
+static sigset_t pipe_alone(void)
+{
+    sigset_t alone;
+    sigemptyset(&alone);
+    sigaddset(&alone, SIGPIPE);
+    return alone;
+}
+
+/* One that is pending already is the program's own. */
+static void hush(void)
+{
+    sigset_t alone = pipe_alone(), pending, before;
+    hushed = sigpending(&pending) == 0 && sigismember(&pending, SIGPIPE) == 0 && pthread_sigmask(SIG_BLOCK, &alone, &before) == 0;
+    was_open = hushed && sigismember(&before, SIGPIPE) == 0;
+}
+
+/* Takes away what the call has raised. */
+static void unhush(void)
+{
+    static const struct timespec NO_TIME = {0, 0};
+    sigset_t alone = pipe_alone();
+    if (!hushed)
+        return;
+    hushed = false;
+    while (sigtimedwait(&alone, NULL, &NO_TIME) < 0 && errno == EINTR)
+        ;
+    if (was_open)
+        pthread_sigmask(SIG_UNBLOCK, &alone, NULL);
+}
 
 static struct reqkey *over_streams(void)
 {
@@ -232,13 +297,21 @@ struct reqkey *session_begin(int32_t key)
     int fault = handler ? (own.held.session == NULL ? errno : 0) : is_connected() ? 0 : errno;
     if (fault == 0 && is_ring(key))
         fault = EOPNOTSUPP;
+    bool hushes = fault == 0 && handler;
+    if (hushes)
+        hush();
     int broken = fault == 0 && handler && !own.asks && own.assumed == 0 && key > 0 ? assume(key) : 0;
-    if (fault == 0 && broken == 0)
-        return own.held.session;
-    if (handler && own.held.session != NULL) {
+    struct reqkey *session = own.held.session;
+    if (!turn_is_mine())
+        fault = ECONNRESET; /* a signal's function has called */
+    else if (fault == 0 && broken == 0)
+        return session;
+    else if (handler && session != NULL) {
         end(&own.held);
         streams_give(broken == 0);
     }
+    if (hushes)
+        unhush();
     turn_give();
     errno = fault != 0 ? fault : broken;
     return NULL;
@@ -248,11 +321,16 @@ long session_end(int result)
 {
     int error = result < 0 ? errno_of(result) : 0;
     bool whole = result > -REQKEY_ENDED;
-    if (turn_is_mine() && (streams_are_told() || !whole)) {
-        end(&own.held);
-        if (streams_are_told())
-            streams_give(whole);
+    if (streams_are_told() || !whole) {
+        sigset_t before;
+        if (may_change(&before)) {
+            end(&own.held);
+            if (streams_are_told())
+                streams_give(whole);
+        }
+        pthread_sigmask(SIG_SETMASK, &before, NULL);
     }
+    unhush();
     turn_give();
     if (error == 0)
         return result;
@@ -290,6 +368,19 @@ int32_t session_assumed(void)
     return own.assumed;
 }
 
+/* What this process executes is to be in this ring, too; ENOMEM. */
+static bool hand(uint32_t ring)
+{
+    char told[16];
+    snprintf(told, sizeof told, "%u", ring);
+    if (environment_set("REQKEYD_JOIN", told)) {
+        own.handed = ring; /* the connection lasts as long as the programs that are executed */
+        return true;
+    }
+    errno = ENOMEM;
+    return false;
+}
+
 long session_renew(const char *name)
 {
     struct reqkey_rings rings;
@@ -300,13 +391,12 @@ long session_renew(const char *name)
     }
     take_turn(__builtin_frame_address(0));
     struct reqkey *session = client(0, &rings);
-    if (session != NULL) {
-        char told[16];
-        snprintf(told, sizeof told, "%u", rings.session);
-        own.handed = rings.session; /* the connection lasts as long as the programs that are executed */
-        environment_set("REQKEYD_JOIN", told);
+    if (session != NULL && turn_is_mine() && !hand(rings.session)) {
+        reqkey_free(session);
+        errno = ENOMEM;
+        session = NULL;
     }
-    bool done = is_now(session, &rings);
+    bool done = takes_place(session, &rings);
     int error = errno;
     turn_give();
     errno = error;

@@ -6,6 +6,7 @@ import concurrent.futures
 import ctypes
 import errno
 import os
+import struct
 import sys
 import threading
 
@@ -49,6 +50,8 @@ def faults():
     show("add_key", b"user", b"n", b"v" * 70000, 70000, SESSION)
     show("request_key", None, b"n", None, 0)
     show("keyctl_instantiate", NOTHING, None, 1, 0)
+    show("keyctl_instantiate_iov", NOTHING, None, 1, 0)
+    show("keyctl_instantiate_iov", NOTHING, struct.pack("@PN", 0, 1), 1, 0)
     show("keyctl_join_session_keyring", b"")
     show("keyctl_join_session_keyring", b"n" * 4096)
     show("keyctl_join_session_keyring", b".name")

@@ -9,12 +9,14 @@
 #include <errno.h>
 #include <fcntl.h>
 #include <pthread.h>
+#include <sched.h>
 #include <setjmp.h>
 #include <signal.h>
 #include <stdio.h>
 #include <stdlib.h>
 #include <string.h>
 #include <sys/socket.h>
+#include <sys/wait.h>
 #include <unistd.h>
 
 enum { REQUESTOR = -8, AUTHORITY = -7, USER = -4, SESSION = -3 };
@@ -130,6 +132,46 @@ static void interrupt(void)
     close(fifo);
 }
 
+/* ---- a signal's function calls while a call connects, and another thread goes on with what that has connected: lines of input say when */
+
+static void reads(const char *name, key_serial_t key)
+{
+    show(name, keyctl_read(key, NULL, 0));
+}
+
+static void reads_inside(int signal)
+{
+    (void)signal;
+    reads("inner", 1);
+}
+
+static void *reads_outside(void *nothing)
+{
+    reads("outer", 2);
+    return nothing;
+}
+
+static void *reads_beside(void *nothing)
+{
+    reads("beside", 3);
+    return nothing;
+}
+
+static void connects(void)
+{
+    struct sigaction action = {.sa_handler = reads_inside, .sa_flags = SA_RESTART};
+    pthread_t outside, beside;
+    sigaction(SIGUSR1, &action, NULL);
+    pthread_create(&outside, NULL, reads_outside, NULL);
+    int next = getchar();
+    pthread_kill(outside, SIGUSR1);
+    next = getchar();
+    pthread_create(&beside, NULL, reads_beside, NULL);
+    pthread_join(outside, NULL);
+    pthread_join(beside, NULL);
+    (void)next;
+}
+
 /* ---- descriptors */
 
 static void closes(void)
@@ -146,6 +188,47 @@ static void closes(void)
     close(pair[0]);
     close(pair[1]);
     right("again");
+}
+
+/* What a program reads and prints is not the daemon's, also if it has closed its streams. */
+static void stream(void)
+{
+    close(STDIN_FILENO);
+    right("without");
+    printf("input %s\n", fcntl(STDIN_FILENO, F_GETFD) < 0 ? "closed" : "open");
+}
+
+/* ---- a child with the number of its parent */
+
+static void in_namespace(void (*does)(void))
+{
+    int begun = unshare(CLONE_NEWPID); /* where that is allowed: the child is process 1 there */
+    (void)begun;
+    fflush(stdout);
+    pid_t child = fork();
+    if (child == 0) {
+        does();
+        fflush(stdout);
+        _exit(0);
+    }
+    waitpid(child, NULL, 0);
+}
+
+static void child_asks(void)
+{
+    printf("its child's %ld\n", keyctl_set_reqkey_keyring(-1));
+}
+
+static void child_sets(void)
+{
+    show("set", keyctl_set_reqkey_keyring(4));
+    in_namespace(child_asks);
+    printf("its own %ld\n", keyctl_set_reqkey_keyring(-1));
+}
+
+static void number(void)
+{
+    in_namespace(child_sets);
 }
 
 /* ---- another user */
@@ -183,10 +266,12 @@ static void example(key_serial_t key)
 {
     char text[256], payload[256];
     show("assume", keyctl_assume_authority(key));
+    show("another", keyctl_assume_authority(key + 4)); /* a refusal changes nothing */
     long length = keyctl_read(AUTHORITY, payload, sizeof payload);
     key_serial_t authority = keyctl_get_keyring_ID(AUTHORITY, 0), ring = keyctl_get_keyring_ID(REQUESTOR, 0);
     show("authority", authority);
     show("ring", ring);
+    show("itself", keyctl_get_keyring_ID(ring, 0));
     long told = keyctl_describe(authority, text, sizeof text);
     fprintf(stderr, "described %s\n", told < 0 ? strerrorname_np(errno) : text);
     key_serial_t other = add_key("user", "beside", "v", 1, ring);
@@ -200,7 +285,8 @@ int main(int count, char **words)
     struct {
         const char *name;
         void (*does)(void);
-    } subjects[] = {{"cancel", cancel}, {"jump", jump}, {"interrupt", interrupt}, {"closes", closes}, {"user", user}, {"restart", restart}};
+    } subjects[] = {{"cancel", cancel}, {"jump", jump}, {"interrupt", interrupt}, {"connects", connects}, {"closes", closes},
+                  {"stream", stream}, {"number", number}, {"user", user}, {"restart", restart}};
     if (count == 3 && strcmp(subject, "example") == 0)
         example(atoi(words[2]));
     for (size_t i = 0; i < sizeof subjects / sizeof *subjects; i++)
