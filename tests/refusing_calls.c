@@ -4,6 +4,7 @@
 #include <dlfcn.h>
 #include <errno.h>
 #include <fcntl.h>
+#include <pthread.h>
 #include <spawn.h>
 #include <stdarg.h>
 #include <stdlib.h>
@@ -68,4 +69,8 @@ int open(const char *path, int flags, ...) {
 int posix_spawn(pid_t *child, const char *path, const posix_spawn_file_actions_t *files, const posix_spawnattr_t *how, char *const words[],
                 char *const environment[]) {
     return refused("posix_spawn") ? error : NEXT(posix_spawn)(child, path, files, how, words, environment);
+}
+
+int pthread_create(pthread_t *thread, const pthread_attr_t *how, void *(*runs)(void *), void *of) {
+    return refused("pthread_create") ? error : NEXT(pthread_create)(thread, how, runs, of);
 }

@@ -5,11 +5,13 @@ keyutils' keyctl; threads, kills, hostile memory, rings, users, chains of traps,
 The program is tried as it is installed, and so that a wrong access to memory, or what it does not give back, ends it.
 """
 import contextlib
+import errno
 import json
 import os
 import pathlib
 import pty
 import re
+import resource
 import select
 import shutil
 import signal
@@ -17,12 +19,14 @@ import socket
 import subprocess
 import sys
 import tempfile
+import threading
 
-from compiled import made_twice
+import protocol_peer as peer
+from compiled import library, made_twice
 from counted import Counted
 from daemon import Daemon, until
 from keyctl_commands import ALONE, CASES, Keyctl
-from programs import LIMIT, PROGRAMS, lacks, ran, there, top
+from programs import LIMIT, PROGRAMS, lacks, ran, started, there, top
 from trap import Inside, Listening, Trap, environment, notifies, statically
 
 count = Counted()
@@ -403,6 +407,304 @@ def analyzed():
         count.same(f"the analyzer on {source.name}", ran(*words, text=True), (0, "", ""))
 
 
+# Keys' system calls by the letters of a line, each answered by a line: a number, or the name of an error.
+CALLS = """
+import ctypes, errno, os, signal, sys
+libc = ctypes.CDLL(None, use_errno=True)
+KEYCTL = 250 if os.uname().machine == "x86_64" else 219
+def keyctl(*words):
+    result = libc.syscall(KEYCTL, *words)
+    return result if result >= 0 else errno.errorcode[ctypes.get_errno()]
+def ring():
+    return keyctl(0, -3, 0)
+def join():
+    return keyctl(1, None)
+def told(*words):
+    print(*words, flush=True)
+"""
+
+
+def calls(trap, script, **more):
+    """A program in a trap that makes calls, in Python."""
+    return trap.start(sys.executable, "-I", "-S", "-c", CALLS + script, **more)
+
+
+def children_of(number):
+    """The children of a process, with their states."""
+    found = {}
+    for path in pathlib.Path("/proc").glob("[0-9]*/stat"):
+        with contextlib.suppress(OSError):
+            state, parent = path.read_text().rpartition(")")[2].split()[:2]
+            if int(parent) == number:
+                found[int(path.parent.name)] = state
+    return found
+
+
+def orphans(trap):
+    """What has ended beside the program, before its supervisor looks, is collected: a filter may last as long as they do."""
+    reader, writer = os.pipe()
+    script = f"setsid sleep 1000 > /dev/null 2>&1 & for each in 1 2 3; do (cat <&{reader} > /dev/null 2>&1 &); done; echo ready; read line"
+    process = trap.start("sh", "-c", script, pass_fds=[reader])
+    os.close(reader)
+    count.same("a program with orphans", process.stdout.readline(), "ready\n")
+    supervisor = supervisor_of(process)
+    until(lambda: len(children_of(supervisor)) == 4, "three orphans")
+    os.kill(supervisor, signal.SIGSTOP)
+    until(lambda: children_of(process.pid).get(supervisor) == "T", "a supervisor that is stopped")
+    os.close(writer)
+    process.stdin.write("\n")
+    process.stdin.flush()
+    until(lambda: sorted(children_of(supervisor).values())[-4:] == ["Z"] * 4, "the end of the program and of its orphans")
+    os.kill(supervisor, signal.SIGCONT)
+    count.same("its status", process.wait(LIMIT), 0)
+    (left,) = until(lambda: len(found := children_of(supervisor)) == 1 and found, "the end of all but one")
+    os.kill(left, signal.SIGKILL)
+
+
+def streams(trap):
+    """A caller that has closed its standard streams."""
+    for closes in ["<&-", "<&- >&-", "<&- >&- 2>&-", ">&- 2>&-"]:
+        words = " ".join(trap.words("sh", "-c", "'exit 7'"))
+        count.same(f"with {closes}", ran("sh", "-c", f"{words} {closes}", text=True, env=environment()), (7, "", ""))
+
+
+def early(trap):
+    """A signal that is there before the program is goes on to it."""
+    def pending():
+        signal.pthread_sigmask(signal.SIG_BLOCK, [signal.SIGTERM])
+        os.kill(os.getpid(), signal.SIGTERM)
+    process = calls(trap, "told(signal.sigwait([signal.SIGTERM]).name)", preexec_fn=pending)
+    count.same("a signal before the program", process.communicate(timeout=LIMIT)[:1], ("SIGTERM\n",))
+
+
+def refused_threads(trap, room):
+    """A supervisor that gets no thread: the program is not started. One that can't watch the ends of processes tries again."""
+    refusing = {"LD_PRELOAD": library("refusing_calls"), "CALL": "pthread_create", "ERROR": str(errno.EAGAIN), "TOLD": str(room / "refused")}
+    told = trap.run("true", **refusing, REFUSED="1")
+    count.same("a supervisor without threads", told, (1, "", "reqkey-trap: the supervisor: Broken pipe\n"))
+    script = """
+for turn in range(40):
+    reader, writer = os.pipe()
+    if (child := os.fork()) == 0:
+        while (made := join()) == "EDQUOT":
+            os.sched_yield()
+        os.write(writer, b"r" if isinstance(made, int) else b"-")
+        os._exit(0)
+    os.waitpid(child, 0)
+    print(os.read(reader, 1).decode(), end="", flush=True)
+    os.close(reader), os.close(writer)
+"""
+    words = [sys.executable, "-I", "-S", "-c", CALLS + script]
+    # (the second thread is for the next call, the third one watches: only then do the rings of processes that have ended make room)
+    count.same("rings one after the other", trap.run(*words, **refusing, REFUSED="3"), (0, "-" + "r" * 39, ""))
+
+
+def numbers(trap, crowd):
+    """A negative number that names nothing is no ring; parts at NULL are none."""
+    crowd.answers = lambda at, body: peer.refused(22) if body[0] in [4, 9] else crowd.usual(at, body)
+    process = calls(trap, "told(keyctl(3, -100), keyctl(3, -9), keyctl(3, -8), keyctl(20, 5, None, 1, 0))")
+    count.same("numbers that name nothing", process.communicate(timeout=LIMIT), ("EINVAL EINVAL ENOTSUP EINVAL\n", ""))
+
+
+def settings(trap, crowd):
+    """A connection that can't get the setting of the process which has it now makes no request by that of another one."""
+    replies = {peer.default(4): peer.number(0), peer.default(0): peer.refused(errno.ENOMEM)}
+    crowd.answers = lambda at, body: replies.get(body) or crowd.usual(at, body)
+    process = calls(trap, """
+if os.fork() == 0:
+    told(isinstance(keyctl(14, 4), int))
+    os._exit(0)
+os.wait()
+told(keyctl(10, -3, b"user", b"n", 0))
+""")
+    count.same("a setting that is refused", process.communicate(timeout=LIMIT), ("True\nENOMEM\n", ""))
+    count.same("what was asked for then", [body for _, body in crowd.heard if body[0] == 2], [])
+
+
+def exhausted(trap, crowd):
+    """A supervisor without a descriptor more says so, and not that the caller is gone; and no process gets another ring for it."""
+    crowd.answers = crowd.usual
+    process = calls(trap, """
+ring(), join()
+joined = ring()
+reader, writer = os.pipe()
+for child in range(60):
+    if os.fork() == 0:
+        found = ring()
+        told("ring" if found == joined else found)
+        os.close(writer)
+        os.read(reader, 1)
+        os._exit(0)
+os.close(writer)
+""", preexec_fn=lambda: resource.setrlimit(resource.RLIMIT_NOFILE, (40, 40)))
+    lines = [process.stdout.readline() for _ in range(60)]
+    process.communicate(timeout=LIMIT)
+    count.same("processes beyond its descriptors", (set(lines), lines.count("ring\n") > 10), ({"ring\n", "ENOMEM\n"}, True))
+
+
+def limited(trap, crowd):
+    """Fifty processes that join new rings at the same time: a set has no more than its rings."""
+    go = threading.Event()
+    crowd.answers = lambda at, body: (at == first or go.wait(LIMIT)) and crowd.usual(at, body)
+    first = len(crowd.clients)
+    process = calls(trap, """
+reader, writer = os.pipe()
+for child in range(50):
+    if os.fork() == 0:
+        told(isinstance(join(), int))
+        os.close(writer)
+        os.read(reader, 1)  # so that it has its ring
+        os._exit(0)
+told("started")
+os.close(writer)
+""")
+    lines = [process.stdout.readline()]
+    supervisor = supervisor_of(process)
+    # (each call has a thread, and one more and the first one are there)
+    until(lambda: len(os.listdir(f"/proc/{supervisor}/task")) > 51, "fifty calls")
+    go.set()
+    lines += [process.stdout.readline() for _ in range(50)]
+    process.communicate(timeout=LIMIT)
+    count.same("rings that are made side by side", (lines.count("True\n"), lines.count("False\n")), (32, 18))
+
+
+def closed(trap, crowd):
+    """The daemon closes the connection of one ring: another one, whose connection lives, is still there."""
+    crowd.answers, before = crowd.usual, len(crowd.clients)
+    process = calls(trap, """
+told(ring())
+reader, writer = os.pipe()
+if os.fork() == 0:
+    told("joined" if isinstance(join(), int) else "not joined", ring() == ring())
+    os.read(reader, 1)
+    told(ring())
+    os._exit(0)
+sys.stdin.readline()
+told(ring())
+os.write(writer, b"x")
+os.wait()
+""")
+    count.same("two rings", [process.stdout.readline().strip().isdigit(), process.stdout.readline()], [True, "joined True\n"])
+    crowd.clients[before + 1].shutdown(socket.SHUT_RDWR)  # that of the first ring; the one before was to try the daemon
+    lines = process.communicate("\n", timeout=LIMIT)[0].split()
+    count.same("a ring beside one that is closed", [line.isdigit() for line in lines], [True, True])
+
+
+def again(trap, path):
+    """A daemon is started again while a call waits, and another client has a ring there with the serial of this one's: that is not this one."""
+    with Apart(path, "waits"):
+        process = calls(trap, """
+told(ring())
+told(libc.syscall(KEYCTL - 1, b"user", b"n", b"x", -3), errno.errorcode[ctypes.get_errno()])
+sys.stdin.readline()
+told(ring())
+""")
+        before = process.stdout.readline()
+        until(lambda: (pathlib.Path(f"{path}.waits")).exists(), "a call that waits")
+    count.same("a call that has waited for a daemon that is gone", process.stdout.readline(), "-1 ECONNRESET\n")
+    with Apart(path, "goes on"):
+        count.same("a ring of its number", process.communicate("\n", timeout=LIMIT)[0] != before, True)
+
+
+class Apart:
+    """A crowd's daemon in a process of its own, which may be killed. With "waits" it answers no REQUEST, and makes a file that says so."""
+
+    def __init__(self, path, how):
+        script = f"""
+import pathlib, sys
+sys.path.insert(0, {str(top / "tests")!r})
+import protocol_peer as peer
+def answers(at, body):
+    if body[0] == 2 and {how == "waits"}:
+        pathlib.Path("{path}.waits").touch()
+        sys.stdin.read()
+    return crowd.usual(at, body)
+crowd = peer.Crowd({str(path)!r}, answers)
+next(crowd.serials) if {how == "waits"} else None
+with crowd:
+    print("ready", flush=True)
+    sys.stdin.read()
+"""
+        self.process = started(sys.executable, "-c", script, stdin=subprocess.PIPE, stderr=None)
+
+    def __enter__(self):
+        count.same("a daemon apart", self.process.stdout.readline(), "ready\n")
+
+    def __exit__(self, *_):
+        self.process.kill()
+        self.process.communicate()
+
+
+def replaced(trap, crowd):
+    """A caller that is killed while it joins a ring, and whose number another process gets: that one stays where it is."""
+    last = pathlib.Path("/proc/sys/kernel/ns_last_pid")
+    if UID != 0 or not os.access(last, os.W_OK):
+        print("a caller whose number is used again: not tried, this may not choose numbers")
+        return
+    go, heard, before = threading.Event(), threading.Event(), len(crowd.clients)
+
+    def answers(at, body):
+        if body[0] == 1 and at == before + 2:
+            heard.set()
+            go.wait(LIMIT)
+        return crowd.usual(at, body)
+    crowd.answers = answers
+    process = calls(trap, """
+ring()
+child = os.fork()
+if child == 0:
+    join()
+    os._exit(0)
+sys.stdin.readline()
+os.kill(child, 9)
+os.waitpid(child, 0)
+other = 0
+while other != child:
+    with open("/proc/sys/kernel/ns_last_pid", "w") as last:
+        last.write(str(child - 1))
+    other = os.fork()
+    if other == 0 and os.getpid() != child:
+        os._exit(0)
+    if other == 0:
+        first = ring()
+        told("there")
+        sys.stdin.readline()
+        told(ring() == first)
+        os._exit(0)
+os.waitpid(child, 0)
+""")
+    heard.wait(LIMIT)
+    count.same("a process of that number", told(process), "there\n")
+    supervisor = supervisor_of(process)
+    go.set()
+    # (a connection is that of the first ring, the other one that of the ring which is not joined after all)
+    until(lambda: sum(is_socket(supervisor, name) for name in os.listdir(f"/proc/{supervisor}/fd")) == 1, "the end of a ring whose caller is gone")
+    count.same("its ring", process.communicate("\n", timeout=LIMIT)[0], "True\n")
+
+
+def is_socket(number, name):
+    with contextlib.suppress(OSError):
+        return os.readlink(f"/proc/{number}/fd/{name}").startswith("socket:")
+    return False
+
+
+def alone(trap_program, room, plain):
+    """What needs no daemon but one that is played."""
+    with tempfile.TemporaryDirectory(prefix="crowd-", dir=room) as folder:
+        folder = pathlib.Path(folder)
+        with peer.Crowd(folder / "s") as crowd:
+            trap = Trap(trap_program, crowd.path)
+            count.same("an empty path", trap.run(options=["--listen", "", "--socket", trap.socket]), (1, "", "reqkey-trap: : No such file or directory\n"))
+            orphans(trap)
+            streams(trap)
+            early(trap)
+            if plain:
+                refused_threads(trap, folder)
+            for tries_it in [numbers, settings, exhausted, limited, closed, replaced]:
+                tries_it(trap, crowd)
+        again(Trap(trap_program, folder / "apart"), folder / "apart")
+
+
 def load(trap_program, program, daemon_program):
     """100,000 calls of 64 processes, of which one is killed now and then: no wrong answer, and nothing is left of them."""
     with Daemon(daemon_program) as daemon:
@@ -425,6 +727,8 @@ def main():
         analyzed()
         # (one asks the kernel as before Linux 6.13, too)
         traps = [each for each in made_twice(count, "trap", room, "-DASKS_PIDFD=0") if each is not None]
+        for trap_program in traps:
+            alone(trap_program, room, trap_program == traps[0])
         for daemon_program in there(count):
             for trap_program in traps if program else []:
                 tries(daemon_program, trap_program, program, room)

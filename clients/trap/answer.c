@@ -143,8 +143,9 @@ static int read_part(uint64_t at, uint64_t number, uint64_t part[2])
 static long answer_instantiate_iov(const uint64_t *a)
 {
     size_t length = 0;
-    int fault = a[2] > PARTS ? -EINVAL : 0;
-    for (uint64_t i = 0; i < a[2] && fault == 0; i++) {
+    uint32_t count = a[1] == 0 ? 0 : (uint32_t)a[2]; /* NULL is no parts, as in the kernel */
+    int fault = count > PARTS ? -EINVAL : 0;
+    for (uint32_t i = 0; i < count && fault == 0; i++) {
         uint64_t part[2] = {0, 0};
         fault = read_part(a[1], i, part);
         if (fault == 0)
@@ -164,8 +165,8 @@ static long answer_default(const uint64_t *a)
     if (session == NULL)
         return -errno;
     int before = reqkey_default(session, setting);
-    if (before >= 0 && setting != REQKEY_KEEP)
-        session_setting(setting);
+    if (before >= 0 && setting != REQKEY_KEEP && !session_setting(setting))
+        before = -ENOMEM;
     return told(session_end(before));
 }
 

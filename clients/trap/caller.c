@@ -78,7 +78,11 @@ int caller_begin(int listener, struct set *set, const struct seccomp_notif *call
     caller.narrow = is_narrow(call->data.arch);
     if (call->pid == 0)
         return -EPERM;
-    return (read_info() || read_proc()) && caller_lives() ? 0 : -ESRCH;
+    bool seen = read_info() || read_proc();
+    int error = errno;
+    if (!caller_lives())
+        return -ESRCH;
+    return seen ? 0 : error == EMFILE || error == ENFILE ? -ENOMEM : -EPERM;
 }
 
 void caller_end(void)

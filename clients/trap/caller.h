@@ -31,7 +31,10 @@ struct caller {
 
 extern __thread struct caller caller;
 
-/* Begins with the caller of this call. 0 or a negative errno: ESRCH if it is gone, EPERM if it can't be seen from here, as from another process namespace. */
+/*
+ * Begins with the caller of this call. 0 or a negative errno: ESRCH if it is gone, ENOMEM if there is no descriptor to look at it, EPERM if it can't be
+ * seen from here, as from another process namespace.
+ */
 int caller_begin(int listener, struct set *set, const struct seccomp_notif *call);
 
 void caller_end(void);

@@ -43,6 +43,10 @@ static bool is_free(const struct sockaddr_un *address)
 static int bound(const char *path)
 {
     struct sockaddr_un address = {.sun_family = AF_UNIX};
+    if (path[0] == 0) { /* which would be a name to which anybody may connect (unix(7), "abstract") */
+        errno = ENOENT;
+        return -1;
+    }
     if (strlen(path) >= sizeof address.sun_path) {
         errno = ENAMETOOLONG;
         return -1;

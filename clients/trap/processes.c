@@ -81,8 +81,13 @@ static bool is_watched(int pidfd)
     struct epoll_event event = {.events = EPOLLIN, .data.fd = pidfd};
     if (ends < 0) {
         ends = epoll_create1(EPOLL_CLOEXEC);
-        if (ends < 0 || pthread_create(&thread, NULL, watch, NULL) != 0)
+        if (ends < 0)
             return false;
+        if (pthread_create(&thread, NULL, watch, NULL) != 0) {
+            close(ends);
+            ends = -1; /* so that the next one tries again */
+            return false;
+        }
         pthread_detach(thread);
     }
     return epoll_ctl(ends, EPOLL_CTL_ADD, pidfd, &event) == 0;
@@ -90,12 +95,12 @@ static bool is_watched(int pidfd)
 
 /* ---- one process */
 
-/* Keeps a process that lives; NULL if there is no memory or descriptor for it. */
+/* Keeps a process that lives; NULL if there is no memory or descriptor for it. The caller has to live after its pidfd is there, which is its own then. */
 static struct process *keep(pid_t id, struct ring *ring, int setting)
 {
     struct process *process = calloc(1, sizeof *process);
     int pidfd = process == NULL ? -1 : (int)syscall(SYS_pidfd_open, id, 0);
-    if (pidfd < 0 || !is_watched(pidfd)) {
+    if (pidfd < 0 || (id == caller.process && !caller_lives()) || !is_watched(pidfd)) {
         if (pidfd >= 0)
             close(pidfd);
         free(process);
@@ -142,34 +147,41 @@ static bool keeps_any(const struct set *set)
     return process != NULL;
 }
 
-/* What is kept of the caller's process. If anything is kept of its set, that is what its ancestor has, from now on; NULL is nothing but the first ring. */
-static struct process *known(void)
+/*
+ * What is kept of the caller's process. If anything is kept of its set, that is what its ancestor has, from now on; NULL is nothing but the first ring. False
+ * if it can't be kept.
+ */
+static bool known(struct process **found)
 {
+    *found = NULL;
     if (!keeps_any(caller.set))
-        return NULL;
-    struct process *process = kept(caller.process);
-    if (process != NULL)
-        return process;
-    const struct process *ancestor = ancestor_of(caller.process, caller.parent);
-    return keep(caller.process, ancestor == NULL ? NULL : ancestor->ring, ancestor == NULL ? 0 : ancestor->setting);
+        return true;
+    *found = kept(caller.process);
+    if (*found == NULL) {
+        const struct process *ancestor = ancestor_of(caller.process, caller.parent);
+        *found = keep(caller.process, ancestor == NULL ? NULL : ancestor->ring, ancestor == NULL ? 0 : ancestor->setting);
+    }
+    return *found != NULL;
 }
 
+/* NULL also if the caller is gone: its number may be that of another process, which was kept before. */
 static struct process *known_or_kept(void)
 {
-    struct process *process = known();
-    return process != NULL ? process : keep(caller.process, NULL, 0);
+    struct process *process;
+    if (!known(&process))
+        return NULL;
+    if (process == NULL)
+        process = keep(caller.process, NULL, 0);
+    return process != NULL && caller_lives() ? process : NULL;
 }
 
-struct ring *process_ring(void)
+bool process_find(struct ring **ring, int *setting)
 {
-    const struct process *process = known();
-    return process == NULL ? NULL : process->ring;
-}
-
-int process_setting(void)
-{
-    const struct process *process = known();
-    return process == NULL ? 0 : process->setting;
+    struct process *process;
+    bool done = known(&process);
+    *ring = process == NULL ? NULL : process->ring;
+    *setting = process == NULL ? 0 : process->setting;
+    return done;
 }
 
 /* ---- a change of a process */

@@ -18,14 +18,13 @@
 struct ring;
 struct set;
 
-/* The ring of the caller's process, NULL for its user's first one; and its setting. */
-struct ring *process_ring(void);
-int process_setting(void);
+/* The ring of the caller's process, NULL for its user's first one; and its setting. False if out of memory, or if the caller is gone. */
+bool process_find(struct ring **ring, int *setting);
 
-/* Puts the caller's process into a ring; false if out of memory. */
+/* Puts the caller's process into a ring; false as above. */
 bool process_join(struct ring *ring);
 
-/* Keeps this setting for the caller's process; false if out of memory. */
+/* Keeps this setting for the caller's process; false as above. */
 bool process_set(int setting);
 
 /* Forgets the processes of a set. */

@@ -20,6 +20,7 @@
 #include "supervise.h"
 
 #include <errno.h>
+#include <fcntl.h>
 #include <getopt.h>
 #include <limits.h>
 #include <stdbool.h>
@@ -121,6 +122,17 @@ static int run_inside(const char *socket, char **words)
     return status;
 }
 
+/* Where the caller has closed its standard streams, nothing else takes their numbers. They are closed for the program, too. */
+static void fill_streams(void)
+{
+    int nothing;
+    do
+        nothing = open("/dev/null", O_RDWR | O_CLOEXEC);
+    while (nothing >= 0 && nothing <= STDERR_FILENO);
+    if (nothing >= 0)
+        close(nothing);
+}
+
 static int run_handler(const char *word, char **words)
 {
     char *end;
@@ -146,6 +158,7 @@ static int run_program(const char *socket, char **words)
 int main(int count, char **words)
 {
     struct words told = {NULL, NULL, NULL, words};
+    fill_streams();
     int status = read_words(count, words, &told);
     if (status >= 0)
         return status;

@@ -7,6 +7,7 @@
 #include <pthread.h>
 #include <stdlib.h>
 #include <string.h>
+#include <sys/types.h>
 
 /*
  * Idle connections of a ring at most; the calls after which a connection is made anew (the daemon reads one 1,048,576 times, 4,096 bytes at most); and the
@@ -21,7 +22,8 @@ struct ring {
     const struct set *set; /* NULL once it has ended */
     uint32_t number;       /* the user's */
     char *name;            /* NULL for none, "" for the first one */
-    unsigned age;          /* of the daemon */
+    unsigned age;          /* of the daemon, or another number once the ring is gone */
+    pid_t daemon;          /* who has it; 0 if that is not known */
     unsigned holds;
     unsigned connections, waiting; /* those in it, and calls that wait for one of them */
     struct reqkey_rings rings;
@@ -30,7 +32,7 @@ struct ring {
 };
 
 static pthread_mutex_t lock = PTHREAD_MUTEX_INITIALIZER;
-static pthread_mutex_t making = PTHREAD_MUTEX_INITIALIZER; /* of rings by a name: one at a time, so that each is made once */
+static pthread_mutex_t making = PTHREAD_MUTEX_INITIALIZER; /* of rings: one at a time, so that there are not too many, and each name is made once */
 static pthread_cond_t given = PTHREAD_COND_INITIALIZER;    /* a connection was given back, or has ended */
 static struct ring *rings;
 static unsigned total; /* of all connections in rings */
@@ -54,13 +56,14 @@ void rings_unlock(void)
 
 /* ---- connections */
 
-/* A session of this user in this ring, or in a new one for 0; NULL and errno. */
-static struct reqkey *connected(uint32_t number, uint32_t gid, uint32_t join, struct reqkey_rings *are)
+/* A session of this user in this ring, or in a new one for NULL; NULL and errno. EKEYREVOKED: the daemon is not the ring's, which may be another there. */
+static struct reqkey *connected(uint32_t number, uint32_t gid, const struct ring *ring, struct reqkey_rings *are)
 {
     struct reqkey *session = reqkey_connect(path);
     if (session == NULL)
         return NULL;
-    int result = reqkey_hello(session, number, gid, 0, join, are);
+    bool other = ring != NULL && connection_daemon(session) != ring->daemon;
+    int result = other ? -REQKEY_EKEYREVOKED : reqkey_hello(session, number, gid, 0, ring == NULL ? 0 : ring->rings.session, are);
     if (result == 0)
         return session;
     int error = errno_of(result);
@@ -72,7 +75,7 @@ static struct reqkey *connected(uint32_t number, uint32_t gid, uint32_t join, st
 struct reqkey *ring_alone(uint32_t number, uint32_t gid)
 {
     struct reqkey_rings are;
-    return connected(number, gid, 0, &are);
+    return connected(number, gid, NULL, &are);
 }
 
 bool ring_clears(uint32_t number)
@@ -232,7 +235,7 @@ static struct ring *made(struct set *set, uint32_t number, uint32_t gid, const c
         errno = ENOMEM;
         return NULL;
     }
-    struct reqkey *session = connected(number, gid, 0, &ring->rings);
+    struct reqkey *session = connected(number, gid, NULL, &ring->rings);
     struct connection *connection = session == NULL ? NULL : connection_in(ring, session, &ring->rings, gid);
     if (connection == NULL) {
         free(copy);
@@ -241,6 +244,7 @@ static struct ring *made(struct set *set, uint32_t number, uint32_t gid, const c
     }
     ring->set = set;
     ring->number = number;
+    ring->daemon = connection_daemon(session);
     ring->name = copy;
     ring->holds = ring->connections = 1;
     ring->idle = connection;
@@ -255,11 +259,9 @@ static struct ring *made(struct set *set, uint32_t number, uint32_t gid, const c
 
 struct ring *ring_named(struct set *set, uint32_t number, uint32_t gid, const char *name)
 {
-    if (name == NULL)
-        return made(set, number, gid, NULL);
     pthread_mutex_lock(&making);
     rings_lock();
-    struct ring *ring = held_by_name(set, number, name);
+    struct ring *ring = name == NULL ? NULL : held_by_name(set, number, name);
     rings_unlock();
     if (ring == NULL)
         ring = made(set, number, gid, name);
@@ -277,21 +279,19 @@ struct ring *ring_first(struct set *set, uint32_t number, uint32_t gid)
 
 /* ---- turns */
 
-/* An idle connection of this group, taken out; NULL if there is none, and EKEYREVOKED if the daemon has ended it. Of a thread that has the rings. */
+/* An idle connection of this group, taken out; NULL if there is none. Those that the daemon has ended go. Of a thread that has the rings. */
 static struct connection *idle_one(struct ring *ring, uint32_t gid)
 {
-    errno = 0;
-    for (struct connection **at = &ring->idle; *at != NULL; at = &(*at)->next) {
-        struct connection *connection = *at;
-        if (connection->gid != gid)
+    struct connection *connection, **at = &ring->idle;
+    while ((connection = *at) != NULL) {
+        if (connection->gid != gid) {
+            at = &connection->next;
             continue;
+        }
         *at = connection->next;
         if (!connection_has_ended(connection->session))
             return connection;
         connection_end(connection);
-        grow_older(ring);
-        errno = EKEYREVOKED;
-        return NULL;
     }
     return NULL;
 }
@@ -301,13 +301,12 @@ static struct connection *idle_or_room(struct ring *ring, uint32_t gid)
 {
     struct connection *connection;
     rings_lock();
-    while ((connection = idle_one(ring, gid)) == NULL && errno == 0 && ring->age == age && ring->idle == NULL && total >= CONNECTIONS &&
-           ring->connections > 0) {
+    while ((connection = idle_one(ring, gid)) == NULL && ring->age == age && ring->idle == NULL && total >= CONNECTIONS && ring->connections > 0) {
         ring->waiting++;
         pthread_cond_wait(&given, &lock);
         ring->waiting--;
     }
-    int error = connection == NULL && (errno != 0 || ring->age != age) ? EKEYREVOKED : 0;
+    int error = connection == NULL && ring->age != age ? EKEYREVOKED : 0;
     if (connection == NULL && error == 0) {
         ring->connections++;
         total++;
@@ -317,17 +316,20 @@ static struct connection *idle_or_room(struct ring *ring, uint32_t gid)
     return connection;
 }
 
-/* None was made after all. If there is no such ring, the daemon was started again, and no idle connection has told that. */
+/* None was made after all. If there is no such ring, it is gone, and all are with it if the daemon is another one. */
 static void not_made(struct ring *ring, int error)
 {
     rings_lock();
     ring->connections--;
     total--;
     pthread_cond_broadcast(&given);
-    if (error == ENOKEY || error == EACCES)
+    bool gone = error == ENOKEY || error == EACCES || error == EKEYREVOKED;
+    if (error == EKEYREVOKED || (gone && ring->daemon == 0))
         grow_older(ring);
+    else if (gone)
+        ring->age = age - 1;
     rings_unlock();
-    errno = error == ENOKEY || error == EACCES ? EKEYREVOKED : error;
+    errno = gone ? EKEYREVOKED : error;
 }
 
 struct connection *connection_take(struct ring *ring, uint32_t gid)
@@ -336,7 +338,7 @@ struct connection *connection_take(struct ring *ring, uint32_t gid)
     struct connection *connection = idle_or_room(ring, gid);
     if (connection != NULL || errno != 0)
         return connection;
-    struct reqkey *session = connected(ring->number, gid, ring->rings.session, &are);
+    struct reqkey *session = connected(ring->number, gid, ring, &are);
     if (session != NULL)
         connection = connection_in(ring, session, &are, gid);
     if (connection == NULL)
@@ -356,7 +358,7 @@ static unsigned idle_count(const struct ring *ring)
 static struct connection *renewed(struct connection *connection)
 {
     struct reqkey_rings are;
-    struct reqkey *session = connected(connection->ring->number, connection->gid, connection->ring->rings.session, &are);
+    struct reqkey *session = connected(connection->ring->number, connection->gid, connection->ring, &are);
     if (session == NULL)
         return connection;
     reqkey_free(connection->session);

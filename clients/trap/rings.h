@@ -5,8 +5,8 @@
  * The first ring of a user is where the user's processes are that have joined none. Rings may have a name (keyctl_join_session_keyring(3)), by which other
  * processes of the same set and user join them.
  *
- * When the daemon has ended a connection, it was started again, and all rings are gone. First rings are made anew. Who is in another one gets
- * EKEYREVOKED.
+ * When the daemon was started again, all rings are gone; and one alone, when the daemon has ended all its connections (reqkeyd(8), --idle). First rings are
+ * made anew. Who is in another one gets EKEYREVOKED.
  *
  * The daemon serves 64 connections. So there are at most 60 rings, and 32 of one set: EDQUOT.
  *

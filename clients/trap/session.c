@@ -28,18 +28,17 @@ static bool number_of_caller(uint32_t *number)
 static struct ring *ring_of_caller(int *setting)
 {
     uint32_t number;
+    struct ring *ring;
     if (!number_of_caller(&number))
         return NULL;
     rings_lock();
-    struct ring *ring = process_ring();
-    bool joined = ring != NULL && ring_is_of(ring, number), held = joined && ring_hold(ring);
-    *setting = process_setting();
+    bool found = process_find(&ring, setting), joined = ring != NULL && ring_is_of(ring, number), held = joined && ring_hold(ring);
     rings_unlock();
     if (held)
         return ring;
-    if (!joined)
+    if (found && !joined)
         return ring_first(caller.set, number, caller.gid);
-    errno = EKEYREVOKED;
+    errno = found ? EKEYREVOKED : ENOMEM;
     return NULL;
 }
 
@@ -63,15 +62,18 @@ static struct connection *connection_of_caller(int *setting)
 static bool is_ring(int32_t key)
 {
     uint32_t serial = (uint32_t)key;
-    return key < 0 || (key > 0 && !is_handler() && (serial == mine->rings.session || serial == mine->rings.user));
+    if (key < 0)
+        return key >= REQKEY_REQUESTOR_RING;
+    return key > 0 && !is_handler() && (serial == mine->rings.session || serial == mine->rings.user);
 }
 
-/* Has a connection of several processes the setting of this one. */
-static void set_default(int setting)
+/* Has a connection of several processes the setting of this one; a result that is an error if it can't. */
+static int set_default(int setting)
 {
-    if (mine->setting == setting || reqkey_default(mine->session, setting) < 0)
-        return;
-    mine->setting = setting;
+    int before = mine->setting == setting ? 0 : reqkey_default(mine->session, setting);
+    if (before >= 0)
+        mine->setting = setting;
+    return before;
 }
 
 struct reqkey *session_begin(int32_t key)
@@ -81,9 +83,11 @@ struct reqkey *session_begin(int32_t key)
     if (is_handler())
         session = handler_take();
     else if ((mine = connection_of_caller(&setting)) != NULL) {
-        set_default(setting);
+        int result = set_default(setting);
         mine->calls++;
-        session = mine->session;
+        session = result < 0 ? NULL : mine->session;
+        if (session == NULL)
+            session_end(result);
     }
     if (session == NULL)
         return NULL;
@@ -150,19 +154,21 @@ long session_renew(const char *name)
     return -1;
 }
 
-void session_setting(int setting)
+bool session_setting(int setting)
 {
     if (is_handler())
-        return;
+        return true;
     mine->setting = setting;
     rings_lock();
-    process_set(setting);
+    bool kept = process_set(setting);
     rings_unlock();
+    return kept;
 }
 
 void session_assumes(int32_t key)
 {
-    handler_assumes(key);
+    if (is_handler()) /* with its session taken; all others answer at the same time */
+        handler_assumes(key);
 }
 
 int32_t session_assumed(void)

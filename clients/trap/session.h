@@ -2,7 +2,9 @@
 #ifndef TRAP_SESSION_H
 #define TRAP_SESSION_H
 
-/* Has this connection, and the caller's process, this setting from now on. Of a session that has begun. */
-void session_setting(int setting);
+#include <stdbool.h>
+
+/* Has this connection, and the caller's process, this setting from now on; false if out of memory. Of a session that has begun. */
+bool session_setting(int setting);
 
 #endif

@@ -139,8 +139,10 @@ __attribute__((noreturn)) static void supervisor(int report, char **words)
     if (socketpair(AF_UNIX, SOCK_STREAM | SOCK_CLOEXEC, 0, pair) < 0)
         _exit(shown("socketpair", NOT_TRAPPED));
     pid_t child = fork();
-    if (child == 0)
+    if (child == 0) {
+        close(pair[0]); /* else the program would wait for itself if the supervisor ends */
         program(pair[1], words);
+    }
     close(pair[1]);
     leave_terminal();
     descriptors_many();
@@ -151,7 +153,9 @@ __attribute__((noreturn)) static void supervisor(int report, char **words)
     if (child > 0)
         collect(child, report);
     rest = (struct pollfd){answering ? ended[0] : -1, 0, 0};
-    signal(SIGCHLD, SIG_IGN); /* what is left behind is collected by the kernel */
+    signal(SIGCHLD, SIG_IGN); /* what is left behind is collected by the kernel, but for what has ended already */
+    while (waitpid(-1, NULL, WNOHANG) > 0)
+        ;
     while (answering && poll(&rest, 1, -1) < 0 && errno == EINTR)
         ;
     exit(0);
@@ -167,12 +171,12 @@ static void hand_on(int signals, pid_t program)
         kill(program, (int)signal.ssi_signo);
 }
 
-/* The next report; false with the end of the supervisor. */
+/* The next report; false with the end of the supervisor. What comes before the program is known is kept for it. */
 static bool next_report(int signals, int report, struct report *told)
 {
     for (;;) {
         struct pollfd both[2] = {{report, POLLIN, 0}, {signals, POLLIN, 0}};
-        if (poll(both, 2, -1) < 0)
+        if (poll(both, told->program > 0 ? 2 : 1, -1) < 0)
             continue;
         if (both[0].revents != 0)
             return read(report, told, sizeof *told) == sizeof *told;

@@ -104,7 +104,7 @@ static void hostile(void)
             syscall(SYS_add_key, at, "n", "v", 1L, SESSION), syscall(SYS_add_key, "user", "n", at, 1L, SESSION), syscall(SYS_request_key, "user", at, NULL, 0L),
             KEYCTL(JOIN, at == NULL ? (void *)1 : at), KEYCTL(SEARCH, SESSION, at, "k", 0L), KEYCTL(INSTANTIATE, key, at, 1L, 0L), KEYCTL(IOV, key, at, 1L, 0L),
         };
-        int right = errno == EFAULT;
+        int right = errno == (at == NULL ? EINVAL : EFAULT); /* (parts at NULL are none) */
         for (size_t n = 0; n < sizeof results / sizeof *results; n++)
             right &= results[n] < 0;
         printf("nowhere %d %ld\n", right, at == NULL ? 5L : KEYCTL(READ, key, at, 64L) < 0 ? (long)errno : 0L);

@@ -133,9 +133,10 @@ int32_t session_assumed(void)
     return handler ? 16 : 0;
 }
 
-void session_setting(int setting)
+bool session_setting(int setting)
 {
     (void)setting;
+    return next_turn() % 30 != 0;
 }
 
 void rings_lock(void)
