@@ -6,6 +6,6 @@ says why, where it raises the bound.
 
 MOST = {
     "found REQUEST": 3_550,
-    "READ of one byte": 3_800,
-    "ADD displacing": 7_090,
+    "READ of one byte": 3_550,
+    "ADD displacing": 7_040,
 }
