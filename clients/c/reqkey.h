@@ -118,7 +118,7 @@ struct reqkey;
 
 /*
  * Connects to the daemon's socket; reqkey_hello comes next. NULL, and errno, where that fails: what socket(2) and connect(2) say, ENOMEM, ENAMETOOLONG for a
- * path that has no place in an address.
+ * path that has no place in an address, ENOENT for an empty one. The descriptor is never a standard stream's, also where the program has closed those.
  */
 struct reqkey *reqkey_connect(const char *path);
 

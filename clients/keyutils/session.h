@@ -25,7 +25,8 @@
 
 /*
  * The session for a request that names this key, or 0 for none. It is this thread's until session_end. NULL, and errno, if there is none: ENOTCONN if
- * neither variable is set, EKEYREVOKED if REQKEYD_JOIN is gone, what connect(2) says, an error of HELLO; EOPNOTSUPP if the key is a ring, or the authority.
+ * neither variable is set, EKEYREVOKED if REQKEYD_JOIN is gone, what connect(2) says, an error of HELLO; EOPNOTSUPP if the key is a ring, or the authority;
+ * ECONNRESET if a signal's function has called meanwhile.
  */
 struct reqkey *session_begin(int32_t key);
 
