@@ -13,8 +13,8 @@ const SERVE: &str =
     "Answers a Unix socket: keys are found, or made by the handler programs of a configuration.
 
 If a key is missing, the program of the first line that fits it is started. A program after | gets the callout on standard input, and its output is the \
-payload. Any other one speaks the daemon's protocol on its standard streams, as reqkeyctl does for a shell script. Everyone who asks for the key meanwhile \
-waits for its end.
+payload. Any other one speaks the daemon's protocol on its standard streams, as reqkeyctl does for a shell script. Everyone who requests the key meanwhile \
+waits until it is made.
 
 So many workers serve one connection each at a time; more connections wait, and none is lost. Keys are in memory alone and end with the daemon. The file \
 of a socket that a daemon left behind is replaced; any other file is not.";
@@ -84,7 +84,7 @@ const OPTIONS: [(&str, &str, ValueParser, &str); 13] = [
         "keyutils",
         "FILE",
         ValueParser::String,
-        "Have handlers that ask preload this library, so that keyutils' own programs are handlers",
+        "Have plain handlers, those without |, preload this library, so that keyutils' own programs are handlers",
     ),
     (
         "record",
@@ -149,7 +149,7 @@ const REJOINED: &str =
 Example:
   reqkeyd rejoin /var/log/reqkeyd/hall-*
 
-Status: 0 (ok, 4 halls, 68000 steps: a run of the machine); 2 for a usage error; 1 for a file that can't be read or is no volume \
+Status: 0 (ok, 4 halls, 68000 steps: a run of the machine, to its end); 2 for a usage error; 1 for a file that can't be read or is no volume \
 (reqkeyd: FILE: its step 3 is cut or bad), for volumes that make no such run (reqkeyd: hall 2, volume 1: it is missing), if it is out of memory \
 (reqkeyd: memory), or if the output can't be written (reqkeyd: output).";
 

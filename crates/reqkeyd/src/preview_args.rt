@@ -29,7 +29,7 @@ const NAMES: [(&str, &str); 3] = [
     ("description", "its description, 1 to 4095 bytes"),
     (
         "callout",
-        "what the handler gets, at most 4095 bytes, perhaps none",
+        "what the handler gets, at most 4095 bytes; it may be empty",
     ),
 ];
 

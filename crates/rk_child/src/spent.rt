@@ -27,7 +27,7 @@ pub fn fail<P: Platform>(stage: &Stage<'_, P>, caller: &mut Caller<P>, launch: L
     }
 }
 
-/// Ends a launch of which nothing is to come, if there is one: its hall is told that no command was started. Without a launch nothing is done.
+/// Ends a launch of which nothing is to come, if there is one: its hall learns that no command was started. Without a launch nothing is done.
 pub fn spend<P: Platform>(
     stage: &Stage<'_, P>,
     caller: &mut Caller<P>,

@@ -13,8 +13,8 @@ pub fn printed(alloc: Global, reply: Reply, raw: bool) -> Result<Vec<u8>, AllocE
 {
     let mut text = match reply {
         Reply::Number(number) => decimal(alloc, number)?,
-        Reply::Bytes(bytes) if raw => return Ok(bytes.into_vec()),
-        Reply::Bytes(bytes) => bytes.into_vec(),
+        Reply::Bytes(bytes) if raw => return Vec::from_slice(alloc, bytes.as_bytes()),
+        Reply::Bytes(bytes) => Vec::from_slice(alloc, bytes.as_bytes())?,
         Reply::Rings {
             thread,
             process,

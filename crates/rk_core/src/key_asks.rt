@@ -18,21 +18,13 @@ use rk_message::{Reply, ReplyBytes};
 use rk_names::{Errno, Moment, Payload, Serial, SessionId};
 use std::alloc::{AllocError, Global};
 
-/// These bytes as a reply.
-fn bytes_answer(bytes: Vec<u8>) -> Answer
-    requires { length bytes.items ≤ 65533 }
-    ensures { result ≡ Answer.Done (Reply.Bytes bytes.items) }
-{
-    Answer::Done(Reply::Bytes(ReplyBytes::from_checked(bytes)))
-}
-
 /// A copy of the bytes as a reply, or out of memory.
 fn copied(alloc: Global, bytes: &[u8]) -> Result<Answer, Errno>
     requires { length bytes.now ≤ 65533 }
     ensures { (result ≡ Err Errno.Enomem) ⊎ (result ≡ Ok (Answer.Done (Reply.Bytes bytes.now))) }
 {
-    match Vec::from_slice(alloc, bytes) {
-        Ok(copy) => Ok(bytes_answer(copy)),
+    match ReplyBytes::from_checked(alloc, bytes) {
+        Ok(copy) => Ok(Answer::Done(Reply::Bytes(copy))),
         Err(_) => Err(Errno::Enomem),
     }
 }
@@ -130,7 +122,7 @@ impl Tables {
         let key = serial_of(number)?;
         let fact = self.possessed(asker, key)?;
         match description(self.alloc, fact, now) {
-            Ok(bytes) => Ok(bytes_answer(bytes)),
+            Ok(bytes) => copied(self.alloc, &bytes),
             Err(_) => Err(Errno::Enomem),
         }
     }

@@ -1,4 +1,4 @@
-//! Search: the first hit of a name in the rings of a context, or the errors of the keys that are none.
+//! Search: the first hit of a name in the rings of a context, or the errors of the keys that it passes by.
 ghost use Rattle.std.specs.Prelude.{◌≡◌, ◌||◌, ◌++◌, ℕ, false, List, Option, option_to_list, unwrap_or, find};
 ghost use Rattle.std.specs.Option.{option_map_or};
 ghost use Rattle.rk_names.specs.declared.errors.KeyError.TheVariants as error;

@@ -35,7 +35,7 @@ Examples:
 Status:
   0  the reply was printed
   1  a refusal (errno N on standard error); the daemon can't be reached or sends no reply (reqkeyctl: socket); a file can't be used (reqkeyctl: file); \
-or out of memory (reqkeyctl: memory)
+the reply can't be printed (reqkeyctl: output); or out of memory (reqkeyctl: memory)
   2  a usage error
 
 A number has digits alone. A payload or callout - is that one byte.
@@ -109,7 +109,7 @@ const RUN_OPTIONS: [Described; 4] = [
 const SEARCHES: [(&str, &str); 2] = [
     (
         "list",
-        "List the keys that the user can see, each with its serial and what describe prints",
+        "List the keys in the user ring, each with its serial and what describe prints",
     ),
     (
         "sweep",

@@ -32,7 +32,7 @@ pub enum Leftover<'a> {
     Number {
         /// The option, with its dashes.
         option: &'static str,
-        /// The word that is no number up to its limit.
+        /// The word, which is not a number up to its limit.
         value: &'a str,
     },
     /// A library that can't be preloaded.

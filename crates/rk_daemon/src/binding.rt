@@ -21,7 +21,7 @@ pub fn head_of<N: Names>(volume: &Volume<N>, negative: u32) -> Head
 }
 
 /// Writes the volume of this run with this head, once the one before it in its hall is done with, since it says which sum that has; whether it is the last of
-/// its hall. One that can't be written is told of as a warning; then the record lacks it, and the next one is tied to the one before it.
+/// its hall. Of one that can't be written a warning is logged; then the record lacks it, and the next one is tied to the one before it.
 pub fn bind<L: Log, B: Bindery>(
     log: &L,
     bindery: &mut B,

@@ -15,7 +15,7 @@ pub struct Started {
     pub key: Serial,
     /// When it was started, in seconds of the monotonic clock.
     pub since: u64,
-    /// What it was started for, as the log says it, until an operator is told that it runs for long; then `None`.
+    /// What it was started for, as the log says it, until it is logged that it runs for long; then `None`.
     pub purpose: Option<String>,
 }
 

@@ -24,7 +24,7 @@ pub fn line_for<'a>(conf: &'a Conf, subject: Option<&Subject>) -> Option<&'a Lin
 }
 
 /// What a handler was started for, and by which line, as ` (create user "debug:x", uid 1000; line 3, /bin/false)`. It has neither the callout nor a
-/// payload. A byte of a name or a path that is no printable ASCII, a `"` and a `\` are `\0` and three octal digits, and what is past 128 bytes is `..`. An
+/// payload. A byte of a name or a path outside printable ASCII, a `"` and a `\` are `\0` and three octal digits, and what is past 128 bytes is `..`. An
 /// `Err` is out of memory.
 pub fn purpose_of(
     alloc: Global,

@@ -260,7 +260,7 @@ fn record_at<R: Files + AllocGlobal + Clone + Drop>(
 
 /// Reads the configuration, draws the seed and the number of this run, looks at the folder of the record and for the library, takes the places of standard
 /// streams that are closed and the path of the socket, and serves connections: for good, or until so many have come as the settings say, and those are served
-/// out. `errors` is told once connections are accepted.
+/// out. It says on `errors` when connections are accepted.
 pub fn serve<
     R: Files
         + Net

@@ -23,7 +23,7 @@ const PAUSE: u64 = 100;
 pub struct SystemDoor<'a, R, L> {
     /// What calls the system.
     rt: &'a R,
-    /// Where it is told that connections wait.
+    /// Where a warning goes that connections wait.
     log: &'a L,
     /// Where clients connect.
     listener: UnixListener,

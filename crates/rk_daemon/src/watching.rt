@@ -40,7 +40,7 @@ pub fn watch<N: Names, R: Wait + Clock + Eprint + Keeper>(
     }
 }
 
-/// Whether the figures, which were told then, are to be told now, after so many seconds; 0 is for never. If so, they are told now.
+/// Whether so many seconds have gone by since the figures were last logged; 0 is for never. If so, they count as logged now.
 fn is_due(told: &mut u64, now: u64, seconds: u32) -> bool
     ensures due { result ≡ (nat_lt 0 seconds && nat_le seconds (now - told.old)) }
     ensures told { told.new ≡ (if result then now else told.old) }

@@ -86,7 +86,9 @@ impl<'a, R: Abort> Telling<'a, R> {
     /// A reply, or why there is none.
     fn reply(&self) -> Result<Reply, PeerFault> {
         match self.answer {
-            Answer::Bytes(bytes) => match ReplyBytes::new(copy_of(self.rt, self.alloc, bytes)) {
+            Answer::Bytes(bytes) => match ReplyBytes::new(self.alloc, bytes).expect(
+                self.rt, "memory",
+            ) {
                 Some(bytes) => Ok(Reply::Bytes(bytes)),
                 None => Err(PeerFault::Malformed),
             },
@@ -226,7 +228,7 @@ impl Host for Counting {
     }
 }
 
-/// What comes of words.
+/// What words lead to.
 #[derive(Drop)]
 struct Outcome<'a> {
     /// The status.

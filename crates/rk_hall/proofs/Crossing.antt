@@ -21,6 +21,7 @@ use Rattle.rk_core.specs.contracts.book.Book as book
 use Rattle.rk_names.specs.contracts.type_name.TypeName as type_name
 use Rattle.rk_names.specs.contracts.description.Description as description
 use Rattle.rk_names.specs.contracts.callout.Callout as callout
+use Rattle.rk_names.specs.contracts.shared_bytes.SharedBytes as bytes
 use Rattle.rk_names.specs.contracts.payload.Payload as payload
 use Rattle.rk_message.specs.contracts.ask.AskOf as ask
 use Rattle.rk_message.specs.contracts.reply.Reply as reply
@@ -92,15 +93,22 @@ rings_send = let w = row_send in let r = table_send row.the_row row_send in let 
 pub book_send : IsSend book.the_row
 book_send = let k = keys_send in let r = rings_send in let a = auths_send in search (sendable, crosses) depth 40
 
+-- shared bytes may go to another thread, and threads may share them
+pub bytes_send : IsSend bytes.the_row
+bytes_send = search (sendable, crosses) depth 40 fits 20000
+
+pub bytes_sync : IsSync bytes.the_row
+bytes_sync = search (sendable, crosses) depth 40 fits 20000
+
 abbrev asks : RattleType
 asks = ask.the_row type_name.the_row description.the_row callout.the_row payload.the_row
 
 -- an ask may go to another thread, and threads may share it
 pub ask_send : IsSend asks
-ask_send = search (sendable, crosses) depth 40 fits 20000
+ask_send = let b = bytes_send in search (sendable, crosses) depth 40 fits 20000
 
 pub ask_sync : IsSync asks
-ask_sync = search (sendable, crosses) depth 40 fits 20000
+ask_sync = let b = bytes_sync in search (sendable, crosses) depth 40 fits 20000
 
 -- a shared request may go to another thread
 pub shared_send : IsSend shared.the_row
@@ -108,7 +116,7 @@ shared_send = let a = ask_send in let s = ask_sync in search (sendable, crosses)
 
 -- a reply may go to another thread
 pub reply_send : IsSend reply.the_row
-reply_send = search (sendable, crosses) depth 40 fits 20000
+reply_send = let b = bytes_send in search (sendable, crosses) depth 40 fits 20000
 
 -- a subject may go to another thread
 pub subject_send : IsSend subject.the_row
@@ -123,7 +131,8 @@ answer_send = let r = reply_send in let s = subject_send in search (sendable, cr
 
 -- a recorded step may go to another thread
 pub recorded_send : IsSend recorded.the_row
-recorded_send = let s = shared_send in let e = event_send in let a = answer_send in search (sendable, crosses) depth 120 fits 20000
+recorded_send =
+    let b = bytes_send in let s = shared_send in let e = event_send in let a = answer_send in search (sendable, crosses) depth 120 fits 20000
 
 pub room_send : IsSend room.the_row
 room_send = search (sendable, crosses) depth 40 fits 20000

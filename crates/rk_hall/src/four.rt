@@ -3,7 +3,7 @@
 //! A hall's number is in the types of its parts (`Lock<N, 0>`, `Part<N, 0>`), so a call of the hall with a number that only a run knows stands in four
 //! arms. They are written here once, and in each place one line says what is called.
 
-/// Code for the hall that a number names (`HallNo`), or that a ticket is of (`OneOfFour(ticket)`): it is told the field and the name of that hall.
+/// Code for the hall that a number names (`HallNo`), or that a ticket is of (`OneOfFour(ticket)`): it gets the field and the name of that hall.
 macro_rules! by_hall {
     ($which:expr, $names:ident $(($ticket:tt))?, $code:ident!($($given:tt)*)) => {
         match $which {

@@ -1,17 +1,17 @@
 //! What a session may be answered.
 
-ghost use Rattle.std.specs.Prelude.{◌≡◌, ◌≤◌, Some, None, length, nat_lt, if◌then◌else◌};
+ghost use Rattle.std.specs.Prelude.{◌≡◌, ◌≤◌, Some, None, IfOk, length, nat_lt, if◌then◌else◌};
 
-use rk_names::Errno;
-use std::alloc::AllocError;
+use rk_names::{Errno, SharedBytes};
+use std::alloc::{AllocError, Global};
 use std::marker::Model;
 
 /// The bytes of a reply: at most 65,533, so that with their length and the kind byte they fit the
-/// 65,536 bytes of a frame's body.
+/// 65,536 bytes of a frame's body. Its copies share them.
 #[derive(Debug, Drop)]
 pub struct ReplyBytes {
     /// The bytes, at most 65,533.
-    bytes: Vec<u8>,
+    bytes: SharedBytes,
 }
 
 impl Model for ReplyBytes {
@@ -19,32 +19,33 @@ impl Model for ReplyBytes {
 
     ghost Value = { List ℕ };
 
-    ghost view = { λ r. r.bytes.items };
+    ghost view = { λ r. r.bytes };
 
-    ghost invariant = { λ r. length r.bytes.items ≤ 65533 };
+    ghost invariant = { λ r. length r.bytes ≤ 65533 };
 }
 
 impl ReplyBytes {
     /// The most bytes that it has.
     pub const MAX_LEN: usize = 65_533;
 
-    /// Moves the bytes, and takes no memory; `None` past 65,533 of them.
-    pub fn new(bytes: Vec<u8>) -> Option<ReplyBytes>
-        ensures { result ≡ (if nat_lt 65533 (length bytes.items) then None else Some bytes.items) }
+    /// A copy of the bytes, `None` past 65,533 of them. An `Err` is out of memory.
+    pub fn new(alloc: Global, bytes: &[u8]) -> Result<Option<ReplyBytes>, AllocError>
+        ensures { IfOk result (λ copy. copy ≡ (if nat_lt 65533 (length bytes.now) then None else Some bytes.now)) }
     {
         if bytes.len() > ReplyBytes::MAX_LEN {
-            None
-        } else {
-            Some(ReplyBytes::from_checked(bytes))
+            return Ok(None);
         }
+        Ok(Some(ReplyBytes::from_checked(alloc, bytes)?))
     }
 
-    /// Moves bytes of which there are at most 65,533, and takes no memory.
-    pub fn from_checked(bytes: Vec<u8>) -> ReplyBytes
-        requires { length bytes.items ≤ 65533 }
-        ensures { result ≡ bytes.items }
+    /// A copy of bytes of which there are at most 65,533. An `Err` is out of memory.
+    pub fn from_checked(alloc: Global, bytes: &[u8]) -> Result<ReplyBytes, AllocError>
+        requires { length bytes.now ≤ 65533 }
+        ensures { IfOk result (λ copy. copy ≡ bytes.now) }
     {
-        ReplyBytes { bytes }
+        Ok(ReplyBytes {
+            bytes: SharedBytes::of(alloc, bytes)?,
+        })
     }
 
     /// The bytes that it was made of.
@@ -52,14 +53,7 @@ impl ReplyBytes {
         ensures bytes { result.now ≡ self.now }
         ensures rule { length self.now ≤ 65533 }
     {
-        &self.bytes
-    }
-
-    /// Gives the bytes back, and takes no memory.
-    pub fn into_vec(self) -> Vec<u8>
-        ensures { result.items ≡ self }
-    {
-        self.bytes
+        self.bytes.as_bytes()
     }
 }
 

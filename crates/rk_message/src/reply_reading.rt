@@ -71,8 +71,7 @@ fn bytes(alloc: Global, rest: &[u8]) -> Result<Reply, ReadError>
 {
     let (bytes, rest) = field::reply_block(rest)?;
     field::end(rest)?;
-    let copy = Vec::from_slice(alloc, bytes)?;
-    Ok(Reply::Bytes(ReplyBytes::from_checked(copy)))
+    Ok(Reply::Bytes(ReplyBytes::from_checked(alloc, bytes)?))
 }
 
 #[tactic(auto, unfolding(crate::specs::Reading::message_behind, crate::specs::Reading::all_values, crate::specs::Reading::values_at))]

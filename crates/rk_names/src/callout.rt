@@ -3,17 +3,17 @@ ghost use Rattle.std.specs.Prelude.{◌≡◌, IfOk, IfErr, None, MatchResult, S
 ghost use Rattle.rk_names.specs.Rules.{callout_fault, IsRefusedFor};
 
 use crate::errors::NameFault;
+use crate::shared_bytes::SharedBytes;
 use crate::text::text_fault;
 use std::alloc::{AllocError, Global};
 use std::marker::Model;
-use std::sync::Arc;
 
 /// What the requester passes to the handler: 0 to 4,095 bytes of UTF-8 without a zero byte
 /// (request_key(2), `callout_info`). Its copies share the bytes.
 #[derive(Debug, Drop)]
 pub struct Callout {
     /// The text, 0 to 4,095 bytes.
-    bytes: Arc<Vec<u8>>,
+    bytes: SharedBytes,
 }
 
 impl Model for Callout {
@@ -22,9 +22,9 @@ impl Model for Callout {
 
     ghost Value = { List ℕ };
 
-    ghost view = { λ n. n.bytes.value.items };
+    ghost view = { λ n. n.bytes };
 
-    ghost invariant = { λ n. callout_fault n.bytes.value.items ≡ None };
+    ghost invariant = { λ n. callout_fault n.bytes ≡ None };
 }
 
 impl Callout {
@@ -59,9 +59,8 @@ impl Callout {
         requires { callout_fault bytes.now ≡ None }
         ensures { IfOk result (λ n. n ≡ bytes.now) }
     {
-        let bytes = Vec::from_slice(alloc, bytes)?;
         Ok(Callout {
-            bytes: Arc::new(alloc, bytes)?,
+            bytes: SharedBytes::of(alloc, bytes)?,
         })
     }
 
@@ -70,14 +69,16 @@ impl Callout {
         ensures bytes { result.now ≡ self.now }
         ensures rule { callout_fault self.now ≡ None }
     {
-        &self.bytes
+        self.bytes.as_bytes()
     }
 
     /// The same, borrowed.
     pub fn view(&self) -> CalloutView<'_>
         ensures { result ≡ self.now }
     {
-        CalloutView { bytes: &self.bytes }
+        CalloutView {
+            bytes: self.bytes.as_bytes(),
+        }
     }
 }
 

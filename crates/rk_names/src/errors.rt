@@ -11,7 +11,7 @@ pub enum Errno {
     Eperm,
     /// The key is not linked in that ring.
     Enoent,
-    /// Memory ran out, and nothing changed.
+    /// Out of memory: nothing changed, unless it was for the reply alone.
     Enomem,
     /// The key or ring is not one of the asking context.
     Eacces,

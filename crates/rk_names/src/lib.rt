@@ -17,8 +17,9 @@
 //! # How it is built
 //!
 //! A file for each name (`type_name`, `description`, `callout`) and for `payload`; `text` has the rule that all names share, `context` who acts, `numbers`
-//! what is a number, `errors` the refusals, `name_bytes` keeps the bytes of a description, `equality` tells whether two names have the same bytes. The rules
-//! stand once, in `specs/Rules.antt`, as functions from bytes to the first fault; a maker, its test on borrowed bytes and its reader all cite them.
+//! what is a number, `errors` the refusals. `name_bytes` keeps the bytes of a description, `shared_bytes` those that copies share, and `equality` tells
+//! whether two names have the same bytes. The rules stand once, in `specs/Rules.antt`, as functions from bytes to the first fault; a maker, its test on
+//! borrowed bytes and its reader all cite them.
 #![tactic(auto)]
 
 mod callout;
@@ -29,6 +30,7 @@ mod errors;
 mod name_bytes;
 mod numbers;
 mod payload;
+mod shared_bytes;
 mod text;
 mod type_name;
 
@@ -38,4 +40,5 @@ pub use description::{Description, DescriptionView};
 pub use errors::{Errno, KeyError, NameFault};
 pub use numbers::{Moment, NameNo, Serial, SessionId};
 pub use payload::{Payload, PayloadView};
+pub use shared_bytes::SharedBytes;
 pub use type_name::{TypeName, TypeView};

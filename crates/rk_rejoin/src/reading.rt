@@ -32,7 +32,7 @@ fn rank_of(volume: &Stored) -> (u8, u64)
     (volume.head.hall.number(), volume.head.index)
 }
 
-/// The volumes of the files, in their order. Nothing is read after a file that is none.
+/// The volumes of the files, in their order. Nothing is read after a file that isn't a volume.
 fn read_all<'a, D: Disk>(
     alloc: Global,
     disk: &mut D,

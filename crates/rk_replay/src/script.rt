@@ -30,7 +30,7 @@ pub fn run_script<R: Read, W: Write>(
     // or the lines before the first happening and the fault of the configuration
     ensures refused { result ≡ Err ScriptFault.Conf → IfSome (R.remaining reader.old) (λ input. (text : List ℕ) × IsRefused input text
         × Appends (W.contents writer.old) (W.contents writer.new) text) }
-    // whatever comes of it, at most 1,048,576 pieces of 4,096 bytes are read
+    // whatever it leads to, at most 1,048,576 pieces of 4,096 bytes are read
     ensures most { IsTaken (R.remaining reader.old) (R.remaining reader.new) }
     // each read before the end gives a byte
     ensures long { result ≡ Err ScriptFault.TurnsUsed → IfSome (R.remaining reader.old) (λ input. 1048576 ≤ length input) }

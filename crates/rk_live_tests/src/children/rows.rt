@@ -1,4 +1,4 @@
-//! What a requester gets for each call of a device that fails, and what else only a fake does. What comes of the rest that a program may do is tried in
+//! What a requester gets for each call of a device that fails, and what else only a fake does. What the rest that a program may do leads to is tried in
 //! tests/serve, with programs that are really started.
 use crate::answers::Said;
 use crate::children::handling::Handling;
@@ -82,7 +82,7 @@ const NONE: &[u8] = b"\0\0\0\x02\x03\x7e";
 /// The callout, as a piped handler gets it.
 const X: &[u8] = b"x";
 
-/// Which call fails, how the launch ends, what the client is answered, how many commands are started, what their handlers are told, those of the innermost
+/// Which call fails, how the launch ends, what the client is answered, how many commands are started, what their handlers are answered, those of the innermost
 /// first, and how many steps there are up to the client's outcome.
 pub type Row = (Fuse, Driven, Said, usize, &'static [&'static [u8]], u64);
 
@@ -105,7 +105,7 @@ pub const PIPED_ROWS: &[Row] = &[
     (Fuse(1, Wait, 1), WaitFailed, NO_KEY, 1, &[X], 7),
 ];
 
-/// What both are told if all goes well: the callout; and 0 and 0.
+/// What both are answered if all goes well: the callout; and 0 and 0.
 const NEGATES: &[&[u8]] = &[X, ZERO, ZERO];
 
 /// If the first command is started, the second one is too, whatever becomes of it.
@@ -123,10 +123,10 @@ pub const FOLLOWED_ROWS: &[Row] = &[
     (Fuse(2, Wait, 1), WaitFailed, NO_KEY, 2, NEGATES, 10),
 ];
 
-/// What both are told if all goes well: 0 and 0; and 0, 16 and 0.
+/// What both are answered if all goes well: 0 and 0; and 0, 16 and 0.
 const BOTH: &[&[u8]] = &[ZERO, ZERO, ZERO, SIXTEEN, ZERO];
 
-/// What the first one is told if key 16 is not made.
+/// What the first one is answered if key 16 is not made.
 const WITHOUT: &[&[u8]] = &[ZERO, NONE, ZERO];
 
 /// Whatever becomes of the handler of key 16, the first one learns whether that key was made, goes on and makes key 12.

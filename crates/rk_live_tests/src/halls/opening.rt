@@ -9,7 +9,7 @@ use std::sync::Wait;
 
 /// What is done in halls of its own, from their opening to their end.
 pub trait Scene {
-    /// Plays it, and compares what comes of it.
+    /// Plays it, and compares what it leads to.
     fn play<N: Names, R: Wait + Abort + Copy>(&self, rt: &R, alloc: Global, halls: Halls<N>);
 }
 

@@ -151,7 +151,7 @@ impl Pair {
 }
 
 const PAIRS: &[Pair] = &[
-    // the first one's handler is held until the second one, which waits for the same key, is told all that it was answered before
+    // the first one's handler is held until the second one, which waits for the same key, has read all that it was answered before
     Pair {
         until: 3,
         first: Side {
