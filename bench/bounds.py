@@ -5,7 +5,7 @@ says why, where it raises the bound.
 """
 
 MOST = {
-    "found REQUEST": 3_550,
-    "READ of one byte": 3_550,
-    "ADD displacing": 7_040,
+    "found REQUEST": 3_510,
+    "READ of one byte": 3_340,
+    "ADD displacing": 6_970,
 }
