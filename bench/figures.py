@@ -50,7 +50,7 @@ def steps(found):
             sizes = table.heads[3:]
             by_step = {step: [] for step in table.column("step")}
             for step, program, _, *cells in sorted(table.rows, key=lambda row: row[1], reverse=True):
-                by_step[step] += [Bar(f"{program}, {size}", re.search(r"\((.*)\)", cell)[1]) for size, cell in zip(sizes, cells)]
+                by_step[step] += [Bar(f"{program}, {size}", re.search(r"\((.*)\)", cell)[1]) for size, cell in zip(sizes, cells) if cell != MISSING]
             title = f"{table.before.partition(':')[0]}: a step's cost to that with {table.heads[2]}"
             yield Panel(title, [Row(step, bars) for step, bars in by_step.items()], GROWTH, True)
 

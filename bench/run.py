@@ -115,7 +115,8 @@ MOST = 40  # runs of a short one
 
 
 def measure(programs, before, whole, runs):
-    """For each program the least time of the measured lines, its peak memory, and the least time of a run."""
+    """For each program the least time of the measured lines, its peak memory, and the least time of a run. The first is what a run takes more than its set-up,
+    so beside a long set-up it may be none, or less: then it is no figure."""
     alone, both, memory = ({name: [] for name in programs} for _ in range(3))
     for at in range(MOST):
         spent = sum(sum(times) for times in [*alone.values(), *both.values()])
@@ -126,7 +127,7 @@ def measure(programs, before, whole, runs):
             took, peak, _ = run(words, whole)
             both[name].append(took)
             memory[name].append(peak)
-    return {name: (max(min(both[name]) - min(alone[name]), 1e-9), min(memory[name]), min(both[name])) for name in programs}
+    return {name: (min(both[name]) - min(alone[name]), min(memory[name]), min(both[name])) for name in programs}
 
 
 def counted(programs, load, lines):
@@ -203,7 +204,7 @@ def replay(options):
 
 
 def show(name, lines, took, steps, size):
-    times = {who: time for who, (time, _, _) in took.items()}
+    times = {who: time for who, (time, _, _) in took.items() if time > 0}
     speeds = pair({who: lines / time for who, time in times.items()}, "{:,.0f}")
     peaks = pair({who: peak for who, (_, peak, _) in took.items()}, "{:,}")
     row([name, f"{lines:,}", *speeds, ratio(times), *pair(steps, "{:,.0f}"), ratio(steps), *peaks, f"{size:,}"])
@@ -272,6 +273,11 @@ def steps(options):
         tell_steps({C: steps_of([peer("book"), *more, *SIZES], options.runs)}, f"Without scripts, {title}")
 
 
+def growth(time, first):
+    """A step's time, and how many times the first it is."""
+    return f"{time:,.0f} ({time / first:.2f})" if min(time, first) > 0 else "-"
+
+
 def tell_steps(found, title, unit="ns"):
     print(f"\n{title}: {unit} a step, and how many times that with 200 keys, which is to be {figures.GROWTH}\n")
     table("step", "program", *[f"{int(size):,} keys" for size in SIZES])
@@ -279,7 +285,7 @@ def tell_steps(found, title, unit="ns"):
         for who, steps in found.items():
             if step in steps:
                 times = list(steps[step].values())
-                row([step, who, *[f"{time:,.0f} ({time / times[0]:.2f})" for time in times]])
+                row([step, who, *[growth(time, times[0]) for time in times]])
 
 
 # ---- memory
