@@ -115,8 +115,8 @@ MOST = 40  # runs of a short one
 
 
 def measure(programs, before, whole, runs):
-    """For each program the least time of the measured lines, its peak memory, and the least time of a run. The first is what a run takes more than its set-up,
-    so beside a long set-up it may be none, or less: then it is no figure."""
+    """For each program the least time of the measured lines, its peak memory, and the least time of a run. The first is the time of a run less that of its
+    set-up. Beside a long set-up it may come out as zero or less; whoever prints it leaves it out then."""
     alone, both, memory = ({name: [] for name in programs} for _ in range(3))
     for at in range(MOST):
         spent = sum(sum(times) for times in [*alone.values(), *both.values()])
@@ -274,7 +274,7 @@ def steps(options):
 
 
 def growth(time, first):
-    """A step's time, and how many times the first it is."""
+    """A step's time, and how many times the first it is; `-` if either came out as zero or less."""
     return f"{time:,.0f} ({time / first:.2f})" if min(time, first) > 0 else "-"
 
 

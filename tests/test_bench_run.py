@@ -121,12 +121,12 @@ for bench, (both, alone) in BARS.items():
     count.same(f"{bench} of C alone", (status, list(files)), (0, [f"{bench}.svg"] if alone else []))
     count.same(f"bar of {bench} of C alone", not alone or any(bar.startswith(alone) for bar in bars(files.get(f"{bench}.svg", "<svg/>"))), True)
 
-# A load that takes no longer than its set-up, as far as could be measured, has no figure.
+# A time that came out as zero or less, beside that of the set-up, is neither printed nor drawn.
 _, printed, files = told([OURS, PEER], "replay", measure=lambda *_: {OURS: (0.5, 3000, 0.01), PEER: (-0.001, 2000, 0.01)})
-count.same("a time that is none", printed.splitlines()[-1].split(" | ")[1:5], ["20", "40", "-", "-"])
-count.same("bars of a time that is none", [it for it in bars(files["replay.svg"]) if "time" in it], [])
+count.same("a time below zero", printed.splitlines()[-1].split(" | ")[1:5], ["20", "40", "-", "-"])
+count.same("bars of a time below zero", [it for it in bars(files["replay.svg"]) if "time" in it], [])
 lost = {"a key read": {"200": 10.0, "10000": -1.0, "200000": 20.0}}
 _, printed, files = told([OURS, PEER], "steps", played=lambda _: {who: lost for who in (OURS, PEER)})
-count.same("a step's time that is none", "| a key read | Rattle | 10 (1.00) | - | 20 (2.00) |" in printed.splitlines(), True)
+count.same("a step's time below zero", "| a key read | Rattle | 10 (1.00) | - | 20 (2.00) |" in printed.splitlines(), True)
 count.same("bars of steps", sum("10,000 keys" in it for it in bars(files["steps.svg"])), 4)
 count.end()
