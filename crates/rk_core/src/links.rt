@@ -24,11 +24,11 @@ fn unlinked(fault: RingFault) -> Result<Option<Serial>, Errno>
 }
 
 impl Tables {
-    /// Whether a ring has no room for a key of that name.
+    /// Whether a ring has no room for a key of that name. The name is looked up only where all places are taken.
     pub fn is_full_at(&self, ring: Serial, name: &HashedName<'_>) -> bool
         ensures { result ≡ is_full_at self.now ring name.now.typ name.now.description }
     {
-        self.rings.is_full(ring, self.keys.name(name))
+        self.rings.is_full(ring, None) && self.rings.is_full(ring, self.keys.name(name))
     }
 
     /// Links a key in a ring, if one is given. The result is the key that gives way. EDQUOT if the ring is full; then nothing has changed. A ring that is
@@ -97,14 +97,15 @@ impl Tables {
         }
     }
 
-    /// Links a key in a ring. The key that gives way vanishes with its last link. EDQUOT if the ring is full; then nothing has changed.
+    /// Links a key in a ring. The key that gives way vanishes with its last link. EDQUOT if the ring is full; then nothing has changed. A key for which
+    /// another gives way is linked now, so it stays; one that found no rival may have found no ring.
     pub fn link(&mut self, ring: Serial, key: Serial) -> Result<(), Errno>
         requires known { map.contains_key self.old.keys key ≡ true }
         requires tidy { StayBut (λ j. j == key) self.old }
         ensures { Links self.old (Some ring) key result self.new }
     {
         let rival = self.put_link(&Some(ring), key)?;
-        self.let_both_vanish(rival, key);
+        self.let_vanish(rival.unwrap_or(key));
         Ok(())
     }
 

@@ -103,6 +103,23 @@ full_alike known rings ring typ description name kept names =
     by_ring None is = refl
     by_ring (Some r) is = λ i. nat_le 256 (sym (len-ring_seen r) i) && not (holds_alike known rings ring r typ description name kept names is i)
 
+-- a ring that has room for a name that no key has, has room for every name
+pub room_for_all : (known : Known) (rings : Rings) (ring : ℕ) (typ description : List ℕ) → numbered.is_full_at rings ring None ≡ false
+    → option_map_or (is_full known.keys typ description) (map.get (rings_seen rings) ring) false ≡ false
+room_for_all known rings ring typ description room =
+    ap (λ o. option_map_or (is_full known.keys typ description) o false) (get-rings_seen rings ring) ∙ by_ring (map.get rings ring) room
+  where
+    few : (full free : Bool) → (full && not false) ≡ false → (full && free) ≡ false
+    few true free h = absurd (both_ways true h refl)
+    few false free h = refl
+
+    by_ring : (o : Option Numbered) → option_map_or (numbered.is_full None) o false ≡ false
+        → option_map_or (is_full known.keys typ description) (option_map ring_seen o) false ≡ false
+    by_ring None h = refl
+    by_ring (Some r) h =
+        ap (λ n. nat_le 256 n && not (holds_name known.keys (ring_seen r) typ description)) (len-ring_seen r)
+        ∙ few (nat_le 256 (map.len r.links)) (not (holds_name known.keys (ring_seen r) typ description)) h
+
 -- whether there is room for a key goes by the number of its name
 pub full_by_number : (known : Known) (rings : Rings) (ring k n : ℕ) → IsNaming known.keys known.numbers → NumbersAgree known rings
     → map.get known.numbers k ≡ Some n

@@ -2,9 +2,10 @@
 use Rattle.rk_core.proofs.Words.{◌≡◌, ℕ, Bool, true, false, cond, not, ◌&&◌, ◌||◌, refl, sym, ap, ◌∙◌, Option, Some, None, nat_eq, option_map, unwrap_or}
 use Rattle.rk_core.proofs.Words.{is_some, nat_cmp_total, both_ways, nat_eq_equiv, changed_at, Condition, key_passes, is_building, is_rival, concluded, unspent}
 use Rattle.rk_core.proofs.Words.{Ring, is_linked, has_link, without_links, World, tidied, linked_in, unlinked_in, cleared_in, completed, ended, keys_ended}
-use Rattle.rk_core.proofs.Words.{expiry_after, stays, StayBut, vanished_at, without_ring, rival_in, get_changed_at, get_removed}
+use Rattle.rk_core.proofs.Words.{expiry_after, stays, StayBut, vanished_at, without_ring, rival_in, get_changed_at, get_removed, option_map_or, eqb-true, tie, with_link, Key, has_name}
 use Rattle.std.specs.FinMap as map
-use Rattle.rk_core.proofs.LinksAndNames.LinksAfter.{links_kept, stays_linked, stays_unlinked, cleared_alike}
+use Rattle.std.specs.FinSet as set
+use Rattle.rk_core.proofs.LinksAndNames.LinksAfter.{tied_itself, has_key, link_somewhere, links_kept, stays_linked, stays_unlinked, cleared_alike}
 use Rattle.rk_core.proofs.Vanishing.OneByOne.{same_keys, get_tidied, one_settles, stays_by}
 
 -- ---- what a key's staying rests on
@@ -54,6 +55,55 @@ link_stay w (Some ring) k rival is h = λ j key there other.
     second : (a b : Bool) → (a || b) ≡ false → b ≡ false
     second true b h = absurd (both_ways _ h refl)
     second false b h = h
+
+-- a key for which another gives way is linked then
+linked_instead : (w : World) (ring k r : ℕ) → rival_in w (Some ring) k r ≡ true → has_link (linked_in (Some ring) k w).rings k ≡ true
+linked_instead w ring k r gives = link_somewhere (linked_in (Some ring) k w).rings ring k (by_ring (map.get w.rings ring) refl)
+  where
+    not_its_own : is_rival w.keys k k ≡ false
+    not_its_own = ap (λ b. not b && key_passes w.keys k (λ key. has_name w.keys k key.typ key.description)) (tied_itself k)
+
+    change : Ring → Ring
+    change = with_link (is_rival w.keys k) k
+
+    put : (x : Ring) → set.contains (change x).keys k ≡ true
+    put x = elim (set.contains x.keys k) as (λ b. set.contains x.keys k ≡ b
+        → set.contains (cond b x.keys (set.retain (set.insert x.keys k) (λ i. not (is_rival w.keys k i)))) k ≡ true) [
+          | true ↦ λ there. there
+          | false ↦ λ _.
+              set.contains-retain (set.insert x.keys k) (λ i. not (is_rival w.keys k i)) k
+              (λ y t. ap (λ i. not (is_rival w.keys k i)) (sym (set.nat_cmp-IsAntisymmetric k y t)))
+              ∙ (λ i. set.contains-insert nat_cmp_total x.keys k k i && not (not_its_own i))
+              ∙ ap (λ b. (b || set.contains x.keys k) && not false) (tie k k ∙ tied_itself k)
+        ] refl
+
+    its_ring : (a b c : Bool) → ((not a && b) && c) ≡ true → b ≡ true
+    its_ring a true c h = refl
+    its_ring true false c h = absurd (both_ways _ refl h)
+    its_ring false false c h = absurd (both_ways _ refl h)
+
+    by_ring : (o : Option Ring) → map.get w.rings ring ≡ o → is_linked (linked_in (Some ring) k w).rings ring k ≡ true
+    by_ring None is =
+        absurd (both_ways _ (ap (has_key r) is) (its_ring (is_linked w.rings ring k) (is_linked w.rings ring r) (is_rival w.keys k r) gives))
+    by_ring (Some x) is =
+        ap (has_key k) (get_changed_at ring change w.rings ring
+        ∙ ap (λ b. cond b (option_map change (map.get w.rings ring)) (map.get w.rings ring)) (tied_itself ring) ∙ ap (option_map change) is)
+        ∙ put x
+
+-- after a key is linked, only the key that gave way may vanish, or else the key itself
+pub link_tidies : (w : World) (ring k : ℕ) (rival : Option ℕ) → ((j : ℕ) → rival_in w (Some ring) k j ≡ option_map_or (λ r. nat_eq j r) rival false)
+    → StayBut (λ j. nat_eq j k) w
+    → vanished_at (unwrap_or rival k) (linked_in (Some ring) k w) ≡ tidied (linked_in (Some ring) k w)
+link_tidies w ring k None is h = one_settles (linked_in (Some ring) k w) k (link_stay w (Some ring) k (λ _. false) is h)
+link_tidies w ring k (Some r) is h = one_settles (linked_in (Some ring) k w) r (λ j key there other. by_key j key there other (nat_eq j k) refl)
+  where
+    its : stays (linked_in (Some ring) k w) k ≡ true
+    its = or_left (has_link (linked_in (Some ring) k w).rings k) (key_passes w.keys k is_building) (linked_instead w ring k r (is r ∙ tied_itself r))
+
+    by_key : (j : ℕ) (key : Key) → map.get w.keys j ≡ Some key → nat_eq j r ≡ false → (b : Bool) → nat_eq j k ≡ b
+        → stays (linked_in (Some ring) k w) j ≡ true
+    by_key j key there other true same = ap (stays (linked_in (Some ring) k w)) (eqb-true j k same) ∙ its
+    by_key j key there other false ne = link_stay w (Some ring) k (λ i. nat_eq i r) is h j key there (λ i. other i || ne i)
 
 -- ---- a link is taken out
 
