@@ -1,10 +1,12 @@
 -- What is kept of names: what is found under their hashes after each change.
-use Rattle.rk_keys.proofs.Words.{◌∙◌, ap, ◌≡◌, refl, sym, ℕ, subst, ◌<◌, false, cond, arith, List, ◌-◌, ◌≤◌, true, Bool, not, [], ◌∷◌, ◌++◌, filter, both_ways}
-use Rattle.rk_keys.proofs.Words.{eq-eqb, eqb-true, false_from_ne_true, and_parts, and_from, nat_tests, bytes_eq-Decides, option_or, nat_cmp, Some, None, Option}
-use Rattle.rk_keys.proofs.Words.{nat_eq, unwrap_or, list_map, option_map, list_find, nat_le, bytes_eq, of_choice, shadow, get_changed_at, get_inserted}
-use Rattle.rk_keys.proofs.Words.{get_removed, changed_at, names_at, recounted, is_of, kept_of, counted_in, name_hash, is_same, count_of, counted_out, Named}
+use Rattle.rk_keys.proofs.Words.{◌∙◌, ap, ◌≡◌, refl, sym, ℕ, subst, ◌<◌, false, cond, arith, List, true, Bool, not, [], ◌∷◌, ◌++◌, filter, both_ways}
+use Rattle.rk_keys.proofs.Words.{eq-eqb, eqb-true, false_from_ne_true, and_parts, and_from, bytes_eq-Decides, option_or, nat_cmp, Some, None, Option}
+use Rattle.rk_keys.proofs.Words.{nat_eq, unwrap_or, option_map, list_find, nat_le, bytes_eq, of_choice, shadow, get_changed_at, get_inserted}
+use Rattle.rk_keys.proofs.Words.{get_removed, changed_at, names_at, first_changed, one_more, one_fewer, with_one_fewer, number_in, none-some, min, ◌+◌, is_of, kept_of, counted_in, name_hash, is_same, count_of, counted_out, Named}
 use Rattle.std.specs.FinMap as map
+use Rattle.std.specs.Option.{option_flatten}
 use Rattle.std.proofs.lemmas.List.Folds.{find-append}
+use Rattle.rk_keys.proofs.Firsts.{find_changed, find_others, not_changed}
 
 abbrev Buckets : Type 0
 Buckets = map.FinMap nat_cmp (List Named)
@@ -12,23 +14,6 @@ Buckets = map.FinMap nat_cmp (List Named)
 -- ---- what is found in a list
 
 module _ {X : Type 0} (p : X → Bool) where
-  pub found_passes : (xs : List X) (x : X) → list_find p xs ≡ Some x → p x ≡ true
-  found_passes [] x e = absurd (cc)
-  found_passes (y ∷ ys) x e = elim (p y) as (λ b. p y ≡ b → cond b (Some y) (list_find p ys) ≡ Some x → p x ≡ true) [
-    | true ↦ λ t e. ap p (sym (ap (λ o. unwrap_or o y) e)) ∙ t
-    | false ↦ λ _ e. found_passes ys x e
-  ] refl e
-
-  -- where a change of each leaves what the test tells
-  find_mapped : (f : X → X) → ((x : X) → p (f x) ≡ p x) → (xs : List X) → list_find p (list_map f xs) ≡ option_map f (list_find p xs)
-  find_mapped f keeps [] = refl
-  find_mapped f keeps (x ∷ xs) =
-      ap (λ b. cond b (Some (f x)) (list_find p (list_map f xs))) (keeps x)
-      ∙ elim (p x) as (λ b. cond b (Some (f x)) (list_find p (list_map f xs)) ≡ option_map f (cond b (Some x) (list_find p xs))) [
-        | true ↦ refl
-        | false ↦ find_mapped f keeps xs
-      ]
-
   -- where all that pass are kept, or none
   find_filtered : (q : X → Bool) (b : Bool) → ((x : X) → p x ≡ true → q x ≡ b) → (xs : List X) → list_find p (filter q xs) ≡ cond b (list_find p xs) None
   find_filtered q b is [] = elim b as (λ b. list_find p [] ≡ cond b (list_find p []) None) [ true ↦ refl | false ↦ refl ]
@@ -97,6 +82,11 @@ names_gone m k empty h =
       | false ↦ λ _. refl
     ] refl
 
+-- what the bucket under a hash tells of a name, is told of the names under it
+told_under : {A : Type 0} (f : List Named → Option A) → f [] ≡ None → (o : Option (List Named)) → option_flatten (option_map f o) ≡ f (unwrap_or o [])
+told_under f none None = sym none
+told_under f none (Some b) = refl
+
 -- ---- one name and another
 
 -- names that pass the test have equal types and descriptions
@@ -162,72 +152,87 @@ module _ (seed : ℕ) (old new : Buckets) (typ description : List ℕ) where
       ∙ ap (λ b. option_or (list_find (is_of t d) ns) (cond b (Some n) None)) other
       ∙ elim (list_find (is_of t d) ns) as (λ o. option_or o None ≡ o) [ None ↦ refl | Some m ↦ refl ])
 
-  recounted_name : (keys : ℕ) (t d : List ℕ) (n : Named) → is_of t d (recounted typ description keys n) ≡ is_of t d n
-  recounted_name keys t d n = elim (is_of typ description n) as (λ b. is_of t d (cond b (record n { keys = keys }) n) ≡ is_of t d n) [
-    | true ↦ refl
-    | false ↦ refl
-  ]
+  not_of : (t d : List ℕ) (n : Named) → is_same typ description t d ≡ false → is_of typ description n ≡ true → is_of t d n ≡ false
+  not_of t d n other of = false_from_ne_true _ (λ is. both_ways _ (of_another typ description t d n other is) of)
 
-  recounted_itself : (keys : ℕ) (o : Option Named) (n : Named) → o ≡ Some n → is_of typ description n ≡ true →
-      option_map (recounted typ description keys) o ≡ Some (record n { keys = keys })
-  recounted_itself keys o n is of = ap (option_map (recounted typ description keys)) is ∙ ap (λ b. Some (cond b (record n { keys = keys }) n)) of
-
-  recounted_other : (keys : ℕ) (t d : List ℕ) → is_same typ description t d ≡ false → (o : Option Named) → ((n : Named) → o ≡ Some n → is_of t d n ≡ true)
-      → option_map (recounted typ description keys) o ≡ o
-  recounted_other keys t d other None of = refl
-  recounted_other keys t d other (Some n) of =
-      ap (λ b. Some (cond b (record n { keys = keys }) n)) (of_another typ description t d n other (of n refl))
-
-  -- so many keys have a name that is there
-  pub kept_recounted : (keys : ℕ) (n : Named) (w : Option Named → Option Named) → kept_of seed old typ description ≡ Some n
-      → w (Some n) ≡ Some (record n { keys = keys })
-      → ((h : ℕ) → names_at new h ≡ cond (nat_eq (name_hash seed typ description) h) (list_map (recounted typ description keys) (names_at old h))
+  -- what is kept of a name is changed, but for the name
+  pub kept_counted : (f : Named → Named) (w : Option Named → Option Named) → ((t d : List ℕ) (n : Named) → is_of t d (f n) ≡ is_of t d n)
+      → option_map f (kept_of seed old typ description) ≡ w (kept_of seed old typ description)
+      → ((h : ℕ) → names_at new h ≡ cond (nat_eq (name_hash seed typ description) h) (first_changed (is_of typ description) f (names_at old h))
       (names_at old h))
       → (t d : List ℕ) → kept_of seed new t d ≡ cond (is_same typ description t d) (w (kept_of seed old t d)) (kept_of seed old t d)
-  kept_recounted keys n w there becomes is =
-      let ns : List Named = names_at old (name_hash seed typ description) in
-      kept_edited seed old new typ description (list_map (recounted typ description keys)) w is
-      (find_mapped (is_of typ description) (recounted typ description keys) (recounted_name keys typ description) ns
-      ∙ recounted_itself keys (kept_of seed old typ description) n there (found_passes (is_of typ description) ns n there)
-      ∙ sym becomes ∙ ap w (sym there))
+  kept_counted f w keeps becomes is =
+      kept_edited seed old new typ description (first_changed (is_of typ description) f) w is
+      (find_changed (is_of typ description) f (keeps typ description) (names_at old (name_hash seed typ description)) ∙ becomes)
       (λ t d other ns.
-      find_mapped (is_of t d) (recounted typ description keys) (recounted_name keys t d) ns
-      ∙ recounted_other keys t d other (list_find (is_of t d) ns) (found_passes (is_of t d) ns))
+      find_others (is_of typ description) (is_of t d) f (λ n of. let no = not_of t d n other of in (no, keeps t d n ∙ no)) ns)
 
-  -- a name is taken out
-  pub kept_lost : (w : Option Named → Option Named) → w (kept_of seed old typ description) ≡ None
-      → ((h : ℕ) → names_at new h ≡ cond (nat_eq (name_hash seed typ description) h) (filter (λ n. not (is_of typ description n)) (names_at old h))
+  -- a key of the name is counted, under its hash
+  pub names_counted : (k : ℕ) (t d : List ℕ) → k ≡ name_hash seed typ description → t ≡ typ → d ≡ description
+      → new ≡ changed_at k (first_changed (is_of t d) one_more) old → (h : ℕ)
+      → names_at new h ≡ cond (nat_eq (name_hash seed typ description) h) (first_changed (is_of typ description) one_more (names_at old h)) (names_at old h)
+  names_counted k t d hash its_type its_description is h =
+      ap (λ m. names_at m h) is ∙ names_changed old k (first_changed (is_of t d) one_more) refl h
+      ∙ (λ i. cond (nat_eq (hash i) h) (first_changed (is_of (its_type i) (its_description i)) one_more (names_at old h)) (names_at old h))
+
+  -- and its number told
+  pub number_told : (k : ℕ) (t d : List ℕ) → k ≡ name_hash seed typ description → t ≡ typ → d ≡ description → (o : Option ℕ)
+      → o ≡ option_flatten (option_map (λ b. number_in (list_find (is_of t d) b)) (map.get old k)) → number_in (kept_of seed old typ description) ≡ o
+  number_told k t d hash its_type its_description o is =
+      sym (is ∙ told_under (λ b. number_in (list_find (is_of t d) b)) refl (map.get old k)
+      ∙ (λ i. number_in (list_find (is_of (its_type i) (its_description i)) (names_at old (hash i)))))
+
+  -- a name that has a number is counted in its place
+  pub as_counted_in : (serial number : ℕ) (o : Option Named) → number_in o ≡ Some number → count_of o < 4294967295
+      → option_map one_more o ≡ Some (counted_in typ description serial o)
+  as_counted_in serial number None is few = absurd (none-some number is)
+  as_counted_in serial number (Some n) is few = ap (λ k. Some (record n { keys = k })) (room n.keys few) where
+    room : (k : ℕ) → k < 4294967295 → min (k + 1) 4294967295 ≡ k + 1
+    room k few = grind (arith, few)
+
+  no_number : (o : Option Named) → number_in o ≡ None → o ≡ None
+  no_number None is = refl
+  no_number (Some n) is = absurd (none-some n.number (sym is))
+
+  -- counting a key of a name that has no number changes nothing
+  pub as_it_was : (f : Named → Named) → number_in (kept_of seed old typ description) ≡ None
+      → ((h : ℕ) → names_at new h ≡ cond (nat_eq (name_hash seed typ description) h) (first_changed (is_of typ description) f (names_at old h))
       (names_at old h))
-      → (t d : List ℕ) → kept_of seed new t d ≡ cond (is_same typ description t d) (w (kept_of seed old t d)) (kept_of seed old t d)
-  kept_lost w none is =
+      → (kept_of seed old typ description ≡ None) × ((h : ℕ) → names_at new h ≡ names_at old h)
+  as_it_was f none is = (nothing, λ h. is h ∙ by_hash h (nat_eq (name_hash seed typ description) h) refl) where
+    nothing : kept_of seed old typ description ≡ None
+    nothing = no_number (kept_of seed old typ description) none
+
+    by_hash : (h : ℕ) (b : Bool) → nat_eq (name_hash seed typ description) h ≡ b
+        → cond b (first_changed (is_of typ description) f (names_at old h)) (names_at old h) ≡ names_at old h
+    by_hash h true same =
+        not_changed (is_of typ description) f (names_at old h)
+        (ap (λ k. list_find (is_of typ description) (names_at old k)) (sym (eqb-true _ h same)) ∙ nothing)
+    by_hash h false other = refl
+
+  as_counted_out : (o : Option Named) → cond (nat_le (count_of o) 1) None (option_map one_fewer o) ≡ counted_out o
+  as_counted_out None = refl
+  as_counted_out (Some n) = refl
+
+  -- a name has one key fewer, or is taken out
+  pub kept_out : ((h : ℕ) → names_at new h ≡ cond (nat_eq (name_hash seed typ description) h) (with_one_fewer typ description (names_at old h)) (names_at old h))
+      → (t d : List ℕ) → kept_of seed new t d ≡ cond (is_same typ description t d) (counted_out (kept_of seed old t d)) (kept_of seed old t d)
+  kept_out is =
       let q : Named → Bool = λ n. not (is_of typ description n) in
-      kept_edited seed old new typ description (filter q) w is
-      (find_filtered (is_of typ description) q false (λ n of. ap not of) (names_at old (name_hash seed typ description)) ∙ sym none)
-      (λ t d other ns. find_filtered (is_of t d) q true (λ n of. ap not (of_another typ description t d n other of)) ns)
+      let here : List Named = names_at old (name_hash seed typ description) in
+      kept_edited seed old new typ description (with_one_fewer typ description) counted_out is
+      (elim (nat_le (count_of (list_find (is_of typ description) here)) 1)
+      as (λ b. list_find (is_of typ description) (cond b (filter q here) (first_changed (is_of typ description) one_fewer here))
+      ≡ cond b None (option_map one_fewer (list_find (is_of typ description) here))) [
+        | true ↦ find_filtered (is_of typ description) q false (λ n of. ap not of) here
+        | false ↦ find_changed (is_of typ description) one_fewer (λ n. refl) here
+      ] ∙ as_counted_out (list_find (is_of typ description) here))
+      (λ t d other ns. elim (nat_le (count_of (list_find (is_of typ description) ns)) 1)
+      as (λ b. list_find (is_of t d) (cond b (filter q ns) (first_changed (is_of typ description) one_fewer ns)) ≡ list_find (is_of t d) ns) [
+        | true ↦ find_filtered (is_of t d) q true (λ n of. ap not (of_another typ description t d n other of)) ns
+        | false ↦ find_others (is_of typ description) (is_of t d) one_fewer (λ n of. let no = not_of t d n other of in (no, no)) ns
+      ])
 
   -- nothing is changed
   pub kept_same : ((h : ℕ) → names_at new h ≡ names_at old h) → (t d : List ℕ) → kept_of seed new t d ≡ kept_of seed old t d
   kept_same is t d = ap (list_find (is_of t d)) (is (name_hash seed t d))
-
--- ---- a key fewer
-
--- a name with more than one key is kept, with how many it has
-pub has_count : (o : Option Named) → 1 < count_of o → (n : Named) × (o ≡ Some n) × (count_of o ≡ n.keys)
-has_count None more = absurd (omega arith)
-has_count (Some n) more = (n, refl, refl)
-
--- more than one key has it
-pub one_fewer : (n : Named) (keys : ℕ) → keys ≡ n.keys → 1 < keys → counted_out (Some n) ≡ Some (record n { keys = keys - 1 })
-one_fewer n keys is more =
-    ap (λ b. cond b None (Some (record n { keys = n.keys - 1 }))) (more_than_one n.keys (omega (arith, is, more)))
-    ∙ ap (λ m. Some (record n { keys = m - 1 })) (sym is)
-  where
-    more_than_one : (k : ℕ) → 1 < k → nat_le k 1 ≡ false
-    more_than_one k more = grind (arith, nat_tests, more)
-
--- no more than one
-pub last_one : (o : Option Named) → count_of o ≤ 1 → counted_out o ≡ None
-last_one None few = refl
-last_one (Some n) few = ap (λ b. cond b None (Some (record n { keys = n.keys - 1 }))) (at_most_one n.keys few) where
-  at_most_one : (k : ℕ) → k ≤ 1 → nat_le k 1 ≡ true
-  at_most_one k few = grind (arith, nat_tests, few)

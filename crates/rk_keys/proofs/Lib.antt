@@ -4,6 +4,7 @@ pub mod Drawn
 pub mod Names
 pub mod Held
 pub mod Refused
+mod Firsts
 pub mod Kept
 pub mod Indexed
 pub mod UserCounts

@@ -12,7 +12,7 @@ pub use Rattle.std.specs.FinSet.{contains, contains-insert, insert}
 pub use Rattle.std.specs.Option.{option_map_or, option_or, option_copied}
 pub use Rattle.std.specs.Ordering.{nat_cmp, eq_by_cmp}
 pub use Rattle.std.specs.Prelude.{Some, None, Option, nat_eq, unwrap_or, map as list_map, is_some, option_map, find as list_find, ◌==◌, nat_le, IfSome}
-pub use Rattle.std.specs.Prelude.{bytes_eq, MatchOption}
+pub use Rattle.std.specs.Prelude.{bytes_eq, MatchOption, Result, Ok, Err, OnOk, OnErr}
 pub use Rattle.rk_lemmas.proofs.Options.{passing}
 pub use Rattle.rk_table.proofs.Entries.{tie, of_choice, shadow}
 pub use Rattle.rk_table.proofs.Gets.{get_changed_at, at_new, taken_out, at_other, left_in, contains_key_changed_at, get_kept_where, none_kept, get_inserted}
@@ -20,7 +20,7 @@ pub use Rattle.rk_table.proofs.Gets.{get_removed}
 pub use Rattle.rk_table.proofs.KeptCounts.{kept_len-empty, kept_len-insert, kept_len-remove, kept_len-remove_none, kept_len-changed}
 pub use Rattle.rk_table.specs.Maps.{changed_at, kept_where}
 pub use Rattle.rk_table.specs.Says.{Says}
-pub use Rattle.rk_keys.specs.Buckets.{names_at, recounted, is_of, kept_of, counted_in, name_hash, is_same, count_of, counted_out, IsIndex, number_in}
+pub use Rattle.rk_keys.specs.Buckets.{names_at, first_changed, IsFirst, one_more, one_fewer, with_one_fewer, is_empty, is_of, kept_of, counted_in, name_hash, is_same, count_of, counted_out, IsIndex, number_in}
 pub use Rattle.rk_keys.specs.Buckets.{keys_named, fed_words}
 pub use Rattle.rk_keys.specs.Drawing.{drawn_in_order, first_of_form, not_below, len-first_of_form}
 pub use Rattle.rk_keys.specs.Key.{has_name, have_one_name, is_named}

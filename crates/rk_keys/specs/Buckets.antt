@@ -1,5 +1,5 @@
 -- What is kept of names, by their hashes.
-use Rattle.std.specs.Prelude.{◌≡◌, ◌<◌, ℕ, zero, suc, ◌+◌, ◌-◌, ◌*◌, ◌/◌, take, drop, length, min, Bool, true, ◌&&◌, List, [], bytes_eq, nat_le, if◌then◌else◌, Option, Some, None, option_map, unwrap_or, bit_and}
+use Rattle.std.specs.Prelude.{◌≡◌, ◌<◌, ℕ, zero, suc, ◌+◌, ◌-◌, ◌*◌, ◌/◌, take, drop, length, min, Bool, true, false, not, filter, slice_index_or, ◌&&◌, List, [], ◌∷◌, bytes_eq, nat_le, if◌then◌else◌, Option, Some, None, option_map, unwrap_or, bit_and}
 use Rattle.std.specs.Prelude.{find as list_find}
 use Rattle.std.specs.List.{fold}
 use Rattle.std.specs.Ordering.{nat_cmp}
@@ -54,9 +54,35 @@ number_in kept = option_map (λ n. n.number) kept
 
 -- ---- changes
 
--- so many keys have the name, and nothing else is changed
-abbrev pub recounted : List ℕ → List ℕ → ℕ → Named → Named
-recounted typ description keys n = if is_of typ description n then record n { keys = keys } else n
+-- the first that passes is changed
+abbrev pub first_changed : (Named → Bool) → (Named → Named) → List Named → List Named
+first_changed p f [] = []
+first_changed p f (n ∷ ns) = if p n then f n ∷ ns else n ∷ first_changed p f ns
+
+-- the name at place i passes, and none before it
+pub record IsFirst (p : Named → Bool) (names : List Named) (i : ℕ) : Type 0 where
+  pub within : i < length names
+  pub before : list_find p (take i names) ≡ None
+  pub passes : (d : Named) → p (slice_index_or names i d) ≡ true
+
+-- one key more has the name; a count that has no room stays
+abbrev pub one_more : Named → Named
+one_more n = record n { keys = min (n.keys + 1) 4294967295 }
+
+-- one key fewer has the name
+abbrev pub one_fewer : Named → Named
+one_fewer n = record n { keys = n.keys - 1 }
+
+-- the names with one key fewer of one of them, which goes if none is left
+abbrev pub with_one_fewer : List ℕ → List ℕ → List Named → List Named
+with_one_fewer typ description names =
+    if nat_le (count_of (list_find (is_of typ description) names)) 1 then filter (λ n. not (is_of typ description n)) names
+    else first_changed (is_of typ description) one_fewer names
+
+-- there is no name
+abbrev pub is_empty : List Named → Bool
+is_empty [] = true
+is_empty (n ∷ ns) = false
 
 -- with one more key of the name; the number of a first one is its serial
 abbrev pub counted_in : List ℕ → List ℕ → ℕ → Option Named → Named

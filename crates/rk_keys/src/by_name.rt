@@ -1,10 +1,11 @@
 //! The names with one hash.
-ghost use Rattle.std.specs.Prelude.{◌≡◌, ◌++◌, ◌∷◌, [], IsTrue, ◌↔◌, OnOk, OnErr, filter, not, find as list_find, map as list_map};
+ghost use Rattle.std.specs.Prelude.{◌≡◌, ◌++◌, ◌∷◌, [], None, OnOk, OnErr, MatchOption, filter, not, find as list_find};
 ghost use Rattle.std.specs.Option.{option_copied};
-ghost use Rattle.rk_keys.specs.Buckets.{is_of, recounted};
+ghost use Rattle.rk_keys.specs.Buckets.{is_of, number_in, first_changed, one_more, with_one_fewer, is_empty, IsFirst};
 
 use crate::named::Named;
-use rk_table::ChangeOnce;
+use rk_names::NameNo;
+use rk_table::Exchange;
 use std::alloc::{AllocError, Global};
 use std::marker::Model;
 
@@ -48,71 +49,99 @@ impl Bucket {
         Ok(())
     }
 
-    /// Whether it has no names.
-    pub fn is_empty(&self) -> bool
-        ensures { IsTrue result ↔ (self.now ≡ []) }
-    {
-        self.names.is_empty()
-    }
-
     /// What is kept of a name; `None` if it is not among these.
     #[inline(always)]
     pub fn find(&self, typ: &[u8], description: &[u8]) -> Option<&Named>
         ensures { option_copied result ≡ list_find (is_of typ.now description.now) self.now }
     {
-        self.names.iter().find(|named| named.is(typ, description))
+        let place = place_of(&self.names, typ, description)?;
+        Some(&self.names[place])
+    }
+
+    /// Counts one key more of a name, and answers its number; `None` if the name is not among these, and then nothing changes. A count of
+    /// 4,294,967,295 stays.
+    #[inline(always)]
+    fn count_in(&mut self, typ: &[u8], description: &[u8]) -> Option<NameNo>
+        ensures number { result ≡ number_in (list_find (is_of typ.now description.now) self.old) }
+        ensures names { self.new ≡ first_changed (is_of typ.now description.now) one_more self.old }
+    {
+        let place = place_of(&self.names, typ, description)?;
+        let named = &mut self.names[place];
+        named.keys = named.keys.saturating_add(1);
+        Some(named.number)
+    }
+
+    /// Counts one key fewer of a name, and answers whether no name is left. A name that no key has any more goes.
+    #[inline(always)]
+    fn count_out(&mut self, typ: &[u8], description: &[u8]) -> bool
+        ensures names { self.new ≡ with_one_fewer typ.now description.now self.old }
+        ensures left { result ≡ is_empty self.new }
+    {
+        match place_of(&self.names, typ, description) {
+            Some(place) if self.names[place].keys > 1 => self.names[place].keys -= 1,
+            _ => take_name_out(&mut self.names, typ, description),
+        }
+        self.names.is_empty()
     }
 }
 
-/// So many keys have the name.
-#[derive(Drop)]
-pub struct Recount<'a> {
-    /// The name's type, by which its entry is found.
-    pub typ: &'a [u8],
-    /// The name's description, likewise.
-    pub description: &'a [u8],
-    /// How many keys have it now.
-    pub keys: u32,
-}
-
-impl<'a> ChangeOnce<Bucket> for Recount<'a> {
-    ghost use Rattle.std.specs.Prelude.{map as list_map};
-    ghost use Rattle.rk_keys.specs.Buckets.{recounted};
-
-    ghost changed = { λ c b. list_map (recounted c.typ.now c.description.now c.keys) b };
-
-    fn change(self, bucket: &mut Bucket) {
-        count_anew(&mut bucket.names, self.typ, self.description, self.keys);
-    }
-}
-
-fn count_anew(names: &mut Vec<Named>, typ: &[u8], description: &[u8], keys: u32)
-    ensures { names.new.items ≡ list_map (recounted typ.now description.now keys) names.old.items }
+/// Where a name stands; `None` if it is not there.
+#[inline(always)]
+fn place_of(names: &[Named], typ: &[u8], description: &[u8]) -> Option<usize>
+    ensures { MatchOption result (list_find (is_of typ.now description.now) names.now ≡ None) (IsFirst (is_of typ.now description.now) names.now) }
 {
-    for named in names.iter_mut() {
-        if named.is(typ, description) {
-            named.keys = keys;
+    for place in 0..names.len() {
+        if names[place].is(typ, description) {
+            return Some(place);
         }
     }
+    None
 }
 
-/// No key has the name any more.
+/// One key more has the name. It answers the number of the name, if it is there.
 #[derive(Drop)]
-pub struct Lose<'a> {
+pub struct CountIn<'a> {
     /// The name's type, by which its entry is found.
     pub typ: &'a [u8],
     /// The name's description, likewise.
     pub description: &'a [u8],
 }
 
-impl<'a> ChangeOnce<Bucket> for Lose<'a> {
-    ghost use Rattle.std.specs.Prelude.{filter, not};
-    ghost use Rattle.rk_keys.specs.Buckets.{is_of};
+impl<'a> Exchange<Bucket> for CountIn<'a> {
+    type Answer = Option<NameNo>;
 
-    ghost changed = { λ c b. filter (λ n. not (is_of c.typ.now c.description.now n)) b };
+    ghost use Rattle.std.specs.Prelude.{find as list_find};
+    ghost use Rattle.rk_keys.specs.Buckets.{is_of, number_in, first_changed, one_more};
 
-    fn change(self, bucket: &mut Bucket) {
-        take_name_out(&mut bucket.names, self.typ, self.description);
+    ghost changed = { λ c b. first_changed (is_of c.typ.now c.description.now) one_more b };
+
+    ghost answer = { λ c b. number_in (list_find (is_of c.typ.now c.description.now) b) };
+
+    fn exchange(self, bucket: &mut Bucket) -> Option<NameNo> {
+        bucket.count_in(self.typ, self.description)
+    }
+}
+
+/// One key fewer has the name. It answers whether no name is left.
+#[derive(Drop)]
+pub struct CountOut<'a> {
+    /// The name's type, by which its entry is found.
+    pub typ: &'a [u8],
+    /// The name's description, likewise.
+    pub description: &'a [u8],
+}
+
+impl<'a> Exchange<Bucket> for CountOut<'a> {
+    type Answer = bool;
+
+    ghost use Rattle.rk_keys.specs.Buckets.{with_one_fewer, is_empty};
+
+    ghost changed = { λ c b. with_one_fewer c.typ.now c.description.now b };
+
+    ghost answer = { λ c b. is_empty (with_one_fewer c.typ.now c.description.now b) };
+
+    fn exchange(self, bucket: &mut Bucket) -> bool {
+        bucket.count_out(self.typ, self.description)
     }
 }
 

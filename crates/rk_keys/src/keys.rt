@@ -17,8 +17,7 @@ use crate::changes::{Conclude, Mark, Time};
 use crate::fault::KeyFault;
 use crate::hashed_name::HashedName;
 use crate::key::{Condition, Key, Standing};
-use crate::naming::{count_in, leave_name, number_of};
-use crate::owners::leave;
+use crate::naming::{count_in, count_out, number_of};
 use crate::serials::Serials;
 use rk_names::{DescriptionView, KeyError, Moment, NameNo, Payload, Serial, TypeView};
 use rk_table::{Counts, HashTable};
@@ -259,8 +258,11 @@ impl Keys {
     pub fn forget(&mut self, key: Serial)
         ensures { self.new ≡ without_key key self.old }
     {
-        leave_name(&self.facts, &mut self.by_name, self.seed, key.get());
-        leave(&self.facts, &mut self.counts, key.get());
+        if let Some(fact) = self.facts.get(key.get()) {
+            let (typ, description) = (fact.typ.as_bytes(), fact.description.as_bytes());
+            count_out(&mut self.by_name, self.seed, typ, description);
+            self.counts.one_less(fact.owner);
+        }
         self.facts.remove(key.get());
         self.numbers.remove(key.get());
     }

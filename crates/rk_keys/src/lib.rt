@@ -26,7 +26,7 @@
 //! the serials to draw together. `named` has what is kept of a name, its number and how many live keys have it, and `by_name` the names with one
 //! hash. `hashed_name` is a name with its hash, which an ask takes once. `naming` hashes names, looks up their numbers, and counts keys in and out. So
 //! they are an index from type and description to serials, since the number of a name is the serial of the key with which the name came. The index
-//! grows in `make` alone. `owners` counts the keys of each user, `changes` has what happens to one key. What the specifications say of a key in few
+//! grows in `make` alone. `changes` has what happens to one key. What the specifications say of a key in few
 //! words, as `standing_of`, stands in `specs/Key.antt`, and of all keys in `specs/Known.antt`.
 #![tactic(auto)]
 
@@ -38,7 +38,6 @@ mod key;
 mod keys;
 mod named;
 mod naming;
-mod owners;
 mod serials;
 
 pub use fault::KeyFault;

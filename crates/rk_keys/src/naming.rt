@@ -1,14 +1,13 @@
 //! Names by their hashes, and the keys that have them, counted.
-ghost use Rattle.std.specs.Prelude.{◌≡◌, ◌==◌, ◌++◌, ◌∷◌, [], ℕ, List, ◌≤◌, ◌<◌, Some, filter, not, IsTrue, OnOk, OnErr, IfOk, if◌then◌else◌, unwrap_or, option_map};
-ghost use Rattle.std.specs.Prelude.{find as list_find, map as list_map};
+ghost use Rattle.std.specs.Prelude.{◌≡◌, ◌==◌, ◌++◌, ◌∷◌, [], ℕ, List, ◌≤◌, ◌<◌, None, Some, OnOk, OnErr, IfOk, if◌then◌else◌, unwrap_or};
+ghost use Rattle.std.specs.Prelude.{find as list_find};
 ghost use Rattle.std.specs.Option.{option_copied};
 ghost use Rattle.std.specs.Ordering.{nat_cmp};
 ghost use Rattle.std.specs.FinMap as map;
-ghost use Rattle.rk_keys.specs.Buckets.{IsIndex, name_hash, fed_with, is_of, is_same, names_at, kept_of, recounted, count_of, number_in, counted_in, counted_out};
+ghost use Rattle.rk_keys.specs.Buckets.{IsIndex, name_hash, fed_with, is_of, is_same, names_at, kept_of, count_of, number_in, counted_in, counted_out};
 
-use crate::by_name::{Bucket, Lose, Recount};
+use crate::by_name::{Bucket, CountIn, CountOut};
 use crate::hashed_name::HashedName;
-use crate::key::Key;
 use crate::named::Named;
 use rk_names::{Description, NameNo};
 use rk_table::HashTable;
@@ -67,23 +66,42 @@ pub fn count_in(
     ensures number { IfOk result (λ n. n ≡ unwrap_or (number_in (kept_of seed by_name.old.facts name.now.typ name.now.description)) serial) }
     ensures err { OnErr result ((t d : List ℕ) → kept_of seed by_name.new.facts t d ≡ kept_of seed by_name.old.facts t d) }
 {
-    let (type_bytes, bytes) = (name.typ(), name.description());
     let hash = name.hash(seed);
-    let Some(named) = kept(by_name, hash, type_bytes, bytes) else {
-        let number = NameNo(serial);
-        let named = Named {
-            typ: name.owned_typ(),
-            description: description.clone()?,
-            number,
-            keys: 1,
-        };
-        put_in(by_name, alloc, hash, named)?;
-        return Ok(number);
+    let counted = CountIn {
+        typ: name.typ(),
+        description: name.description(),
     };
-    let number = named.number;
-    let keys = named.keys + 1;
-    recount(by_name, hash, type_bytes, bytes, keys);
-    Ok(number)
+    match by_name.exchange(hash, counted).flatten() {
+        Some(number) => Ok(number),
+        None => put_first(by_name, alloc, hash, name, description, serial),
+    }
+}
+
+/// Keeps the name of its first key, whose serial is the number. An `Err` changes nothing.
+#[cold]
+#[inline(never)]
+fn put_first(
+    by_name: &mut HashTable<Bucket>,
+    alloc: Global,
+    hash: u32,
+    name: &HashedName<'_>,
+    description: &Description,
+    serial: u32,
+) -> Result<NameNo, AllocError>
+    requires { description.now ≡ name.now.description }
+    ensures ok { OnOk result ((h : ℕ) → names_at by_name.new.facts h ≡ (if hash == h
+        then names_at by_name.old.facts h ++ counted_in name.now.typ name.now.description serial None ∷ [] else names_at by_name.old.facts h)) }
+    ensures number { IfOk result (λ n. n ≡ serial) }
+    ensures err { OnErr result ((h : ℕ) → names_at by_name.new.facts h ≡ names_at by_name.old.facts h) }
+{
+    let named = Named {
+        typ: name.owned_typ(),
+        description: description.clone()?,
+        number: NameNo(serial),
+        keys: 1,
+    };
+    put_in(by_name, alloc, hash, named)?;
+    Ok(NameNo(serial))
 }
 
 /// Counts a key out of those of its name. Of a name that no key has any more nothing is kept.
@@ -92,26 +110,11 @@ pub fn count_out(by_name: &mut HashTable<Bucket>, seed: u64, typ: &[u8], descrip
         (if is_same typ.now description.now t d then counted_out (kept_of seed by_name.old.facts t d) else kept_of seed by_name.old.facts t d) }
 {
     let hash = hash_of(seed, typ, description);
-    let keys = count_at(by_name, hash, typ, description);
-    if keys > 1 {
-        recount(by_name, hash, typ, description, keys - 1);
-    } else {
-        take_out(by_name, hash, typ, description);
-    }
-}
-
-/// Counts a key out of those of its name, if there is such a key.
-pub fn leave_name(facts: &HashTable<Key>, by_name: &mut HashTable<Bucket>, seed: u64, key: u32)
-    ensures { (numbers : map.FinMap nat_cmp ℕ) → IsIndex seed facts.now.facts numbers by_name.old.facts →
-        IsIndex seed (map.remove facts.now.facts key) (map.remove numbers key) by_name.new.facts }
-{
-    if let Some(fact) = facts.get(key) {
-        count_out(
-            by_name,
-            seed,
-            fact.typ.as_bytes(),
-            fact.description.as_bytes(),
-        );
+    let none_left = by_name
+        .exchange(hash, CountOut { typ, description })
+        .unwrap_or(false);
+    if none_left {
+        by_name.remove(hash);
     }
 }
 
@@ -126,31 +129,6 @@ fn kept<'a>(
     ensures { option_copied result ≡ list_find (is_of typ.now description.now) (names_at by_name.now.facts hash) }
 {
     by_name.get(hash)?.find(typ, description)
-}
-
-/// How many keys have a name.
-fn count_at(by_name: &HashTable<Bucket>, hash: u32, typ: &[u8], description: &[u8]) -> u32
-    ensures { result ≡ count_of (list_find (is_of typ.now description.now) (names_at by_name.now.facts hash)) }
-{
-    match kept(by_name, hash, typ, description) {
-        Some(named) => named.keys,
-        None => 0,
-    }
-}
-
-/// Changes how many keys have a name that is kept under a hash.
-fn recount(by_name: &mut HashTable<Bucket>, hash: u32, typ: &[u8], description: &[u8], keys: u32)
-    ensures { (h : ℕ) → names_at by_name.new.facts h ≡
-        (if hash == h then list_map (recounted typ.now description.now keys) (names_at by_name.old.facts h) else names_at by_name.old.facts h) }
-{
-    by_name.change(
-        hash,
-        Recount {
-            typ,
-            description,
-            keys,
-        },
-    );
 }
 
 /// Puts a name under its hash. An `Err` changes nothing.
@@ -187,25 +165,5 @@ fn bucket_at(by_name: &mut HashTable<Bucket>, alloc: Global, hash: u32) -> Bucke
     match by_name.take(hash) {
         Some(bucket) => bucket,
         None => Bucket::new(alloc),
-    }
-}
-
-/// Takes a name out of those under its hash.
-fn take_out(by_name: &mut HashTable<Bucket>, hash: u32, typ: &[u8], description: &[u8])
-    ensures { (h : ℕ) → names_at by_name.new.facts h ≡
-        (if hash == h then filter (λ n. not (is_of typ.now description.now n)) (names_at by_name.old.facts h) else names_at by_name.old.facts h) }
-{
-    by_name.change(hash, Lose { typ, description });
-    if is_left_empty(by_name, hash) {
-        by_name.remove(hash);
-    }
-}
-
-fn is_left_empty(by_name: &HashTable<Bucket>, hash: u32) -> bool
-    ensures { IsTrue result → names_at by_name.now.facts hash ≡ [] }
-{
-    match by_name.get(hash) {
-        Some(bucket) => bucket.is_empty(),
-        None => false,
     }
 }

@@ -1,7 +1,8 @@
 -- Entries whose keys rise.
 use Rattle.rk_table.proofs.Words.{◌≡◌, cond, subst, ℕ, true, false, arith, ◌<◌, Bool, List, [], ◌∷◌, length, get_or, zero, suc, ◌≢◌, filter, list_map, KeysRise}
-use Rattle.rk_table.proofs.Words.{IsGapFor, AreAbove}
-use Rattle.std.specs.List.{insert}
+use Rattle.rk_table.proofs.Words.{IsGapFor, AreAbove, ap, Some, ◌-◌, inl, inr, cases_lt}
+use Rattle.std.specs.List.{insert, slice_get}
+use Rattle.std.proofs.lemmas.Option.{get_or_from_slice_get}
 
 module _ {X : Type 0} where
   -- ---- place by place
@@ -24,6 +25,21 @@ module _ {X : Type 0} where
   -- a key is at no place of entries whose keys are above it
   pub not_in_above : (k : ℕ) (es : List (ℕ × X)) → AreAbove k es → (j : ℕ) (d : ℕ × X) → j < length es → (get_or es j d).0 ≢ k
   not_in_above k es h j d lt same = omega (arith, same, above_at k es h j d lt)
+
+  -- a key above the last one fits into the gap at the end
+  pub past_all : (es : List (ℕ × X)) (k : ℕ) (e : ℕ × X) → KeysRise es → slice_get es (length es - 1) ≡ Some e → e.0 < k → IsGapFor es k (length es)
+  past_all es k e h is lt = record {
+    in_range = omega arith;
+    before = λ j d below. elim (cases_lt j (length es - 1)) [
+      | inl earlier ↦ omega (arith, rising_at es h j (length es - 1) d earlier (omega (arith, below)), last d, lt)
+      | inr late ↦
+          let same : j ≡ length es - 1 = omega (arith, below, late) in
+          omega (arith, ap (λ n. (get_or es n d).0) same, last d, lt)
+    ];
+    from = λ j d le within. absurd (omega (arith, le, within));
+  } where
+    last : (d : ℕ × X) → (get_or es (length es - 1) d).0 ≡ e.0
+    last d = ap (λ x. x.0) (get_or_from_slice_get es (length es - 1) e d is)
 
   -- ---- what keeps the order
   above_filtered : (p : ℕ × X → Bool) (k : ℕ) (es : List (ℕ × X)) → AreAbove k es → AreAbove k (filter p es)

@@ -1,5 +1,5 @@
 //! A table that finds its keys by their hashes.
-ghost use Rattle.std.specs.Prelude.{◌≡◌, ◌≤◌, ◌<◌, ◌-◌, ◌+◌, None, OnOk, OnErr, IfOk, IsOk};
+ghost use Rattle.std.specs.Prelude.{◌≡◌, ◌≤◌, ◌<◌, ◌-◌, ◌+◌, None, OnOk, OnErr, IfOk, IsOk, option_map};
 ghost use Rattle.std.specs.Ordering.{nat_cmp};
 ghost use Rattle.std.specs.Option.{option_copied};
 ghost use Rattle.std.specs.FinMap as map;
@@ -8,7 +8,7 @@ ghost use Rattle.rk_table.specs.Maps.{changed_at};
 ghost use Rattle.rk_table.specs.Stored.{Stored, stored_code};
 
 use crate::hashing::DrawnNumbers;
-use crate::table::ChangeOnce;
+use crate::table::{ChangeOnce, Exchange};
 use indexmap::IndexMap;
 use std::alloc::{AllocError, Global};
 use std::marker::Model;
@@ -99,6 +99,18 @@ impl<V> HashTable<V> {
             return;
         };
         change.change(value);
+    }
+
+    /// Changes the value at a key, if it has one, and tells what the change answers. It takes no memory.
+    pub fn exchange<E: Exchange<V> + Drop>(&mut self, key: u32, exchange: E) -> Option<E::Answer>
+        ensures answer { result ≡ option_map (E.answer exchange) (map.get self.old.facts key) }
+        ensures facts { self.new.facts ≡ changed_at key (E.changed exchange) self.old.facts }
+        ensures room { self.new.room ≡ self.old.room }
+    {
+        let Some(held) = self.entries.get_mut(&key) else {
+            return None;
+        };
+        Some(exchange.exchange(held))
     }
 }
 

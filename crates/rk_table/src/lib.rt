@@ -38,4 +38,4 @@ mod table;
 pub use counts::Counts;
 pub use hashed::HashTable;
 pub use hashing::{DrawnNumbers, NumberHasher};
-pub use table::{ChangeOnce, Table, Test};
+pub use table::{ChangeOnce, Exchange, Table, Test};

@@ -12,6 +12,21 @@ pub(crate) fn place_of<V>(entries: &[(u32, V)], key: u32) -> Result<usize, usize
     entries.binary_search_by_key(&key, |entry| entry.0)
 }
 
+/// The same, for keys that mostly come rising: one look tells that a key is past all others.
+pub(crate) fn place_of_late<V>(entries: &[(u32, V)], key: u32) -> Result<usize, usize>
+    requires rising { KeysRise entries.now }
+    ensures found { IfOk result (IsAt entries.now key) }
+    ensures absent { IfErr result (IsGapFor entries.now key) }
+{
+    let Some(last) = entries.last() else {
+        return Err(0);
+    };
+    if last.0 < key {
+        return Err(entries.len());
+    }
+    place_of(entries, key)
+}
+
 /// Puts in an item at a place, and moves those from there on up by one. It takes no memory.
 pub(crate) fn put_at<T>(items: &mut Vec<T>, place: usize, item: T)
     requires within { place ≤ vec_len items.old }

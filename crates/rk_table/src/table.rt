@@ -9,7 +9,7 @@ ghost use Rattle.rk_table.specs.Entries.{KeysRise};
 ghost use Rattle.rk_table.specs.Maps.{changed_at, kept_where};
 ghost use Rattle.rk_table.specs.Stored.{Stored, stored_code, places};
 
-use crate::places::{place_of, put_at};
+use crate::places::{place_of, place_of_late, put_at};
 use std::alloc::{AllocError, Global};
 use std::marker::Model;
 
@@ -20,6 +20,21 @@ pub trait ChangeOnce<V> {
     /// Changes the value.
     fn change(self, value: &mut V)
         ensures { value.new ≡ changed self value.old };
+}
+
+/// A change of one value in its place that answers, and is used up.
+pub trait Exchange<V> {
+    /// What it answers.
+    type Answer;
+
+    ghost changed: { Self → V → V };
+
+    ghost answer: { Self → V → Self.Answer };
+
+    /// Changes the value, and answers.
+    fn exchange(self, value: &mut V) -> Self::Answer
+        ensures changed { value.new ≡ changed self value.old }
+        ensures answer { result ≡ answer self value.old };
 }
 
 /// A test of entries.
@@ -93,6 +108,16 @@ impl<V> Table<V> {
         }
     }
 
+    /// The same, for keys that mostly come rising: it looks at one entry where the key is past all others, and at one more than `get` where it is not.
+    pub fn get_late(&self, key: u32) -> Option<&V>
+        ensures { option_copied result ≡ map.get self.now.facts key }
+    {
+        match place_of_late(&self.entries, key) {
+            Ok(at) => Some(&self.entries[at].1),
+            Err(_) => None,
+        }
+    }
+
     /// Whether there is a value at the key.
     pub fn contains(&self, key: u32) -> bool
         ensures { result ≡ map.contains_key self.now.facts key }
@@ -130,8 +155,8 @@ impl<V> Table<V> {
         find_entry(&self.entries, test)
     }
 
-    /// Puts in a value at a new key, in a place that was reserved. It takes no memory. Its place is found as `get` finds, and then the entries of
-    /// greater keys move up: none if keys come rising.
+    /// Puts in a value at a new key, in a place that was reserved. It takes no memory. Its place is found as `get_late` finds, and then the entries
+    /// of greater keys move up: none if keys come rising.
     pub fn insert(&mut self, key: u32, value: V)
         requires new { map.get self.old.facts key ≡ None }
         requires room { 0 < self.old.room }
@@ -139,7 +164,7 @@ impl<V> Table<V> {
         ensures places { places self.new ≡ places self.old }
         ensures room { self.new.room ≡ self.old.room - 1 }
     {
-        match place_of(&self.entries, key) {
+        match place_of_late(&self.entries, key) {
             Ok(_) => unreachable!(),
             Err(place) => put_at(&mut self.entries, place, (key, value)),
         }

@@ -1,36 +1,57 @@
-use Rattle.rk_keys.proofs.Words.{◌∙◌, ap, ◌≡◌, refl, sym, ℕ, cond, List, ◌+◌, [], ◌∷◌, ◌++◌, option_copied, Some, None, nat_eq, list_map, list_find, names_at}
-use Rattle.rk_keys.proofs.Words.{recounted, is_of, kept_of, counted_in, name_hash, Named}
-use Rattle.rk_keys.proofs.Kept.{kept_recounted, kept_pushed}
+use Rattle.rk_keys.proofs.Words.{◌≡◌, ◌∙◌, ap, refl, ℕ, cond, List, [], ◌∷◌, ◌++◌, nat_eq, Some, None, Result, Ok, Err, OnOk, OnErr, kept_of, counted_in}
+use Rattle.rk_keys.proofs.Words.{number_in, one_more, Named}
+use Rattle.std.specs.Option.{option_flatten}
+use Rattle.rk_keys.proofs.Kept.{names_counted, number_told, kept_counted, kept_pushed, kept_same, as_counted_in, as_it_was}
 use Rattle.rk_keys.proofs.naming.count_in.Goals as goal
 
-pub returns-in_default-clause-ok : goal.returns-in_default-clause-ok
-returns-in_default-clause-ok c =
-    let typ : List ℕ = c.typ-type_bytes.result.now in
-    let description : List ℕ = c.description-bytes.result.now in
-    let hashed : c.hash-hash.result ≡ name_hash c.args.seed typ description = rw (c.typ-type_bytes.ensures, c.description-bytes.ensures) c.hash-hash.ensures in
-    let none : kept_of c.args.seed c.args.by_name.now.facts typ description ≡ None =
-    ap (λ h. list_find (is_of typ description) (names_at c.args.by_name.now.facts h)) (sym hashed)
-    ∙ sym c.kept.ensures ∙ ap option_copied c.in_default.is in
-    let names : ℕ → List Named = names_at c.args.by_name.now.facts in
-    let first : List ℕ → List ℕ → Named = λ t d. counted_in t d c.args.serial None in
-    rw (← c.typ-type_bytes.ensures, ← c.description-bytes.ensures) (kept_pushed c.args.seed c.args.by_name.now.facts c.put_in.new.by_name.facts typ description c.args.serial none
-    (λ h.
-    let put : ℕ → Named → List Named = λ k n. cond (nat_eq k h) (names h ++ n ∷ []) (names h) in
-    c.in_ok-put_in.ensures.ok h
-    ∙ ap (λ k. put k (first c.owned_typ.result c.in_ok-clone.field-0)) hashed
-    ∙ ap (λ t. put (name_hash c.args.seed typ description) (first t c.in_ok-clone.field-0)) (c.owned_typ.ensures ∙ sym c.typ-type_bytes.ensures)
-    ∙ ap (λ d. put (name_hash c.args.seed typ description) (first typ d)) (c.in_ok-clone.ensures.cases ∙ c.requires.same ∙ sym c.description-bytes.ensures)))
+pub returns-in-Some-clause-ok : goal.returns-in-Some-clause-ok
+returns-in-Some-clause-ok c =
+    let typ : List ℕ = c.args.name.now.typ in
+    let description : List ℕ = c.args.name.now.description in
+    let old = c.args.by_name.now.facts in
+    let new = c.exchange.new.self.facts in
+    let number : number_in (kept_of c.args.seed old typ description) ≡ Some c.in-Some.number =
+    number_told c.args.seed old new typ description c.hash-hash.result c.typ.result.now c.description.result.now c.hash-hash.ensures c.typ.ensures
+    c.description.ensures c.flatten.result (c.flatten.ensures ∙ ap option_flatten c.exchange.ensures.answer) ∙ c.in-Some.is in
+    kept_counted c.args.seed old new typ description one_more (λ o. Some (counted_in typ description c.args.serial o)) (λ t d n. refl)
+    (as_counted_in c.args.seed old new typ description c.args.serial c.in-Some.number (kept_of c.args.seed old typ description) number c.requires.few)
+    (names_counted c.args.seed old new typ description c.hash-hash.result c.typ.result.now c.description.result.now c.hash-hash.ensures c.typ.ensures
+    c.description.ensures c.exchange.ensures.facts)
 
-pub returns-clause-ok : goal.returns-clause-ok
-returns-clause-ok c =
-    let typ : List ℕ = c.typ-type_bytes.result.now in
-    let description : List ℕ = c.description-bytes.result.now in
-    let hashed : c.hash-hash.result ≡ name_hash c.args.seed typ description = rw (c.typ-type_bytes.ensures, c.description-bytes.ensures) c.hash-hash.ensures in
-    let n : Named = c.in-Some.named.now in
-    let some : kept_of c.args.seed c.args.by_name.now.facts typ description ≡ Some n =
-    ap (λ h. list_find (is_of typ description) (names_at c.args.by_name.now.facts h)) (sym hashed)
-    ∙ sym c.kept.ensures ∙ ap option_copied c.in-Some.is in
-    rw (← c.typ-type_bytes.ensures, ← c.description-bytes.ensures) (kept_recounted c.args.seed c.args.by_name.now.facts c.recount.new.by_name.facts typ description (n.keys + 1) n
-    (λ o. Some (counted_in typ description c.args.serial o)) some refl
-    (λ h. c.recount.ensures h ∙ ap (λ k. cond (nat_eq k h) (list_map (recounted typ description (n.keys + 1))
-    (names_at c.args.by_name.now.facts h)) (names_at c.args.by_name.now.facts h)) hashed))
+on_ok : {A E P Q : Type 0} → (r : Result A E) → (P → Q) → OnOk r P → OnOk r Q
+on_ok (Ok a) f p = f p
+on_ok (Err e) f p = p
+
+on_err : {A E P Q : Type 0} → (r : Result A E) → (P → Q) → OnErr r P → OnErr r Q
+on_err (Ok a) f p = p
+on_err (Err e) f p = f p
+
+pub returns-in-None-clause-ok : goal.returns-in-None-clause-ok
+returns-in-None-clause-ok c =
+    let typ : List ℕ = c.args.name.now.typ in
+    let description : List ℕ = c.args.name.now.description in
+    let old = c.args.by_name.now.facts in
+    let between = c.exchange.new.self.facts in
+    let none : number_in (kept_of c.args.seed old typ description) ≡ None =
+    number_told c.args.seed old between typ description c.hash-hash.result c.typ.result.now c.description.result.now c.hash-hash.ensures c.typ.ensures
+    c.description.ensures c.flatten.result (c.flatten.ensures ∙ ap option_flatten c.exchange.ensures.answer) ∙ c.in-None.is in
+    let was = as_it_was c.args.seed old between typ description one_more none
+    (names_counted c.args.seed old between typ description c.hash-hash.result c.typ.result.now c.description.result.now c.hash-hash.ensures c.typ.ensures
+    c.description.ensures c.exchange.ensures.facts) in
+    let n : Named = counted_in typ description c.args.serial None in
+    on_ok c.put_first.result (λ ok. kept_pushed c.args.seed old c.put_first.new.by_name.facts typ description c.args.serial was.0
+    (λ h. ok h ∙ (λ i. cond (nat_eq (c.hash-hash.ensures i) h) (was.1 h i ++ n ∷ []) (was.1 h i)))) c.put_first.ensures.ok
+
+pub returns-in-None-clause-err : goal.returns-in-None-clause-err
+returns-in-None-clause-err c =
+    let typ : List ℕ = c.args.name.now.typ in
+    let description : List ℕ = c.args.name.now.description in
+    let old = c.args.by_name.now.facts in
+    let between = c.exchange.new.self.facts in
+    let none : number_in (kept_of c.args.seed old typ description) ≡ None =
+    number_told c.args.seed old between typ description c.hash-hash.result c.typ.result.now c.description.result.now c.hash-hash.ensures c.typ.ensures
+    c.description.ensures c.flatten.result (c.flatten.ensures ∙ ap option_flatten c.exchange.ensures.answer) ∙ c.in-None.is in
+    let was = as_it_was c.args.seed old between typ description one_more none
+    (names_counted c.args.seed old between typ description c.hash-hash.result c.typ.result.now c.description.result.now c.hash-hash.ensures c.typ.ensures
+    c.description.ensures c.exchange.ensures.facts) in
+    on_err c.put_first.result (λ err. kept_same c.args.seed old c.put_first.new.by_name.facts typ description (λ h. err h ∙ was.1 h)) c.put_first.ensures.err

@@ -1,29 +1,32 @@
-use Rattle.rk_keys.proofs.Words.{◌∙◌, ap, ◌≡◌, ℕ, subst, ◌<◌, cond, List, ◌-◌, ◌≤◌, not, filter, Option, nat_eq, list_map, list_find, names_at, recounted}
-use Rattle.rk_keys.proofs.Words.{is_of, kept_of, count_of, counted_out, Named}
-use Rattle.rk_keys.proofs.Kept.{kept_recounted, kept_lost, one_fewer, last_one, has_count}
+use Rattle.rk_keys.proofs.Words.{◌≡◌, ◌∙◌, ap, sym, refl, false, unwrap_or, ℕ, cond, List, [], nat_eq, eq-eqb, names_at, with_one_fewer, Named}
+use Rattle.std.specs.FinMap as map
+use Rattle.rk_keys.proofs.Kept.{names_changed, names_gone, kept_out}
+use Rattle.rk_keys.proofs.Firsts.{none_left}
 use Rattle.rk_keys.proofs.naming.count_out.Goals as goal
 
-pub returns-then-keys-gt1 : goal.returns-then-keys-gt1
-returns-then-keys-gt1 c =
-    let typ : List ℕ = c.args.typ.now in
-    let description : List ℕ = c.args.description.now in
-    let kept : Option Named = kept_of c.args.seed c.args.by_name.now.facts typ description in
-    let many : c.count_at-keys.result ≡ count_of kept =
-    c.count_at-keys.ensures ∙ ap (λ h. count_of (list_find (is_of typ description) (names_at c.args.by_name.now.facts h))) c.hash_of-hash.ensures in
-    let some = has_count kept (subst (λ n. 1 < n) many c.if-keys-gt1.true) in
-    kept_recounted c.args.seed c.args.by_name.now.facts c.recount.new.by_name.facts typ description (c.count_at-keys.result - 1) some.0 counted_out some.1
-    (one_fewer some.0 c.count_at-keys.result (many ∙ some.2) c.if-keys-gt1.true)
-    (λ h. c.recount.ensures h ∙ ap (λ k. cond (nat_eq k h) (list_map (recounted typ description (c.count_at-keys.result - 1))
-    (names_at c.args.by_name.now.facts h)) (names_at c.args.by_name.now.facts h)) c.hash_of-hash.ensures)
+pub returns-then-none_left : goal.returns-then-none_left
+returns-then-none_left c = kept_out c.args.seed c.args.by_name.now.facts c.remove.new.self.facts c.args.typ.now c.args.description.now (λ h.
+    ap (λ m. names_at m h) c.remove.ensures.facts ∙ names_gone c.exchange.new.self.facts c.hash_of-hash.result empty h
+    ∙ after h
+    ∙ ap (λ k. cond (nat_eq k h) (with_one_fewer c.args.typ.now c.args.description.now (names_at c.args.by_name.now.facts h)) (names_at c.args.by_name.now.facts h))
+    c.hash_of-hash.ensures)
+  where
+    f : List Named → List Named
+    f = with_one_fewer c.args.typ.now c.args.description.now
 
-pub returns-else-keys-gt1 : goal.returns-else-keys-gt1
-returns-else-keys-gt1 c =
-    let typ : List ℕ = c.args.typ.now in
-    let description : List ℕ = c.args.description.now in
-    let kept : Option Named = kept_of c.args.seed c.args.by_name.now.facts typ description in
-    let many : c.count_at-keys.result ≡ count_of kept =
-    c.count_at-keys.ensures ∙ ap (λ h. count_of (list_find (is_of typ description) (names_at c.args.by_name.now.facts h))) c.hash_of-hash.ensures in
-    kept_lost c.args.seed c.args.by_name.now.facts c.take_out.new.by_name.facts typ description counted_out
-    (last_one kept (subst (λ n. n ≤ 1) many c.if-keys-gt1.false))
-    (λ h. c.take_out.ensures h ∙ ap (λ k. cond (nat_eq k h) (filter (λ n. not (is_of typ description n)) (names_at c.args.by_name.now.facts h))
-    (names_at c.args.by_name.now.facts h)) c.hash_of-hash.ensures)
+    after : (h : ℕ) → names_at c.exchange.new.self.facts h ≡ cond (nat_eq c.hash_of-hash.result h) (f (names_at c.args.by_name.now.facts h)) (names_at c.args.by_name.now.facts h)
+    after h = ap (λ m. names_at m h) c.exchange.ensures.facts ∙ names_changed c.args.by_name.now.facts c.hash_of-hash.result f refl h
+
+    empty : names_at c.exchange.new.self.facts c.hash_of-hash.result ≡ []
+    empty =
+        let k = c.hash_of-hash.result in
+        after k ∙ ap (λ b. cond b (f (names_at c.args.by_name.now.facts k)) (names_at c.args.by_name.now.facts k)) (eq-eqb k k refl)
+        ∙ none_left f (map.get c.args.by_name.now.facts k)
+        (ap (λ o. unwrap_or o false) (sym c.exchange.ensures.answer) ∙ sym c.unwrap_or-none_left.ensures ∙ c.if-none_left.true)
+
+pub returns-else-none_left : goal.returns-else-none_left
+returns-else-none_left c = kept_out c.args.seed c.args.by_name.now.facts c.exchange.new.self.facts c.args.typ.now c.args.description.now (λ h.
+    ap (λ m. names_at m h) c.exchange.ensures.facts
+    ∙ names_changed c.args.by_name.now.facts c.hash_of-hash.result (with_one_fewer c.args.typ.now c.args.description.now) refl h
+    ∙ ap (λ k. cond (nat_eq k h) (with_one_fewer c.args.typ.now c.args.description.now (names_at c.args.by_name.now.facts h)) (names_at c.args.by_name.now.facts h))
+    c.hash_of-hash.ensures)
