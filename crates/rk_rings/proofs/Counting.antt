@@ -1,8 +1,8 @@
 -- Counts that are not 0, among those that are held.
-use Rattle.rk_rings.proofs.Words.{◌∙◌, ap, sym, ◌≡◌, subst, arith, ℕ, cond, ◌≤◌, false, refl, true, Bool, ◌-◌, ◌<◌, ltb, inl, inr, zero, suc, cases_eq, ne_eqb}
+use Rattle.rk_rings.proofs.Words.{◌∙◌, ap, sym, ◌≡◌, subst, arith, ℕ, cond, ◌≤◌, false, refl, true, Bool, ◌-◌, ◌<◌, ltb, zero, suc}
 use Rattle.rk_rings.proofs.Words.{lt-ltb, none-some, same_Some, nat_cmp_total, get, len, empty, FinMap, get-empty, same_map, nat_cmp-IsAntisymmetric}
 use Rattle.rk_rings.proofs.Words.{option_map_or, nat_cmp, None, Some, nat_eq, Option, unwrap_or, get_kept_where, none_kept, count_at, ArePositive, places}
-use Rattle.rk_rings.proofs.Words.{Stored, counting, seen_counts}
+use Rattle.rk_rings.proofs.Words.{Stored, counting, seen_counts, changed_at, get_changed_at, option_map}
 use Rattle.rk_rings.proofs.Counts.{no_more}
 use Rattle.rk_rings.proofs.Links.{kept_within}
 
@@ -65,18 +65,14 @@ each_seen m n f k q h = count_counting n q ∙ h ∙ ap (λ x. cond (nat_eq k q)
 pub same_counts : (m n : FinMap nat_cmp ℕ) (q : ℕ) → counting n ≡ counting m → count_at n q ≡ count_at m q
 same_counts m n q is = sym (count_counting n q) ∙ ap (λ x. count_at x q) is ∙ count_counting m q
 
--- one that does not count is not counted less
-pub nothing_less : (m : FinMap nat_cmp ℕ) (k q : ℕ) → get m k ≡ None → count_at m q ≡ cond (nat_eq k q) (count_at m q - 1) (count_at m q)
-nothing_less m k q none = elim (cases_eq k q) [
-  | inl e ↦
-      let zero_here : count_at m q ≡ 0 = ap (λ o. unwrap_or o 0) (ap (get m) (sym e) ∙ none) in
-      zero_here ∙ sym (ap (λ n. cond (nat_eq k q) (n - 1) n) zero_here ∙ by_test (nat_eq k q))
-  | inr ne ↦ sym (ap (λ b. cond b (count_at m q - 1) (count_at m q)) (ne_eqb k q ne))
-]
+-- one fewer where a number counts, and nothing where it does not
+pub count_less : (m : FinMap nat_cmp ℕ) (k q : ℕ) → count_at (changed_at k (λ n. n - 1) m) q ≡ cond (nat_eq k q) (count_at m q - 1) (count_at m q)
+count_less m k q = ap (λ o. unwrap_or o 0) (get_changed_at k (λ n. n - 1) m q) ∙ by_test (nat_eq k q) (get m q)
   where
-    by_test : (b : Bool) → cond b (0 - 1) 0 ≡ 0
-    by_test true = omega arith
-    by_test false = refl
+    by_test : (b : Bool) (o : Option ℕ) → unwrap_or (cond b (option_map (λ n. n - 1) o) o) 0 ≡ cond b (unwrap_or o 0 - 1) (unwrap_or o 0)
+    by_test true None = omega arith
+    by_test true (Some n) = refl
+    by_test false o = refl
 
 -- a key that counts anew finds fewer entries than places
 pub place_free : (m n : FinMap nat_cmp ℕ) (now : Stored ℕ) (most k : ℕ) → seen_counts m most ≡ now → get m k ≡ None

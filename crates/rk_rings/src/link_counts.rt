@@ -72,7 +72,7 @@ impl LinkCounts {
         ensures positive { ArePositive self.new.facts }
         ensures places { places self.new ≡ places self.old }
     {
-        match self.counts.get(key).copied() {
+        match self.counts.get_late(key).copied() {
             Some(count) => self.counts.change(key, Become(count + 1)),
             None => {
                 make_way(&mut self.counts, self.most);
@@ -87,10 +87,7 @@ impl LinkCounts {
         ensures positive { ArePositive self.new.facts }
         ensures places { places self.new ≡ places self.old }
     {
-        let Some(count) = self.counts.get(key).copied() else {
-            return;
-        };
-        self.counts.change(key, Become(count.saturating_sub(1)));
+        self.counts.change(key, OneLess);
     }
 }
 
@@ -118,6 +115,20 @@ impl Test<u32> for Counting {
     fn passes(&self, key: u32, value: &u32) -> bool {
         let _ = key;
         *value > 0
+    }
+}
+
+/// One fewer; a count of 0 stays.
+#[derive(Clone, Copy)]
+struct OneLess;
+
+impl ChangeOnce<u32> for OneLess {
+    ghost use Rattle.std.specs.Prelude.{◌-◌};
+
+    ghost changed = { λ _ n. n - 1 };
+
+    fn change(self, count: &mut u32) {
+        *count = count.saturating_sub(1);
     }
 }
 

@@ -7,13 +7,13 @@ use Rattle.rk_rings.proofs.link_counts.LinkCounts.one_more.Goals as goal
 pub overflow_add-count : goal.overflow_add-count
 overflow_add-count c =
     let count : c.in-Some.count ≡ count_at c.args.self.now.facts c.args.key =
-    ap (λ o. unwrap_or o 0) (c.in-Some.ensures ∙ c.get.ensures) ∙ sym (count_counting c.self.inside.counts.facts c.args.key)
+    ap (λ o. unwrap_or o 0) (c.in-Some.ensures ∙ c.get_late.ensures) ∙ sym (count_counting c.self.inside.counts.facts c.args.key)
     ∙ ap (λ s. count_at s.facts c.args.key) c.self.view_is in
     omega (arith, count, c.requires.few)
 
 pub insert-requires-clause-room : goal.insert-requires-clause-room
 insert-requires-clause-room c =
-    let none : get c.self.inside.counts.facts c.args.key ≡ None = sym (c.in-None.ensures ∙ c.get.ensures) in
+    let none : get c.self.inside.counts.facts c.args.key ≡ None = sym (c.in-None.ensures ∙ c.get_late.ensures) in
     let few : len c.make_way.new.counts.facts < c.self.inside.most =
     place_free c.self.inside.counts.facts c.make_way.new.counts.facts c.args.self.now c.self.inside.most c.args.key c.self.view_is none c.requires.room
     c.make_way.ensures.room in
@@ -21,7 +21,7 @@ insert-requires-clause-room c =
 
 pub invariant_of-self-in-None : goal.invariant_of-self-in-None
 invariant_of-self-in-None c =
-    let none : get c.self.inside.counts.facts c.args.key ≡ None = sym (c.in-None.ensures ∙ c.get.ensures) in
+    let none : get c.self.inside.counts.facts c.args.key ≡ None = sym (c.in-None.ensures ∙ c.get_late.ensures) in
     let few : len c.make_way.new.counts.facts < c.self.inside.most =
     place_free c.self.inside.counts.facts c.make_way.new.counts.facts c.args.self.now c.self.inside.most c.args.key c.self.view_is none c.requires.room
     c.make_way.ensures.room in (
@@ -32,7 +32,7 @@ invariant_of-self-in-None c =
 pub returns-in-Some-clause-each : goal.returns-in-Some-clause-each
 returns-in-Some-clause-each c q =
     let m = c.self.inside.counts.facts in
-    let is : Some c.in-Some.count ≡ get m c.args.key = c.in-Some.ensures ∙ c.get.ensures in
+    let is : Some c.in-Some.count ≡ get m c.args.key = c.in-Some.ensures ∙ c.get_late.ensures in
     each_seen m c.change.new.self.facts (λ n. n + 1) c.args.key q
     (ap (λ x. count_at x q) c.change.ensures.facts ∙ count_become m c.args.key (c.in-Some.count + 1) q (ap is_some (sym is))
     ∙ count_by m (λ n. n + 1) c.args.key (c.in-Some.count + 1) q (ap (λ o. unwrap_or o 0 + 1) is))
@@ -56,7 +56,7 @@ pub returns-in-None-clause-each : goal.returns-in-None-clause-each
 returns-in-None-clause-each c q =
     let m = c.self.inside.counts.facts in
     let w = c.make_way.new.counts.facts in
-    let none : get w c.args.key ≡ None = c.make_way.ensures.absent c.args.key (sym (c.in-None.ensures ∙ c.get.ensures)) in
+    let none : get w c.args.key ≡ None = c.make_way.ensures.absent c.args.key (sym (c.in-None.ensures ∙ c.get_late.ensures)) in
     each_seen m c.insert.new.self.facts (λ n. n + 1) c.args.key q (ap (λ x. count_at x q) c.insert.ensures.facts ∙ count_put w c.args.key 1 q
     ∙ count_by w (λ n. n + 1) c.args.key 1 q (ap (λ o. unwrap_or o 0 + 1) (sym none))
     ∙ ap (λ n. cond (nat_eq c.args.key q) (n + 1) n) (same_counts m w q c.make_way.ensures.facts))
