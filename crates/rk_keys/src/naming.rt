@@ -33,6 +33,18 @@ pub fn hash_of(seed: u64, typ: &[u8], description: &[u8]) -> u32
 fn feed(hasher: &mut FoldHasher, bytes: &[u8])
     ensures { hasher.new ≡ fed_with bytes.now hasher.old }
 {
+    match bytes.len() {
+        0 => {}
+        1..=8 => hasher.write(bytes),
+        _ => feed_many(hasher, bytes),
+    }
+}
+
+/// The same, by a loop.
+#[tactic(auto, unfolding(crate::specs::Buckets::fed_words))]
+fn feed_many(hasher: &mut FoldHasher, bytes: &[u8])
+    ensures { hasher.new ≡ fed_with bytes.now hasher.old }
+{
     for word in 0..bytes.len().div_ceil(8) {
         let start = 8 * word;
         let end = bytes.len().min(start + 8);
