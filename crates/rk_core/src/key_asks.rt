@@ -1,5 +1,5 @@
 //! The asks on keys: READ, DESCRIBE, CALLOUT, REVOKE, TIMEOUT.
-ghost use Rattle.std.specs.Prelude.{◌≡◌, ◌≤◌, ◌⊎◌, Err, Ok, [], ◌∷◌, length, IfOk, IsOk, MatchOption, option_map};
+ghost use Rattle.std.specs.Prelude.{◌≡◌, ◌≤◌, ◌⊎◌, Err, Ok, [], ◌∷◌, length, IfOk, IsOk, OnSome, MatchOption, option_map};
 ghost use Rattle.std.specs.Bool.{MatchBool};
 ghost use Rattle.rk_names.specs.Numbers.{key_errno};
 ghost use Rattle.rk_keys.specs.Key.{error_of, is_building, is_revoked, key_passes, standing_of};
@@ -11,6 +11,7 @@ ghost use Rattle.rk_core.specs.Finding.{answer_of, Finds};
 
 use crate::named::serial_of;
 use crate::tables::Tables;
+use arrayvec::ArrayVec;
 use itoa::Buffer;
 use rk_keys::{Key, Standing};
 use rk_machine::{Answer, Asker, done};
@@ -62,6 +63,30 @@ fn description(alloc: Global, fact: &Key, now: Moment) -> Result<Vec<u8>, AllocE
     bytes.push(b';')?;
     bytes.extend_from_slice(description)?;
     Ok(bytes)
+}
+
+/// The most bytes of a description that is put together without memory of its own.
+const SHORT: usize = 96;
+
+/// The same in an empty buffer, which takes no memory; `None` if it does not fit there.
+fn describe_in(bytes: &mut ArrayVec<u8, SHORT>, fact: &Key, now: Moment) -> Option<()>
+    requires { bytes.old.items ≡ [] }
+    ensures { OnSome result (bytes.new.items ≡ description_of now fact.now) }
+{
+    let mut buffer = Buffer::new();
+    bytes.try_extend_from_slice(fact.typ.as_bytes()).ok()?;
+    bytes.try_push(b';').ok()?;
+    bytes
+        .try_extend_from_slice(buffer.format(fact.owner).as_bytes())
+        .ok()?;
+    bytes.try_push(b';').ok()?;
+    bytes
+        .try_extend_from_slice(state_word(fact.standing(now)).as_bytes())
+        .ok()?;
+    bytes.try_push(b';').ok()?;
+    bytes
+        .try_extend_from_slice(fact.description.as_bytes())
+        .ok()
 }
 
 /// The payload of a key that stands Positive. Its own error where it stands Revoked, Expired or Negative, and EBUSY if it stands Building.
@@ -121,6 +146,10 @@ impl Tables {
     {
         let key = serial_of(number)?;
         let fact = self.possessed(asker, key)?;
+        let mut short = ArrayVec::new();
+        if describe_in(&mut short, fact, now).is_some() {
+            return copied(self.alloc, &short);
+        }
         match description(self.alloc, fact, now) {
             Ok(bytes) => copied(self.alloc, &bytes),
             Err(_) => Err(Errno::Enomem),

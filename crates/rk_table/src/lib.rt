@@ -16,7 +16,8 @@
 //! # Use
 //!
 //! Reserve, and then insert: `table.reserve(1)?; table.insert(3, fact);`. A value is changed in its place by a small struct that implements
-//! [`ChangeOnce`] and says in its ghost member what it makes of the value. A [`Test`] picks entries in the same way.
+//! [`ChangeOnce`] and says in its ghost member what it makes of the value. One that implements [`Exchange`] also answers, so that what it found needs
+//! no second search. A [`Test`] picks entries in the same way.
 //!
 //! A `Table` is for what has a bound, as the links of a ring, and a `HashTable` for what has none, as the keys. [`Counts`] is a `Table` of counts.
 //!
