@@ -26,8 +26,8 @@
 //! the serials to draw together. `named` has what is kept of a name, its number and how many live keys have it, and `by_name` the names with one
 //! hash. `hashed_name` is a name with its hash, which an ask takes once. `naming` hashes names, looks up their numbers, and counts keys in and out. So
 //! they are an index from type and description to serials, since the number of a name is the serial of the key with which the name came. The index
-//! grows in `make` alone. `changes` has what happens to one key. What the specifications say of a key in few
-//! words, as `standing_of`, stands in `specs/Key.antt`, and of all keys in `specs/Known.antt`.
+//! grows in `make` alone. `changes` has what happens to one key. What the specifications say of a key in few words, as `standing_of`, stands in
+//! `specs/Key.antt`, and of all keys in `specs/Known.antt`.
 #![tactic(auto)]
 
 mod by_name;
