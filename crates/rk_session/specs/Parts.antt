@@ -87,9 +87,13 @@ Speaks x (Err WriteFault) story new = (note : Option Noted) × (r : Reply) × (f
 Speaks x (Err Behind) story new = (x ≡ saying.Behind) × (new.story ≡ story)
 Speaks x (Err _) story new = ⊥
 
+-- one of these sayings is what is to be said, and it was said; or the session has ended at it
+abbrev pub IsSaid : (Saying → Type 0) → Result Unit Served → WireShown → WireShown → Type 0
+IsSaid fits result old new = (s : Saying) × fits s × Speaks s result old.story new
+
 -- one message with its reply, or the end of the session at it
 abbrev pub TurnEnds : SessionId → Standing → List ℕ → Standing → Result Unit Served → WireShown → WireShown → Type 0
-TurnEnds session from body to result old new = (s : Saying) × Says session from body s to × Speaks s result old.story new
+TurnEnds session from body to result old new = IsSaid (λ s. Says session from body s to) result old new
 
 -- the next message, if there was one, with its reply: it was at the front of the bytes that were held; or there was none, or the session has ended
 abbrev pub TakesOne : SessionId → Result Bool Served → WireShown → Unread → Standing → WireShown → Unread → Standing → Type 0

@@ -1,4 +1,4 @@
-//! What is to be said of one message of a client.
+//! What is to be said of a message where its call alone doesn't say it: of an ask that starts something or waits, and of a HELLO that moves its client.
 ghost use Rattle.std.specs.Prelude.{◌≡◌, ◌≤◌, None, false, true, MatchBool, MatchOption};
 ghost use Rattle.rk_names.specs.declared.numbers.SessionId.TheVariants.{Client};
 ghost use Rattle.rk_message.specs.Bodies.{Spells};
@@ -35,8 +35,8 @@ fn brought_to_end<P: Platform>(
     }
 }
 
-// Whether the client waits for what an ask with this answer comes to.
-fn waits(answer: &Answer) -> bool
+/// Whether the client waits for what an ask with this answer comes to.
+pub fn waits(answer: &Answer) -> bool
     ensures { MatchBool result (IsToWait answer.now) (IsToWait answer.now → ⊥) }
 {
     match answer {
@@ -67,7 +67,30 @@ fn finished<P: Platform, W: Wire>(
     settled(stage, &mut crew.caller, hall, session, receipt)
 }
 
-// The ask is made, and what it starts or waits for is brought to its end. Before that, what is kept is sent.
+/// What is to be said of an ask that has started something or waits: what the wire keeps is sent, what was started is brought to its end, and what is waited
+/// for is collected.
+#[cold]
+#[inline(never)]
+pub fn awaited<P: Platform, W: Wire>(
+    stage: &Stage<'_, P>,
+    crew: &mut Crew<P>,
+    hall: HallNo,
+    client: u32,
+    called: Called<P::Names>,
+    wire: &mut W,
+) -> Saying
+    requires bound { (P.Launcher.shown crew.old.launcher).count ≤ most }
+    ensures bound { (P.Launcher.shown crew.new.launcher).count ≤ most }
+    ensures finishes { Finishes hall (Client client) called.receipt called.launch crew.old.caller.seat crew.new.caller.seat result }
+    ensures stays { Stays crew.old.caller.seat crew.new.caller.seat }
+    ensures pushes { Pushes (W.shown wire.old) (W.shown wire.new) }
+{
+    // (that it could not be sent shows with the reply, whose write fails then)
+    let _ = wire.send();
+    finished(stage, crew, hall, client, called, wire)
+}
+
+// What is to be said of the ask of a HELLO, which is made in this hall.
 #[inline(always)]
 fn asked<P: Platform, W: Wire>(
     stage: &Stage<'_, P>,
@@ -89,18 +112,23 @@ fn asked<P: Platform, W: Wire>(
     match ask_in(stage, &mut crew.caller.seat, hall, now, session, message) {
         Ok(Called { receipt, launch }) => match launch {
             None if !waits(receipt.answer()) => Saying::Noted(receipt),
-            launch => {
-                // (that it could not be sent shows with the reply, whose write fails then)
-                let _ = wire.send();
-                finished(stage, crew, hall, client, Called { receipt, launch }, wire)
-            }
+            launch => awaited(stage, crew, hall, client, Called { receipt, launch }, wire),
         },
         Err(fault) => refused(fault),
     }
 }
 
-// The hall of the uid of a HELLO, where the client has no context.
-fn hall_of_hello(place: &Place, ask: &AskStep<'_>) -> Option<HallNo>
+/// A HELLO of a client without a context, and the hall of its uid.
+#[derive(Drop)]
+pub struct Hello<'a> {
+    /// The hall of its uid.
+    pub hall: HallNo,
+    /// The HELLO, with its body.
+    pub message: Message<'a>,
+}
+
+/// The hall of the uid of a HELLO, where the client has no context.
+pub fn hall_of_hello(place: &Place, ask: &AskStep<'_>) -> Option<HallNo>
     ensures { MatchOption result (IsHello ask.now → place.now.greeted ≡ true) (λ hall. (place.now.greeted ≡ false) × IsHelloOf hall ask.now) }
 {
     match ask {
@@ -141,34 +169,31 @@ fn greeted<P: Platform, W: Wire>(
     saying
 }
 
-/// What is to be said of the message with this body: it is asked in the client's hall, and what it starts is brought to its end. A HELLO of a client without a
-/// context is asked in the hall of its uid, to which the client moves first. It may wait; what the wire keeps is sent before that.
-#[inline(always)]
-pub fn answered<P: Platform, W: Wire>(
+/// What is to be said of a HELLO of a client without a context: the client moves to the hall of its uid, and the HELLO is asked there. It may wait; what the
+/// wire keeps is sent before that.
+#[cold]
+#[inline(never)]
+pub fn admitted<P: Platform, W: Wire>(
     stage: &Stage<'_, P>,
     crew: &mut Crew<P>,
     client: u32,
     place: &mut Place,
-    body: &[u8],
+    hello: Hello<'_>,
     wire: &mut W,
 ) -> Saying
     requires bound { (P.Launcher.shown crew.old.launcher).count ≤ most }
+    requires spells { Spells hello.message.ask hello.message.body.now }
+    requires first { (place.old.greeted ≡ false) × IsHelloOf hello.hall hello.message.ask }
     ensures bound { (P.Launcher.shown crew.new.launcher).count ≤ most }
-    ensures says { Says (Client client) (standing_of place.old crew.old.caller.seat) body.now result (standing_of place.new crew.new.caller.seat) }
+    ensures says { Says (Client client) (standing_of place.old crew.old.caller.seat) hello.entry.message.body.now result
+        (standing_of place.new crew.new.caller.seat) }
     ensures moves { Moves place.old.hall place.new.hall crew.old.caller.seat crew.new.caller.seat }
     ensures pushes { Pushes (W.shown wire.old) (W.shown wire.new) }
 {
-    let ask = match AskStep::read(stage.alloc, body) {
-        Ok(ask) => ask,
-        Err(error) => return Saying::Short(error.errno()),
-    };
-    let there = match hall_of_hello(place, &ask) {
-        Some(there) => there,
-        None => return asked(stage, crew, place.hall, client, Message { ask, body }, wire),
-    };
-    match moved(stage, &mut crew.caller, place.hall, there, client) {
-        None => place.hall = there,
+    let Hello { hall, message } = hello;
+    match moved(stage, &mut crew.caller, place.hall, hall, client) {
+        None => place.hall = hall,
         Some(refusal) => return refusal,
     }
-    greeted(stage, crew, client, place, Message { ask, body }, wire)
+    greeted(stage, crew, client, place, message, wire)
 }

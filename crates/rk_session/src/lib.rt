@@ -27,8 +27,10 @@
 //!
 //! # How it is built
 //!
-//! `wire` is the trait, `standing` opens a client, moves it and reports it gone, `answering` finds what is to be said of a message, `turns` notes and writes
-//! it, and `serving` reads. A `Visit` has what is one client's. What is common to clients and plain handlers is in rk_talk.
+//! `wire` is the trait, and `standing` opens a client, moves it and reports it gone. `turns` makes the ask of a message, notes its receipt and writes the
+//! reply. Where an ask starts something or waits, or a HELLO moves its client, `answering` finds what is to be said. That comes as a `Saying`, which is large
+//! and costly to hand up, so no other receipt goes that way. `serving` reads. A `Visit` has what is one client's. What is common to clients and plain
+//! handlers is in rk_talk.
 //!
 //! In `specs/`, `Talk` is to be read first: what a session does. It cites `Places`, what is to be said of a message and how the client stands then, and
 //! `Wires`, what is seen of a wire. `Places` cites `Opening`: how an opening came to what is said of it, as the seat knows; of an ask rk_talk says that.

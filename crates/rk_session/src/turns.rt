@@ -1,27 +1,33 @@
 //! Messages with their replies.
-ghost use Rattle.std.specs.Prelude.{◌≡◌, ◌≤◌};
+ghost use Rattle.std.specs.Prelude.{◌≡◌, ◌≤◌, false};
 ghost use Rattle.rk_names.specs.declared.numbers.SessionId.TheVariants.{Client};
 ghost use Rattle.rk_devices.specs.Counts.{most};
-ghost use Rattle.rk_talk.specs.Said.{IsSettled, IsToWait};
+ghost use Rattle.rk_message.specs.Bodies.{Spells};
+ghost use Rattle.rk_talk.specs.Said.{IsAnswered, IsRefusal, IsSettled, IsToWait};
+ghost use Rattle.rk_talk.specs.Stays.{Stays};
 ghost use Rattle.rk_talk.specs.declared.saying.Saying.TheVariants as saying;
 ghost use Rattle.rk_session.specs.Moving.{Moves};
-ghost use Rattle.rk_session.specs.Parts.{Speaks, TurnEnds, TakesOne, ended};
-ghost use Rattle.rk_session.specs.Places.{standing_of};
+ghost use Rattle.rk_session.specs.Parts.{Finishes, IsSaid, Speaks, TurnEnds, TakesOne, ended};
+ghost use Rattle.rk_session.specs.Places.{IsHelloOf, standing_of};
 ghost use Rattle.rk_session.specs.Wires.{Counts};
 
-use crate::answering::answered;
+use crate::answering::{Hello, admitted, awaited, hall_of_hello, waits};
 use crate::serving::Served;
 use crate::standing::Place;
 use crate::visit::Visit;
 use crate::wire::Wire;
-use rk_devices::{DeviceFault, Gate};
+use rk_devices::{Clock, DeviceFault, Gate};
 use rk_frame::Next;
-use rk_hall::Receipt;
+use rk_hall::{CallFault, Called, HallNo, Receipt};
+use rk_message::AskStep;
 use rk_names::{Errno, SessionId};
-use rk_talk::{Crew, Platform, Saying, Stage, answer_frame, refusal_frame};
+use rk_talk::{
+    Crew, Message, Platform, Saying, Stage, answer_frame, ask_in, refusal_frame, refused,
+};
 
 // Notes the receipt, and then writes the reply of its answer, which lies in this buffer where it takes memory. If there is no memory for the reply, it is
 // out of memory, and nothing is noted.
+#[inline(always)]
 fn tell<W: Wire>(buffer: &mut Vec<u8>, wire: &mut W, receipt: Receipt) -> Result<(), DeviceFault>
     requires { IsToWait receipt.answer → ⊥ }
     ensures speaks { Speaks (saying.Noted receipt) (ended result) (W.shown wire.old).story (W.shown wire.new) }
@@ -38,6 +44,8 @@ fn tell<W: Wire>(buffer: &mut Vec<u8>, wire: &mut W, receipt: Receipt) -> Result
 }
 
 // Writes an errno.
+#[cold]
+#[inline(never)]
 fn refuse<W: Wire>(wire: &mut W, errno: Errno) -> Result<(), DeviceFault>
     ensures speaks { Speaks (saying.Short errno) (ended result) (W.shown wire.old).story (W.shown wire.new) }
     ensures counts { Counts (W.shown wire.old) (W.shown wire.new) }
@@ -83,7 +91,106 @@ fn say<P: Platform, W: Wire>(
     }
 }
 
-// One message: it is answered, and what is to be said is said.
+// Says what is to be said of an ask that has started something or waits.
+#[cold]
+#[inline(never)]
+fn say_awaited<P: Platform, W: Wire>(
+    stage: &Stage<'_, P>,
+    crew: &mut Crew<P>,
+    hall: HallNo,
+    client: u32,
+    called: Called<P::Names>,
+    wire: &mut W,
+) -> Result<(), Served>
+    requires bound { (P.Launcher.shown crew.old.launcher).count ≤ most }
+    ensures bound { (P.Launcher.shown crew.new.launcher).count ≤ most }
+    ensures said { IsSaid (Finishes hall (Client client) called.receipt called.launch crew.old.caller.seat crew.new.caller.seat) result
+        (W.shown wire.old) (W.shown wire.new) }
+    ensures stays { Stays crew.old.caller.seat crew.new.caller.seat }
+    ensures counts { Counts (W.shown wire.old) (W.shown wire.new) }
+    ensures reads { (W.shown wire.new).reads ≡ (W.shown wire.old).reads }
+{
+    let saying = awaited(stage, crew, hall, client, called, wire);
+    say(stage, &mut crew.reply, wire, client, saying)
+}
+
+// Says what is to be said of an ask whose call was refused.
+#[cold]
+#[inline(never)]
+fn say_refused<P: Platform, W: Wire>(
+    stage: &Stage<'_, P>,
+    buffer: &mut Vec<u8>,
+    wire: &mut W,
+    client: u32,
+    fault: CallFault,
+) -> Result<(), Served>
+    ensures said { IsSaid (IsRefusal fault) result (W.shown wire.old) (W.shown wire.new) }
+    ensures counts { Counts (W.shown wire.old) (W.shown wire.new) }
+    ensures reads { (W.shown wire.new).reads ≡ (W.shown wire.old).reads }
+{
+    say(stage, buffer, wire, client, refused(fault))
+}
+
+// Makes the ask in this hall, and says what is to be said of it. Most asks start nothing and wait for nothing: their receipt is told here, and isn't handed up
+// in a `Saying`.
+#[inline(always)]
+fn ask_here<P: Platform, W: Wire>(
+    stage: &Stage<'_, P>,
+    crew: &mut Crew<P>,
+    hall: HallNo,
+    client: u32,
+    message: Message<'_>,
+    wire: &mut W,
+) -> Result<(), Served>
+    requires bound { (P.Launcher.shown crew.old.launcher).count ≤ most }
+    requires spells { Spells message.ask message.body.now }
+    ensures bound { (P.Launcher.shown crew.new.launcher).count ≤ most }
+    ensures said { IsSaid (IsAnswered (Client client) hall message.entry.ask crew.old.caller.seat crew.new.caller.seat) result
+        (W.shown wire.old) (W.shown wire.new) }
+    ensures stays { Stays crew.old.caller.seat crew.new.caller.seat }
+    ensures counts { Counts (W.shown wire.old) (W.shown wire.new) }
+    ensures reads { (W.shown wire.new).reads ≡ (W.shown wire.old).reads }
+{
+    let now = crew.caller.clock.now();
+    let session = SessionId::Client(client);
+    match ask_in(stage, &mut crew.caller.seat, hall, now, session, message) {
+        Ok(Called { receipt, launch }) => match launch {
+            None if !waits(receipt.answer()) => {
+                let reply = tell(&mut crew.reply, wire, receipt);
+                written(stage, client, reply)
+            }
+            launch => say_awaited(stage, crew, hall, client, Called { receipt, launch }, wire),
+        },
+        Err(fault) => say_refused(stage, &mut crew.reply, wire, client, fault),
+    }
+}
+
+// Moves the client of a HELLO, which has no context yet, to the hall of its uid, and says what is to be said of the HELLO.
+#[cold]
+#[inline(never)]
+fn greet<P: Platform, W: Wire>(
+    stage: &Stage<'_, P>,
+    crew: &mut Crew<P>,
+    client: u32,
+    place: &mut Place,
+    hello: Hello<'_>,
+    wire: &mut W,
+) -> Result<(), Served>
+    requires bound { (P.Launcher.shown crew.old.launcher).count ≤ most }
+    requires spells { Spells hello.message.ask hello.message.body.now }
+    requires first { (place.old.greeted ≡ false) × IsHelloOf hello.hall hello.message.ask }
+    ensures bound { (P.Launcher.shown crew.new.launcher).count ≤ most }
+    ensures ends { TurnEnds (Client client) (standing_of place.old crew.old.caller.seat) hello.entry.message.body.now
+        (standing_of place.new crew.new.caller.seat) result (W.shown wire.old) (W.shown wire.new) }
+    ensures counts { Counts (W.shown wire.old) (W.shown wire.new) }
+    ensures reads { (W.shown wire.new).reads ≡ (W.shown wire.old).reads }
+    ensures moves { Moves place.old.hall place.new.hall crew.old.caller.seat crew.new.caller.seat }
+{
+    let saying = admitted(stage, crew, client, place, hello, wire);
+    say(stage, &mut crew.reply, wire, client, saying)
+}
+
+// One message: its ask is made where the client stands, or that of a HELLO in the hall of its uid, and what is to be said of it is said.
 fn turn<P: Platform, W: Wire>(
     stage: &Stage<'_, P>,
     crew: &mut Crew<P>,
@@ -100,8 +207,15 @@ fn turn<P: Platform, W: Wire>(
     ensures reads { (W.shown wire.new).reads ≡ (W.shown wire.old).reads }
     ensures moves { Moves place.old.hall place.new.hall crew.old.caller.seat crew.new.caller.seat }
 {
-    let saying = answered(stage, crew, client, place, body, wire);
-    say(stage, &mut crew.reply, wire, client, saying)
+    let ask = match AskStep::read(stage.alloc, body) {
+        Ok(ask) => ask,
+        Err(error) => return written(stage, client, refuse(wire, error.errno())),
+    };
+    let message = Message { ask, body };
+    match hall_of_hello(place, &message.ask) {
+        None => ask_here(stage, crew, place.hall, client, message, wire),
+        Some(hall) => greet(stage, crew, client, place, Hello { hall, message }, wire),
+    }
 }
 
 /// Takes the next message, if there is one, and says what is to be said of it. An `Err` is the session's end.

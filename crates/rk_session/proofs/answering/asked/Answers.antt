@@ -16,9 +16,9 @@ returns-in-None-clause-pushes g c = pushes_same _
 
 pub returns-in_default-clause-says : goal.returns-in_default-clause-says
 returns-in_default-clause-says g c =
-    let finishes = c.finished.ensures.finishes in
+    let finishes = c.awaited.ensures.finishes in
     receipt_answers (Client c.args.client) c.args.hall c.now-now.result c.args.message.ask c.args.crew.now.caller.seat c.ask_in.new.seat finishes.0
-    c.finished.new.crew.caller.seat c.in-Ok.field-0.receipt c.in-Ok.field-0.launch c.finished.result c.in-Ok.ensures.receipt c.in-Ok.ensures.seat
+    c.awaited.new.crew.caller.seat c.in-Ok.field-0.receipt c.in-Ok.field-0.launch c.awaited.result c.in-Ok.ensures.receipt c.in-Ok.ensures.seat
     c.in-Ok.ensures.launch finishes.1 finishes.2 finishes.3
 
 pub returns-in-Err-clause-says : goal.returns-in-Err-clause-says

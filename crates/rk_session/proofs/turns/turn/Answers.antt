@@ -1,21 +1,16 @@
-use Rattle.rk_session.proofs.Words.{subst, ◌∙◌, Speaks}
-use Rattle.rk_session.proofs.Sayings.{says_settled}
-use Rattle.rk_session.proofs.Sendings.{counts_then}
+use Rattle.rk_session.proofs.Words.{subst, sym, why_not_read, AsksHere, NotRead, Speaks}
+use Rattle.rk_talk.specs.declared.saying.Saying.TheVariants as saying
 use Rattle.rk_session.proofs.turns.turn.Goals as goal
 
-pub say-requires : goal.say-requires
-say-requires g c = says_settled _ _ _ _ _ c.answered-saying.ensures.says
-
-pub returns-clause-ends : goal.returns-clause-ends
-returns-clause-ends g c = (
-  c.answered-saying.result,
-  c.answered-saying.ensures.says,
-  subst (λ story. Speaks c.answered-saying.result c.say.result story (g.W.Wire.shown c.say.new.wire)) c.answered-saying.ensures.pushes.story
-      c.say.ensures.speaks,
+pub returns-in-Err-clause-ends : goal.returns-in-Err-clause-ends
+returns-in-Err-clause-ends g c = (
+  saying.Short c.errno.result,
+  NotRead c.errno.result (why_not_read c.args.body.now c.in-Err.error c.errno.result c.in-Err.ensures.leftmost c.errno.ensures),
+  subst (λ r. Speaks (saying.Short c.errno.result) r (g.W.Wire.shown c.args.wire.now).story (g.W.Wire.shown c.refuse.new.wire)) (sym c.written.ensures)
+      c.refuse.ensures.speaks,
 )
 
-pub returns-clause-counts : goal.returns-clause-counts
-returns-clause-counts g c = counts_then _ _ _ c.answered-saying.ensures.pushes.counts c.say.ensures.counts
-
-pub returns-clause-reads : goal.returns-clause-reads
-returns-clause-reads g c = c.say.ensures.reads ∙ c.answered-saying.ensures.pushes.reads
+pub returns-in-None-clause-ends : goal.returns-in-None-clause-ends
+returns-in-None-clause-ends g c =
+    let said = c.ask_here.ensures.said in
+    (said.0, AsksHere c.in-Ok.ask said.0 c.ask_here.new.crew.caller.seat c.in-Ok.ensures.found c.in-None.ensures said.1, said.2)
