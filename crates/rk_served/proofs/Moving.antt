@@ -101,9 +101,9 @@ module _ (conf : List Line) (now : ℕ) (old new : Left) (put put' : List Output
 
   -- an invalid body is answered by its error, and leaves the world
   pub refuses_one : (p p' : Channel) (e : Errno) → slice_get old.peers i ≡ Some (peer who p made_for) → (has_wait old.world who ≡ false) × (is_open p ≡ true)
-      → IsNextAt (message.Refused e) p p' → new.world ≡ old.world → new.peers ≡ slice_set old.peers i (peer who p' made_for) → put' ≡ put
+      → IsNextAt (message.Refused e) who now old.world p new.world p' → new.peers ≡ slice_set old.peers i (peer who p' made_for) → put' ≡ put
       ++ replies_to who (Refused e) → MovesOne conf now i old put new put'
-  refuses_one (Talks stream) p' e at free next world peers puts = record {
+  refuses_one (Talks stream) p' e at free next peers puts = record {
     part = no_step (reply_to who (reply.Refused e) ∷ []);
     move = refuses (record {
       who = who;
@@ -112,40 +112,43 @@ module _ (conf : List Line) (now : ℕ) (old new : Left) (put put' : List Output
       made_for = made_for;
       free = record { at = at; no_wait = free.0; not_shut = not-true stream.is_shut free.1 };
       body = next.2.0;
-      takes = next.2.1;
+      takes = next.2.2;
       error = e;
-      refused = next.2.2;
-      world = world;
+      refused = next.2.3;
+      world = next.2.1;
       peers = peers ∙ ap (λ (p : Channel). slice_set old.peers i (peer who p made_for)) next.1;
       part_is = refl;
     });
     outputs = puts;
   }
-  refuses_one _ p' e at free next world peers puts = absurd (let h = free.1 in cc)
+  refuses_one _ p' e at free next peers puts = absurd (let h = free.1 in cc)
 
   -- a session whose next message is an ask makes a move by what the ask is answered
-  pub asks_one : (p p' : Channel) (ask : Ask) → slice_get old.peers i ≡ Some (peer who p made_for) → (has_wait old.world who ≡ false) × (is_open p ≡ true)
-      → IsNextAt (message.Asks ask) p p'
-      → AnswersOne conf now (record { world = old.world; peers = slice_set old.peers i (peer who p' made_for) }) who ask put new put'
+  pub asks_one : (p p' : Channel) (answer : Answer) (mid : World) → slice_get old.peers i ≡ Some (peer who p made_for)
+      → (has_wait old.world who ≡ false) × (is_open p ≡ true) → IsNextAt (message.Answered answer) who now old.world p mid p'
+      → ((ask : Ask) → Step old.world now (Asked who ask) answer mid
+      → AnswersOne conf now (record { world = old.world; peers = slice_set old.peers i (peer who p' made_for) }) who ask put new put')
       → MovesOne conf now i old put new put'
-  asks_one (Talks stream) p' ask at free next done = record {
-    part = done.part;
-    move = asks (record {
-      who = who;
-      stream = stream;
-      rest = next.0;
-      made_for = made_for;
-      free = record { at = at; no_wait = free.0; not_shut = not-true stream.is_shut free.1 };
-      body = next.2.0;
-      takes = next.2.1;
-      ask = ask;
-      spells = next.2.2;
-      answered = subst (λ (p : Channel). Answered conf now
-          (record { world = old.world; peers = slice_set old.peers i (peer who p made_for) }) who ask done.part new) next.1 done.answered;
-    });
-    outputs = done.outputs;
-  }
-  asks_one _ p' ask at free next done = absurd (let h = free.1 in cc)
+  asks_one (Talks stream) p' answer mid at free next told =
+      let done = told next.2.1 next.2.4 in
+      record {
+        part = done.part;
+        move = asks (record {
+          who = who;
+          stream = stream;
+          rest = next.0;
+          made_for = made_for;
+          free = record { at = at; no_wait = free.0; not_shut = not-true stream.is_shut free.1 };
+          body = next.2.0;
+          takes = next.2.2;
+          ask = next.2.1;
+          spells = next.2.3;
+          answered = subst (λ (p : Channel). Answered conf now
+              (record { world = old.world; peers = slice_set old.peers i (peer who p made_for) }) who next.2.1 done.part new) next.1 done.answered;
+        });
+        outputs = done.outputs;
+      }
+  asks_one _ p' answer mid at free next told = absurd (let h = free.1 in cc)
 
 module _ (conf : List Line) (now : ℕ) (old new : Left) (put put' : List Output) (i : ℕ) (made_for : Option Subject) where
   -- a client with a bad length is shut, and is gone
@@ -192,28 +195,40 @@ module _ (conf : List Line) (now : ℕ) (old new : Left) (put put' : List Output
 
 -- ---- what stands where no message is taken
 
-next_same : (p p' : Channel) → IsNextAt message.More p p' ⊎ IsNextAt message.Fault p p' → p' ≡ p
-next_same (Talks stream) p' (inl h) = h.1 ∙ ap Talks h.2.0
-next_same (Talks stream) p' (inr h) = h.1 ∙ ap Talks h.2.0
-next_same _ p' (inl h) = h.1
-next_same _ p' (inr h) = h.1
+module _ (who : SessionId) (now : ℕ) (world world' : World) where
+  next_same : (p p' : Channel) → IsNextAt message.More who now world p world' p' ⊎ IsNextAt message.Fault who now world p world' p' → p' ≡ p
+  next_same (Talks stream) p' (inl h) = h.1 ∙ ap Talks h.2.1
+  next_same (Talks stream) p' (inr h) = h.1 ∙ ap Talks h.2.1
+  next_same _ p' (inl h) = h.1
+  next_same _ p' (inr h) = h.1
+
+  pub next_world : (p p' : Channel) → IsNextAt message.More who now world p world' p' ⊎ IsNextAt message.Fault who now world p world' p' → world' ≡ world
+  next_world (Talks stream) p' (inl h) = h.2.0
+  next_world (Talks stream) p' (inr h) = h.2.0
+  next_world _ p' (inl h) = h.2
+  next_world _ p' (inr h) = h.2
+
+  pub has_fault : (p p' : Channel) → IsNextAt message.Fault who now world p world' p' → HasFaultAt p
+  has_fault (Talks stream) p' h = h.2.2
+  has_fault _ p' h = absurd (let e = h.0 in cc)
 
 -- looking for a message where none is whole leaves everything
-pub next_left : (left : Left) (i : ℕ) (who : SessionId) (made_for : Option Subject) (p p' : Channel) → slice_get left.peers i ≡ Some (peer who p made_for)
-    → IsNextAt message.More p p' ⊎ IsNextAt message.Fault p p' → record { world = left.world; peers = slice_set left.peers i (peer who p' made_for) } ≡ left
-next_left left i who made_for p p' at next =
-    ap (λ (xs : List Peer). record { world = left.world; peers = xs })
-    (ap (λ (q : Channel). slice_set left.peers i (peer who q made_for)) (next_same p p' next) ∙ set_self left.peers i (peer who p made_for) at)
-
-pub has_fault : (p p' : Channel) → IsNextAt message.Fault p p' → HasFaultAt p
-has_fault (Talks stream) p' h = h.2.1
-has_fault _ p' h = absurd (let e = h.0 in cc)
+pub next_left : (left : Left) (now i : ℕ) (who : SessionId) (made_for : Option Subject) (p p' : Channel) (world : World)
+    → slice_get left.peers i ≡ Some (peer who p made_for)
+    → IsNextAt message.More who now left.world p world p' ⊎ IsNextAt message.Fault who now left.world p world p'
+    → record { world = world; peers = slice_set left.peers i (peer who p' made_for) } ≡ left
+next_left left now i who made_for p p' world at next =
+    ap (λ (w : World). record { world = w; peers = slice_set left.peers i (peer who p' made_for) }) (next_world who now left.world world p p' next)
+    ∙ ap (λ (xs : List Peer). record { world = left.world; peers = xs })
+    (ap (λ (q : Channel). slice_set left.peers i (peer who q made_for)) (next_same who now left.world world p p' next)
+    ∙ set_self left.peers i (peer who p made_for) at)
 
 -- a session that waits for nothing and has no whole message can't move
-pub rests_more : (left : Left) (i : ℕ) (who : SessionId) (made_for : Option Subject) (p p' : Channel) → slice_get left.peers i ≡ Some (peer who p made_for)
-    → has_wait left.world who ≡ false → IsNextAt message.More p p' → RestsAt left i
-rests_more left i who made_for p p' at none next = rests left i (peer who p made_for) at (by_channel p next)
+pub rests_more : (left : Left) (now i : ℕ) (who : SessionId) (made_for : Option Subject) (p p' : Channel) (world : World)
+    → slice_get left.peers i ≡ Some (peer who p made_for) → has_wait left.world who ≡ false → IsNextAt message.More who now left.world p world p'
+    → RestsAt left i
+rests_more left now i who made_for p p' world at none next = rests left i (peer who p made_for) at (by_channel p next)
   where
-    by_channel : (q : Channel) → IsNextAt message.More q p' → CannotMove left.world who q
-    by_channel (Talks stream) h = (not_ready left.world who none, inr (inr h.2.1))
+    by_channel : (q : Channel) → IsNextAt message.More who now left.world q world p' → CannotMove left.world who q
+    by_channel (Talks stream) h = (not_ready left.world who none, inr (inr h.2.2))
     by_channel _ h = tt

@@ -7,7 +7,7 @@ use Rattle.rk_served.proofs.Words.{effect, kind_in, kind_of, IsIdle, idle_step, 
 use Rattle.rk_served.proofs.Words.{Event, same_session, Beginning, may_launch, Step, has_wait, is_ready, awaited, World, Answer, Start, Negate, Launched, Gone}
 use Rattle.rk_served.proofs.Words.{Opened, Ended, Collect, Asked, How, MovesNext, RestsBy, MovesBy, TriesAt, Left, peer, without, Part, nothing, reversed}
 use Rattle.rk_served.proofs.Words.{collects, refuses, asks, shuts_client, shuts_handler, Answered, puts_reply, starts_one, fails_to_start, Move, CannotMove}
-use Rattle.rk_served.proofs.Words.{IsAtRest, Adds, EndsBy, is_last, is_followed, is_not_followed, OwnStep, whose, IsWatched, waiters_at, Stirs, Parks, IsMover}
+use Rattle.rk_served.proofs.Words.{Lengthens, channel_with, IsAtRest, Adds, EndsBy, is_last, is_followed, is_not_followed, OwnStep, whose, IsWatched, waiters_at, Stirs, StirsBy, PutsBack, Expects, Parks, IsMover}
 use Rattle.rk_served.proofs.Words.{IsWaiter, Watches, IsWatchedBut, IsStill, IsKeyOf, own_key, Wakes, KeepsMovers, comes_before, HasItsPeers, peer_of}
 use Rattle.rk_served.proofs.Words.{are_apart, Happening, Started, Failed, Output, Channel, Starts, Talks, Pipes, Peer}
 use Rattle.std.specs.FinMap as map
@@ -28,6 +28,9 @@ use Rattle.rk_machine.proofs.Effects.WhoIsWoken.{others, still_awaited, woken}
 use Rattle.rk_machine.proofs.OneConstruction.EachOnce.{goods_after}
 use Rattle.rk_served.specs.declared.happening.Happening.TheVariants as happening
 use Rattle.rk_served.specs.declared.queue.Queue.{Queue}
+use Rattle.std.specs.Prelude.{Result, Ok, Err, OnOk}
+use Rattle.std.specs.BinaryHeap.{heap_items}
+use Rattle.rk_served.specs.Queued.{KeepsWaiters}
 use Rattle.rk_served.proofs.PeerLists.{turned, who_is, at_place}
 use Rattle.rk_served.proofs.PeersFit.{fits, failed_fresh, failed_kinds}
 use Rattle.rk_served.proofs.Standings.{before_self}
@@ -339,22 +342,45 @@ IsMoverOr who q s = (s ≡ who) ⊎ IsMover q s
 waits_still : (old new : World) (s : SessionId) → awaited new s ≡ awaited old s → has_wait old s ≡ true → has_wait new s ≡ true
 waits_still old new s same h = waits_for (wait_of new.sessions s) ∙ ap is_some same ∙ sym (waits_for (wait_of old.sessions s)) ∙ h
 
+module _ (who : SessionId) (w : World) (q : Queue) (itself : IsMover q who ⊎ Expects w who q) where
+  -- who waits for what is not there yet can't move
+  itself_known : (s : SessionId) (p : Channel) → s ≡ who → IsMover q s ⊎ CannotMove w s p
+  itself_known s p is = subst (λ (t : SessionId). IsMover q t ⊎ CannotMove w t p) (sym is) (by_channel p itself)
+    where
+      by_channel : (p : Channel) → IsMover q who ⊎ Expects w who q → IsMover q who ⊎ CannotMove w who p
+      by_channel p (inl m) = inl m
+      by_channel (Talks u) (inr x) = inr (x.not_ready, inl (waits_for (wait_of w.sessions who) ∙ ap is_some x.awaits))
+      by_channel _ (inr x) = inr tt
+
+  -- and the queue knows him
+  itself_waits : (k : ℕ) (s : SessionId) → s ≡ who → awaited w s ≡ Some k → IsMover q s ⊎ IsWaiter q k s
+  itself_waits k s is on =
+      subst (λ (t : SessionId). IsMover q t ⊎ IsWaiter q k t) (sym is)
+      (elim itself [ inl m ↦ inl m | inr x ↦ inr (subst (λ (j : ℕ). IsWaiter q j who) (same_key x) x.known) ])
+    where
+      same_key : (x : Expects w who q) → x.key ≡ k
+      same_key x = let e = sym x.awaits ∙ ap (awaited w) (sym is) ∙ on in cc
+
 -- who was stirred has moved: the queue knows all again
 pub watched_on : (who : SessionId) (old new : Left) (q q' : Queue) → Moved who old new → IsWatchedBut who q old → Stirs new.world who q q' → IsWatched q' new
 watched_on who old new q q' m w stirs = record {
-  movers = m.peers (Known (IsMover q') new.world) (λ x is. inl (subst (IsMover q') (sym is) stirs.itself)) (λ k piped made_for. inr tt)
+  movers = m.peers (Known (IsMover q') new.world) (λ x is. itself_known who new.world q' stirs.itself x.who x.channel is) (λ k piped made_for. inr tt)
       (λ i d within. one_mover _ _ (w.movers i d within));
   waiters = λ k s on. one_waiter k s on (same_session who s) refl;
   own = m.frees.own;
 }
   where
-    mover : (s : SessionId) → (s ≡ who) ⊎ IsMover q s → IsMover q' s
-    mover s (inl is) = subst (IsMover q') (sym is) stirs.itself
-    mover s (inr h) = stirs.movers s h
+    is_apart : (s : SessionId) → same_session who s ≡ false → s ≡ who → ⊥
+    is_apart s apart is = let e = ap (same_session who) is ∙ same-self who in cc
 
-    woken_mover : (s : SessionId) (k : ℕ) → awaited old.world s ≡ Some k → IsKeyOf new.world who k → unspent new.world.sessions k ≡ None → IsMover q' s
-    woken_mover s k on key spent = elim (w.waiters k s on) [
-      | inl h ↦ mover s h
+    mover : (s : SessionId) → same_session who s ≡ false → (s ≡ who) ⊎ IsMover q s → IsMover q' s
+    mover s apart (inl is) = absurd (is_apart s apart is)
+    mover s apart (inr h) = stirs.movers s h
+
+    woken_mover : (s : SessionId) (k : ℕ) → same_session who s ≡ false → awaited old.world s ≡ Some k → IsKeyOf new.world who k
+        → unspent new.world.sessions k ≡ None → IsMover q' s
+    woken_mover s k apart on key spent = elim (w.waiters k s on) [
+      | inl h ↦ mover s apart h
       | inr h ↦ stirs.woken k key spent s h
     ]
 
@@ -363,22 +389,26 @@ watched_on who old new q q' m w stirs = record {
     idle_still s u apart h false r = inr (r, elim h.1 [ inl e ↦ inl (waits_still old.world new.world s (m.frees.waits s apart) e) | inr e ↦ inr e ])
     idle_still s u apart h true r = elim (m.frees.ready s apart r) [
       | inl e ↦ absurd (let f = h.0 in cc)
-      | inr x ↦ inl (woken_mover s x.0 x.1 x.2 x.3)
+      | inr x ↦ inl (woken_mover s x.0 apart x.1 x.2 x.3)
     ]
 
-    apart_mover : (s : SessionId) (p : Channel) → CannotMove old.world s p → (b : Bool) → same_session who s ≡ b → IsMover q' s ⊎ CannotMove new.world s p
-    apart_mover s p h true same = inl (subst (IsMover q') (same-true who s same) stirs.itself)
-    apart_mover s (Talks u) h false apart = idle_still s u apart h (is_ready new.world s) refl
-    apart_mover s _ h false apart = inr tt
+    by_session : (s : SessionId) (p : Channel) → (same_session who s ≡ false → IsMover q' s ⊎ CannotMove new.world s p) → (b : Bool)
+        → same_session who s ≡ b → IsMover q' s ⊎ CannotMove new.world s p
+    by_session s p h true same = itself_known who new.world q' stirs.itself s p (sym (same-true who s same))
+    by_session s p h false apart = h apart
+
+    apart_mover : (s : SessionId) (p : Channel) → CannotMove old.world s p → same_session who s ≡ false → IsMover q' s ⊎ CannotMove new.world s p
+    apart_mover s (Talks u) h apart = idle_still s u apart h (is_ready new.world s) refl
+    apart_mover s _ h apart = inr tt
 
     one_mover : (s : SessionId) (p : Channel) → ((s ≡ who) ⊎ IsMover q s) ⊎ CannotMove old.world s p → IsMover q' s ⊎ CannotMove new.world s p
-    one_mover s p (inl h) = inl (mover s h)
-    one_mover s p (inr h) = apart_mover s p h (same_session who s) refl
+    one_mover s p (inl h) = by_session s p (λ apart. inl (mover s apart h)) (same_session who s) refl
+    one_mover s p (inr h) = by_session s p (apart_mover s p h) (same_session who s) refl
 
     one_waiter : (k : ℕ) (s : SessionId) → awaited new.world s ≡ Some k → (b : Bool) → same_session who s ≡ b → IsMover q' s ⊎ IsWaiter q' k s
-    one_waiter k s on true same = inl (subst (IsMover q') (same-true who s same) stirs.itself)
+    one_waiter k s on true same = itself_waits who new.world q' stirs.itself k s (sym (same-true who s same)) on
     one_waiter k s on false apart = elim (w.waiters k s (sym (m.frees.waits s apart) ∙ on)) [
-      | inl h ↦ inl (mover s h)
+      | inl h ↦ inl (mover s apart h)
       | inr h ↦ stirs.known k s h
     ]
 
@@ -484,29 +514,90 @@ pub watched_after : (conf : List Line) (now : ℕ) (who : SessionId) (q q' : Que
 watched_after conf now who q q' old new put put' h s w stirs =
     watched_on who old new q q' (move_moved conf now old h.one.part new (fits old s).idle w.own h.index h.one.move h.mover h.at who h.who_is) w stirs
 
--- and after an own step
-pub watched_begun : (conf : List Line) (now : ℕ) (happens : Happening) (old new : Left) (part : Part) (q q' : Queue) → OwnStep conf now happens old part new
+-- bytes change nothing but the stream of him to whom they came
+watched_lengthened : (who : SessionId) (more : List ℕ) (old : Left) (part : Part) (new : Left) (q q' : Queue) → Lengthens who more old part new
+    → IsWatched q old → PutsBack new.world who q q' → IsWatched q' new
+watched_lengthened who more old part new q q' b w back = record {
+  movers = subst (All (Known (IsMover q') new.world)) (sym b.replaces.peers) (All-set (Known (IsMover q') new.world) old.peers b.replaces.index
+      (peer who (channel_with more b.channel) b.made_for) (itself_known who new.world q' back.itself who (channel_with more b.channel) refl) others.movers);
+  waiters = others.waiters;
+  own = others.own;
+}
+  where
+    others : IsWatched q' (record { world = new.world; peers = old.peers })
+    others =
+        subst (λ (v : World). IsWatched q' (record { world = v; peers = old.peers })) (sym b.world)
+        (knows_more (IsMover q) (IsMover q') (IsWaiter q) (IsWaiter q') old back.movers back.waiters w)
+
+-- after any other own step
+watched_stirred : (conf : List Line) (now : ℕ) (happens : Happening) (old new : Left) (part : Part) (q q' : Queue) → OwnStep conf now happens old part new
     → HasItsPeers old → IsStill q old → Stirs new.world (whose happens) q q' → IsWatched q' new
-watched_begun conf now happens old new part q q' b s still stirs =
+watched_stirred conf now happens old new part q q' b s still stirs =
     watched_on (whose happens) old new q q' (own_moved conf now old part new (fits old s).idle still.watched.own happens b)
     (knows_more (IsMover q) _ (IsWaiter q) (IsWaiter q) old (λ s e. inr e) (λ k s e. e) still.watched) stirs
 
+-- and after any
+pub watched_begun : (conf : List Line) (now : ℕ) (happens : Happening) (old new : Left) (part : Part) (q q' : Queue) → OwnStep conf now happens old part new
+    → HasItsPeers old → IsStill q old → StirsBy new.world happens q q' → IsWatched q' new
+watched_begun conf now (happening.Bytes n bytes) old new part q q' b s still by =
+    watched_lengthened (Client n) bytes old part new q q' b still.watched by
+watched_begun conf now (happening.HandlerBytes k bytes) old new part q q' b s still by =
+    watched_lengthened (Handler k) bytes old part new q q' b still.watched by
+watched_begun conf now (happening.Accept n) old new part q q' b s still by =
+    watched_stirred conf now (happening.Accept n) old new part q q' b s still by
+watched_begun conf now (happening.Gone n) old new part q q' b s still by = watched_stirred conf now (happening.Gone n) old new part q q' b s still by
+watched_begun conf now (happening.StartResult k started) old new part q q' b s still by =
+    watched_stirred conf now (happening.StartResult k started) old new part q q' b s still by
+watched_begun conf now (happening.HandlerReadFault k) old new part q q' b s still by =
+    watched_stirred conf now (happening.HandlerReadFault k) old new part q q' b s still by
+watched_begun conf now (happening.HandlerEnded k how) old new part q q' b s still by =
+    watched_stirred conf now (happening.HandlerEnded k how) old new part q q' b s still by
+watched_begun conf now (happening.WaitFault k) old new part q q' b s still by =
+    watched_stirred conf now (happening.WaitFault k) old new part q q' b s still by
+
 -- ---- who is stirred
 
--- one that may move, and those who wait for its own key or for the key on which it waits, are stirred
-pub stirred : (w : World) (who : SessionId) (q0 q1 q2 q3 : Queue) → IsMover q1 who → KeepsMovers q0 q1 → q1.waiting ≡ q0.waiting
-    → Wakes w (own_key who) q1 q2 → Wakes w (awaited w who) q2 q3 → Stirs w who q0 q3
-stirred w who q0 q1 q2 q3 itself movers waiting own other = record {
-  itself = other.movers who (own.movers who itself);
-  movers = λ s h. other.movers s (own.movers s (movers s h));
-  known = λ k s h. elim (own.known k s (same_waiters q0 q1 waiting k s h)) [
-    | inl m ↦ inl (other.movers s m)
-    | inr x ↦ other.known k s x
+-- one is put among those who may move, if memory is there
+pub back_pushed : {X E : Type 0} (r : Result X E) (w : World) (who : SessionId) (q q' : Queue) → OnOk r (IsMover q' who) → OnOk r (KeepsMovers q q')
+    → q'.waiting ≡ q.waiting → OnOk r (PutsBack w who q q')
+back_pushed (Ok x) w who q q' itself movers same = record { itself = inl itself; movers = movers; waiters = same_waiters q q' same }
+back_pushed (Err e) w who q q' itself movers same = tt
+
+-- or among those who wait
+pub back_parked : {X E : Type 0} (r : Result X E) (w : World) (who : SessionId) (k : ℕ) (q q' : Queue) → awaited w who ≡ Some k → is_ready w who ≡ false
+    → OnOk r (IsWaiter q' k who) → q'.movers ≡ q.movers → OnOk r (KeepsWaiters q q') → OnOk r (PutsBack w who q q')
+back_parked (Ok x) w who k q q' awaits idle known same waiters = record {
+  itself = inr (record { key = k; awaits = awaits; not_ready = idle; known = known });
+  movers = λ s h. subst (λ (xs : List (Reverse SessionId)). Contains xs (reversed s)) (sym (ap heap_items same)) h;
+  waiters = waiters;
+}
+back_parked (Err e) w who k q q' awaits idle known same waiters = tt
+
+-- those who wait for its own key or for the key on which it waits are stirred, and it is put back
+pub stirred : (w : World) (who : SessionId) (q0 q1 q2 q3 : Queue) → Wakes w (own_key who) q0 q1 → Wakes w (awaited w who) q1 q2 → PutsBack w who q2 q3
+    → Stirs w who q0 q3
+stirred w who q0 q1 q2 q3 own other back = record {
+  itself = back.itself;
+  movers = λ s h. after_own s (own.movers s h);
+  known = λ k s h. elim (own.known k s h) [
+    | inl m ↦ inl (after_own s m)
+    | inr x ↦ elim (other.known k s x) [ inl m ↦ inl (back.movers s m) | inr y ↦ inr (back.waiters k s y) ]
   ];
   woken = λ k key spent s h. elim key [
-    | inl is ↦ other.movers s (own.woken k (ap own_key is) spent s (same_waiters q0 q1 waiting k s h))
-    | inr is ↦ elim (own.known k s (same_waiters q0 q1 waiting k s h)) [ inl m ↦ other.movers s m | inr x ↦ other.woken k is spent s x ]
+    | inl is ↦ after_own s (own.woken k (ap own_key is) spent s h)
+    | inr is ↦ elim (own.known k s h) [ inl m ↦ after_own s m | inr x ↦ back.movers s (other.woken k is spent s x) ]
   ];
+}
+  where
+    after_own : (s : SessionId) → IsMover q1 s → IsMover q3 s
+    after_own s m = back.movers s (other.movers s m)
+
+-- for no key nobody is woken
+pub none_woken : (w : World) (q : Queue) → Wakes w None q q
+none_woken w q = record {
+  movers = λ s h. h;
+  known = λ k s h. inr h;
+  woken = λ k key spent s h. absurd (let e : ◌≡◌ {A = Option ℕ} None (Some k) = key in cc);
 }
 
 -- ---- at the beginning

@@ -1,6 +1,8 @@
 -- What the channel of a peer is, and what it has next.
 use Rattle.std.specs.Prelude.{◌≡◌, ℕ, Bool, true, false, not, List, [], Option, Some, None}
+use Rattle.rk_names.specs.declared.numbers.SessionId.{SessionId}
 use Rattle.rk_macro.specs.declared.subject.Subject.{Subject}
+use Rattle.rk_machine.specs.World.{World}
 use Rattle.rk_served.specs.declared.peer.Channel.{Channel}
 use Rattle.rk_served.specs.declared.peer.Channel.TheVariants.{Talks, Starts, Pipes}
 use Rattle.rk_served.specs.declared.stream.Message.{Message}
@@ -24,11 +26,11 @@ is_stream (Talks stream) = true
 is_stream (Starts piped) = false
 is_stream (Pipes bytes) = false
 
--- the next message of a stream; there is none elsewhere
-abbrev pub IsNextAt : Message → Channel → Channel → Type 0
-IsNextAt m (Talks stream) new = (rest : Unused) × (new ≡ Talks rest) × IsNext m stream rest
-IsNextAt m (Starts piped) new = (m ≡ More) × (new ≡ Starts piped)
-IsNextAt m (Pipes bytes) new = (m ≡ More) × (new ≡ Pipes bytes)
+-- the next message of a stream, made by this session; there is none elsewhere
+abbrev pub IsNextAt : Message → SessionId → ℕ → World → Channel → World → Channel → Type 0
+IsNextAt m who now world (Talks stream) world' new = (rest : Unused) × (new ≡ Talks rest) × IsNext m who now world stream world' rest
+IsNextAt m who now world (Starts piped) world' new = (m ≡ More) × (new ≡ Starts piped) × (world' ≡ world)
+IsNextAt m who now world (Pipes bytes) world' new = (m ≡ More) × (new ≡ Pipes bytes) × (world' ≡ world)
 
 -- a stream moves no more
 abbrev pub shut_channel : Channel → Channel

@@ -1,5 +1,5 @@
 -- Who stands in a queue, and when nobody else may move.
-use Rattle.std.specs.Prelude.{◌≡◌, ◌⊎◌, ℕ, List, [], Option, Some, None}
+use Rattle.std.specs.Prelude.{◌≡◌, ◌⊎◌, ℕ, false, List, [], Option, Some, None}
 use Rattle.std.specs.List.{All, Contains}
 use Rattle.std.specs.Global.{Vec}
 use Rattle.std.specs.BinaryHeap.{heap_items, heap_len}
@@ -11,8 +11,10 @@ use Rattle.rk_names.specs.declared.numbers.SessionId.{SessionId}
 use Rattle.rk_names.specs.declared.numbers.SessionId.TheVariants.{Client, Handler}
 use Rattle.rk_auth.specs.Sessions.{unspent}
 use Rattle.rk_machine.specs.World.{World}
-use Rattle.rk_machine.specs.Views.{awaited}
+use Rattle.rk_machine.specs.Views.{awaited, is_ready}
 use Rattle.rk_machine.proofs.Effects.OfOneConstruction.{Goods}
+use Rattle.rk_served.specs.declared.happening.Happening.{Happening}
+use Rattle.rk_served.specs.declared.happening.Happening.TheVariants as happening
 use Rattle.rk_served.specs.declared.queue.Queue.{Queue}
 use Rattle.rk_served.specs.Left.{Left}
 use Rattle.rk_served.specs.Moves.{CannotMove}
@@ -74,12 +76,36 @@ pub record IsStill (q : Queue) (left : Left) : Type 0 where
 abbrev pub IsKeyOf : World → SessionId → ℕ → Type 0
 IsKeyOf w who k = (who ≡ Handler k) ⊎ (awaited w who ≡ Some k)
 
--- all who wait for a key of this one whose authority is spent may move, and this one itself
+-- he waits for what is not there yet, and the queue knows him by the key
+pub record Expects (w : World) (who : SessionId) (q : Queue) : Type 0 where
+  pub key : ℕ
+  pub awaits : awaited w who ≡ Some key
+  pub not_ready : is_ready w who ≡ false
+  pub known : IsWaiter q key who
+
+-- this one may move again, or waits for what is not there yet; the others are as they were
+pub record PutsBack (w : World) (who : SessionId) (old new : Queue) : Type 0 where
+  pub itself : IsMover new who ⊎ Expects w who new
+  pub movers : KeepsMovers old new
+  pub waiters : KeepsWaiters old new
+
+-- all who wait for a key of this one whose authority is spent may move, and this one itself, unless it waits for what is not there yet
 pub record Stirs (w : World) (who : SessionId) (old new : Queue) : Type 0 where
-  pub itself : IsMover new who
+  pub itself : IsMover new who ⊎ Expects w who new
   pub movers : KeepsMovers old new
   pub known : KeepsKnown old new
   pub woken : (k : ℕ) → IsKeyOf w who k → unspent w.sessions k ≡ None → (s : SessionId) → IsWaiter old k s → IsMover new s
+
+-- what a happening stirs: bytes nobody but him to whom they came
+abbrev pub StirsBy : World → Happening → Queue → Queue → Type 0
+StirsBy w (happening.Bytes n bytes) old new = PutsBack w (Client n) old new
+StirsBy w (happening.HandlerBytes k bytes) old new = PutsBack w (Handler k) old new
+StirsBy w (happening.Accept n) old new = Stirs w (Client n) old new
+StirsBy w (happening.Gone n) old new = Stirs w (Client n) old new
+StirsBy w (happening.StartResult k r) old new = Stirs w (Handler k) old new
+StirsBy w (happening.HandlerReadFault k) old new = Stirs w (Handler k) old new
+StirsBy w (happening.HandlerEnded k how) old new = Stirs w (Handler k) old new
+StirsBy w (happening.WaitFault k) old new = Stirs w (Handler k) old new
 
 -- the key of a handler; a client has none
 abbrev pub own_key : SessionId → Option ℕ

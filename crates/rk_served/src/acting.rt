@@ -14,7 +14,7 @@ ghost use Rattle.rk_served.specs.Left.{no_step, one_step};
 ghost use Rattle.rk_served.specs.OwnStep.{has_client, is_to_start, is_running, is_misplaced, Lengthens, ClientGoes, FailsToRun, negated};
 ghost use Rattle.rk_served.specs.Order.{ActsInOrder};
 ghost use Rattle.rk_served.specs.WhoIsThere.{HasItsPeers, has_peer};
-ghost use Rattle.rk_served.specs.Queued.{IsStill};
+ghost use Rattle.rk_served.specs.Queued.{IsStill, StirsBy};
 ghost use Rattle.rk_served.specs.Calls.{left_of, is_refused, MakesOwnStep, IsStartAt, HasEnded, EndsOne};
 
 use crate::bytes::Bytes;
@@ -309,6 +309,22 @@ impl Server {
         }
     }
 
+    /// Who may move after the own step of a happening. Where bytes came, the machine has made no step: it is the one to whom they came, and no other.
+    fn stir_by(
+        &self,
+        alloc: Global,
+        happening: &Happening,
+        queue: &mut Queue,
+    ) -> Result<(), AllocError>
+        ensures { OnOk result (StirsBy self.now.book happening.now queue.old queue.new) }
+    {
+        let who = happening.whose();
+        match happening {
+            Happening::Bytes(_, _) | Happening::HandlerBytes(_, _) => queue.push(who),
+            _ => self.stir(alloc, &who, queue),
+        }
+    }
+
     /// The own step of a happening, and then moves in order until no session can move.
     pub fn act(
         &mut self,
@@ -325,7 +341,7 @@ impl Server {
     {
         let mut out = Vec::new(occasion.alloc);
         self.own_step(occasion, happening, &mut out)?;
-        self.stir(occasion.alloc, &happening.whose(), queue)?;
+        self.stir_by(occasion.alloc, happening, queue)?;
         self.move_all(occasion, queue, &mut out)?;
         Ok(Outputs::new(out))
     }

@@ -3,8 +3,10 @@ ghost use Rattle.std.specs.Prelude.{◌≡◌, ◌++◌, IfOk, OnOk};
 ghost use Rattle.rk_served.specs.OwnStep.{callout_to};
 
 use crate::bytes::Bytes;
+use crate::occasion::Occasion;
 use crate::output::Output;
 use crate::stream::{Message, Stream};
+use rk_core::Book;
 use rk_macro::Subject;
 use rk_names::{Payload, Serial, SessionId};
 use std::alloc::{AllocError, Global};
@@ -81,12 +83,17 @@ impl Channel {
         }
     }
 
-    /// The next message of a stream. The only refusal is out of memory for an ask.
-    pub fn next(&mut self, alloc: Global) -> Result<Message, AllocError>
-        ensures { IfOk result (λ m. IsNextAt m self.old self.new) }
+    /// Makes the ask of the next message of a stream, for this session. The only refusal is out of memory for its payload.
+    pub fn next(
+        &mut self,
+        book: &mut Book,
+        occasion: &Occasion<'_>,
+        who: &SessionId,
+    ) -> Result<Message, AllocError>
+        ensures { IfOk result (λ m. IsNextAt m who.now occasion.now.moment book.old self.old book.new self.new) }
     {
         match self {
-            Channel::Talks(stream) => stream.next(alloc),
+            Channel::Talks(stream) => stream.next(book, occasion, who),
             Channel::Pipes(_) | Channel::Starts(_) => Ok(Message::More),
         }
     }

@@ -1,7 +1,9 @@
 //! The machine and the peers that are there: the moves of sessions.
-ghost use Rattle.std.specs.Prelude.{◌≡◌, true, false, ◌<◌, List, IfOk, OnOk, IfSome, MatchBool, vec_len, slice_get};
+ghost use Rattle.std.specs.Prelude.{◌≡◌, Some, true, false, ◌<◌, List, IfOk, OnOk, IfSome, MatchBool, vec_len, slice_get};
 ghost use Rattle.rk_conf.specs.declared.line.Line.{Line};
-ghost use Rattle.rk_machine.specs.Views.{is_ready};
+ghost use Rattle.rk_message.specs.Ask.{Ask};
+ghost use Rattle.rk_machine.specs.Views.{is_ready, awaited};
+ghost use Rattle.rk_machine.specs.World.{World};
 ghost use Rattle.rk_machine.specs.Steps.{Step};
 ghost use Rattle.rk_machine.specs.declared.event.EventOf.TheVariants.{Asked};
 ghost use Rattle.rk_served.specs.Standing.{are_in_order};
@@ -20,7 +22,6 @@ use crate::replies::put_reply;
 use crate::stream::Message;
 use rk_core::{Answer, Book, EventStep, Ran};
 use rk_macro::Subject;
-use rk_message::Ask;
 use rk_names::{Moment, Serial, SessionId};
 use std::alloc::{AllocError, Global};
 
@@ -39,7 +40,7 @@ pub struct Server {
 impl Server {
     ghost use Rattle.rk_served.specs.Calls.{left_of, MovesOne, MovesNext, MovesSome, AnswersOne, StartsNow, TriesAt, IsFreeAt};
     ghost use Rattle.rk_served.specs.Calls.{MovesBy, RestsBy};
-    ghost use Rattle.rk_served.specs.Queued.{IsWatched, IsStill, Stirs, Wakes, Parks};
+    ghost use Rattle.rk_served.specs.Queued.{IsWatched, IsStill, Stirs, PutsBack, Wakes, Parks};
 
     /// Puts out the command of a construction that has begun, or goes on, or has its start fail.
     pub fn start(
@@ -71,18 +72,18 @@ impl Server {
         }
     }
 
-    /// Makes one ask, and outputs what results from it.
-    fn ask(
+    /// Outputs what results from the answer to an ask, whose step is made.
+    fn put_answer(
         &mut self,
         occasion: &Occasion<'_>,
         who: &SessionId,
-        ask: Ask,
+        answer: Answer,
         out: &mut Vec<Output>,
     ) -> Result<(), AllocError>
-        ensures { OnOk result (AnswersOne occasion.now.conf.now occasion.now.moment
-            (left_of self.old) who.now ask out.old.items (left_of self.new) out.new.items) }
+        ensures { (before : World) (ask : Ask) → Step before occasion.now.moment (Asked who.now ask) answer self.old.book → OnOk result
+            (AnswersOne occasion.now.conf.now occasion.now.moment (record { world = before; peers = self.old.peers.items }) who.now ask out.old.items
+            (left_of self.new) out.new.items) }
     {
-        let answer = step_of_ask(&mut self.book, occasion, who, ask)?;
         match answer {
             Answer::Start(key, subject) => {
                 self.start(occasion, key, subject.into_subject(), out)
@@ -150,10 +151,10 @@ impl Server {
     {
         let peer = &mut self.peers[index];
         let who = peer.who;
-        match peer.channel.next(occasion.alloc)? {
+        match peer.channel.next(&mut self.book, occasion, &who)? {
             Message::More => Ok(false),
-            Message::Asks(ask) => {
-                self.ask(occasion, &who, ask, out)?;
+            Message::Answered(answer) => {
+                self.put_answer(occasion, &who, answer, out)?;
                 Ok(true)
             }
             Message::Refused(errno) => {
@@ -182,11 +183,14 @@ impl Server {
         if !peer.channel.is_stream() {
             return Ok(false);
         }
-        if self.book.ready(&peer.who) {
+        if self.book.waits(&peer.who) {
+            if !self.book.ready(&peer.who) {
+                return Ok(false);
+            }
             self.collect_at(occasion, index, out)?;
             return Ok(true);
         }
-        if self.book.waits(&peer.who) || !peer.channel.is_open() {
+        if !peer.channel.is_open() {
             return Ok(false);
         }
         self.take_at(occasion, index, out)
@@ -209,14 +213,37 @@ impl Server {
         }
     }
 
-    /// A session has moved: it may move again, and so may all who wait for a key whose construction it has completed or ended. Its own key may be
-    /// that, and one that it has just begun, where the start failed at once.
+    /// A session has moved: it may move again, unless it waits, and so may all who wait for a key whose construction it has completed or ended. Its
+    /// own key may be that, and one that it has just begun, where the start failed at once.
     pub fn stir(&self, alloc: Global, who: &SessionId, queue: &mut Queue) -> Result<(), AllocError>
         ensures { OnOk result (Stirs self.now.book who.now queue.old queue.new) }
     {
-        queue.push(*who)?;
         self.wake(alloc, own_key(who), queue)?;
-        self.wake(alloc, self.book.awaited(who), queue)
+        match self.book.awaited(who) {
+            Some(key) => {
+                self.wake(alloc, Some(key), queue)?;
+                self.put_back(alloc, who, key, queue)
+            }
+            None => queue.push(*who),
+        }
+    }
+
+    /// A session that waits for this key may move again if it is there. Until then it can't, and the queue knows it by the key from now on.
+    fn put_back(
+        &self,
+        alloc: Global,
+        who: &SessionId,
+        key: Serial,
+        queue: &mut Queue,
+    ) -> Result<(), AllocError>
+        requires { awaited self.now.book who.now ≡ Some key }
+        ensures { OnOk result (PutsBack self.now.book who.now queue.old queue.new) }
+    {
+        if self.book.ready(who) {
+            queue.push(*who)
+        } else {
+            queue.park(alloc, key, *who)
+        }
     }
 
     /// All who wait for this key, if there is one, may move, if its authority is spent.
@@ -280,19 +307,6 @@ impl Server {
         while self.move_one(occasion, queue, out)? {}
         Ok(())
     }
-}
-
-/// Takes an ask as a step. An `Err` is out of memory for the copy of its payload; then no step was taken.
-fn step_of_ask(
-    book: &mut Book,
-    occasion: &Occasion<'_>,
-    who: &SessionId,
-    ask: Ask,
-) -> Result<Answer, AllocError>
-    ensures { IfOk result (λ answer. Step book.old occasion.now.moment (Asked who.now ask) answer book.new) }
-{
-    let ask = ask.view().to_step(occasion.alloc)?;
-    Ok(book.step(occasion.moment, EventStep::Asked(*who, ask)))
 }
 
 /// The key of a handler. A client has none.

@@ -2,17 +2,19 @@
 ghost use Rattle.std.specs.Prelude.{◌≡◌, Bool, IfOk, OnOk};
 ghost use Rattle.rk_served.specs.Message.{IsNext};
 
+use crate::occasion::Occasion;
+use rk_core::{Answer, Book, EventStep};
 use rk_frame::{Frames, Next};
-use rk_message::{Ask, ReadError};
-use rk_names::Errno;
+use rk_message::{AskStep, ReadError};
+use rk_names::{Errno, SessionId};
 use std::alloc::{AllocError, Global};
 use std::marker::Model;
 
-/// What a stream has next.
-#[derive(Debug, Drop)]
+/// What the next message of a stream has come to.
+#[derive(Drop)]
 pub enum Message {
-    /// A whole body that spells an ask.
-    Asks(Ask),
+    /// A whole body that spells an ask, which is answered so.
+    Answered(Answer),
     /// An invalid body, by the error that it is answered.
     Refused(Errno),
     /// Nothing before more bytes come.
@@ -70,12 +72,18 @@ impl Stream {
         }
     }
 
-    /// The next message; the stream goes on after it. The only refusal is out of memory for an ask.
-    pub fn next(&mut self, alloc: Global) -> Result<Message, AllocError>
-        ensures { IfOk result (λ m. IsNext m self.old self.new) }
+    /// Makes the ask of the next message, for this session; the stream goes on after it. So the ask is borrowed from the stream and never copied. The
+    /// only refusal is out of memory for its payload.
+    pub fn next(
+        &mut self,
+        book: &mut Book,
+        occasion: &Occasion<'_>,
+        who: &SessionId,
+    ) -> Result<Message, AllocError>
+        ensures { IfOk result (λ m. IsNext m who.now occasion.now.moment book.old self.old book.new self.new) }
     {
         match &mut self.frames {
-            Some(frames) => next_in(alloc, frames),
+            Some(frames) => next_in(frames, book, occasion, who),
             None => Ok(Message::More),
         }
     }
@@ -104,14 +112,22 @@ fn fed(alloc: Global, bytes: &[u8]) -> Result<Frames, AllocError>
     Ok(frames)
 }
 
-/// The next message of some frames, which go on after it. The only refusal is out of memory for an ask.
-fn next_in(alloc: Global, frames: &mut Frames) -> Result<Message, AllocError>
-    ensures { (is_shut : Bool) → IfOk result (λ m. IsNext m (record { bytes = frames.old.bytes; is_shut = is_shut })
-        (record { bytes = frames.new.bytes; is_shut = is_shut })) }
+/// Makes the ask of the next message of some frames, which go on after it. The only refusal is out of memory for its payload.
+fn next_in(
+    frames: &mut Frames,
+    book: &mut Book,
+    occasion: &Occasion<'_>,
+    who: &SessionId,
+) -> Result<Message, AllocError>
+    ensures { (is_shut : Bool) → IfOk result (λ m. IsNext m who.now occasion.now.moment book.old
+        (record { bytes = frames.old.bytes; is_shut = is_shut }) book.new (record { bytes = frames.new.bytes; is_shut = is_shut })) }
 {
     match frames.next() {
-        Next::Whole(body) => match Ask::read(alloc, body) {
-            Ok(ask) => Ok(Message::Asks(ask)),
+        Next::Whole(body) => match AskStep::read(occasion.alloc, body) {
+            Ok(ask) => {
+                let event = EventStep::Asked(*who, ask);
+                Ok(Message::Answered(book.step(occasion.moment, event)))
+            }
             Err(ReadError::Fault(fault)) => Ok(Message::Refused(fault.errno())),
             Err(ReadError::NoMemory) => Err(AllocError),
         },

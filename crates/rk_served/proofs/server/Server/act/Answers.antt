@@ -1,4 +1,4 @@
-use Rattle.rk_served.proofs.Words.{refl, ◌∙◌, ap, List, subst, ◌++◌, SessionId, left_of, Stirs, outputs_of, steps_of, Output}
+use Rattle.rk_served.proofs.Words.{refl, ◌∙◌, ap, List, ◌++◌, left_of, outputs_of, steps_of, Output}
 use Rattle.rk_served.proofs.Kept.{begins_keeps_peers}
 use Rattle.rk_served.proofs.Orders.{moves_of}
 use Rattle.rk_served.proofs.Watching.{watched_begun}
@@ -13,8 +13,7 @@ pub move_all-requires-clause-watched : goal.move_all-requires-clause-watched
 move_all-requires-clause-watched c =
     let own = c.in_ok-own_step.ensures in
     watched_begun c.args.occasion.now.conf.now c.args.occasion.now.moment c.args.happening.now (left_of c.args.self.now) (left_of c.own_step.new.self) own.part c.args.queue.now
-    c.stir.new.queue own.own_step c.requires.has_peers c.requires.still
-    (subst (λ (s : SessionId). Stirs c.own_step.new.self.book s c.args.queue.now c.stir.new.queue) c.whose.ensures c.in_ok-stir.ensures)
+    c.stir_by.new.queue own.own_step c.requires.has_peers c.requires.still c.in_ok-stir_by.ensures
 
 pub returns-clause-acts : goal.returns-clause-acts
 returns-clause-acts c =
