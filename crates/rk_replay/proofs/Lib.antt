@@ -3,4 +3,5 @@ pub mod Heads
 pub mod Bodies
 pub mod Scripts
 pub mod LinesLeft
+pub mod WholeFields
 pub mod BytesRead

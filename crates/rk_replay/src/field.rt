@@ -8,7 +8,7 @@ ghost use Rattle.rk_replay.specs.declared.field.Misread.TheVariants.{NoMemory};
 
 use hex::FromHexError;
 use rk_served::Bytes;
-use rk_text::{Space, cut_field, number};
+use rk_text::{Space, cut_field, number, skip_space};
 use std::alloc::{AllocError, Global};
 
 /// Why fields say nothing.
@@ -106,8 +106,22 @@ pub fn status(fields: &[u8]) -> Result<(u8, &[u8]), Misread>
     }
 }
 
-/// Bytes, in hexadecimal digits.
+/// Bytes, in hexadecimal digits. They stand last on their line: so all that is left is read as digits, and no space is looked for before that fails.
 pub fn bytes(alloc: Global, fields: &[u8]) -> Result<(Bytes, &[u8]), Misread>
+    ensures { Gives (λ x. (x.0, fields_of x.1.now)) result (first_as bytes_of (fields_of fields.now)) }
+{
+    let digits = skip_space(fields, Space::Blank);
+    match hex::decode(alloc, digits) {
+        Ok(bytes) if !digits.is_empty() => Ok((Bytes::new(bytes), &digits[digits.len()..])),
+        Err(FromHexError::OutOfMemory) => Err(Misread::NoMemory),
+        _ => spaced_bytes(alloc, fields),
+    }
+}
+
+/// Bytes before a space, or none at all.
+#[cold]
+#[inline(never)]
+fn spaced_bytes(alloc: Global, fields: &[u8]) -> Result<(Bytes, &[u8]), Misread>
     ensures { Gives (λ x. (x.0, fields_of x.1.now)) result (first_as bytes_of (fields_of fields.now)) }
 {
     let (field, rest) = word(fields)?;

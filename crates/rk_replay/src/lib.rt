@@ -22,12 +22,13 @@
 //! # How it is built
 //!
 //! `script` reads and writes the streams, `settings` holds what the head of a script sets, and `playing` goes through its lines.
-//! `script_line` reads one, by `field` and `verb` from its front, each in time in proportion to what it reads. `transcript` has the
-//! lines of the output, and `fault` why a script was given up.
+//! `lines` cuts it into them, `script_line` reads one, by `field` and `verb` from its front, each in time in proportion to what it reads.
+//! `transcript` has the lines of the output, and `fault` why a script was given up.
 #![tactic(auto)]
 
 mod fault;
 mod field;
+mod lines;
 mod playing;
 mod script;
 mod script_line;

@@ -9,13 +9,13 @@ ghost use Rattle.rk_replay.specs.Written.{IsWritten, IsRefused};
 ghost use Rattle.rk_replay.specs.Playing.{Plays, PlaysBody, IsHead, bytes_from};
 
 use crate::fault::ScriptFault;
+use crate::lines::cut_line;
 use crate::script_line::ScriptLine;
 use crate::settings::Settings;
 use crate::transcript::{LineFault, Transcript};
 use rk_conf::{Conf, ConfFault, ConfKind};
 use rk_names::Moment;
 use rk_served::{Happening, Output, Replay, TakeFault};
-use rk_text::cut_line;
 use std::alloc::{AllocError, Global};
 
 /// The head of a script, and what follows it.
@@ -204,22 +204,18 @@ fn play_happening(
     ensures conf { replay.new.conf ≡ replay.old.conf }
 {
     match replay.take(alloc, now, happening) {
-        Ok(outputs) => tell_all(alloc, outputs.as_slice(), transcript),
+        Ok(outputs) => tell_all(outputs.as_slice(), transcript),
         Err(TakeFault::Unknown) => transcript.refuse(number, LineFault::Unknown),
         Err(TakeFault::NoMemory) => Err(AllocError),
     }
 }
 
 /// Writes the lines of some outputs.
-fn tell_all(
-    alloc: Global,
-    outputs: &[Output],
-    transcript: &mut Transcript,
-) -> Result<(), AllocError>
+fn tell_all(outputs: &[Output], transcript: &mut Transcript) -> Result<(), AllocError>
     ensures { OnOk result (transcript.new ≡ transcript.old ++ flat_map output_line outputs.now) }
 {
     for output in outputs {
-        transcript.tell(alloc, output)?;
+        transcript.tell(output)?;
     }
     Ok(())
 }

@@ -11,13 +11,9 @@ const HELLO: &[u8] = b"100 bytes 1 0000000e01000003e8000003e80000000000";
 
 const REQUEST: &[u8] = b"100 bytes 1 00000012020004757365720001610100017800000000";
 
-fn tell_all(
-    alloc: Global,
-    transcript: &mut Transcript,
-    outputs: &Outputs,
-) -> Result<(), AllocError> {
+fn tell_all(transcript: &mut Transcript, outputs: &Outputs) -> Result<(), AllocError> {
     for told in outputs.as_slice() {
-        transcript.tell(alloc, told)?;
+        transcript.tell(told)?;
     }
     Ok(())
 }
@@ -35,7 +31,7 @@ fn put_line(
         _ => return transcript.refuse(number, LineFault::NotALine),
     };
     match taken {
-        Ok(outputs) => tell_all(alloc, transcript, &outputs),
+        Ok(outputs) => tell_all(transcript, &outputs),
         Err(TakeFault::Unknown) => transcript.refuse(number, LineFault::Unknown),
         Err(TakeFault::NoMemory) => Err(AllocError),
     }
