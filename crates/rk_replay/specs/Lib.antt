@@ -1,4 +1,5 @@
 pub mod Text
+pub mod Digits
 pub mod Values
 pub mod Fields
 pub mod Verbs

@@ -6,9 +6,11 @@ ghost use Rattle.rk_replay.specs.Values.{moment_of, seconds_of, client_of, key_o
 ghost use Rattle.rk_replay.specs.Fields.{Gives, first_as, alone};
 ghost use Rattle.rk_replay.specs.declared.field.Misread.TheVariants.{NoMemory};
 
+use crate::digits::decoded;
+use crate::numbers::number;
 use hex::FromHexError;
 use rk_served::Bytes;
-use rk_text::{Space, cut_field, number, skip_space};
+use rk_text::{Space, cut_field, skip_space};
 use std::alloc::{AllocError, Global};
 
 /// Why fields say nothing.
@@ -111,9 +113,8 @@ pub fn bytes(alloc: Global, fields: &[u8]) -> Result<(Bytes, &[u8]), Misread>
     ensures { Gives (λ x. (x.0, fields_of x.1.now)) result (first_as bytes_of (fields_of fields.now)) }
 {
     let digits = skip_space(fields, Space::Blank);
-    match hex::decode(alloc, digits) {
-        Ok(bytes) if !digits.is_empty() => Ok((Bytes::new(bytes), &digits[digits.len()..])),
-        Err(FromHexError::OutOfMemory) => Err(Misread::NoMemory),
+    match decoded(alloc, digits)? {
+        Some(bytes) if !digits.is_empty() => Ok((Bytes::new(bytes), &digits[digits.len()..])),
         _ => spaced_bytes(alloc, fields),
     }
 }

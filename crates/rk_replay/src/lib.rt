@@ -22,13 +22,16 @@
 //! # How it is built
 //!
 //! `script` reads and writes the streams, `settings` holds what the head of a script sets, and `playing` goes through its lines.
-//! `lines` cuts it into them, `script_line` reads one, by `field` and `verb` from its front, each in time in proportion to what it reads.
+//! `lines` cuts it into them, `script_line` reads one, by `field` and `verb` from its front, each in time in proportion to what it reads, and
+//! `numbers` and `digits` read what most fields are.
 //! `transcript` has the lines of the output, and `fault` why a script was given up.
 #![tactic(auto)]
 
+mod digits;
 mod fault;
 mod field;
 mod lines;
+mod numbers;
 mod playing;
 mod script;
 mod script_line;
