@@ -30,7 +30,8 @@ use Rattle.rk_served.specs.declared.happening.Happening.TheVariants as happening
 use Rattle.rk_served.specs.declared.queue.Queue.{Queue}
 use Rattle.std.specs.Prelude.{Result, Ok, Err, OnOk}
 use Rattle.std.specs.BinaryHeap.{heap_items}
-use Rattle.rk_served.specs.Queued.{KeepsWaiters}
+use Rattle.rk_served.specs.Queued.{KeepsWaiters, Knows, HasDone}
+use Rattle.rk_served.proofs.Kept.{move_keeps_peers}
 use Rattle.rk_served.proofs.PeerLists.{turned, who_is, at_place}
 use Rattle.rk_served.proofs.PeersFit.{fits, failed_fresh, failed_kinds}
 use Rattle.rk_served.proofs.Standings.{before_self}
@@ -342,73 +343,103 @@ IsMoverOr who q s = (s ≡ who) ⊎ IsMover q s
 waits_still : (old new : World) (s : SessionId) → awaited new s ≡ awaited old s → has_wait old s ≡ true → has_wait new s ≡ true
 waits_still old new s same h = waits_for (wait_of new.sessions s) ∙ ap is_some same ∙ sym (waits_for (wait_of old.sessions s)) ∙ h
 
-module _ (who : SessionId) (w : World) (q : Queue) (itself : IsMover q who ⊎ Expects w who q) where
-  -- who waits for what is not there yet can't move
-  itself_known : (s : SessionId) (p : Channel) → s ≡ who → IsMover q s ⊎ CannotMove w s p
-  itself_known s p is = subst (λ (t : SessionId). IsMover q t ⊎ CannotMove w t p) (sym is) (by_channel p itself)
-    where
-      by_channel : (p : Channel) → IsMover q who ⊎ Expects w who q → IsMover q who ⊎ CannotMove w who p
-      by_channel p (inl m) = inl m
-      by_channel (Talks u) (inr x) = inr (x.not_ready, inl (waits_for (wait_of w.sessions who) ∙ ap is_some x.awaits))
-      by_channel _ (inr x) = inr tt
+-- nobody has two, so what holds of its peer holds of each that is its own
+alone : (P : Peer → Type 0) (who : SessionId) (xs : List Peer) → are_apart xs ≡ true → MatchOption (peer_of xs who) (Unit {0}) P
+    → All (λ x. x.who ≡ who → P x) xs
+alone P who xs apart h i d within is =
+    let x = get_or xs i d in
+    MatchOption-at_some _ P x (ap (peer_of xs) (sym is) ∙ at_place xs i x apart (slice_get-get_or xs i d within)) h
 
-  -- and the queue knows him
-  itself_waits : (k : ℕ) (s : SessionId) → s ≡ who → awaited w s ≡ Some k → IsMover q s ⊎ IsWaiter q k s
-  itself_waits k s is on =
-      subst (λ (t : SessionId). IsMover q t ⊎ IsWaiter q k t) (sym is)
-      (elim itself [ inl m ↦ inl m | inr x ↦ inr (subst (λ (j : ℕ). IsWaiter q j who) (same_key x) x.known) ])
+-- the queue knows this one
+module _ (who : SessionId) (left : Left) (q : Queue) where
+  expects_known : (x : Peer) → x.who ≡ who → Expects left.world who q → Known (IsMover q) left.world x
+  expects_known x is e = inr (subst (λ (s : SessionId). CannotMove left.world s x.channel) (sym is) (by_channel x.channel))
     where
-      same_key : (x : Expects w who q) → x.key ≡ k
-      same_key x = let e = sym x.awaits ∙ ap (awaited w) (sym is) ∙ on in cc
+      by_channel : (p : Channel) → CannotMove left.world who p
+      by_channel (Talks u) = (e.not_ready, inl (waits_for (wait_of left.world.sessions who) ∙ ap is_some e.awaits))
+      by_channel _ = tt
+
+  -- so it may move, or can't
+  itself_known : are_apart left.peers ≡ true → Knows left who q → All (λ x. x.who ≡ who → Known (IsMover q) left.world x) left.peers
+  itself_known apart (inl m) i d within is = inl (subst (IsMover q) (sym is) m)
+  itself_known apart (inr (inl e)) i d within is = expects_known (get_or left.peers i d) is e
+  itself_known apart (inr (inr r)) i d within is = inr (alone (λ x. CannotMove left.world x.who x.channel) who left.peers apart r.rests i d within is)
+
+  -- and where it waits it is known
+  itself_waits : (k : ℕ) (s : SessionId) → s ≡ who → awaited left.world s ≡ Some k → Knows left who q → IsMover q s ⊎ IsWaiter q k s
+  itself_waits k s is on itself = subst (λ (t : SessionId). IsMover q t ⊎ IsWaiter q k t) (sym is) (elim itself [
+    | inl m ↦ inl m
+    | inr e ↦ elim e [
+      | inl x ↦ inr (subst (λ (j : ℕ). IsWaiter q j who) (same_key x) x.known)
+      | inr r ↦ absurd (none_key r)
+    ]
+  ])
+    where
+      same_key : (x : Expects left.world who q) → x.key ≡ k
+      same_key x = let e = sym x.awaits ∙ ap (awaited left.world) (sym is) ∙ on in cc
+
+      none_key : HasDone left who → ⊥
+      none_key r = let e = sym r.no_wait ∙ ap (awaited left.world) (sym is) ∙ on in cc
+
+  -- with what is known of the others, all are known
+  all_known : are_apart left.peers ≡ true → Knows left who q → All (λ x. (x.who ≡ who) ⊎ Known (IsMover q) left.world x) left.peers
+      → All (Known (IsMover q) left.world) left.peers
+  all_known apart itself others i d within = elim (others i d within) [
+    | inl is ↦ itself_known apart itself i d within is
+    | inr h ↦ h
+  ]
 
 -- who was stirred has moved: the queue knows all again
-pub watched_on : (who : SessionId) (old new : Left) (q q' : Queue) → Moved who old new → IsWatchedBut who q old → Stirs new.world who q q' → IsWatched q' new
-watched_on who old new q q' m w stirs = record {
-  movers = m.peers (Known (IsMover q') new.world) (λ x is. itself_known who new.world q' stirs.itself x.who x.channel is) (λ k piped made_for. inr tt)
-      (λ i d within. one_mover _ _ (w.movers i d within));
+pub watched_on : (who : SessionId) (old new : Left) (q q' : Queue) → are_apart new.peers ≡ true → Moved who old new → IsWatchedBut who q old
+    → Stirs new who q q' → IsWatched q' new
+watched_on who old new q q' apart m w stirs = record {
+  movers = all_known who new q' apart stirs.itself
+      (m.peers (λ x. (x.who ≡ who) ⊎ Known (IsMover q') new.world x) (λ x is. inl is) (λ k piped made_for. inr (inr tt))
+      (λ i d within. one_mover _ _ (w.movers i d within)));
   waiters = λ k s on. one_waiter k s on (same_session who s) refl;
   own = m.frees.own;
 }
   where
     is_apart : (s : SessionId) → same_session who s ≡ false → s ≡ who → ⊥
-    is_apart s apart is = let e = ap (same_session who) is ∙ same-self who in cc
+    is_apart s other is = let e = ap (same_session who) is ∙ same-self who in cc
 
     mover : (s : SessionId) → same_session who s ≡ false → (s ≡ who) ⊎ IsMover q s → IsMover q' s
-    mover s apart (inl is) = absurd (is_apart s apart is)
-    mover s apart (inr h) = stirs.movers s h
+    mover s other (inl is) = absurd (is_apart s other is)
+    mover s other (inr h) = stirs.movers s h
 
     woken_mover : (s : SessionId) (k : ℕ) → same_session who s ≡ false → awaited old.world s ≡ Some k → IsKeyOf new.world who k
         → unspent new.world.sessions k ≡ None → IsMover q' s
-    woken_mover s k apart on key spent = elim (w.waiters k s on) [
-      | inl h ↦ mover s apart h
+    woken_mover s k other on key spent = elim (w.waiters k s on) [
+      | inl h ↦ mover s other h
       | inr h ↦ stirs.woken k key spent s h
     ]
 
     idle_still : (s : SessionId) (u : Rattle.rk_served.specs.Unused.Unused) → same_session who s ≡ false → CannotMove old.world s (Talks u) → (b : Bool)
         → is_ready new.world s ≡ b → IsMover q' s ⊎ CannotMove new.world s (Talks u)
-    idle_still s u apart h false r = inr (r, elim h.1 [ inl e ↦ inl (waits_still old.world new.world s (m.frees.waits s apart) e) | inr e ↦ inr e ])
-    idle_still s u apart h true r = elim (m.frees.ready s apart r) [
+    idle_still s u other h false r = inr (r, elim h.1 [ inl e ↦ inl (waits_still old.world new.world s (m.frees.waits s other) e) | inr e ↦ inr e ])
+    idle_still s u other h true r = elim (m.frees.ready s other r) [
       | inl e ↦ absurd (let f = h.0 in cc)
-      | inr x ↦ inl (woken_mover s x.0 apart x.1 x.2 x.3)
+      | inr x ↦ inl (woken_mover s x.0 other x.1 x.2 x.3)
     ]
 
-    by_session : (s : SessionId) (p : Channel) → (same_session who s ≡ false → IsMover q' s ⊎ CannotMove new.world s p) → (b : Bool)
-        → same_session who s ≡ b → IsMover q' s ⊎ CannotMove new.world s p
-    by_session s p h true same = itself_known who new.world q' stirs.itself s p (sym (same-true who s same))
-    by_session s p h false apart = h apart
-
     apart_mover : (s : SessionId) (p : Channel) → CannotMove old.world s p → same_session who s ≡ false → IsMover q' s ⊎ CannotMove new.world s p
-    apart_mover s (Talks u) h apart = idle_still s u apart h (is_ready new.world s) refl
-    apart_mover s _ h apart = inr tt
+    apart_mover s (Talks u) h other = idle_still s u other h (is_ready new.world s) refl
+    apart_mover s _ h other = inr tt
 
-    one_mover : (s : SessionId) (p : Channel) → ((s ≡ who) ⊎ IsMover q s) ⊎ CannotMove old.world s p → IsMover q' s ⊎ CannotMove new.world s p
-    one_mover s p (inl h) = by_session s p (λ apart. inl (mover s apart h)) (same_session who s) refl
-    one_mover s p (inr h) = by_session s p (apart_mover s p h) (same_session who s) refl
+    by_session : (s : SessionId) (p : Channel) → CannotMove old.world s p → (b : Bool) → same_session who s ≡ b
+        → (s ≡ who) ⊎ (IsMover q' s ⊎ CannotMove new.world s p)
+    by_session s p h true same = inl (sym (same-true who s same))
+    by_session s p h false other = inr (apart_mover s p h other)
+
+    one_mover : (s : SessionId) (p : Channel) → ((s ≡ who) ⊎ IsMover q s) ⊎ CannotMove old.world s p → (s ≡ who) ⊎ (IsMover q' s ⊎ CannotMove new.world s p)
+    one_mover s p (inl (inl is)) = inl is
+    one_mover s p (inl (inr h)) = inr (inl (stirs.movers s h))
+    one_mover s p (inr h) = by_session s p h (same_session who s) refl
 
     one_waiter : (k : ℕ) (s : SessionId) → awaited new.world s ≡ Some k → (b : Bool) → same_session who s ≡ b → IsMover q' s ⊎ IsWaiter q' k s
-    one_waiter k s on true same = itself_waits who new.world q' stirs.itself k s (sym (same-true who s same)) on
-    one_waiter k s on false apart = elim (w.waiters k s (sym (m.frees.waits s apart) ∙ on)) [
-      | inl h ↦ inl (mover s apart h)
+    one_waiter k s on true same = itself_waits who new q' k s (sym (same-true who s same)) on stirs.itself
+    one_waiter k s on false other = elim (w.waiters k s (sym (m.frees.waits s other) ∙ on)) [
+      | inl h ↦ inl (mover s other h)
       | inr h ↦ stirs.known k s h
     ]
 
@@ -440,13 +471,6 @@ pub watched_popped : (who : SessionId) (q q' : Queue) (left : Left) → IsWatche
 watched_popped who q q' left w others same = knows_more (IsMover q) _ (IsWaiter q) (IsWaiter q') left others (same_waiters q q' same) w
 
 -- ---- one that can't move
-
--- nobody has two, so what holds of its peer holds of each that is its own
-alone : (P : Peer → Type 0) (who : SessionId) (xs : List Peer) → are_apart xs ≡ true → MatchOption (peer_of xs who) (Unit {0}) P
-    → All (λ x. x.who ≡ who → P x) xs
-alone P who xs apart h i d within is =
-    let x = get_or xs i d in
-    MatchOption-at_some _ P x (ap (peer_of xs) (sym is) ∙ at_place xs i x apart (slice_get-get_or xs i d within)) h
 
 -- if the one who was taken out can't move, and is put among those who wait, the queue knows all
 pub watched_parked : (who : SessionId) (q q' : Queue) (left : Left) → are_apart left.peers ≡ true → IsWatchedBut who q left
@@ -510,73 +534,83 @@ moves_first conf now who q old new put put' h w first = record {
 
 -- all that it takes to go on after a move
 pub watched_after : (conf : List Line) (now : ℕ) (who : SessionId) (q q' : Queue) (old new : Left) (put put' : List Output)
-    → MovesBy conf now who old put new put' → HasItsPeers old → IsWatchedBut who q old → Stirs new.world who q q' → IsWatched q' new
+    → MovesBy conf now who old put new put' → HasItsPeers old → IsWatchedBut who q old → Stirs new who q q' → IsWatched q' new
 watched_after conf now who q q' old new put put' h s w stirs =
-    watched_on who old new q q' (move_moved conf now old h.one.part new (fits old s).idle w.own h.index h.one.move h.mover h.at who h.who_is) w stirs
+    watched_on who old new q q' (move_keeps_peers conf now old h.index h.one.part new h.one.move s).apart
+    (move_moved conf now old h.one.part new (fits old s).idle w.own h.index h.one.move h.mover h.at who h.who_is) w stirs
 
 -- bytes change nothing but the stream of him to whom they came
-watched_lengthened : (who : SessionId) (more : List ℕ) (old : Left) (part : Part) (new : Left) (q q' : Queue) → Lengthens who more old part new
-    → IsWatched q old → PutsBack new.world who q q' → IsWatched q' new
-watched_lengthened who more old part new q q' b w back = record {
-  movers = subst (All (Known (IsMover q') new.world)) (sym b.replaces.peers) (All-set (Known (IsMover q') new.world) old.peers b.replaces.index
-      (peer who (channel_with more b.channel) b.made_for) (itself_known who new.world q' back.itself who (channel_with more b.channel) refl) others.movers);
+watched_lengthened : (who : SessionId) (more : List ℕ) (old : Left) (part : Part) (new : Left) (q q' : Queue) → are_apart new.peers ≡ true
+    → Lengthens who more old part new → IsWatched q old → PutsBack new who q q' → IsWatched q' new
+watched_lengthened who more old part new q q' apart b w back = record {
+  movers = all_known who new q' apart back.itself
+      (subst (All Other) (sym b.replaces.peers) (All-set Other old.peers b.replaces.index (peer who (channel_with more b.channel) b.made_for) (inl refl)
+      (λ i d within. inr (others.movers i d within))));
   waiters = others.waiters;
   own = others.own;
 }
   where
+    Other : Peer → Type 0
+    Other x = (x.who ≡ who) ⊎ Known (IsMover q') new.world x
+
     others : IsWatched q' (record { world = new.world; peers = old.peers })
     others =
         subst (λ (v : World). IsWatched q' (record { world = v; peers = old.peers })) (sym b.world)
         (knows_more (IsMover q) (IsMover q') (IsWaiter q) (IsWaiter q') old back.movers back.waiters w)
 
 -- after any other own step
-watched_stirred : (conf : List Line) (now : ℕ) (happens : Happening) (old new : Left) (part : Part) (q q' : Queue) → OwnStep conf now happens old part new
-    → HasItsPeers old → IsStill q old → Stirs new.world (whose happens) q q' → IsWatched q' new
-watched_stirred conf now happens old new part q q' b s still stirs =
-    watched_on (whose happens) old new q q' (own_moved conf now old part new (fits old s).idle still.watched.own happens b)
+watched_stirred : (conf : List Line) (now : ℕ) (happens : Happening) (old new : Left) (part : Part) (q q' : Queue) → are_apart new.peers ≡ true
+    → OwnStep conf now happens old part new → HasItsPeers old → IsStill q old → Stirs new (whose happens) q q' → IsWatched q' new
+watched_stirred conf now happens old new part q q' apart b s still stirs =
+    watched_on (whose happens) old new q q' apart (own_moved conf now old part new (fits old s).idle still.watched.own happens b)
     (knows_more (IsMover q) _ (IsWaiter q) (IsWaiter q) old (λ s e. inr e) (λ k s e. e) still.watched) stirs
 
 -- and after any
-pub watched_begun : (conf : List Line) (now : ℕ) (happens : Happening) (old new : Left) (part : Part) (q q' : Queue) → OwnStep conf now happens old part new
-    → HasItsPeers old → IsStill q old → StirsBy new.world happens q q' → IsWatched q' new
-watched_begun conf now (happening.Bytes n bytes) old new part q q' b s still by =
-    watched_lengthened (Client n) bytes old part new q q' b still.watched by
-watched_begun conf now (happening.HandlerBytes k bytes) old new part q q' b s still by =
-    watched_lengthened (Handler k) bytes old part new q q' b still.watched by
-watched_begun conf now (happening.Accept n) old new part q q' b s still by =
-    watched_stirred conf now (happening.Accept n) old new part q q' b s still by
-watched_begun conf now (happening.Gone n) old new part q q' b s still by = watched_stirred conf now (happening.Gone n) old new part q q' b s still by
-watched_begun conf now (happening.StartResult k started) old new part q q' b s still by =
-    watched_stirred conf now (happening.StartResult k started) old new part q q' b s still by
-watched_begun conf now (happening.HandlerReadFault k) old new part q q' b s still by =
-    watched_stirred conf now (happening.HandlerReadFault k) old new part q q' b s still by
-watched_begun conf now (happening.HandlerEnded k how) old new part q q' b s still by =
-    watched_stirred conf now (happening.HandlerEnded k how) old new part q q' b s still by
-watched_begun conf now (happening.WaitFault k) old new part q q' b s still by =
-    watched_stirred conf now (happening.WaitFault k) old new part q q' b s still by
+pub watched_begun : (conf : List Line) (now : ℕ) (happens : Happening) (old new : Left) (part : Part) (q q' : Queue) → are_apart new.peers ≡ true
+    → OwnStep conf now happens old part new → HasItsPeers old → IsStill q old → StirsBy new happens q q' → IsWatched q' new
+watched_begun conf now (happening.Bytes n bytes) old new part q q' apart b s still by =
+    watched_lengthened (Client n) bytes old part new q q' apart b still.watched by
+watched_begun conf now (happening.HandlerBytes k bytes) old new part q q' apart b s still by =
+    watched_lengthened (Handler k) bytes old part new q q' apart b still.watched by
+watched_begun conf now (happening.Accept n) old new part q q' apart b s still by =
+    watched_stirred conf now (happening.Accept n) old new part q q' apart b s still by
+watched_begun conf now (happening.Gone n) old new part q q' apart b s still by =
+    watched_stirred conf now (happening.Gone n) old new part q q' apart b s still by
+watched_begun conf now (happening.StartResult k started) old new part q q' apart b s still by =
+    watched_stirred conf now (happening.StartResult k started) old new part q q' apart b s still by
+watched_begun conf now (happening.HandlerReadFault k) old new part q q' apart b s still by =
+    watched_stirred conf now (happening.HandlerReadFault k) old new part q q' apart b s still by
+watched_begun conf now (happening.HandlerEnded k how) old new part q q' apart b s still by =
+    watched_stirred conf now (happening.HandlerEnded k how) old new part q q' apart b s still by
+watched_begun conf now (happening.WaitFault k) old new part q q' apart b s still by =
+    watched_stirred conf now (happening.WaitFault k) old new part q q' apart b s still by
 
 -- ---- who is stirred
 
 -- one is put among those who may move, if memory is there
-pub back_pushed : {X E : Type 0} (r : Result X E) (w : World) (who : SessionId) (q q' : Queue) → OnOk r (IsMover q' who) → OnOk r (KeepsMovers q q')
-    → q'.waiting ≡ q.waiting → OnOk r (PutsBack w who q q')
-back_pushed (Ok x) w who q q' itself movers same = record { itself = inl itself; movers = movers; waiters = same_waiters q q' same }
-back_pushed (Err e) w who q q' itself movers same = tt
+pub back_pushed : {X E : Type 0} (r : Result X E) (left : Left) (who : SessionId) (q q' : Queue) → OnOk r (IsMover q' who) → OnOk r (KeepsMovers q q')
+    → q'.waiting ≡ q.waiting → OnOk r (PutsBack left who q q')
+back_pushed (Ok x) left who q q' itself movers same = record { itself = inl itself; movers = movers; waiters = same_waiters q q' same }
+back_pushed (Err e) left who q q' itself movers same = tt
 
 -- or among those who wait
-pub back_parked : {X E : Type 0} (r : Result X E) (w : World) (who : SessionId) (k : ℕ) (q q' : Queue) → awaited w who ≡ Some k → is_ready w who ≡ false
-    → OnOk r (IsWaiter q' k who) → q'.movers ≡ q.movers → OnOk r (KeepsWaiters q q') → OnOk r (PutsBack w who q q')
-back_parked (Ok x) w who k q q' awaits idle known same waiters = record {
-  itself = inr (record { key = k; awaits = awaits; not_ready = idle; known = known });
+pub back_parked : {X E : Type 0} (r : Result X E) (left : Left) (who : SessionId) (k : ℕ) (q q' : Queue) → awaited left.world who ≡ Some k
+    → is_ready left.world who ≡ false → OnOk r (IsWaiter q' k who) → q'.movers ≡ q.movers → OnOk r (KeepsWaiters q q') → OnOk r (PutsBack left who q q')
+back_parked (Ok x) left who k q q' awaits idle known same waiters = record {
+  itself = inr (inl (record { key = k; awaits = awaits; not_ready = idle; known = known }));
   movers = λ s h. subst (λ (xs : List (Reverse SessionId)). Contains xs (reversed s)) (sym (ap heap_items same)) h;
   waiters = waiters;
 }
-back_parked (Err e) w who k q q' awaits idle known same waiters = tt
+back_parked (Err e) left who k q q' awaits idle known same waiters = tt
+
+-- or nowhere
+pub back_done : (left : Left) (who : SessionId) (q : Queue) → awaited left.world who ≡ None → RestsBy who left → PutsBack left who q q
+back_done left who q none rests = record { itself = inr (inr (record { no_wait = none; rests = rests })); movers = λ s h. h; waiters = λ k s h. h }
 
 -- those who wait for its own key or for the key on which it waits are stirred, and it is put back
-pub stirred : (w : World) (who : SessionId) (q0 q1 q2 q3 : Queue) → Wakes w (own_key who) q0 q1 → Wakes w (awaited w who) q1 q2 → PutsBack w who q2 q3
-    → Stirs w who q0 q3
-stirred w who q0 q1 q2 q3 own other back = record {
+pub stirred : (left : Left) (who : SessionId) (q0 q1 q2 q3 : Queue) → Wakes left.world (own_key who) q0 q1 → Wakes left.world (awaited left.world who) q1 q2
+    → PutsBack left who q2 q3 → Stirs left who q0 q3
+stirred left who q0 q1 q2 q3 own other back = record {
   itself = back.itself;
   movers = λ s h. after_own s (own.movers s h);
   known = λ k s h. elim (own.known k s h) [

@@ -51,7 +51,7 @@ pub use Rattle.rk_machine.specs.declared.event.Answer.TheVariants.{Start, Refuse
 pub use Rattle.rk_machine.specs.declared.event.EventOf.TheVariants.{Launched, Gone, Opened, Ended, Collect, Asked}
 pub use Rattle.rk_machine.specs.declared.event.How.{How}
 pub use Rattle.rk_machine.specs.declared.event.How.TheVariants.{Fault}
-pub use Rattle.rk_served.specs.Calls.{left_of, MovesOne, StartsNow, MovesNext, MovesSome, RestsBy, AnswersOne, RestsAt, is_refused, MakesOwnStep, IsStartAt}
+pub use Rattle.rk_served.specs.Calls.{left_of, MovesOne, StartsNow, MovesNext, MovesSome, AnswersOne, RestsAt, is_refused, MakesOwnStep, IsStartAt}
 pub use Rattle.rk_served.specs.Calls.{HasEnded, EndsOne, MovesBy, TriesAt}
 pub use Rattle.rk_served.specs.Channels.{is_stream, is_open, IsNextAt, HasFaultAt, shut_channel, callout_of}
 pub use Rattle.rk_served.specs.Commands.{IsCommand, looked_up}
@@ -62,7 +62,7 @@ pub use Rattle.rk_served.specs.Moves.{CannotMove, is_start, is_start as is_start
 pub use Rattle.rk_served.specs.Order.{ServesInOrder, MovesFirst, MovesInOrder, ServesTurnInOrder}
 pub use Rattle.rk_served.specs.OwnStep.{Adds, EndsBy, is_last, is_followed, is_not_followed, OwnStep, has_client, is_misplaced, negated, StepsBy, Lengthens}
 pub use Rattle.rk_served.specs.OwnStep.{Runs, Follows, channel_with, is_running, callout_to, payload_in, whose}
-pub use Rattle.rk_served.specs.Queued.{IsWatched, waiters_at, Stirs, StirsBy, PutsBack, Expects, Parks, IsMover, IsWaiter, Watches, IsWatchedBut, IsStill, IsKeyOf, own_key, Wakes}
+pub use Rattle.rk_served.specs.Queued.{RestsBy, IsWatched, waiters_at, Stirs, StirsBy, PutsBack, Expects, Parks, IsMover, IsWaiter, Watches, IsWatchedBut, IsStill, IsKeyOf, own_key, Wakes}
 pub use Rattle.rk_served.specs.Queued.{KeepsMovers, size}
 pub use Rattle.rk_served.specs.Served.{Acts, Turn, outputs_of, ServesBy, Serves, ServedBy, steps_of, ServesNext, ServedIsRun}
 pub use Rattle.rk_served.specs.Standing.{comes_before, are_in_order}

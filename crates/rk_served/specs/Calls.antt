@@ -1,5 +1,5 @@
 -- What the calls of a server do.
-use Rattle.std.specs.Prelude.{◌≡◌, ◌⊎◌, ℕ, Bool, true, false, List, [], ◌∷◌, ◌++◌, Option, Some, is_some, IfSome, MatchOption, slice_get}
+use Rattle.std.specs.Prelude.{◌≡◌, ◌⊎◌, ℕ, Bool, true, false, List, [], ◌∷◌, ◌++◌, Option, Some, is_some, IfSome, slice_get}
 use Rattle.std.specs.Bool.{MatchBool}
 use Rattle.rk_names.specs.declared.numbers.SessionId.{SessionId}
 use Rattle.rk_names.specs.declared.numbers.SessionId.TheVariants.{Handler}
@@ -28,7 +28,6 @@ use Rattle.rk_served.specs.OwnStep.{is_running, Adds, EndsBy, OwnStep}
 use Rattle.rk_served.specs.Served.{outputs_of}
 use Rattle.rk_served.specs.Order.{MovesFirst, MovesInOrder}
 use Rattle.rk_served.specs.Channels.{is_open}
-use Rattle.rk_served.specs.WhoIsThere.{peer_of}
 
 -- a server, seen as what is left: the world of its machine, and its peers
 abbrev pub left_of : Server → Left
@@ -96,10 +95,6 @@ pub record MovesBy (conf : List Line) (now : ℕ) (who : SessionId) (old : Left)
   pub at : slice_get old.peers index ≡ Some mover
   pub who_is : mover.who ≡ who
   pub one : MovesOne conf now index old put new put'
-
--- the session of this one can't move, if it is there
-abbrev pub RestsBy : SessionId → Left → Type 0
-RestsBy who left = MatchOption (peer_of left.peers who) (Unit {0}) (λ x. CannotMove left.world x.who x.channel)
 
 -- one move was made; or none was, and nothing changed
 abbrev pub TriesAt : List Line → ℕ → ℕ → Bool → Left → List Output → Left → List Output → Type 0

@@ -9,7 +9,7 @@ use Rattle.rk_served.specs.declared.stream.Message.{Message}
 use Rattle.rk_served.specs.declared.stream.Message.TheVariants.{More}
 use Rattle.rk_served.specs.Unused.{Unused}
 use Rattle.rk_served.specs.declared.output.Output.{Output}
-use Rattle.rk_frame.specs.Streams.{HasFault}
+use Rattle.rk_frame.specs.Streams.{HasFault, IsPartial}
 use Rattle.rk_served.specs.Streams.{closed}
 use Rattle.rk_served.specs.OwnStep.{callout_to}
 use Rattle.rk_served.specs.Message.{IsNext}
@@ -25,6 +25,12 @@ abbrev pub is_stream : Channel → Bool
 is_stream (Talks stream) = true
 is_stream (Starts piped) = false
 is_stream (Pipes bytes) = false
+
+-- a stream that has no message and no fault
+abbrev pub IsUsedUp : Channel → Type 0
+IsUsedUp (Talks stream) = IsPartial stream.bytes
+IsUsedUp (Starts piped) = Unit {0}
+IsUsedUp (Pipes bytes) = Unit {0}
 
 -- the next message of a stream, made by this session; there is none elsewhere
 abbrev pub IsNextAt : Message → SessionId → ℕ → World → Channel → World → Channel → Type 0

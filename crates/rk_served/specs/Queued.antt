@@ -1,5 +1,5 @@
 -- Who stands in a queue, and when nobody else may move.
-use Rattle.std.specs.Prelude.{◌≡◌, ◌⊎◌, ℕ, false, List, [], Option, Some, None}
+use Rattle.std.specs.Prelude.{◌≡◌, ◌⊎◌, ℕ, false, List, [], Option, Some, None, MatchOption}
 use Rattle.std.specs.List.{All, Contains}
 use Rattle.std.specs.Global.{Vec}
 use Rattle.std.specs.BinaryHeap.{heap_items, heap_len}
@@ -18,6 +18,7 @@ use Rattle.rk_served.specs.declared.happening.Happening.TheVariants as happening
 use Rattle.rk_served.specs.declared.queue.Queue.{Queue}
 use Rattle.rk_served.specs.Left.{Left}
 use Rattle.rk_served.specs.Moves.{CannotMove}
+use Rattle.rk_served.specs.WhoIsThere.{peer_of}
 use Rattle.rk_served.specs.Movers.{reversed}
 
 -- how many entries the heap of those that may move has; one session may have more than one
@@ -83,29 +84,42 @@ pub record Expects (w : World) (who : SessionId) (q : Queue) : Type 0 where
   pub not_ready : is_ready w who ≡ false
   pub known : IsWaiter q key who
 
--- this one may move again, or waits for what is not there yet; the others are as they were
-pub record PutsBack (w : World) (who : SessionId) (old new : Queue) : Type 0 where
-  pub itself : IsMover new who ⊎ Expects w who new
+-- the session of this one can't move, if it is there
+abbrev pub RestsBy : SessionId → Left → Type 0
+RestsBy who left = MatchOption (peer_of left.peers who) (Unit {0}) (λ x. CannotMove left.world x.who x.channel)
+
+-- he does not wait, and nothing can come of his stream before more bytes do
+pub record HasDone (left : Left) (who : SessionId) : Type 0 where
+  pub no_wait : awaited left.world who ≡ None
+  pub rests : RestsBy who left
+
+-- the queue knows of this one as much as is to be known: he may move, or he can't and is known where he waits
+abbrev pub Knows : Left → SessionId → Queue → Type 0
+Knows left who q = IsMover q who ⊎ (Expects left.world who q ⊎ HasDone left who)
+
+-- the queue knows this one again; the others are as they were
+pub record PutsBack (left : Left) (who : SessionId) (old new : Queue) : Type 0 where
+  pub itself : Knows left who new
   pub movers : KeepsMovers old new
   pub waiters : KeepsWaiters old new
 
--- all who wait for a key of this one whose authority is spent may move, and this one itself, unless it waits for what is not there yet
-pub record Stirs (w : World) (who : SessionId) (old new : Queue) : Type 0 where
-  pub itself : IsMover new who ⊎ Expects w who new
+-- all who wait for a key of this one whose authority is spent may move, and the queue knows this one again
+pub record Stirs (left : Left) (who : SessionId) (old new : Queue) : Type 0 where
+  pub itself : Knows left who new
   pub movers : KeepsMovers old new
   pub known : KeepsKnown old new
-  pub woken : (k : ℕ) → IsKeyOf w who k → unspent w.sessions k ≡ None → (s : SessionId) → IsWaiter old k s → IsMover new s
+  pub woken : (k : ℕ) → IsKeyOf left.world who k → unspent left.world.sessions k ≡ None → (s : SessionId) → IsWaiter old k s → IsMover new s
 
 -- what a happening stirs: bytes nobody but him to whom they came
-abbrev pub StirsBy : World → Happening → Queue → Queue → Type 0
-StirsBy w (happening.Bytes n bytes) old new = PutsBack w (Client n) old new
-StirsBy w (happening.HandlerBytes k bytes) old new = PutsBack w (Handler k) old new
-StirsBy w (happening.Accept n) old new = Stirs w (Client n) old new
-StirsBy w (happening.Gone n) old new = Stirs w (Client n) old new
-StirsBy w (happening.StartResult k r) old new = Stirs w (Handler k) old new
-StirsBy w (happening.HandlerReadFault k) old new = Stirs w (Handler k) old new
-StirsBy w (happening.HandlerEnded k how) old new = Stirs w (Handler k) old new
-StirsBy w (happening.WaitFault k) old new = Stirs w (Handler k) old new
+abbrev pub StirsBy : Left → Happening → Queue → Queue → Type 0
+StirsBy left (happening.Bytes n bytes) old new = PutsBack left (Client n) old new
+StirsBy left (happening.HandlerBytes k bytes) old new = PutsBack left (Handler k) old new
+StirsBy left (happening.Accept n) old new = Stirs left (Client n) old new
+StirsBy left (happening.Gone n) old new = Stirs left (Client n) old new
+StirsBy left (happening.StartResult k r) old new = Stirs left (Handler k) old new
+StirsBy left (happening.HandlerReadFault k) old new = Stirs left (Handler k) old new
+StirsBy left (happening.HandlerEnded k how) old new = Stirs left (Handler k) old new
+StirsBy left (happening.WaitFault k) old new = Stirs left (Handler k) old new
 
 -- the key of a handler; a client has none
 abbrev pub own_key : SessionId → Option ℕ

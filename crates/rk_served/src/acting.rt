@@ -316,7 +316,7 @@ impl Server {
         happening: &Happening,
         queue: &mut Queue,
     ) -> Result<(), AllocError>
-        ensures { OnOk result (StirsBy self.now.book happening.now queue.old queue.new) }
+        ensures { OnOk result (StirsBy (left_of self.now) happening.now queue.old queue.new) }
     {
         let who = happening.whose();
         match happening {

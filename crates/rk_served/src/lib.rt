@@ -20,10 +20,11 @@
 //!
 //! `happening` has what happens to a replay, `output` what it outputs, over `bytes` that a contract sees, and `fault` what is refused.
 //!
-//! `stream` cuts frames and reads asks. A peer is a client, or a construction with its handler; `peer` and `peers` say who is there.
+//! `stream` cuts frames and makes their asks, each where it lies, so that none is copied. A peer is a client, or a construction with its handler; `peer` and `peers` say who is there.
 //! `command` makes the words of a command, `replies` makes frames of answers. `occasion` has what all steps of a turn are made with.
 //! `server` is the machine with the peers, and moves sessions; `acting` takes the own step of a happening, and `replay` is what the crates above see.
-//! `queue` knows who may move, and who waits for which key: only those that a step can have freed are asked again, and not all who are there. Each
+//! `queue` knows who may move, and who waits for which key: only those that a step can have freed are asked again, and not all who are there. One
+//! that has moved is not asked either where it waits or its stream is used up, and bytes free nobody but the session to which they come. Each
 //! move makes the rest lighter: fewer unused bytes, a stream that is shut, or a wait that has ended; so the moves come to an end
 //! (`proofs/Weight.antt`).
 #![tactic(auto)]

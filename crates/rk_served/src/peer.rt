@@ -1,5 +1,5 @@
 //! A peer: a client, or a construction with its handler.
-ghost use Rattle.std.specs.Prelude.{◌≡◌, ◌++◌, IfOk, OnOk};
+ghost use Rattle.std.specs.Prelude.{◌≡◌, ◌++◌, true, IfOk, OnOk};
 ghost use Rattle.rk_served.specs.OwnStep.{callout_to};
 
 use crate::bytes::Bytes;
@@ -24,7 +24,7 @@ pub enum Channel {
 
 impl Channel {
     ghost use Rattle.rk_served.specs.OwnStep.{channel_with, payload_in};
-    ghost use Rattle.rk_served.specs.Channels.{is_stream, is_open, is_piped, shut_channel, IsNextAt};
+    ghost use Rattle.rk_served.specs.Channels.{is_stream, is_open, is_piped, shut_channel, IsNextAt, IsUsedUp};
 
     /// Whether it is a stream.
     pub fn is_stream(&self) -> bool
@@ -40,6 +40,16 @@ impl Channel {
         match self {
             Channel::Talks(stream) => !stream.is_shut(),
             Channel::Starts(_) | Channel::Pipes(_) => false,
+        }
+    }
+
+    /// Whether no message can come of it before more bytes do.
+    pub fn is_used_up(&self) -> bool
+        ensures { result ≡ true → IsUsedUp self.now }
+    {
+        match self {
+            Channel::Talks(stream) => stream.is_used_up(),
+            Channel::Starts(_) | Channel::Pipes(_) => true,
         }
     }
 

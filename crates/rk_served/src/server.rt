@@ -1,5 +1,5 @@
 //! The machine and the peers that are there: the moves of sessions.
-ghost use Rattle.std.specs.Prelude.{◌≡◌, Some, true, false, ◌<◌, List, IfOk, OnOk, IfSome, MatchBool, vec_len, slice_get};
+ghost use Rattle.std.specs.Prelude.{◌≡◌, Some, None, true, false, ◌<◌, List, IfOk, OnOk, IfSome, MatchBool, vec_len, slice_get};
 ghost use Rattle.rk_conf.specs.declared.line.Line.{Line};
 ghost use Rattle.rk_message.specs.Ask.{Ask};
 ghost use Rattle.rk_machine.specs.Views.{is_ready, awaited};
@@ -39,8 +39,8 @@ pub struct Server {
 
 impl Server {
     ghost use Rattle.rk_served.specs.Calls.{left_of, MovesOne, MovesNext, MovesSome, AnswersOne, StartsNow, TriesAt, IsFreeAt};
-    ghost use Rattle.rk_served.specs.Calls.{MovesBy, RestsBy};
-    ghost use Rattle.rk_served.specs.Queued.{IsWatched, IsStill, Stirs, PutsBack, Wakes, Parks};
+    ghost use Rattle.rk_served.specs.Calls.{MovesBy};
+    ghost use Rattle.rk_served.specs.Queued.{IsWatched, IsStill, RestsBy, Stirs, PutsBack, Wakes, Parks};
 
     /// Puts out the command of a construction that has begun, or goes on, or has its start fail.
     pub fn start(
@@ -213,10 +213,10 @@ impl Server {
         }
     }
 
-    /// A session has moved: it may move again, unless it waits, and so may all who wait for a key whose construction it has completed or ended. Its
+    /// A session has moved: it may move again, unless it waits or its stream is used up, and so may all who wait for a key whose construction it has completed or ended. Its
     /// own key may be that, and one that it has just begun, where the start failed at once.
     pub fn stir(&self, alloc: Global, who: &SessionId, queue: &mut Queue) -> Result<(), AllocError>
-        ensures { OnOk result (Stirs self.now.book who.now queue.old queue.new) }
+        ensures { OnOk result (Stirs (left_of self.now) who.now queue.old queue.new) }
     {
         self.wake(alloc, own_key(who), queue)?;
         match self.book.awaited(who) {
@@ -224,7 +224,7 @@ impl Server {
                 self.wake(alloc, Some(key), queue)?;
                 self.put_back(alloc, who, key, queue)
             }
-            None => queue.push(*who),
+            None => self.go_on(who, queue),
         }
     }
 
@@ -237,12 +237,33 @@ impl Server {
         queue: &mut Queue,
     ) -> Result<(), AllocError>
         requires { awaited self.now.book who.now ≡ Some key }
-        ensures { OnOk result (PutsBack self.now.book who.now queue.old queue.new) }
+        ensures { OnOk result (PutsBack (left_of self.now) who.now queue.old queue.new) }
     {
         if self.book.ready(who) {
             queue.push(*who)
         } else {
             queue.park(alloc, key, *who)
+        }
+    }
+
+    /// A session that does not wait may move again, unless its stream is used up.
+    fn go_on(&self, who: &SessionId, queue: &mut Queue) -> Result<(), AllocError>
+        requires { awaited self.now.book who.now ≡ None }
+        ensures { OnOk result (PutsBack (left_of self.now) who.now queue.old queue.new) }
+    {
+        if self.is_used_up(who) {
+            return Ok(());
+        }
+        queue.push(*who)
+    }
+
+    /// Whether no message can come of the stream of a session before more bytes do. One that is not there has none.
+    fn is_used_up(&self, who: &SessionId) -> bool
+        ensures { result ≡ true → awaited self.now.book who.now ≡ None → RestsBy who.now (left_of self.now) }
+    {
+        match peers::index_of(&self.peers, who) {
+            Some(index) => self.peers[index].channel.is_used_up(),
+            None => true,
         }
     }
 

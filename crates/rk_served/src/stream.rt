@@ -1,5 +1,5 @@
 //! The stream of a session.
-ghost use Rattle.std.specs.Prelude.{◌≡◌, Bool, IfOk, OnOk};
+ghost use Rattle.std.specs.Prelude.{◌≡◌, ◌==◌, Bool, length, IfOk, OnOk};
 ghost use Rattle.rk_served.specs.Message.{IsNext};
 
 use crate::occasion::Occasion;
@@ -85,6 +85,16 @@ impl Stream {
         match &mut self.frames {
             Some(frames) => next_in(frames, book, occasion, who),
             None => Ok(Message::More),
+        }
+    }
+
+    /// Whether all bytes were used. Then nothing comes of it before more bytes do.
+    pub fn is_used_up(&self) -> bool
+        ensures { result ≡ (length self.now.bytes == 0) }
+    {
+        match &self.frames {
+            Some(frames) => frames.held() == 0,
+            None => true,
         }
     }
 

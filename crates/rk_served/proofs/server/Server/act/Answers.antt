@@ -13,7 +13,8 @@ pub move_all-requires-clause-watched : goal.move_all-requires-clause-watched
 move_all-requires-clause-watched c =
     let own = c.in_ok-own_step.ensures in
     watched_begun c.args.occasion.now.conf.now c.args.occasion.now.moment c.args.happening.now (left_of c.args.self.now) (left_of c.own_step.new.self) own.part c.args.queue.now
-    c.stir_by.new.queue own.own_step c.requires.has_peers c.requires.still c.in_ok-stir_by.ensures
+    c.stir_by.new.queue (begins_keeps_peers c.args.occasion.now.conf.now c.args.occasion.now.moment c.args.happening.now (left_of c.args.self.now) own.part _
+    c.requires.placed own.own_step c.requires.has_peers).apart own.own_step c.requires.has_peers c.requires.still c.in_ok-stir_by.ensures
 
 pub returns-clause-acts : goal.returns-clause-acts
 returns-clause-acts c =
