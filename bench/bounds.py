@@ -5,7 +5,7 @@ says why, where it raises the bound.
 """
 
 MOST = {
-    "found REQUEST": 3_510,
-    "READ of one byte": 3_340,
-    "ADD displacing": 6_970,
+    "found REQUEST": 3_270,
+    "READ of one byte": 3_240,
+    "ADD displacing": 5_810,
 }
