@@ -1,7 +1,7 @@
 -- The talk of a plain handler, message by message.
 use Rattle.std.proofs.Common.{◌≡◌, ◌≢◌, ◌≤◌, ℕ, true, false, inl, inr, List, [], ◌∷◌, ◌++◌, length, map, refl, sym, ap, subst, ◌∙◌, append_assoc, append-nil}
 use Rattle.std.specs.Prelude.{Result, Ok, Err, take}
-use Rattle.rk_frame.specs.Streams.{HasFault, IsPartial}
+use Rattle.rk_frame.specs.Streams.{HasFault, IsPartial, TakesBody}
 use Rattle.rk_frame.specs.Unread.{Unread}
 use Rattle.rk_devices.specs.declared.device.DeviceFault.{DeviceFault}
 use Rattle.rk_devices.specs.declared.reading.ReadFault.{ReadFault}
@@ -12,9 +12,11 @@ use Rattle.rk_devices.proofs.Hearing.{some_heard}
 use Rattle.rk_devices.proofs.Rising.{and_more, and_none}
 use Rattle.rk_hall.specs.Seats.{SeatShown}
 use Rattle.rk_talk.specs.Replies.{reply_bytes}
-use Rattle.rk_child.specs.declared.asks.Turned.TheVariants.{NoneYet, AtEnd}
+use Rattle.rk_talk.specs.declared.saying.Saying.{Saying}
+use Rattle.rk_child.specs.declared.asks.Turned.{Turned}
+use Rattle.rk_child.specs.declared.asks.Turned.TheVariants.{Replied, NoneYet, AtEnd}
 use Rattle.rk_child.specs.Talk.{AreEnded, HasNoReply, IsAsked, IsCutShort, IsMalformed, Standing, Talked, Talking, Turn, at_first, begins, hears, malformed_then, standing_of, turns}
-use Rattle.rk_child.specs.Turned.{EndsTalk, TakesAll, TakesOne, TalksOn, Turns}
+use Rattle.rk_child.specs.Turned.{EndsTalk, IsReplied, TakesAll, TakesOne, TalksOn, Turns}
 
 -- ---- one message
 
@@ -37,6 +39,13 @@ talks_then key a b c x y z p q r (one, told, f) (two, more, g) = (
   more ∙ ap (λ t. and_then t two) told ∙ and_more a.story one two,
   λ begun story t. subst (λ s. Talking key begun s z r) (append_assoc story one two) (g begun (story ++ one) (f begun story t)),
 )
+
+-- a message that was taken, however its reply came out
+pub replied_turns : (key : ℕ) (turned : Turned) (old new : ChildShown) (f f' : Unread) (from to : Standing) (body : List ℕ) (s : Saying)
+    → TakesBody body f.bytes f'.bytes → IsAsked key from body s to → IsReplied turned s old new → Turns key turned old f from new f' to
+replied_turns key Replied old new f f' from to body s takes asked replies = (body, takes, s, asked, replies)
+replied_turns key NoneYet old new f f' from to body s takes asked replies = absurd replies
+replied_turns key AtEnd old new f f' from to body s takes asked replies = inr (body, takes, s, asked, replies)
 
 -- and then the end of the asks
 pub ends_then : (key : ℕ) (a b c : ChildShown) (x y : List ℕ) (p q last : Standing) → TalksOn key a x p b y q → EndsTalk key b y q c last

@@ -4,8 +4,8 @@ use Rattle.rk_machine.specs.Laws.{completes, is_done}
 use Rattle.rk_machine.specs.declared.event.How.TheVariants.{Exit}
 use Rattle.rk_devices.specs.declared.driven.Driven.{Driven}
 use Rattle.rk_devices.specs.declared.driven.Driven.TheVariants.{Ended}
-use Rattle.rk_record.specs.declared.told.Told.{Told}
-use Rattle.rk_record.specs.declared.told.Told.TheVariants as told
+use Rattle.rk_record.specs.Copies.{Told}
+use Rattle.rk_record.specs.declared.told.ToldOf.TheVariants as told
 use Rattle.rk_talk.specs.declared.saying.Saying.{Saying}
 use Rattle.rk_talk.specs.declared.saying.Saying.TheVariants.{Noted, Short, Behind}
 

@@ -15,6 +15,12 @@ abbrev pub TakesOne : ℕ → Bool → ChildShown → Unread → Standing → Ch
 TakesOne key replied old frames from new frames' to = (body : List ℕ) × TakesBody body frames.bytes frames'.bytes
     × (s : Saying) × IsAsked key from body s to × EndsAsks replied s old new
 
+-- this is what became of a message of which that is to be said: its reply was written; or it was tried, or there is none
+abbrev pub IsReplied : Turned → Saying → ChildShown → ChildShown → Type 0
+IsReplied Replied s old new = EndsAsks true s old new
+IsReplied NoneYet s old new = ⊥
+IsReplied AtEnd s old new = EndsAsks false s old new
+
 -- a message that got its reply was taken; there is none yet where no frame is whole, and the next piece finds its room; the asks are at their end where a
 -- length stands that no frame has, or after a message
 abbrev pub Turns : ℕ → Turned → ChildShown → Unread → Standing → ChildShown → Unread → Standing → Type 0

@@ -1,13 +1,15 @@
 //! The asks of a plain handler.
 ghost use Rattle.std.specs.Prelude.{◌≡◌, ◌≤◌, ◌<◌, ◌+◌, ◌||◌, length, OnOk, IfErr, None, true};
 ghost use Rattle.rk_devices.specs.Counts.{most};
+ghost use Rattle.rk_names.specs.declared.numbers.SessionId.TheVariants.{Handler};
+ghost use Rattle.rk_talk.specs.Said.{IsAnswered};
 ghost use Rattle.rk_talk.specs.Stays.{Stays};
 ghost use Rattle.rk_devices.specs.Shown.{FailsReading, GoesOn, ReadsUpTo};
 ghost use Rattle.rk_child.specs.Driving.{Runs};
-ghost use Rattle.rk_child.specs.Replying.{SaysOf};
+ghost use Rattle.rk_child.specs.Making.{says_made};
 ghost use Rattle.rk_child.specs.Rooms.{IsEmpty};
 ghost use Rattle.rk_child.specs.Talk.{IsAsked, Talked, standing_of};
-ghost use Rattle.rk_child.specs.Turned.{TakesAll, Turns};
+ghost use Rattle.rk_child.specs.Turned.{IsReplied, TakesAll, Turns};
 
 use crate::driving::drive;
 use crate::making::says_made;
@@ -16,9 +18,9 @@ use crate::spent::fail;
 use rk_devices::{Child, Clock, Course, Launcher, ReadFault, read_out};
 use rk_frame::{Frames, MAX_READS, Next};
 use rk_hall::{Called, HallNo, Launch};
-use rk_message::AskStep;
+use rk_message::AskView;
 use rk_names::{Serial, SessionId};
-use rk_talk::{Crew, Message, Platform, Saying, Stage, ask_in, refused, settled};
+use rk_talk::{Crew, Platform, Saying, Stage, ask_in, refused, settled};
 
 /// What became of the next message of a handler.
 #[derive(Clone, Copy, Debug, PartialEq, Eq)]
@@ -133,19 +135,18 @@ fn answer_next<P: Platform>(
 {
     match asks.frames.next() {
         Next::Whole(body) => {
-            let saying = answered(stage, crew, key, depth, body);
-            let completed = says_made(&saying, key);
-            asks.course.made = asks.course.made || completed;
-            if reply(
-                stage,
-                &mut crew.reply,
-                child,
-                SessionId::Handler(key),
-                saying,
-            ) {
-                Turned::Replied
-            } else {
-                Turned::AtEnd
+            let hall = HallNo::of_serial(key);
+            match AskView::read(body) {
+                Ok(ask) => {
+                    let saying = answered(stage, crew, key, depth, hall, &ask);
+                    let course = &mut asks.course;
+                    replied(stage, &mut crew.reply, child, course, key, saying)
+                }
+                Err(fault) => {
+                    let saying = Saying::Short(fault.errno());
+                    let course = &mut asks.course;
+                    replied(stage, &mut crew.reply, child, course, key, saying)
+                }
             }
         }
         Next::More => Turned::NoneYet,
@@ -153,6 +154,29 @@ fn answer_next<P: Platform>(
             asks.course.malformed = true;
             Turned::AtEnd
         }
+    }
+}
+
+// Replies to the handler of this key, and notes whether what is said has completed the key.
+fn replied<P: Platform, C: Child>(
+    stage: &Stage<'_, P>,
+    buffer: &mut Vec<u8>,
+    child: &mut C,
+    course: &mut Course,
+    key: Serial,
+    saying: Saying<'_>,
+) -> Turned
+    ensures course { course.new ≡ record course.old { made = course.old.made || says_made key saying.entry } }
+    ensures replies { IsReplied result saying.entry (C.shown child.old) (C.shown child.new) }
+    ensures goes_on { GoesOn (C.shown child.old) (C.shown child.new) }
+{
+    let completed = says_made(&saying, key);
+    course.made = course.made || completed;
+    let session = SessionId::Handler(key);
+    if reply(stage, buffer, child, session, saying) {
+        Turned::Replied
+    } else {
+        Turned::AtEnd
     }
 }
 
@@ -178,29 +202,24 @@ fn brought_to_end<P: Platform>(
     }
 }
 
-// What is to be said of the message with this body: it is asked in the hall of the handler's key, and what it starts is brought to its end.
+// What is to be said of an ask of the handler: it is asked in the hall of its key, and what it starts is brought to its end.
 #[cycle(driving)]
-fn answered<P: Platform>(
+fn answered<'a, P: Platform>(
     stage: &Stage<'_, P>,
     crew: &mut Crew<P>,
     key: Serial,
     depth: u8,
-    body: &[u8],
-) -> Saying
+    hall: HallNo,
+    ask: &'a AskView<'a>,
+) -> Saying<'a>
     requires bound { (P.Launcher.shown crew.old.launcher).count ≤ most }
-    ensures says { SaysOf key body.now crew.old.caller.seat crew.new.caller.seat result }
+    ensures says { IsAnswered (Handler key) hall ask.now crew.old.caller.seat crew.new.caller.seat result }
     ensures runs { Runs stage.now.conf.now (depth + 1) (P.Launcher.shown crew.old.launcher) (P.Launcher.shown crew.new.launcher) }
     ensures stays { Stays crew.old.caller.seat crew.new.caller.seat }
 {
-    let hall = HallNo::of_serial(key);
-    let ask = match AskStep::read(stage.alloc, body) {
-        Ok(ask) => ask,
-        Err(error) => return Saying::Short(error.errno()),
-    };
     let now = crew.caller.clock.now();
     let session = SessionId::Handler(key);
-    let message = Message { ask, body };
-    match ask_in(stage, &mut crew.caller.seat, hall, now, session, message) {
+    match ask_in(stage, &mut crew.caller.seat, hall, now, session, ask) {
         Ok(Called { receipt, launch }) => {
             brought_to_end(stage, crew, launch, depth);
             let session = SessionId::Handler(key);

@@ -4,9 +4,9 @@ ghost use Rattle.rk_machine.specs.Laws.{completes, is_done, names};
 ghost use Rattle.rk_child.specs.Making.{completes_in, gives_payload, says_made};
 
 use rk_devices::Driven;
-use rk_hall::Told;
+use rk_hall::ToldView;
 use rk_machine::{Answer, How};
-use rk_message::{Ask, Reply};
+use rk_message::{AskView, Reply};
 use rk_names::{Payload, Serial};
 use rk_talk::Saying;
 
@@ -21,23 +21,23 @@ fn names(number: i32, key: Serial) -> bool
 }
 
 /// Whether it is an ask that completes the key: an INSTANTIATE, a NEGATE or a REJECT of it.
-fn completes(ask: &Ask, key: Serial) -> bool
+fn completes(ask: &AskView<'_>, key: Serial) -> bool
     ensures { result ≡ completes ask.now key }
 {
     match ask {
-        Ask::Instantiate { key: number, .. } => names(*number, key),
-        Ask::Negate { key: number, .. } => names(*number, key),
-        Ask::Reject { key: number, .. } => names(*number, key),
+        AskView::Instantiate { key: number, .. } => names(*number, key),
+        AskView::Negate { key: number, .. } => names(*number, key),
+        AskView::Reject { key: number, .. } => names(*number, key),
         _ => false,
     }
 }
 
 /// Whether the event is such an ask.
-fn completes_in(told: &Told, key: Serial) -> bool
+fn completes_in(told: &ToldView<'_>, key: Serial) -> bool
     ensures { result ≡ completes_in key told.now }
 {
     match told {
-        Told::Asked(_, ask) => completes(ask.ask(), key),
+        ToldView::Asked(_, ask) => completes(ask.ask(), key),
         _ => false,
     }
 }
@@ -53,7 +53,7 @@ fn is_done(answer: &Answer) -> bool
 }
 
 /// Whether what is said is that an ask has completed the key.
-pub fn says_made(saying: &Saying, key: Serial) -> bool
+pub fn says_made(saying: &Saying<'_>, key: Serial) -> bool
     ensures { result ≡ says_made key saying.now }
 {
     match saying {

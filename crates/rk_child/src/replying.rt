@@ -8,9 +8,9 @@ use rk_talk::{Platform, Saying, Stage, answer_frame, refusal_frame};
 
 // Writes what is to be said, in one write, from this buffer where it takes memory; if there is no memory for the reply, it is out of memory. False if it
 // can't be written, or nothing is to be said.
-fn is_said<C: Child>(buffer: &mut Vec<u8>, child: &mut C, saying: Saying) -> bool
+fn is_said<C: Child>(buffer: &mut Vec<u8>, child: &mut C, saying: Saying<'_>) -> bool
     ensures goes_on { GoesOn (C.shown child.old) (C.shown child.new) }
-    ensures ends { EndsAsks result saying (C.shown child.old) (C.shown child.new) }
+    ensures ends { EndsAsks result saying.entry (C.shown child.old) (C.shown child.new) }
 {
     match saying {
         Saying::Noted(receipt) => match answer_frame(buffer, receipt.answer()) {
@@ -29,10 +29,10 @@ pub fn reply<P: Platform, C: Child>(
     buffer: &mut Vec<u8>,
     child: &mut C,
     session: SessionId,
-    saying: Saying,
+    saying: Saying<'_>,
 ) -> bool
     ensures goes_on { GoesOn (C.shown child.old) (C.shown child.new) }
-    ensures ends { EndsAsks result saying (C.shown child.old) (C.shown child.new) }
+    ensures ends { EndsAsks result saying.entry (C.shown child.old) (C.shown child.new) }
 {
     if !is_said(buffer, child, saying) {
         return false;

@@ -16,8 +16,8 @@ use crate::subject_copies::SubjectCopies;
 use crate::tables::Tables;
 use crate::wanted::{Requester, Wanted};
 use rk_machine::{Answer, Asker, EventOf};
-use rk_message::AskStep;
-use rk_names::{Errno, KeyError, Moment, SessionId};
+use rk_message::{AskStep, AskView};
+use rk_names::{CalloutView, Errno, KeyError, Moment, SessionId};
 
 impl Tables {
     /// What a session asks is done, refused, waited for or started.
@@ -53,13 +53,13 @@ impl Tables {
     {
         match self.asker(id) {
             Ok(Some(asker)) => self.act(now, id, &asker, ask, copies),
-            Ok(None) => self.first_ask(now, id, &ask),
+            Ok(None) => self.first_ask(now, id, ask.ask()),
             Err(error) => Err(error),
         }
     }
 
     /// An ask of a session for which nobody acts yet: HELLO of a client, ASSUME of a handler. EACCES for any other.
-    fn first_ask(&mut self, now: Moment, id: &SessionId, ask: &AskStep<'_>) -> Result<Answer, Errno>
+    fn first_ask(&mut self, now: Moment, id: &SessionId, ask: &AskView<'_>) -> Result<Answer, Errno>
         requires sound { IsSound self.old }
         ensures step { MatchBool (is_first id.now ask.now) (Asking self.old now id.now ask.now (answer_of result) self.new)
             (Tells (Answer.Refused Errno.Eacces) self.old (answer_of result) self.new) }
@@ -67,8 +67,8 @@ impl Tables {
     {
         let _ = now;
         match (id, ask) {
-            (SessionId::Client(_), AskStep::Hello(greeting)) => self.hello(id, greeting),
-            (SessionId::Handler(_), AskStep::Assume { key }) => self.assume(id, *key),
+            (SessionId::Client(_), AskView::Hello(greeting)) => self.hello(id, greeting),
+            (SessionId::Handler(_), AskView::Assume { key }) => self.assume(id, *key),
             _ => Err(Errno::Eacces),
         }
     }
@@ -90,54 +90,75 @@ impl Tables {
             (Asking self.old now id.now ask.entry (answer_of result) self.new) }
         ensures copies { is_some (asked_in ask.entry) ≡ true → Copied (answer_of result) copies.old copies.new }
     {
-        match ask {
-            AskStep::Hello(_) => Err(Errno::Einval),
-            AskStep::Request {
+        let (ask, payload) = ask.into_parts();
+        match ask.ask() {
+            AskView::Hello(_) => Err(Errno::Einval),
+            AskView::Request {
                 typ,
                 description,
                 callout,
                 destination,
             } => {
-                let name = self.keys.hashed(typ, description);
-                let wanted = Wanted { name, callout };
+                let wanted = Wanted {
+                    name: self.keys.hashed(typ.again(), description.again()),
+                    callout: callout_again(callout),
+                };
                 let by = Requester { id, asker };
-                self.request(now, &by, &wanted, destination, copies)
+                self.request(now, &by, &wanted, *destination, copies)
             }
-            AskStep::Assume { key } => self.assume(id, key),
-            AskStep::Instantiate { key, payload, ring } => {
-                self.complete_key(now, asker, key, ring, Completion::positive(payload))
+            AskView::Assume { key } => self.assume(id, *key),
+            AskView::Instantiate { key, ring, .. } => match payload {
+                Some(payload) => {
+                    let completion = Completion::positive(payload);
+                    self.complete_key(now, asker, *key, *ring, completion)
+                }
+                None => unreachable!(),
+            },
+            AskView::Negate { key, timeout, ring } => {
+                let completion = Completion::negative(KeyError::NoKey, now, *timeout);
+                self.complete_key(now, asker, *key, *ring, completion)
             }
-            AskStep::Negate { key, timeout, ring } => {
-                let completion = Completion::negative(KeyError::NoKey, now, timeout);
-                self.complete_key(now, asker, key, ring, completion)
-            }
-            AskStep::Reject {
+            AskView::Reject {
                 key,
                 timeout,
                 error,
                 ring,
             } => {
-                let completion = Completion::negative(error, now, timeout);
-                self.complete_key(now, asker, key, ring, completion)
+                let completion = Completion::negative(*error, now, *timeout);
+                self.complete_key(now, asker, *key, *ring, completion)
             }
-            AskStep::Read { key } => self.read(now, id, asker, key),
-            AskStep::Describe { key } => self.describe(now, asker, key),
-            AskStep::Revoke { key } => self.revoke(asker, key),
-            AskStep::Timeout { key, seconds } => self.set_timeout(now, asker, key, seconds),
-            AskStep::Link { key, ring } => self.link_key(now, asker, key, ring),
-            AskStep::Unlink { key, ring } => self.unlink_key(asker, key, ring),
-            AskStep::Clear { ring } => self.clear_ring(asker, ring),
-            AskStep::Default { setting } => self.set_default(id, asker, setting),
-            AskStep::Add {
+            AskView::Read { key } => self.read(now, id, asker, *key),
+            AskView::Describe { key } => self.describe(now, asker, *key),
+            AskView::Revoke { key } => self.revoke(asker, *key),
+            AskView::Timeout { key, seconds } => self.set_timeout(now, asker, *key, *seconds),
+            AskView::Link { key, ring } => self.link_key(now, asker, *key, *ring),
+            AskView::Unlink { key, ring } => self.unlink_key(asker, *key, *ring),
+            AskView::Clear { ring } => self.clear_ring(asker, *ring),
+            AskView::Default { setting } => self.set_default(id, asker, *setting),
+            AskView::Add {
                 typ,
                 description,
-                payload,
                 ring,
-            } => {
-                let name = self.keys.hashed(typ, description);
-                self.add(asker, &name, payload, ring)
-            }
-            AskStep::Callout => self.callout(id),
+                ..
+            } => match payload {
+                Some(payload) => {
+                    let name = self.keys.hashed(typ.again(), description.again());
+                    self.add(asker, &name, payload, *ring)
+                }
+                None => unreachable!(),
+            },
+            AskView::Callout => self.callout(id),
         }
+    }
+}
+
+/// A callout once more, if there is one.
+#[inline(always)]
+fn callout_again<'a>(callout: &Option<CalloutView<'a>>) -> Option<CalloutView<'a>>
+    ensures { result ≡ callout.now }
+{
+    match callout {
+        Some(text) => Some(text.again()),
+        None => None,
     }
 }

@@ -110,6 +110,7 @@ impl Tables {
     }
 
     /// The same if a ring is given. Without one nothing is looked up.
+    #[inline(always)]
     pub fn link_if(&mut self, ring: &Option<Serial>, key: Serial) -> Result<(), Errno>
         requires known { map.contains_key self.old.keys key ≡ true }
         requires tidy { StayBut (λ j. false) self.old }

@@ -101,6 +101,7 @@ impl Tables {
     }
 
     /// The same, where 0 stands for no ring.
+    #[inline(always)]
     pub fn ring_or_none(&self, asker: &Asker, number: i32) -> Result<Option<Serial>, Errno>
         ensures { FindsRingOrNone self.now asker.now number result }
     {

@@ -5,8 +5,8 @@ use Rattle.rk_message.specs.declared.ask.AskOf.TheVariants as ask
 use Rattle.rk_message.specs.declared.reply.Reply.TheVariants as reply
 use Rattle.rk_machine.specs.declared.event.Answer.{Answer}
 use Rattle.rk_machine.specs.declared.event.Answer.TheVariants as answer
-use Rattle.rk_record.specs.declared.told.Told.{Told}
-use Rattle.rk_record.specs.declared.told.Told.TheVariants as told
+use Rattle.rk_record.specs.Copies.{Told}
+use Rattle.rk_record.specs.declared.told.ToldOf.TheVariants as told
 
 -- the bytes that an ask has outside of its value: of its description, its callout and its payload
 abbrev pub bytes_of : Ask → ℕ

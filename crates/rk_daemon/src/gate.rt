@@ -115,6 +115,7 @@ impl<'a, E: Wait + Eprint + Clock, N: Names, S: Shelf> Gate for Relief<'a, E, N,
     }
 
     /// A volume that can't be handed out, since all of it is owed, is tried again once as much has come.
+    #[inline(always)]
     fn answered<R: Wait>(&self, rt: &R, _session: SessionId) {
         for hall in HallNo::ALL {
             if self.held.is_over(hall, MOST)

@@ -3,9 +3,9 @@ ghost use Rattle.std.specs.Prelude.{◌≡◌};
 ghost use Rattle.rk_daemon.specs.Held.{bytes_of, taken_by};
 
 use crate::by_hall::ByHall;
-use rk_hall::{HallNo, Receipt, Told};
+use rk_hall::{HallNo, ReceiptView, ToldView};
 use rk_machine::Answer;
-use rk_message::{Ask, Reply};
+use rk_message::{AskView, Reply};
 use std::sync::atomic::{AtomicU64, Ordering};
 
 /// How many bytes of asks and replies each hall's record has taken since its volume was last handed out, about, and how many volumes were full. Threads
@@ -57,11 +57,11 @@ impl Held {
 
 /// How many bytes the step of this receipt has put into its hall's record beside the step itself: those of the names and payloads of the ask, and of its
 /// reply.
-pub fn taken_by(receipt: &Receipt) -> u64
+pub fn taken_by(receipt: &ReceiptView<'_>) -> u64
     ensures { result ≡ taken_by receipt.now.told receipt.now.answer }
 {
     let asked = match receipt.told() {
-        Told::Asked(_, ask) => bytes_of(ask.ask()),
+        ToldView::Asked(_, ask) => bytes_of(ask.ask()),
         _ => 0,
     };
     let answered = match receipt.answer() {
@@ -72,18 +72,18 @@ pub fn taken_by(receipt: &Receipt) -> u64
 }
 
 /// How many bytes an ask has outside of its value: those of its description, its callout and its payload.
-fn bytes_of(ask: &Ask) -> usize
+fn bytes_of(ask: &AskView<'_>) -> usize
     ensures { result ≡ bytes_of ask.now }
 {
     match ask {
-        Ask::Request {
+        AskView::Request {
             description,
             callout: Some(callout),
             ..
         } => description.as_bytes().len() + callout.as_bytes().len(),
-        Ask::Request { description, .. } => description.as_bytes().len(),
-        Ask::Instantiate { payload, .. } => payload.as_bytes().len(),
-        Ask::Add {
+        AskView::Request { description, .. } => description.as_bytes().len(),
+        AskView::Instantiate { payload, .. } => payload.as_bytes().len(),
+        AskView::Add {
             description,
             payload,
             ..

@@ -8,7 +8,7 @@ ghost use Rattle.rk_session.specs.Wires.{Sends, Writes};
 
 use crate::held::{Held, taken_by};
 use rk_devices::DeviceFault;
-use rk_hall::Receipt;
+use rk_hall::ReceiptView;
 use rk_session::Wire;
 use std::alloc::{AllocError, Global};
 use std::io;
@@ -175,6 +175,7 @@ impl<'a> Wire for Socket<'a> {
         }
     }
 
+    #[inline(always)]
     fn write(&mut self, bytes: &[u8]) -> Result<(), DeviceFault> {
         if self.cut {
             return Err(self.sever());
@@ -195,9 +196,9 @@ impl<'a> Wire for Socket<'a> {
         self.outcome(sent)
     }
 
-    fn note(&mut self, receipt: Receipt) {
-        self.held.add(receipt.hall(), taken_by(&receipt));
-        drop(receipt);
+    #[inline(always)]
+    fn note(&mut self, receipt: &ReceiptView<'_>) {
+        self.held.add(receipt.hall(), taken_by(receipt));
     }
 
     fn failures(&self) -> u64 {

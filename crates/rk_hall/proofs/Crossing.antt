@@ -25,7 +25,6 @@ use Rattle.rk_names.specs.contracts.shared_bytes.SharedBytes as bytes
 use Rattle.rk_names.specs.contracts.payload.Payload as payload
 use Rattle.rk_message.specs.contracts.ask.AskOf as ask
 use Rattle.rk_message.specs.contracts.reply.Reply as reply
-use Rattle.rk_message.specs.contracts.shared.SharedAsk as shared
 use Rattle.rk_macro.specs.contracts.subject.Subject as subject
 use Rattle.rk_machine.specs.contracts.event.EventOf as event
 use Rattle.rk_machine.specs.contracts.event.Answer as answer
@@ -103,16 +102,9 @@ bytes_sync = search (sendable, crosses) depth 40 fits 20000
 abbrev asks : RattleType
 asks = ask.the_row type_name.the_row description.the_row callout.the_row payload.the_row
 
--- an ask may go to another thread, and threads may share it
+-- an ask may go to another thread
 pub ask_send : IsSend asks
 ask_send = let b = bytes_send in search (sendable, crosses) depth 40 fits 20000
-
-pub ask_sync : IsSync asks
-ask_sync = let b = bytes_sync in search (sendable, crosses) depth 40 fits 20000
-
--- a shared request may go to another thread
-pub shared_send : IsSend shared.the_row
-shared_send = let a = ask_send in let s = ask_sync in search (sendable, crosses) depth 40 fits 20000
 
 -- a reply may go to another thread
 pub reply_send : IsSend reply.the_row
@@ -122,8 +114,8 @@ reply_send = let b = bytes_send in search (sendable, crosses) depth 40 fits 2000
 pub subject_send : IsSend subject.the_row
 subject_send = search (sendable, crosses) depth 40 fits 20000
 
-pub event_send : IsSend (event.the_row shared.the_row)
-event_send = let a = shared_send in search (sendable, crosses) depth 40 fits 20000
+pub event_send : IsSend (event.the_row asks)
+event_send = let b = bytes_send in let a = ask_send in search (sendable, crosses) depth 40 fits 20000
 
 -- an answer may go to another thread
 pub answer_send : IsSend answer.the_row
@@ -132,7 +124,7 @@ answer_send = let r = reply_send in let s = subject_send in search (sendable, cr
 -- a recorded step may go to another thread
 pub recorded_send : IsSend recorded.the_row
 recorded_send =
-    let b = bytes_send in let s = shared_send in let e = event_send in let a = answer_send in search (sendable, crosses) depth 120 fits 20000
+    let b = bytes_send in let k = ask_send in let e = event_send in let a = answer_send in search (sendable, crosses) depth 120 fits 20000
 
 pub room_send : IsSend room.the_row
 room_send = search (sendable, crosses) depth 40 fits 20000

@@ -1,5 +1,5 @@
 -- What seats and tokens show, and what a call does to a seat.
-use Rattle.std.specs.Prelude.{◌≡◌, ◌⊎◌, ℕ, ◌+◌, ◌-◌, ◌<◌, ◌≤◌, Bool, true, false, Result, Ok, Err, nat_lt, if◌then◌else◌}
+use Rattle.std.specs.Prelude.{◌≡◌, ◌⊎◌, ℕ, ◌+◌, ◌-◌, ◌<◌, ◌≤◌, Bool, true, false, Option, Some, None, Result, Ok, Err, nat_lt, if◌then◌else◌}
 use Rattle.rk_names.specs.declared.errors.Errno.TheVariants as errno
 use Rattle.rk_macro.specs.declared.subject.Subject.{Subject}
 use Rattle.rk_macro.specs.declared.subject.Op.TheVariants as op
@@ -10,12 +10,12 @@ use Rattle.rk_machine.specs.declared.event.EventOf.TheVariants.{Opened, Asked}
 use Rattle.rk_machine.specs.declared.event.Ran.{Ran}
 use Rattle.rk_machine.specs.declared.event.Ran.TheVariants as ran
 use Rattle.rk_machine.specs.declared.event.Answer.{Answer}
-use Rattle.rk_machine.specs.declared.event.Answer.TheVariants.{Done, Refused}
+use Rattle.rk_machine.specs.declared.event.Answer.TheVariants.{Done, Refused, Start}
 use Rattle.rk_machine.specs.Steps.{told_as}
 use Rattle.rk_machine.specs.Recording.{IsOwedAnswer}
 use Rattle.rk_record.specs.declared.hall_no.HallNo.{HallNo}
 use Rattle.rk_record.specs.declared.hall_no.HallNo.TheVariants.{Zero, One, Two, Three}
-use Rattle.rk_record.specs.Copies.{told_of}
+use Rattle.rk_record.specs.Copies.{Told, told_of, started}
 use Rattle.rk_record.specs.Turns.{Noted}
 use Rattle.rk_hall.specs.declared.lapse.Lapse.{Lapse}
 use Rattle.rk_hall.specs.declared.lapse.Lapse.TheVariants.{Behind, Stray}
@@ -117,6 +117,15 @@ abbrev pub CallRefused : PartShown → CallFault → Type 0
 CallRefused p (fault.Behind seen found) = (seen ≡ p.seen) × (1 ≤ found) × (found ≤ seen)
 CallRefused p fault.Full = Unit {0}
 CallRefused p fault.NoMemory = Unit {0}
+
+-- the receipt is that of a call in this hall at this moment, of this, and its number is new to the part
+abbrev pub IsCalled : HallNo → ℕ → Told → PartShown → Noted → Type 0
+IsCalled hall now t p r = (r.hall ≡ hall) × (r.moment ≡ now) × (r.told ≡ t) × (p.seen < r.number)
+
+-- a launch comes exactly with a start, of its key
+abbrev pub HasLaunch : HallNo → Answer → Option TokenShown → Type 0
+HasLaunch hall a (Some l) = (l.hall ≡ hall) × (a ≡ Start l.key l.subject)
+HasLaunch hall a None = started a ≡ None
 
 -- what the caller of a turn that was owed knows, of its part in that hall. One step is its own, and the receipt says it; or the event was not owed,
 -- and there was no step. Or the step was taken all the same, and its number is one that the part has seen already

@@ -4,8 +4,8 @@ use Rattle.rk_message.specs.Ask.{Ask}
 use Rattle.rk_message.specs.declared.ask.AskOf.TheVariants as ask
 use Rattle.rk_machine.specs.declared.event.Answer.{Answer}
 use Rattle.rk_machine.specs.declared.event.Answer.TheVariants.{Done}
-use Rattle.rk_record.specs.declared.told.Told.{Told}
-use Rattle.rk_record.specs.declared.told.Told.TheVariants as told
+use Rattle.rk_record.specs.Copies.{Told}
+use Rattle.rk_record.specs.declared.told.ToldOf.TheVariants as told
 use Rattle.rk_record.specs.Turns.{Noted}
 
 -- an ask that completes a key: keyctl_instantiate(3), keyctl_negate(3), keyctl_reject(3)

@@ -3,7 +3,8 @@ ghost use Rattle.std.specs.Prelude.{◌≡◌, ◌≢◌, ◌↔◌, ◌+◌, �
 ghost use Rattle.std.specs.Prelude.{if◌then◌else◌};
 ghost use Rattle.rk_machine.specs.Owing.{is_followed};
 ghost use Rattle.rk_record.specs.Copies.{told_of, started};
-ghost use Rattle.rk_hall.specs.Seats.{new_seat, part, with_part, after_call, IsCall, CallRefused, negated, runs_on, without_client, IsOutcomeOrNone};
+ghost use Rattle.rk_record.specs.declared.told.ToldOf.TheVariants as told;
+ghost use Rattle.rk_hall.specs.Seats.{new_seat, part, with_part, after_call, IsCall, IsCalled, HasLaunch, CallRefused, negated, runs_on, without_client, IsOutcomeOrNone};
 ghost use Rattle.rk_hall.specs.Seats.{OwedPart, OwedSeen};
 
 use crate::counts::Counts;
@@ -18,9 +19,10 @@ use crate::seat::Seat;
 use crate::ticket::{Due, OneOfFour};
 use crate::token::{Launch, Running};
 use crate::volume::Volume;
-use rk_machine::{Answer, EventOf, EventStep, How, Ran};
+use rk_machine::{Answer, EventOf, EventView, How, Ran};
+use rk_message::{AskRef, AskView};
 use rk_names::{Description, Errno, Moment, Payload, SessionId, TypeName};
-use rk_record::{HallFault, HallNo, MAX_STEPS, Receipt};
+use rk_record::{HallFault, HallNo, MAX_STEPS, ReceiptView};
 use std::alloc::{AllocError, Global};
 use std::marker::PhantomData;
 use std::sync::Wait;
@@ -39,9 +41,9 @@ pub struct Halls<N: Names> {
 }
 
 /// What a call gives: its receipt, and a `Launch` where its answer is a start.
-pub struct Called<N: Names> {
+pub struct Called<'a, N: Names> {
     /// That of the step.
-    pub receipt: Receipt,
+    pub receipt: ReceiptView<'a>,
     /// The construction to be started, where the step is answered so.
     pub launch: Option<Launch<N>>,
 }
@@ -179,30 +181,77 @@ impl<N: Names> Halls<N> {
         self.three.retire(rt, three);
     }
 
-    /// One call in one hall: a client that comes (`Opened`), or an ask.
+    /// One call in one hall: a client that comes (`Opened`), as [`Halls::open`] takes it, or an ask, as [`Halls::ask`] does.
     ///
     /// The receipt is that of one step, with the moment and event that were handed in, and a number greater than all that the seat had seen in that
     /// hall. A `Launch` comes with it exactly where its answer is a start. The refusals, in this order, change nothing. `Behind` comes only where
     /// the number that the step would have is not above what the seat has seen. `Full` comes where an event may need more places than are free,
     /// `NoMemory` where an allocation failed. It may wait.
-    pub fn call<R: Wait>(
+    pub fn call<'a, R: Wait>(
         &self,
         rt: &R,
         seat: &mut Seat<N>,
         hall: HallNo,
         now: Moment,
-        event: EventStep<'_>,
-    ) -> Result<Called<N>, CallFault>
+        event: EventView<'a>,
+    ) -> Result<Called<'a, N>, CallFault>
         requires { IsCall event }
-        ensures receipt { IfOk result (λ d. (d.receipt.hall ≡ hall) × (d.receipt.moment ≡ now) × (d.receipt.told ≡ told_of event.entry)) }
-        ensures rising { IfOk result (λ d. (part hall seat.old).seen < d.receipt.number) }
+        ensures receipt { IfOk result (λ d. IsCalled hall now (told_of event.entry) (part hall seat.old) d.receipt) }
         ensures seat { IfOk result (λ d. seat.new ≡ with_part hall seat.old (after_call (part hall seat.old) event.entry d.receipt)) }
-        ensures launch { IfOk result (λ d. MatchOption d.launch (started d.receipt.answer ≡ None)
-            (λ l. (l.hall ≡ hall) × (d.receipt.answer ≡ Answer.Start l.key l.subject))) }
+        ensures launch { IfOk result (λ d. HasLaunch hall d.receipt.answer d.launch) }
         ensures err { IfErr result (λ f. CallRefused (part hall seat.old) f) }
         ensures same { OnErr result (seat.new ≡ seat.old) }
     {
-        by_hall!(hall, HallNo, called!(self.call(rt, seat, now, event)))
+        match event {
+            EventView::Opened(session) => self.open(rt, seat, hall, now, session),
+            EventView::Asked(session, ask) => self.ask(rt, seat, hall, now, session, ask.ask()),
+            _ => unreachable!(),
+        }
+    }
+
+    /// A client comes, as one call in one hall (see [`Halls::call`]). It may wait.
+    pub fn open<'a, R: Wait>(
+        &self,
+        rt: &R,
+        seat: &mut Seat<N>,
+        hall: HallNo,
+        now: Moment,
+        session: SessionId,
+    ) -> Result<Called<'a, N>, CallFault>
+        ensures receipt { IfOk result (λ d. IsCalled hall now (told.Opened session) (part hall seat.old) d.receipt) }
+        ensures seat { IfOk result (λ d. seat.new ≡ with_part hall seat.old (after_call (part hall seat.old) (EventOf.Opened session) d.receipt)) }
+        ensures launch { IfOk result (λ d. HasLaunch hall d.receipt.answer d.launch) }
+        ensures err { IfErr result (λ f. CallRefused (part hall seat.old) f) }
+        ensures same { OnErr result (seat.new ≡ seat.old) }
+    {
+        by_hall!(
+            hall,
+            HallNo,
+            called!(self.call(rt, seat, now, EventView::Opened(session)))
+        )
+    }
+
+    /// A session asks, as one call in one hall (see [`Halls::call`]). It may wait.
+    pub fn ask<'a, R: Wait>(
+        &self,
+        rt: &R,
+        seat: &mut Seat<N>,
+        hall: HallNo,
+        now: Moment,
+        session: SessionId,
+        ask: &'a AskView<'a>,
+    ) -> Result<Called<'a, N>, CallFault>
+        ensures receipt { IfOk result (λ d. IsCalled hall now (told.Asked session ask.now) (part hall seat.old) d.receipt) }
+        ensures seat { IfOk result (λ d. seat.new ≡ with_part hall seat.old (after_call (part hall seat.old) (EventOf.Asked session ask.now) d.receipt)) }
+        ensures launch { IfOk result (λ d. HasLaunch hall d.receipt.answer d.launch) }
+        ensures err { IfErr result (λ f. CallRefused (part hall seat.old) f) }
+        ensures same { OnErr result (seat.new ≡ seat.old) }
+    {
+        by_hall!(
+            hall,
+            HallNo,
+            called!(self.call(rt, seat, now, EventView::Asked(session, AskRef::of(ask))))
+        )
     }
 
     /// Says that the handler of a construction runs, or could not be started. It may wait, and takes no memory.

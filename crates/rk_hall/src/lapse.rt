@@ -1,6 +1,6 @@
 //! Why a call has no receipt.
 
-use rk_record::Receipt;
+use rk_record::ReceiptView;
 use thiserror::Error;
 
 /// Why a turn that was asked for as owed has no receipt.
@@ -34,5 +34,5 @@ pub struct Owed<V> {
     /// What it gives back.
     pub value: V,
     /// The receipt of its step.
-    pub receipt: Result<Receipt, Lapse>,
+    pub receipt: Result<ReceiptView<'static>, Lapse>,
 }

@@ -67,7 +67,10 @@ pub use fresh::{Fresh, Ledgers};
 pub use halls::{Called, Halls};
 pub use lapse::{CallFault, Lapse, Owed};
 pub use names::{Calls, Names, Out};
-pub use rk_record::{Hall, HallFault, HallNo, Receipt, Recorded, Rejoin, Told, rejoin};
+pub use rk_record::{
+    Hall, HallFault, HallNo, Receipt, ReceiptOf, ReceiptView, Recorded, Rejoin, Told, ToldOf,
+    ToldView, rejoin,
+};
 pub use seat::Seat;
 pub use settling::{SettleFault, Total, settle};
 pub use token::{Launch, Running};

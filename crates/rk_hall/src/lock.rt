@@ -20,10 +20,10 @@ use crate::names::Names;
 use crate::opening::empty_hall;
 use crate::part::Part;
 use crate::ticket::{Due, Ticket};
-use rk_machine::{Answer, EventOf, EventStep, Ran};
-use rk_message::Ask;
+use rk_machine::{Answer, EventOf, EventView, Ran};
+use rk_message::AskView;
 use rk_names::{Description, Errno, Moment, Serial, SessionId, TypeName};
-use rk_record::{Copies, HallFault, HallNo, Receipt, Told, Volume};
+use rk_record::{Copies, HallFault, HallNo, ReceiptView, ToldView, Volume};
 use std::alloc::{AllocError, Global};
 use std::sync::{Condvar, Mutex, Wait};
 
@@ -39,21 +39,21 @@ pub(crate) struct Lock<N: Names, const H: u64> {
 }
 
 /// Whether it is an ask that completes a key: an INSTANTIATE, a NEGATE or a REJECT.
-fn completes(ask: &Ask) -> bool
+fn completes(ask: &AskView<'_>) -> bool
     ensures { result ≡ completes ask.now }
 {
     matches!(
         ask,
-        Ask::Instantiate { .. } | Ask::Negate { .. } | Ask::Reject { .. }
+        AskView::Instantiate { .. } | AskView::Negate { .. } | AskView::Reject { .. }
     )
 }
 
 /// Whether a call was such an ask, and was done: the key is complete, and those who wait for it have their outcome.
-fn has_completed(receipt: &Receipt) -> bool
+fn has_completed(receipt: &ReceiptView<'_>) -> bool
     ensures { result ≡ has_completed receipt.now }
 {
     match (receipt.told(), receipt.answer()) {
-        (Told::Asked(_, ask), Answer::Done(_)) => completes(ask.ask()),
+        (ToldView::Asked(_, ask), Answer::Done(_)) => completes(ask.ask()),
         _ => false,
     }
 }
@@ -100,15 +100,16 @@ impl<N: Names, const H: u64> Lock<N, H> {
         self.locked.lock(rt).retire(part);
     }
 
-    /// A request or an opening, as one turn. What the record keeps of the event is copied before the lock is taken, and a completed key wakes those who wait
-    /// for it. An `Err` leaves the hall and the part as they were.
-    pub(crate) fn call<R: Wait>(
+    /// A request or an opening, as one turn. What takes memory in the record's copy of the event is copied before the lock is taken. A completed key wakes
+    /// those who wait for it. An `Err` leaves the hall and the part as they were.
+    #[inline(always)]
+    pub(crate) fn call<'a, R: Wait>(
         &self,
         rt: &R,
         part: &mut Part<N, H>,
         now: Moment,
-        event: EventStep<'_>,
-    ) -> Result<(Receipt, Option<Begun<N, H>>), CallFault>
+        event: EventView<'a>,
+    ) -> Result<(ReceiptView<'a>, Option<Begun<N, H>>), CallFault>
         requires { IsCall event }
         ensures receipt { IfOk result (λ d. (hall_number d.0.hall ≡ H) × (d.0.moment ≡ now) × (d.0.told ≡ told_of event.entry)
             × (d.0.answer ≢ Answer.Refused Errno.Enomem)) }

@@ -18,10 +18,10 @@ use crate::lapse::{CallFault, Lapse, Owed};
 use crate::names::{Calls, Names, Out};
 use crate::part::Part;
 use crate::ticket::Ticket;
-use rk_machine::{Answer, BoxedSubject, EventOf, EventStep, Ran};
+use rk_machine::{Answer, BoxedSubject, EventOf, EventView, Ran};
 use rk_message::Reply;
 use rk_names::{Description, Errno, Moment, Serial, SessionId, TypeName};
-use rk_record::{Copies, Hall, HallFault, Receipt, Volume};
+use rk_record::{Copies, Hall, HallFault, ReceiptView, Volume};
 use std::alloc::{AllocError, Global};
 use std::marker::Model;
 use std::sync::ledger::{Blank, Book, Share};
@@ -137,13 +137,14 @@ impl<N: Names, const H: u64> Locked<N, H> {
     }
 
     /// One call: a client that comes, or an ask. The copies are of this event.
-    pub(crate) fn call(
+    #[inline(always)]
+    pub(crate) fn call<'a>(
         &mut self,
         part: &mut Part<N, H>,
         now: Moment,
-        event: EventStep<'_>,
-        copies: Option<Copies>,
-    ) -> Result<(Receipt, Option<Begun<N, H>>), CallFault>
+        event: EventView<'a>,
+        copies: Option<Copies<'a>>,
+    ) -> Result<(ReceiptView<'a>, Option<Begun<N, H>>), CallFault>
         requires call { IsCall event }
         requires copies { IfSome copies (λ c. AreCopies event c) }
         ensures ok { IfOk result (λ d. Turned self.old.hall now event.entry d.0 self.new.hall) }
@@ -164,7 +165,7 @@ impl<N: Names, const H: u64> Locked<N, H> {
                 found,
             });
         }
-        let opens = matches!(event, EventStep::Opened(_));
+        let opens = matches!(event, EventView::Opened(_));
         match self.hall.turn_to_start(now, event, copies) {
             Ok((receipt, subject)) => {
                 let _steps = self.hall.count();
@@ -205,7 +206,7 @@ impl<N: Names, const H: u64> Locked<N, H> {
         ensures hall { IfOk result.receipt (λ r. hall_number r.hall ≡ H) }
         ensures kept { self.new ≡ record self.old { hall = self.new.hall; strays = self.old.strays + strays_of result.receipt } }
     {
-        let event = EventStep::Launched(key, ran);
+        let event = EventView::Launched(key, ran);
         if !self.hall.owes(&event) {
             self.put_stray(ticket);
             return Owed {
@@ -244,7 +245,7 @@ impl<N: Names, const H: u64> Locked<N, H> {
         ensures kept { self.new ≡ record self.old { hall = self.new.hall; strays = self.old.strays + strays_of result.receipt } }
     {
         let End { how, payload } = end;
-        let event = EventStep::Ended(key, how, payload);
+        let event = EventView::Ended(key, how, payload);
         if !self.hall.owes(&event) {
             self.put_stray(ticket);
             return Owed {
@@ -279,7 +280,7 @@ impl<N: Names, const H: u64> Locked<N, H> {
         ensures hall { IfOk result.receipt (λ r. hall_number r.hall ≡ H) }
         ensures kept { self.new ≡ record self.old { hall = self.new.hall } }
     {
-        let event = EventStep::Collect(session);
+        let event = EventView::Collect(session);
         if !self.hall.owes(&event) {
             return Owed {
                 value: Answer::Refused(Errno::Einval),
@@ -307,7 +308,7 @@ impl<N: Names, const H: u64> Locked<N, H> {
         ensures kept { self.new ≡ record self.old { hall = self.new.hall } }
     {
         part.lose_client();
-        let event = EventStep::Gone(session);
+        let event = EventView::Gone(session);
         if !self.hall.owes(&event) {
             return Owed {
                 value: (),
@@ -451,13 +452,14 @@ fn spend<N: Names, const H: u64>(
 }
 
 /// A turn of what is owed, counted to the part.
+#[inline(never)]
 fn turn_owed<N: Names, const H: u64>(
     hall: &mut Hall,
     calls: &mut Book<Calls<N, H>>,
     part: &mut Part<N, H>,
     now: Moment,
-    event: EventStep<'_>,
-) -> Receipt
+    event: EventView<'static>,
+) -> ReceiptView<'static>
     requires owed { is_owed hall.old.world event ≡ true }
     requires counted { calls.old.total ≡ taken hall.old }
     ensures turned { Turned hall.old now event.entry result hall.new }

@@ -5,7 +5,7 @@ ghost use Rattle.rk_hall.specs.Locked.{Heard};
 
 use crate::lapse::Lapse;
 use crate::names::{Calls, Names};
-use rk_record::Receipt;
+use rk_record::ReceiptView;
 use std::marker::Model;
 use std::sync::ledger::Share;
 
@@ -59,8 +59,8 @@ impl<N: Names, const H: u64> Part<N, H> {
     }
 
     /// Takes the receipt of a turn, whose number has to be above all that were seen.
-    pub(crate) fn take(&mut self, receipt: Receipt) -> Result<Receipt, Lapse>
-        ensures { Heard self.old receipt self.new result }
+    pub(crate) fn take<'a>(&mut self, receipt: ReceiptView<'a>) -> Result<ReceiptView<'a>, Lapse>
+        ensures { Heard self.old receipt.entry self.new result }
     {
         let found = receipt.number();
         if found <= self.seen {

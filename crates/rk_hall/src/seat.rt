@@ -5,7 +5,7 @@ ghost use Rattle.rk_hall.specs.Seats.{part, with_part, heard, clients_of};
 use crate::four::{by_hall, in_all, of_hall};
 use crate::names::Names;
 use crate::part::Part;
-use rk_record::{HallNo, Receipt};
+use rk_record::{HallNo, ReceiptOf};
 use std::marker::Model;
 
 /// Who makes calls: one thread at a time. It has a part in each hall, with a share of the hall's record: the turns that it made there.
@@ -40,7 +40,7 @@ impl<N: Names> Seat<N> {
     }
 
     /// Counts the receipt's number as seen, in its hall: later calls there have greater numbers. It takes no memory.
-    pub fn hear(&mut self, receipt: &Receipt)
+    pub fn hear<A>(&mut self, receipt: &ReceiptOf<A>)
         ensures { self.new ≡ with_part receipt.now.hall self.old (heard (part receipt.now.hall self.old) receipt.now.number) }
     {
         let number = receipt.number();

@@ -70,6 +70,7 @@ impl Key {
     }
 
     /// What it is at this moment.
+    #[inline(always)]
     pub fn standing(&self, now: Moment) -> Standing
         ensures { result ≡ standing_of self.now now }
     {

@@ -95,6 +95,7 @@ impl Keys {
     }
 
     /// What is known of a key; `None` if there is none of that serial.
+    #[inline(always)]
     pub fn fact(&self, key: Serial) -> Option<&Key>
         ensures { option_copied result ≡ map.get self.now.keys key }
     {
@@ -131,6 +132,7 @@ impl Keys {
     }
 
     /// The number of the name: live keys share one exactly if their type and description are equal. `None` if no live key has that name.
+    #[inline(always)]
     pub fn name(&self, name: &HashedName<'_>) -> Option<NameNo>
         ensures naming { IsNaming self.now.keys self.now.numbers }
         ensures none { result ≡ None → (k : ℕ) → has_name self.now.keys k name.now.typ name.now.description ≡ false }

@@ -53,6 +53,7 @@ fn feed_many(hasher: &mut FoldHasher, bytes: &[u8])
 }
 
 /// The number that the live keys of this name share; `None` if none is kept.
+#[inline(always)]
 pub fn number_of(by_name: &HashTable<Bucket>, seed: u64, name: &HashedName<'_>) -> Option<NameNo>
     ensures { result ≡ number_in (kept_of seed by_name.now.facts name.now.typ name.now.description) }
 {

@@ -1,8 +1,11 @@
 //! What the client of the tests asks.
-use rk_message::{AskStep, Greeting};
+ghost use Rattle.rk_hall.specs.Seats.{IsCall};
+
+use rk_machine::EventView;
+use rk_message::{AskRef, AskView, Greeting};
 use rk_names::{
-    CalloutView, Description, DescriptionView, Moment, Payload, Serial, SessionId, TypeName,
-    TypeView,
+    CalloutView, Description, DescriptionView, Moment, Payload, PayloadView, Serial, SessionId,
+    TypeName, TypeView,
 };
 use std::alloc::{AllocError, Global};
 
@@ -16,22 +19,22 @@ pub const CLIENT: SessionId = SessionId::Client(1);
 pub const OTHER: SessionId = SessionId::Client(2);
 
 /// The client says that it is user 1000.
-pub fn hello() -> AskStep<'static> {
+pub fn hello() -> AskView<'static> {
     hello_of(1000)
 }
 
 /// A client says that it is this user.
-pub fn hello_of(uid: u32) -> AskStep<'static> {
+pub fn hello_of(uid: u32) -> AskView<'static> {
     greeting(uid, None)
 }
 
 /// A client says that it is user 1000, and joins this session ring.
-pub fn joining(ring: Serial) -> AskStep<'static> {
+pub fn joining(ring: Serial) -> AskView<'static> {
     greeting(1000, Some(ring))
 }
 
-fn greeting(uid: u32, join: Option<Serial>) -> AskStep<'static> {
-    AskStep::Hello(Greeting {
+fn greeting(uid: u32, join: Option<Serial>) -> AskView<'static> {
+    AskView::Hello(Greeting {
         uid,
         gid: 1000,
         thread: false,
@@ -40,19 +43,19 @@ fn greeting(uid: u32, join: Option<Serial>) -> AskStep<'static> {
     })
 }
 
-/// It adds the key of this name, with the payload `v`, to its session ring.
-pub fn add(alloc: Global, name: &[u8]) -> Result<AskStep<'_>, AllocError> {
-    Ok(AskStep::Add {
-        typ: TypeView::new(b"user").map_err(|_| AllocError)?,
-        description: DescriptionView::new(name).map_err(|_| AllocError)?,
-        payload: payload(alloc, b"v")?,
+/// It adds the key of this name, with the payload `v`, to its session ring; `None` for bytes that break the rule of names.
+pub fn add(name: &[u8]) -> Option<AskView<'_>> {
+    Some(AskView::Add {
+        typ: TypeView::new(b"user").ok()?,
+        description: DescriptionView::new(name).ok()?,
+        payload: PayloadView::new(b"v").ok()?,
         ring: -3,
     })
 }
 
 /// It requests the key of this name, with the callout `x`; `None` for bytes that break the rule of names.
-pub fn request(name: &[u8]) -> Option<AskStep<'_>> {
-    Some(AskStep::Request {
+pub fn request(name: &[u8]) -> Option<AskView<'_>> {
+    Some(AskView::Request {
         typ: TypeView::new(b"user").ok()?,
         description: DescriptionView::new(name).ok()?,
         callout: Some(CalloutView::new(b"x").ok()?),
@@ -61,13 +64,27 @@ pub fn request(name: &[u8]) -> Option<AskStep<'_>> {
 }
 
 /// It requests the key of this name, without a callout; `None` for bytes that break the rule of names.
-pub fn find(name: &[u8]) -> Option<AskStep<'_>> {
-    Some(AskStep::Request {
+pub fn find(name: &[u8]) -> Option<AskView<'_>> {
+    Some(AskView::Request {
         typ: TypeView::new(b"user").ok()?,
         description: DescriptionView::new(name).ok()?,
         callout: None,
         destination: 0,
     })
+}
+
+/// The client asks this.
+pub fn asked<'a>(ask: &'a AskView<'a>) -> EventView<'a>
+    ensures { IsCall result }
+{
+    asked_by(CLIENT, ask)
+}
+
+/// A session asks this.
+pub fn asked_by<'a>(session: SessionId, ask: &'a AskView<'a>) -> EventView<'a>
+    ensures { IsCall result }
+{
+    EventView::Asked(session, AskRef::of(ask))
 }
 
 /// The type `user`.

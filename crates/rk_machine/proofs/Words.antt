@@ -67,7 +67,7 @@ pub use Rattle.rk_machine.specs.Laws.{OnceFor, EachOnce, EachToldOf, IsOutcome, 
 pub use Rattle.rk_machine.specs.Links.{unlinked_in, cleared_in, linked_in, full_refusal, rings_changed}
 pub use Rattle.rk_machine.specs.Owing.{is_request, is_followed, whose, client_owes, stage_owes, construction_owes, owed, owed_to, start_owes, constructions}
 pub use Rattle.rk_machine.specs.Owing.{begun, closes, closed, ends_owed, ends_owed_to, construction_ends, stage_ends, start_ends, takes, asked_of, names_in}
-pub use Rattle.rk_machine.specs.Owing.{wait_owes, places, need}
+pub use Rattle.rk_machine.specs.Owing.{wait_owes, places, need, is_ask, wait_made}
 pub use Rattle.rk_machine.specs.Recording.{Reached, IsOwedAnswer, Recording}
 pub use Rattle.rk_machine.specs.Request.{query, waiting, MeetsBuilding, MeetsPositive, Meets, Misses, start_refusal, destination_of, subject_of}
 pub use Rattle.rk_machine.specs.Request.{started, with_key, new_authority}

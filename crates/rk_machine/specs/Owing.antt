@@ -16,7 +16,7 @@ use Rattle.rk_machine.specs.Event.{Event}
 use Rattle.rk_machine.specs.declared.event.EventOf.TheVariants.{Opened, Asked, Launched, Ended, Collect, Gone}
 use Rattle.rk_machine.specs.declared.event.Ran.TheVariants as ran
 use Rattle.rk_machine.specs.declared.event.Answer.{Answer}
-use Rattle.rk_machine.specs.declared.event.Answer.TheVariants.{Start, Negate}
+use Rattle.rk_machine.specs.declared.event.Answer.TheVariants.{Start, Negate, Waiting}
 use Rattle.rk_machine.specs.World.{World}
 use Rattle.rk_machine.specs.Laws.{is_done}
 use Rattle.rk_machine.specs.Weights.{weight}
@@ -65,6 +65,17 @@ whose (Launched k r) = Handler k
 whose (Ended k how payload) = Handler k
 whose (Collect s) = s
 whose (Gone s) = s
+
+-- the event is an ask
+abbrev pub is_ask : Event → Bool
+is_ask (Asked s a) = true
+is_ask _ = false
+
+-- what an ask that is answered so adds to what is owed to whoever asks: the collect of its wait
+abbrev pub wait_made : Answer → ℕ
+wait_made (Start k subject) = 1
+wait_made (Waiting k) = 1
+wait_made _ = 0
 
 -- what is owed to the construction that an answer starts
 abbrev pub start_owes : Answer → ℕ

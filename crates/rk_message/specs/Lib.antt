@@ -5,6 +5,7 @@ pub mod Leftmost
 pub mod Faults
 pub mod Ask
 pub mod Asks
+pub mod Copies
 pub mod Replies
 pub mod Spellings
 pub mod Laws

@@ -15,9 +15,6 @@ pub type Ask = AskOf<TypeName, Description, Callout, Payload>;
 /// What a session asks, still borrowed from the bytes that say it. It takes no memory.
 pub type AskView<'a> = AskOf<TypeView<'a>, DescriptionView<'a>, CalloutView<'a>, PayloadView<'a>>;
 
-/// What a session asks, with borrowed names and a payload of its own: what a step takes, where the payload becomes a key's.
-pub type AskStep<'a> = AskOf<TypeView<'a>, DescriptionView<'a>, CalloutView<'a>, Payload>;
-
 /// What a session asks, with a type `T`, a description `D`, a callout `C` and a payload `P`. Rings and keys are numbers as on the wire. Positive ones
 /// are serials, others name a ring or a key by its role, as -3 the session ring (keyctl(2), "Special key IDs"). What a number means, and whether it
 /// is refused, is for whoever carries the ask out.

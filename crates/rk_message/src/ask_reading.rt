@@ -10,7 +10,7 @@ ghost use Rattle.rk_message.specs.Ask.{Ask as Asks};
 ghost use Rattle.rk_message.specs.declared.fault.Fault.{Fault as Faults};
 ghost use Rattle.rk_message.specs.declared.fault.ReadError.TheVariants.{NoMemory, Fault as the_fault};
 
-use crate::ask::{Ask, AskStep, AskView};
+use crate::ask::{Ask, AskView};
 use crate::fault::{Fault, ReadError};
 use crate::field;
 use crate::greeting::Greeting;
@@ -31,23 +31,6 @@ impl Ask {
         ensures exact { Gives ask_message result (message_at asks body.now) }
     {
         Ok(AskView::read(body)?.to_owned(alloc)?)
-    }
-}
-
-impl<'a> AskStep<'a> {
-    /// The same, with its names borrowed from the body and a payload of its own: what a step takes.
-    #[inline(always)]
-    pub fn read(alloc: Global, body: &'a [u8]) -> Result<AskStep<'a>, ReadError>
-        // What is read is spelled by the body.
-        ensures found { IfOk result (λ a. IsAsk a × (body.now ≡ spelling (ask_message a))) }
-        // An ask that the body spells is read, unless memory runs out.
-        ensures only { (a : Asks) → IsAsk a → body.now ≡ spelling (ask_message a) → MatchResult result (λ b. b ≡ a) (λ e. e ≡ NoMemory) }
-        // A body that has no reading is refused for its leftmost fault.
-        ensures leftmost { (f : Faults) → result ≡ Err (the_fault f) → IsFaultOf asks body.now f }
-        // Which ask or fault it is; memory runs out only for what has a reading.
-        ensures exact { Gives ask_message result (message_at asks body.now) }
-    {
-        Ok(AskView::read(body)?.to_step(alloc)?)
     }
 }
 

@@ -3,7 +3,9 @@
 ghost use Rattle.std.specs.Prelude.{◌≡◌, IfOk};
 ghost use Rattle.rk_message.specs.declared.ask.AskOf.TheVariants.{Request as asks_request, Instantiate as asks_instantiate, Add as asks_add};
 
-use crate::ask::{Ask, AskOf, AskStep, AskView};
+use crate::ask::{Ask, AskOf, AskView};
+use crate::ask_copy::AskCopy;
+use crate::borrowed::AskRef;
 use rk_names::{
     Callout, CalloutView, Description, DescriptionView, Payload, PayloadView, TypeName, TypeView,
 };
@@ -31,60 +33,14 @@ macro_rules! converted {
     };
 }
 
+pub(crate) use converted;
+
 impl<'a> AskView<'a> {
     /// The same ask with copies of its names and its payload. An `Err` is out of memory.
     pub fn to_owned(&self, alloc: Global) -> Result<Ask, AllocError>
         ensures { IfOk result (λ ask. ask ≡ self.now) }
     {
-        Ok(converted! { *self;
-            AskOf::Request { ref typ, ref description, ref callout, destination } => {
-                owned_request(alloc, typ, description, callout, destination)?
-            }
-            AskOf::Instantiate { key, ref payload, ring } => {
-                AskOf::Instantiate { key, payload: payload.to_owned(alloc)?, ring }
-            }
-            AskOf::Add { ref typ, ref description, ref payload, ring } => {
-                owned_add(alloc, typ, description, payload, ring)?
-            }
-        })
-    }
-
-    /// The same ask with a copy of its payload alone. An `Err` is out of memory, and comes only of an ask that has a payload.
-    #[inline(always)]
-    pub fn to_step(self, alloc: Global) -> Result<AskStep<'a>, AllocError>
-        ensures { IfOk result (λ ask. ask ≡ self.entry) }
-    {
-        Ok(converted! { self;
-            AskOf::Request { typ, description, callout, destination } => {
-                AskOf::Request { typ, description, callout, destination }
-            }
-            AskOf::Instantiate { key, payload, ring } => {
-                AskOf::Instantiate { key, payload: payload.to_owned(alloc)?, ring }
-            }
-            AskOf::Add { typ, description, payload, ring } => {
-                AskOf::Add { typ, description, payload: payload.to_owned(alloc)?, ring }
-            }
-        })
-    }
-}
-
-impl<'a> AskStep<'a> {
-    /// The same ask with copies of its names and its payload. An `Err` is out of memory.
-    #[inline(always)]
-    pub fn to_owned(&self, alloc: Global) -> Result<Ask, AllocError>
-        ensures { IfOk result (λ ask. ask ≡ self.now) }
-    {
-        Ok(converted! { *self;
-            AskOf::Request { ref typ, ref description, ref callout, destination } => {
-                owned_request(alloc, typ, description, callout, destination)?
-            }
-            AskOf::Instantiate { key, ref payload, ring } => {
-                AskOf::Instantiate { key, payload: payload.clone()?, ring }
-            }
-            AskOf::Add { ref typ, ref description, ref payload, ring } => {
-                owned_add(alloc, typ, description, &payload.view(), ring)?
-            }
-        })
+        Ok(AskCopy::of(alloc, AskRef::of(self))?.into_ask())
     }
 }
 
@@ -124,44 +80,6 @@ impl Clone for Ask {
             }
         })
     }
-}
-
-#[inline(always)]
-fn owned_request(
-    alloc: Global,
-    typ: &TypeView<'_>,
-    description: &DescriptionView<'_>,
-    callout: &Option<CalloutView<'_>>,
-    destination: i32,
-) -> Result<Ask, AllocError>
-    ensures { IfOk result (λ ask. ask ≡ asks_request typ.now description.now callout.now destination) }
-{
-    Ok(Ask::Request {
-        typ: typ.to_owned(),
-        description: description.to_owned(alloc)?,
-        callout: match callout {
-            Some(text) => Some(text.to_owned(alloc)?),
-            None => None,
-        },
-        destination,
-    })
-}
-
-fn owned_add(
-    alloc: Global,
-    typ: &TypeView<'_>,
-    description: &DescriptionView<'_>,
-    payload: &PayloadView<'_>,
-    ring: i32,
-) -> Result<Ask, AllocError>
-    ensures { IfOk result (λ ask. ask ≡ asks_add typ.now description.now payload.now ring) }
-{
-    Ok(Ask::Add {
-        typ: typ.to_owned(),
-        description: description.to_owned(alloc)?,
-        payload: payload.to_owned(alloc)?,
-        ring,
-    })
 }
 
 fn request_view<'a>(

@@ -17,8 +17,10 @@
 //! answered. Out of memory comes only for a body that has a reading.
 //!
 //! All asks are one enum, [`AskOf`], over the types of their parts. An [`Ask`] owns its names and its payload. An [`AskView`] borrows them from the body,
-//! and takes no memory. An [`AskStep`] borrows its names and owns its payload: that is what a step takes, since the payload becomes a key's.
-//! `AskView::read(body)` and `AskStep::read(alloc, body)` read as `Ask::read` does, and `to_owned`, `to_step` and `view` lead from one to another.
+//! and takes no memory. `AskView::read(body)` reads as `Ask::read(alloc, body)` does, and `to_owned` and `view` lead from one to the other.
+//!
+//! Three more are an ask that stands elsewhere, and contracts see each as that ask. An [`AskRef`] is a reference to a view. An [`AskStep`] has a payload of
+//! its own besides: what a step takes, since the payload becomes a key's. An [`AskCopy`] has the memory that a copy takes, so that `into_ask` takes none.
 //!
 //! To write a reply with its length before it into one buffer, ask `body_len` for the length and call `write_into`, which
 //! reserves once and then appends. `Reply::refusal(errno)` is the body of a refusal and takes no
@@ -37,13 +39,16 @@
 //! `shape`, is proved to be that one. Asks are read and written field by field, and each is proved to go along its line of the
 //! table. `ask_reading` reads a view of the body, `ask_writing` writes a view of the ask. `field` reads one field from the front
 //! of the bytes, `spelling` writes a message. `reply_reading` and `reply_writing` have the four replies. What the table says of
-//! every body stands as laws in `laws`. `equality` compares messages, `copying` leads from each instance of an ask to the others, and
-//! `shared` keeps an ask whose copies share it.
+//! every body stands as laws in `laws`. `equality` compares messages, and `copying` leads from a view to an ask and back. `borrowed`, `ask_step` and
+//! `ask_copy` have an ask that stands elsewhere.
 #![tactic(auto)]
 
 mod ask;
+mod ask_copy;
 mod ask_reading;
+mod ask_step;
 mod ask_writing;
+mod borrowed;
 mod copying;
 mod equality;
 mod fault;
@@ -54,14 +59,15 @@ mod reply;
 mod reply_reading;
 mod reply_writing;
 mod shape;
-mod shared;
 mod spelling;
 
-pub use ask::{Ask, AskOf, AskStep, AskView};
+pub use ask::{Ask, AskOf, AskView};
+pub use ask_copy::AskCopy;
+pub use ask_step::AskStep;
+pub use borrowed::AskRef;
 pub use fault::{Fault, ReadError};
 pub use greeting::Greeting;
 pub use laws::{asks_have_one_reading, replies_have_one_reading};
 pub use reply::{Reply, ReplyBytes};
 pub use rk_names::KeyError;
 pub use shape::{AskShape, FieldKind, Op};
-pub use shared::SharedAsk;

@@ -21,6 +21,7 @@ impl Reply {
     }
 
     /// How many bytes the reply's body has: at least 1, and few enough for a frame.
+    #[inline(always)]
     pub fn body_len(&self) -> usize
         ensures len { result ≡ length (spelling (reply_message self.now)) }
         ensures fits { (1 ≤ result) × (result ≤ 65536) }
@@ -54,6 +55,7 @@ impl Reply {
     }
 
     /// The line of the table, with this reply's fields.
+    #[inline(always)]
     fn spelled(&self) -> Spelling<'_>
         ensures bytes { all_bytes result ≡ spelling (reply_message self.now) }
         ensures told { AreTold result }

@@ -1,3 +1,4 @@
 pub mod Rules
+pub mod Longs
 pub mod Numbers
 pub mod Settings

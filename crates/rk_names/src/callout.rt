@@ -121,6 +121,14 @@ impl<'a> CalloutView<'a> {
         }
     }
 
+    /// The same once more, which borrows the same bytes.
+    #[inline(always)]
+    pub fn again(&self) -> CalloutView<'a>
+        ensures { result ≡ self.now }
+    {
+        CalloutView { bytes: self.bytes }
+    }
+
     /// The bytes that it was made of.
     pub fn as_bytes(&self) -> &'a [u8]
         ensures bytes { result.now ≡ self.now }

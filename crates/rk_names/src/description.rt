@@ -1,9 +1,10 @@
 //! What a key is called.
 ghost use Rattle.std.specs.Prelude.{◌≡◌, IfOk, IfErr, None, MatchResult, Some};
+ghost use Rattle.rk_names.specs.Longs.{IsLongOf};
 ghost use Rattle.rk_names.specs.Rules.{description_fault, IsRefusedFor};
 
 use crate::errors::NameFault;
-use crate::name_bytes::NameBytes;
+use crate::name_bytes::{LongBytes, NameBytes};
 use crate::text::text_fault;
 use std::alloc::{AllocError, Global};
 use std::marker::Model;
@@ -126,6 +127,14 @@ impl<'a> DescriptionView<'a> {
         }
     }
 
+    /// The same once more, which borrows the same bytes.
+    #[inline(always)]
+    pub fn again(&self) -> DescriptionView<'a>
+        ensures { result ≡ self.now }
+    {
+        DescriptionView { bytes: self.bytes }
+    }
+
     /// The bytes that it was made of.
     pub fn as_bytes(&self) -> &'a [u8]
         ensures bytes { result.now ≡ self.now }
@@ -140,5 +149,24 @@ impl<'a> DescriptionView<'a> {
         ensures { IfOk result (λ n. n ≡ self.now) }
     {
         Description::from_checked(alloc, self.bytes)
+    }
+
+    /// What a copy takes of memory: nothing for at most 31 bytes. The only refusal is out of memory.
+    #[inline(always)]
+    pub fn long(&self, alloc: Global) -> Result<Option<LongBytes>, AllocError>
+        ensures { IfOk result (λ long. IsLongOf long self.now) }
+    {
+        LongBytes::of(alloc, self.bytes)
+    }
+
+    /// A copy for which `long` has taken the memory before.
+    #[inline(always)]
+    pub fn to_owned_with(&self, long: Option<LongBytes>) -> Description
+        requires { IsLongOf long self.now }
+        ensures { result ≡ self.now }
+    {
+        Description {
+            bytes: NameBytes::with(self.bytes, long),
+        }
     }
 }

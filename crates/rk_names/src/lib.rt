@@ -38,6 +38,7 @@ pub use callout::{Callout, CalloutView};
 pub use context::{Context, Setting};
 pub use description::{Description, DescriptionView};
 pub use errors::{Errno, KeyError, NameFault};
+pub use name_bytes::LongBytes;
 pub use numbers::{Moment, NameNo, Serial, SessionId};
 pub use payload::{Payload, PayloadView};
 pub use shared_bytes::SharedBytes;

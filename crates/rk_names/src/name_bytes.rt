@@ -1,5 +1,6 @@
 //! The bytes of a description.
 ghost use Rattle.std.specs.Prelude.{◌≡◌, IfOk};
+ghost use Rattle.rk_names.specs.Longs.{IsLongOf};
 
 use arrayvec::ArrayVec;
 use std::alloc::{AllocError, Global};
@@ -32,15 +33,27 @@ impl NameBytes {
     pub(crate) fn of(alloc: Global, bytes: &[u8]) -> Result<NameBytes, AllocError>
         ensures { IfOk result (λ copy. copy ≡ bytes.now) }
     {
+        let long = LongBytes::of(alloc, bytes)?;
+        Ok(NameBytes::with(bytes, long))
+    }
+
+    /// A copy of the bytes for which the memory was taken before.
+    #[inline(always)]
+    pub(crate) fn with(bytes: &[u8], long: Option<LongBytes>) -> NameBytes
+        requires { IsLongOf long bytes.now }
+        ensures { result ≡ bytes.now }
+    {
         let mut few = ArrayVec::new();
-        if few.try_extend_from_slice(bytes).is_ok() {
-            return Ok(NameBytes { few, many: None });
+        match long {
+            Some(long) => NameBytes {
+                few,
+                many: Some(long.bytes),
+            },
+            None => match few.try_extend_from_slice(bytes) {
+                Ok(()) => NameBytes { few, many: None },
+                Err(_) => unreachable!(),
+            },
         }
-        let many = Vec::from_slice(alloc, bytes)?;
-        Ok(NameBytes {
-            few,
-            many: Some(Arc::new(alloc, many)?),
-        })
     }
 
     /// The bytes, wherever they lie.
@@ -61,6 +74,45 @@ impl Clone for NameBytes {
         Ok(NameBytes {
             few: self.few.clone()?,
             many: self.many.clone()?,
+        })
+    }
+}
+
+/// A copy of bytes that do not stand in the value of a description, made before they are wanted there.
+#[derive(Debug, Drop)]
+pub struct LongBytes {
+    /// More than 31 bytes.
+    bytes: Arc<Vec<u8>>,
+}
+
+impl Model for LongBytes {
+    ghost use Rattle.std.specs.Prelude.{List, ℕ};
+
+    ghost Value = { List ℕ };
+
+    ghost view = { λ b. b.bytes.value.items };
+}
+
+impl LongBytes {
+    /// What a copy of the bytes takes of memory: nothing for at most 31. An `Err` is out of memory.
+    #[inline(always)]
+    pub(crate) fn of(alloc: Global, bytes: &[u8]) -> Result<Option<LongBytes>, AllocError>
+        ensures { IfOk result (λ long. IsLongOf long bytes.now) }
+    {
+        if bytes.len() <= INLINE {
+            return Ok(None);
+        }
+        Ok(Some(LongBytes::copied(alloc, bytes)?))
+    }
+
+    #[cold]
+    #[inline(never)]
+    fn copied(alloc: Global, bytes: &[u8]) -> Result<LongBytes, AllocError>
+        ensures { IfOk result (λ long. long ≡ bytes.now) }
+    {
+        let bytes = Vec::from_slice(alloc, bytes)?;
+        Ok(LongBytes {
+            bytes: Arc::new(alloc, bytes)?,
         })
     }
 }

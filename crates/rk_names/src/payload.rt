@@ -116,6 +116,14 @@ impl<'a> PayloadView<'a> {
         }
     }
 
+    /// The same once more, which borrows the same bytes.
+    #[inline(always)]
+    pub fn again(&self) -> PayloadView<'a>
+        ensures { result ≡ self.now }
+    {
+        PayloadView { bytes: self.bytes }
+    }
+
     /// The bytes that it was made of.
     pub fn as_bytes(&self) -> &'a [u8]
         ensures bytes { result.now ≡ self.now }

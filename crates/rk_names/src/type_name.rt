@@ -125,6 +125,14 @@ impl<'a> TypeView<'a> {
         }
     }
 
+    /// The same once more, which borrows the same bytes.
+    #[inline(always)]
+    pub fn again(&self) -> TypeView<'a>
+        ensures { result ≡ self.now }
+    {
+        TypeView { bytes: self.bytes }
+    }
+
     /// The bytes that it was made of.
     pub fn as_bytes(&self) -> &'a [u8]
         ensures bytes { result.now ≡ self.now }

@@ -8,6 +8,7 @@ use Rattle.rk_names.specs.declared.numbers.SessionId.TheVariants.{Handler}
 use Rattle.rk_auth.specs.declared.construction.Stage.{Stage}
 use Rattle.rk_auth.specs.declared.construction.Stage.TheVariants.{Starting, Plain, Piped, Negating}
 use Rattle.rk_auth.specs.Sessions.{is_running}
+use Rattle.rk_message.specs.Ask.{Ask}
 use Rattle.rk_machine.specs.Event.{Event}
 use Rattle.rk_machine.specs.declared.event.EventOf.TheVariants.{Opened, Asked, Launched, Ended, Collect, Gone}
 use Rattle.rk_machine.specs.declared.event.Answer.{Answer}
@@ -15,9 +16,9 @@ use Rattle.rk_machine.specs.declared.event.Answer.TheVariants.{Done, Start, Nega
 use Rattle.rk_machine.specs.World.{World}
 use Rattle.rk_machine.specs.Steps.{Step}
 use Rattle.rk_machine.specs.Views.{is_owed}
-use Rattle.rk_machine.specs.Owing.{owed, ends_owed, owed_to, ends_owed_to, construction_ends, stage_ends, construction_owes, stage_owes, names_in, whose, start_owes, start_ends, takes, asked_of}
+use Rattle.rk_machine.specs.Owing.{owed, ends_owed, owed_to, ends_owed_to, construction_ends, stage_ends, construction_owes, stage_owes, names_in, whose, start_owes, start_ends, takes, asked_of, need, is_request, is_ask, wait_made}
 use Rattle.rk_machine.specs.Recording.{Reached, Recording}
-use Rattle.rk_machine.proofs.OwedSteps.EachRecorded.{reached_recording, owed_part, ends_part}
+use Rattle.rk_machine.proofs.OwedSteps.EachRecorded.{reached_recording, asked_owes, owed_part, ends_part}
 use Rattle.rk_machine.proofs.OwedSteps.WeightsOfMaps.{no_heavier}
 use Rattle.rk_core.specs.declared.subject_copies.SubjectCopies.{SubjectCopies}
 use Rattle.rk_core.specs.declared.subject_copies.SubjectCopies.TheVariants.{Wanted, Made}
@@ -175,3 +176,64 @@ few_ends w v now e a j reached step is most =
     starts_two (Negate k) = omega arith
     starts_two (Waiting k) = omega arith
     starts_two (Refused x) = omega arith
+
+-- an event needs at most the places of a REQUEST
+need_some : (x : Ask) → cond (is_request x) 6 1 ≤ 6
+need_some x = elim (is_request x) as (λ b. cond b 6 1 ≤ 6) [ true ↦ omega arith | false ↦ omega arith ]
+
+need_most : (e : Event) → need e ≤ 6
+need_most (Asked s x) = need_some x
+need_most (Opened s) = omega arith
+need_most _ = omega arith
+
+kept_most : (b : Bool) (e : Event) (j : JournalShown) → (prepared b e j).reserved ≤ j.reserved + 6
+kept_most true e j = omega arith
+kept_most false e j = let most = need_most e in omega (arith, most)
+
+-- the places that are counted before those that were owed are taken off
+pub few_places : (w v : World) (now : ℕ) (e : Event) (a : Answer) (j : JournalShown) → Reached w → Step w now e a v → j.reserved ≡ owed w → j.ends ≡ ends_owed w
+    → owed w ≤ 1048576 → j.reserved + owed_to v (whose e) + start_owes a < 2 ^ 64
+few_places w v now e a j reached step owes owes_ends most =
+    let kept = (is_prepared w v now e a j reached step owes owes_ends).reserved in
+    let part = owed_part w (whose e) in
+    let more = kept_most (is_owed w e) e j in omega (arith, kept, part, more, owes, most)
+
+-- ---- what a turn counts of what is owed to whom its event is about
+
+-- before the step, and after it: of an ask its wait alone
+abbrev pub counted_before : World → Event → ℕ
+counted_before w e = if is_ask e then 0 else owed_to w (whose e)
+
+abbrev pub counted_after : World → Event → Answer → ℕ
+counted_after v e a = if is_ask e then wait_made a else owed_to v (whose e)
+
+-- it is as much less before the step as after it
+counted_so : (w v : World) (now : ℕ) (e : Event) (a : Answer) → Reached w → Step w now e a v
+    → (rest : ℕ) × (owed_to w (whose e) ≡ rest + counted_before w e) × (owed_to v (whose e) ≡ rest + counted_after v e a)
+counted_so w v now e a reached step = by_kind (is_ask e) refl
+  where
+    by_kind : (t : Bool) → is_ask e ≡ t
+        → (rest : ℕ) × (owed_to w (whose e) ≡ rest + (if t then 0 else owed_to w (whose e)))
+        × (owed_to v (whose e) ≡ rest + (if t then wait_made a else owed_to v (whose e)))
+    by_kind true is = (owed_to w (whose e), omega arith, asked_owes w now e a v reached step is)
+    by_kind false is = (0, omega arith, omega arith)
+
+-- so the same is kept
+pub counted_same : (w v : World) (now : ℕ) (e : Event) (a : Answer) (kept : ℕ) → Reached w → Step w now e a v
+    → kept + counted_after v e a + start_owes a - counted_before w e ≡ kept + owed_to v (whose e) + start_owes a - owed_to w (whose e)
+counted_same w v now e a kept reached step = let so = counted_so w v now e a reached step in let before = so.1 in let after = so.2 in omega arith
+
+-- and no more is counted than is owed
+pub counted_less : (w v : World) (now : ℕ) (e : Event) (a : Answer) → Reached w → Step w now e a v
+    → (counted_before w e ≤ owed_to w (whose e)) × (counted_after v e a ≤ owed_to v (whose e))
+counted_less w v now e a reached step =
+    let so = counted_so w v now e a reached step in let before = so.1 in let after = so.2 in (omega arith, omega arith)
+
+-- what an event frees was kept, also as it is counted
+pub counted_frees : (w v : World) (now : ℕ) (e : Event) (a : Answer) (j : JournalShown) → Reached w → Step w now e a v → j.reserved ≡ owed w → j.ends ≡ ends_owed w
+    → counted_before w e ≤ j.reserved + counted_after v e a + start_owes a
+counted_frees w v now e a j reached step owes owes_ends =
+    let so = counted_so w v now e a reached step in
+    let before = so.1 in
+    let after = so.2 in
+    let frees = (frees w v now e a j reached step owes owes_ends).0 in omega arith

@@ -7,9 +7,16 @@ use Rattle.rk_machine.specs.Event.{Event}
 use Rattle.rk_machine.specs.declared.event.EventOf.TheVariants as event
 use Rattle.rk_machine.specs.declared.event.Answer.{Answer}
 use Rattle.rk_machine.specs.declared.event.Answer.TheVariants.{Done, Start, Refused}
-use Rattle.rk_record.specs.declared.told.Told.{Told}
-use Rattle.rk_record.specs.declared.told.Told.TheVariants as told
-use Rattle.rk_record.specs.declared.turn.Copies.{Copies}
+use Rattle.rk_message.specs.Ask.{Ask}
+use Rattle.rk_record.specs.declared.told.ToldOf.{ToldOf}
+use Rattle.rk_record.specs.declared.told.ToldOf.TheVariants as told
+use Rattle.rk_record.specs.declared.copies.Copies.{Copies}
+use Rattle.rk_record.specs.declared.copies.Copies.TheVariants as copies
+use Rattle.rk_record.specs.declared.ready.Ready.{Ready}
+
+-- an event as a receipt says it
+abbrev pub Told : Type 0
+Told = ToldOf Ask
 
 -- what a receipt says of an event: all, but of a payload its length
 abbrev pub told_of : Event → Told
@@ -39,7 +46,21 @@ IsNoAsk _ = Unit {0}
 abbrev pub IsIdleAnswer : Answer → Type 0
 IsIdleAnswer a = ((b : List ℕ) × (a ≡ Done (Bytes b))) ⊎ (a ≡ Refused errno.Enomem)
 
--- all that is copied of an event before a step
-pub record AreCopies (e : Event) (c : Copies) : Type 0 where
-  pub event : c.event ≡ e
-  pub told : c.told ≡ told_of e
+-- of the payload of an end there is a copy
+abbrev pub IsCopied : Event → Option (List ℕ) → Type 0
+IsCopied (event.Ended k how (Some payload)) copy = copy ≡ Some payload
+IsCopied _ copy = Unit {0}
+
+-- what is copied of an event before a step: of an ask for the step and for the record, of an end its payload for the record
+abbrev pub AreCopies : Event → Copies → Type 0
+AreCopies (event.Asked s a) (copies.Ask step kept) = (step ≡ a) × (kept ≡ a)
+AreCopies (event.Asked s a) _ = ⊥
+AreCopies _ (copies.Ask step kept) = ⊥
+AreCopies e (copies.End copy) = IsCopied e (Some copy)
+AreCopies e copies.Nothing = IsCopied e None
+
+-- what a turn has of an event before its step: what the step takes and what the record keeps are the event, and the receipt says it
+pub record IsReady (e : Event) (r : Ready) : Type 0 where
+  pub step : r.step ≡ e
+  pub copy : r.copy ≡ e
+  pub told : r.told ≡ told_of e

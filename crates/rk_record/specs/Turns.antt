@@ -11,18 +11,14 @@ use Rattle.rk_machine.specs.declared.event.Answer.{Answer}
 use Rattle.rk_machine.specs.declared.event.Answer.TheVariants.{Refused}
 use Rattle.rk_record.specs.declared.hall_no.HallNo.{HallNo}
 use Rattle.rk_record.specs.declared.recorded.Recorded.{Recorded}
-use Rattle.rk_record.specs.declared.told.Told.{Told}
+use Rattle.rk_message.specs.Ask.{Ask}
+use Rattle.rk_record.specs.declared.receipt.ReceiptOf.{ReceiptOf}
 use Rattle.rk_record.specs.Copies.{told_of}
 use Rattle.rk_record.specs.Record.{HallShown}
 
--- what a receipt says
-pub record Noted : Type 0 where
-  pub hall : HallNo
-  pub volume : ℕ
-  pub number : ℕ
-  pub moment : ℕ
-  pub told : Told
-  pub answer : Answer
+-- what a receipt says, whether it borrows its ask or not
+abbrev pub Noted : Type 0
+Noted = ReceiptOf Ask
 
 -- the step is what the receipt says: its moment, its event, its answer
 pub record IsStepOf (r : Noted) (s : Recorded) : Type 0 where

@@ -1,28 +1,55 @@
 //! What is copied of a step, so that its record and its receipt each have their own.
-ghost use Rattle.std.specs.Prelude.{◌≡◌, ◌≤◌, ◌-◌, is_some, IfSome, IfNone, ◌≢◌};
+ghost use Rattle.std.specs.Prelude.{◌≡◌, is_some, IfOk, IfSome, IfNone, ◌≢◌};
 ghost use Rattle.rk_machine.specs.Owing.{asked_of};
-ghost use Rattle.rk_record.specs.Journal.{rooms_taken};
-ghost use Rattle.rk_record.specs.Copies.{started, FitsStart, IsNoAsk, IsIdleAnswer};
+ghost use Rattle.rk_record.specs.Copies.{started, AreCopies, FitsStart, IsIdleAnswer};
 
-use crate::journal::Journal;
-use rk_machine::{Answer, BoxedSubject, Event, EventStep};
-use rk_message::{AskStep, Reply};
-use rk_names::Errno;
+use rk_machine::{Answer, BoxedSubject, EventView};
+use rk_message::{AskCopy, AskStep, AskView, Reply};
+use rk_names::{Errno, Payload};
+use std::alloc::{AllocError, Global};
+
+/// What is copied of an event before its step, since there it takes memory: for the step, and for the record.
+#[derive(Drop)]
+pub enum Copies<'a> {
+    /// An ask: what the step takes, and what the record keeps.
+    Ask(AskStep<'a>, AskCopy<'a>),
+    /// The payload of an end, for the record.
+    End(Payload),
+    /// Nothing takes memory.
+    Nothing,
+}
+
+impl<'a> Copies<'a> {
+    /// The copies of an event. An `Err` is out of memory.
+    #[inline(always)]
+    pub fn of(alloc: Global, event: &EventView<'a>) -> Result<Copies<'a>, AllocError>
+        ensures { IfOk result (λ c. AreCopies event.now c) }
+    {
+        match event {
+            EventView::Asked(_, ask) => Ok(Copies::Ask(
+                AskStep::of(alloc, ask.again())?,
+                AskCopy::of(alloc, ask.again())?,
+            )),
+            EventView::Ended(_, _, Some(payload)) => Ok(Copies::End(payload.clone()?)),
+            _ => Ok(Copies::Nothing),
+        }
+    }
+}
 
 /// Whether an event may start a construction: a REQUEST with a callout.
-pub(crate) fn may_start(event: &EventStep<'_>) -> bool
+pub(crate) fn may_start(event: &EventView<'_>) -> bool
     ensures { result ≡ is_some (asked_of event.now) }
 {
-    matches!(
-        event,
-        EventStep::Asked(
-            _,
-            AskStep::Request {
+    match event {
+        EventView::Asked(_, ask) => matches!(
+            ask.ask(),
+            AskView::Request {
                 callout: Some(_),
                 ..
-            },
-        )
-    )
+            }
+        ),
+        _ => false,
+    }
 }
 
 /// A copy of an answer for the record, which for a start has this copy of its subject. `None` if there is none: out of memory is no answer
@@ -46,6 +73,7 @@ pub(crate) fn recorded_answer(answer: &Answer, subject: Option<BoxedSubject>) ->
     }
 }
 
+#[inline(always)]
 fn recorded_reply(reply: &Reply) -> Option<Reply>
     ensures copy { IfSome result (λ r. r ≡ reply.now) }
     ensures none { IfNone result (IsIdleAnswer (Answer.Done reply.now)) }
@@ -83,25 +111,5 @@ pub(crate) fn started_subject(
     match answer {
         Answer::Start(_, _) => subject,
         _ => None,
-    }
-}
-
-/// A copy of an event other than an ask, with the payload of an end in room that was kept for it. It takes no memory.
-pub(crate) fn copy_without_memory(event: &EventStep<'_>, journal: &mut Journal) -> Event
-    requires ask { IsNoAsk event.now }
-    requires room { rooms_taken event.now ≤ journal.old.ends }
-    ensures copy { result ≡ event.now }
-    ensures journal { journal.new ≡ record journal.old { ends = journal.old.ends - rooms_taken event.now } }
-{
-    match event {
-        EventStep::Opened(id) => Event::Opened(*id),
-        EventStep::Asked(_, _) => unreachable!(),
-        EventStep::Launched(key, ran) => Event::Launched(*key, *ran),
-        EventStep::Ended(key, how, None) => Event::Ended(*key, *how, None),
-        EventStep::Ended(key, how, Some(payload)) => {
-            Event::Ended(*key, *how, Some(journal.take_room().fill(payload)))
-        }
-        EventStep::Collect(id) => Event::Collect(*id),
-        EventStep::Gone(id) => Event::Gone(*id),
     }
 }

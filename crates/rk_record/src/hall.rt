@@ -11,7 +11,7 @@ use crate::hall_no::HallNo;
 use crate::journal::Journal;
 use crate::recorded::Recorded;
 use rk_core::{Book, Limits};
-use rk_machine::EventStep;
+use rk_machine::EventView;
 use rk_names::{Description, Moment, Serial, SessionId, TypeName};
 use std::alloc::{AllocError, Global};
 use std::marker::Model;
@@ -154,7 +154,7 @@ impl Hall {
     }
 
     /// Whether the event is owed: nothing may refuse it.
-    pub fn owes(&self, event: &EventStep<'_>) -> bool
+    pub fn owes(&self, event: &EventView<'_>) -> bool
         ensures { result ≡ is_owed self.now.world event.now }
     {
         self.book.owes(event)

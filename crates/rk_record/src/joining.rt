@@ -60,10 +60,9 @@ fn step_through(
     let mut number = before;
     for step in steps {
         number = number.saturating_add(1);
-        let Ok(event) = step.event.to_step(alloc) else {
+        let Ok(answer) = book.step_of(alloc, step.now, &step.event) else {
             return Err(Rejoin::NoMemory);
         };
-        let answer = book.step(step.now, event);
         if !answer.equals(&step.answer) {
             if is_want_of_memory(&answer) {
                 return Err(Rejoin::NoMemory);

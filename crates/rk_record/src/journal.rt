@@ -91,6 +91,7 @@ impl Journal {
     }
 
     /// Keeps so many places more. Full comes if there are not so many that are free; a refusal changes nothing, and none comes for no place.
+    #[inline(always)]
     pub(crate) fn reserve(&mut self, count: usize) -> Result<(), HallFault>
         requires { count ≤ 1048576 }
         ensures ok { OnOk result (self.new ≡ record self.old { reserved = self.old.reserved + count }) }

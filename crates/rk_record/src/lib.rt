@@ -30,11 +30,11 @@
 //!
 //! `journal` has the steps of the volume that is being recorded, with the places and the room that are kept; `room` is room for one payload. `hall`
 //! has the hall and what is only asked of it, `turn` its turns, `roll` its volumes. A turn asks the book before the step and after it what is owed to
-//! the client or construction that the event is about, and keeps the difference. It knows no kind of event by itself. `copies` has what is copied of
-//! a step: the record and the receipt share what was asked. Of an event that is not owed the caller may make the [`Copies`] before the hall is locked. The
-//! copies of a start's subject, for the record and for whoever launches the handler, are made by the step (`SubjectCopies` of rk_core). `recorded`,
-//! `told`, `receipt`, `volume` and `fault` have what is recorded and handed out, `hall_no` the numbers of the halls, `joining` and `rejoin_fault` have
-//! `rejoin`.
+//! the client or construction that the event is about, and keeps the difference; of an ask the answer says it. `copies` has what is copied of an event
+//! before its step, and `ready` an event for which all memory is there. Of an event that is not owed the caller may make the [`Copies`] before the hall is
+//! locked. A receipt borrows the ask ([`ReceiptView`]), and whoever keeps it copies it (`to_owned`). The copies of a start's subject, for the record and for
+//! whoever launches the handler, are made by the step (`SubjectCopies` of rk_core). `recorded`, `told`, `receipt`, `volume` and `fault` have what is
+//! recorded and handed out, `hall_no` the numbers of the halls, `joining` and `rejoin_fault` have `rejoin`.
 //!
 //! In `specs/`, `Record` says what a record is, `Turns` what one turn does, `Volumes` what a roll does and what breaks a run,
 //! `HallNumbers` which hall has which number. `Copies` and `Journal` are of the way in which a hall does it. How what is owed changes by a
@@ -47,6 +47,7 @@ mod hall;
 mod hall_no;
 mod joining;
 mod journal;
+mod ready;
 mod receipt;
 mod recorded;
 mod rejoin_fault;
@@ -56,13 +57,13 @@ mod told;
 mod turn;
 mod volume;
 
+pub use copies::Copies;
 pub use fault::HallFault;
 pub use hall::{Hall, MAX_STEPS};
 pub use hall_no::HallNo;
 pub use joining::rejoin;
-pub use receipt::Receipt;
+pub use receipt::{Receipt, ReceiptOf, ReceiptView};
 pub use recorded::Recorded;
 pub use rejoin_fault::Rejoin;
-pub use told::Told;
-pub use turn::Copies;
+pub use told::{Told, ToldOf, ToldView};
 pub use volume::Volume;

@@ -1,17 +1,24 @@
 //! What a turn hands back of its step.
-ghost use Rattle.std.specs.Prelude.{◌≡◌, ◌↔◌, IsTrue};
+ghost use Rattle.std.specs.Prelude.{◌≡◌, ◌↔◌, IsTrue, IfOk};
 ghost use Rattle.rk_record.specs.Turns.{IsStepOf};
 
 use crate::hall_no::HallNo;
 use crate::recorded::Recorded;
-use crate::told::Told;
+use crate::told::ToldOf;
 use rk_machine::Answer;
+use rk_message::{Ask, AskRef};
 use rk_names::Moment;
-use std::marker::Model;
+use std::alloc::{AllocError, Global};
 
-/// What a turn hands back of its step. Only a turn of a hall makes one.
+/// What a turn handed back of its step, kept: an ask has names and a payload of its own.
+pub type Receipt = ReceiptOf<Ask>;
+
+/// What a turn hands back of its step: an ask is still borrowed from the bytes that say it.
+pub type ReceiptView<'a> = ReceiptOf<AskRef<'a>>;
+
+/// What a turn hands back of its step, with an ask `A`. Only a turn of a hall makes one.
 #[derive(Debug, Drop)]
-pub struct Receipt {
+pub struct ReceiptOf<A> {
     /// The hall that took the turn.
     pub(crate) hall: HallNo,
     /// The volume that has the step, from 1.
@@ -21,20 +28,14 @@ pub struct Receipt {
     /// The moment that was handed in.
     pub(crate) moment: Moment,
     /// The event that was handed in.
-    pub(crate) told: Told,
+    pub(crate) told: ToldOf<A>,
     /// What it was answered.
     pub(crate) answer: Answer,
 }
 
-impl Model for Receipt {
-    ghost use Rattle.rk_record.specs.Turns.{Noted};
+impl<A> ReceiptOf<A> {
+    ghost use Rattle.std.specs.Prelude.{◌≡◌};
 
-    ghost Value = { Noted };
-
-    ghost view = { λ r. record { hall = r.hall; volume = r.volume; number = r.number; moment = r.moment; told = r.told; answer = r.answer } };
-}
-
-impl Receipt {
     /// The hall that took the turn.
     pub fn hall(&self) -> HallNo
         ensures { result ≡ self.now.hall }
@@ -64,7 +65,7 @@ impl Receipt {
     }
 
     /// The event that was handed in, of a payload its length alone.
-    pub fn told(&self) -> &Told
+    pub fn told(&self) -> &ToldOf<A>
         ensures { result.now ≡ self.now.told }
     {
         &self.told
@@ -76,7 +77,25 @@ impl Receipt {
     {
         &self.answer
     }
+}
 
+impl<'a> ReceiptView<'a> {
+    /// The same with copies of what it borrows, to be kept. An `Err` is out of memory.
+    pub fn to_owned(&self, alloc: Global) -> Result<Receipt, AllocError>
+        ensures { IfOk result (λ r. r ≡ self.now) }
+    {
+        Ok(Receipt {
+            hall: self.hall,
+            volume: self.volume,
+            number: self.number,
+            moment: self.moment,
+            told: self.told.to_owned(alloc)?,
+            answer: self.answer.clone()?,
+        })
+    }
+}
+
+impl Receipt {
     /// Whether it says what the step is: its moment, its event and its answer.
     pub fn is_of(&self, step: &Recorded) -> bool
         ensures { IsTrue result ↔ IsStepOf self.now step.entry.now }

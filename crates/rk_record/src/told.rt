@@ -2,18 +2,24 @@
 ghost use Rattle.std.specs.Prelude.{◌≡◌, ◌↔◌, IsTrue, IfOk, length, option_map};
 ghost use Rattle.rk_record.specs.Copies.{told_of, IsNoAsk};
 
-use rk_machine::{Event, EventStep, How, Ran};
-use rk_message::SharedAsk;
+use rk_machine::{Event, EventView, How, Ran};
+use rk_message::{Ask, AskRef};
 use rk_names::{Payload, Serial, SessionId};
-use std::alloc::AllocError;
+use std::alloc::{AllocError, Global};
 
-/// An event as a receipt says it: all but the payload of an end, of which it has the length.
+/// An event as a receipt says it, where an ask has names and a payload of its own.
+pub type Told = ToldOf<Ask>;
+
+/// An event as a receipt says it, where an ask is still borrowed from the bytes that say it.
+pub type ToldView<'a> = ToldOf<AskRef<'a>>;
+
+/// An event as a receipt says it, with an ask `A`: all but the payload of an end, of which it has the length.
 #[derive(Debug, Drop)]
-pub enum Told {
+pub enum ToldOf<A> {
     /// A client is there.
     Opened(SessionId),
     /// A session asks.
-    Asked(SessionId, SharedAsk),
+    Asked(SessionId, A),
     /// The handler of a key was started, or could not be.
     Launched(Serial, Ran),
     /// The handler of a key has ended; a piped one may have output a payload of this length.
@@ -24,36 +30,42 @@ pub enum Told {
     Gone(SessionId),
 }
 
-impl Told {
-    /// The summary of an event. An `Err` is out of memory, and results from an ask alone.
-    pub(crate) fn of(event: &Event) -> Result<Told, AllocError>
-        ensures { IfOk result (λ t. t ≡ told_of event.now) }
-    {
-        Ok(match event {
-            Event::Opened(id) => Told::Opened(*id),
-            Event::Asked(id, ask) => Told::Asked(*id, ask.clone()?),
-            Event::Launched(key, ran) => Told::Launched(*key, *ran),
-            Event::Ended(key, how, payload) => Told::Ended(*key, *how, payload_len(payload)),
-            Event::Collect(id) => Told::Collect(*id),
-            Event::Gone(id) => Told::Gone(*id),
-        })
-    }
-
-    /// The summary of an event other than an ask. It takes no memory.
-    pub(crate) fn of_no_ask(event: &EventStep<'_>) -> Told
-        requires { IsNoAsk event.now }
+impl<'a> ToldView<'a> {
+    /// The summary of an event. It takes no memory.
+    #[inline(always)]
+    pub(crate) fn of(event: &EventView<'a>) -> ToldView<'a>
         ensures { result ≡ told_of event.now }
     {
         match event {
-            EventStep::Opened(id) => Told::Opened(*id),
-            EventStep::Asked(_, _) => unreachable!(),
-            EventStep::Launched(key, ran) => Told::Launched(*key, *ran),
-            EventStep::Ended(key, how, payload) => Told::Ended(*key, *how, payload_len(payload)),
-            EventStep::Collect(id) => Told::Collect(*id),
-            EventStep::Gone(id) => Told::Gone(*id),
+            EventView::Opened(id) => ToldView::Opened(*id),
+            EventView::Asked(id, ask) => ToldView::Asked(*id, ask.again()),
+            EventView::Launched(key, ran) => ToldView::Launched(*key, *ran),
+            EventView::Ended(key, how, payload) => ToldView::Ended(
+                *key,
+                *how,
+                payload_len(payload),
+            ),
+            EventView::Collect(id) => ToldView::Collect(*id),
+            EventView::Gone(id) => ToldView::Gone(*id),
         }
     }
 
+    /// The same with copies of what it borrows. An `Err` is out of memory, and comes of an ask alone.
+    pub(crate) fn to_owned(&self, alloc: Global) -> Result<Told, AllocError>
+        ensures { IfOk result (λ told. told ≡ self.now) }
+    {
+        Ok(match self {
+            ToldView::Opened(id) => Told::Opened(*id),
+            ToldView::Asked(id, ask) => Told::Asked(*id, ask.ask().to_owned(alloc)?),
+            ToldView::Launched(key, ran) => Told::Launched(*key, *ran),
+            ToldView::Ended(key, how, len) => Told::Ended(*key, *how, *len),
+            ToldView::Collect(id) => Told::Collect(*id),
+            ToldView::Gone(id) => Told::Gone(*id),
+        })
+    }
+}
+
+impl Told {
     /// Whether this is the summary of the event.
     pub fn is_of(&self, event: &Event) -> bool
         ensures { IsTrue result ↔ (told_of event.now ≡ self.now) }
@@ -61,7 +73,7 @@ impl Told {
         match (self, event) {
             (Told::Opened(id), Event::Opened(other)) => id == other,
             (Told::Asked(id, ask), Event::Asked(other_id, other_ask)) => {
-                id == other_id && ask.ask().equals(other_ask.ask())
+                id == other_id && ask.equals(other_ask)
             }
             (Told::Launched(key, ran), Event::Launched(other_key, other_ran)) => {
                 key == other_key && ran == other_ran

@@ -1,23 +1,22 @@
 //! A turn of a hall: one step of its book, recorded.
-ghost use Rattle.std.specs.Prelude.{◌≡◌, ◌+◌, ◌-◌, ◌<◌, ◌≤◌, ◌↔◌, true, false, length, IfOk, IfSome, OnErr, OnOk, IsOk, Err};
+ghost use Rattle.std.specs.Prelude.{if◌then◌else◌, ◌≡◌, ◌+◌, ◌-◌, ◌<◌, ◌≤◌, ◌↔◌, true, false, length, IfOk, IfSome, OnErr, OnOk, IsOk, Err};
 ghost use Rattle.rk_machine.specs.Views.{is_owed};
 ghost use Rattle.rk_machine.specs.Owing.{owed_to, ends_owed_to, need};
 ghost use Rattle.rk_record.specs.Record.{IsRecord, IsFull};
 ghost use Rattle.rk_record.specs.Turns.{Turned};
 ghost use Rattle.rk_record.specs.Journal.{prepared, rooms_taken, rooms_made};
-ghost use Rattle.rk_record.specs.Copies.{started, IsNoAsk, AreCopies};
+ghost use Rattle.rk_record.specs.Copies.{started, AreCopies, IsReady};
 
-use crate::copies::{copy_without_memory, may_start, recorded_answer, started_subject};
+use crate::copies::{Copies, may_start, recorded_answer, started_subject};
 use crate::fault::HallFault;
 use crate::hall::Hall;
 use crate::journal::Journal;
-use crate::receipt::Receipt;
+use crate::ready::{Ready, recorded_event};
+use crate::receipt::ReceiptView;
 use crate::recorded::Recorded;
-use crate::told::Told;
 use rk_core::{Book, SubjectCopies};
-use rk_machine::{BoxedSubject, Event, EventStep};
+use rk_machine::{BoxedSubject, EventView};
 use rk_names::{Moment, SessionId};
-use std::alloc::{AllocError, Global};
 
 impl Hall {
     /// Takes one step of the book at this moment, and records it. The receipt says the step.
@@ -25,7 +24,11 @@ impl Hall {
     /// [`HallFault::Full`] is returned exactly if an event that is not owed may need more places than are free: 2 for `Opened`, 6 for REQUEST, 1
     /// for any other. [`HallFault::NoMemory`] is returned if an allocation failed. Neither takes a step or changes anything, and neither is
     /// returned for what is owed, which takes no memory.
-    pub fn turn(&mut self, now: Moment, event: EventStep<'_>) -> Result<Receipt, HallFault>
+    pub fn turn<'a>(
+        &mut self,
+        now: Moment,
+        event: EventView<'a>,
+    ) -> Result<ReceiptView<'a>, HallFault>
         ensures ok { IfOk result (λ r. Turned self.old now event.entry r self.new) }
         ensures err { OnErr result (self.new ≡ self.old) }
         ensures sound { IsRecord self.new }
@@ -45,12 +48,13 @@ impl Hall {
 
     /// The same, with the subject of a start once more, for whoever starts the handler. The copies are of this event, so that they can be made before
     /// the hall is locked. If there are none, and the event is not owed, it is as if an allocation failed.
-    pub fn turn_to_start(
+    #[inline(always)]
+    pub fn turn_to_start<'a>(
         &mut self,
         now: Moment,
-        event: EventStep<'_>,
-        copies: Option<Copies>,
-    ) -> Result<(Receipt, Option<BoxedSubject>), HallFault>
+        event: EventView<'a>,
+        copies: Option<Copies<'a>>,
+    ) -> Result<(ReceiptView<'a>, Option<BoxedSubject>), HallFault>
         requires { IfSome copies (λ c. AreCopies event c) }
         ensures ok { IfOk result (λ r. Turned self.old now event.entry r.0 self.new) }
         ensures subject { IfOk result (λ r. r.1 ≡ started r.0.answer) }
@@ -60,20 +64,21 @@ impl Hall {
         ensures full { (result ≡ Err HallFault.Full) ↔ IsFull self.old event.entry }
     {
         let kept = Kept::of(&self.journal);
-        let copies = prepare(&self.book, &mut self.journal, &event, copies)?;
         let whose = event.whose();
-        let owed = Kept::owed_to(&self.book, &whose);
+        let asks = event.is_ask();
+        let ready = prepare(&self.book, &mut self.journal, event, copies)?;
+        let owed = Kept::owed_to(&self.book, &whose, asks, 0);
         let mut subjects = SubjectCopies::Wanted;
-        let answer = self.book.step_to_start(now, event, &mut subjects);
+        let answer = self.book.step_to_start(now, ready.step, &mut subjects);
         let (recorded, started) = subjects.into_pair();
         let Some(copy) = recorded_answer(&answer, recorded) else {
             self.journal.keep(kept.places, kept.ends);
             return Err(HallFault::NoMemory);
         };
-        let left = Kept::owed_to(&self.book, &whose);
+        let left = Kept::owed_to(&self.book, &whose, asks, answer.wait_owes());
         self.journal.push(Recorded {
             now,
-            event: copies.event,
+            event: recorded_event(ready.copy),
             answer: copy,
         });
         self.journal.keep(
@@ -82,12 +87,12 @@ impl Hall {
         );
         let subject = started_subject(&answer, started);
         Ok((
-            Receipt {
+            ReceiptView {
                 hall: self.no,
                 volume: self.index,
                 number: self.before + self.journal.steps().len() as u64,
                 moment: now,
-                told: copies.told,
+                told: ready.told,
                 answer,
             },
             subject,
@@ -114,102 +119,52 @@ impl Kept {
         }
     }
 
-    fn owed_to(book: &Book, id: &SessionId) -> Kept
-        ensures { (result.places ≡ owed_to book.now id.now) × (result.ends ≡ ends_owed_to book.now id.now) }
+    /// What is owed to a session, before a step or after it. An ask changes the places that are owed to whoever asks by its wait alone: so nothing is looked
+    /// up for them, and only those for the wait are counted.
+    #[inline(always)]
+    fn owed_to(book: &Book, id: &SessionId, asks: bool, wait: usize) -> Kept
+        ensures places { result.places ≡ (if asks then wait else owed_to book.now id.now) }
+        ensures ends { result.ends ≡ ends_owed_to book.now id.now }
     {
         Kept {
-            places: book.owed_to(id),
+            places: if asks { wait } else { book.owed_to(id) },
             ends: book.ends_owed_to(id),
         }
     }
 }
 
-/// What a turn copies of its event: for the record and the receipt.
-#[derive(Drop)]
-pub struct Copies {
-    /// The event, for the record.
-    event: Event,
-    /// What the receipt says of it.
-    told: Told,
-}
-
-impl Copies {
-    /// The copies of an event. An `Err` is out of memory.
-    #[inline(always)]
-    pub fn of(alloc: Global, event: &EventStep<'_>) -> Result<Copies, AllocError>
-        ensures { IfOk result (λ c. AreCopies event.now c) }
-    {
-        let event = event.to_owned(alloc)?;
-        Ok(Copies {
-            told: Told::of(&event)?,
-            event,
-        })
-    }
-}
-
-/// Keeps the places that the steps of an event may need and room for the ends of what it may start. For what is owed both are kept already, and it is
-/// copied here, without memory. A refusal changes nothing.
-fn prepare(
+/// Keeps the places that the steps of an event may need and room for the ends of what it may start. For what is owed both are kept already, and the payload
+/// of an end is copied here, into that room. A refusal changes nothing.
+#[inline(always)]
+fn prepare<'a>(
     book: &Book,
     journal: &mut Journal,
-    event: &EventStep<'_>,
-    copies: Option<Copies>,
-) -> Result<Copies, HallFault>
-    requires given { IfSome copies (λ c. AreCopies event.now c) }
-    requires room { is_owed book.now event.now ≡ true → rooms_taken event.now ≤ journal.old.ends }
+    event: EventView<'a>,
+    copies: Option<Copies<'a>>,
+) -> Result<Ready<'a>, HallFault>
+    requires given { IfSome copies (λ c. AreCopies event c) }
+    requires room { is_owed book.now event ≡ true → rooms_taken event ≤ journal.old.ends }
     requires ends { journal.old.ends ≤ 1048576 }
     requires fits { length journal.old.steps + journal.old.reserved ≤ journal.old.places }
-    ensures copies { IfOk result (λ c. AreCopies event.now c) }
-    ensures journal { OnOk result (journal.new ≡ prepared (is_owed book.now event.now) event.now journal.old) }
+    ensures ready { IfOk result (λ r. IsReady event.entry r) }
+    ensures journal { OnOk result (journal.new ≡ prepared (is_owed book.now event.entry) event.entry journal.old) }
     ensures fits { OnOk result (length journal.new.steps + journal.new.reserved ≤ journal.new.places) }
     ensures err { OnErr result (journal.new ≡ journal.old) }
-    ensures owed { is_owed book.now event.now ≡ true → IsOk result }
-    ensures full { (result ≡ Err HallFault.Full) ↔ ((is_owed book.now event.now ≡ false)
-        × (journal.old.places - (length journal.old.steps + journal.old.reserved) < need event.now)) }
+    ensures owed { is_owed book.now event.entry ≡ true → IsOk result }
+    ensures full { (result ≡ Err HallFault.Full) ↔ ((is_owed book.now event.entry ≡ false)
+        × (journal.old.places - (length journal.old.steps + journal.old.reserved) < need event.entry)) }
 {
-    if book.owes(event) {
-        return Ok(owed_copies(journal, event));
+    if book.owes(&event) {
+        return Ok(Ready::owed(event, journal));
     }
     let kept = Kept::of(journal);
     journal.reserve(event.need())?;
-    match with_ends(journal, event, copies) {
-        Ok(copies) => Ok(copies),
-        Err(_) => {
+    let ends = if may_start(&event) { 2 } else { 0 };
+    match (copies, journal.reserve_ends(ends)) {
+        (Some(copies), Ok(())) => Ok(Ready::of(event, copies)),
+        _ => {
             journal.keep(kept.places, kept.ends);
             Err(HallFault::NoMemory)
         }
     }
-}
-
-/// The copies of an event that is owed, so that it is no ask. They take no memory.
-fn owed_copies(journal: &mut Journal, event: &EventStep<'_>) -> Copies
-    requires ask { IsNoAsk event.now }
-    requires room { rooms_taken event.now ≤ journal.old.ends }
-    ensures copies { AreCopies event.now result }
-    ensures journal { journal.new ≡ record journal.old { ends = journal.old.ends - rooms_taken event.now } }
-{
-    Copies {
-        event: copy_without_memory(event, journal),
-        told: Told::of_no_ask(event),
-    }
-}
-
-/// The copies of an event that is not owed, once there is room for the ends of what it may start. A refusal changes nothing.
-fn with_ends(
-    journal: &mut Journal,
-    event: &EventStep<'_>,
-    copies: Option<Copies>,
-) -> Result<Copies, AllocError>
-    requires given { IfSome copies (λ c. AreCopies event.now c) }
-    requires ends { journal.old.ends ≤ 1048576 }
-    ensures copies { IfOk result (λ c. AreCopies event.now c) }
-    ensures journal { OnOk result (journal.new ≡ record journal.old { ends = journal.old.ends + rooms_made event.now }) }
-    ensures err { OnErr result (journal.new ≡ journal.old) }
-{
-    let Some(copies) = copies else {
-        return Err(AllocError);
-    };
-    let ends = if may_start(event) { 2 } else { 0 };
-    journal.reserve_ends(ends)?;
-    Ok(copies)
 }

@@ -5,7 +5,7 @@ ghost use Rattle.rk_served.specs.Message.{IsNext};
 use crate::occasion::Occasion;
 use rk_core::{Answer, Book, EventStep};
 use rk_frame::{Frames, Next};
-use rk_message::{AskStep, ReadError};
+use rk_message::{AskRef, AskStep, AskView};
 use rk_names::{Errno, SessionId};
 use std::alloc::{AllocError, Global};
 use std::marker::Model;
@@ -133,13 +133,13 @@ fn next_in(
         (record { bytes = frames.old.bytes; is_shut = is_shut }) book.new (record { bytes = frames.new.bytes; is_shut = is_shut })) }
 {
     match frames.next() {
-        Next::Whole(body) => match AskStep::read(occasion.alloc, body) {
-            Ok(ask) => {
+        Next::Whole(body) => match AskView::read(body) {
+            Ok(view) => {
+                let ask = AskStep::of(occasion.alloc, AskRef::of(&view))?;
                 let event = EventStep::Asked(*who, ask);
                 Ok(Message::Answered(book.step(occasion.moment, event)))
             }
-            Err(ReadError::Fault(fault)) => Ok(Message::Refused(fault.errno())),
-            Err(ReadError::NoMemory) => Err(AllocError),
+            Err(fault) => Ok(Message::Refused(fault.errno())),
         },
         Next::More => Ok(Message::More),
         Next::Fault(_) => Ok(Message::Fault),

@@ -1,8 +1,8 @@
 -- What is said of a message, and how it is told.
 use Rattle.rk_session.proofs.Words.{ℕ, List, [], ◌∷◌, refl, sym, ap, ◌∙◌, subst, Option, Some, None, Result, Ok, Err, SessionId, Errno, Enomem, DeviceFault}
 use Rattle.rk_session.proofs.Words.{and_then, and_more, Answer, HallNo, Noted, SeatShown, IsSettled, IsToWait, Saying, LacksFrame, ReplyFramed, TakesMemory}
-use Rattle.rk_session.proofs.Words.{reply_bytes, reply_of, answered_settled, refusal_settled, Happened, HasNoted, Said, WireShown, Notes, Writes, Speaks, ended}
-use Rattle.rk_session.proofs.Words.{IsNotCalled, IsNotOpened, IsRefused, IsShutOut, Refuses, told_in, AsksHere, Greets, NotRead, Says, ShutOut, Standing}
+use Rattle.rk_session.proofs.Words.{reply_bytes, reply_of, refusal_settled, Happened, HasNoted, Said, WireShown, Notes, Writes, Speaks, ended}
+use Rattle.rk_session.proofs.Words.{IsNotCalled, IsNotOpened, IsRefused, IsShutOut, Refuses, told_in}
 use Rattle.rk_message.specs.declared.reply.Reply.TheVariants as reply
 use Rattle.rk_machine.specs.declared.event.Answer.TheVariants as answer
 use Rattle.rk_talk.specs.declared.saying.Saying.TheVariants as saying
@@ -14,7 +14,8 @@ refused_settled (answer.Negate k) is waits = is
 refused_settled (answer.Waiting k) is waits = is
 refused_settled (answer.Refused e) is waits = waits
 
-shut_settled : (session : SessionId) (hall : HallNo) (old new : SeatShown) (s : Saying) → IsShutOut session hall old new s → IsSettled s
+-- a client that was shut out waits for nothing
+pub shut_settled : (session : SessionId) (hall : HallNo) (old new : SeatShown) (s : Saying) → IsShutOut session hall old new s → IsSettled s
 shut_settled session hall old new s (IsNotCalled f refused is same) = refusal_settled f s is
 shut_settled session hall old new s (IsNotOpened now n called refuses stays alone) = at s refuses
   where
@@ -22,14 +23,6 @@ shut_settled session hall old new s (IsNotOpened now n called refuses stays alon
     at (saying.Noted m) is = λ waits. refused_settled n.answer is.1 (subst (λ (r : Noted). IsToWait r.answer) is.0 waits)
     at (saying.Short e) is = tt
     at saying.Behind is = tt
-
--- whatever is to be said, no answer to wait on is
-pub says_settled : (session : SessionId) (from : Standing) (body : List ℕ) (s : Saying) (to : Standing) → Says session from body s to → IsSettled s
-says_settled session from body s to (NotRead e why) = tt
-says_settled session from body s to (AsksHere a x seat spells known answered) = answered_settled session from.place.hall a from.seat seat x answered
-says_settled session from body s to (Greets a x mid there spells first hello moved answered context) =
-    answered_settled session there.place.hall a mid there.seat x answered
-says_settled session from body s to (ShutOut a x there seat spells first hello another shut) = shut_settled session there from.seat seat x shut
 
 -- an answer on which nobody waits lacks a frame only for lack of memory
 pub settled_takes : (a : Answer) → (IsToWait a → ⊥) → LacksFrame a → TakesMemory (reply_of a)

@@ -5,7 +5,7 @@ use Rattle.rk_session.proofs.Words.{SeatShown, TokenShown, part, with_part, afte
 use Rattle.rk_session.proofs.Words.{with_one, without_one, none_started, call_stays, owed_stays, sees_part, stays_on, stays_same, HasGone, IsMoved, IsNotOpened}
 use Rattle.rk_session.proofs.Words.{IsOpened, IsRefused, Refuses, HasOpened, Leaves, Moves}
 use Rattle.rk_machine.specs.declared.event.Answer.TheVariants as answer
-use Rattle.rk_record.specs.declared.told.Told.TheVariants as told
+use Rattle.rk_record.specs.declared.told.ToldOf.TheVariants as told
 use Rattle.rk_talk.specs.declared.saying.Saying.TheVariants as saying
 
 more_part : (h : HallNo) (s : SeatShown) (p : PartShown) → p.clients ≡ (part h s).clients + 1 → clients_at (with_part h s p) ≡ with_one h (clients_at s)

@@ -11,7 +11,7 @@ pub use Rattle.rk_devices.specs.Shown.{and_then}
 pub use Rattle.rk_devices.specs.declared.device.DeviceFault.{DeviceFault}
 pub use Rattle.rk_frame.specs.Streams.{TakesBody, IsPartial, HasFault}
 pub use Rattle.rk_frame.specs.Unread.{Unread}
-pub use Rattle.rk_hall.specs.Seats.{SeatShown, PartShown, TokenShown, part, with_part, after_call, without_client, opens, OwedSeen}
+pub use Rattle.rk_hall.specs.Seats.{SeatShown, PartShown, TokenShown, IsCalled, HasLaunch, part, with_part, after_call, without_client, opens, OwedSeen}
 pub use Rattle.rk_hall.specs.declared.lapse.Lapse.{Lapse}
 pub use Rattle.rk_machine.specs.Event.{Event}
 pub use Rattle.rk_machine.specs.declared.event.Answer.{Answer}
@@ -33,9 +33,9 @@ pub use Rattle.rk_session.specs.Wires.{Happened, HasNoted, Said, WireShown, Note
 pub use Rattle.rk_session.specs.declared.serving.Served.{Served}
 pub use Rattle.rk_session.specs.declared.serving.Served.TheVariants.{Ended, NotOpened, ReadFault, WriteFault, Malformed, TurnsUsed, Behind}
 pub use Rattle.rk_session.specs.declared.standing.Place.{Place}
-pub use Rattle.rk_talk.proofs.Sayings.{answered_settled, refusal_settled, none_started, receipt_answers, why_not_read}
+pub use Rattle.rk_talk.proofs.Sayings.{answered_settled, refusal_settled, none_started, receipt_answers}
 pub use Rattle.rk_talk.proofs.Seats.{call_stays, owed_stays, sees_part, stays_on, stays_same}
 pub use Rattle.rk_talk.specs.Replies.{LacksFrame, ReplyFramed, TakesMemory, reply_bytes, reply_of}
-pub use Rattle.rk_talk.specs.Said.{IsSettled, IsToWait, HasLaunch, IsCalled, IsNotAsked}
+pub use Rattle.rk_talk.specs.Said.{IsSettled, IsToWait, IsNotAsked}
 pub use Rattle.rk_talk.specs.Stays.{Clients, Stays, SeesOn, clients_at, with_one, without_one}
 pub use Rattle.rk_talk.specs.declared.saying.Saying.{Saying}

@@ -6,13 +6,13 @@ use Rattle.rk_machine.specs.declared.event.EventOf.TheVariants.{Opened, Gone}
 use Rattle.rk_machine.specs.declared.event.Answer.{Answer}
 use Rattle.rk_machine.specs.declared.event.Answer.TheVariants as answer
 use Rattle.rk_record.specs.declared.hall_no.HallNo.{HallNo}
-use Rattle.rk_record.specs.declared.told.Told.TheVariants as told
+use Rattle.rk_record.specs.declared.told.ToldOf.TheVariants as told
 use Rattle.rk_record.specs.Copies.{started}
 use Rattle.rk_record.specs.Turns.{Noted}
-use Rattle.rk_hall.specs.Seats.{CallRefused, OwedSeen, SeatShown, after_call, part, with_part, without_client}
+use Rattle.rk_hall.specs.Seats.{CallRefused, IsCalled, OwedSeen, SeatShown, after_call, part, with_part, without_client}
 use Rattle.rk_hall.specs.declared.lapse.CallFault.{CallFault}
 use Rattle.rk_hall.specs.declared.lapse.Lapse.{Lapse}
-use Rattle.rk_talk.specs.Said.{IsCalled, IsRefusal, IsToWait}
+use Rattle.rk_talk.specs.Said.{IsRefusal, IsToWait}
 use Rattle.rk_talk.specs.Stays.{Stays}
 use Rattle.rk_talk.specs.declared.saying.Saying.{Saying}
 use Rattle.rk_talk.specs.declared.saying.Saying.TheVariants as saying

@@ -1,7 +1,6 @@
 -- Where a client stands, and what is to be said of its messages there.
-use Rattle.std.specs.Prelude.{◌≡◌, ◌≢◌, ◌⊎◌, ◌%◌, ℕ, Bool, true, false, List}
+use Rattle.std.specs.Prelude.{◌≡◌, ◌≢◌, ◌%◌, ℕ, Bool, true, false, List}
 use Rattle.rk_names.specs.declared.errors.Errno.{Errno}
-use Rattle.rk_names.specs.declared.errors.Errno.TheVariants.{Enomem}
 use Rattle.rk_names.specs.declared.numbers.SessionId.{SessionId}
 use Rattle.rk_message.specs.Ask.{Ask}
 use Rattle.rk_message.specs.declared.ask.AskOf.TheVariants as ask
@@ -56,8 +55,8 @@ says_done saying.Behind = false
 
 -- of a message of a client that stands here, and how it stands then
 pub data Says (session : SessionId) (from : Standing) (body : List ℕ) : Saying → Standing → Type 0 where
-  -- the body spells no ask, or there was no memory to read it: nothing was done
-  NotRead : (e : Errno) → IsRefusedAs e body ⊎ (e ≡ Enomem) → Says session from body (saying.Short e) from
+  -- the body spells no ask: nothing was done
+  NotRead : (e : Errno) → IsRefusedAs e body → Says session from body (saying.Short e) from
   -- its ask is made where the client stands
   AsksHere : (a : Ask) (s : Saying) (seat : SeatShown) → Spells a body → (IsHello a → from.place.greeted ≡ true)
       → IsAnswered session from.place.hall a from.seat seat s → Says session from body s (standing_of from.place seat)

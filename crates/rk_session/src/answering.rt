@@ -1,9 +1,9 @@
 //! What is to be said of a message where its call alone doesn't say it: of an ask that starts something or waits, and of a HELLO that moves its client.
-ghost use Rattle.std.specs.Prelude.{◌≡◌, ◌≤◌, None, false, true, MatchBool, MatchOption};
+ghost use Rattle.std.specs.Prelude.{◌≡◌, ◌≤◌, ℕ, List, None, false, true, MatchBool, MatchOption};
 ghost use Rattle.rk_names.specs.declared.numbers.SessionId.TheVariants.{Client};
 ghost use Rattle.rk_message.specs.Bodies.{Spells};
 ghost use Rattle.rk_devices.specs.Counts.{most};
-ghost use Rattle.rk_talk.specs.Said.{IsAnswered, IsToWait};
+ghost use Rattle.rk_talk.specs.Said.{IsAnswered, IsSettled, IsToWait};
 ghost use Rattle.rk_talk.specs.Stays.{Stays};
 ghost use Rattle.rk_session.specs.Moving.{Moves};
 ghost use Rattle.rk_session.specs.Parts.{Finishes, Pushes};
@@ -15,9 +15,9 @@ use rk_child::drive;
 use rk_devices::Clock;
 use rk_hall::{Called, HallNo, Launch};
 use rk_machine::Answer;
-use rk_message::AskStep;
+use rk_message::AskView;
 use rk_names::SessionId;
-use rk_talk::{Crew, Message, Platform, Saying, Stage, ask_in, refused, settled};
+use rk_talk::{Crew, Platform, Saying, Stage, ask_in, refused, settled};
 
 // What an ask has started is brought to its end.
 fn brought_to_end<P: Platform>(
@@ -47,18 +47,18 @@ pub fn waits(answer: &Answer) -> bool
 
 // What is to be said of an ask that was called: what it has started is brought to its end, and what it waits for is collected. Nothing is kept on the wire
 // meanwhile.
-fn finished<P: Platform, W: Wire>(
+fn finished<'a, P: Platform, W: Wire>(
     stage: &Stage<'_, P>,
     crew: &mut Crew<P>,
     hall: HallNo,
     client: u32,
-    called: Called<P::Names>,
+    called: Called<'a, P::Names>,
     wire: &W,
-) -> Saying
+) -> Saying<'a>
     requires bound { (P.Launcher.shown crew.old.launcher).count ≤ most }
     requires sent { (W.shown wire.now).kept ≡ false }
     ensures bound { (P.Launcher.shown crew.new.launcher).count ≤ most }
-    ensures finishes { Finishes hall (Client client) called.receipt called.launch crew.old.caller.seat crew.new.caller.seat result }
+    ensures finishes { Finishes hall (Client client) called.entry.receipt called.entry.launch crew.old.caller.seat crew.new.caller.seat result }
     ensures stays { Stays crew.old.caller.seat crew.new.caller.seat }
 {
     let Called { receipt, launch } = called;
@@ -71,17 +71,17 @@ fn finished<P: Platform, W: Wire>(
 /// for is collected.
 #[cold]
 #[inline(never)]
-pub fn awaited<P: Platform, W: Wire>(
+pub fn awaited<'a, P: Platform, W: Wire>(
     stage: &Stage<'_, P>,
     crew: &mut Crew<P>,
     hall: HallNo,
     client: u32,
-    called: Called<P::Names>,
+    called: Called<'a, P::Names>,
     wire: &mut W,
-) -> Saying
+) -> Saying<'a>
     requires bound { (P.Launcher.shown crew.old.launcher).count ≤ most }
     ensures bound { (P.Launcher.shown crew.new.launcher).count ≤ most }
-    ensures finishes { Finishes hall (Client client) called.receipt called.launch crew.old.caller.seat crew.new.caller.seat result }
+    ensures finishes { Finishes hall (Client client) called.entry.receipt called.entry.launch crew.old.caller.seat crew.new.caller.seat result }
     ensures stays { Stays crew.old.caller.seat crew.new.caller.seat }
     ensures pushes { Pushes (W.shown wire.old) (W.shown wire.new) }
 {
@@ -90,26 +90,25 @@ pub fn awaited<P: Platform, W: Wire>(
     finished(stage, crew, hall, client, called, wire)
 }
 
-// What is to be said of the ask of a HELLO, which is made in this hall.
-#[inline(always)]
-fn asked<P: Platform, W: Wire>(
+/// What is to be said of an ask that is made in this hall; if the record is full, its volume goes to the shelf before that. What the wire keeps is sent before
+/// anything is waited for.
+pub fn asked<'a, P: Platform, W: Wire>(
     stage: &Stage<'_, P>,
     crew: &mut Crew<P>,
     hall: HallNo,
     client: u32,
-    message: Message<'_>,
+    ask: &'a AskView<'a>,
     wire: &mut W,
-) -> Saying
+) -> Saying<'a>
     requires bound { (P.Launcher.shown crew.old.launcher).count ≤ most }
-    requires spells { Spells message.ask message.body.now }
     ensures bound { (P.Launcher.shown crew.new.launcher).count ≤ most }
-    ensures says { IsAnswered (Client client) hall message.entry.ask crew.old.caller.seat crew.new.caller.seat result }
+    ensures says { IsAnswered (Client client) hall ask.now crew.old.caller.seat crew.new.caller.seat result }
     ensures stays { Stays crew.old.caller.seat crew.new.caller.seat }
     ensures pushes { Pushes (W.shown wire.old) (W.shown wire.new) }
 {
     let now = crew.caller.clock.now();
     let session = SessionId::Client(client);
-    match ask_in(stage, &mut crew.caller.seat, hall, now, session, message) {
+    match ask_in(stage, &mut crew.caller.seat, hall, now, session, ask) {
         Ok(Called { receipt, launch }) => match launch {
             None if !waits(receipt.answer()) => Saying::Noted(receipt),
             launch => awaited(stage, crew, hall, client, Called { receipt, launch }, wire),
@@ -123,22 +122,22 @@ fn asked<P: Platform, W: Wire>(
 pub struct Hello<'a> {
     /// The hall of its uid.
     pub hall: HallNo,
-    /// The HELLO, with its body.
-    pub message: Message<'a>,
+    /// The HELLO.
+    pub ask: &'a AskView<'a>,
 }
 
 /// The hall of the uid of a HELLO, where the client has no context.
-pub fn hall_of_hello(place: &Place, ask: &AskStep<'_>) -> Option<HallNo>
+pub fn hall_of_hello(place: &Place, ask: &AskView<'_>) -> Option<HallNo>
     ensures { MatchOption result (IsHello ask.now → place.now.greeted ≡ true) (λ hall. (place.now.greeted ≡ false) × IsHelloOf hall ask.now) }
 {
     match ask {
-        AskStep::Hello(greeting) if !place.greeted => Some(HallNo::of_uid(greeting.uid)),
+        AskView::Hello(greeting) if !place.greeted => Some(HallNo::of_uid(greeting.uid)),
         _ => None,
     }
 }
 
 // Whether it is an answer that says that something was done.
-fn is_done(saying: &Saying) -> bool
+fn is_done(saying: &Saying<'_>) -> bool
     ensures { result ≡ says_done saying.now }
 {
     match saying {
@@ -148,23 +147,22 @@ fn is_done(saying: &Saying) -> bool
 }
 
 // A HELLO of a client without a context, which stands in the hall of its uid.
-fn greeted<P: Platform, W: Wire>(
+fn greeted<'a, P: Platform, W: Wire>(
     stage: &Stage<'_, P>,
     crew: &mut Crew<P>,
     client: u32,
     place: &mut Place,
-    message: Message<'_>,
+    ask: &'a AskView<'a>,
     wire: &mut W,
-) -> Saying
+) -> Saying<'a>
     requires bound { (P.Launcher.shown crew.old.launcher).count ≤ most }
-    requires spells { Spells message.ask message.body.now }
     ensures bound { (P.Launcher.shown crew.new.launcher).count ≤ most }
-    ensures says { IsAnswered (Client client) place.old.hall message.entry.ask crew.old.caller.seat crew.new.caller.seat result }
+    ensures says { IsAnswered (Client client) place.old.hall ask.now crew.old.caller.seat crew.new.caller.seat result }
     ensures context { place.new ≡ record place.old { greeted = says_done result } }
     ensures stays { Stays crew.old.caller.seat crew.new.caller.seat }
     ensures pushes { Pushes (W.shown wire.old) (W.shown wire.new) }
 {
-    let saying = asked(stage, crew, place.hall, client, message, wire);
+    let saying = asked(stage, crew, place.hall, client, ask, wire);
     place.greeted = is_done(&saying);
     saying
 }
@@ -173,27 +171,27 @@ fn greeted<P: Platform, W: Wire>(
 /// wire keeps is sent before that.
 #[cold]
 #[inline(never)]
-pub fn admitted<P: Platform, W: Wire>(
+pub fn admitted<'a, P: Platform, W: Wire>(
     stage: &Stage<'_, P>,
     crew: &mut Crew<P>,
     client: u32,
     place: &mut Place,
-    hello: Hello<'_>,
+    hello: Hello<'a>,
     wire: &mut W,
-) -> Saying
+) -> Saying<'a>
     requires bound { (P.Launcher.shown crew.old.launcher).count ≤ most }
-    requires spells { Spells hello.message.ask hello.message.body.now }
-    requires first { (place.old.greeted ≡ false) × IsHelloOf hello.hall hello.message.ask }
+    requires first { (place.old.greeted ≡ false) × IsHelloOf hello.hall hello.ask.now }
     ensures bound { (P.Launcher.shown crew.new.launcher).count ≤ most }
-    ensures says { Says (Client client) (standing_of place.old crew.old.caller.seat) hello.entry.message.body.now result
-        (standing_of place.new crew.new.caller.seat) }
+    ensures settled { IsSettled result }
+    ensures says { (body : List ℕ) → Spells hello.entry.ask.now body →
+        Says (Client client) (standing_of place.old crew.old.caller.seat) body result (standing_of place.new crew.new.caller.seat) }
     ensures moves { Moves place.old.hall place.new.hall crew.old.caller.seat crew.new.caller.seat }
     ensures pushes { Pushes (W.shown wire.old) (W.shown wire.new) }
 {
-    let Hello { hall, message } = hello;
+    let Hello { hall, ask } = hello;
     match moved(stage, &mut crew.caller, place.hall, hall, client) {
         None => place.hall = hall,
         Some(refusal) => return refusal,
     }
-    greeted(stage, crew, client, place, message, wire)
+    greeted(stage, crew, client, place, ask, wire)
 }

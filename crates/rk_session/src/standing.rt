@@ -1,14 +1,14 @@
 //! Where a client stands: it comes, moves and leaves.
 ghost use Rattle.std.specs.Prelude.{◌≡◌, IfOk};
 ghost use Rattle.rk_names.specs.declared.numbers.SessionId.TheVariants.{Client};
-ghost use Rattle.rk_record.specs.declared.told.Told.TheVariants as told;
+ghost use Rattle.rk_record.specs.declared.told.ToldOf.TheVariants as told;
 ghost use Rattle.rk_talk.specs.Stays.{Stays};
 ghost use Rattle.rk_session.specs.Opening.{HasGone, Refuses};
 ghost use Rattle.rk_session.specs.Moving.{HasMoved, HasOpened};
 
 use rk_child::spend;
 use rk_devices::Clock;
-use rk_hall::{Called, HallNo, Lapse, Owed, Receipt};
+use rk_hall::{Called, HallNo, Lapse, Owed, ReceiptView};
 use rk_machine::Answer;
 use rk_names::SessionId;
 use rk_talk::{Caller, Platform, Saying, Stage, open_in, refused};
@@ -24,8 +24,8 @@ pub struct Place {
 
 // What is to be said of an opening with this receipt: nothing yet, where it was done; its refusal; or nothing at all, of an answer that no opening has,
 // since an errno without a receipt would say that no turn was made.
-fn refusal_of(receipt: Receipt) -> Option<Saying>
-    ensures { Refuses receipt result }
+fn refusal_of<'a>(receipt: ReceiptView<'a>) -> Option<Saying<'a>>
+    ensures { Refuses receipt.entry result }
 {
     match receipt.answer() {
         Answer::Done(_) => None,
@@ -40,7 +40,7 @@ pub fn open<P: Platform>(
     caller: &mut Caller<P>,
     hall: HallNo,
     client: u32,
-) -> Option<Saying>
+) -> Option<Saying<'static>>
     ensures { HasOpened (Client client) hall caller.old.seat caller.new.seat result }
 {
     let now = caller.clock.now();
@@ -60,7 +60,7 @@ pub fn leave<P: Platform>(
     caller: &mut Caller<P>,
     hall: HallNo,
     client: u32,
-) -> Result<Receipt, Lapse>
+) -> Result<ReceiptView<'static>, Lapse>
     ensures gone { IfOk result (λ r. (r.hall ≡ hall) × (r.told ≡ told.Gone (Client client))) }
     ensures left { HasGone (Client client) hall caller.old.seat caller.new.seat }
 {
@@ -83,7 +83,7 @@ pub fn moved<P: Platform>(
     here: HallNo,
     there: HallNo,
     client: u32,
-) -> Option<Saying>
+) -> Option<Saying<'static>>
     ensures { HasMoved (Client client) here there caller.old.seat caller.new.seat result }
 {
     if there == here {

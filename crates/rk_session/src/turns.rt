@@ -1,5 +1,5 @@
 //! Messages with their replies.
-ghost use Rattle.std.specs.Prelude.{◌≡◌, ◌≤◌, false};
+ghost use Rattle.std.specs.Prelude.{◌≡◌, ◌≤◌, ℕ, List, false};
 ghost use Rattle.rk_names.specs.declared.numbers.SessionId.TheVariants.{Client};
 ghost use Rattle.rk_devices.specs.Counts.{most};
 ghost use Rattle.rk_message.specs.Bodies.{Spells};
@@ -11,26 +11,28 @@ ghost use Rattle.rk_session.specs.Parts.{Finishes, IsSaid, Speaks, TurnEnds, Tak
 ghost use Rattle.rk_session.specs.Places.{IsHelloOf, standing_of};
 ghost use Rattle.rk_session.specs.Wires.{Counts};
 
-use crate::answering::{Hello, admitted, awaited, hall_of_hello, waits};
+use crate::answering::{Hello, admitted, asked, awaited, hall_of_hello, waits};
 use crate::serving::Served;
 use crate::standing::Place;
 use crate::visit::Visit;
 use crate::wire::Wire;
 use rk_devices::{Clock, DeviceFault, Gate};
 use rk_frame::Next;
-use rk_hall::{CallFault, Called, HallNo, Receipt};
-use rk_message::AskStep;
+use rk_hall::{CallFault, Called, HallNo, ReceiptView};
+use rk_message::AskView;
 use rk_names::{Errno, SessionId};
-use rk_talk::{
-    Crew, Message, Platform, Saying, Stage, answer_frame, ask_in, refusal_frame, refused,
-};
+use rk_talk::{Crew, Platform, Saying, Stage, answer_frame, refusal_frame, refused};
 
 // Notes the receipt, and then writes the reply of its answer, which lies in this buffer where it takes memory. If there is no memory for the reply, it is
 // out of memory, and nothing is noted.
 #[inline(always)]
-fn tell<W: Wire>(buffer: &mut Vec<u8>, wire: &mut W, receipt: Receipt) -> Result<(), DeviceFault>
-    requires { IsToWait receipt.answer → ⊥ }
-    ensures speaks { Speaks (saying.Noted receipt) (ended result) (W.shown wire.old).story (W.shown wire.new) }
+fn tell<W: Wire>(
+    buffer: &mut Vec<u8>,
+    wire: &mut W,
+    receipt: &ReceiptView<'_>,
+) -> Result<(), DeviceFault>
+    requires { IsToWait receipt.now.answer → ⊥ }
+    ensures speaks { Speaks (saying.Noted receipt.now) (ended result) (W.shown wire.old).story (W.shown wire.new) }
     ensures counts { Counts (W.shown wire.old) (W.shown wire.new) }
     ensures reads { (W.shown wire.new).reads ≡ (W.shown wire.old).reads }
 {
@@ -77,15 +79,15 @@ fn say<P: Platform, W: Wire>(
     buffer: &mut Vec<u8>,
     wire: &mut W,
     client: u32,
-    saying: Saying,
+    saying: Saying<'_>,
 ) -> Result<(), Served>
     requires { IsSettled saying }
-    ensures speaks { Speaks saying result (W.shown wire.old).story (W.shown wire.new) }
+    ensures speaks { Speaks saying.entry result (W.shown wire.old).story (W.shown wire.new) }
     ensures counts { Counts (W.shown wire.old) (W.shown wire.new) }
     ensures reads { (W.shown wire.new).reads ≡ (W.shown wire.old).reads }
 {
     match saying {
-        Saying::Noted(receipt) => written(stage, client, tell(buffer, wire, receipt)),
+        Saying::Noted(receipt) => written(stage, client, tell(buffer, wire, &receipt)),
         Saying::Short(errno) => written(stage, client, refuse(wire, errno)),
         Saying::Behind => Err(Served::Behind),
     }
@@ -99,12 +101,12 @@ fn say_awaited<P: Platform, W: Wire>(
     crew: &mut Crew<P>,
     hall: HallNo,
     client: u32,
-    called: Called<P::Names>,
+    called: Called<'_, P::Names>,
     wire: &mut W,
 ) -> Result<(), Served>
     requires bound { (P.Launcher.shown crew.old.launcher).count ≤ most }
     ensures bound { (P.Launcher.shown crew.new.launcher).count ≤ most }
-    ensures said { IsSaid (Finishes hall (Client client) called.receipt called.launch crew.old.caller.seat crew.new.caller.seat) result
+    ensures said { IsSaid (Finishes hall (Client client) called.entry.receipt called.entry.launch crew.old.caller.seat crew.new.caller.seat) result
         (W.shown wire.old) (W.shown wire.new) }
     ensures stays { Stays crew.old.caller.seat crew.new.caller.seat }
     ensures counts { Counts (W.shown wire.old) (W.shown wire.new) }
@@ -131,21 +133,42 @@ fn say_refused<P: Platform, W: Wire>(
     say(stage, buffer, wire, client, refused(fault))
 }
 
-// Makes the ask in this hall, and says what is to be said of it. Most asks start nothing and wait for nothing: their receipt is told here, and isn't handed up
-// in a `Saying`.
-#[inline(always)]
-fn ask_here<P: Platform, W: Wire>(
+// Makes the ask once more, since the record of this hall was full, and says what is to be said of it.
+#[cold]
+#[inline(never)]
+fn ask_again<'a, P: Platform, W: Wire>(
     stage: &Stage<'_, P>,
     crew: &mut Crew<P>,
     hall: HallNo,
     client: u32,
-    message: Message<'_>,
+    ask: &'a AskView<'a>,
     wire: &mut W,
 ) -> Result<(), Served>
     requires bound { (P.Launcher.shown crew.old.launcher).count ≤ most }
-    requires spells { Spells message.ask message.body.now }
     ensures bound { (P.Launcher.shown crew.new.launcher).count ≤ most }
-    ensures said { IsSaid (IsAnswered (Client client) hall message.entry.ask crew.old.caller.seat crew.new.caller.seat) result
+    ensures said { IsSaid (IsAnswered (Client client) hall ask.now crew.old.caller.seat crew.new.caller.seat) result
+        (W.shown wire.old) (W.shown wire.new) }
+    ensures stays { Stays crew.old.caller.seat crew.new.caller.seat }
+    ensures counts { Counts (W.shown wire.old) (W.shown wire.new) }
+    ensures reads { (W.shown wire.new).reads ≡ (W.shown wire.old).reads }
+{
+    let saying = asked(stage, crew, hall, client, ask, wire);
+    say(stage, &mut crew.reply, wire, client, saying)
+}
+
+// Makes the ask in this hall, and says what is to be said of it. Most asks start nothing and wait for nothing: their receipt is told where it lies.
+#[inline(always)]
+fn ask_here<'a, P: Platform, W: Wire>(
+    stage: &Stage<'_, P>,
+    crew: &mut Crew<P>,
+    hall: HallNo,
+    client: u32,
+    ask: &'a AskView<'a>,
+    wire: &mut W,
+) -> Result<(), Served>
+    requires bound { (P.Launcher.shown crew.old.launcher).count ≤ most }
+    ensures bound { (P.Launcher.shown crew.new.launcher).count ≤ most }
+    ensures said { IsSaid (IsAnswered (Client client) hall ask.now crew.old.caller.seat crew.new.caller.seat) result
         (W.shown wire.old) (W.shown wire.new) }
     ensures stays { Stays crew.old.caller.seat crew.new.caller.seat }
     ensures counts { Counts (W.shown wire.old) (W.shown wire.new) }
@@ -153,14 +176,18 @@ fn ask_here<P: Platform, W: Wire>(
 {
     let now = crew.caller.clock.now();
     let session = SessionId::Client(client);
-    match ask_in(stage, &mut crew.caller.seat, hall, now, session, message) {
+    match stage
+        .halls
+        .ask(stage.rt, &mut crew.caller.seat, hall, now, session, ask)
+    {
         Ok(Called { receipt, launch }) => match launch {
             None if !waits(receipt.answer()) => {
-                let reply = tell(&mut crew.reply, wire, receipt);
+                let reply = tell(&mut crew.reply, wire, &receipt);
                 written(stage, client, reply)
             }
             launch => say_awaited(stage, crew, hall, client, Called { receipt, launch }, wire),
         },
+        Err(CallFault::Full) => ask_again(stage, crew, hall, client, ask, wire),
         Err(fault) => say_refused(stage, &mut crew.reply, wire, client, fault),
     }
 }
@@ -177,10 +204,9 @@ fn greet<P: Platform, W: Wire>(
     wire: &mut W,
 ) -> Result<(), Served>
     requires bound { (P.Launcher.shown crew.old.launcher).count ≤ most }
-    requires spells { Spells hello.message.ask hello.message.body.now }
-    requires first { (place.old.greeted ≡ false) × IsHelloOf hello.hall hello.message.ask }
+    requires first { (place.old.greeted ≡ false) × IsHelloOf hello.hall hello.ask.now }
     ensures bound { (P.Launcher.shown crew.new.launcher).count ≤ most }
-    ensures ends { TurnEnds (Client client) (standing_of place.old crew.old.caller.seat) hello.entry.message.body.now
+    ensures ends { (body : List ℕ) → Spells hello.entry.ask.now body → TurnEnds (Client client) (standing_of place.old crew.old.caller.seat) body
         (standing_of place.new crew.new.caller.seat) result (W.shown wire.old) (W.shown wire.new) }
     ensures counts { Counts (W.shown wire.old) (W.shown wire.new) }
     ensures reads { (W.shown wire.new).reads ≡ (W.shown wire.old).reads }
@@ -207,14 +233,13 @@ fn turn<P: Platform, W: Wire>(
     ensures reads { (W.shown wire.new).reads ≡ (W.shown wire.old).reads }
     ensures moves { Moves place.old.hall place.new.hall crew.old.caller.seat crew.new.caller.seat }
 {
-    let ask = match AskStep::read(stage.alloc, body) {
-        Ok(ask) => ask,
-        Err(error) => return written(stage, client, refuse(wire, error.errno())),
-    };
-    let message = Message { ask, body };
-    match hall_of_hello(place, &message.ask) {
-        None => ask_here(stage, crew, place.hall, client, message, wire),
-        Some(hall) => greet(stage, crew, client, place, Hello { hall, message }, wire),
+    let read = AskView::read(body);
+    match &read {
+        Ok(ask) => match hall_of_hello(place, ask) {
+            None => ask_here(stage, crew, place.hall, client, ask, wire),
+            Some(hall) => greet(stage, crew, client, place, Hello { hall, ask }, wire),
+        },
+        Err(fault) => written(stage, client, refuse(wire, fault.errno())),
     }
 }
 

@@ -3,7 +3,7 @@ ghost use Rattle.std.specs.Prelude.{◌≡◌, ◌≤◌, false, length, IfOk};
 ghost use Rattle.rk_session.specs.Wires.{WireShown, Reads, Writes, Sends, Notes};
 
 use rk_devices::DeviceFault;
-use rk_hall::Receipt;
+use rk_hall::ReceiptView;
 
 /// The stream of a client, both ways. It may tell what happens on it, as a test's does; a socket's tells only its counts, and whether it keeps something.
 ///
@@ -27,9 +27,9 @@ pub trait Wire {
     fn send(&mut self) -> Result<(), DeviceFault>
         ensures { Sends result (shown self.old) (shown self.new) };
 
-    /// Is handed the receipt of a reply before that is written.
-    fn note(&mut self, receipt: Receipt)
-        ensures { Notes receipt (shown self.old) (shown self.new) };
+    /// Is shown the receipt of a reply before that is written.
+    fn note(&mut self, receipt: &ReceiptView<'_>)
+        ensures { Notes receipt.now (shown self.old) (shown self.new) };
 
     /// How often a call failed, at most the greatest u64.
     fn failures(&self) -> u64

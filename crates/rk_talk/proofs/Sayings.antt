@@ -17,24 +17,17 @@ use Rattle.rk_auth.specs.declared.session.Outcome.TheVariants.{Found, Failed}
 use Rattle.rk_machine.specs.Steps.{told_as}
 use Rattle.rk_machine.specs.declared.event.EventOf.TheVariants.{Asked}
 use Rattle.rk_record.specs.declared.hall_no.HallNo.{HallNo}
-use Rattle.rk_record.specs.declared.told.Told.TheVariants as told
+use Rattle.rk_record.specs.declared.told.ToldOf.TheVariants as told
 use Rattle.rk_record.specs.Turns.{Noted}
 use Rattle.rk_machine.specs.declared.event.Answer.{Answer}
 use Rattle.rk_record.specs.Copies.{started}
-use Rattle.rk_hall.specs.Seats.{SeatShown, TokenShown, after_call, part, with_part}
+use Rattle.rk_hall.specs.Seats.{HasLaunch, IsCalled, SeatShown, TokenShown, after_call, part, with_part}
 use Rattle.rk_hall.specs.declared.lapse.CallFault.{CallFault}
 use Rattle.rk_hall.specs.declared.lapse.CallFault.TheVariants as fault
 use Rattle.rk_talk.specs.declared.saying.Saying.{Saying}
 use Rattle.rk_talk.specs.declared.saying.Saying.TheVariants as saying
-use Rattle.rk_talk.specs.Said.{HasLaunch, HasSettled, IsAnswered, IsCalled, IsCollected, IsNotAsked, IsRefusal, IsSettled, IsToWait, Settles}
+use Rattle.rk_talk.specs.Said.{HasSettled, IsAnswered, IsCollected, IsNotAsked, IsRefusal, IsSettled, IsToWait, Settles}
 use Rattle.rk_talk.specs.Stays.{Stays}
-
--- why a body was not read
-pub why_not_read : (body : List ℕ) (error : ReadError) (e : Errno)
-    → ((f : Fault) → ◌≡◌ {A = Result Ask ReadError} (Err error) (Err (unreadable.Fault f)) → IsFaultOf asks body f) → e ≡ error_answer error
-    → IsRefusedAs e body ⊎ (e ≡ Enomem)
-why_not_read body (unreadable.Fault f) e found is = inl (f, found f refl, is)
-why_not_read body unreadable.NoMemory e found is = inr is
 
 abbrev is_there : {A : Type 0} → Option A → Type 0
 is_there (Some x) = Unit {0}

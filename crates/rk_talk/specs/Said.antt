@@ -1,5 +1,5 @@
 -- What is said of a message of a session, and why.
-use Rattle.std.specs.Prelude.{ℕ, ◌≡◌, ◌<◌, ◌⊎◌, List, Option, Some, None, Ok, Err}
+use Rattle.std.specs.Prelude.{ℕ, ◌≡◌, ◌⊎◌, List, None, Ok, Err}
 use Rattle.rk_names.specs.declared.errors.Errno.{Errno}
 use Rattle.rk_names.specs.declared.errors.Errno.TheVariants.{Enomem, Edquot}
 use Rattle.rk_names.specs.declared.numbers.SessionId.{SessionId}
@@ -9,26 +9,16 @@ use Rattle.rk_machine.specs.declared.event.EventOf.TheVariants as event
 use Rattle.rk_machine.specs.declared.event.Answer.{Answer}
 use Rattle.rk_machine.specs.declared.event.Answer.TheVariants as answer
 use Rattle.rk_record.specs.declared.hall_no.HallNo.{HallNo}
-use Rattle.rk_record.specs.declared.told.Told.{Told}
-use Rattle.rk_record.specs.declared.told.Told.TheVariants as told
+use Rattle.rk_record.specs.declared.told.ToldOf.TheVariants as told
 use Rattle.rk_record.specs.Copies.{started}
 use Rattle.rk_record.specs.Turns.{Noted}
-use Rattle.rk_hall.specs.Seats.{CallRefused, OwedSeen, PartShown, SeatShown, TokenShown, after_call, part, with_part}
+use Rattle.rk_hall.specs.Seats.{CallRefused, IsCalled, OwedSeen, SeatShown, after_call, part, with_part}
 use Rattle.rk_hall.specs.declared.lapse.Lapse.{Lapse}
 use Rattle.rk_hall.specs.declared.lapse.CallFault.{CallFault}
 use Rattle.rk_hall.specs.declared.lapse.CallFault.TheVariants as fault
 use Rattle.rk_talk.specs.Stays.{Stays}
 use Rattle.rk_talk.specs.declared.saying.Saying.{Saying}
 use Rattle.rk_talk.specs.declared.saying.Saying.TheVariants as saying
-
--- the receipt is that of a call in this hall at this moment, of this, and its number is new to the part
-abbrev pub IsCalled : HallNo → ℕ → Told → PartShown → Noted → Type 0
-IsCalled hall now t p r = (r.hall ≡ hall) × (r.moment ≡ now) × (r.told ≡ t) × (p.seen < r.number)
-
--- a launch comes exactly with a start, of its key
-abbrev pub HasLaunch : HallNo → Answer → Option TokenShown → Type 0
-HasLaunch hall a (Some l) = (l.hall ≡ hall) × (a ≡ answer.Start l.key l.subject)
-HasLaunch hall a None = started a ≡ None
 
 -- what the wait of a session came to, of a seat: the receipt of the one turn by which the seat collected; or nothing, where its collect gave it no receipt
 abbrev pub IsCollected : HallNo → ℕ → SessionId → SeatShown → SeatShown → Saying → Type 0
@@ -72,7 +62,7 @@ pub data IsAnswered (session : SessionId) (hall : HallNo) (a : Ask) (old new : S
 
 -- what is to be said of a message whose ask is made in this hall
 pub data Says (session : SessionId) (hall : HallNo) (body : List ℕ) (old new : SeatShown) : Saying → Type 0 where
-  -- the body spells no ask, or there was no memory to read it: nothing was done
-  NotRead : (e : Errno) → IsRefusedAs e body ⊎ (e ≡ Enomem) → new ≡ old → Says session hall body old new (saying.Short e)
+  -- the body spells no ask: nothing was done
+  NotRead : (e : Errno) → IsRefusedAs e body → new ≡ old → Says session hall body old new (saying.Short e)
   -- its ask was made
   IsMade : (a : Ask) (s : Saying) → Spells a body → IsAnswered session hall a old new s → Says session hall body old new s

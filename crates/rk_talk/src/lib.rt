@@ -16,14 +16,13 @@
 //!
 //! # How it is built
 //!
-//! `stage` has what is around a session, `message` an ask with its body, and `calls` the calls with their second try. `saying` has what is to be said,
+//! `stage` has what is around a session, and `calls` the calls with their second try. `saying` has what is to be said,
 //! `replies` its bytes, `frame` where they lie, and `shelf` where volumes go. In `specs/`, `Said` says why a reply is given, `Replies` how it is spelt
 //! and which take memory, and `Stays` what a seat keeps.
 #![tactic(auto)]
 
 mod calls;
 mod frame;
-mod message;
 mod replies;
 mod saying;
 mod shelf;
@@ -31,7 +30,6 @@ mod stage;
 
 pub use calls::{ask_in, open_in};
 pub use frame::Frame;
-pub use message::Message;
 pub use replies::{answer_frame, refusal_frame};
 pub use saying::{Saying, refused, settled};
 pub use shelf::Shelf;

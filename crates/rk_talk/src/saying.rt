@@ -4,16 +4,16 @@ ghost use Rattle.rk_talk.specs.Stays.{Stays};
 
 use crate::stage::{Caller, Platform, Stage};
 use rk_devices::Clock;
-use rk_hall::{CallFault, HallNo, Owed, Receipt, Seat};
+use rk_hall::{CallFault, HallNo, Owed, ReceiptView, Seat};
 use rk_machine::Answer;
 use rk_names::{Errno, Moment, SessionId};
 use rk_wait::await_outcome;
 
 /// What is to be said of a message.
 #[derive(Debug, Drop)]
-pub enum Saying {
+pub enum Saying<'a> {
     /// What this receipt's answer says.
-    Noted(Receipt),
+    Noted(ReceiptView<'a>),
     /// This error, without a receipt: the body is invalid, or the call was refused.
     Short(Errno),
     /// Nothing: the session is at its end.
@@ -27,7 +27,7 @@ fn collected<P: Platform>(
     hall: HallNo,
     now: Moment,
     session: SessionId,
-) -> Saying
+) -> Saying<'static>
     ensures said { IsCollected hall now session seat.old seat.new result }
     ensures stays { Stays seat.old seat.new }
 {
@@ -42,14 +42,14 @@ fn collected<P: Platform>(
 /// What is to be said of an ask whose call gave this receipt: its answer, or where the session waits, the outcome of its wait, when it is there. The
 /// outcome is collected at the moment that the clock tells then, and not at that at which the wait began. Its start is to be brought to its end before.
 /// It may wait.
-pub fn settled<P: Platform>(
+pub fn settled<'a, P: Platform>(
     stage: &Stage<'_, P>,
     caller: &mut Caller<P>,
     hall: HallNo,
     session: SessionId,
-    receipt: Receipt,
-) -> Saying
-    ensures said { Settles hall session receipt caller.old.seat caller.new.seat result }
+    receipt: ReceiptView<'a>,
+) -> Saying<'a>
+    ensures said { Settles hall session receipt.entry caller.old.seat caller.new.seat result }
     ensures stays { Stays caller.old.seat caller.new.seat }
 {
     match receipt.answer() {
@@ -66,7 +66,7 @@ pub fn settled<P: Platform>(
 
 /// What is to be said of an ask whose call was refused: EDQUOT if the record is full, ENOMEM if memory ran out, and nothing if the session's
 /// seat has seen more than the hall has.
-pub fn refused(fault: CallFault) -> Saying
+pub fn refused(fault: CallFault) -> Saying<'static>
     ensures { IsRefusal fault result }
 {
     match fault {

@@ -15,7 +15,7 @@ use crate::fault::Unread;
 use crate::kinds::{how, ran, session};
 use crate::row::Row;
 use rk_machine::{Event, How};
-use rk_message::{Ask, SharedAsk};
+use rk_message::Ask;
 use rk_names::{Payload, Serial, SessionId};
 use std::alloc::Global;
 
@@ -76,7 +76,6 @@ fn asked(alloc: Global, row: &Row<'_>) -> Result<Event, Unread>
         return Err(Unread::Bad);
     };
     let ask = Ask::read(alloc, row.rest)?;
-    let ask = SharedAsk::new(alloc, ask)?;
     Ok(Event::Asked(id, ask))
 }
 

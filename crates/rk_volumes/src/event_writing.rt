@@ -20,8 +20,8 @@ pub(crate) fn put_event(alloc: Global, out: &mut Vec<u8>, event: &Event) -> Resu
     match event {
         Event::Opened(id) => put_session(out, 1, id, &[]),
         Event::Asked(id, ask) => {
-            let mut body = Vec::with_capacity(alloc, ask.ask().body_len())?;
-            ask.ask().write_into(&mut body)?;
+            let mut body = Vec::with_capacity(alloc, ask.body_len())?;
+            ask.write_into(&mut body)?;
             put_session(out, 2, id, &body)
         }
         Event::Launched(key, ran) => put_row(out, 3, ran_kind(*ran), key.get(), &[]),

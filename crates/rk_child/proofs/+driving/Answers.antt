@@ -1,19 +1,21 @@
 use Rattle.std.proofs.Common.{◌≡◌, ◌≢◌, ◌+◌, ◌∙◌, length, ap, arith, refl, subst, sym, rules}
 use Rattle.std.specs.Prelude.{Option, IfErr, IfSome}
 use Rattle.rk_names.specs.declared.numbers.SessionId.TheVariants.{Handler}
-use Rattle.rk_frame.specs.Streams.{IsPartial}
+use Rattle.rk_frame.specs.Streams.{IsPartial, TakesBody}
 use Rattle.rk_hall.specs.Seats.{TokenShown, negated}
+use Rattle.rk_talk.specs.declared.saying.Saying.TheVariants.{Short}
 use Rattle.rk_talk.specs.Said.{IsMade, IsNotAsked, NotRead}
-use Rattle.rk_talk.proofs.Sayings.{receipt_answers, why_not_read}
+use Rattle.rk_talk.proofs.Sayings.{receipt_answers}
 use Rattle.rk_child.specs.Driving.{Runs, HasRun}
 use Rattle.rk_devices.specs.Shown.{ChildShown, FailsReading, GoesOn, ReadsUpTo}
 use Rattle.rk_devices.proofs.Rising.{goes_further, goes_same}
 use Rattle.rk_talk.proofs.Seats.{stays_on, stays_same}
 use Rattle.rk_child.proofs.Running.{drives_on, raised_none, ran_through, ran_with, reads_more, runs_failed, runs_further, runs_same, tried_in_vain, tried_it, tried_none}
+use Rattle.rk_child.specs.Replying.{SaysOf}
 use Rattle.rk_child.specs.Talk.{standing_of}
 use Rattle.rk_child.proofs.Passing.{dropped_on, either_passed, passed_on}
 use Rattle.rk_child.proofs.Taking.{nothing_held, takes_fewer}
-use Rattle.rk_child.proofs.Talks.{all_ended, all_taken, stands_end, stands_first, stands_on, stands_out, stands_read, talks_nowhere, talks_then, turn_talks}
+use Rattle.rk_child.proofs.Talks.{all_ended, all_taken, replied_turns, stands_end, stands_first, stands_on, stands_out, stands_read, talks_nowhere, talks_then, turn_talks}
 use Rattle.rk_child.proofs.Unprepared.{run_why}
 use Rattle.rk_child.proofs.+driving.Goals as goal
 
@@ -86,9 +88,36 @@ pub asks::answered-returns-in-Err-clause-runs : goal.asks::answered-returns-in-E
 asks::answered-returns-in-Err-clause-runs g t c =
     runs_same c.args.stage.now.conf.now (c.args.depth + 1) (g.P.Launcher.Launcher.shown c.args.crew.now.launcher) c.requires.bound
 
-pub asks::answered-returns-in-Err-ask_in-clause-runs : goal.asks::answered-returns-in-Err-ask_in-clause-runs
-asks::answered-returns-in-Err-ask_in-clause-runs g t c =
+pub asks::answer_next-returns-in-Err-clause-runs : goal.asks::answer_next-returns-in-Err-clause-runs
+asks::answer_next-returns-in-Err-clause-runs g t c =
     runs_same c.args.stage.now.conf.now (c.args.depth + 1) (g.P.Launcher.Launcher.shown c.args.crew.now.launcher) c.requires.bound
+
+pub asks::answer_next-returns-in-Err-clause-takes : goal.asks::answer_next-returns-in-Err-clause-takes
+asks::answer_next-returns-in-Err-clause-takes g t c =
+    let shown = g.P.Launcher.Started.Child.shown in
+    let seat = c.args.crew.now.caller.seat in
+    let f = c.args.asks.now.frames in
+    let f' = c.next.follows.lender-at-none in
+    let said : SaysOf c.args.key c.in-Whole.body.now seat seat (Short c.errno.result) =
+    (c.of_serial-hall.result, c.of_serial-hall.ensures, NotRead c.errno.result (c.in-Err.fault, c.in-Err.ensures.leftmost c.in-Err.fault refl, c.errno.ensures) refl) in
+    let takes : TakesBody c.in-Whole.body.now f.bytes f'.bytes = search rules in
+    replied_turns c.args.key c.replied-in-Err.result (shown c.args.child.now) (shown c.replied-in-Err.new.child) f f' (standing_of seat c.args.asks.now.course)
+    (standing_of seat c.replied-in-Err.new.course) c.in-Whole.body.now (Short c.errno.result) takes (said, c.replied-in-Err.ensures.course)
+    c.replied-in-Err.ensures.replies
+
+pub asks::answer_next-returns-in-Ok-clause-takes : goal.asks::answer_next-returns-in-Ok-clause-takes
+asks::answer_next-returns-in-Ok-clause-takes g t c =
+    let shown = g.P.Launcher.Started.Child.shown in
+    let seat = c.args.crew.now.caller.seat in
+    let seat' = c.answered-saying.new.crew.caller.seat in
+    let saying = c.answered-saying.result in
+    let f = c.args.asks.now.frames in
+    let f' = c.next.follows.lender-at-none in
+    let said : SaysOf c.args.key c.in-Whole.body.now seat seat' saying =
+    (c.of_serial-hall.result, c.of_serial-hall.ensures, IsMade c.in-Ok.ask saying c.in-Ok.ensures.found c.answered-saying.ensures.says) in
+    let takes : TakesBody c.in-Whole.body.now f.bytes f'.bytes = search rules in
+    replied_turns c.args.key c.replied.result (shown c.args.child.now) (shown c.replied.new.child) f f' (standing_of seat c.args.asks.now.course)
+    (standing_of seat' c.replied.new.course) c.in-Whole.body.now saying takes (said, c.replied.ensures.course) c.replied.ensures.replies
 
 pub asks::answer_next-returns-in-More-clause-runs : goal.asks::answer_next-returns-in-More-clause-runs
 asks::answer_next-returns-in-More-clause-runs g t c =
@@ -256,32 +285,16 @@ pub driving::run-returns-in-Err-clause-commands : goal.driving::run-returns-in-E
 driving::run-returns-in-Err-clause-commands g t c =
     tried_none c.args.stage.now.conf.now c.args.launch.subject c.in-Err.why (g.P.Launcher.Launcher.shown c.args.crew.now.launcher) c.in-Err.ensures.unprepared
 
+pub asks::answered-returns-in-Ok-clause-says : goal.asks::answered-returns-in-Ok-clause-says
+asks::answered-returns-in-Ok-clause-says g t c =
+    receipt_answers (Handler c.args.key) c.args.hall c.now-now.result c.args.ask.now c.args.crew.now.caller.seat c.ask_in.new.seat
+    c.brought_to_end.new.crew.caller.seat c.settled.new.caller.seat c.in-Ok.field-0.receipt c.in-Ok.field-0.launch c.settled.result
+    c.in-Ok.ensures.receipt c.in-Ok.ensures.seat c.in-Ok.ensures.launch c.brought_to_end.ensures.stays c.brought_to_end.ensures.idle
+    c.settled.ensures.said
+
 pub asks::answered-returns-in-Err-clause-says : goal.asks::answered-returns-in-Err-clause-says
-asks::answered-returns-in-Err-clause-says g t c = (
-  c.of_serial-hall.result,
-  c.of_serial-hall.ensures,
-  NotRead c.errno.result (why_not_read c.args.body.now c.in-Err.error c.errno.result c.in-Err.ensures.leftmost c.errno.ensures) refl,
-)
-
-pub asks::answered-returns-in-Ok-ask_in-clause-says : goal.asks::answered-returns-in-Ok-ask_in-clause-says
-asks::answered-returns-in-Ok-ask_in-clause-says g t c = (
-  c.of_serial-hall.result,
-  c.of_serial-hall.ensures,
-  IsMade c.in-Ok.ask c.settled.result c.in-Ok.ensures.found
-      (receipt_answers (Handler c.args.key) c.of_serial-hall.result c.now-now.result c.in-Ok.ask c.args.crew.now.caller.seat c.ask_in.new.seat
-      c.brought_to_end.new.crew.caller.seat c.settled.new.caller.seat c.in-Ok-ask_in.field-0.receipt c.in-Ok-ask_in.field-0.launch c.settled.result
-      c.in-Ok-ask_in.ensures.receipt c.in-Ok-ask_in.ensures.seat c.in-Ok-ask_in.ensures.launch c.brought_to_end.ensures.stays c.brought_to_end.ensures.idle
-      c.settled.ensures.said),
-)
-
-pub asks::answered-returns-in-Err-ask_in-clause-says :
-    goal.asks::answered-returns-in-Err-ask_in-clause-says
-asks::answered-returns-in-Err-ask_in-clause-says g t c = (
-  c.of_serial-hall.result,
-  c.of_serial-hall.ensures,
-  IsMade c.in-Ok.ask c.refused.result c.in-Ok.ensures.found
-      (IsNotAsked c.in-Err-ask_in.fault c.in-Err-ask_in.ensures.err c.refused.ensures c.in-Err-ask_in.ensures.same),
-)
+asks::answered-returns-in-Err-clause-says g t c =
+    IsNotAsked c.in-Err.fault c.in-Err.ensures.err c.refused.ensures c.in-Err.ensures.same
 
 pub driving::run-returns : goal.driving::run-returns
 driving::run-returns g t c =

@@ -4,13 +4,18 @@ use denote.Param.Send.{IsSend, IsSync, sendable}
 use Rattle.std.proofs.Crossing.{crosses}
 use Rattle.std.proofs.sync.ledger.Share.TheSendSync as shares
 use Rattle.std.specs.contracts.alloc.Global as global
-use Rattle.rk_record.specs.contracts.receipt.Receipt as receipt
-use Rattle.rk_record.specs.contracts.told.Told as told
+use Rattle.rk_names.specs.contracts.type_name.TypeName as type_name
+use Rattle.rk_names.specs.contracts.description.Description as description
+use Rattle.rk_names.specs.contracts.callout.Callout as callout
+use Rattle.rk_names.specs.contracts.payload.Payload as payload
+use Rattle.rk_message.specs.contracts.ask.AskOf as ask
+use Rattle.rk_record.specs.contracts.receipt.ReceiptOf as receipt
+use Rattle.rk_record.specs.contracts.told.ToldOf as told
 use Rattle.rk_record.specs.contracts.volume.Volume as recorded
 use Rattle.rk_hall.specs.declared.names.Names as names
 use Rattle.rk_hall.specs.contracts.seat.Seat as seat
 use Rattle.rk_hall.specs.contracts.volume.Volume as volume
-use Rattle.rk_hall.proofs.Crossing.{answer_send, book_send, recorded_send, reply_send, shared_send, subject_send}
+use Rattle.rk_hall.proofs.Crossing.{answer_send, ask_send, book_send, recorded_send, reply_send, subject_send}
 use Rattle.rk_live_tests.specs.contracts.fakes.turns.Turns as turns
 use Rattle.rk_live_tests.specs.contracts.sessions.side_by_side.Left as left
 use Rattle.rk_live_tests.specs.contracts.threads.caller.Caller as caller
@@ -23,13 +28,16 @@ global_sync = search (sendable, crosses) depth 40 fits 20000
 pub turns_sync : IsSync turns.the_row
 turns_sync = search (sendable, crosses) depth 40 fits 20000
 
-told_send : IsSend told.the_row
-told_send = let k = shared_send in search (sendable, crosses) depth 120 fits 20000
+abbrev asks : RattleType
+asks = ask.the_row type_name.the_row description.the_row callout.the_row payload.the_row
+
+told_send : IsSend (told.the_row asks)
+told_send = let k = ask_send in search (sendable, crosses) depth 120 fits 20000
 
 -- a receipt may go to another thread
-pub receipt_send : IsSend receipt.the_row
+pub receipt_send : IsSend (receipt.the_row asks)
 receipt_send =
-    let k = shared_send in
+    let k = ask_send in
     let t = told_send in
     let r = reply_send in
     let s = subject_send in

@@ -82,11 +82,10 @@ impl Handling {
         halls: &'a Halls<N>,
     ) -> (Seat<N>, Came) {
         let mut seat = halls.seat(rt).expect(rt, "a seat");
-        drop(greets(rt, halls, &mut seat));
+        drop(greets(rt, alloc, halls, &mut seat));
         let conf = Conf::read(alloc, self.started.conf).expect(rt, "lines");
         let fake = Fake::new(alloc, self.started.programs, self.fuse).expect(rt, "memory");
-        let (receipt, launch) = requests(rt, halls, &mut seat);
-        drop(receipt);
+        let launch = requests(rt, halls, &mut seat);
         let (gate, shelf) = (Open::new(), Bin::new());
         let stage = stage_of(rt, alloc, halls, &conf, &gate, &shelf);
         let caller = Caller {

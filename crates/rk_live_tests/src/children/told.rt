@@ -168,9 +168,8 @@ fn is_driven<'a, N: Names, R: Wait + Abort + Copy>(
 ) -> (Seat<N>, Driven, Telling<R>) {
     let conf = Conf::read(alloc, PLAIN.conf).expect(rt, "lines");
     let mut seat = halls.seat(rt).expect(rt, "a seat");
-    drop(greets(rt, halls, &mut seat));
-    let (receipt, launch) = requests(rt, halls, &mut seat);
-    drop(receipt);
+    drop(greets(rt, alloc, halls, &mut seat));
+    let launch = requests(rt, halls, &mut seat);
     let (gate, shelf) = (Open::new(), Bin::new());
     let stage = told_stage(rt, alloc, halls, &conf, &gate, &shelf);
     let caller = Caller {

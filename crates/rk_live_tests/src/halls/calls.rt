@@ -1,9 +1,10 @@
 //! What a client and its handler do, in hall 0 for the most part.
 ghost use Rattle.rk_hall.specs.Seats.{IsCall};
 
-use crate::asks::{CLIENT, NOW, hello, request};
-use rk_hall::{Called, HallNo, Halls, Launch, Names, Owed, Receipt, Seat};
-use rk_machine::{EventStep, Ran};
+use crate::asks::{CLIENT, NOW, asked, hello, request};
+use rk_hall::{Called, HallNo, Halls, Launch, Names, Owed, Receipt, ReceiptView, Seat};
+use rk_machine::{EventView, Ran};
+use std::alloc::{AllocError, Global};
 use std::process::Abort;
 use std::sync::Wait;
 
@@ -13,7 +14,7 @@ pub fn fails<N: Names, R: Wait + Abort>(
     halls: &Halls<N>,
     seat: &mut Seat<N>,
     launch: Launch<N>,
-) -> Receipt {
+) -> ReceiptView<'static> {
     let Owed { value, receipt } = halls.launched(rt, seat, NOW, launch, Ran::Failed);
     match value {
         None => {}
@@ -36,25 +37,25 @@ pub fn refuse_launch<N: Names, R: Wait + Abort>(
 }
 
 /// A call that begins no construction.
-pub fn calls<N: Names, R: Wait + Abort>(
+pub fn calls<'a, N: Names, R: Wait + Abort>(
     rt: &R,
     halls: &Halls<N>,
     seat: &mut Seat<N>,
-    event: EventStep<'_>,
-) -> Receipt
+    event: EventView<'a>,
+) -> ReceiptView<'a>
     requires { IsCall event }
 {
     calls_in(rt, halls, seat, HallNo::Zero, event)
 }
 
 /// The same, in this hall.
-pub fn calls_in<N: Names, R: Wait + Abort>(
+pub fn calls_in<'a, N: Names, R: Wait + Abort>(
     rt: &R,
     halls: &Halls<N>,
     seat: &mut Seat<N>,
     hall: HallNo,
-    event: EventStep<'_>,
-) -> Receipt
+    event: EventView<'a>,
+) -> ReceiptView<'a>
     requires { IsCall event }
 {
     let called = halls.call(rt, seat, hall, NOW, event);
@@ -63,14 +64,27 @@ pub fn calls_in<N: Names, R: Wait + Abort>(
     receipt
 }
 
+/// The receipt with a copy of what it borrows. Out of memory ends the test, but not one refusal.
+pub fn kept<R: Abort>(rt: &R, alloc: Global, receipt: ReceiptView<'_>) -> Receipt {
+    let copy = match receipt.to_owned(alloc) {
+        Err(AllocError) => receipt.to_owned(alloc),
+        copy => copy,
+    };
+    copy.expect(rt, "memory")
+}
+
 /// The client comes and says who it is.
 pub fn greets<N: Names, R: Wait + Abort>(
     rt: &R,
+    alloc: Global,
     halls: &Halls<N>,
     seat: &mut Seat<N>,
 ) -> (Receipt, Receipt) {
-    let opened = calls(rt, halls, seat, EventStep::Opened(CLIENT));
-    let rings = calls(rt, halls, seat, EventStep::Asked(CLIENT, hello()));
+    let opened = calls(rt, halls, seat, EventView::Opened(CLIENT));
+    let opened = kept(rt, alloc, opened);
+    let ask = hello();
+    let rings = calls(rt, halls, seat, asked(&ask));
+    let rings = kept(rt, alloc, rings);
     (opened, rings)
 }
 
@@ -79,10 +93,9 @@ pub fn requests<N: Names, R: Wait + Abort>(
     rt: &R,
     halls: &Halls<N>,
     seat: &mut Seat<N>,
-) -> (Receipt, Launch<N>) {
+) -> Launch<N> {
     let ask = request(b"a").expect(rt, "an ask");
-    let called = halls.call(rt, seat, HallNo::Zero, NOW, EventStep::Asked(CLIENT, ask));
-    let Called { receipt, launch } = called.expect(rt, "a receipt");
-    let launch = launch.expect(rt, "a launch");
-    (receipt, launch)
+    let called = halls.call(rt, seat, HallNo::Zero, NOW, asked(&ask));
+    let Called { receipt: _, launch } = called.expect(rt, "a receipt");
+    launch.expect(rt, "a launch")
 }

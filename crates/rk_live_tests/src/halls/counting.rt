@@ -4,7 +4,7 @@ use crate::halls::calls::{calls_in, fails, greets, requests};
 use crate::halls::opening::{Scene, in_new_halls};
 use crate::same::same;
 use rk_hall::{Counts, HallNo, Halls, Names, Seat};
-use rk_machine::EventStep;
+use rk_machine::EventView;
 use rk_names::SessionId;
 use std::alloc::Global;
 use std::process::Abort;
@@ -20,7 +20,7 @@ pub fn come<N: Names, R: Wait + Abort>(
 ) {
     for number in 0..clients {
         let client = SessionId::Client(u32::MAX - number);
-        drop(calls_in(rt, halls, seat, hall, EventStep::Opened(client)));
+        drop(calls_in(rt, halls, seat, hall, EventView::Opened(client)));
     }
 }
 
@@ -43,12 +43,10 @@ struct Counting;
 
 impl Scene for Counting {
     fn play<N: Names, R: Wait + Abort + Copy>(&self, rt: &R, alloc: Global, halls: Halls<N>) {
-        let _ = alloc;
         let mut seat = halls.seat(rt).expect(rt, "a seat");
-        drop(greets(rt, &halls, &mut seat));
+        drop(greets(rt, alloc, &halls, &mut seat));
         count(rt, &halls, [EMPTY; 4]);
-        let (receipt, launch) = requests(rt, &halls, &mut seat);
-        drop(receipt);
+        let launch = requests(rt, &halls, &mut seat);
         count(rt, &halls, [(1, 1, 0), EMPTY, EMPTY, EMPTY]);
         drop(fails(rt, &halls, &mut seat, launch));
         count(rt, &halls, [(1, 0, 0), EMPTY, EMPTY, EMPTY]);

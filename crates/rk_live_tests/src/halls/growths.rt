@@ -6,7 +6,7 @@
 ghost use Rattle.rk_hall.specs.Seats.{IsCall};
 
 use crate::answers::Said;
-use crate::asks::{CLIENT, NOW, OTHER, hello, joining, payload, request};
+use crate::asks::{CLIENT, NOW, OTHER, asked, asked_by, hello, joining, payload, request};
 use crate::halls::calls::refuse_launch;
 use crate::halls::opening::{Scene, in_new_halls};
 use crate::halls::paths::{
@@ -15,7 +15,7 @@ use crate::halls::paths::{
 use crate::record::events::key;
 use crate::same::same;
 use rk_hall::{CallFault, Called, HallNo, Halls, Launch, Names, Receipt, Seat};
-use rk_machine::{EventStep, How};
+use rk_machine::{EventView, How};
 use rk_names::{Errno, Payload};
 use std::alloc::{AllocError, Global};
 use std::process::Abort;
@@ -59,8 +59,9 @@ impl Growths {
         receipts: &mut Vec<Receipt>,
         put_out: Payload,
     ) {
-        if is_made(rt, halls, seat, receipts, EventStep::Opened(CLIENT)) {
-            if is_made(rt, halls, seat, receipts, EventStep::Asked(CLIENT, hello())) {
+        if is_made(rt, halls, seat, receipts, EventView::Opened(CLIENT)) {
+            let hello = hello();
+            if is_made(rt, halls, seat, receipts, asked(&hello)) {
                 self.construct(rt, halls, seat, receipts, put_out);
             }
             goes(rt, halls, seat, receipts, CLIENT);
@@ -77,7 +78,7 @@ impl Growths {
         put_out: Payload,
     ) {
         let ask = request(b"a").expect(rt, "a request");
-        let requested = tries(rt, halls, seat, receipts, EventStep::Asked(CLIENT, ask));
+        let requested = tries(rt, halls, seat, receipts, asked(&ask));
         if let Ok(launch) = requested {
             let launch = launch.expect(rt, "a launch");
             let waits = self.two && joins(rt, halls, seat, receipts);
@@ -120,14 +121,14 @@ fn joins<N: Names, R: Wait + Abort>(
     seat: &mut Seat<N>,
     receipts: &mut Vec<Receipt>,
 ) -> bool {
-    if !is_made(rt, halls, seat, receipts, EventStep::Opened(OTHER)) {
+    if !is_made(rt, halls, seat, receipts, EventView::Opened(OTHER)) {
         return false;
     }
-    let joining = EventStep::Asked(OTHER, joining(key(rt, 4)));
-    let mut waits = is_made(rt, halls, seat, receipts, joining);
+    let joining = joining(key(rt, 4));
+    let mut waits = is_made(rt, halls, seat, receipts, asked_by(OTHER, &joining));
     if waits {
         let ask = request(b"a").expect(rt, "a request");
-        waits = is_made(rt, halls, seat, receipts, EventStep::Asked(OTHER, ask));
+        waits = is_made(rt, halls, seat, receipts, asked_by(OTHER, &ask));
     }
     if !waits {
         goes(rt, halls, seat, receipts, OTHER);
@@ -141,7 +142,7 @@ fn is_made<N: Names, R: Wait + Abort>(
     halls: &Halls<N>,
     seat: &mut Seat<N>,
     receipts: &mut Vec<Receipt>,
-    event: EventStep<'_>,
+    event: EventView<'_>,
 ) -> bool
     requires { IsCall event }
 {
@@ -160,7 +161,7 @@ fn tries<N: Names, R: Wait + Abort>(
     halls: &Halls<N>,
     seat: &mut Seat<N>,
     receipts: &mut Vec<Receipt>,
-    event: EventStep<'_>,
+    event: EventView<'_>,
 ) -> Result<Option<Launch<N>>, AllocError>
     requires { IsCall event }
 {

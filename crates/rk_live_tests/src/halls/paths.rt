@@ -1,11 +1,11 @@
 //! The steps of a client and of its piped handler, with their receipts.
 use crate::answers::{Said, in_words};
 use crate::asks::NOW;
-use crate::halls::calls::fails;
+use crate::halls::calls::{fails, kept};
 use crate::same::same;
 use rk_hall::{
-    HallNo, Halls, Lapse, Launch, Names, Owed, Receipt, Running, Seat, SettleFault, Total, Volume,
-    settle,
+    HallNo, Halls, Lapse, Launch, Names, Owed, Receipt, ReceiptView, Running, Seat, SettleFault,
+    Total, Volume, settle,
 };
 use rk_machine::{How, Ran};
 use rk_macro::Op;
@@ -71,9 +71,10 @@ pub fn goes<N: Names, R: Wait + Abort>(
     keep(rt, receipts, receipt.expect(rt, "a receipt"));
 }
 
-/// Adds the receipt to those that are settled at the end. Out of memory ends the test.
-pub fn keep<R: Abort>(rt: &R, receipts: &mut Vec<Receipt>, receipt: Receipt) {
-    receipts.push(receipt).expect(rt, "memory");
+/// Adds a copy of the receipt to those that are settled at the end. Out of memory ends the test.
+pub fn keep<R: Abort>(rt: &R, receipts: &mut Vec<Receipt>, receipt: ReceiptView<'_>) {
+    let alloc = *receipts.allocator();
+    receipts.push(kept(rt, alloc, receipt)).expect(rt, "memory");
 }
 
 /// A client that is not there collects and goes. Both are strays: EINVAL, and no step.

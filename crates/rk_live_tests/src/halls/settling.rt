@@ -1,8 +1,8 @@
 //! Whether seats and receipts agree with the records, when all is over.
 ghost use Rattle.rk_hall.specs.Seats.{IsCall};
 
-use crate::asks::{CLIENT, NOW, add, hello, request};
-use crate::halls::calls::{calls, calls_in, greets, refuse_launch};
+use crate::asks::{CLIENT, NOW, add, asked, asked_by, hello, request};
+use crate::halls::calls::{calls, calls_in, greets, kept, refuse_launch};
 use crate::halls::opening::{Scene, in_new_halls};
 use crate::halls::paths::{goes, keep, settled};
 use crate::record::events::hall;
@@ -11,17 +11,17 @@ use rk_hall::{
     CallFault, Called, Hall, HallNo, Halls, Lapse, Launch, Names, Owed, Receipt, Running, Seat,
     SettleFault, Total, Volume, settle,
 };
-use rk_machine::{EventStep, How, Ran};
+use rk_machine::{EventView, How, Ran};
 use rk_names::SessionId;
 use std::alloc::Global;
 use std::process::Abort;
 use std::sync::Wait;
 
 /// This client comes.
-fn comes(client: u32) -> EventStep<'static>
+fn comes(client: u32) -> EventView<'static>
     ensures { IsCall result }
 {
-    EventStep::Opened(SessionId::Client(client))
+    EventView::Opened(SessionId::Client(client))
 }
 
 /// Three clients come at each of two seats, in turn.
@@ -41,16 +41,17 @@ fn six_calls<N: Names, R: Wait + Abort>(
 /// A receipt of this number for this client, from a hall of its own: one that no hall of the test gave.
 fn invented<R: Abort>(rt: &R, alloc: Global, number: u32, client: u32) -> Receipt {
     let mut hall = hall(rt, alloc, 100);
-    let receipt = turned(rt, &mut hall, number, client);
+    let receipt = turned(rt, alloc, &mut hall, number, client);
     drop(hall);
     receipt
 }
 
-fn turned<R: Abort>(rt: &R, hall: &mut Hall, number: u32, client: u32) -> Receipt {
+fn turned<R: Abort>(rt: &R, alloc: Global, hall: &mut Hall, number: u32, client: u32) -> Receipt {
     for other in 1..number {
         drop(hall.turn(NOW, comes(other)).expect(rt, "a receipt"));
     }
-    hall.turn(NOW, comes(client)).expect(rt, "a receipt")
+    let receipt = hall.turn(NOW, comes(client)).expect(rt, "a receipt");
+    kept(rt, alloc, receipt)
 }
 
 /// A receipt that no hall of the scene gave, among those that they gave.
@@ -200,7 +201,7 @@ fn refused<N: Names, R: Wait + Abort>(
     rt: &R,
     halls: &Halls<N>,
     seat: &mut Seat<N>,
-    event: EventStep<'_>,
+    event: EventView<'_>,
 ) -> Option<CallFault>
     requires { IsCall event }
 {
@@ -297,7 +298,7 @@ impl Scene for Volumes {
         let volume = rolls(rt, &halls);
         let fourth = adds(rt, alloc, &halls, &mut seat, b"d");
         same(rt, (fourth.volume(), fourth.number()), (2, 6));
-        keep(rt, &mut receipts, fourth);
+        receipts.push(fourth).expect(rt, "memory");
         goes(rt, &halls, &mut seat, &mut receipts, CLIENT);
         let seats = vec![in alloc; seat].expect(rt, "memory");
         let (volumes, wanted) = if self.handed_in {
@@ -323,8 +324,9 @@ fn adds<N: Names, R: Wait + Abort>(
     seat: &mut Seat<N>,
     name: &[u8],
 ) -> Receipt {
-    let ask = add(alloc, name).expect(rt, "an ask");
-    calls(rt, halls, seat, EventStep::Asked(CLIENT, ask))
+    let ask = add(name).expect(rt, "an ask");
+    let receipt = calls(rt, halls, seat, asked(&ask));
+    kept(rt, alloc, receipt)
 }
 
 /// The five steps; the fourth ADD is refused.
@@ -335,14 +337,19 @@ fn fills<N: Names, R: Wait + Abort>(
     seat: &mut Seat<N>,
     receipts: &mut Vec<Receipt>,
 ) {
-    let (opened, rings) = greets(rt, halls, seat);
-    keep(rt, receipts, opened);
-    keep(rt, receipts, rings);
+    let (opened, rings) = greets(rt, alloc, halls, seat);
+    receipts.push(opened).expect(rt, "memory");
+    receipts.push(rings).expect(rt, "memory");
     for name in [b"a", b"b", b"c"] {
-        keep(rt, receipts, adds(rt, alloc, halls, seat, name));
+        let added = adds(rt, alloc, halls, seat, name);
+        receipts.push(added).expect(rt, "memory");
     }
-    let fourth = EventStep::Asked(CLIENT, add(alloc, b"d").expect(rt, "an ask"));
-    same(rt, refused(rt, halls, seat, fourth), Some(CallFault::Full));
+    let fourth = add(b"d").expect(rt, "an ask");
+    same(
+        rt,
+        refused(rt, halls, seat, asked(&fourth)),
+        Some(CallFault::Full),
+    );
 }
 
 /// No volume of a hall that has places for any event.
@@ -427,16 +434,17 @@ impl Standing {
         seat: &mut Seat<N>,
         receipts: &mut Vec<Receipt>,
     ) -> Launch<N> {
-        let coming = EventStep::Opened(self.session());
+        let coming = EventView::Opened(self.session());
         let opened = self.calls(rt, halls, seat, receipts, coming);
         refuse_launch(rt, halls, seat, opened);
-        let greeting = EventStep::Asked(self.session(), hello());
+        let hello = hello();
+        let greeting = asked_by(self.session(), &hello);
         let greeted = self.calls(rt, halls, seat, receipts, greeting);
         refuse_launch(rt, halls, seat, greeted);
         let ask = request(b"a").expect(rt, "an ask");
-        let asking = EventStep::Asked(self.session(), ask);
-        let asked = self.calls(rt, halls, seat, receipts, asking);
-        asked.expect(rt, "a launch")
+        let asking = asked_by(self.session(), &ask);
+        let begun = self.calls(rt, halls, seat, receipts, asking);
+        begun.expect(rt, "a launch")
     }
 
     fn calls<N: Names, R: Wait + Abort>(
@@ -445,7 +453,7 @@ impl Standing {
         halls: &Halls<N>,
         seat: &mut Seat<N>,
         receipts: &mut Vec<Receipt>,
-        event: EventStep<'_>,
+        event: EventView<'_>,
     ) -> Option<Launch<N>>
         requires { IsCall event }
     {

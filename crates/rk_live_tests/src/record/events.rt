@@ -2,12 +2,13 @@
 ghost use Rattle.std.specs.Prelude.{◌≤◌};
 
 use crate::answers::{Said, in_words};
-use crate::asks::{CLIENT, add, hello, payload, request};
+use crate::asks::{CLIENT, add, asked, hello, payload, request};
 use crate::same::same;
 use rk_core::Limits;
-use rk_machine::{EventStep, How, Ran};
+use rk_machine::{EventView, How, Ran};
+use rk_message::AskView;
 use rk_names::{Moment, Serial};
-use rk_record::{Hall, HallFault, HallNo, Receipt};
+use rk_record::{Hall, HallFault, HallNo, ReceiptView};
 use std::alloc::Global;
 use std::process::Abort;
 
@@ -68,33 +69,40 @@ pub enum Happens {
     Gone,
 }
 
-/// The event of a table's line.
-fn event(rt: &impl Abort, alloc: Global, happens: Happens) -> EventStep<'static> {
+/// Takes the turn of a table's line, and gives what is said to it.
+fn turned(rt: &impl Abort, alloc: Global, hall: &mut Hall, now: Moment, happens: Happens) -> Said {
     match happens {
-        Happens::Opened => EventStep::Opened(CLIENT),
-        Happens::Hello => EventStep::Asked(CLIENT, hello()),
-        Happens::Add(name) => EventStep::Asked(CLIENT, add(alloc, name).expect(rt, "an ask")),
-        Happens::Request(name) => EventStep::Asked(CLIENT, request(name).expect(rt, "an ask")),
-        Happens::Launched(number, ran) => EventStep::Launched(key(rt, number), ran),
+        Happens::Opened => told(hall.turn(now, EventView::Opened(CLIENT))),
+        Happens::Hello => asks(hall, now, hello()),
+        Happens::Add(name) => asks(hall, now, add(name).expect(rt, "an ask")),
+        Happens::Request(name) => asks(hall, now, request(name).expect(rt, "an ask")),
+        Happens::Launched(number, ran) => {
+            told(hall.turn(now, EventView::Launched(key(rt, number), ran)))
+        }
         Happens::Ended(number, how, bytes) => {
             let put_out = payload(alloc, bytes).expect(rt, "memory");
-            EventStep::Ended(key(rt, number), how, Some(put_out))
+            told(hall.turn(now, EventView::Ended(key(rt, number), how, Some(put_out))))
         }
-        Happens::Collect => EventStep::Collect(CLIENT),
-        Happens::Gone => EventStep::Gone(CLIENT),
+        Happens::Collect => told(hall.turn(now, EventView::Collect(CLIENT))),
+        Happens::Gone => told(hall.turn(now, EventView::Gone(CLIENT))),
     }
+}
+
+/// The client asks, and gets this answer.
+fn asks(hall: &mut Hall, now: Moment, ask: AskView<'_>) -> Said {
+    told(hall.turn(now, asked(&ask)))
 }
 
 /// Plays a table: each line has its second, what happens, and what is said to it.
 pub fn play(rt: &impl Abort, alloc: Global, hall: &mut Hall, table: &[(u64, Happens, Said)]) {
     for (second, happens, said) in table {
-        let event = event(rt, alloc, *happens);
-        same(rt, told(hall.turn(Moment(*second), event)), *said);
+        let answer = turned(rt, alloc, hall, Moment(*second), *happens);
+        same(rt, answer, *said);
     }
 }
 
 /// What the receipt says, or why there is none.
-fn told(receipt: Result<Receipt, HallFault>) -> Said {
+fn told(receipt: Result<ReceiptView<'_>, HallFault>) -> Said {
     match receipt {
         Ok(receipt) => in_words(receipt.answer()),
         Err(HallFault::Full) => Said::Full,

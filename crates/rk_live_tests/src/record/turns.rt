@@ -1,9 +1,9 @@
 //! The turns of one hall, and what their receipts say.
 use crate::answers::{Said, in_words};
-use crate::asks::{CLIENT, description, hello, user};
+use crate::asks::{CLIENT, asked, description, hello, user};
 use crate::record::events::{Happens, hall, key, play};
 use crate::same::same;
-use rk_machine::{Event, EventStep, How, Ran};
+use rk_machine::{Event, EventView, How, Ran};
 use rk_names::{Errno, Moment, Serial};
 use rk_record::{Hall, HallNo, Receipt};
 use std::alloc::Global;
@@ -63,10 +63,10 @@ fn tells_of_the_wait(rt: &impl Abort, hall: &Hall, key_12: Serial, key_16: Seria
     );
     same(
         rt,
-        hall.owes(&EventStep::Launched(key_16, Ran::Piped)),
+        hall.owes(&EventView::Launched(key_16, Ran::Piped)),
         true,
     );
-    same(rt, hall.owes(&EventStep::Collect(CLIENT)), false);
+    same(rt, hall.owes(&EventView::Collect(CLIENT)), false);
     same(rt, (hall.keys(), hall.constructions()), (2, 1));
 }
 
@@ -104,8 +104,7 @@ fn is_of(hall: &Hall, receipt: &Receipt, at: usize) -> bool {
 
 /// What the receipt of a HELLO says, the second step of a hall.
 fn says_hello(rt: &impl Abort, alloc: Global, receipt: &Receipt) {
-    let said = EventStep::Asked(CLIENT, hello()).to_owned(alloc);
-    let said = said.expect(rt, "an event");
+    let said = Event::Asked(CLIENT, hello().to_owned(alloc).expect(rt, "memory"));
     same(
         rt,
         (receipt.hall(), receipt.volume(), receipt.number()),
@@ -118,16 +117,19 @@ fn says_hello(rt: &impl Abort, alloc: Global, receipt: &Receipt) {
 }
 
 /// The client comes; the receipt says that step.
-fn opens(rt: &impl Abort, hall: &mut Hall) {
-    let receipt = hall.turn(Moment(100), EventStep::Opened(CLIENT));
-    let receipt = receipt.expect(rt, "a receipt");
+fn opens(rt: &impl Abort, alloc: Global, hall: &mut Hall) {
+    let receipt = hall.turn(Moment(100), EventView::Opened(CLIENT));
+    let receipt = receipt.expect(rt, "a receipt").to_owned(alloc);
+    let receipt = receipt.expect(rt, "memory");
     same(rt, is_of(hall, &receipt, 0), true);
 }
 
 /// It says who it is; the receipt says that step, and no other.
 fn greets(rt: &impl Abort, alloc: Global, hall: &mut Hall) {
-    let receipt = hall.turn(Moment(101), EventStep::Asked(CLIENT, hello()));
-    let receipt = receipt.expect(rt, "a receipt");
+    let ask = hello();
+    let receipt = hall.turn(Moment(101), asked(&ask));
+    let receipt = receipt.expect(rt, "a receipt").to_owned(alloc);
+    let receipt = receipt.expect(rt, "memory");
     says_hello(rt, alloc, &receipt);
     same(rt, is_of(hall, &receipt, 0), false);
     same(rt, is_of(hall, &receipt, 1), true);
@@ -137,7 +139,7 @@ fn greets(rt: &impl Abort, alloc: Global, hall: &mut Hall) {
 #[test]
 fn a_receipt_says_its_step(rt: HostRuntime) {
     let mut hall = hall(&rt, rt.alloc(), 64);
-    opens(&rt, &mut hall);
+    opens(&rt, rt.alloc(), &mut hall);
     greets(&rt, rt.alloc(), &mut hall);
     drop(hall);
 }

@@ -4,7 +4,7 @@ ghost use Rattle.std.specs.Prelude.{None};
 use crate::fakes::turns::Turns;
 use crate::sessions::line::Line;
 use rk_devices::DeviceFault;
-use rk_hall::Receipt;
+use rk_hall::ReceiptView;
 use rk_session::Wire;
 
 /// The wire of a client that acts in turn with others.
@@ -44,7 +44,7 @@ impl<'a> Wire for InTurn<'a> {
         sent
     }
 
-    fn note(&mut self, receipt: Receipt) {
+    fn note(&mut self, receipt: &ReceiptView<'_>) {
         self.line.note(receipt);
     }
 

@@ -5,7 +5,7 @@ ghost use Rattle.rk_devices.specs.Counts.{Rose};
 
 use crate::fakes::giving::give;
 use rk_devices::DeviceFault;
-use rk_hall::Receipt;
+use rk_hall::{Receipt, ReceiptView};
 use rk_session::Wire;
 use std::alloc::{AllocError, Global};
 
@@ -142,9 +142,16 @@ impl Wire for Line {
         Ok(())
     }
 
-    fn note(&mut self, receipt: Receipt) {
+    fn note(&mut self, receipt: &ReceiptView<'_>) {
         let _ = self.story.push(b'n');
-        let _ = self.noted.push(receipt);
+        let alloc = *self.noted.allocator();
+        let copy = match receipt.to_owned(alloc) {
+            Err(AllocError) => receipt.to_owned(alloc),
+            copy => copy,
+        };
+        if let Ok(receipt) = copy {
+            let _ = self.noted.push(receipt);
+        }
     }
 
     fn failures(&self) -> u64 {

@@ -5,7 +5,7 @@ ghost use Rattle.rk_live_tests.specs.Telling.{happened};
 use crate::fakes::giving::{give, one_more};
 use crate::kept::Kept;
 use rk_devices::DeviceFault;
-use rk_hall::Receipt;
+use rk_hall::ReceiptView;
 use rk_session::Wire;
 use std::alloc::Global;
 use std::process::Abort;
@@ -64,10 +64,9 @@ impl<'a, R: Abort> Wire for Telling<'a, R> {
         Ok(())
     }
 
-    fn note(&mut self, receipt: Receipt) {
-        self.kept
-            .push(Kept::Noted(receipt))
-            .expect(self.rt, "memory");
+    fn note(&mut self, receipt: &ReceiptView<'_>) {
+        let noted = receipt.to_owned(self.alloc).expect(self.rt, "memory");
+        self.kept.push(Kept::Noted(noted)).expect(self.rt, "memory");
     }
 
     fn failures(&self) -> u64 {

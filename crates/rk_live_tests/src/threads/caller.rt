@@ -2,13 +2,13 @@
 ghost use Rattle.rk_hall.specs.Seats.{IsCall};
 
 use crate::answers::{Said, in_words};
-use crate::asks::{NOW, hello_of};
+use crate::asks::{NOW, asked_by, hello_of};
 use crate::halls::calls::fails;
 use crate::halls::paths::keep;
 use crate::same::same;
 use crate::threads::random::Numbers;
 use rk_hall::{Called, HallNo, Halls, Launch, Names, Owed, Receipt, Seat, Volume};
-use rk_machine::EventStep;
+use rk_machine::EventView;
 use rk_names::SessionId;
 use std::alloc::Global;
 use std::process::Abort;
@@ -39,7 +39,7 @@ pub struct Caller<N: Names> {
 
 impl<N: Names> Caller<N> {
     /// A call, and what the client is answered in the end.
-    fn calls<R: Wait + Abort>(&mut self, rt: &R, halls: &Halls<N>, event: EventStep<'_>) -> Said
+    fn calls<R: Wait + Abort>(&mut self, rt: &R, halls: &Halls<N>, event: EventView<'_>) -> Said
         requires { IsCall event }
     {
         let called = halls.call(rt, &mut self.seat, self.hall, NOW, event);
@@ -66,7 +66,6 @@ impl<N: Names> Caller<N> {
     fn asks<R: Wait + Abort>(
         &mut self,
         rt: &R,
-        alloc: Global,
         halls: &Halls<N>,
         mut numbers: Numbers,
         count: u32,
@@ -74,8 +73,8 @@ impl<N: Names> Caller<N> {
         let mut newest = 0;
         let mut done: u32 = 0;
         for turn in 0..count {
-            let ask = numbers.ask(alloc, newest).expect(rt, "an ask");
-            let asked = EventStep::Asked(self.client, ask);
+            let ask = numbers.ask(newest).expect(rt, "an ask");
+            let asked = asked_by(self.client, &ask);
             match self.calls(rt, halls, asked) {
                 Said::Number(number) => {
                     newest = newest.max(number);
@@ -123,13 +122,14 @@ pub fn work<N: Names, R: Wait + Abort>(
         receipts: Vec::new(alloc),
         volumes: Vec::new(alloc),
     };
-    let opening = EventStep::Opened(caller.client);
+    let opening = EventView::Opened(caller.client);
     let opened = caller.calls(rt, halls, opening);
     same(rt, opened, Said::Number(0));
-    let greeting = EventStep::Asked(caller.client, hello_of(uid));
+    let hello = hello_of(uid);
+    let greeting = asked_by(caller.client, &hello);
     caller.calls(rt, halls, greeting);
     let numbers = Numbers(u64::from(uid));
-    caller.asks(rt, alloc, halls, numbers, asks);
+    caller.asks(rt, halls, numbers, asks);
     caller.goes(rt, halls);
     caller
 }

@@ -2,8 +2,7 @@
 ghost use Rattle.std.specs.Prelude.{◌<◌};
 
 use crate::asks::{add, find, request};
-use rk_message::AskStep;
-use std::alloc::{AllocError, Global};
+use rk_message::AskView;
 
 /// The names that are asked for, one letter each, fewer than a user may have keys.
 const NAMES: &[u8; 64] = b"0123456789:;<=>?@ABCDEFGHIJKLMNOPQRSTUVWXYZ[\\]^_`abcdefghijklmno";
@@ -33,29 +32,30 @@ impl Numbers {
         upper % bound
     }
 
-    /// What is asked next, where this is the greatest serial that the client was told: some asks come more often than others.
-    pub fn ask(&mut self, alloc: Global, newest: u32) -> Result<AskStep<'static>, AllocError> {
+    /// What is asked next, where this is the greatest serial that the client was told: some asks come more often than others. `None` if a name broke
+    /// its rule.
+    pub fn ask(&mut self, newest: u32) -> Option<AskView<'static>> {
         let first = usize::from(self.below(64));
         let names = &NAMES[..];
         let name = names.get(first..first + 1).unwrap_or(b"0");
         let back = u32::from(self.below(LAST)) * STRIDE;
         let key = i32::try_from(newest.saturating_sub(back)).unwrap_or(0);
         match self.below(16) {
-            0..=4 => add(alloc, name),
-            5 => request(name).ok_or(AllocError),
-            6 => find(name).ok_or(AllocError),
-            7 | 8 => Ok(AskStep::Read { key }),
-            9 | 10 => Ok(AskStep::Describe { key }),
-            11 | 12 => Ok(AskStep::Link {
+            0..=4 => add(name),
+            5 => request(name),
+            6 => find(name),
+            7 | 8 => Some(AskView::Read { key }),
+            9 | 10 => Some(AskView::Describe { key }),
+            11 | 12 => Some(AskView::Link {
                 key,
                 ring: USER_RING,
             }),
-            13 => Ok(AskStep::Unlink {
+            13 => Some(AskView::Unlink {
                 key,
                 ring: SESSION_RING,
             }),
-            14 => Ok(AskStep::Revoke { key }),
-            _ => Ok(AskStep::Clear { ring: USER_RING }),
+            14 => Some(AskView::Revoke { key }),
+            _ => Some(AskView::Clear { ring: USER_RING }),
         }
     }
 }

@@ -2,18 +2,18 @@
 ghost use Rattle.rk_hall.specs.Seats.{IsCall};
 
 use crate::answers::{Said, in_words};
-use crate::asks::{CLIENT, NOW, OTHER, hello, joining, payload, request};
+use crate::asks::{CLIENT, NOW, OTHER, asked, asked_by, hello, joining, request};
 use crate::fakes::turns::Turns;
 use crate::halls::calls::{calls_in, fails, refuse_launch};
 use crate::record::events::key;
 use crate::same::same;
 use crate::threads::opening::{Scene, in_new_halls};
 use rk_hall::{Called, HallNo, Halls, Launch, Names, Owed, Running, Seat};
-use rk_machine::{EventStep, How, Ran};
-use rk_message::AskStep;
-use rk_names::{Errno, KeyError, Serial, SessionId};
+use rk_machine::{EventView, How, Ran};
+use rk_message::AskView;
+use rk_names::{Errno, KeyError, PayloadView, Serial, SessionId};
 use rk_wait::await_outcome;
-use std::alloc::{AllocError, Global};
+use std::alloc::Global;
 use std::marker::{Send, Sync};
 use std::process::Abort;
 use std::sync::Wait;
@@ -46,26 +46,26 @@ enum Step {
 
 impl Step {
     /// The ask by which its handler completes the key, if it does.
-    fn ask(self, alloc: Global, key: i32) -> Result<Option<AskStep<'static>>, AllocError> {
-        Ok(match self {
-            Step::Instantiate => Some(AskStep::Instantiate {
+    fn ask(self, key: i32) -> Option<AskView<'static>> {
+        match self {
+            Step::Instantiate => Some(AskView::Instantiate {
                 key,
-                payload: payload(alloc, b"v")?,
+                payload: PayloadView::new(b"v").ok()?,
                 ring: 0,
             }),
-            Step::Negate => Some(AskStep::Negate {
+            Step::Negate => Some(AskView::Negate {
                 key,
                 timeout: 30,
                 ring: 0,
             }),
-            Step::Reject => Some(AskStep::Reject {
+            Step::Reject => Some(AskView::Reject {
                 key,
                 timeout: 30,
                 error: KeyError::Rejected,
                 ring: 0,
             }),
             Step::FailedStart | Step::End => None,
-        })
+        }
     }
 }
 
@@ -102,7 +102,7 @@ impl Place {
         rt: &R,
         halls: &Halls<N>,
         seat: &mut Seat<N>,
-        event: EventStep<'_>,
+        event: EventView<'_>,
     ) -> Said
         requires { IsCall event }
     {
@@ -116,10 +116,11 @@ impl Place {
         halls: &Halls<N>,
         seat: &mut Seat<N>,
     ) -> Launch<N> {
-        self.calls(rt, halls, seat, EventStep::Opened(CLIENT));
-        self.calls(rt, halls, seat, EventStep::Asked(CLIENT, hello()));
-        let asked = EventStep::Asked(CLIENT, request(b"a").expect(rt, "an ask"));
-        let called = halls.call(rt, seat, self.hall, NOW, asked);
+        self.calls(rt, halls, seat, EventView::Opened(CLIENT));
+        let hello = hello();
+        self.calls(rt, halls, seat, asked(&hello));
+        let ask = request(b"a").expect(rt, "an ask");
+        let called = halls.call(rt, seat, self.hall, NOW, asked(&ask));
         let Called { receipt: _, launch } = called.expect(rt, "a receipt");
         launch.expect(rt, "a launch")
     }
@@ -130,10 +131,10 @@ impl Place {
         rt: &R,
         halls: &Halls<N>,
         seat: &mut Seat<N>,
-        ask: AskStep<'_>,
+        ask: AskView<'_>,
     ) {
         let handler = SessionId::Handler(self.key(rt));
-        let said = self.calls(rt, halls, seat, EventStep::Asked(handler, ask));
+        let said = self.calls(rt, halls, seat, asked_by(handler, &ask));
         same(rt, said, Said::Number(0));
     }
 
@@ -148,7 +149,7 @@ impl Place {
         let Owed { value, receipt } = halls.launched(rt, seat, NOW, launch, Ran::Plain);
         drop(receipt);
         let key = i32::from(self.key);
-        self.asks(rt, halls, seat, AskStep::Assume { key });
+        self.asks(rt, halls, seat, AskView::Assume { key });
         value.expect(rt, "a handler that runs")
     }
 
@@ -161,11 +162,11 @@ impl Place {
     ) -> Said {
         let mut seat = halls.seat(rt).expect(rt, "a seat");
         turns.wait(REQUESTED);
-        self.calls(rt, halls, &mut seat, EventStep::Opened(OTHER));
+        self.calls(rt, halls, &mut seat, EventView::Opened(OTHER));
         let joining = joining(self.ring(rt));
-        self.calls(rt, halls, &mut seat, EventStep::Asked(OTHER, joining));
+        self.calls(rt, halls, &mut seat, asked_by(OTHER, &joining));
         let ask = request(b"a").expect(rt, "an ask");
-        let said = self.calls(rt, halls, &mut seat, EventStep::Asked(OTHER, ask));
+        let said = self.calls(rt, halls, &mut seat, asked_by(OTHER, &ask));
         same(rt, said, Said::Waiting(u32::from(self.key)));
         turns.next();
         let outcome = await_outcome(rt, halls, &mut seat, self.hall, OTHER, NOW);
@@ -194,7 +195,8 @@ impl Waking {
         halls: Halls<N>,
     ) {
         let turns = Turns::new();
-        let told = self.share(rt, alloc, &halls, &turns);
+        let _ = alloc;
+        let told = self.share(rt, &halls, &turns);
         same(rt, (told, turns.late()), (self.outcome, 0));
     }
 }
@@ -204,7 +206,6 @@ impl Waking {
     fn share<N: Names + Send + Sync, R: Wait + Abort + Threads + Clock + Sync>(
         self,
         rt: &R,
-        alloc: Global,
         halls: &Halls<N>,
         turns: &Turns,
     ) -> Said {
@@ -213,19 +214,13 @@ impl Waking {
         let (told, ()) = join(
             rt,
             move || Place::of(key).waits(rt, halls, turns),
-            move || self.acts(rt, alloc, halls, turns),
+            move || self.acts(rt, halls, turns),
         );
         told
     }
 
     /// The first client requests the key, and what is to be done for it is done when the other one waits.
-    fn acts<N: Names, R: Wait + Abort + Clock>(
-        self,
-        rt: &R,
-        alloc: Global,
-        halls: &Halls<N>,
-        turns: &Turns,
-    ) {
+    fn acts<N: Names, R: Wait + Abort + Clock>(self, rt: &R, halls: &Halls<N>, turns: &Turns) {
         let mut seat = halls.seat(rt).expect(rt, "a seat");
         let launch = self.place.requests(rt, halls, &mut seat);
         turns.next();
@@ -236,7 +231,7 @@ impl Waking {
             let running = self.place.runs(rt, halls, &mut seat, launch);
             is_waited_for(rt, turns);
             let key = i32::from(self.place.key);
-            if let Some(ask) = self.step.ask(alloc, key).expect(rt, "memory") {
+            if let Some(ask) = self.step.ask(key) {
                 self.place.asks(rt, halls, &mut seat, ask);
                 turns.wait(TOLD);
             }

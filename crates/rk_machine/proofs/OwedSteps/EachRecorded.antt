@@ -15,7 +15,8 @@ use Rattle.rk_machine.specs.Steps.{launched}
 use Rattle.rk_machine.proofs.OwedSteps.WeightsOfMaps.{no_weight, no_heavier, part}
 use Rattle.rk_machine.proofs.Effects.StagesByStep.{Kind, kind_of, kind_in}
 use Rattle.rk_machine.proofs.Effects.UndrawnIsIdle.{IsIdle, start_is, idle_fresh, launch_kind, found_some, idle_step}
-use Rattle.rk_machine.proofs.OwedSteps.OwedByStep.{balance, NotOwed, ready_is, moves}
+use Rattle.rk_machine.proofs.Words.{◌+◌, is_ask, wait_made}
+use Rattle.rk_machine.proofs.OwedSteps.OwedByStep.{balance, NotOwed, ready_is, moves, asked_places}
 use Rattle.rk_machine.proofs.Effects.KindsOfStep.{effect}
 use Rattle.rk_machine.proofs.Effects.OfSessions.{InSessions, in_sessions, is_refused, waits_on, collects, goes, told, answered, is_set, runs_plain, runs_piped}
 use Rattle.rk_machine.proofs.Effects.OfSessions.{follows, not_run, ends}
@@ -168,6 +169,12 @@ idle_run from (s ∷ before) w run = idle_step run.0 s.now s.event s.answer w ru
 -- every step of a run changes what is owed as Recording says
 pub reached_recording : (old : World) (now : ℕ) (e : Event) (a : Answer) (new : World) → Reached old → Step old now e a new → Recording old e a new
 reached_recording old now e a new r h = recording old now e a new h (idle_run r.0 r.1 old r.2)
+
+-- an ask changes what is owed to whoever asks by its wait alone
+pub asked_owes : (old : World) (now : ℕ) (e : Event) (a : Answer) (new : World) → Reached old → Step old now e a new → is_ask e ≡ true
+    → owed_to new (whose e) ≡ owed_to old (whose e) + wait_made a
+asked_owes old now e a new r h asks =
+    asked_places old new now e a new.sessions (in_sessions old now e a new (effect old now e a new h)) (idle_fresh old (idle_run r.0 r.1 old r.2)) asks
 
 -- the empty world owes nothing
 pub empty_owes : (negative first stride : ℕ) → owed (empty_world negative first stride) ≡ 0

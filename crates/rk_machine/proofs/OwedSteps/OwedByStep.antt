@@ -6,7 +6,7 @@ use Rattle.rk_machine.proofs.Words.{new_wait, Sessions, new_session, wait_of, se
 use Rattle.rk_machine.proofs.Words.{Plain, Piped, Negating, Outcome, Found, Failed, Session, Wait, done, serial_named, Event, same_session, is_request, whose}
 use Rattle.rk_machine.proofs.Words.{client_owes, stage_owes, construction_owes, owed_to, start_owes, wait_owes, places, need, collected, told_as, is_ready}
 use Rattle.rk_machine.proofs.Words.{is_owed, weight, World, Answer, Done, Start, Waiting, Refused, Negate, Opened, Asked, Launched, Ended, Collect, Gone}
-use Rattle.rk_machine.proofs.Words.{true_false}
+use Rattle.rk_machine.proofs.Words.{true_false, is_ask, wait_made}
 use Rattle.std.specs.FinMap as map
 use Rattle.rk_message.specs.declared.ask.AskOf.TheVariants as ask
 use Rattle.rk_machine.specs.declared.event.Ran.TheVariants as ran
@@ -238,3 +238,39 @@ moves old new now e a b (ends k how payload st condition is runs) idle not_owed 
     let there = stage_there old.sessions k st is in
     let some = running_owes st runs in
     replaced old (Ended k how payload) done _ 0 refl (places_ended now k condition old) (omega (arith, there.1))
+
+-- ---- asks
+
+-- a session that does not wait is owed its end alone
+no_wait : (a : Sessions) (s : SessionId) → is_none (session_of a s) ≡ false → wait_of a s ≡ None → places a s ≡ 1
+no_wait a s there free =
+    let one = found_there a s there in
+    let none : one.0.wait ≡ None = sym (ap (option_and_then (λ (x : Session). x.wait)) one.1) ∙ free in
+    places_there a s one.0 one.1 ∙ ap (λ (v : Option Wait). 1 + cond (is_some v) 1 0) none
+
+-- an ask changes what is owed to whoever asks by its wait alone
+pub asked_places : (old new : World) (now : ℕ) (e : Event) (a : Answer) (b : Sessions) → InSessions old new now e a b → IdleFresh old → is_ask e ≡ true
+    → places b (whose e) ≡ owed_to old (whose e) + wait_made a
+asked_places old new now e a b (is_refused y error w free) idle asks = omega arith
+asked_places old new now e a b (greeted n hello c thread process session user can) idle asks =
+    let kept = places_kept (Client n) (with_context c) (λ x. refl) old.sessions (Client n) in omega arith
+asked_places old new now e a b (starts s typ description callout r k subject authority names can fresh drawn) idle asks =
+    let f : Session → Session = with_wait (Some (new_wait k true)) in
+    let issued : Sessions = with_construction k authority old.sessions in
+    let one = found_there issued s (there_issued k authority old.sessions s (idle k fresh.unused) can.there) in
+    let left : places (session_changed s f issued) s ≡ 2 = changed_there issued s f one.0 one.1 in
+    let was = no_wait old.sessions s can.there can.free in omega arith
+asked_places old new now e a b (waits_for s x k is can apart) idle asks =
+    let f : Session → Session = with_wait (Some (new_wait k false)) in
+    let one = found_there old.sessions s can.there in
+    let left : places (session_changed s f old.sessions) s ≡ 2 = changed_there old.sessions s f one.0 one.1 in
+    let was = no_wait old.sessions s can.there can.free in omega arith
+asked_places old new now e a b (answered s x n plain) idle asks = omega arith
+asked_places old new now e a b (told s x bytes w) idle asks = omega arith
+asked_places old new now e a b (is_set s x setting n plain can) idle asks =
+    let kept = places_kept s (with_setting setting) (λ y. refl) old.sessions s in omega arith
+asked_places old new now e a b (assumed s key can none) idle asks =
+    let kept = places_kept s (with_assumed (serial_named key)) (λ y. refl) old.sessions s in omega arith
+asked_places old new now e a b (concluded s x asker k keys which is own) idle asks =
+    let kept = places_announced now k keys (spent k old.sessions) s ∙ places_spent k old.sessions s in omega arith
+asked_places old new now e a b _ idle asks = absurd (true_false (sym asks))

@@ -13,7 +13,7 @@ use crate::book::answers::shown;
 use crate::book::moves::{Line, Move};
 use crate::book::words::Fault;
 use crate::same::{same, same_text};
-use rk_core::{Event, EventStep};
+use rk_core::{Answer, Event};
 
 /// Reads a line, once more if memory was refused.
 fn read_surely(alloc: Global, line: &str) -> Result<Line, Fault> {
@@ -23,11 +23,16 @@ fn read_surely(alloc: Global, line: &str) -> Result<Line, Fault> {
     }
 }
 
-/// An event as a step takes it, once more if memory was refused.
-fn step_surely(alloc: Global, event: &Event) -> Result<EventStep<'_>, AllocError> {
-    match event.to_step(alloc) {
-        Err(AllocError) => event.to_step(alloc),
-        step => step,
+/// The step of an event, once more if memory was refused for what the step takes.
+fn step_surely(
+    alloc: Global,
+    book: &mut Book,
+    now: Moment,
+    event: &Event,
+) -> Result<Answer, AllocError> {
+    match book.step_of(alloc, now, event) {
+        Err(AllocError) => book.step_of(alloc, now, event),
+        answer => answer,
     }
 }
 
@@ -35,7 +40,7 @@ fn step_surely(alloc: Global, event: &Event) -> Result<EventStep<'_>, AllocError
 fn said(alloc: Global, book: &mut Book, now: Moment, line: &str) -> Result<String, Fail> {
     match read_surely(alloc, line)?.told {
         Move::Step(event) => {
-            let answer = book.step(now, step_surely(alloc, &event)?);
+            let answer = step_surely(alloc, book, now, &event)?;
             match shown(alloc, &answer) {
                 Ok(words) => Ok(words),
                 Err(AllocError) => Ok(shown(alloc, &answer)?),

@@ -2,7 +2,7 @@
 use crate::book::words::{Fault, number, payload, serial, session, words};
 use rk_client::{ask_of, op_named};
 use rk_core::{Event, How, Ran};
-use rk_message::{Ask, Greeting, SharedAsk};
+use rk_message::{Ask, Greeting};
 use rk_names::{Description, Moment, Payload, Serial, SessionId, TypeName};
 use std::alloc::{AllocError, Global};
 
@@ -95,7 +95,7 @@ fn read_event(alloc: Global, words: &[&str]) -> Result<Event, Fault> {
         ["ended", key, "fault", out @ ..] => ended(alloc, *key, How::Fault, out),
         [id, op, arguments @ ..] => {
             let id = session(*id)?;
-            let ask = SharedAsk::new(alloc, asked(alloc, *op, arguments)?)?;
+            let ask = asked(alloc, *op, arguments)?;
             Ok(Event::Asked(id, ask))
         }
         _ => Err(Fault::Word),

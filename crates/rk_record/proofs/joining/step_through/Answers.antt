@@ -1,6 +1,4 @@
 use Rattle.std.proofs.Common.{true≢false, sym, subst, arith, ◌∙◌}
-use Rattle.rk_machine.specs.Event.{Event}
-use Rattle.rk_machine.specs.Steps.{Step}
 use Rattle.rk_record.proofs.Runs.{runs-none}
 use Rattle.rk_record.proofs.Joins.{run_item, broken_item, count_one}
 use Rattle.rk_record.proofs.joining.step_through.Goals as goal
@@ -10,7 +8,7 @@ loop-step-init c = record { run = runs-none _; number = omega arith }
 
 pub returns-then-not-equals-clause-broken : goal.returns-then-not-equals-clause-broken
 returns-then-not-equals-clause-broken c =
-    let step = subst (λ (e : Event). Step c.loop-step.book c.step-item.result.now e c.step-answer.result c.step-answer.new.self) c.in-Ok.ensures c.step-answer.ensures.step in (
+    let step = c.in-Ok.ensures.step in (
       c.loop-step.step-index,
       c.saturating_add-number.ensures ∙ count_one _ _ _ c.loop-step.invariant.number,
       broken_item _ _ _ _ _ c.step-item.result _ c.loop-step-test.true c.step-item.is c.loop-step.invariant.run step (λ same. true≢false (sym (c.equals.ensures.1 same) ∙ c.if-not-equals.true))
@@ -19,7 +17,7 @@ returns-then-not-equals-clause-broken c =
 
 pub loop-step-preserved : goal.loop-step-preserved
 loop-step-preserved c =
-    let step = subst (λ (e : Event). Step c.loop-step.book c.step-item.result.now e c.step-answer.result c.step-answer.new.self) c.in-Ok.ensures c.step-answer.ensures.step in
+    let step = c.in-Ok.ensures.step in
     record {
       run = run_item _ _ _ _ _ c.step-item.result _ c.loop-step-test.true c.step-item.is c.loop-step.invariant.run step (c.equals.ensures.0 c.if-not-equals.false);
       number = c.saturating_add-number.ensures ∙ count_one _ _ _ c.loop-step.invariant.number;

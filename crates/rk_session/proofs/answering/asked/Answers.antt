@@ -6,7 +6,7 @@ use Rattle.rk_session.proofs.answering.asked.Goals as goal
 pub returns-in-None-clause-says : goal.returns-in-None-clause-says
 returns-in-None-clause-says g c =
     let called = c.ask_in.new.seat in
-    receipt_answers (Client c.args.client) c.args.hall c.now-now.result c.args.message.ask c.args.crew.now.caller.seat called called called
+    receipt_answers (Client c.args.client) c.args.hall c.now-now.result c.args.ask.now c.args.crew.now.caller.seat called called called
     c.in-Ok.field-0.receipt c.in-Ok.field-0.launch (saying.Noted c.in-Ok.field-0.receipt) c.in-Ok.ensures.receipt c.in-Ok.ensures.seat
     c.in-Ok.ensures.launch (stays_same called) (λ none. refl)
     (inl (refl, λ waits. c.if-not-waits.ensures (subst IsToWait (sym c.answer.ensures) waits), refl))
@@ -17,7 +17,7 @@ returns-in-None-clause-pushes g c = pushes_same _
 pub returns-in_default-clause-says : goal.returns-in_default-clause-says
 returns-in_default-clause-says g c =
     let finishes = c.awaited.ensures.finishes in
-    receipt_answers (Client c.args.client) c.args.hall c.now-now.result c.args.message.ask c.args.crew.now.caller.seat c.ask_in.new.seat finishes.0
+    receipt_answers (Client c.args.client) c.args.hall c.now-now.result c.args.ask.now c.args.crew.now.caller.seat c.ask_in.new.seat finishes.0
     c.awaited.new.crew.caller.seat c.in-Ok.field-0.receipt c.in-Ok.field-0.launch c.awaited.result c.in-Ok.ensures.receipt c.in-Ok.ensures.seat
     c.in-Ok.ensures.launch finishes.1 finishes.2 finishes.3
 

@@ -1,15 +1,14 @@
 use Rattle.rk_session.proofs.Words.{subst, ◌∙◌, Speaks}
-use Rattle.rk_session.proofs.Sayings.{says_settled}
 use Rattle.rk_session.proofs.Sendings.{counts_then}
 use Rattle.rk_session.proofs.turns.greet.Goals as goal
 
 pub say-requires : goal.say-requires
-say-requires g c = says_settled _ _ _ _ _ c.admitted-saying.ensures.says
+say-requires g c = c.admitted-saying.ensures.settled
 
 pub returns-clause-ends : goal.returns-clause-ends
-returns-clause-ends g c = (
+returns-clause-ends g c body spells = (
   c.admitted-saying.result,
-  c.admitted-saying.ensures.says,
+  c.admitted-saying.ensures.says body spells,
   subst (λ story. Speaks c.admitted-saying.result c.say.result story (g.W.Wire.shown c.say.new.wire)) c.admitted-saying.ensures.pushes.story
       c.say.ensures.speaks,
 )

@@ -10,7 +10,7 @@ returns-in-Ok-Some-clause-step c =
 pub returns-in-Ok-None-clause-step : goal.returns-in-Ok-None-clause-step
 returns-in-Ok-None-clause-step c =
     asks_first c.args.self.now c.args.now c.args.id.now c.args.ask (answer_of c.first_ask.result) c.first_ask.new.self c.in-Ok-None.ensures.1
-    (sym c.in-Ok-None.ensures.0 ∙ c.in-Ok-None.field-0-is) c.first_ask.ensures.step
+    (sym c.in-Ok-None.ensures.0 ∙ c.in-Ok-None.field-0-is) (rw c.ask-in-Ok-None.ensures at c.first_ask.ensures.step)
 
 pub returns-in-Err-clause-step : goal.returns-in-Err-clause-step
 returns-in-Err-clause-step c = session_refused c.args.self.now c.args.now c.args.id.now c.args.ask _ c.in-Err.ensures

@@ -8,7 +8,7 @@ use Rattle.rk_record.specs.Record.{HallShown}
 use Rattle.rk_record.specs.Journal.{JournalShown}
 use Rattle.rk_record.specs.Turns.{Turned, Noted}
 use Rattle.rk_record.proofs.Runs.{sound_reached, sound_shown, sound_same, sound_next, count_next}
-use Rattle.rk_record.proofs.Kept.{payload_room, ends_within, fits_start, idle_same, idle_keeps, is_prepared, frees, few_ends}
+use Rattle.rk_record.proofs.Kept.{payload_room, ends_within, fits_start, idle_same, idle_keeps, is_prepared, few_ends, few_places, frees, counted_frees, counted_less, counted_same}
 use Rattle.rk_record.proofs.hall.Hall.turn_to_start.Goals as goal
 
 -- ---- before the step
@@ -26,15 +26,15 @@ prepare-requires-clause-ends c =
     let most = i.most in
     let within = ends_within c.self.inside.book in omega arith
 
-pub returns-in_err-copies-clause-sound : goal.returns-in_err-copies-clause-sound
-returns-in_err-copies-clause-sound c = rw c.in_err-copies.ensures.err (sound_shown _ _ _ c.self.invariant)
+pub returns-in_err-ready-clause-sound : goal.returns-in_err-ready-clause-sound
+returns-in_err-ready-clause-sound c = rw c.in_err-ready.ensures.err (sound_shown _ _ _ c.self.invariant)
 
 -- ---- what can't be recorded
 
 pub keep-requires : goal.keep-requires
 keep-requires c =
-    let same = idle_same _ _ _ _ _ (sound_reached c.self.invariant) c.step_to_start-answer.ensures.step c.in_default.ensures.none in
-    rw (c.in_ok-copies.ensures.journal, c.of-kept.ensures.0, c.of-kept.ensures.1) (idle_keeps _ _ c.self.inside.journal same.1)
+    let same = idle_same _ _ _ _ _ (sound_reached c.self.invariant) (rw c.in_ok-ready.ensures.ready.step at c.step_to_start-answer.ensures.step) c.in_default.ensures.none in
+    rw (c.in_ok-ready.ensures.journal, c.of-kept.ensures.0, c.of-kept.ensures.1) (idle_keeps _ _ c.self.inside.journal same.1)
 
 pub recorded_answer-requires : goal.recorded_answer-requires
 recorded_answer-requires c =
@@ -43,13 +43,13 @@ recorded_answer-requires c =
 
 pub invariant_of-self-in_default : goal.invariant_of-self-in_default
 invariant_of-self-in_default c =
-    let same = idle_same _ _ _ _ _ (sound_reached c.self.invariant) c.step_to_start-answer.ensures.step c.in_default.ensures.none in
-    rw (c.keep.ensures, c.in_ok-copies.ensures.journal, c.of-kept.ensures.0, c.of-kept.ensures.1) (sound_same _ _ _ _ _ _ _ _ _ same.0 c.self.invariant)
+    let same = idle_same _ _ _ _ _ (sound_reached c.self.invariant) (rw c.in_ok-ready.ensures.ready.step at c.step_to_start-answer.ensures.step) c.in_default.ensures.none in
+    rw (c.keep.ensures, c.in_ok-ready.ensures.journal, c.of-kept.ensures.0, c.of-kept.ensures.1) (sound_same _ _ _ _ _ _ _ _ _ same.0 c.self.invariant)
 
 pub returns-in_default-clause-err : goal.returns-in_default-clause-err
 returns-in_default-clause-err c =
-    let same = idle_same _ _ _ _ _ (sound_reached c.self.invariant) c.step_to_start-answer.ensures.step c.in_default.ensures.none in
-    rw (c.keep.ensures, c.in_ok-copies.ensures.journal, same.0) c.self.view_is
+    let same = idle_same _ _ _ _ _ (sound_reached c.self.invariant) (rw c.in_ok-ready.ensures.ready.step at c.step_to_start-answer.ensures.step) c.in_default.ensures.none in
+    rw (c.keep.ensures, c.in_ok-ready.ensures.journal, same.0) c.self.view_is
 
 pub returns-in_default-clause-sound : goal.returns-in_default-clause-sound
 returns-in_default-clause-sound c = sound_shown _ _ _ (invariant_of-self-in_default c)
@@ -57,7 +57,7 @@ returns-in_default-clause-sound c = sound_shown _ _ _ (invariant_of-self-in_defa
 pub returns-in_default-clause-owed : goal.returns-in_default-clause-owed
 returns-in_default-clause-owed c =
     λ is.
-    let same = idle_same _ _ _ _ _ (sound_reached c.self.invariant) c.step_to_start-answer.ensures.step c.in_default.ensures.none in
+    let same = idle_same _ _ _ _ _ (sound_reached c.self.invariant) (rw c.in_ok-ready.ensures.ready.step at c.step_to_start-answer.ensures.step) c.in_default.ensures.none in
     let owes : is_owed c.self.inside.book c.args.event ≡ true = ap (λ (h : HallShown). is_owed h.world c.args.event) c.self.view_is ∙ is in
     absurd (true≢false (sym owes ∙ same.1))
 
@@ -66,13 +66,33 @@ returns-in_default-clause-owed c =
 pub push-requires : goal.push-requires
 push-requires c =
     let i = c.self.invariant in
-    rw c.in_ok-copies.ensures.journal ((is_prepared _ _ _ _ _ c.self.inside.journal (sound_reached i) c.step_to_start-answer.ensures.step i.owes i.owes_ends).one)
+    rw c.in_ok-ready.ensures.journal ((is_prepared _ _ _ _ _ c.self.inside.journal (sound_reached i) (rw c.in_ok-ready.ensures.ready.step at c.step_to_start-answer.ensures.step) i.owes i.owes_ends).one)
 
 pub overflow_sub-kept : goal.overflow_sub-kept
 overflow_sub-kept c =
     let i = c.self.invariant in
-    rw (c.owed_to-owed.ensures.0, c.owed_to-left.ensures.0, c.whose-whose.ensures, c.of-kept.ensures.0, c.start_owes.ensures)
-    ((frees _ _ _ _ _ c.self.inside.journal (sound_reached i) c.step_to_start-answer.ensures.step i.owes i.owes_ends).0)
+    rw (
+      c.owed_to-owed.ensures.places,
+      c.owed_to-left.ensures.places,
+      c.is_ask-asks.ensures,
+      c.whose-whose.ensures,
+      c.of-kept.ensures.0,
+      c.wait_owes.ensures,
+      c.start_owes.ensures,
+    )
+    (counted_frees _ _ _ _ _ c.self.inside.journal (sound_reached i) (rw c.in_ok-ready.ensures.ready.step at c.step_to_start-answer.ensures.step) i.owes i.owes_ends)
+
+pub overflow_add-kept-2 : goal.overflow_add-kept-2
+overflow_add-kept-2 c =
+    let i = c.self.invariant in
+    let places = i.owes in
+    let fits = i.fits in
+    let least = i.least in
+    let most = i.most in
+    rw (c.owed_to-left.ensures.places, c.is_ask-asks.ensures, c.whose-whose.ensures, c.of-kept.ensures.0, c.wait_owes.ensures, c.start_owes.ensures)
+    (let less = (counted_less _ _ _ _ _ (sound_reached i) (rw c.in_ok-ready.ensures.ready.step at c.step_to_start-answer.ensures.step)).1 in
+    let few = few_places _ _ _ _ _ c.self.inside.journal (sound_reached i) (rw c.in_ok-ready.ensures.ready.step at c.step_to_start-answer.ensures.step) i.owes i.owes_ends
+    (omega arith) in omega arith)
 
 pub overflow_add-kept-3 : goal.overflow_add-kept-3
 overflow_add-kept-3 c =
@@ -81,8 +101,8 @@ overflow_add-kept-3 c =
     let fits = i.fits in
     let least = i.least in
     let most = i.most in
-    rw (c.owed_to-left.ensures.1, c.whose-whose.ensures, c.of-kept.ensures.1)
-    (let few = (few_ends _ _ _ _ _ c.self.inside.journal (sound_reached i) c.step_to_start-answer.ensures.step i.owes_ends (omega arith)).0 in omega arith)
+    rw (c.owed_to-left.ensures.ends, c.whose-whose.ensures, c.of-kept.ensures.1)
+    (let few = (few_ends _ _ _ _ _ c.self.inside.journal (sound_reached i) (rw c.in_ok-ready.ensures.ready.step at c.step_to_start-answer.ensures.step) i.owes_ends (omega arith)).0 in omega arith)
 
 pub overflow_add-kept-4 : goal.overflow_add-kept-4
 overflow_add-kept-4 c =
@@ -91,31 +111,34 @@ overflow_add-kept-4 c =
     let fits = i.fits in
     let least = i.least in
     let most = i.most in
-    rw (c.owed_to-left.ensures.1, c.whose-whose.ensures, c.of-kept.ensures.1, c.start_ends.ensures)
-    (let few = (few_ends _ _ _ _ _ c.self.inside.journal (sound_reached i) c.step_to_start-answer.ensures.step i.owes_ends (omega arith)).1 in omega arith)
+    rw (c.owed_to-left.ensures.ends, c.whose-whose.ensures, c.of-kept.ensures.1, c.start_ends.ensures)
+    (let few = (few_ends _ _ _ _ _ c.self.inside.journal (sound_reached i) (rw c.in_ok-ready.ensures.ready.step at c.step_to_start-answer.ensures.step) i.owes_ends (omega arith)).1 in omega arith)
 
 pub overflow_sub-kept-2 : goal.overflow_sub-kept-2
 overflow_sub-kept-2 c =
     let i = c.self.invariant in
-    rw (c.owed_to-owed.ensures.1, c.owed_to-left.ensures.1, c.whose-whose.ensures, c.of-kept.ensures.1, c.start_ends.ensures)
-    ((frees _ _ _ _ _ c.self.inside.journal (sound_reached i) c.step_to_start-answer.ensures.step i.owes i.owes_ends).1)
+    rw (c.owed_to-owed.ensures.ends, c.owed_to-left.ensures.ends, c.whose-whose.ensures, c.of-kept.ensures.1, c.start_ends.ensures)
+    ((frees _ _ _ _ _ c.self.inside.journal (sound_reached i) (rw c.in_ok-ready.ensures.ready.step at c.step_to_start-answer.ensures.step) i.owes i.owes_ends).1)
 
 pub keep-requires-2 : goal.keep-requires-2
 keep-requires-2 c =
     let i = c.self.invariant in
-    let p = is_prepared _ _ _ _ _ c.self.inside.journal (sound_reached i) c.step_to_start-answer.ensures.step i.owes i.owes_ends in
+    let p = is_prepared _ _ _ _ _ c.self.inside.journal (sound_reached i) (rw c.in_ok-ready.ensures.ready.step at c.step_to_start-answer.ensures.step) i.owes i.owes_ends in
     rw (
       c.push.ensures,
-      c.in_ok-copies.ensures.journal,
-      c.owed_to-owed.ensures.0,
-      c.owed_to-owed.ensures.1,
-      c.owed_to-left.ensures.0,
-      c.owed_to-left.ensures.1,
+      c.in_ok-ready.ensures.journal,
+      c.owed_to-owed.ensures.places,
+      c.owed_to-owed.ensures.ends,
+      c.owed_to-left.ensures.places,
+      c.owed_to-left.ensures.ends,
+      c.is_ask-asks.ensures,
       c.whose-whose.ensures,
       c.of-kept.ensures.0,
       c.of-kept.ensures.1,
+      c.wait_owes.ensures,
       c.start_owes.ensures,
       c.start_ends.ensures,
+      counted_same _ _ _ _ _ c.self.inside.journal.reserved (sound_reached i) (rw c.in_ok-ready.ensures.ready.step at c.step_to_start-answer.ensures.step),
     ) (p.reserved, p.ends)
 
 -- ---- the step is recorded
@@ -128,25 +151,29 @@ started_subject-subject-requires c =
 pub invariant_of-self-2 : goal.invariant_of-self-2
 invariant_of-self-2 c =
     let i = c.self.invariant in
-    let p = is_prepared _ _ _ _ _ c.self.inside.journal (sound_reached i) c.step_to_start-answer.ensures.step i.owes i.owes_ends in
-    let fits = subst (λ (k : JournalShown). length k.steps + k.reserved ≤ k.places) c.in_ok-copies.ensures.journal c.in_ok-copies.ensures.fits in
+    let p = is_prepared _ _ _ _ _ c.self.inside.journal (sound_reached i) (rw c.in_ok-ready.ensures.ready.step at c.step_to_start-answer.ensures.step) i.owes i.owes_ends in
+    let fits = subst (λ (k : JournalShown). length k.steps + k.reserved ≤ k.places) c.in_ok-ready.ensures.journal c.in_ok-ready.ensures.fits in
     rw (
       c.keep-2.ensures,
       c.push.ensures,
-      c.in_ok-copies.ensures.journal,
-      c.in_ok-copies.ensures.copies.event,
+      c.in_ok-ready.ensures.journal,
+      c.recorded_event.ensures,
+      c.in_ok-ready.ensures.ready.copy,
       c.in-Some.ensures.copy.0,
-      c.owed_to-owed.ensures.0,
-      c.owed_to-owed.ensures.1,
-      c.owed_to-left.ensures.0,
-      c.owed_to-left.ensures.1,
+      c.owed_to-owed.ensures.places,
+      c.owed_to-owed.ensures.ends,
+      c.owed_to-left.ensures.places,
+      c.owed_to-left.ensures.ends,
+      c.is_ask-asks.ensures,
       c.whose-whose.ensures,
       c.of-kept.ensures.0,
       c.of-kept.ensures.1,
+      c.wait_owes.ensures,
       c.start_owes.ensures,
       c.start_ends.ensures,
+      counted_same _ _ _ _ _ c.self.inside.journal.reserved (sound_reached i) (rw c.in_ok-ready.ensures.ready.step at c.step_to_start-answer.ensures.step),
     )
-    (sound_next _ _ _ _ _ _ _ _ _ _ _ _ _ i c.step_to_start-answer.ensures.step p.reserved p.one fits)
+    (sound_next _ _ _ _ _ _ _ _ _ _ _ _ _ i (rw c.in_ok-ready.ensures.ready.step at c.step_to_start-answer.ensures.step) p.reserved p.one fits)
 
 pub returns-clause-ok : goal.returns-clause-ok
 returns-clause-ok c =
@@ -163,9 +190,9 @@ returns-clause-ok c =
     } in
     let s : Recorded = record { now = c.args.now; event = c.args.event; answer = c.step_to_start-answer.result } in
     let steps : c.keep-2.new.self.steps ≡ h.journal.steps ++ s ∷ [] =
-    rw (c.keep-2.ensures, c.push.ensures, c.in_ok-copies.ensures.journal, c.in_ok-copies.ensures.copies.event, c.in-Some.ensures.copy.0) refl in
-    let places : c.keep-2.new.self.places ≡ h.journal.places = rw (c.keep-2.ensures, c.push.ensures, c.in_ok-copies.ensures.journal) refl in
-    let known = reached_recording _ _ _ _ _ (sound_reached c.self.invariant) c.step_to_start-answer.ensures.step in
+    rw (c.keep-2.ensures, c.push.ensures, c.in_ok-ready.ensures.journal, c.recorded_event.ensures, c.in_ok-ready.ensures.ready.copy, c.in-Some.ensures.copy.0) refl in
+    let places : c.keep-2.new.self.places ≡ h.journal.places = rw (c.keep-2.ensures, c.push.ensures, c.in_ok-ready.ensures.journal) refl in
+    let known = reached_recording _ _ _ _ _ (sound_reached c.self.invariant) (rw c.in_ok-ready.ensures.ready.step at c.step_to_start-answer.ensures.step) in
     let new : HallShown = record {
       no = h.no;
       opening = h.opening.value;
@@ -181,19 +208,19 @@ returns-clause-ok c =
       volume = h.index;
       number = h.before + length c.steps.result.now;
       moment = c.args.now;
-      told = c.in_ok-copies.copies.told;
+      told = c.in_ok-ready.ready.told;
       answer = c.step_to_start-answer.result;
     } in
     let turned : Turned old c.args.now c.args.event noted new = record {
-      step = c.step_to_start-answer.ensures.step;
+      step = (rw c.in_ok-ready.ensures.ready.step at c.step_to_start-answer.ensures.step);
       steps = steps;
       same = λ i. record old { places = places i; world = c.step_to_start-answer.new.self; steps = c.keep-2.new.self.steps };
       hall = refl;
       volume = refl;
       number = ap (λ (xs : List Recorded). h.before + length xs) (c.steps.ensures ∙ steps) ∙ count_next h.before h.journal.steps s;
       moment = refl;
-      told = c.in_ok-copies.ensures.copies.told;
-      laws = c.step_to_start-answer.ensures.laws;
+      told = c.in_ok-ready.ensures.ready.told;
+      laws = (rw c.in_ok-ready.ensures.ready.step at c.step_to_start-answer.ensures.laws);
       memory = λ lack. c.in-Some.ensures.copy.1 (c.in-Some.ensures.copy.0 ∙ lack);
       answer = known.owed_answer;
       balance = known.counted;
