@@ -15,52 +15,53 @@ from programs import Wrong, check_all, differs, ran, top
 
 # Each path through a hall, and its steps, where memory ends it one allocation later each time. Before it comes the client makes no step; it goes after having
 # come, after its HELLO, or at the end. Of two requesters the second one comes without memory, since the record has taken its own at its first step; it goes
-# after having come, after its HELLO, or at the end.
+# after having come, after its HELLO, or at the end. None stands where the test itself lacks memory, which it takes for the copy of a request in its receipt.
 BEFORE = [0, 2, 3]
 PATHS = [
-    ("growths_of_a_key_that_is_made", [*BEFORE, 7]),
-    ("growths_of_a_second_handler", [*BEFORE, 8]),
-    ("growths_of_two_requesters", [*BEFORE, 9, 10, 12]),
+    ("growths_of_a_key_that_is_made", [*BEFORE, None, 7]),
+    ("growths_of_a_second_handler", [*BEFORE, None, 8]),
+    ("growths_of_two_requesters", [*BEFORE, None, 9, 10, None, 12]),
 ]
 
 PLAIN, ANOTHER, PIPED, NEGATE = "/bin/h 12 ", "/bin/h 16 ", "/bin/p ", "/bin/n negate 12 "
 
 # Each handler: the commands that it is in the end, with what is reported of each as the last one that was started, and whether the key is made. Then the steps
-# of a session, where memory ends one allocation later each time: from 6 on the key is requested, and each further step is one that there was memory for. With
-# 7, say, a plain handler's first ask could not be copied. With 8 it was done, and the second one could not be read. Without a session the client doesn't go,
-# which is one step less.
+# of a session, where memory ends one allocation later each time: from 6 on the key is requested, and each further step is one that there was memory for. A plain
+# handler's first ask takes none. With 8 steps, say, that one was done, and the second one could not be copied. Without a session the client doesn't go, which is
+# one step less.
 HANDLERS = [
-    ("plain_handler", [(PLAIN, "Exit(0)")], True, [6, 7, 8, 9]),
+    ("plain_handler", [(PLAIN, "Exit(0)")], True, [6, 8, 9]),
     ("piped_handler", [(PIPED, "Exit(0)")], True, [6, 7]),
-    ("handler_that_asks_for_another_key", [(PLAIN, "Exit(6)"), (ANOTHER, "Exit(6)")], True, [6, 7, 8, 11, 12, 13, 14, 15]),
-    ("handler_that_is_followed", [(PIPED, "Exit(7)"), (NEGATE, "Exit(3)")], False, [6, 8, 9, 10, 11]),
+    ("handler_that_asks_for_another_key", [(PLAIN, "Exit(6)"), (ANOTHER, "Exit(6)")], True, [6, 8, 11, 13, 14, 15]),
+    ("handler_that_is_followed", [(PIPED, "Exit(7)"), (NEGATE, "Exit(3)")], False, [6, 8, 11]),
 ]
 
 RINGS = bytes.fromhex("00000011 02 00000000 00000000 00000004 00000008")
 TWELVE = bytes.fromhex("00000005 00 0000000c")
 NO_MEMORY, NO_KEY, NO_ACCESS = (bytes([0, 0, 0, 2, 3, errno]) for errno in (12, 126, 13))
 
-# What a test dies of where an allocation is refused before the first call that is looked at. A turn that is owed is never refused for lack of memory, so that a
-# receipt which it does not give, `a receipt: Stray`, is none of these.
-EARLY = re.compile(rb"(memory|an ask): AllocError\n|lines: ConfFault { line: [0-9]+, kind: NoMemory }\n|a receipt: NoMemory\n")
+# What a test dies of where an allocation is refused that is its own: before the first call that is looked at, or for the copy of a receipt. A turn that is owed is
+# never refused for lack of memory, so that a receipt which it does not give, `a receipt: Stray`, is none of these.
+OWN = re.compile(rb"(memory|an ask): AllocError\n|lines: ConfFault { line: [0-9]+, kind: NoMemory }\n|a receipt: NoMemory\n")
 
 
 def told(program, test, allocation, more):
     """What the test told of a run that was not the whole one: the words of a list, of which bytes are one. None of the whole one, and an empty list where
-    memory was lacking before the first call."""
+    the test itself lacked memory."""
     status, _, errors = ran(program, test, env={"LD_PRELOAD": library("refusing_malloc"), "REFUSED": str(allocation), **more})
     if status == 0:
         return None
     left = re.search(rb"left: \(?(.*?)\)?\n right: ", errors)
     if status < 0 and left:
         return re.findall(r"\[[^]]*\]|[^, ]+", left[1].decode())
-    if status < 0 and EARLY.fullmatch(errors):
+    if status < 0 and OWN.fullmatch(errors):
         return []
     raise Wrong(f"status {status} {errors[-200:]}")
 
 
 def in_turn(program, test, more, whole, judged):
-    """The steps of each run, where allocations are refused one later each time, up to the first run that is the whole one; None where there was no call."""
+    """The steps of each run, where allocations are refused one later each time, up to the first run that is the whole one; None where the test itself lacked
+    memory."""
     for allocation in itertools.count(1):
         words = told(program, test, allocation, more)
         if words is None:

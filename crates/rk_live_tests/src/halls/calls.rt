@@ -4,7 +4,7 @@ ghost use Rattle.rk_hall.specs.Seats.{IsCall};
 use crate::asks::{CLIENT, NOW, asked, hello, request};
 use rk_hall::{Called, HallNo, Halls, Launch, Names, Owed, Receipt, ReceiptView, Seat};
 use rk_machine::{EventView, Ran};
-use std::alloc::{AllocError, Global};
+use std::alloc::Global;
 use std::process::Abort;
 use std::sync::Wait;
 
@@ -64,13 +64,9 @@ pub fn calls_in<'a, N: Names, R: Wait + Abort>(
     receipt
 }
 
-/// The receipt with a copy of what it borrows. Out of memory ends the test, but not one refusal.
+/// The receipt with a copy of what it borrows. Out of memory ends the test.
 pub fn kept<R: Abort>(rt: &R, alloc: Global, receipt: ReceiptView<'_>) -> Receipt {
-    let copy = match receipt.to_owned(alloc) {
-        Err(AllocError) => receipt.to_owned(alloc),
-        copy => copy,
-    };
-    copy.expect(rt, "memory")
+    receipt.to_owned(alloc).expect(rt, "memory")
 }
 
 /// The client comes and says who it is.

@@ -145,6 +145,7 @@ impl Wire for Line {
     fn note(&mut self, receipt: &ReceiptView<'_>) {
         let _ = self.story.push(b'n');
         let alloc = *self.noted.allocator();
+        // One refused allocation loses no receipt, so that the test can compare them with the records.
         let copy = match receipt.to_owned(alloc) {
             Err(AllocError) => receipt.to_owned(alloc),
             copy => copy,
