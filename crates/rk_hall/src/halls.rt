@@ -20,7 +20,7 @@ use crate::ticket::{Due, OneOfFour};
 use crate::token::{Launch, Running};
 use crate::volume::Volume;
 use rk_machine::{Answer, EventOf, EventView, How, Ran};
-use rk_message::{AskRef, AskView};
+use rk_message::AskView;
 use rk_names::{Description, Errno, Moment, Payload, SessionId, TypeName};
 use rk_record::{HallFault, HallNo, MAX_STEPS, ReceiptView};
 use std::alloc::{AllocError, Global};
@@ -132,10 +132,10 @@ impl<N: Names> Halls<N> {
             three,
         } = fresh;
         Ok(Halls {
-            zero: Lock::open(alloc, HallNo::Zero, negative, seed, steps, zero)?,
-            one: Lock::open(alloc, HallNo::One, negative, seed, steps, one)?,
-            two: Lock::open(alloc, HallNo::Two, negative, seed, steps, two)?,
-            three: Lock::open(alloc, HallNo::Three, negative, seed, steps, three)?,
+            zero: Lock::new(alloc, HallNo::Zero, negative, seed, steps, zero)?,
+            one: Lock::new(alloc, HallNo::One, negative, seed, steps, one)?,
+            two: Lock::new(alloc, HallNo::Two, negative, seed, steps, two)?,
+            three: Lock::new(alloc, HallNo::Three, negative, seed, steps, three)?,
         })
     }
 
@@ -224,11 +224,7 @@ impl<N: Names> Halls<N> {
         ensures err { IfErr result (λ f. CallRefused (part hall seat.old) f) }
         ensures same { OnErr result (seat.new ≡ seat.old) }
     {
-        by_hall!(
-            hall,
-            HallNo,
-            called!(self.call(rt, seat, now, EventView::Opened(session)))
-        )
+        by_hall!(hall, HallNo, called!(self.open(rt, seat, now, session)))
     }
 
     /// A session asks, as one call in one hall (see [`Halls::call`]). It may wait.
@@ -250,7 +246,7 @@ impl<N: Names> Halls<N> {
         by_hall!(
             hall,
             HallNo,
-            called!(self.call(rt, seat, now, EventView::Asked(session, AskRef::of(ask))))
+            called!(self.ask(rt, seat, now, session, ask))
         )
     }
 

@@ -5,9 +5,10 @@
 ghost use Rattle.std.specs.Prelude.{◌≡◌, ◌≢◌, ◌+◌, ◌*◌, ◌<◌, ◌≤◌, ◌^◌, is_some, not, IfOk, IfErr, OnErr, Ok, Err, Some, None, IfSome, MatchOption};
 ghost use Rattle.rk_machine.specs.Owing.{is_followed};
 ghost use Rattle.rk_record.specs.HallNumbers.{hall_number};
-ghost use Rattle.rk_record.specs.Copies.{told_of, started};
+ghost use Rattle.rk_record.specs.Copies.{started};
+ghost use Rattle.rk_record.specs.declared.told.ToldOf.TheVariants as told;
 ghost use Rattle.rk_record.specs.declared.hall_no.HallNo.{HallNo};
-ghost use Rattle.rk_hall.specs.Seats.{no_calls, after_call, IsCall, CallRefused, runs_on, without_client, IsOutcomeOrNone, OwedPart};
+ghost use Rattle.rk_hall.specs.Seats.{no_calls, after_call, CallRefused, runs_on, without_client, IsOutcomeOrNone, OwedPart};
 ghost use Rattle.rk_hall.specs.Waking.{completes, has_completed};
 
 use crate::closed::Closed;
@@ -21,7 +22,7 @@ use crate::opening::empty_hall;
 use crate::part::Part;
 use crate::ticket::{Due, Ticket};
 use rk_machine::{Answer, EventOf, EventView, Ran};
-use rk_message::AskView;
+use rk_message::{AskRef, AskView};
 use rk_names::{Description, Errno, Moment, Serial, SessionId, TypeName};
 use rk_record::{Copies, HallFault, HallNo, ReceiptView, ToldView, Volume};
 use std::alloc::{AllocError, Global};
@@ -67,7 +68,7 @@ fn is_over<N: Names, const H: u64>(owed: &Owed<Option<Ticket<N, H>>>) -> bool
 
 impl<N: Names, const H: u64> Lock<N, H> {
     /// A hall of this number without a step, under these ledgers.
-    pub(crate) fn open(
+    pub(crate) fn new(
         alloc: Global,
         no: HallNo,
         negative: u32,
@@ -100,26 +101,48 @@ impl<N: Names, const H: u64> Lock<N, H> {
         self.locked.lock(rt).retire(part);
     }
 
-    /// A request or an opening, as one turn. What takes memory in the record's copy of the event is copied before the lock is taken. A completed key wakes
-    /// those who wait for it. An `Err` leaves the hall and the part as they were.
-    #[inline(always)]
-    pub(crate) fn call<'a, R: Wait>(
+    /// A client comes, as one turn. It wakes nobody. An `Err` leaves the hall and the part as they were.
+    pub(crate) fn open<'a, R: Wait>(
         &self,
         rt: &R,
         part: &mut Part<N, H>,
         now: Moment,
-        event: EventView<'a>,
+        session: SessionId,
     ) -> Result<(ReceiptView<'a>, Option<Begun<N, H>>), CallFault>
-        requires { IsCall event }
-        ensures receipt { IfOk result (λ d. (hall_number d.0.hall ≡ H) × (d.0.moment ≡ now) × (d.0.told ≡ told_of event.entry)
+        ensures receipt { IfOk result (λ d. (hall_number d.0.hall ≡ H) × (d.0.moment ≡ now) × (d.0.told ≡ told.Opened session)
             × (d.0.answer ≢ Answer.Refused Errno.Enomem)) }
         ensures rising { IfOk result (λ d. part.old.seen < d.0.number) }
-        ensures part { IfOk result (λ d. part.new ≡ after_call part.old event.entry d.0) }
+        ensures part { IfOk result (λ d. part.new ≡ after_call part.old (EventOf.Opened session) d.0) }
         ensures begun { IfOk result (λ d. MatchOption d.1 (started d.0.answer ≡ None) (λ b. d.0.answer ≡ Answer.Start b.key b.subject)) }
         ensures err { IfErr result (λ f. CallRefused part.old f) }
         ensures same { OnErr result (part.new ≡ part.old) }
     {
-        // Before the lock is taken, since others wait for it.
+        let event = EventView::Opened(session);
+        self.locked
+            .lock(rt)
+            .call(part, now, event, Some(Copies::Nothing))
+    }
+
+    /// A session asks, as one turn. What takes memory in the record's copy is copied before the lock is taken, since others wait for it. A completed key wakes
+    /// those who wait for it. An `Err` leaves the hall and the part as they were.
+    // (apart from `open`, so that each hall's has one caller, into which LLVM inlines it)
+    pub(crate) fn ask<'a, R: Wait>(
+        &self,
+        rt: &R,
+        part: &mut Part<N, H>,
+        now: Moment,
+        session: SessionId,
+        ask: &'a AskView<'a>,
+    ) -> Result<(ReceiptView<'a>, Option<Begun<N, H>>), CallFault>
+        ensures receipt { IfOk result (λ d. (hall_number d.0.hall ≡ H) × (d.0.moment ≡ now) × (d.0.told ≡ told.Asked session ask.now)
+            × (d.0.answer ≢ Answer.Refused Errno.Enomem)) }
+        ensures rising { IfOk result (λ d. part.old.seen < d.0.number) }
+        ensures part { IfOk result (λ d. part.new ≡ after_call part.old (EventOf.Asked session ask.now) d.0) }
+        ensures begun { IfOk result (λ d. MatchOption d.1 (started d.0.answer ≡ None) (λ b. d.0.answer ≡ Answer.Start b.key b.subject)) }
+        ensures err { IfErr result (λ f. CallRefused part.old f) }
+        ensures same { OnErr result (part.new ≡ part.old) }
+    {
+        let event = EventView::Asked(session, AskRef::of(ask));
         let copies = Copies::of(self.alloc, &event).ok();
         let (receipt, begun) = self.locked.lock(rt).call(part, now, event, copies)?;
         if has_completed(&receipt) {
