@@ -1,6 +1,7 @@
 -- Where a peer stands among those in order, found by halves.
+use Rattle.std.specs.Prelude.{◌-◌}
 use Rattle.rk_served.proofs.Words.{refl, ◌∙◌, ap, sym, List, ◌≡◌, [], ℕ, inr, true, ◌∷◌, inl, Bool, false, cond, not, length, arith, zero, suc, ◌<◌, get_or}
-use Rattle.rk_served.proofs.Words.{◌≤◌, ◌+◌, and_parts, not-true, false_from_ne_true, not_from_false, cases_Bool, AllPass-from_list_all, prefix_len_is}
+use Rattle.rk_served.proofs.Words.{◌≤◌, ◌+◌, slice_get_within, get_or_from_slice_get, and_parts, not-true, false_from_ne_true, not_from_false, cases_Bool, AllPass-from_list_all, prefix_len_is}
 use Rattle.rk_served.proofs.Words.{same_Some, list_all, prefix_len, IsPartitionedBy, IsPartitionPoint, Some, None, slice_get, SessionId, same-true}
 use Rattle.rk_served.proofs.Words.{same_session, comes_before, are_in_order, peer_of, Peer}
 use Rattle.rk_served.proofs.PeerLists.{turned}
@@ -54,6 +55,16 @@ behind_splits who (x ∷ xs) order =
 -- who comes before another is not that one
 apart_before : (s t : SessionId) → comes_before s t ≡ true → same_session s t ≡ false
 apart_before s t e = false_from_ne_true _ (λ f. let g = ap (comes_before s) (same-true s t f) in let h = before_self s in cc)
+
+-- where a session is, and one in front of it comes before, all that come before are in front of it
+pub first_at : (who : SessionId) (xs : List Peer) (i : ℕ) (x y : Peer) → are_in_order xs ≡ true → 0 < i → slice_get xs i ≡ Some x
+    → same_session x.who who ≡ true → y ≡ get_or xs (i - 1) y → comes_before y.who who ≡ true → i ≡ prefix_len (λ z. comes_before z.who who) xs
+first_at who xs i x y order positive at same ahead before =
+    let within = slice_get_within xs i x at in
+    let here = get_or_from_slice_get xs i x y at in
+    sym (prefix_len_is (λ z. comes_before z.who who) xs i y (omega arith)
+    (λ k low. before_splits who xs order k (i - 1) y (omega arith) (omega arith) (ap (λ (z : Peer). comes_before z.who who) (sym ahead) ∙ before))
+    (λ inside. ap (λ (z : Peer). comes_before z.who who) here ∙ ap (λ v. comes_before v who) (same-true x.who who same) ∙ before_self who))
 
 abbrev count : SessionId → List Peer → ℕ
 count who xs = prefix_len (λ y. comes_before y.who who) xs

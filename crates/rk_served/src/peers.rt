@@ -49,12 +49,42 @@ pub fn comes_before(one: &SessionId, other: &SessionId) -> bool
     one < other
 }
 
-/// How many come before this one. It looks at as many peers as their number can be halved.
+/// How many come before this one. It looks at as many peers as their number can be halved, and before them where the client stands if no number is missing
+/// between the first client and it.
 fn count_before(peers: &[Peer], who: &SessionId) -> usize
     requires { are_in_order peers.now ≡ true }
     ensures { result ≡ prefix_len (λ x. comes_before x.who who.now) peers.now }
 {
+    let index = index_in_a_row(peers, who);
+    if is_first_at(peers, who, index) {
+        return index;
+    }
     peers.partition_point(|peer| comes_before(&peer.who, who))
+}
+
+/// Where the client stands if no number is missing between the first client and it; else any place.
+fn index_in_a_row(peers: &[Peer], who: &SessionId) -> usize {
+    let (Some(first), SessionId::Client(number)) = (peers.first(), who) else {
+        return 0;
+    };
+    match &first.who {
+        SessionId::Client(first) => number.wrapping_sub(*first) as usize,
+        SessionId::Handler(_) => 0,
+    }
+}
+
+/// Whether this session is at this place, and the one in front of it comes before.
+fn is_first_at(peers: &[Peer], who: &SessionId, index: usize) -> bool
+    requires { are_in_order peers.now ≡ true }
+    ensures { result ≡ true → index ≡ prefix_len (λ x. comes_before x.who who.now) peers.now }
+{
+    let Some(peer) = peers.get(index) else {
+        return false;
+    };
+    if !same(&peer.who, who) {
+        return false;
+    }
+    index == 0 || comes_before(&peers[index - 1].who, who)
 }
 
 /// Where the peer of this one is. It looks at as many peers as their number can be halved.

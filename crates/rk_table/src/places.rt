@@ -1,15 +1,32 @@
 //! Places of entries whose keys rise: the search by halves, and an insertion if there is room.
-ghost use Rattle.std.specs.Prelude.{◌≡◌, ◌≤◌, ◌<◌, IfOk, IfErr, vec_len, vec_capacity};
+ghost use Rattle.std.specs.Prelude.{◌≡◌, ◌≤◌, ◌<◌, IfOk, IfErr, IfSome, vec_len, vec_capacity};
 ghost use Rattle.std.specs.List.{insert};
 ghost use Rattle.rk_table.specs.Entries.{KeysRise, IsAt, IsGapFor};
 
-/// Where the key stands, or else where it would. It looks at as many entries as their number can be halved.
+/// Where the key stands, or else where it would. It looks at as many entries as their number can be halved, and at one more before them: numbers that are
+/// given out one after another mostly stand where the first one says.
 pub(crate) fn place_of<V>(entries: &[(u32, V)], key: u32) -> Result<usize, usize>
     requires rising { KeysRise entries.now }
     ensures found { IfOk result (IsAt entries.now key) }
     ensures absent { IfErr result (IsGapFor entries.now key) }
 {
-    entries.binary_search_by_key(&key, |entry| entry.0)
+    match place_in_a_row(entries, key) {
+        Some(place) => Ok(place),
+        None => entries.binary_search_by_key(&key, |entry| entry.0),
+    }
+}
+
+/// Where the key stands if no key is missing between the first one and it.
+fn place_in_a_row<V>(entries: &[(u32, V)], key: u32) -> Option<usize>
+    ensures { IfSome result (IsAt entries.now key) }
+{
+    let first = entries.first()?.0;
+    let place = key.wrapping_sub(first) as usize;
+    if entries.get(place)?.0 == key {
+        Some(place)
+    } else {
+        None
+    }
 }
 
 /// The same, for keys that mostly come rising: one look tells that a key is past all others.

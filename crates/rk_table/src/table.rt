@@ -48,8 +48,9 @@ pub trait Test<V> {
         ensures { result ≡ passes self.now key value.now };
 }
 
-/// A finite map from numbers to values, with places that were reserved. `get`, `contains` and `change` look at as many entries as their
-/// number can be halved, 15 of 20,000; `len` looks at none. What takes a test or changes all walks over all entries.
+/// A finite map from numbers to values, with places that were reserved. `get`, `contains` and `change` look at one entry where no key is missing between the
+/// first one and theirs. Else they look at as many more as their number can be halved, 15 of 20,000. `len` looks at none. What takes a test or changes all
+/// walks over all entries.
 #[derive(Drop)]
 pub struct Table<V> {
     /// In the order of their keys, which rise strictly.
