@@ -9,7 +9,7 @@ use crate::tables::Tables;
 use rk_keys::HashedName;
 use rk_machine::{Answer, Asker};
 use rk_message::Reply;
-use rk_names::{Errno, Payload, Serial};
+use rk_names::{DescriptionView, Errno, Payload, Serial, TypeView};
 use std::alloc::AllocError;
 
 impl Tables {
@@ -30,10 +30,27 @@ impl Tables {
         Ok(ring)
     }
 
+    /// Makes a key of this name: see `add`.
+    #[inline(never)]
+    pub fn add_key(
+        &mut self,
+        asker: &Asker,
+        typ: &TypeView<'_>,
+        description: &DescriptionView<'_>,
+        payload: Payload,
+        ring: i32,
+    ) -> Result<Answer, Errno>
+        requires sound { IsSound self.old }
+        ensures { Adds self.old asker.now typ.now description.now payload ring (answer_of result) self.new }
+    {
+        let name = self.keys.hashed(typ.again(), description.again());
+        self.add(asker, &name, payload, ring)
+    }
+
     /// Makes a key with its payload, and links it in a ring, in the place of one of that name (add_key(2)). The ring's error;
     /// EDQUOT if the user has 200 keys, no serial is left or the ring is full. All allocations come before the first change.
     #[tactic(auto, unfolding(rk_machine::specs::KeyAsks::Adds))]
-    pub fn add(
+    fn add(
         &mut self,
         asker: &Asker,
         name: &HashedName<'_>,

@@ -11,7 +11,7 @@ ghost use Rattle.rk_core.specs.Copies.{Copied};
 ghost use Rattle.rk_core.specs.Finding.{answer_of, is_hello, is_first};
 ghost use Rattle.rk_core.specs.Sound.{IsSound};
 
-use crate::completion_asks::Completion;
+use crate::completion_asks::Rejection;
 use crate::subject_copies::SubjectCopies;
 use crate::tables::Tables;
 use crate::wanted::{Requester, Wanted};
@@ -108,15 +108,15 @@ impl Tables {
             }
             AskView::Assume { key } => self.assume(id, *key),
             AskView::Instantiate { key, ring, .. } => match payload {
-                Some(payload) => {
-                    let completion = Completion::positive(payload);
-                    self.complete_key(now, asker, *key, *ring, completion)
-                }
+                Some(payload) => self.instantiate(now, asker, *key, *ring, payload),
                 None => unreachable!(),
             },
             AskView::Negate { key, timeout, ring } => {
-                let completion = Completion::negative(KeyError::NoKey, now, *timeout);
-                self.complete_key(now, asker, *key, *ring, completion)
+                let rejection = Rejection {
+                    error: KeyError::NoKey,
+                    seconds: *timeout,
+                };
+                self.reject(now, asker, *key, *ring, rejection)
             }
             AskView::Reject {
                 key,
@@ -124,8 +124,11 @@ impl Tables {
                 error,
                 ring,
             } => {
-                let completion = Completion::negative(*error, now, *timeout);
-                self.complete_key(now, asker, *key, *ring, completion)
+                let rejection = Rejection {
+                    error: *error,
+                    seconds: *timeout,
+                };
+                self.reject(now, asker, *key, *ring, rejection)
             }
             AskView::Read { key } => self.read(now, id, asker, *key),
             AskView::Describe { key } => self.describe(now, asker, *key),
@@ -141,10 +144,7 @@ impl Tables {
                 ring,
                 ..
             } => match payload {
-                Some(payload) => {
-                    let name = self.keys.hashed(typ.again(), description.again());
-                    self.add(asker, &name, payload, *ring)
-                }
+                Some(payload) => self.add_key(asker, typ, description, payload, *ring),
                 None => unreachable!(),
             },
             AskView::Callout => self.callout(id),

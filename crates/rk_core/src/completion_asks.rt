@@ -43,7 +43,53 @@ impl Completion {
     }
 }
 
+/// What a handler says of a key that it can't make.
+#[derive(Clone, Copy, Debug)]
+pub struct Rejection {
+    /// The error that whoever finds the key gets.
+    pub error: KeyError,
+    /// For how many seconds.
+    pub seconds: u32,
+}
+
 impl Tables {
+    /// A handler gives its key this payload: see `complete_key`.
+    #[inline(never)]
+    pub fn instantiate(
+        &mut self,
+        now: Moment,
+        asker: &Asker,
+        number: i32,
+        ring: i32,
+        payload: Payload,
+    ) -> Result<Answer, Errno>
+        requires sound { IsSound self.old }
+        requires own { (k : ℕ) → asker.now.assumed ≡ Some k → map.contains_key self.old.keys k ≡ true }
+        ensures { Completes self.old now asker.now number ring (Condition.Positive payload) None (answer_of result) self.new }
+    {
+        self.complete_key(now, asker, number, ring, Completion::positive(payload))
+    }
+
+    /// A handler says that its key can't be made: see `complete_key`.
+    #[inline(never)]
+    pub fn reject(
+        &mut self,
+        now: Moment,
+        asker: &Asker,
+        number: i32,
+        ring: i32,
+        rejection: Rejection,
+    ) -> Result<Answer, Errno>
+        requires sound { IsSound self.old }
+        requires own { (k : ℕ) → asker.now.assumed ≡ Some k → map.contains_key self.old.keys k ≡ true }
+        ensures { Completes self.old now asker.now number ring (Condition.Negative rejection.error) (Some (moment_plus now rejection.seconds)) (answer_of result)
+            self.new }
+    {
+        let Rejection { error, seconds } = rejection;
+        let completion = Completion::negative(error, now, seconds);
+        self.complete_key(now, asker, number, ring, completion)
+    }
+
     /// The key that the asker may complete, and the ring in which it is to be linked, if one is named, in the order of the refusals but the last.
     fn own_key(
         &self,
@@ -67,7 +113,7 @@ impl Tables {
     /// (keyctl_instantiate(3)). It takes no memory. EPERM if its authority is not assumed, then the ring's error, then
     /// EDQUOT if that is full.
     #[tactic(auto, unfolding(rk_machine::specs::Asks::Completes))]
-    pub fn complete_key(
+    fn complete_key(
         &mut self,
         now: Moment,
         asker: &Asker,

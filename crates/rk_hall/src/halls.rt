@@ -61,12 +61,7 @@ macro_rules! called {
                     depth,
                     ticket,
                 } = begun;
-                Some(Launch {
-                    key,
-                    subject,
-                    depth,
-                    ticket: OneOfFour::$name(ticket),
-                })
+                Some(Launch::new(key, subject, depth, OneOfFour::$name(ticket)))
             }
         };
         Ok(Called { receipt, launch })
@@ -243,11 +238,7 @@ impl<N: Names> Halls<N> {
         ensures err { IfErr result (λ f. CallRefused (part hall seat.old) f) }
         ensures same { OnErr result (seat.new ≡ seat.old) }
     {
-        by_hall!(
-            hall,
-            HallNo,
-            called!(self.ask(rt, seat, now, session, ask))
-        )
+        by_hall!(hall, HallNo, called!(self.ask(rt, seat, now, session, ask)))
     }
 
     /// Says that the handler of a construction runs, or could not be started. It may wait, and takes no memory.

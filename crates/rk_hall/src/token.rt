@@ -1,6 +1,7 @@
 //! Constructions that are out: to be launched, or running.
 ghost use Rattle.std.specs.Prelude.{◌≡◌};
 ghost use Rattle.rk_hall.specs.Seats.{IsDepth};
+ghost use Rattle.rk_hall.specs.Tickets.{ticket_hall};
 
 use crate::names::Names;
 use crate::ticket::AnyTicket;
@@ -56,6 +57,26 @@ impl<N: Names> Model for Running<N> {
 }
 
 impl<N: Names> Launch<N> {
+    /// A construction that is to be launched. It is a function of its own, since few asks begin one.
+    #[cold]
+    #[inline(never)]
+    pub(crate) fn new(
+        key: Serial,
+        subject: BoxedSubject,
+        depth: u8,
+        ticket: AnyTicket<N>,
+    ) -> Launch<N>
+        requires { IsDepth depth }
+        ensures { result ≡ record { hall = ticket_hall ticket; key = key; subject = subject; depth = depth } }
+    {
+        Launch {
+            key,
+            subject,
+            depth,
+            ticket,
+        }
+    }
+
     /// The key under construction.
     pub fn key(&self) -> Serial
         ensures { result ≡ self.now.key }

@@ -31,6 +31,7 @@ pub struct Spelling<'a> {
 }
 
 /// How many bytes the message has.
+#[inline(always)]
 pub fn len(message: Spelling<'_>) -> usize
     requires { AreTold message }
     ensures { result ≡ length (all_bytes message.entry) }
