@@ -5,7 +5,7 @@ says why, where it raises the bound.
 """
 
 MOST = {
-    "found REQUEST": 3_270,
-    "READ of one byte": 3_240,
-    "ADD displacing": 5_810,
+    "found REQUEST": 2_130,
+    "READ of one byte": 2_220,
+    "ADD displacing": 4_710,
 }
