@@ -125,7 +125,7 @@ impl<N: Names, const H: u64> Lock<N, H> {
 
     /// A session asks, as one turn. What takes memory in the record's copy is copied before the lock is taken, since others wait for it. A completed key wakes
     /// those who wait for it. An `Err` leaves the hall and the part as they were.
-    // (apart from `open`, so that each hall's has one caller, into which LLVM inlines it)
+    // (It is apart from `open`, so that it has one caller for each hall. LLVM inlines it there, though it is too large for `#[inline(always)]`.)
     pub(crate) fn ask<'a, R: Wait>(
         &self,
         rt: &R,

@@ -49,8 +49,8 @@ pub fn comes_before(one: &SessionId, other: &SessionId) -> bool
     one < other
 }
 
-/// How many come before this one. It looks at as many peers as their number can be halved, and before them where the client stands if no number is missing
-/// between the first client and it.
+/// How many come before this one. It looks first where the client stands if no number is missing between the first client and it. If it is not there, it
+/// looks at as many peers as their number can be halved.
 fn count_before(peers: &[Peer], who: &SessionId) -> usize
     requires { are_in_order peers.now ≡ true }
     ensures { result ≡ prefix_len (λ x. comes_before x.who who.now) peers.now }
@@ -87,7 +87,7 @@ fn is_first_at(peers: &[Peer], who: &SessionId, index: usize) -> bool
     index == 0 || comes_before(&peers[index - 1].who, who)
 }
 
-/// Where the peer of this one is. It looks at as many peers as their number can be halved.
+/// Where the peer of this one is. It looks as `count_before` does.
 pub fn index_of(peers: &[Peer], who: &SessionId) -> Option<usize>
     requires { are_in_order peers.now ≡ true }
     ensures found { IfSome result (λ i. IfSome (slice_get peers.now i) (λ x. (x.who ≡ who.now) × (peer_of peers.now who.now ≡ Some x))) }
@@ -122,7 +122,7 @@ pub fn add(peers: &mut Vec<Peer>, peer: Peer) -> Result<(), AllocError>
     Ok(())
 }
 
-/// Takes the peer of this one away. It looks at as many peers as their number can be halved.
+/// Takes the peer of this one away. It looks as `count_before` does.
 pub fn remove(peers: &mut Vec<Peer>, who: &SessionId)
     requires { are_in_order peers.old.items ≡ true }
     ensures without { peers.new.items ≡ without who.now peers.old.items }

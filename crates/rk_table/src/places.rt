@@ -3,8 +3,8 @@ ghost use Rattle.std.specs.Prelude.{◌≡◌, ◌≤◌, ◌<◌, IfOk, IfErr, 
 ghost use Rattle.std.specs.List.{insert};
 ghost use Rattle.rk_table.specs.Entries.{KeysRise, IsAt, IsGapFor};
 
-/// Where the key stands, or else where it would. It looks at as many entries as their number can be halved, and at one more before them: numbers that are
-/// given out one after another mostly stand where the first one says.
+/// Where the key stands, or else where it would. It looks first where the key stands if none is missing between the first one and it: numbers are mostly given
+/// out one after another. If it is not there, it looks at as many entries as their number can be halved.
 pub(crate) fn place_of<V>(entries: &[(u32, V)], key: u32) -> Result<usize, usize>
     requires rising { KeysRise entries.now }
     ensures found { IfOk result (IsAt entries.now key) }
