@@ -130,7 +130,7 @@ pub fn remove(peers: &mut Vec<Peer>, who: &SessionId)
 {
     // Nobody has two, but the order alone does not say so.
     while let Some(index) = index_of(peers, who) {
-        let _ = peers.remove(index);
+        drop(peers.remove(index));
     }
 }
 
