@@ -14,14 +14,19 @@ use Rattle.rk_keys.specs.Key.{has_name, is_named}
 
 -- ---- names under their hashes
 
--- a hasher that was fed so many words of eight bytes, of which the last may be short
+-- a hasher that was fed so many words of eight bytes
 unfoldable pub fed_words : List ℕ → FoldHasher → ℕ → FoldHasher
 fed_words bytes h zero = h
-fed_words bytes h (suc n) = folding.write (fed_words bytes h n) (take (min (length bytes) (8 * n + 8) - 8 * n) (drop (8 * n) bytes))
+fed_words bytes h (suc n) = folding.write (fed_words bytes h n) (take 8 (drop (8 * n) bytes))
 
--- a hasher that was fed with the bytes
+-- a hasher that was fed with the bytes, if there are any
+abbrev pub fed_with_rest : List ℕ → FoldHasher → FoldHasher
+fed_with_rest [] h = h
+fed_with_rest (b ∷ bytes) h = folding.write h (b ∷ bytes)
+
+-- a hasher that was fed with the bytes: with their words of eight, and with the rest
 abbrev pub fed_with : List ℕ → FoldHasher → FoldHasher
-fed_with bytes h = fed_words bytes h ((length bytes + 7) / 8)
+fed_with bytes h = fed_with_rest (drop (8 * (length bytes / 8)) bytes) (fed_words bytes h (length bytes / 8))
 
 -- the low 32 bits of the hash of the seed, the type and the description
 unfoldable pub name_hash : ℕ → List ℕ → List ℕ → ℕ

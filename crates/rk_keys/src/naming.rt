@@ -4,6 +4,7 @@ ghost use Rattle.std.specs.Prelude.{find as list_find};
 ghost use Rattle.std.specs.Option.{option_copied};
 ghost use Rattle.std.specs.Ordering.{nat_cmp};
 ghost use Rattle.std.specs.FinMap as map;
+ghost use Rattle.std.specs.Hash.FoldHasher as folding;
 ghost use Rattle.rk_keys.specs.Buckets.{IsIndex, name_hash, fed_with, is_of, is_same, names_at, kept_of, count_of, number_in, counted_in, counted_out};
 
 use crate::by_name::{Bucket, CountIn, CountOut};
@@ -35,8 +36,20 @@ fn feed(hasher: &mut FoldHasher, bytes: &[u8])
 {
     match bytes.len() {
         0 => {}
-        1..=8 => hasher.write(bytes),
+        1..=8 => feed_few(hasher, bytes),
         _ => feed_many(hasher, bytes),
+    }
+}
+
+/// Feeds a hasher with the bytes at once. Four, as those of the type `user`, go as a number, which takes no choice.
+#[tactic(auto, using(std::proofs::lemmas::Nat::le_bytes_4))]
+#[inline(always)]
+fn feed_few(hasher: &mut FoldHasher, bytes: &[u8])
+    ensures { hasher.new ≡ folding.write hasher.old bytes.now }
+{
+    match <[u8; 4]>::try_from(bytes) {
+        Ok(word) => hasher.write_u32(u32::from_le_bytes(word)),
+        Err(_) => hasher.write(bytes),
     }
 }
 
@@ -45,10 +58,25 @@ fn feed(hasher: &mut FoldHasher, bytes: &[u8])
 fn feed_many(hasher: &mut FoldHasher, bytes: &[u8])
     ensures { hasher.new ≡ fed_with bytes.now hasher.old }
 {
-    for word in 0..bytes.len().div_ceil(8) {
-        let start = 8 * word;
-        let end = bytes.len().min(start + 8);
-        hasher.write(&bytes[start..end]);
+    let words = bytes.len() / 8;
+    for word in 0..words {
+        feed_word(hasher, &bytes[8 * word..8 * word + 8]);
+    }
+    let rest = &bytes[8 * words..];
+    if !rest.is_empty() {
+        hasher.write(rest);
+    }
+}
+
+/// Feeds a hasher with the bytes at once. Eight go as a number, which takes no loop.
+#[tactic(auto, using(std::proofs::lemmas::Nat::le_bytes_8))]
+#[inline(always)]
+fn feed_word(hasher: &mut FoldHasher, bytes: &[u8])
+    ensures { hasher.new ≡ folding.write hasher.old bytes.now }
+{
+    match <[u8; 8]>::try_from(bytes) {
+        Ok(word) => hasher.write_u64(u64::from_le_bytes(word)),
+        Err(_) => hasher.write(bytes),
     }
 }
 
