@@ -3,8 +3,10 @@ use denote.RattleType.{RattleType}
 use denote.Param.Send.{IsSend, sendable}
 use Rattle.std.proofs.Crossing.{crosses}
 use Rattle.std.specs.contracts.alloc.Global as global
+use Rattle.rk_names.specs.contracts.callout.Callout as callout
 use Rattle.rk_names.specs.contracts.context.Context as context
 use Rattle.rk_names.specs.contracts.numbers.Serial as serial
+use Rattle.rk_names.specs.contracts.shared_bytes.SharedBytes as shared_bytes
 use Rattle.rk_table.specs.contracts.table.Table as table
 use Rattle.rk_auth.specs.contracts.session.Session as session
 use Rattle.rk_auth.specs.contracts.session.Wait as wait
@@ -39,13 +41,22 @@ session_send = let c = context_send in let w = wait_send in search (sendable, cr
 stage_send : IsSend stage.the_row
 stage_send = let c = context_send in let s = session_send in search (sendable, crosses) depth 40 fits 20000
 
+-- shared bytes may go to another thread
+pub shared_bytes_send : IsSend shared_bytes.the_row
+shared_bytes_send = search (sendable, crosses) depth 40 fits 20000
+
+-- a callout may go to another thread
+pub callout_send : IsSend callout.the_row
+callout_send = let s = shared_bytes_send in search (sendable, crosses) depth 40 fits 20000
+
 authority_send : IsSend authority.the_row
-authority_send = let c = context_send in search (sendable, crosses) depth 40 fits 20000
+authority_send = let c = context_send in let t = callout_send in search (sendable, crosses) depth 40 fits 20000
 
 construction_send : IsSend construction.the_row
 construction_send = let s = stage_send in let a = authority_send in search (sendable, crosses) depth 40 fits 20000
 
-standing_send : IsSend standing.the_row
+-- (in the form in which a slot has it: the search there finds it in that form alone)
+standing_send : IsSend (standing.the_field).row
 standing_send = let k = serial_send in let s = session_send in let c = construction_send in search (sendable, crosses) depth 120 fits 20000
 
 link_send : IsSend link.the_row

@@ -36,10 +36,11 @@ description_send = search (sendable, crosses) depth 40 fits 20000
 word_send : IsSend word.the_row
 word_send = search (sendable, crosses) depth 40 fits 20000
 
-wanted_send : IsSend wanted.the_row
+-- (in the form in which an argument has it; and so below: the searches find it in that form alone)
+wanted_send : IsSend wanted.the_field.row
 wanted_send = let t = typ_send in let d = description_send in search (sendable, crosses) depth 40 fits 20000
 
-argument_send : IsSend argument.the_row
+argument_send : IsSend argument.the_field.row
 argument_send = let n = wanted_send in let w = word_send in search (sendable, crosses) depth 40 fits 20000
 
 line_send : IsSend line.the_row
@@ -54,10 +55,10 @@ description_sync = search (sendable, crosses) depth 40 fits 20000
 word_sync : IsSync word.the_row
 word_sync = search (sendable, crosses) depth 40 fits 20000
 
-wanted_sync : IsSync wanted.the_row
+wanted_sync : IsSync wanted.the_field.row
 wanted_sync = let t = typ_sync in let d = description_sync in search (sendable, crosses) depth 40 fits 20000
 
-argument_sync : IsSync argument.the_row
+argument_sync : IsSync argument.the_field.row
 argument_sync = let n = wanted_sync in let w = word_sync in search (sendable, crosses) depth 40 fits 20000
 
 line_sync : IsSync line.the_row

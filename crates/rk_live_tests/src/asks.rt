@@ -55,10 +55,22 @@ pub fn add(name: &[u8]) -> Option<AskView<'_>> {
 
 /// It requests the key of this name, with the callout `x`; `None` for bytes that break the rule of names.
 pub fn request(name: &[u8]) -> Option<AskView<'_>> {
+    request_with(name, b"x")
+}
+
+/// The same with a callout that does not stand in its value, so that a copy takes memory.
+pub fn long_request(name: &[u8]) -> Option<AskView<'_>> {
+    request_with(
+        name,
+        b"more than the thirty-one bytes that stand in a value",
+    )
+}
+
+fn request_with<'a>(name: &'a [u8], callout: &'a [u8]) -> Option<AskView<'a>> {
     Some(AskView::Request {
         typ: TypeView::new(b"user").ok()?,
         description: DescriptionView::new(name).ok()?,
-        callout: Some(CalloutView::new(b"x").ok()?),
+        callout: Some(CalloutView::new(callout).ok()?),
         destination: 0,
     })
 }

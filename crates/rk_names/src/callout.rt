@@ -1,19 +1,20 @@
 //! The callout: what a handler gets to make its key from.
 ghost use Rattle.std.specs.Prelude.{◌≡◌, IfOk, IfErr, None, MatchResult, Some};
+ghost use Rattle.rk_names.specs.Longs.{IsLongOf};
 ghost use Rattle.rk_names.specs.Rules.{callout_fault, IsRefusedFor};
 
 use crate::errors::NameFault;
-use crate::shared_bytes::SharedBytes;
+use crate::name_bytes::{LongBytes, NameBytes};
 use crate::text::text_fault;
 use std::alloc::{AllocError, Global};
 use std::marker::Model;
 
 /// What the requester passes to the handler: 0 to 4,095 bytes of UTF-8 without a zero byte
-/// (request_key(2), `callout_info`). Its copies share the bytes.
+/// (request_key(2), `callout_info`). At most 31 stand in the value, and the copies of more share them.
 #[derive(Debug, Drop)]
 pub struct Callout {
     /// The text, 0 to 4,095 bytes.
-    bytes: SharedBytes,
+    bytes: NameBytes,
 }
 
 impl Model for Callout {
@@ -60,7 +61,7 @@ impl Callout {
         ensures { IfOk result (λ n. n ≡ bytes.now) }
     {
         Ok(Callout {
-            bytes: SharedBytes::of(alloc, bytes)?,
+            bytes: NameBytes::of(alloc, bytes)?,
         })
     }
 
@@ -69,7 +70,7 @@ impl Callout {
         ensures bytes { result.now ≡ self.now }
         ensures rule { callout_fault self.now ≡ None }
     {
-        self.bytes.as_bytes()
+        self.bytes.as_slice()
     }
 
     /// The same, borrowed.
@@ -77,7 +78,7 @@ impl Callout {
         ensures { result ≡ self.now }
     {
         CalloutView {
-            bytes: self.bytes.as_bytes(),
+            bytes: self.bytes.as_slice(),
         }
     }
 }
@@ -142,5 +143,24 @@ impl<'a> CalloutView<'a> {
         ensures { IfOk result (λ n. n ≡ self.now) }
     {
         Callout::from_checked(alloc, self.bytes)
+    }
+
+    /// What a copy takes of memory: nothing for at most 31 bytes. The only refusal is out of memory.
+    #[inline(always)]
+    pub fn long(&self, alloc: Global) -> Result<Option<LongBytes>, AllocError>
+        ensures { IfOk result (λ long. IsLongOf long self.now) }
+    {
+        LongBytes::of(alloc, self.bytes)
+    }
+
+    /// A copy for which `long` has taken the memory before.
+    #[inline(always)]
+    pub fn to_owned_with(&self, long: Option<LongBytes>) -> Callout
+        requires { IsLongOf long self.now }
+        ensures { result ≡ self.now }
+    {
+        Callout {
+            bytes: NameBytes::with(self.bytes, long),
+        }
     }
 }

@@ -1,30 +1,30 @@
-//! The bytes of a description.
+//! The bytes of a description or a callout.
 ghost use Rattle.std.specs.Prelude.{◌≡◌, IfOk};
 ghost use Rattle.rk_names.specs.Longs.{IsLongOf};
 
+use crate::shared_bytes::SharedBytes;
 use arrayvec::ArrayVec;
 use std::alloc::{AllocError, Global};
 use std::marker::Model;
-use std::sync::Arc;
 
 /// How many bytes stand in the value.
 const INLINE: usize = 31;
 
-/// The bytes of a description. At most 31 stand in the value, so that most copies take no memory; the copies of more share them.
+/// The bytes of a description or a callout. At most 31 stand in the value, so that most copies take no memory; the copies of more share them.
 #[derive(Debug, Drop)]
 pub(crate) struct NameBytes {
     /// At most 31 bytes; none if there are more.
     few: ArrayVec<u8, INLINE>,
     /// All bytes, if there are more.
-    many: Option<Arc<Vec<u8>>>,
+    many: Option<SharedBytes>,
 }
 
 impl Model for NameBytes {
-    ghost use Rattle.std.specs.Prelude.{List, ℕ, option_map, unwrap_or};
+    ghost use Rattle.std.specs.Prelude.{List, ℕ, unwrap_or};
 
     ghost Value = { List ℕ };
 
-    ghost view = { λ b. unwrap_or (option_map (λ many. many.value.items) b.many) b.few.items };
+    ghost view = { λ b. unwrap_or b.many b.few.items };
 }
 
 impl NameBytes {
@@ -61,7 +61,7 @@ impl NameBytes {
         ensures { result.now ≡ self.now }
     {
         match &self.many {
-            Some(many) => many,
+            Some(many) => many.as_bytes(),
             None => &self.few,
         }
     }
@@ -78,11 +78,11 @@ impl Clone for NameBytes {
     }
 }
 
-/// A copy of bytes that do not stand in the value of a description, made before they are wanted there.
+/// A copy of bytes that do not stand in the value of a description or a callout, made before they are wanted there.
 #[derive(Debug, Drop)]
 pub struct LongBytes {
     /// More than 31 bytes.
-    bytes: Arc<Vec<u8>>,
+    bytes: SharedBytes,
 }
 
 impl Model for LongBytes {
@@ -90,7 +90,7 @@ impl Model for LongBytes {
 
     ghost Value = { List ℕ };
 
-    ghost view = { λ b. b.bytes.value.items };
+    ghost view = { λ b. b.bytes };
 }
 
 impl LongBytes {
@@ -110,9 +110,8 @@ impl LongBytes {
     fn copied(alloc: Global, bytes: &[u8]) -> Result<LongBytes, AllocError>
         ensures { IfOk result (λ long. long ≡ bytes.now) }
     {
-        let bytes = Vec::from_slice(alloc, bytes)?;
         Ok(LongBytes {
-            bytes: Arc::new(alloc, bytes)?,
+            bytes: SharedBytes::of(alloc, bytes)?,
         })
     }
 }

@@ -1,27 +1,51 @@
 //! What a key holds.
 ghost use Rattle.std.specs.Prelude.{◌≡◌, MatchResult, None, Some, IfOk};
 ghost use Rattle.rk_names.specs.Rules.{payload_fault};
+ghost use Rattle.rk_names.specs.Shares.{payload_bytes};
 
 use crate::errors::NameFault;
+use crate::shared_bytes::SharedBytes;
 use std::alloc::{AllocError, Global};
 use std::marker::Model;
 
 /// What a key holds: 1 to 32,767 bytes, any bytes (add_key(2), the type `user`).
+/// One that was made by `to_owned` shares its bytes with its copies, and one that was moved here is copied.
 #[derive(Debug, Drop)]
 pub struct Payload {
     /// The bytes, 1 to 32,767 of them.
-    bytes: Vec<u8>,
+    bytes: PayloadBytes,
+}
+
+/// The bytes of a payload, wherever they lie.
+#[derive(Debug, Drop)]
+enum PayloadBytes {
+    /// A vector that was moved here.
+    Moved(Vec<u8>),
+    /// A copy of borrowed bytes, which further copies share.
+    Shared(SharedBytes),
+}
+
+impl PayloadBytes {
+    fn as_slice(&self) -> &[u8]
+        ensures { result.now ≡ payload_bytes self.now }
+    {
+        match self {
+            PayloadBytes::Moved(bytes) => bytes,
+            PayloadBytes::Shared(bytes) => bytes.as_bytes(),
+        }
+    }
 }
 
 impl Model for Payload {
     ghost use Rattle.std.specs.Prelude.{◌≡◌, List, ℕ, None};
     ghost use Rattle.rk_names.specs.Rules.{payload_fault};
+    ghost use Rattle.rk_names.specs.Shares.{payload_bytes};
 
     ghost Value = { List ℕ };
 
-    ghost view = { λ p. p.bytes.items };
+    ghost view = { λ p. payload_bytes p.bytes };
 
-    ghost invariant = { λ p. payload_fault p.bytes.items ≡ None };
+    ghost invariant = { λ p. payload_fault (payload_bytes p.bytes) ≡ None };
 }
 
 impl Payload {
@@ -58,7 +82,9 @@ impl Payload {
         requires { payload_fault bytes.items ≡ None }
         ensures { result ≡ bytes.items }
     {
-        Payload { bytes }
+        Payload {
+            bytes: PayloadBytes::Moved(bytes),
+        }
     }
 
     /// The bytes that it was made of.
@@ -66,14 +92,27 @@ impl Payload {
         ensures bytes { result.now ≡ self.now }
         ensures rule { payload_fault self.now ≡ None }
     {
-        &self.bytes
+        self.bytes.as_slice()
     }
 
     /// The same, borrowed.
     pub fn view(&self) -> PayloadView<'_>
         ensures { result ≡ self.now }
     {
-        PayloadView { bytes: &self.bytes }
+        PayloadView {
+            bytes: self.bytes.as_slice(),
+        }
+    }
+
+    /// The bytes as others may share them. It takes memory for bytes that were moved here, and an `Err` is out of memory.
+    pub fn shared(&self, alloc: Global) -> Result<SharedBytes, AllocError>
+        ensures bytes { IfOk result (λ bytes. bytes ≡ self.now) }
+        ensures rule { payload_fault self.now ≡ None }
+    {
+        match &self.bytes {
+            PayloadBytes::Moved(bytes) => SharedBytes::of(alloc, bytes),
+            PayloadBytes::Shared(bytes) => bytes.clone(),
+        }
     }
 }
 
@@ -82,7 +121,10 @@ impl Clone for Payload {
 
     fn clone(&self) -> Result<Payload, AllocError> {
         Ok(Payload {
-            bytes: self.bytes.clone()?,
+            bytes: match &self.bytes {
+                PayloadBytes::Moved(bytes) => PayloadBytes::Moved(bytes.clone()?),
+                PayloadBytes::Shared(bytes) => PayloadBytes::Shared(bytes.clone()?),
+            },
         })
     }
 }
@@ -136,6 +178,8 @@ impl<'a> PayloadView<'a> {
     pub fn to_owned(&self, alloc: Global) -> Result<Payload, AllocError>
         ensures { IfOk result (λ n. n ≡ self.now) }
     {
-        Ok(Payload::from_checked(Vec::from_slice(alloc, self.bytes)?))
+        Ok(Payload {
+            bytes: PayloadBytes::Shared(SharedBytes::of(alloc, self.bytes)?),
+        })
     }
 }

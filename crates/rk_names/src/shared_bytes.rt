@@ -1,16 +1,19 @@
 //! Bytes that copies share.
 ghost use Rattle.std.specs.Prelude.{◌≡◌, IfOk};
 
-use crate::name_bytes::NameBytes;
+use smallvec::SmallVec;
 use std::alloc::{AllocError, Global};
 use std::marker::Model;
 use std::sync::Arc;
 
-/// Bytes that its copies share, in the room of a pointer. At most 31 take one allocation.
+/// How many bytes stand in one allocation with their count of owners.
+const INLINE: usize = 63;
+
+/// Bytes that its copies share, in the room of a pointer. At most 63 take one allocation.
 #[derive(Debug, Drop)]
 pub struct SharedBytes {
     /// The bytes, which nobody changes.
-    bytes: Arc<NameBytes>,
+    bytes: Arc<SmallVec<u8, INLINE>>,
 }
 
 impl Model for SharedBytes {
@@ -18,7 +21,7 @@ impl Model for SharedBytes {
 
     ghost Value = { List ℕ };
 
-    ghost view = { λ b. b.bytes.value };
+    ghost view = { λ b. b.bytes.value.items };
 }
 
 impl SharedBytes {
@@ -27,7 +30,7 @@ impl SharedBytes {
     pub fn of(alloc: Global, bytes: &[u8]) -> Result<SharedBytes, AllocError>
         ensures { IfOk result (λ copy. copy ≡ bytes.now) }
     {
-        let bytes = NameBytes::of(alloc, bytes)?;
+        let bytes = SmallVec::from_slice(alloc, bytes)?;
         Ok(SharedBytes {
             bytes: Arc::new(alloc, bytes)?,
         })

@@ -6,7 +6,7 @@
 ghost use Rattle.rk_hall.specs.Seats.{IsCall};
 
 use crate::answers::Said;
-use crate::asks::{CLIENT, NOW, OTHER, asked, asked_by, hello, joining, payload, request};
+use crate::asks::{CLIENT, NOW, OTHER, asked, asked_by, hello, joining, long_request, payload};
 use crate::halls::calls::refuse_launch;
 use crate::halls::opening::{Scene, in_new_halls};
 use crate::halls::paths::{
@@ -77,7 +77,7 @@ impl Growths {
         receipts: &mut Vec<Receipt>,
         put_out: Payload,
     ) {
-        let ask = request(b"a").expect(rt, "a request");
+        let ask = long_request(b"a").expect(rt, "a request");
         let requested = tries(rt, halls, seat, receipts, asked(&ask));
         if let Ok(launch) = requested {
             let launch = launch.expect(rt, "a launch");
@@ -127,7 +127,7 @@ fn joins<N: Names, R: Wait + Abort>(
     let joining = joining(key(rt, 4));
     let mut waits = is_made(rt, halls, seat, receipts, asked_by(OTHER, &joining));
     if waits {
-        let ask = request(b"a").expect(rt, "a request");
+        let ask = long_request(b"a").expect(rt, "a request");
         waits = is_made(rt, halls, seat, receipts, asked_by(OTHER, &ask));
     }
     if !waits {
