@@ -1,7 +1,7 @@
 -- An ask can be told from its message.
 use Rattle.rk_message.proofs.Words.{◌≡◌, ap, refl, ℕ, sym, List, ◌∙◌, arith, true, false, Bool, ◌∷◌, Option, Some, None, Ok, Err, subst, [], Result, suc, zero}
 use Rattle.rk_message.proofs.Words.{ℤ, ◌==◌, unwrap_or, IfOk, if◌then◌else◌, ◌||◌, pos, key_error_named, KeyError, Ask, ask_message, IsAsk, JoinsASerial}
-use Rattle.rk_message.proofs.Words.{ReadsAsk, IsFaultOf, message_at, asks, Message, Value, spelling, U8, U32, I32, Blob, Maybe, Fault}
+use Rattle.rk_message.proofs.Words.{◌<◌, kinds_of, Short, UnknownOp, take_rest, take, drop, length, get_or, ◌-◌, ◌≤◌, w8, Fits, Reads, ReadsAsk, IsFaultOf, message_at, message_behind, asks, Message, Value, spelling, U8, U32, I32, Blob, Maybe, Fault}
 use Rattle.rk_names.specs.declared.errors.KeyError.TheVariants as error
 use Rattle.rk_message.specs.declared.ask.AskOf.TheVariants as ask
 use Rattle.rk_message.specs.declared.greeting.Greeting.{Greeting}
@@ -107,6 +107,45 @@ pub ask_is_leftmost : (body : List ℕ) (r : Result Ask Fault) → IsBytes body 
 ask_is_leftmost body (Ok a) fits given f e = absurd cc
 ask_is_leftmost body (Err g) fits given f e =
     let same : g ≡ f = cc in subst (λ x. IsFaultOf asks body x) same (fault_of_body asks body g fits given.0)
+
+-- what was read of the bytes behind the first is what was read of the body, and the same follows of it
+
+abbrev Behind : Result Ask Fault → ℕ → List ℕ → Type 0
+Behind r n body = ReadsAsk r (message_behind asks n (take (length body - 1) (drop 1 body)))
+
+of_body : (body : List ℕ) (n : ℕ) (r : Result Ask Fault) → 1 ≤ length body → get_or body 0 0 ≡ n → Behind r n body → ReadsAsk r (message_at asks body)
+unfolding message_at
+of_body [] n r long first given = absurd (omega (arith, long))
+of_body (op ∷ rest) n r long first given =
+    subst (λ b. ReadsAsk r (message_behind asks op b)) (take_rest (op ∷ rest) 1) (subst (λ o. Behind r o (op ∷ rest)) (sym first) given)
+
+pub behind_is_found : (body : List ℕ) (n : ℕ) (r : Result Ask Fault) → ((i : ℕ) → Fits w8 (get_or body i 0)) → 1 ≤ length body → get_or body 0 0 ≡ n
+    → ReadsAsk r (message_behind asks n (take (length body - 1) (drop 1 body))) → IfOk r (λ a. IsAsk a × (body ≡ spelling (ask_message a)))
+behind_is_found body n r fits long first given = ask_is_found body r (λ i. omega (arith, fits i)) (of_body body n r long first given)
+
+pub behind_is_only : (body : List ℕ) (n : ℕ) (r : Result Ask Fault) → 1 ≤ length body → get_or body 0 0 ≡ n
+    → ReadsAsk r (message_behind asks n (take (length body - 1) (drop 1 body))) → (a : Ask) → IsAsk a → body ≡ spelling (ask_message a) → r ≡ Ok a
+behind_is_only body n r long first given a is e = ask_is_only body r a is e (of_body body n r long first given)
+
+pub behind_is_leftmost : (body : List ℕ) (n : ℕ) (r : Result Ask Fault) → ((i : ℕ) → Fits w8 (get_or body i 0)) → 1 ≤ length body → get_or body 0 0 ≡ n
+    → ReadsAsk r (message_behind asks n (take (length body - 1) (drop 1 body))) → (f : Fault) → r ≡ Err f → IsFaultOf asks body f
+behind_is_leftmost body n r fits long first given = ask_is_leftmost body r (λ i. omega (arith, fits i)) (of_body body n r long first given)
+
+pub behind_is_exact : (body : List ℕ) (n : ℕ) (r : Result Ask Fault) → 1 ≤ length body → get_or body 0 0 ≡ n
+    → ReadsAsk r (message_behind asks n (take (length body - 1) (drop 1 body))) → Reads ask_message r (message_at asks body)
+behind_is_exact body n r long first given = (of_body body n r long first given).0
+
+-- there is no first byte
+pub empty_is_short : (body : List ℕ) → length body < 1 → message_at asks body ≡ Err Short
+unfolding message_at
+empty_is_short [] below = refl
+empty_is_short (op ∷ rest) below = absurd (omega (arith, below))
+
+-- no ask has this first byte
+pub other_is_unknown : (body : List ℕ) → 1 ≤ length body → kinds_of asks (get_or body 0 0) ≡ None → message_at asks body ≡ Err UnknownOp
+unfolding message_at message_behind
+other_is_unknown [] long none = absurd (omega (arith, long))
+other_is_unknown (op ∷ rest) long none = rw none refl
 
 -- asks with the same spelling are the same ask
 pub asks_are_told : (a b : Ask) → IsAsk a → IsAsk b → spelling (ask_message a) ≡ spelling (ask_message b) → a ≡ b

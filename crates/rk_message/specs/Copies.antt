@@ -10,9 +10,24 @@ payload_of (ask.Instantiate key payload ring) = Some payload
 payload_of (ask.Add typ description payload ring) = Some payload
 payload_of _ = None
 
--- what was copied of an ask before its copy is made: of its description what does not stand in the value, its callout, and its payload
+-- what the copy of a callout takes of memory, if there is one
+abbrev pub IsLongCallout : Option (List ℕ) → Option (List ℕ) → Type 0
+IsLongCallout long (Some callout) = IsLongOf long callout
+IsLongCallout long None = Unit {0}
+
+-- what the copies of an ask's description and of its callout take of memory
+abbrev pub AreLongOf : Ask → Option (List ℕ) → Option (List ℕ) → Type 0
+AreLongOf (ask.Request typ description callout destination) long long_callout = IsLongOf long description × IsLongCallout long_callout callout
+AreLongOf (ask.Add typ description payload ring) long long_callout = IsLongOf long description
+AreLongOf _ long long_callout = Unit {0}
+
+-- what was copied of an ask before its copy is made: of its description and of its callout what does not stand in the value, and its payload
 abbrev pub IsCopied : Ask → Option (List ℕ) → Option (List ℕ) → Option (List ℕ) → Type 0
-IsCopied (ask.Request typ description callout destination) long text bytes = IsLongOf long description × (text ≡ callout)
-IsCopied (ask.Instantiate key payload ring) long text bytes = bytes ≡ Some payload
-IsCopied (ask.Add typ description payload ring) long text bytes = IsLongOf long description × (bytes ≡ Some payload)
-IsCopied _ long text bytes = Unit {0}
+IsCopied a long long_callout bytes = AreLongOf a long long_callout × (bytes ≡ payload_of a)
+
+-- an ask that has no name and no payload
+abbrev pub IsPlain : Ask → Type 0
+IsPlain (ask.Request typ description callout destination) = ⊥
+IsPlain (ask.Instantiate key payload ring) = ⊥
+IsPlain (ask.Add typ description payload ring) = ⊥
+IsPlain _ = Unit {0}

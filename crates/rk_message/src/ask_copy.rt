@@ -1,11 +1,12 @@
 //! A copy of an ask, for which the memory is taken before.
 ghost use Rattle.std.specs.Prelude.{◌≡◌, IfOk};
-ghost use Rattle.rk_message.specs.Copies.{IsCopied};
+ghost use Rattle.rk_message.specs.Copies.{IsCopied, IsLongCallout, IsPlain};
 
 use crate::ask::{Ask, AskOf, AskView};
+use crate::ask_step::AskStep;
 use crate::borrowed::AskRef;
 use crate::copying::converted;
-use rk_names::{Callout, CalloutView, LongBytes, Payload};
+use rk_names::{CalloutView, LongBytes, Payload};
 use std::alloc::{AllocError, Global};
 use std::marker::Model;
 
@@ -17,8 +18,8 @@ pub struct AskCopy<'a> {
     ask: AskRef<'a>,
     /// Its description, if it is long.
     description: Option<LongBytes>,
-    /// Its callout, if it has one.
-    callout: Option<Callout>,
+    /// Its callout, if that is long.
+    callout: Option<LongBytes>,
     /// Its payload, if it has one.
     payload: Option<Payload>,
 }
@@ -47,7 +48,7 @@ impl<'a> AskCopy<'a> {
                 ..
             } => (
                 description.long(alloc)?,
-                owned_callout(alloc, callout)?,
+                long_callout(alloc, callout)?,
                 None,
             ),
             AskView::Instantiate { payload, .. } => (None, None, Some(payload.to_owned(alloc)?)),
@@ -70,6 +71,14 @@ impl<'a> AskCopy<'a> {
         })
     }
 
+    /// The ask as a step takes it, whose payload shares the copy's bytes. An `Err` is out of memory, and comes only of an ask that has a payload.
+    #[inline(always)]
+    pub fn step(&self) -> Result<AskStep<'a>, AllocError>
+        ensures { IfOk result (λ step. step ≡ self.now) }
+    {
+        Ok(AskStep::with(self.ask.again(), self.payload.clone()?))
+    }
+
     /// The copy. It takes no memory.
     #[inline(always)]
     pub fn into_ask(self) -> Ask
@@ -78,21 +87,38 @@ impl<'a> AskCopy<'a> {
         let AskCopy {
             ask,
             description: long,
-            callout: text,
+            callout: long_callout,
             payload: bytes,
         } = self;
-        converted! { *ask.ask();
-            AskOf::Request { ref typ, ref description, callout: _, destination } => AskOf::Request {
+        match *ask.ask() {
+            AskOf::Request {
+                ref typ,
+                ref description,
+                ref callout,
+                ref destination,
+            } => AskOf::Request {
                 typ: typ.to_owned(),
                 description: description.to_owned_with(long),
-                callout: text,
-                destination,
+                callout: match callout {
+                    Some(callout) => Some(callout.to_owned_with(long_callout)),
+                    None => None,
+                },
+                destination: *destination,
             },
-            AskOf::Instantiate { key, payload: _, ring } => match bytes {
+            AskOf::Instantiate {
+                key,
+                payload: _,
+                ring,
+            } => match bytes {
                 Some(payload) => AskOf::Instantiate { key, payload, ring },
                 None => unreachable!(),
             },
-            AskOf::Add { ref typ, ref description, payload: _, ring } => match bytes {
+            AskOf::Add {
+                ref typ,
+                ref description,
+                payload: _,
+                ring,
+            } => match bytes {
                 Some(payload) => AskOf::Add {
                     typ: typ.to_owned(),
                     description: description.to_owned_with(long),
@@ -101,20 +127,34 @@ impl<'a> AskCopy<'a> {
                 },
                 None => unreachable!(),
             },
+            ref plain => copy_of_plain(plain),
         }
     }
 }
 
-/// A copy of a callout, if there is one. An `Err` is out of memory.
+/// The copy of an ask that has no name and no payload. (It is apart, so that what a copy has of memory is let go once, and not in an arm of each kind.)
 #[inline(always)]
-fn owned_callout(
+fn copy_of_plain(ask: &AskView<'_>) -> Ask
+    requires { IsPlain ask.now }
+    ensures { result ≡ ask.now }
+{
+    converted! { *ask;
+        AskOf::Request { .. } => unreachable!(),
+        AskOf::Instantiate { .. } => unreachable!(),
+        AskOf::Add { .. } => unreachable!(),
+    }
+}
+
+/// What the copy of a callout takes of memory, if there is one. An `Err` is out of memory.
+#[inline(always)]
+fn long_callout(
     alloc: Global,
     callout: &Option<CalloutView<'_>>,
-) -> Result<Option<Callout>, AllocError>
-    ensures { IfOk result (λ copy. copy ≡ callout.now) }
+) -> Result<Option<LongBytes>, AllocError>
+    ensures { IfOk result (λ long. IsLongCallout long callout.now) }
 {
     match callout {
-        Some(text) => Ok(Some(text.to_owned(alloc)?)),
+        Some(callout) => callout.long(alloc),
         None => Ok(None),
     }
 }

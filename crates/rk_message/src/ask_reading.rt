@@ -36,6 +36,7 @@ impl Ask {
 
 impl<'a> AskView<'a> {
     /// The ask that all of the body spells, borrowed from it. An `Err` is the leftmost fault of a body that spells none.
+    #[tactic(auto, using(crate::proofs::Asks::behind_is_found, crate::proofs::Asks::behind_is_only, crate::proofs::Asks::behind_is_leftmost, crate::proofs::Asks::behind_is_exact, crate::proofs::Asks::empty_is_short, crate::proofs::Asks::other_is_unknown))]
     #[inline(always)]
     pub fn read(body: &'a [u8]) -> Result<AskView<'a>, Fault>
         // What is read is spelled by the body.
@@ -47,56 +48,28 @@ impl<'a> AskView<'a> {
         // Which ask or fault it is.
         ensures exact { Reads ask_message result (message_at asks body.now) }
     {
-        read_body(body)
-    }
-}
-
-#[tactic(auto, unfolding(crate::specs::Reading::message_at))]
-#[inline(always)]
-fn read_body(body: &[u8]) -> Result<AskView<'_>, Fault>
-    ensures { ReadsAsk result (message_at asks body.now) }
-{
-    match body {
-        [] => Err(Fault::Short),
-        [op, rest @ ..] => read_behind(*op, rest),
-    }
-}
-
-/// The ask of the op that has this byte, if there is one.
-#[tactic(auto, unfolding(crate::specs::Reading::message_behind))]
-#[inline(always)]
-fn read_behind(op: u8, rest: &[u8]) -> Result<AskView<'_>, Fault>
-    ensures { ReadsAsk result (message_behind asks op rest.now) }
-{
-    match op {
-        1 => hello(rest),
-        2 => request(rest),
-        3 => Ok(AskView::Assume { key: one(rest)? }),
-        4 => instantiate(rest),
-        5 => negate(rest),
-        6 => reject(rest),
-        7 => Ok(AskView::Read { key: one(rest)? }),
-        8 => Ok(AskView::Describe { key: one(rest)? }),
-        9 => Ok(AskView::Revoke { key: one(rest)? }),
-        10 => timeout(rest),
-        11 => {
-            let (key, ring) = two(rest)?;
-            Ok(AskView::Link { key, ring })
+        match body {
+            [] => Err(Fault::Short),
+            [op, rest @ ..] => match *op {
+                1 => hello(rest),
+                2 => request(rest),
+                3 => assume(rest),
+                4 => instantiate(rest),
+                5 => negate(rest),
+                6 => reject(rest),
+                7 => read(rest),
+                8 => describe(rest),
+                9 => revoke(rest),
+                10 => timeout(rest),
+                11 => link(rest),
+                12 => unlink(rest),
+                13 => clear(rest),
+                14 => default(rest),
+                15 => add(rest),
+                16 => callout(rest),
+                _ => Err(Fault::UnknownOp),
+            },
         }
-        12 => {
-            let (key, ring) = two(rest)?;
-            Ok(AskView::Unlink { key, ring })
-        }
-        13 => Ok(AskView::Clear { ring: one(rest)? }),
-        14 => Ok(AskView::Default {
-            setting: one(rest)?,
-        }),
-        15 => add(rest),
-        16 => {
-            none(rest)?;
-            Ok(AskView::Callout)
-        }
-        _ => Err(Fault::UnknownOp),
     }
 }
 
@@ -165,6 +138,14 @@ fn request(bytes: &[u8]) -> Result<AskView<'_>, Fault>
     })
 }
 
+#[tactic(auto, unfolding(crate::specs::Reading::message_behind))]
+fn assume(bytes: &[u8]) -> Result<AskView<'_>, Fault>
+    ensures { ReadsAsk result (message_behind asks 3 bytes.now) }
+{
+    let key = one(bytes)?;
+    Ok(AskView::Assume { key })
+}
+
 #[tactic(auto, unfolding(crate::specs::Reading::message_behind, crate::specs::Reading::all_values, crate::specs::Reading::values_at))]
 fn instantiate(bytes: &[u8]) -> Result<AskView<'_>, Fault>
     ensures { ReadsAsk result (message_behind asks 4 bytes.now) }
@@ -204,6 +185,32 @@ fn reject(bytes: &[u8]) -> Result<AskView<'_>, Fault>
     })
 }
 
+#[tactic(auto, unfolding(crate::specs::Reading::message_behind))]
+#[inline(always)]
+fn read(bytes: &[u8]) -> Result<AskView<'_>, Fault>
+    ensures { ReadsAsk result (message_behind asks 7 bytes.now) }
+{
+    let key = one(bytes)?;
+    Ok(AskView::Read { key })
+}
+
+#[tactic(auto, unfolding(crate::specs::Reading::message_behind))]
+#[inline(always)]
+fn describe(bytes: &[u8]) -> Result<AskView<'_>, Fault>
+    ensures { ReadsAsk result (message_behind asks 8 bytes.now) }
+{
+    let key = one(bytes)?;
+    Ok(AskView::Describe { key })
+}
+
+#[tactic(auto, unfolding(crate::specs::Reading::message_behind))]
+fn revoke(bytes: &[u8]) -> Result<AskView<'_>, Fault>
+    ensures { ReadsAsk result (message_behind asks 9 bytes.now) }
+{
+    let key = one(bytes)?;
+    Ok(AskView::Revoke { key })
+}
+
 #[tactic(auto, unfolding(crate::specs::Reading::message_behind, crate::specs::Reading::all_values, crate::specs::Reading::values_at))]
 fn timeout(bytes: &[u8]) -> Result<AskView<'_>, Fault>
     ensures { ReadsAsk result (message_behind asks 10 bytes.now) }
@@ -212,6 +219,38 @@ fn timeout(bytes: &[u8]) -> Result<AskView<'_>, Fault>
     let (seconds, rest) = field::word(rest)?;
     field::end(rest)?;
     Ok(AskView::Timeout { key, seconds })
+}
+
+#[tactic(auto, unfolding(crate::specs::Reading::message_behind))]
+fn link(bytes: &[u8]) -> Result<AskView<'_>, Fault>
+    ensures { ReadsAsk result (message_behind asks 11 bytes.now) }
+{
+    let (key, ring) = two(bytes)?;
+    Ok(AskView::Link { key, ring })
+}
+
+#[tactic(auto, unfolding(crate::specs::Reading::message_behind))]
+fn unlink(bytes: &[u8]) -> Result<AskView<'_>, Fault>
+    ensures { ReadsAsk result (message_behind asks 12 bytes.now) }
+{
+    let (key, ring) = two(bytes)?;
+    Ok(AskView::Unlink { key, ring })
+}
+
+#[tactic(auto, unfolding(crate::specs::Reading::message_behind))]
+fn clear(bytes: &[u8]) -> Result<AskView<'_>, Fault>
+    ensures { ReadsAsk result (message_behind asks 13 bytes.now) }
+{
+    let ring = one(bytes)?;
+    Ok(AskView::Clear { ring })
+}
+
+#[tactic(auto, unfolding(crate::specs::Reading::message_behind))]
+fn default(bytes: &[u8]) -> Result<AskView<'_>, Fault>
+    ensures { ReadsAsk result (message_behind asks 14 bytes.now) }
+{
+    let setting = one(bytes)?;
+    Ok(AskView::Default { setting })
 }
 
 #[tactic(auto, unfolding(crate::specs::Reading::message_behind, crate::specs::Reading::all_values, crate::specs::Reading::values_at))]
@@ -229,4 +268,12 @@ fn add(bytes: &[u8]) -> Result<AskView<'_>, Fault>
         payload,
         ring,
     })
+}
+
+#[tactic(auto, unfolding(crate::specs::Reading::message_behind))]
+fn callout(bytes: &[u8]) -> Result<AskView<'_>, Fault>
+    ensures { ReadsAsk result (message_behind asks 16 bytes.now) }
+{
+    none(bytes)?;
+    Ok(AskView::Callout)
 }

@@ -44,6 +44,15 @@ impl<'a> AskStep<'a> {
         Ok(AskStep { ask, payload })
     }
 
+    /// The ask with its payload.
+    #[inline(always)]
+    pub(crate) fn with(ask: AskRef<'a>, payload: Option<Payload>) -> AskStep<'a>
+        requires { payload ≡ payload_of ask }
+        ensures { result ≡ ask.entry }
+    {
+        AskStep { ask, payload }
+    }
+
     /// The ask.
     #[inline(always)]
     pub fn ask(&self) -> &'a AskView<'a>

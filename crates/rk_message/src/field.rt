@@ -154,6 +154,7 @@ pub fn payload(bytes: &[u8]) -> Result<(PayloadView<'_>, &[u8]), Fault>
 
 /// The text of a callout that keeps its rule, still borrowed.
 #[tactic(auto, unfolding(crate::specs::Reading::checked_at))]
+#[inline(always)]
 fn callout_text(bytes: &[u8]) -> Result<(CalloutView<'_>, &[u8]), Fault>
     ensures { Reads (λ x. (x.0, x.1.now)) result (checked_at callout_rule bytes.now) }
 {
@@ -166,6 +167,7 @@ fn callout_text(bytes: &[u8]) -> Result<(CalloutView<'_>, &[u8]), Fault>
 
 /// A callout after a byte 1, or a byte 0 for none; still borrowed.
 #[tactic(auto, unfolding(crate::specs::Reading::value_at))]
+#[inline(always)]
 pub fn callout(bytes: &[u8]) -> Result<(Option<CalloutView<'_>>, &[u8]), Fault>
     ensures { Reads (λ x. (Maybe x.0, x.1.now)) result (value_at callout bytes.now) }
 {

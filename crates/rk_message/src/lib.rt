@@ -20,7 +20,8 @@
 //! and takes no memory. `AskView::read(body)` reads as `Ask::read(alloc, body)` does, and `to_owned` and `view` lead from one to the other.
 //!
 //! Three more are an ask that stands elsewhere, and contracts see each as that ask. An [`AskRef`] is a reference to a view. An [`AskStep`] has a payload of
-//! its own besides: what a step takes, since the payload becomes a key's. An [`AskCopy`] has the memory that a copy takes, so that `into_ask` takes none.
+//! its own besides: what a step takes, since the payload becomes a key's. An [`AskCopy`] has the memory that a copy takes, so that `into_ask` takes none;
+//! its `step` shares the payload.
 //!
 //! To write a reply with its length before it into one buffer, ask `body_len` for the length and call `write_into`, which
 //! reserves once and then appends. `Reply::refusal(errno)` is the body of a refusal and takes no

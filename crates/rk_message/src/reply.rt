@@ -2,7 +2,7 @@
 
 ghost use Rattle.std.specs.Prelude.{◌≡◌, ◌≤◌, Some, None, IfOk, length, nat_lt, if◌then◌else◌};
 
-use rk_names::{Errno, SharedBytes};
+use rk_names::{Errno, Payload, SharedBytes};
 use std::alloc::{AllocError, Global};
 use std::marker::Model;
 
@@ -45,6 +45,15 @@ impl ReplyBytes {
     {
         Ok(ReplyBytes {
             bytes: SharedBytes::of(alloc, bytes)?,
+        })
+    }
+
+    /// The bytes of a payload, which it shares with those whose bytes are shared. An `Err` is out of memory.
+    pub fn of_payload(alloc: Global, payload: &Payload) -> Result<ReplyBytes, AllocError>
+        ensures { IfOk result (λ copy. copy ≡ payload.now) }
+    {
+        Ok(ReplyBytes {
+            bytes: payload.shared(alloc)?,
         })
     }
 
