@@ -7,9 +7,7 @@ use Rattle.rk_machine.specs.Views.{is_owed}
 use Rattle.rk_machine.specs.Owing.{constructions, closed, begun}
 use Rattle.rk_machine.specs.Recording.{IsOwedAnswer}
 use Rattle.rk_machine.specs.Event.{Event}
-use Rattle.rk_machine.specs.declared.event.Answer.{Answer}
 use Rattle.rk_machine.specs.declared.event.Answer.TheVariants.{Refused}
-use Rattle.rk_record.specs.declared.hall_no.HallNo.{HallNo}
 use Rattle.rk_record.specs.declared.recorded.Recorded.{Recorded}
 use Rattle.rk_message.specs.Ask.{Ask}
 use Rattle.rk_record.specs.declared.receipt.ReceiptOf.{ReceiptOf}

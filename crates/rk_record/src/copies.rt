@@ -26,10 +26,10 @@ impl<'a> Copies<'a> {
         ensures { IfOk result (λ c. AreCopies event.now c) }
     {
         match event {
-            EventView::Asked(_, ask) => Ok(Copies::Ask(
-                AskStep::of(alloc, ask.again())?,
-                AskCopy::of(alloc, ask.again())?,
-            )),
+            EventView::Asked(_, ask) => {
+                let copy = AskCopy::of(alloc, ask.again())?;
+                Ok(Copies::Ask(copy.step()?, copy))
+            }
             EventView::Ended(_, _, Some(payload)) => Ok(Copies::End(payload.clone()?)),
             _ => Ok(Copies::Nothing),
         }

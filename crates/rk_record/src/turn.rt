@@ -155,16 +155,46 @@ fn prepare<'a>(
         × (journal.old.places - (length journal.old.steps + journal.old.reserved) < need event.entry)) }
 {
     if book.owes(&event) {
+        drop(copies);
         return Ok(Ready::owed(event, journal));
     }
-    let kept = Kept::of(journal);
-    journal.reserve(event.need())?;
-    let ends = if may_start(&event) { 2 } else { 0 };
-    match (copies, journal.reserve_ends(ends)) {
-        (Some(copies), Ok(())) => Ok(Ready::of(event, copies)),
-        _ => {
-            journal.keep(kept.places, kept.ends);
-            Err(HallFault::NoMemory)
+    let Some(copies) = copies else {
+        return Err(lacking(journal, &event));
+    };
+    match keep_for(journal, &event) {
+        Ok(()) => Ok(Ready::of(event, copies)),
+        Err(fault) => {
+            drop(copies);
+            Err(fault)
         }
     }
+}
+
+/// Why an event is refused for which there are no copies.
+fn lacking(journal: &Journal, event: &EventView<'_>) -> HallFault
+    ensures { (result ≡ HallFault.Full) ↔ (journal.now.places - (length journal.now.steps + journal.now.reserved) < need event.now) }
+{
+    if journal.free() < event.need() {
+        HallFault::Full
+    } else {
+        HallFault::NoMemory
+    }
+}
+
+/// Keeps the places that the steps of an event may need, which is not owed, and room for the ends of what it may start. A refusal changes nothing.
+#[inline(always)]
+fn keep_for(journal: &mut Journal, event: &EventView<'_>) -> Result<(), HallFault>
+    requires { journal.old.ends ≤ 1048576 }
+    ensures journal { OnOk result (journal.new ≡ prepared false event.now journal.old) }
+    ensures err { OnErr result (journal.new ≡ journal.old) }
+    ensures full { (result ≡ Err HallFault.Full) ↔ (journal.old.places - (length journal.old.steps + journal.old.reserved) < need event.now) }
+{
+    let kept = Kept::of(journal);
+    journal.reserve(event.need())?;
+    let ends = if may_start(event) { 2 } else { 0 };
+    if journal.reserve_ends(ends).is_err() {
+        journal.keep(kept.places, kept.ends);
+        return Err(HallFault::NoMemory);
+    }
+    Ok(())
 }

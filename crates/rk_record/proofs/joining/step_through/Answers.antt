@@ -1,4 +1,4 @@
-use Rattle.std.proofs.Common.{true≢false, sym, subst, arith, ◌∙◌}
+use Rattle.std.proofs.Common.{true≢false, sym, arith, ◌∙◌}
 use Rattle.rk_record.proofs.Runs.{runs-none}
 use Rattle.rk_record.proofs.Joins.{run_item, broken_item, count_one}
 use Rattle.rk_record.proofs.joining.step_through.Goals as goal
