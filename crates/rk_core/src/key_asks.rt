@@ -1,5 +1,5 @@
 //! The asks on keys: READ, DESCRIBE, CALLOUT, REVOKE, TIMEOUT.
-ghost use Rattle.std.specs.Prelude.{◌≡◌, ◌≤◌, ◌⊎◌, Err, Ok, [], ◌∷◌, length, IfOk, IsOk, OnSome, MatchOption, option_map};
+ghost use Rattle.std.specs.Prelude.{◌≡◌, ◌≤◌, Err, Ok, [], ◌∷◌, length, IfOk, IsOk, OnSome, MatchOption, MatchResult, option_map};
 ghost use Rattle.std.specs.Bool.{MatchBool};
 ghost use Rattle.rk_names.specs.Numbers.{key_errno};
 ghost use Rattle.rk_keys.specs.Key.{error_of, is_building, is_revoked, key_passes, standing_of};
@@ -19,13 +19,12 @@ use rk_message::{Reply, ReplyBytes};
 use rk_names::{Errno, Moment, Payload, Serial, SessionId};
 use std::alloc::{AllocError, Global};
 
-/// A copy of the bytes as a reply, or out of memory.
-fn copied(alloc: Global, bytes: &[u8]) -> Result<Answer, Errno>
-    requires { length bytes.now ≤ 65533 }
-    ensures { (result ≡ Err Errno.Enomem) ⊎ (result ≡ Ok (Answer.Done (Reply.Bytes bytes.now))) }
+/// Bytes as a reply, or out of memory where there was none for them.
+fn replied(bytes: Result<ReplyBytes, AllocError>) -> Result<Answer, Errno>
+    ensures { MatchResult bytes (λ b. result ≡ Ok (Answer.Done (Reply.Bytes b))) (λ _. result ≡ Err Errno.Enomem) }
 {
-    match ReplyBytes::from_checked(alloc, bytes) {
-        Ok(copy) => Ok(Answer::Done(Reply::Bytes(copy))),
+    match bytes {
+        Ok(bytes) => Ok(Answer::Done(Reply::Bytes(bytes))),
         Err(_) => Err(Errno::Enomem),
     }
 }
@@ -109,7 +108,9 @@ impl Tables {
     {
         match self.auths.assumed_authority(id) {
             None => Err(Errno::Enokey),
-            Some(authority) => copied(self.alloc, authority.callout.as_bytes()),
+            Some(authority) => {
+                replied(ReplyBytes::from_checked(self.alloc, authority.callout.as_bytes()))
+            }
         }
     }
 
@@ -118,8 +119,7 @@ impl Tables {
     {
         let key = serial_of(number)?;
         let fact = self.possessed(asker, key)?;
-        let payload = payload(fact, now)?;
-        copied(self.alloc, payload.as_bytes())
+        replied(ReplyBytes::of_payload(self.alloc, payload(fact, now)?))
     }
 
     /// The payload of a key, or for -7 the callout (keyctl_read(3)). EINVAL, ENOKEY, EACCES if it is not possessed; the
@@ -141,17 +141,17 @@ impl Tables {
     }
 
     /// What a key is (keyctl_describe(3)). EINVAL, ENOKEY, EACCES if it is not possessed.
-    pub fn describe(&self, now: Moment, asker: &Asker, number: i32) -> Result<Answer, Errno>
-        ensures { Describes self.now now asker.now number (answer_of result) self.now }
+    pub fn describe(&mut self, now: Moment, asker: &Asker, number: i32) -> Result<Answer, Errno>
+        ensures { Describes self.old now asker.now number (answer_of result) self.new }
     {
         let key = serial_of(number)?;
         let fact = self.possessed(asker, key)?;
         let mut short = ArrayVec::new();
         if describe_in(&mut short, fact, now).is_some() {
-            return copied(self.alloc, &short);
+            return replied(self.last_text.reply(self.alloc, &short));
         }
         match description(self.alloc, fact, now) {
-            Ok(bytes) => copied(self.alloc, &bytes),
+            Ok(bytes) => replied(self.last_text.reply(self.alloc, &bytes)),
             Err(_) => Err(Errno::Enomem),
         }
     }

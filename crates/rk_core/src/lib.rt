@@ -27,9 +27,9 @@
 //! `Tables` joins rk_keys, rk_rings and rk_auth into one world; each of its methods does what one definition says. `links` has the changes of rings,
 //! and takes away the keys that lose their last link, each by itself: no step goes through all keys. `search` looks up a name once, and then one key
 //! in each ring of a context, up to the first hit. `completion`, `making`, `sessions` and `new_rings` are what the asks are made of; `named` says who
-//! asks, and which keys and rings an ask names. `wanted` has what a REQUEST looks for, `subject_copies` what a start makes beside its answer. `hello`,
-//! `request`, `completion_asks`, `key_asks`, `ring_asks`, `add` and `session_asks` are the asks. `asks` is the gate and the dispatch, `steps` the six
-//! events, `views` what is returned without a step.
+//! asks, and which keys and rings an ask names. `wanted` has what a REQUEST looks for, `subject_copies` what a start makes beside its answer, `last_text`
+//! the text of the key that was described last. `hello`, `request`, `completion_asks`, `key_asks`, `ring_asks`, `add` and `session_asks` are the asks.
+//! `asks` is the gate and the dispatch, `steps` the six events, `views` what is returned without a step.
 //!
 //! A call that may refuse answers a `Result`: what it found, or the error (`specs/Finding.antt`). `asked` makes a reply of it, once.
 //!
@@ -43,6 +43,7 @@ mod completion;
 mod completion_asks;
 mod hello;
 mod key_asks;
+mod last_text;
 mod limits;
 mod links;
 mod making;

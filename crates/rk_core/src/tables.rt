@@ -8,6 +8,7 @@ ghost use Rattle.rk_rings.specs.Places.{ring_at, is_numbered_live, default_ring}
 ghost use Rattle.rk_machine.specs.World.{World, empty_world};
 ghost use Rattle.rk_machine.specs.Asker.{is_reached};
 
+use crate::last_text::LastText;
 use crate::limits::Limits;
 use rk_auth::Auths;
 use rk_keys::{Key, Keys};
@@ -29,6 +30,8 @@ pub struct Tables {
     pub(crate) rings: Rings,
     /// The sessions, the constructions and their authorities.
     pub(crate) auths: Auths,
+    /// The text of the key that was described last.
+    pub(crate) last_text: LastText,
 }
 
 impl Model for Tables {
@@ -58,6 +61,7 @@ impl Tables {
             keys,
             rings: Rings::new(alloc),
             auths,
+            last_text: LastText::none(),
         })
     }
 }
