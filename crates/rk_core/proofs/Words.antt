@@ -25,7 +25,7 @@ pub use Rattle.rk_auth.specs.declared.construction.Stage.{Stage}
 pub use Rattle.rk_auth.specs.declared.construction.Stage.TheVariants.{Plain, Piped, Negating, Starting}
 pub use Rattle.rk_auth.specs.declared.session.Outcome.{Outcome}
 pub use Rattle.rk_auth.specs.declared.session.Session.{Session}
-pub use Rattle.rk_core.specs.Finding.{answer_of, session_refusal, is_hello, is_first}
+pub use Rattle.rk_core.specs.Finding.{answer_of, session_refusal, is_hello, is_first, new_key_ring}
 pub use Rattle.rk_core.specs.Follows.{follows}
 pub use Rattle.rk_core.specs.NewRings.{with_all, AreAllNew, with_new_rings, AreNewRings, MakesOr, IsUserRing}
 pub use Rattle.rk_core.specs.Numbering.{world_of, NumbersAgree}

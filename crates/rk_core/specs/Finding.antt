@@ -1,5 +1,5 @@
 -- What a call finds, or why it refuses: a result beside the refusals and the rings and keys that the machine defines.
-use Rattle.std.specs.Prelude.{◌≡◌, ℕ, ℤ, Bool, true, false, List, [], ◌∷◌, is_some, is_none, Option, Some, None, Result, Ok, Err, MatchResult}
+use Rattle.std.specs.Prelude.{◌≡◌, ℕ, ℤ, Bool, true, false, List, [], ◌∷◌, is_some, is_none, Option, Some, None, unwrap_or, Result, Ok, Err, MatchResult}
 use Rattle.std.specs.FinMap as map
 use Rattle.rk_names.specs.declared.numbers.SessionId.{SessionId}
 use Rattle.rk_names.specs.declared.numbers.SessionId.TheVariants.{Client, Handler}
@@ -7,6 +7,7 @@ use Rattle.rk_names.specs.declared.errors.Errno.{Errno}
 use Rattle.rk_names.specs.declared.errors.Errno.TheVariants as errno
 use Rattle.rk_message.specs.Ask.{Ask}
 use Rattle.rk_message.specs.declared.ask.AskOf.TheVariants as ask
+use Rattle.rk_rings.specs.Places.{default_ring}
 use Rattle.rk_rings.specs.Ring.{is_linked}
 use Rattle.rk_auth.specs.Sessions.{session_of, wait_of}
 use Rattle.rk_machine.specs.declared.event.Answer.{Answer}
@@ -55,6 +56,10 @@ is_first (Handler k) (ask.Assume key) = true
 is_first _ _ = false
 
 -- ---- rings and keys by their numbers
+
+-- where a new key goes: the ring that was named, if one was, else the default one
+abbrev pub new_key_ring : World → Asker → Option ℕ → ℕ
+new_key_ring w asker named = unwrap_or named (default_ring w.rings asker.context asker.requestor asker.setting)
 
 -- the ring of a number, which has to be there
 abbrev pub FindsRing : World → Asker → ℤ → Result ℕ Errno → Type 0

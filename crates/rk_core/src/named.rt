@@ -1,13 +1,12 @@
 //! Who acts in an ask, and the keys and rings that it names.
-ghost use Rattle.std.specs.Prelude.{◌≡◌, None, Some, option_map, unwrap_or};
+ghost use Rattle.std.specs.Prelude.{◌≡◌, None, Some, option_map};
 ghost use Rattle.std.specs.FinMap as map;
 ghost use Rattle.rk_names.specs.Numbers.{key_errno};
 ghost use Rattle.rk_keys.specs.Key.{error_of, standing_of};
-ghost use Rattle.rk_rings.specs.Places.{default_ring};
 ghost use Rattle.rk_auth.specs.Sessions.{session_of};
 ghost use Rattle.rk_machine.specs.declared.asker.Asker.{Asker};
 ghost use Rattle.rk_machine.specs.Asker.{asker_of, is_possessed, key_refusal, known_refusal, serial_named};
-ghost use Rattle.rk_core.specs.Finding.{Passes, Finds, FindsAsker, FindsRing, FindsRingOrNone, FindsSerial, FindsPossessed};
+ghost use Rattle.rk_core.specs.Finding.{Passes, Finds, FindsAsker, FindsRing, FindsRingOrNone, FindsSerial, FindsPossessed, new_key_ring};
 
 use crate::tables::Tables;
 use rk_auth::Session;
@@ -113,8 +112,9 @@ impl Tables {
     }
 
     /// Where a new key goes: the ring that was named, if one was, else the default one.
+    #[inline(always)]
     pub fn destination(&self, asker: &Asker, named: &Option<Serial>) -> Serial
-        ensures { result ≡ unwrap_or named.now (default_ring self.now.rings asker.now.context asker.now.requestor asker.now.setting) }
+        ensures { result ≡ new_key_ring self.now asker.now named.now }
     {
         match named {
             Some(ring) => *ring,

@@ -1,4 +1,4 @@
-use Rattle.rk_core.proofs.Words.{◌∙◌, ap, tidied, linked_in, Some, vanished_at}
+use Rattle.rk_core.proofs.Words.{◌∙◌, vanished_at}
 use Rattle.rk_core.proofs.Vanishing.WhichMayVanish.{link_tidies}
 use Rattle.rk_core.proofs.tables.Tables.link.Goals as goal
 

@@ -1,4 +1,4 @@
-use Rattle.rk_core.proofs.Words.{ℕ, sym, ap, ◌∙◌, subst, w32, Option, Some, None, unwrap_or, to_z-of_z, default_ring, World, Asker, Query, ring_for}
+use Rattle.rk_core.proofs.Words.{ℕ, sym, ap, ◌∙◌, subst, w32, Option, Some, None, to_z-of_z, World, Asker, Query, ring_for, new_key_ring}
 use Rattle.rk_core.proofs.Words.{ring_or_none_refusal, query, Meets, Misses, answer_of}
 use Rattle.rk_core.proofs.Requests.RequestByParts.{requested, meets_positive, meets_building}
 use Rattle.rk_core.proofs.Searching.WhatIsHit.{passes_known}
@@ -46,5 +46,5 @@ returns-in-Missed-clause-step c =
     (answer_of c.miss.result) c.miss.new.self None
     (sym (ap (ring_or_none_refusal w asker) number) ∙ c.in_ok-named.ensures.1) c.in-Missed.ensures.0
     (subst (λ r. Misses w c.args.by.now.id.now asker q c.args.wanted.now.callout r (answer_of c.miss.result) c.miss.new.self)
-    (c.destination-ring.ensures ∙ ap (λ (o : Option ℕ). unwrap_or o (default_ring w.rings asker.context asker.requestor asker.setting))
-    (sym c.in_ok-named.ensures.0 ∙ ap (ring_for w asker) number)) (c.miss.ensures.step c.args.now c.in-Missed.ensures))
+    (ap (new_key_ring w asker) (sym c.in_ok-named.ensures.0 ∙ ap (ring_for w asker) number))
+    (c.miss.ensures.step c.args.now c.in-Missed.ensures))
