@@ -16,12 +16,12 @@ use Rattle.rk_keys.specs.contracts.serials.Serials as serials
 use Rattle.rk_rings.specs.contracts.by_name.ByName as by_name
 use Rattle.rk_rings.specs.contracts.row.Row as row
 use Rattle.rk_rings.specs.contracts.rings.Rings as rings
-use Rattle.rk_auth.proofs.Crossing.{auths_send}
+use Rattle.rk_auth.proofs.Crossing.{auths_send, callout_send, shared_bytes_send}
+use Rattle.rk_core.specs.contracts.last_text.LastText as last_text
 use Rattle.rk_core.specs.contracts.book.Book as book
 use Rattle.rk_names.specs.contracts.type_name.TypeName as type_name
 use Rattle.rk_names.specs.contracts.description.Description as description
 use Rattle.rk_names.specs.contracts.callout.Callout as callout
-use Rattle.rk_names.specs.contracts.shared_bytes.SharedBytes as bytes
 use Rattle.rk_names.specs.contracts.payload.Payload as payload
 use Rattle.rk_message.specs.contracts.ask.AskOf as ask
 use Rattle.rk_message.specs.contracts.reply.Reply as reply
@@ -55,13 +55,21 @@ hashed_send V v = search (sendable, crosses) depth 40
 pub counts_send : IsSend counts.the_row
 counts_send = search (sendable, crosses) depth 40
 
+-- ---- names and payloads
+
+pub description_send : IsSend description.the_row
+description_send = let b = shared_bytes_send in search (sendable, crosses) depth 40 fits 20000
+
+pub payload_send : IsSend payload.the_row
+payload_send = let b = shared_bytes_send in search (sendable, crosses) depth 40 fits 20000
+
 -- ---- keys
 
 pub key_send : IsSend key.the_row
-key_send = search (sendable, crosses) depth 40
+key_send = let d = description_send in let p = payload_send in search (sendable, crosses) depth 40 fits 20000
 
 pub bucket_send : IsSend bucket.the_row
-bucket_send = search (sendable, crosses) depth 40
+bucket_send = let d = description_send in search (sendable, crosses) depth 40 fits 20000
 
 pub serials_send : IsSend serials.the_row
 serials_send = search (sendable, crosses) depth 40
@@ -88,43 +96,41 @@ rings_send = let w = row_send in let r = table_send row.the_row row_send in let 
 
 -- ---- the book and the record of its steps
 
+-- the text of the key that was described last may go to another thread (as a book has it)
+pub last_text_send : IsSend last_text.the_field.row
+last_text_send = let b = shared_bytes_send in search (sendable, crosses) depth 40 fits 20000
+
 -- a book may go to another thread
 pub book_send : IsSend book.the_row
-book_send = let k = keys_send in let r = rings_send in let a = auths_send in search (sendable, crosses) depth 40
-
--- shared bytes may go to another thread, and threads may share them
-pub bytes_send : IsSend bytes.the_row
-bytes_send = search (sendable, crosses) depth 40 fits 20000
-
-pub bytes_sync : IsSync bytes.the_row
-bytes_sync = search (sendable, crosses) depth 40 fits 20000
+book_send = let k = keys_send in let r = rings_send in let a = auths_send in let t = last_text_send in search (sendable, crosses) depth 40
 
 abbrev asks : RattleType
 asks = ask.the_row type_name.the_row description.the_row callout.the_row payload.the_row
 
 -- an ask may go to another thread
 pub ask_send : IsSend asks
-ask_send = let b = bytes_send in search (sendable, crosses) depth 40 fits 20000
+ask_send = let d = description_send in let c = callout_send in let p = payload_send in search (sendable, crosses) depth 40 fits 20000
 
 -- a reply may go to another thread
 pub reply_send : IsSend reply.the_row
-reply_send = let b = bytes_send in search (sendable, crosses) depth 40 fits 20000
+reply_send = let b = shared_bytes_send in search (sendable, crosses) depth 40 fits 20000
 
 -- a subject may go to another thread
 pub subject_send : IsSend subject.the_row
-subject_send = search (sendable, crosses) depth 40 fits 20000
+subject_send = let d = description_send in let c = callout_send in search (sendable, crosses) depth 40 fits 20000
 
-pub event_send : IsSend (event.the_row asks)
-event_send = let b = bytes_send in let a = ask_send in search (sendable, crosses) depth 40 fits 20000
+-- an event may go to another thread (as a recorded step has it)
+pub event_send : IsSend (event.the_field asks).row
+event_send = let p = payload_send in let a = ask_send in search (sendable, crosses) depth 40 fits 20000
 
--- an answer may go to another thread
-pub answer_send : IsSend answer.the_row
+-- an answer may go to another thread (as a recorded step has it)
+pub answer_send : IsSend answer.the_field.row
 answer_send = let r = reply_send in let s = subject_send in search (sendable, crosses) depth 40 fits 20000
 
 -- a recorded step may go to another thread
 pub recorded_send : IsSend recorded.the_row
 recorded_send =
-    let b = bytes_send in let k = ask_send in let e = event_send in let a = answer_send in search (sendable, crosses) depth 120 fits 20000
+    let p = payload_send in let k = ask_send in let e = event_send in let a = answer_send in search (sendable, crosses) depth 120 fits 20000
 
 pub room_send : IsSend room.the_row
 room_send = search (sendable, crosses) depth 40 fits 20000

@@ -61,7 +61,7 @@ macro_rules! called {
                     depth,
                     ticket,
                 } = begun;
-                Some(Launch::new(key, subject, depth, OneOfFour::$name(ticket)))
+                Launch::due(key, subject, depth, OneOfFour::$name(ticket))
             }
         };
         Ok(Called { receipt, launch })

@@ -57,24 +57,24 @@ impl<N: Names> Model for Running<N> {
 }
 
 impl<N: Names> Launch<N> {
-    /// A construction that is to be launched. It is a function of its own, since few asks begin one.
+    /// A construction that is to be launched, as a call gives it. It is a function of its own, since few asks begin one.
     #[cold]
     #[inline(never)]
-    pub(crate) fn new(
+    pub(crate) fn due(
         key: Serial,
         subject: BoxedSubject,
         depth: u8,
         ticket: AnyTicket<N>,
-    ) -> Launch<N>
+    ) -> Option<Launch<N>>
         requires { IsDepth depth }
-        ensures { result ≡ record { hall = ticket_hall ticket; key = key; subject = subject; depth = depth } }
+        ensures { result ≡ Some (record { hall = ticket_hall ticket; key = key; subject = subject; depth = depth }) }
     {
-        Launch {
+        Some(Launch {
             key,
             subject,
             depth,
             ticket,
-        }
+        })
     }
 
     /// The key under construction.

@@ -57,6 +57,7 @@ fn refuse<W: Wire>(wire: &mut W, errno: Errno) -> Result<(), DeviceFault>
 }
 
 // Tells the gate of a reply that was written. A write that failed ends the session.
+#[inline(always)]
 fn written<P: Platform>(
     stage: &Stage<'_, P>,
     client: u32,
@@ -233,10 +234,11 @@ fn turn<P: Platform, W: Wire>(
     ensures reads { (W.shown wire.new).reads ≡ (W.shown wire.old).reads }
     ensures moves { Moves place.old.hall place.new.hall crew.old.caller.seat crew.new.caller.seat }
 {
-    match AskView::read(body) {
-        Ok(ask) => match hall_of_hello(place, &ask) {
-            None => ask_here(stage, crew, place.hall, client, &ask, wire),
-            Some(hall) => greet(stage, crew, client, place, Hello { hall, ask: &ask }, wire),
+    let read = AskView::read(body);
+    match &read {
+        Ok(ask) => match hall_of_hello(place, ask) {
+            None => ask_here(stage, crew, place.hall, client, ask, wire),
+            Some(hall) => greet(stage, crew, client, place, Hello { hall, ask }, wire),
         },
         Err(fault) => written(stage, client, refuse(wire, fault.errno())),
     }
