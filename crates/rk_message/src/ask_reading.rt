@@ -48,27 +48,27 @@ impl<'a> AskView<'a> {
         // Which ask or fault it is.
         ensures exact { Reads ask_message result (message_at asks body.now) }
     {
-        match body {
-            [] => Err(Fault::Short),
-            [op, rest @ ..] => match *op {
-                1 => hello(rest),
-                2 => request(rest),
-                3 => assume(rest),
-                4 => instantiate(rest),
-                5 => negate(rest),
-                6 => reject(rest),
-                7 => read(rest),
-                8 => describe(rest),
-                9 => revoke(rest),
-                10 => timeout(rest),
-                11 => link(rest),
-                12 => unlink(rest),
-                13 => clear(rest),
-                14 => default(rest),
-                15 => add(rest),
-                16 => callout(rest),
-                _ => Err(Fault::UnknownOp),
-            },
+        let [op, rest @ ..] = body else {
+            return Err(Fault::Short);
+        };
+        match *op {
+            1 => hello(rest),
+            2 => request(rest),
+            3 => assume(rest),
+            4 => instantiate(rest),
+            5 => negate(rest),
+            6 => reject(rest),
+            7 => read(rest),
+            8 => describe(rest),
+            9 => revoke(rest),
+            10 => timeout(rest),
+            11 => link(rest),
+            12 => unlink(rest),
+            13 => clear(rest),
+            14 => default(rest),
+            15 => add(rest),
+            16 => callout(rest),
+            _ => Err(Fault::UnknownOp),
         }
     }
 }

@@ -234,8 +234,7 @@ fn turn<P: Platform, W: Wire>(
     ensures reads { (W.shown wire.new).reads ≡ (W.shown wire.old).reads }
     ensures moves { Moves place.old.hall place.new.hall crew.old.caller.seat crew.new.caller.seat }
 {
-    let read = AskView::read(body);
-    match &read {
+    match &AskView::read(body) {
         Ok(ask) => match hall_of_hello(place, ask) {
             None => ask_here(stage, crew, place.hall, client, ask, wire),
             Some(hall) => greet(stage, crew, client, place, Hello { hall, ask }, wire),

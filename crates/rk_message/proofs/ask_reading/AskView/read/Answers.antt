@@ -69,7 +69,7 @@ returns-in-16-clause-found c = behind_is_found c.args.body.now 16 c.callout.resu
 pub returns-in-16-clause-only : goal.returns-in-16-clause-only
 returns-in-16-clause-only c = behind_is_only c.args.body.now 16 c.callout.result c.in-len1-up.len_at_least c.in-16.is c.callout.ensures
 
-pub returns-in_default-clause-exact : goal.returns-in_default-clause-exact
-returns-in_default-clause-exact c =
+pub returns-in_default-op-clause-exact : goal.returns-in_default-op-clause-exact
+returns-in_default-op-clause-exact c =
     let none : kinds_of asks (get_or c.args.body.now 0 0) ≡ None = search rules in
     other_is_unknown c.args.body.now c.in-len1-up.len_at_least none
