@@ -73,8 +73,9 @@ impl Tables {
         }
     }
 
-    /// The asks of one who acts. It has a context, so that HELLO is EINVAL.
-    #[inline(always)]
+    /// The asks of one who acts. It has a context, so that HELLO is EINVAL. (It is a function of its own, since with it those that call it are too large
+    /// for `#[inline(always)]`.)
+    #[inline(never)]
     fn act(
         &mut self,
         now: Moment,

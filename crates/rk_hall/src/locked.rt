@@ -160,6 +160,7 @@ impl<N: Names, const H: u64> Locked<N, H> {
     {
         let found = self.hall.count() + 1;
         if found <= part.seen {
+            drop(copies);
             return Err(CallFault::Behind {
                 seen: part.seen,
                 found,

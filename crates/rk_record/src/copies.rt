@@ -1,5 +1,5 @@
 //! What is copied of a step, so that its record and its receipt each have their own.
-ghost use Rattle.std.specs.Prelude.{◌≡◌, is_some, IfOk, IfSome, IfNone, ◌≢◌};
+ghost use Rattle.std.specs.Prelude.{◌≡◌, is_some, None, IfOk, IfSome, IfNone, ◌≢◌};
 ghost use Rattle.rk_machine.specs.Owing.{asked_of};
 ghost use Rattle.rk_record.specs.Copies.{started, AreCopies, FitsStart, IsIdleAnswer};
 
@@ -61,11 +61,24 @@ pub(crate) fn recorded_answer(answer: &Answer, subject: Option<BoxedSubject>) ->
     ensures none { IfNone result (IsIdleAnswer answer.now) }
 {
     match answer {
-        Answer::Done(reply) => Some(Answer::Done(recorded_reply(reply)?)),
         Answer::Start(key, _) => match subject {
             Some(subject) => Some(Answer::Start(*key, subject)),
             None => unreachable!(),
         },
+        other => recorded_other(other),
+    }
+}
+
+/// The same of an answer that is no start.
+#[inline(always)]
+fn recorded_other(answer: &Answer) -> Option<Answer>
+    requires { started answer.now ≡ None }
+    ensures copy { IfSome result (λ a. (a ≡ answer.now) × (a ≢ Answer.Refused Errno.Enomem)) }
+    ensures none { IfNone result (IsIdleAnswer answer.now) }
+{
+    match answer {
+        Answer::Done(reply) => Some(Answer::Done(recorded_reply(reply)?)),
+        Answer::Start(_, _) => unreachable!(),
         Answer::Negate(key) => Some(Answer::Negate(*key)),
         Answer::Waiting(key) => Some(Answer::Waiting(*key)),
         Answer::Refused(Errno::Enomem) => None,

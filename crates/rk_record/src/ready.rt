@@ -33,8 +33,8 @@ impl<'a> Ready<'a> {
     {
         match copies {
             Copies::Ask(step, copy) => match &event {
-                EventView::Asked(id, _) => Ready {
-                    told: ToldView::of(&event),
+                EventView::Asked(id, ask) => Ready {
+                    told: ToldView::Asked(*id, ask.again()),
                     step: EventStep::Asked(*id, step),
                     copy: EventCopy::Asked(*id, copy),
                 },

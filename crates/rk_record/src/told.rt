@@ -32,7 +32,6 @@ pub enum ToldOf<A> {
 
 impl<'a> ToldView<'a> {
     /// The summary of an event. It takes no memory.
-    #[inline(always)]
     pub(crate) fn of(event: &EventView<'a>) -> ToldView<'a>
         ensures { result ≡ told_of event.now }
     {
