@@ -5,7 +5,11 @@ says why, where it raises the bound.
 """
 
 MOST = {
-    "found REQUEST": 2_130,
-    "READ of one byte": 2_220,
-    "ADD displacing": 4_710,
+    "found REQUEST": 2_060,
+    "found, a description of 60 bytes": 2_780,
+    "found, with a callout": 2_170,
+    "missing REQUEST": 1_770,
+    "READ of one byte": 1_740,
+    "DESCRIBE": 1_990,
+    "ADD displacing": 4_580,
 }
