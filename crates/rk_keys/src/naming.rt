@@ -53,7 +53,7 @@ fn feed_few(hasher: &mut FoldHasher, bytes: &[u8])
     }
 }
 
-/// The same, by a loop.
+/// Feeds a hasher with more than eight bytes, by a loop. What is no whole word comes last.
 #[tactic(auto, unfolding(crate::specs::Buckets::fed_words))]
 fn feed_many(hasher: &mut FoldHasher, bytes: &[u8])
     ensures { hasher.new ≡ fed_with bytes.now hasher.old }
