@@ -34,7 +34,7 @@
 //!
 //! `names` and `fresh` have the ledgers of a `Halls`. `part` is a seat's part in one hall, `ticket` the right to say what becomes of one construction: each
 //! has a share of a ledger. `opening` makes a hall without a step. `locked` is what is under the lock of a hall, with the whole contract of each call, `lock`
-//! takes the lock, and `halls` chooses the hall, by the macros of `four`. `seat` and `token` have what callers hold, `volume` a volume that was handed out,
+//! takes the lock as `hold` does, and `halls` chooses the hall, by the macros of `four`. `seat` and `token` have what callers hold, `volume` a volume that was handed out,
 //! `end` how a handler has ended, `lapse` why there is no receipt, `counts` how much there is in a hall. `closed` is a hall that was taken out of its lock,
 //! `genuine` looks for receipts in it, and `settling` puts the four together.
 //!
@@ -50,6 +50,7 @@ mod four;
 mod fresh;
 mod genuine;
 mod halls;
+mod hold;
 mod lapse;
 mod lock;
 mod locked;

@@ -15,6 +15,7 @@ use crate::closed::Closed;
 use crate::counts::Counts;
 use crate::end::End;
 use crate::fresh::Ledgers;
+use crate::hold::hold;
 use crate::lapse::{CallFault, Lapse, Owed};
 use crate::locked::{Begun, Locked};
 use crate::names::Names;
@@ -93,12 +94,12 @@ impl<N: Names, const H: u64> Lock<N, H> {
     pub(crate) fn seat<R: Wait>(&self, rt: &R) -> Option<Part<N, H>>
         ensures { IfSome result (λ p. p ≡ no_calls) }
     {
-        self.locked.lock(rt).seat()
+        hold(&self.locked, rt).seat()
     }
 
     /// Takes the part of a seat back; its turns stay counted in the hall.
     pub(crate) fn retire<R: Wait>(&self, rt: &R, part: Part<N, H>) {
-        self.locked.lock(rt).retire(part);
+        hold(&self.locked, rt).retire(part);
     }
 
     /// A client comes, as one turn. It wakes nobody. An `Err` leaves the hall and the part as they were.
@@ -118,9 +119,7 @@ impl<N: Names, const H: u64> Lock<N, H> {
         ensures same { OnErr result (part.new ≡ part.old) }
     {
         let event = EventView::Opened(session);
-        self.locked
-            .lock(rt)
-            .call(part, now, event, Some(Copies::Nothing))
+        hold(&self.locked, rt).call(part, now, event, Some(Copies::Nothing))
     }
 
     /// A session asks, as one turn. What takes memory in the record's copy is copied before the lock is taken, since others wait for it. A completed key wakes
@@ -144,7 +143,7 @@ impl<N: Names, const H: u64> Lock<N, H> {
     {
         let event = EventView::Asked(session, AskRef::of(ask));
         let copies = Copies::of(self.alloc, &event).ok();
-        let (receipt, begun) = self.locked.lock(rt).call(part, now, event, copies)?;
+        let (receipt, begun) = hold(&self.locked, rt).call(part, now, event, copies)?;
         if has_completed(&receipt) {
             self.told.notify_all();
         }
@@ -164,7 +163,7 @@ impl<N: Names, const H: u64> Lock<N, H> {
         ensures value { is_some result.value ≡ runs_on ran result.receipt }
     {
         let Due { key, ticket } = due;
-        let owed = self.locked.lock(rt).launched(part, now, key, ticket, ran);
+        let owed = hold(&self.locked, rt).launched(part, now, key, ticket, ran);
         if is_over(&owed) {
             self.told.notify_all();
         }
@@ -185,7 +184,7 @@ impl<N: Names, const H: u64> Lock<N, H> {
         ensures stray { result.receipt ≡ Err Lapse.Stray → result.value ≡ None }
     {
         let Due { key, ticket } = due;
-        let owed = self.locked.lock(rt).ended(part, now, key, ticket, end);
+        let owed = hold(&self.locked, rt).ended(part, now, key, ticket, end);
         if is_over(&owed) {
             self.told.notify_all();
         }
@@ -205,7 +204,7 @@ impl<N: Names, const H: u64> Lock<N, H> {
         ensures outcome { IsOutcomeOrNone result.value }
         ensures stray { result.receipt ≡ Err Lapse.Stray → result.value ≡ Answer.Refused Errno.Einval }
     {
-        self.locked.lock(rt).collect(part, now, session)
+        hold(&self.locked, rt).collect(part, now, session)
     }
 
     /// The session has disconnected, as one turn: the hall forgets it, and what it waited for.
@@ -218,14 +217,14 @@ impl<N: Names, const H: u64> Lock<N, H> {
     ) -> Owed<()>
         ensures { (hall : HallNo) → hall_number hall ≡ H → OwedPart hall now (EventOf.Gone session) (without_client part.old) part.new result.receipt }
     {
-        self.locked.lock(rt).gone(part, now, session)
+        hold(&self.locked, rt).gone(part, now, session)
     }
 
     /// Blocks the thread until the session waits for no key, or for one that has its outcome. It takes no turn.
     pub(crate) fn until_ready<R: Wait>(&self, rt: &R, session: SessionId) {
         let _locked = self.told.wait_while(
             rt,
-            self.locked.lock(rt),
+            hold(&self.locked, rt),
             |locked| locked.is_held(&session),
         );
     }
@@ -240,28 +239,26 @@ impl<N: Names, const H: u64> Lock<N, H> {
         description: &Description,
         now: Moment,
     ) -> Result<Option<Vec<u8>>, AllocError> {
-        self.locked
-            .lock(rt)
-            .peek(self.alloc, key, typ, description, now)
+        hold(&self.locked, rt).peek(self.alloc, key, typ, description, now)
     }
 
     /// What the hall holds, and how often a quota has refused (EDQUOT).
     pub(crate) fn counts<R: Wait>(&self, rt: &R) -> Counts {
-        self.locked.lock(rt).counts()
+        hold(&self.locked, rt).counts()
     }
 
     /// The full volume, in exchange for an empty one that goes on from the hall's state. An `Err` leaves the hall as it was.
     pub(crate) fn roll<R: Wait>(&self, rt: &R) -> Result<Volume, HallFault>
         ensures { IfOk result (λ v. hall_number v.hall ≡ H) }
     {
-        self.locked.lock(rt).roll()
+        hold(&self.locked, rt).roll()
     }
 
     /// The same, unless there are places for any event.
     pub(crate) fn roll_full<R: Wait>(&self, rt: &R) -> Result<Option<Volume>, HallFault>
         ensures { IfOk result (λ found. IfSome found (λ v. hall_number v.hall ≡ H)) }
     {
-        self.locked.lock(rt).roll_full()
+        hold(&self.locked, rt).roll_full()
     }
 
     /// The hall, out of its lock.

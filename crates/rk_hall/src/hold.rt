@@ -1,0 +1,34 @@
+//! How a hall's lock is taken.
+//!
+//! A turn is shorter than falling asleep and being woken, and who sleeps has to be woken by the next turn's thread. So a thread that finds a hall taken looks
+//! again before it sleeps, after pauses that double: the thread that has it may take several turns, with what it needs in its processor's cache.
+
+use std::hint::spin_loop;
+use std::sync::{Mutex, MutexGuard, Wait};
+
+/// How often a thread that found the lock taken tries again before it sleeps. The pauses before the tries take some 80 microseconds in all.
+const TRIES: u32 = 11;
+
+/// What the lock keeps, once no other thread has it. It may wait.
+#[inline(always)]
+pub(crate) fn hold<'a, T, R: Wait>(lock: &'a Mutex<T>, rt: &R) -> MutexGuard<'a, T> {
+    match lock.try_lock() {
+        Some(held) => held,
+        None => hold_after_others(lock, rt),
+    }
+}
+
+/// The same, where another thread had it.
+#[cold]
+#[inline(never)]
+fn hold_after_others<'a, T, R: Wait>(lock: &'a Mutex<T>, rt: &R) -> MutexGuard<'a, T> {
+    for tried in 0..TRIES {
+        for _ in 0..1u32 << tried {
+            spin_loop();
+        }
+        if let Some(held) = lock.try_lock() {
+            return held;
+        }
+    }
+    lock.lock(rt)
+}
