@@ -121,7 +121,8 @@ impl<'a, E: Wait + Eprint + Clock, N: Names, S: Shelf> Gate for Relief<'a, E, N,
             if self.held.is_over(hall, MOST)
                 && let Ok(volume) = self.halls.roll(rt, hall)
             {
-                self.shelf.put(rt, volume);
+                self.shelf.put(rt, &volume);
+                self.halls.take_back(rt, volume);
             }
         }
     }

@@ -16,7 +16,7 @@
 //!
 //! `settings` has what an operator sets by options, `fault` why nothing is served. `socket`, `clock`, `gate` and `shelf` are the devices of a session: the
 //! wire over an accepted socket, seconds of the system's monotonic clock, a gate that holds nobody, logs how handlers have ended, and hands out
-//! volumes of which `held` counts much, and a shelf that writes a volume into the folder of the `record`, or names it and drops it. `chain` has the volumes of
+//! volumes of which `held` counts much, and a shelf that writes a volume into the folder of the `record`, or names it. `chain` has the volumes of
 //! each hall, `by_hall`, written in their order, and `drawn` the random numbers of a run. `path` takes the socket's path and gives it free, and `streams`
 //! takes the places of standard streams that are closed. `platform` names the types of all these for a worker's sessions. `workers` serves the `connections`
 //! that `accepting` hands out, `entrance` warns where they wait, and `serving` puts it all together. `watching` looks after the `handlers` that run, and tells

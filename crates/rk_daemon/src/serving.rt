@@ -194,7 +194,7 @@ fn hand_out_all<N: Names, R: Wait + Eprint + Clock + Keeper>(
     let shelf = shared.shelf(&log, alloc);
     for hall in HallNo::ALL {
         match shared.halls.roll(rt, hall) {
-            Ok(volume) => shelf.put_last(rt, volume),
+            Ok(volume) => shelf.put_last(rt, &volume),
             Err(fault) => {
                 let hall = hall.number();
                 warn!(log; "the last volume of hall {hall}: {fault:?}");

@@ -15,7 +15,7 @@ use std::io;
 use std::io::Eprint;
 use std::sync::Wait;
 
-/// Writes each volume into the folder of the record; if there is none, names it on standard error, as `volume HALL INDEX STEPS`, and drops it.
+/// Writes each volume into the folder of the record; if there is none, names it on standard error, as `volume HALL INDEX STEPS`.
 #[derive(Drop)]
 pub struct Outlet<'a, R: Eprint + Log + Keeper> {
     /// What writes volumes and lines.
@@ -50,12 +50,12 @@ impl<'a, R: Eprint + Log + Keeper> Outlet<'a, R> {
     }
 
     /// Puts the last volume of a hall there, once nobody serves any more: it closes the hall's record.
-    pub fn put_last<N: Names, W: Wait>(&self, rt: &W, volume: Volume<N>) {
+    pub fn put_last<N: Names, W: Wait>(&self, rt: &W, volume: &Volume<N>) {
         self.hand_out(rt, volume, true);
     }
 
-    /// Writes or names a volume, and drops it.
-    fn hand_out<N: Names, W: Wait>(&self, rt: &W, volume: Volume<N>, closing: bool) {
+    /// Writes or names a volume.
+    fn hand_out<N: Names, W: Wait>(&self, rt: &W, volume: &Volume<N>, closing: bool) {
         match self.run {
             None => {
                 let (hall, index) = (volume.hall().number(), volume.index());
@@ -63,7 +63,7 @@ impl<'a, R: Eprint + Log + Keeper> Outlet<'a, R> {
                 let _ = eprintln!(self.rt; "volume {hall} {index} {steps}");
             }
             Some(run) => {
-                let head = head_of(&volume, self.negative);
+                let head = head_of(volume, self.negative);
                 let mut pages = Pages {
                     rt,
                     keeper: self.rt,
@@ -75,13 +75,12 @@ impl<'a, R: Eprint + Log + Keeper> Outlet<'a, R> {
                 bind(self.rt, &mut pages, run.number, closing, &head);
             }
         }
-        drop(volume);
     }
 }
 
 impl<'a, E: Eprint + Log + Keeper> Shelf for Outlet<'a, E> {
-    /// Counts a volume, which was full of steps or of bytes. One that can't be written is a warning, and dropped; then the record lacks it.
-    fn put<N: Names, R: Wait>(&self, rt: &R, volume: Volume<N>) {
+    /// Counts a volume, which was full of steps or of bytes. One that can't be written is a warning; then the record lacks it.
+    fn put<N: Names, R: Wait>(&self, rt: &R, volume: &Volume<N>) {
         self.held.roll();
         self.hand_out(rt, volume, false);
     }

@@ -28,7 +28,8 @@
 //!
 //! # Use
 //!
-//! Make [`Fresh`] ledgers, name them by a type, and make a `Halls` of them. Each thread takes a seat, calls, and gives the seat back.
+//! Make [`Fresh`] ledgers, name them by a type, and make a `Halls` of them. Each thread takes a seat, calls, and gives the seat back. Where a call is
+//! refused as `Full`, [`Halls::roll_full`] hands out a volume, and [`Halls::take_back`] takes it back once it has been read.
 //!
 //! # How it is built
 //!

@@ -25,7 +25,7 @@ use crate::ticket::{Due, Ticket};
 use rk_machine::{Answer, EventOf, EventView, Ran};
 use rk_message::{AskRef, AskView};
 use rk_names::{Description, Errno, Moment, Serial, SessionId, TypeName};
-use rk_record::{Copies, HallFault, HallNo, ReceiptView, ToldView, Volume};
+use rk_record::{Copies, HallFault, HallNo, ReceiptView, Recorded, ToldView, Volume};
 use std::alloc::{AllocError, Global};
 use std::sync::{Condvar, Mutex, Wait};
 
@@ -259,6 +259,12 @@ impl<N: Names, const H: u64> Lock<N, H> {
         ensures { IfOk result (λ found. IfSome found (λ v. hall_number v.hall ≡ H)) }
     {
         hold(&self.locked, rt).roll_full()
+    }
+
+    /// Keeps the memory of these steps for the next volume. What was kept before is given back once other threads may have the hall.
+    pub(crate) fn keep_memory<R: Wait>(&self, rt: &R, steps: Vec<Recorded>) {
+        let before = hold(&self.locked, rt).keep_memory(steps);
+        drop(before);
     }
 
     /// The hall, out of its lock.

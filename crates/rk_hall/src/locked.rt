@@ -21,7 +21,7 @@ use crate::ticket::Ticket;
 use rk_machine::{Answer, BoxedSubject, EventOf, EventView, Ran};
 use rk_message::Reply;
 use rk_names::{Description, Errno, Moment, Serial, SessionId, TypeName};
-use rk_record::{Copies, Hall, HallFault, ReceiptView, Volume};
+use rk_record::{Copies, Hall, HallFault, ReceiptView, Recorded, Volume};
 use std::alloc::{AllocError, Global};
 use std::marker::Model;
 use std::sync::ledger::{Blank, Book, Share};
@@ -379,6 +379,13 @@ impl<N: Names, const H: u64> Locked<N, H> {
             return Ok(None);
         }
         Ok(Some(self.roll()?))
+    }
+
+    /// Keeps the memory of these steps for the next volume, and returns that which was kept before.
+    pub(crate) fn keep_memory(&mut self, steps: Vec<Recorded>) -> Vec<Recorded>
+        ensures { self.new ≡ self.old }
+    {
+        self.hall.keep_memory(steps)
     }
 
     /// Takes a ticket back for which nothing is owed.

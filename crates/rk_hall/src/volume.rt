@@ -56,6 +56,14 @@ impl<N: Names> Volume<N> {
         self.volume.steps()
     }
 
+    /// Its steps by value.
+    pub(crate) fn into_steps(self) -> Vec<Recorded>
+        ensures { result.items ≡ self.steps }
+    {
+        let Volume { volume, names: _ } = self;
+        volume.into_steps()
+    }
+
     /// Whether it is the one that a receipt names.
     pub(crate) fn is_named_by(&self, receipt: &Receipt) -> bool
         ensures { IsTrue result ↔ ((self.now.hall ≡ receipt.now.hall) × (self.now.index ≡ receipt.now.volume)) }

@@ -26,6 +26,8 @@ pub(crate) struct Journal {
     rooms: Vec<Room>,
     /// The steps that were recorded, oldest first.
     steps: Vec<Recorded>,
+    /// Memory for the steps of the next volume.
+    spare: Vec<Recorded>,
 }
 
 impl Model for Journal {
@@ -54,6 +56,7 @@ impl Journal {
             ends: 0,
             rooms: Vec::new(alloc),
             steps: Vec::new(alloc),
+            spare: Vec::new(alloc),
         }
     }
 
@@ -156,14 +159,23 @@ impl Journal {
         self.steps.push_reserved(step);
     }
 
-    /// Hands the steps out, and goes on with none and with so many places. A refusal changes nothing.
+    /// Keeps the memory of these steps for the next volume, which forgets them, and returns that which was kept before.
+    pub(crate) fn keep_memory(&mut self, steps: Vec<Recorded>) -> Vec<Recorded>
+        ensures { self.new ≡ self.old }
+    {
+        mem::replace(&mut self.spare, steps)
+    }
+
+    /// Hands the steps out, and goes on with none and with so many places, in the memory that is kept for them. A refusal changes nothing.
     pub(crate) fn roll(&mut self, places: usize) -> Result<Vec<Recorded>, AllocError>
         requires { (self.old.reserved ≤ places) × (places ≤ 1048576) }
         ensures ok { IfOk result (λ steps. (steps.items ≡ self.old.steps)
             × (self.new ≡ record { places = places; reserved = self.old.reserved; ends = self.old.ends; steps = [] })) }
         ensures err { OnErr result (self.new ≡ self.old) }
     {
-        let fresh = Vec::with_capacity(self.alloc, self.reserved)?;
+        let mut fresh = mem::replace(&mut self.spare, Vec::new(self.alloc));
+        fresh.clear();
+        fresh.reserve(self.reserved)?;
         self.places = places;
         Ok(mem::replace(&mut self.steps, fresh))
     }

@@ -19,7 +19,8 @@
 //! A record is cut into volumes. [`Hall::roll`] hands out the volume that is being recorded, with exactly its steps, and the next one opens in the
 //! state in which this one closed. The numbers of the steps go on. So a run of as many steps as the volumes before it have leads to where a volume
 //! opens. [`rejoin`] steps an empty book through volumes that are joined: where it answers
-//! `Ok`, they are a run from the empty state on.
+//! `Ok`, they are a run from the empty state on. The memory of a volume that is done with may go back to its hall ([`Hall::keep_memory`]), which
+//! changes nothing that is seen.
 //!
 //! # Use
 //!

@@ -5,6 +5,7 @@ ghost use Rattle.rk_record.specs.Volumes.{volume_of, rolled, CannotRoll};
 
 use crate::fault::HallFault;
 use crate::hall::Hall;
+use crate::recorded::Recorded;
 use crate::volume::Volume;
 use std::mem;
 use std::snapshot::Snapshot;
@@ -44,6 +45,14 @@ impl Hall {
         self.before = count;
         self.index += 1;
         Ok(volume)
+    }
+
+    /// Keeps the memory of these steps for the next volume, which forgets the steps, and returns what was kept before. A volume that is done with gives
+    /// its own ([`Volume::into_steps`]): new memory would be touched for the first time during a turn, which takes longer than the turn.
+    pub fn keep_memory(&mut self, steps: Vec<Recorded>) -> Vec<Recorded>
+        ensures { self.new ≡ self.old }
+    {
+        self.journal.keep_memory(steps)
     }
 }
 

@@ -75,4 +75,11 @@ impl Volume {
     {
         &self.steps
     }
+
+    /// Its steps by value, for whoever takes their memory ([`Hall::keep_memory`](crate::Hall::keep_memory)).
+    pub fn into_steps(self) -> Vec<Recorded>
+        ensures { result.items ≡ self.steps }
+    {
+        self.steps
+    }
 }

@@ -26,14 +26,15 @@ fn full_volume<P: Platform>(
     }
 }
 
-// The hall's volume goes to the shelf, so that there are places again.
+// The hall's volume goes to the shelf and then back to the hall, so that there are places again.
 #[cold]
 #[inline(never)]
 fn make_places<P: Platform>(stage: &Stage<'_, P>, hall: HallNo) -> Result<(), CallFault>
     ensures { IfErr result (λ f. (f ≡ CallFault.Full) ⊎ (f ≡ CallFault.NoMemory)) }
 {
     if let Some(volume) = full_volume(stage, hall)? {
-        stage.shelf.put(stage.rt, volume);
+        stage.shelf.put(stage.rt, &volume);
+        stage.halls.take_back(stage.rt, volume);
     }
     Ok(())
 }

@@ -99,9 +99,9 @@ impl Bin {
 }
 
 impl Shelf for Bin {
-    fn put<N: Names, R: Wait>(&self, rt: &R, volume: Volume<N>) {
+    fn put<N: Names, R: Wait>(&self, rt: &R, volume: &Volume<N>) {
         let _ = rt;
-        drop(volume);
+        let _ = volume;
         self.put.fetch_add(1, SeqCst);
     }
 }

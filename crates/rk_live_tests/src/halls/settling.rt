@@ -285,7 +285,7 @@ fn what_was_heard_is_passed(rt: HostRuntime) {
 /// receipt of the first volume wants it.
 #[derive(Drop)]
 struct Volumes {
-    /// Whether the first volume is handed in; without it a receipt of it is in no record.
+    /// Whether the first volume is handed in; where its hall takes it back, a receipt of it is in no record.
     handed_in: bool,
 }
 
@@ -304,7 +304,7 @@ impl Scene for Volumes {
         let (volumes, wanted) = if self.handed_in {
             (vec![in alloc; volume].expect(rt, "memory"), Ok(total(7, 0)))
         } else {
-            drop(volume);
+            halls.take_back(rt, volume);
             (Vec::new(alloc), Err(MISSING))
         };
         same(rt, settle(halls, &volumes, seats, &receipts), wanted);

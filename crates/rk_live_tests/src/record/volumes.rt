@@ -100,3 +100,24 @@ fn volumes_join_to_a_run(rt: HostRuntime) {
     drop(volume);
     drop(hall);
 }
+
+/// The next volume takes the memory of these steps and forgets them. What is kept twice gives back what was kept first.
+#[test]
+fn memory_of_a_volume_is_taken_again(rt: HostRuntime) {
+    let alloc = rt.alloc();
+    let mut hall = hall(&rt, alloc, 6);
+    let steps = rolled(&rt, alloc, &mut hall).into_steps();
+    same(&rt, (steps.len(), hall.keep_memory(steps).len()), (5, 0));
+    let steps = hall.keep_memory(Vec::new(alloc));
+    same(&rt, (steps.len(), hall.keep_memory(steps).len()), (5, 0));
+    play(&rt, alloc, &mut hall, NEXT);
+    let second = hall.roll().expect(&rt, "a volume");
+    same(
+        &rt,
+        (second.index(), second.before(), second.steps().len()),
+        (2, 5, 2),
+    );
+    same(&rt, (hall.before(), hall.steps().len()), (7, 0));
+    drop(second);
+    drop(hall);
+}
