@@ -1,12 +1,15 @@
 //! How much the halls' records hold.
 ghost use Rattle.std.specs.Prelude.{◌≡◌};
-ghost use Rattle.rk_daemon.specs.Held.{bytes_of, taken_by};
+ghost use Rattle.rk_daemon.specs.Held.{outside, bytes_of, taken_by};
 
 use crate::by_hall::ByHall;
 use rk_hall::{HallNo, ReceiptView, ToldView};
 use rk_machine::Answer;
 use rk_message::{AskView, Reply};
 use std::sync::atomic::{AtomicU64, Ordering};
+
+/// A name of at most so many bytes lies in its step.
+const IN_STEP: usize = 31;
 
 /// How many bytes of asks and replies each hall's record has taken since its volume was last handed out, about, and how many volumes were full. Threads
 /// count here without a lock.
@@ -33,8 +36,11 @@ impl Held {
     }
 
     /// Counts so many bytes more in the record of this hall.
+    // (For most asks they are none. Threads share what is written here, so they write nothing then.)
     pub fn add(&self, hall: HallNo, bytes: u64) {
-        self.bytes.of(hall).fetch_add(bytes, Ordering::Relaxed);
+        if bytes > 0 {
+            self.bytes.of(hall).fetch_add(bytes, Ordering::Relaxed);
+        }
     }
 
     /// Counts a volume that was full and handed out.
@@ -55,8 +61,8 @@ impl Held {
     }
 }
 
-/// How many bytes the step of this receipt has put into its hall's record beside the step itself: those of the names and payloads of the ask, and of its
-/// reply.
+/// How many bytes the step of this receipt has put into its hall's record beside the step itself: those of the long names and the payloads of the ask, and of
+/// its reply.
 pub fn taken_by(receipt: &ReceiptView<'_>) -> u64
     ensures { result ≡ taken_by receipt.now.told receipt.now.answer }
 {
@@ -71,7 +77,14 @@ pub fn taken_by(receipt: &ReceiptView<'_>) -> u64
     asked.saturating_add(answered) as u64
 }
 
-/// How many bytes an ask has outside of its value: those of its description, its callout and its payload.
+/// How many bytes of a name so long do not lie in its step: all or none.
+fn outside(len: usize) -> usize
+    ensures { result ≡ outside len }
+{
+    if len <= IN_STEP { 0 } else { len }
+}
+
+/// How many bytes an ask has outside of its step: those of a long description or callout, and of its payload.
 fn bytes_of(ask: &AskView<'_>) -> usize
     ensures { result ≡ bytes_of ask.now }
 {
@@ -80,14 +93,14 @@ fn bytes_of(ask: &AskView<'_>) -> usize
             description,
             callout: Some(callout),
             ..
-        } => description.as_bytes().len() + callout.as_bytes().len(),
-        AskView::Request { description, .. } => description.as_bytes().len(),
+        } => outside(description.as_bytes().len()) + outside(callout.as_bytes().len()),
+        AskView::Request { description, .. } => outside(description.as_bytes().len()),
         AskView::Instantiate { payload, .. } => payload.as_bytes().len(),
         AskView::Add {
             description,
             payload,
             ..
-        } => description.as_bytes().len() + payload.as_bytes().len(),
+        } => outside(description.as_bytes().len()) + payload.as_bytes().len(),
         _ => 0,
     }
 }
