@@ -392,6 +392,7 @@ def spawn(options):
 # ---- serve
 
 CONF = "create user made:* * |/bin/cat\n"
+USERS = "8, of eight users"
 TOGETHER = "1, 50 in one write"
 # for so many nanoseconds the peer works for each ask, to see what an ask may take
 WORK = ["500", "1000", "2000", "3000"]
@@ -466,7 +467,8 @@ def drive(found, others, options):
     """Each server in turn, and each further peer that takes so many connections."""
     table("connections", "program", "asks/s", "to C's", "latency", "99th, to C's")
     asks = str(options.asks)
-    for label, words in [*[(count, [count, asks]) for count in CONNECTIONS], (TOGETHER, ["1", asks, "together"])]:
+    further = [(USERS, ["8", asks, "users"]), (TOGETHER, ["1", asks, "together"])]
+    for label, words in [*[(count, [count, asks]) for count in CONNECTIONS], *further]:
         loads_of = {who: [peer("load"), server.path, *words] for who, server in found.items()}
         loads_of |= {it.name: it.load(label, asks) for it in others if label in it.connections}
         for best in rates(loads_of, options.runs).values():

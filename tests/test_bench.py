@@ -30,13 +30,13 @@ RUNS = [
 
 
 def load_is_answered(folder):
-    """Eight connections to the server that echoes, with an ask at a time, and with fifty."""
+    """Eight connections to the server that echoes, with an ask at a time, of one user and of eight, and with fifty."""
     path = folder / "socket"
     server = subprocess.Popen([folder / "echo", path, "8"], stderr=subprocess.PIPE)
     server.stderr.readline()
     try:
-        loads = [folder / "load", path, "8", "80"], [folder / "load", path, "8", "800", "together"]
-        return all(ran(*words)[0] == 0 for words in loads)
+        loads = ["80"], ["80", "users"], ["800", "together"]
+        return all(ran(folder / "load", path, "8", *words)[0] == 0 for words in loads)
     finally:
         server.kill()
         server.communicate()

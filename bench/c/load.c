@@ -1,10 +1,11 @@
 /* Drives a server: so many connections ask for what is there, or have a key made, each as fast as it is answered.
  *
- * usage: load SOCKET CONNECTIONS ASKS [made|together|redis|agent]
+ * usage: load SOCKET CONNECTIONS ASKS [users|made|together|redis|agent]
  *        load LIBRARY|- CALLERS ASKS calls
  *
  * Each connection says HELLO as the user 1000. The first one adds the key `load` to the user's ring. Then each asks REQUEST for it, without a callout
  * and without a ring, and reads its reply before the next one. In other words:
+ *   users     each connection is of a user of its own, from 1000 on, and adds the key to that user's ring
  *   together  it writes 50 of them in one call, and reads their replies before the next 50
  *   made      it asks for keys `made:..` that are not there, with a callout of 1 KiB, and unlinks each one, which is not timed
  *   redis     it asks a Redis server for the value of a key, which the first one has set
@@ -17,9 +18,9 @@
 #include <dlfcn.h>
 #include <sys/syscall.h>
 
-enum { CONNECTIONS = 64, CALLOUT = 1024, TOGETHER = 50, NUMBER_LEN = 9, PROCESS = -2, SESSION = -3 };
+enum { CONNECTIONS = 64, CALLOUT = 1024, TOGETHER = 50, NUMBER_LEN = 9, PROCESS = -2, SESSION = -3, FIRST_USER = 1000 };
 
-static const char usage[] = "usage: load SOCKET CONNECTIONS ASKS [made|together|redis|agent]\n       load LIBRARY|- CALLERS ASKS calls\n";
+static const char usage[] = "usage: load SOCKET CONNECTIONS ASKS [users|made|together|redis|agent]\n       load LIBRARY|- CALLERS ASKS calls\n";
 
 static const uint8_t add[] = {0, 0, 0, 20, OP_ADD, 0, 4, 'u', 's', 'e', 'r', 0, 4, 'l', 'o', 'a', 'd', 0, 1, 'v', 0xff, 0xff, 0xff, 0xfc};
 static const uint8_t hello[] = {0, 0, 0, 14, OP_HELLO, 0, 0, 3, 232, 0, 0, 3, 232, 0, 0, 0, 0, 0};
@@ -141,6 +142,16 @@ static bool open_session(struct connection *c, const char *path)
     return ask(c, hello, sizeof hello, NULL) >= 0 && (c->no != 0 || ask(c, add, sizeof add, NULL) == NUMBER_REPLY);
 }
 
+/* The same, for a user of its own. */
+static bool open_user(struct connection *c, const char *path)
+{
+    uint8_t frame[sizeof hello];
+    memcpy(frame, hello, sizeof hello);
+    write_u32(frame + 5, FIRST_USER + c->no);
+    c->socket = connect_to(path);
+    return ask(c, frame, sizeof frame, NULL) >= 0 && ask(c, add, sizeof add, NULL) == NUMBER_REPLY;
+}
+
 /* Whether a text is answered by this one. */
 static bool say(const struct connection *c, const char *text, const char *wanted)
 {
@@ -209,6 +220,7 @@ static bool ask_calls(struct connection *c)
 
 static const struct way ways[] = {
     {"found", 1, open_session, ask_found, NULL},
+    {"users", 1, open_user, ask_found, NULL},
     {"together", TOGETHER, open_session, ask_together, NULL},
     {"made", 1, open_session, ask_made, unlink_made},
     {"redis", 1, open_redis, ask_redis, NULL},
