@@ -12,7 +12,7 @@ from tables import section, tables
 readme = pathlib.Path(__file__).resolve().parent / "README.md"
 
 # What is to be reached.
-LINE, GROWTH, KEY, ASKS, STARTS = Bound("at most", 6), Bound("at most", 1.3), Bound("at most", 400), Bound("at least", 0.9), Bound("at least", 0.95)
+LINE, GROWTH, KEY, ASKS, STARTS = Bound("at most", 6), Bound("at most", 1.3), Bound("at most", 400), Bound("at least", 0.8), Bound("at least", 0.95)
 
 MISSING = "-"
 
