@@ -1,7 +1,7 @@
 //! How a hall's lock is taken.
 //!
-//! A turn is shorter than falling asleep and being woken, and who sleeps has to be woken by the next turn's thread. So a thread that finds a hall taken looks
-//! again before it sleeps, after pauses that double: the thread that has it may take several turns, with what it needs in its processor's cache.
+//! A turn is shorter than falling asleep and being woken, and a thread that sleeps has to be woken by the one that leaves the hall. So a thread that finds a
+//! hall taken looks again before it sleeps. Its pauses double: meanwhile the other one may take several turns with what is in its processor's cache.
 
 use std::hint::spin_loop;
 use std::sync::{Mutex, MutexGuard, Wait};

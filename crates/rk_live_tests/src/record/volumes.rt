@@ -118,6 +118,7 @@ fn memory_of_a_volume_is_taken_again(rt: HostRuntime) {
         (2, 5, 2),
     );
     same(&rt, (hall.before(), hall.steps().len()), (7, 0));
+    same(&rt, hall.keep_memory(Vec::new(alloc)).len(), 0);
     drop(second);
     drop(hall);
 }
