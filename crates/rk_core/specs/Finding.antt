@@ -49,6 +49,11 @@ abbrev pub is_hello : Ask → Bool
 is_hello (ask.Hello hello) = true
 is_hello _ = false
 
+-- the ask is a REQUEST
+abbrev pub is_request : Ask → Bool
+is_request (ask.Request typ description callout destination) = true
+is_request _ = false
+
 -- what may be asked where nobody acts yet: HELLO by a client, and ASSUME by a handler
 abbrev pub is_first : SessionId → Ask → Bool
 is_first (Client n) (ask.Hello hello) = true

@@ -1,14 +1,15 @@
 //! One ask: whether the session may ask, and what it comes to.
-ghost use Rattle.std.specs.Prelude.{◌≡◌, None, Some, Err, is_some, true};
+ghost use Rattle.std.specs.Prelude.{◌≡◌, None, Some, Err, is_some, true, false};
 ghost use Rattle.std.specs.Bool.{MatchBool};
 ghost use Rattle.rk_auth.specs.Sessions.{session_of};
+ghost use Rattle.rk_message.specs.Copies.{payload_of};
 ghost use Rattle.rk_machine.specs.Allowed.{Tells};
 ghost use Rattle.rk_machine.specs.Asker.{asker_of};
 ghost use Rattle.rk_machine.specs.Asks.{Asking};
 ghost use Rattle.rk_machine.specs.Owing.{asked_in};
 ghost use Rattle.rk_machine.specs.Steps.{Step};
 ghost use Rattle.rk_core.specs.Copies.{Copied};
-ghost use Rattle.rk_core.specs.Finding.{answer_of, is_hello, is_first};
+ghost use Rattle.rk_core.specs.Finding.{answer_of, is_hello, is_first, is_request};
 ghost use Rattle.rk_core.specs.Sound.{IsSound};
 
 use crate::completion_asks::Rejection;
@@ -17,7 +18,7 @@ use crate::tables::Tables;
 use crate::wanted::{Requester, Wanted};
 use rk_machine::{Answer, Asker, EventOf};
 use rk_message::{AskStep, AskView};
-use rk_names::{CalloutView, Errno, KeyError, Moment, SessionId};
+use rk_names::{CalloutView, Errno, KeyError, Moment, Payload, SessionId};
 
 impl Tables {
     /// What a session asks is done, refused, waited for or started.
@@ -73,9 +74,8 @@ impl Tables {
         }
     }
 
-    /// The asks of one who acts. It has a context, so that HELLO is EINVAL. (It is a function of its own, since with it those that call it are too large
-    /// for `#[inline(always)]`.)
-    #[inline(never)]
+    /// The asks of one who acts. (Most of them are a REQUEST. That and the others are functions of their own, so that neither clears what the other holds.)
+    #[inline(always)]
     fn act(
         &mut self,
         now: Moment,
@@ -93,7 +93,6 @@ impl Tables {
     {
         let (ask, payload) = ask.into_parts();
         match ask.ask() {
-            AskView::Hello(_) => Err(Errno::Einval),
             AskView::Request {
                 typ,
                 description,
@@ -107,6 +106,31 @@ impl Tables {
                 let by = Requester { id, asker };
                 self.request(now, &by, &wanted, *destination, copies)
             }
+            other => self.act_otherwise(now, id, asker, other, payload),
+        }
+    }
+
+    /// Any ask but a REQUEST of one who acts. That one has a context, so HELLO is EINVAL.
+    #[inline(never)]
+    fn act_otherwise(
+        &mut self,
+        now: Moment,
+        id: &SessionId,
+        asker: &Asker,
+        ask: &AskView<'_>,
+        payload: Option<Payload>,
+    ) -> Result<Answer, Errno>
+        requires sound { IsSound self.old }
+        requires there { is_some (session_of self.old.sessions id.now) ≡ true }
+        requires asker { asker_of self.old id.now ≡ Some asker.now }
+        requires other { is_request ask.now ≡ false }
+        requires payload { payload ≡ payload_of ask.now }
+        ensures step { MatchBool (is_hello ask.now) (Tells (Answer.Refused Errno.Einval) self.old (answer_of result) self.new)
+            (Asking self.old now id.now ask.now (answer_of result) self.new) }
+    {
+        match ask {
+            AskView::Hello(_) => Err(Errno::Einval),
+            AskView::Request { .. } => unreachable!(),
             AskView::Assume { key } => self.assume(id, *key),
             AskView::Instantiate { key, ring, .. } => match payload {
                 Some(payload) => self.instantiate(now, asker, *key, *ring, payload),

@@ -142,10 +142,9 @@ empty_is_short [] below = refl
 empty_is_short (op ∷ rest) below = absurd (omega (arith, below))
 
 -- no ask has this first byte
-pub other_is_unknown : (body : List ℕ) → 1 ≤ length body → kinds_of asks (get_or body 0 0) ≡ None → message_at asks body ≡ Err UnknownOp
-unfolding message_at message_behind
-other_is_unknown [] long none = absurd (omega (arith, long))
-other_is_unknown (op ∷ rest) long none = rw none refl
+pub behind_is_unknown : (op : ℕ) (rest : List ℕ) → kinds_of asks op ≡ None → message_behind asks op rest ≡ Err UnknownOp
+unfolding message_behind
+behind_is_unknown op rest none = rw none refl
 
 -- asks with the same spelling are the same ask
 pub asks_are_told : (a b : Ask) → IsAsk a → IsAsk b → spelling (ask_message a) ≡ spelling (ask_message b) → a ≡ b

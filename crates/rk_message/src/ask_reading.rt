@@ -1,6 +1,6 @@
 //! Asks out of bodies: borrowed, and with names and a payload of their own.
 
-ghost use Rattle.std.specs.Prelude.{◌≡◌, [], ◌∷◌, IfOk, MatchResult, Ok, Err};
+ghost use Rattle.std.specs.Prelude.{◌≡◌, ◌≢◌, [], ◌∷◌, IfOk, MatchResult, Ok, Err};
 ghost use Rattle.rk_message.specs.Wire.{I32, Signed, spelling};
 ghost use Rattle.rk_message.specs.Table.{asks};
 ghost use Rattle.rk_message.specs.Reading.{Reads, Gives, all_values, message_behind, message_at};
@@ -36,7 +36,7 @@ impl Ask {
 
 impl<'a> AskView<'a> {
     /// The ask that all of the body spells, borrowed from it. An `Err` is the leftmost fault of a body that spells none.
-    #[tactic(auto, using(crate::proofs::Asks::behind_is_found, crate::proofs::Asks::behind_is_only, crate::proofs::Asks::behind_is_leftmost, crate::proofs::Asks::behind_is_exact, crate::proofs::Asks::empty_is_short, crate::proofs::Asks::other_is_unknown))]
+    #[tactic(auto, using(crate::proofs::Asks::behind_is_found, crate::proofs::Asks::behind_is_only, crate::proofs::Asks::behind_is_leftmost, crate::proofs::Asks::behind_is_exact, crate::proofs::Asks::empty_is_short))]
     #[inline(always)]
     pub fn read(body: &'a [u8]) -> Result<AskView<'a>, Fault>
         // What is read is spelled by the body.
@@ -52,24 +52,36 @@ impl<'a> AskView<'a> {
             return Err(Fault::Short);
         };
         match *op {
-            1 => hello(rest),
             2 => request(rest),
-            3 => assume(rest),
-            4 => instantiate(rest),
-            5 => negate(rest),
-            6 => reject(rest),
             7 => read(rest),
             8 => describe(rest),
-            9 => revoke(rest),
-            10 => timeout(rest),
-            11 => link(rest),
-            12 => unlink(rest),
-            13 => clear(rest),
-            14 => default(rest),
-            15 => add(rest),
-            16 => callout(rest),
-            _ => Err(Fault::UnknownOp),
+            op => otherwise(op, rest),
         }
+    }
+}
+
+/// An ask of any other op. (It is a function of its own, so that a REQUEST does not clear what the others hold.)
+#[tactic(auto, using(crate::proofs::Asks::behind_is_unknown))]
+#[inline(never)]
+fn otherwise(op: u8, bytes: &[u8]) -> Result<AskView<'_>, Fault>
+    requires { (op ≢ 2) × (op ≢ 7) × (op ≢ 8) }
+    ensures { ReadsAsk result (message_behind asks op bytes.now) }
+{
+    match op {
+        1 => hello(bytes),
+        3 => assume(bytes),
+        4 => instantiate(bytes),
+        5 => negate(bytes),
+        6 => reject(bytes),
+        9 => revoke(bytes),
+        10 => timeout(bytes),
+        11 => link(bytes),
+        12 => unlink(bytes),
+        13 => clear(bytes),
+        14 => default(bytes),
+        15 => add(bytes),
+        16 => callout(bytes),
+        _ => Err(Fault::UnknownOp),
     }
 }
 
