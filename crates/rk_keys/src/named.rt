@@ -1,4 +1,6 @@
 //! What is kept of a name.
+ghost use Rattle.std.specs.Prelude.{◌≡◌, bytes_eq};
+
 use rk_names::{Description, NameNo, TypeName};
 
 /// A name that live keys have. Its description shares the bytes of the first of them.
@@ -23,6 +25,17 @@ impl Named {
     pub fn is(&self, typ: &[u8], description: &[u8]) -> bool
         ensures { result ≡ is_of typ.now description.now self.now }
     {
-        self.typ.as_bytes() == typ && self.description.as_bytes() == description
+        are_same(self.typ.as_bytes(), typ) && are_same(self.description.as_bytes(), description)
+    }
+}
+
+/// Whether bytes are equal. Four, as those of the type `user`, are compared as one word.
+#[inline(always)]
+fn are_same(one: &[u8], other: &[u8]) -> bool
+    ensures { result ≡ bytes_eq one.now other.now }
+{
+    match (<[u8; 4]>::try_from(one), <[u8; 4]>::try_from(other)) {
+        (Ok(one), Ok(other)) => one == other,
+        _ => one == other,
     }
 }
