@@ -3,17 +3,26 @@ ghost use Rattle.std.specs.Prelude.{◌≡◌, ◌≤◌, ◌<◌, IfOk, IfErr, 
 ghost use Rattle.std.specs.List.{insert};
 ghost use Rattle.rk_table.specs.Entries.{KeysRise, IsAt, IsGapFor};
 
+/// How many entries are few: among them the search by halves is as fast as a look by share, which divides.
+const FEW: usize = 16;
+
 /// Where the key stands, or else where it would. It looks first where the key stands if none is missing between the first one and it: numbers are mostly given
-/// out one after another. If it is not there, it looks at as many entries as their number can be halved.
+/// out one after another. Among many entries it looks next where the key stands if all are equally far apart, as the rings of users are that have as many keys.
+/// If it is not there, it looks at as many entries as their number can be halved.
 pub(crate) fn place_of<V>(entries: &[(u32, V)], key: u32) -> Result<usize, usize>
     requires rising { KeysRise entries.now }
     ensures found { IfOk result (IsAt entries.now key) }
     ensures absent { IfErr result (IsGapFor entries.now key) }
 {
-    match place_in_a_row(entries, key) {
-        Some(place) => Ok(place),
-        None => entries.binary_search_by_key(&key, |entry| entry.0),
+    if let Some(place) = place_in_a_row(entries, key) {
+        return Ok(place);
     }
+    if entries.len() > FEW {
+        if let Some(place) = place_by_share(entries, key) {
+            return Ok(place);
+        }
+    }
+    entries.binary_search_by_key(&key, |entry| entry.0)
 }
 
 /// Where the key stands if no key is missing between the first one and it.
@@ -21,7 +30,27 @@ fn place_in_a_row<V>(entries: &[(u32, V)], key: u32) -> Option<usize>
     ensures { IfSome result (IsAt entries.now key) }
 {
     let first = entries.first()?.0;
-    let place = key.wrapping_sub(first) as usize;
+    place_if_there(entries, key, key.wrapping_sub(first) as usize)
+}
+
+/// Where the key stands if all keys are equally far apart.
+fn place_by_share<V>(entries: &[(u32, V)], key: u32) -> Option<usize>
+    ensures { IfSome result (IsAt entries.now key) }
+{
+    let first = entries.first()?.0;
+    let last = entries.last()?.0;
+    let all = u64::from(last.checked_sub(first)?);
+    let before = u64::from(key.checked_sub(first)?);
+    let place = before
+        .wrapping_mul((entries.len() - 1) as u64)
+        .checked_div(all)?;
+    place_if_there(entries, key, place as usize)
+}
+
+/// This place, if the key stands there.
+fn place_if_there<V>(entries: &[(u32, V)], key: u32, place: usize) -> Option<usize>
+    ensures { IfSome result (λ found. IsAt entries.now key found × (found ≡ place)) }
+{
     if entries.get(place)?.0 == key {
         Some(place)
     } else {

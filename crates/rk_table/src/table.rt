@@ -49,8 +49,8 @@ pub trait Test<V> {
 }
 
 /// A finite map from numbers to values, with places that were reserved. `get`, `contains` and `change` look at one entry where no key is missing between the
-/// first one and theirs. Else they look at as many more as their number can be halved, 15 of 20,000. `len` looks at none. What takes a test or changes all
-/// walks over all entries.
+/// first one and theirs, and at two of many entries whose keys are equally far apart. Else they look at as many more as their number can be halved, 15 of
+/// 20,000. `len` looks at none. What takes a test or changes all walks over all entries.
 #[derive(Drop)]
 pub struct Table<V> {
     /// In the order of their keys, which rise strictly.
