@@ -26,6 +26,7 @@ import contextlib
 import os
 import pathlib
 import re
+import statistics
 import subprocess
 import sys
 import tempfile
@@ -347,16 +348,25 @@ def shares(script):
 RATE = re.compile(r"(?P<of>[^:]*): (?:.* )?(?P<rate>[0-9]+) (?:starts|calls|asks)/s(?P<more>.*)")
 
 
-def rates(programs, runs):
-    """For each line that the programs print the greatest rate of each, and what it said behind it."""
+def rounds(programs, runs):
+    """For each line that the programs print, the rate of each and what it said behind it, in each of so many rounds. In a round they run in turn."""
     found = {}
     for _ in range(runs):
         for who, words in programs.items():
             for line in printed(words):
                 told = RATE.fullmatch(line)
-                best = found.setdefault(told["of"], {})
-                best[who] = max(best.get(who, (0, "")), (int(told["rate"]), told["more"]))
+                found.setdefault(told["of"], {}).setdefault(who, []).append((int(told["rate"]), told["more"]))
     return found
+
+
+def rates(programs, runs):
+    """The greatest rate of each in these rounds."""
+    return {of: {who: max(told) for who, told in by.items()} for of, by in rounds(programs, runs).items()}
+
+
+def to_peer(told, peers):
+    """The median of the rounds' ratios: what else a machine does weighs on both programs of a round."""
+    return statistics.median(rate / peers_rate for (rate, _), (peers_rate, _) in zip(told, peers))
 
 
 def tell_rates(found, unit):
@@ -407,7 +417,7 @@ def daemon(folder, name, *before):
 
 def servers(folder):
     """Both servers, or the peer alone."""
-    return with_ours({C: Server([peer("echo"), folder / "echo", 64], folder / "echo")}, lambda: daemon(folder, "reqkeyd"))
+    return with_ours({C: Server([peer("echo"), folder / "echo", 64], folder / "echo")}, lambda: daemon(folder, "reqkeyd", "env", "-i", *ENVIRONMENT))
 
 
 def serve(options):
@@ -419,7 +429,7 @@ def serve(options):
             print(f"Asks a second for a key that is there, Rattle's to C's to be {figures.ASKS}\n")
             drive(found, others, options)
             if RATTLE in found:
-                print(f"\nKeys made by /bin/cat, beside as many starts at a time by the peer of `spawn`, to be {figures.STARTS} of them\n")
+                print(f"\nKeys made by /bin/cat, beside as many starts at a time by the peer of `spawn`, to be {figures.MADE} of them\n")
                 drive_made(found[RATTLE], options.runs)
         working(pathlib.Path(name), options)
 
@@ -471,9 +481,11 @@ def drive(found, others, options):
     for label, words in [*[(count, [count, asks]) for count in CONNECTIONS], *further]:
         loads_of = {who: [peer("load"), server.path, *words] for who, server in found.items()}
         loads_of |= {it.name: it.load(label, asks) for it in others if label in it.connections}
-        for best in rates(loads_of, options.runs).values():
-            for who, (rate, latency) in best.items():
-                row([label, who, f"{rate:,}", f"{rate / best[C][0]:.2f}", latency.strip(", "), slower(latency, best[C][1])])
+        for by in rounds(loads_of, options.runs).values():
+            for who, told in by.items():
+                rate, latency = statistics.median_low(told)
+                peers = statistics.median_low(by[C])[1]
+                row([label, who, f"{rate:,}", f"{to_peer(told, by[C]):.2f}", latency.strip(", "), slower(latency, peers)])
 
 
 def slower(latency, other):
@@ -483,13 +495,15 @@ def slower(latency, other):
 
 
 def drive_made(server, runs):
+    """Keys that are made, and starts of as many programs at a time. Both are begun from the environment of a service."""
     table("connections", "keys/s", "starts/s C", "ratio", "latency")
     loads_of = {count: [peer("load"), server.path, count, "400", "made"] for count in ("1", "8")}
-    keys = {count: rate for best in rates(loads_of, runs).values() for count, rate in best.items()}
-    starts = rates({C: [peer("spawn")]}, runs)
-    for count, (rate, latency) in keys.items():
-        begun = next(best[C][0] for of, best in starts.items() if of.startswith(f"/bin/cat, {count} at a time"))
-        row([count, f"{rate:,}", f"{begun:,}", f"{rate / begun:.2f}", latency.strip(", ")])
+    by_line = rounds(loads_of | {C: ["env", "-i", *ENVIRONMENT, peer("spawn")]}, runs)
+    told = {who: rates for by in by_line.values() for who, rates in by.items() if who != C}
+    for count, keys in told.items():
+        starts = next(by[C] for of, by in by_line.items() if of.startswith(f"/bin/cat, {count} at a time"))
+        rate, latency = statistics.median_low(keys)
+        row([count, f"{rate:,}", f"{statistics.median_low(starts)[0]:,}", f"{to_peer(keys, starts):.2f}", latency.strip(", ")])
 
 
 # ---- pictures

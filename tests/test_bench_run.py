@@ -18,9 +18,15 @@ count = Counted()
 OURS, PEER = run.RATTLE, run.C
 
 
-def rates(programs, _):
-    """Rattle's is half of C's, and so is the peer's with the most work; those of the daemon are called by the number of its connections."""
-    return {f"/bin/cat, {at} at a time": {who: (500 if who == OURS or who == "3000" else 1000, ", 5 us") for who in programs} for at in (1, 8)}
+def rounds(programs, _):
+    """Three rounds, in which Rattle's rate is half of C's, and so is the peer's with the most work; those of the daemon are called by the number of its
+    connections."""
+    return {f"/bin/cat, {at} at a time": {who: told_by(who) for who in programs} for at in (1, 8)}
+
+
+def told_by(who):
+    half = who == OURS or who == "3000"
+    return [(rate // 2 if half else rate, ", 5 us") for rate in (900, 1000, 800)]
 
 
 class Server:
@@ -47,7 +53,7 @@ def fake(programs):
         "steps_of": lambda *_: steps,
         "run": lambda _, script: (0.01, 4 * len(script) // 1024, 0),
         "shares": lambda _: [("<A as B>::play & more", "40.50"), ("x" * 200, "2.25")],
-        "rates": rates,
+        "rounds": rounds,
         "daemon": lambda *_: Server(),
         "servers": lambda _: {who: Server() for who in programs},
         "peers_at_work": lambda _: {nanos: Server() for nanos in ["0", *run.WORK]},

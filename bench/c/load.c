@@ -47,6 +47,7 @@ struct connection {
     uint32_t key; /* that was made last */
     uint64_t *times; /* of each measured ask, or of each 50, in ns */
     uint64_t begun, ended;
+    uint64_t behind; /* of that, the ns of what is not timed */
     bool failed;
     pthread_barrier_t *all;
 };
@@ -243,9 +244,14 @@ static void ask_often(struct connection *c, unsigned asks, uint64_t *times)
     for (unsigned i = 0; i < asks && !c->failed; i++) {
         uint64_t begun = nanos();
         c->failed = !c->way->ask(c);
+        uint64_t ended = nanos();
         if (times)
-            times[i] = nanos() - begun;
-        c->failed |= !c->failed && c->way->behind && !c->way->behind(c);
+            times[i] = ended - begun;
+        if (!c->failed && c->way->behind) {
+            c->failed = !c->way->behind(c);
+            if (times)
+                c->behind += nanos() - ended;
+        }
     }
 }
 
@@ -265,16 +271,18 @@ static double at(const uint64_t *times, size_t count, double part)
     return (double)times[(size_t)((double)(count - 1) * part)] / 1e3;
 }
 
+/* The time of all asks is that from the first to the last, less what a connection has taken on average for what is not timed. */
 static void tell(struct connection *connections, unsigned count, uint64_t *times, size_t rounds, size_t each)
 {
-    uint64_t begun = connections[0].begun, ended = connections[0].ended;
-    for (unsigned i = 1; i < count; i++) {
+    uint64_t begun = connections[0].begun, ended = connections[0].ended, behind = 0;
+    for (unsigned i = 0; i < count; i++) {
         begun = connections[i].begun < begun ? connections[i].begun : begun;
         ended = connections[i].ended > ended ? connections[i].ended : ended;
+        behind += connections[i].behind;
     }
     qsort(times, rounds, sizeof *times, by_size);
     printf("%u %s: %.0f asks/s, %.1f us at the 50th percentile, %.1f at the 99th, %.1f at the 99.9th\n", count, count == 1 ? "connection" : "connections",
-        (double)(rounds * each) / (double)(ended - begun) * 1e9, at(times, rounds, 0.5), at(times, rounds, 0.99), at(times, rounds, 0.999));
+        (double)(rounds * each) / (double)(ended - begun - behind / count) * 1e9, at(times, rounds, 0.5), at(times, rounds, 0.99), at(times, rounds, 0.999));
 }
 
 int main(int count, char **words)
