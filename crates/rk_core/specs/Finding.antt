@@ -49,10 +49,12 @@ abbrev pub is_hello : Ask → Bool
 is_hello (ask.Hello hello) = true
 is_hello _ = false
 
--- the ask is a REQUEST
-abbrev pub is_request : Ask → Bool
-is_request (ask.Request typ description callout destination) = true
-is_request _ = false
+-- the ask is a REQUEST, a READ or a DESCRIBE, as most are
+abbrev pub is_frequent : Ask → Bool
+is_frequent (ask.Request typ description callout destination) = true
+is_frequent (ask.Read key) = true
+is_frequent (ask.Describe key) = true
+is_frequent _ = false
 
 -- what may be asked where nobody acts yet: HELLO by a client, and ASSUME by a handler
 abbrev pub is_first : SessionId → Ask → Bool

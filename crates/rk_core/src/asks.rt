@@ -9,7 +9,7 @@ ghost use Rattle.rk_machine.specs.Asks.{Asking};
 ghost use Rattle.rk_machine.specs.Owing.{asked_in};
 ghost use Rattle.rk_machine.specs.Steps.{Step};
 ghost use Rattle.rk_core.specs.Copies.{Copied};
-ghost use Rattle.rk_core.specs.Finding.{answer_of, is_hello, is_first, is_request};
+ghost use Rattle.rk_core.specs.Finding.{answer_of, is_hello, is_first, is_frequent};
 ghost use Rattle.rk_core.specs.Sound.{IsSound};
 
 use crate::completion_asks::Rejection;
@@ -74,8 +74,9 @@ impl Tables {
         }
     }
 
-    /// The asks of one who acts. (Most of them are a REQUEST. That and the others are functions of their own, so that neither clears what the other holds.)
-    #[inline(always)]
+    /// The asks of one who acts. (It is a function of its own, since with it those that call it are too large for `#[inline(always)]`. So is a REQUEST, and so
+    /// are the asks that are rare, so that none clears what the others hold.)
+    #[inline(never)]
     fn act(
         &mut self,
         now: Moment,
@@ -106,11 +107,13 @@ impl Tables {
                 let by = Requester { id, asker };
                 self.request(now, &by, &wanted, *destination, copies)
             }
+            AskView::Read { key } => self.read(now, id, asker, *key),
+            AskView::Describe { key } => self.describe(now, asker, *key),
             other => self.act_otherwise(now, id, asker, other, payload),
         }
     }
 
-    /// Any ask but a REQUEST of one who acts. That one has a context, so HELLO is EINVAL.
+    /// Any other ask of one who acts. That one has a context, so HELLO is EINVAL.
     #[inline(never)]
     fn act_otherwise(
         &mut self,
@@ -123,14 +126,16 @@ impl Tables {
         requires sound { IsSound self.old }
         requires there { is_some (session_of self.old.sessions id.now) ≡ true }
         requires asker { asker_of self.old id.now ≡ Some asker.now }
-        requires other { is_request ask.now ≡ false }
+        requires other { is_frequent ask.now ≡ false }
         requires payload { payload ≡ payload_of ask.now }
         ensures step { MatchBool (is_hello ask.now) (Tells (Answer.Refused Errno.Einval) self.old (answer_of result) self.new)
             (Asking self.old now id.now ask.now (answer_of result) self.new) }
     {
         match ask {
             AskView::Hello(_) => Err(Errno::Einval),
-            AskView::Request { .. } => unreachable!(),
+            AskView::Request { .. } | AskView::Read { .. } | AskView::Describe { .. } => {
+                unreachable!()
+            }
             AskView::Assume { key } => self.assume(id, *key),
             AskView::Instantiate { key, ring, .. } => match payload {
                 Some(payload) => self.instantiate(now, asker, *key, *ring, payload),
@@ -155,8 +160,6 @@ impl Tables {
                 };
                 self.reject(now, asker, *key, *ring, rejection)
             }
-            AskView::Read { key } => self.read(now, id, asker, *key),
-            AskView::Describe { key } => self.describe(now, asker, *key),
             AskView::Revoke { key } => self.revoke(asker, *key),
             AskView::Timeout { key, seconds } => self.set_timeout(now, asker, *key, *seconds),
             AskView::Link { key, ring } => self.link_key(now, asker, *key, *ring),
