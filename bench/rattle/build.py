@@ -19,16 +19,22 @@ sys.path.insert(0, str(top / "tests"))
 import crates
 
 
+def libraries(name):
+    """The libraries that a program names."""
+    return (here / name / "uses").read_text().split()
+
+
 def copy(room, names):
-    """The crates with what was kept of their proofs, and the programs' own files."""
-    crates.lay_out(room, [name for name in crates.listed() if not name.endswith("_tests")], "must-fail", "edits", "*_tests")
+    """The crates on which the programs stand, with what was kept of their proofs, and the programs' own files."""
+    used = crates.uses()
+    crates.lay_out(room, {it for name in names for library in libraries(name) for it in {library, *crates.below(used, library)}}, "must-fail", "edits")
     for name in names:
         for path in (here / name).rglob("*.in"):
             to = room / "crates" / name / path.relative_to(here / name).with_suffix("")
             to.parent.mkdir(parents=True, exist_ok=True)
             shutil.copy(path, to)
         with (room / "crates.txt").open("a") as listed:
-            listed.write(f"{name}: {' '.join((here / name / 'uses').read_text().split())}\n")
+            listed.write(f"{name}: {' '.join(libraries(name))}\n")
 
 
 def is_built(room, name):
