@@ -49,6 +49,11 @@ abbrev pub is_hello : Ask → Bool
 is_hello (ask.Hello hello) = true
 is_hello _ = false
 
+-- the ask is a REQUEST, which alone can start a construction
+abbrev pub is_request : Ask → Bool
+is_request (ask.Request typ description callout destination) = true
+is_request _ = false
+
 -- the ask is a REQUEST, a READ or a DESCRIBE, as most are
 abbrev pub is_frequent : Ask → Bool
 is_frequent (ask.Request typ description callout destination) = true

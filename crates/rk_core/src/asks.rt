@@ -9,7 +9,7 @@ ghost use Rattle.rk_machine.specs.Asks.{Asking};
 ghost use Rattle.rk_machine.specs.Owing.{asked_in};
 ghost use Rattle.rk_machine.specs.Steps.{Step};
 ghost use Rattle.rk_core.specs.Copies.{Copied};
-ghost use Rattle.rk_core.specs.Finding.{answer_of, is_hello, is_first, is_frequent};
+ghost use Rattle.rk_core.specs.Finding.{answer_of, is_hello, is_first, is_request, is_frequent};
 ghost use Rattle.rk_core.specs.Sound.{IsSound};
 
 use crate::completion_asks::Rejection;
@@ -74,9 +74,8 @@ impl Tables {
         }
     }
 
-    /// The asks of one who acts. (It is a function of its own, since with it those that call it are too large for `#[inline(always)]`. So is a REQUEST, and so
-    /// are the asks that are rare, so that none clears what the others hold.)
-    #[inline(never)]
+    /// The asks of one who acts. A REQUEST, which most asks are, is apart from the others.
+    #[inline(always)]
     fn act(
         &mut self,
         now: Moment,
@@ -92,7 +91,32 @@ impl Tables {
             (Asking self.old now id.now ask.entry (answer_of result) self.new) }
         ensures copies { is_some (asked_in ask.entry) ≡ true → Copied (answer_of result) copies.old copies.new }
     {
-        let (ask, payload) = ask.into_parts();
+        if is_request(&ask) {
+            self.request_key(now, id, asker, ask, copies)
+        } else {
+            self.act_otherwise(now, id, asker, ask)
+        }
+    }
+
+    /// A REQUEST. (It is a function of its own, since with it those that call it are too large for `#[inline(always)]`. So are READ and DESCRIBE, and the asks
+    /// that are rare, so that none clears what the others hold.)
+    #[inline(never)]
+    fn request_key(
+        &mut self,
+        now: Moment,
+        id: &SessionId,
+        asker: &Asker,
+        ask: AskStep<'_>,
+        copies: &mut SubjectCopies,
+    ) -> Result<Answer, Errno>
+        requires sound { IsSound self.old }
+        requires there { is_some (session_of self.old.sessions id.now) ≡ true }
+        requires asker { asker_of self.old id.now ≡ Some asker.now }
+        requires request { is_request ask ≡ true }
+        ensures step { MatchBool (is_hello ask.entry) (Tells (Answer.Refused Errno.Einval) self.old (answer_of result) self.new)
+            (Asking self.old now id.now ask.entry (answer_of result) self.new) }
+        ensures copies { Copied (answer_of result) copies.old copies.new }
+    {
         match ask.ask() {
             AskView::Request {
                 typ,
@@ -107,15 +131,38 @@ impl Tables {
                 let by = Requester { id, asker };
                 self.request(now, &by, &wanted, *destination, copies)
             }
-            AskView::Read { key } => self.read(now, id, asker, *key),
-            AskView::Describe { key } => self.describe(now, asker, *key),
-            other => self.act_otherwise(now, id, asker, other, payload),
+            _ => unreachable!(),
         }
     }
 
-    /// Any other ask of one who acts. That one has a context, so HELLO is EINVAL.
+    /// Any ask but a REQUEST: READ and DESCRIBE, or one that is rare.
     #[inline(never)]
     fn act_otherwise(
+        &mut self,
+        now: Moment,
+        id: &SessionId,
+        asker: &Asker,
+        ask: AskStep<'_>,
+    ) -> Result<Answer, Errno>
+        requires sound { IsSound self.old }
+        requires there { is_some (session_of self.old.sessions id.now) ≡ true }
+        requires asker { asker_of self.old id.now ≡ Some asker.now }
+        requires other { is_request ask ≡ false }
+        ensures step { MatchBool (is_hello ask.entry) (Tells (Answer.Refused Errno.Einval) self.old (answer_of result) self.new)
+            (Asking self.old now id.now ask.entry (answer_of result) self.new) }
+    {
+        let (ask, payload) = ask.into_parts();
+        match ask.ask() {
+            AskView::Request { .. } => unreachable!(),
+            AskView::Read { key } => self.read(now, id, asker, *key),
+            AskView::Describe { key } => self.describe(now, asker, *key),
+            other => self.act_rarely(now, id, asker, other, payload),
+        }
+    }
+
+    /// An ask that is rare. Who acts has a context, so HELLO is EINVAL.
+    #[inline(never)]
+    fn act_rarely(
         &mut self,
         now: Moment,
         id: &SessionId,
@@ -178,6 +225,15 @@ impl Tables {
             AskView::Callout => self.callout(id),
         }
     }
+}
+
+/// Whether it is a REQUEST, which alone can start a construction.
+#[inline(always)]
+fn is_request(ask: &AskStep<'_>) -> bool
+    ensures exact { result ≡ is_request ask.now }
+    ensures alone { result ≡ false → asked_in ask.now ≡ None }
+{
+    matches!(ask.ask(), AskView::Request { .. })
 }
 
 /// A callout once more, if there is one.
